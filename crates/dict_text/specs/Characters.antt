@@ -1,0 +1,10 @@
+-- Kinds of characters. RFC 2229, section 2, with this project's choice of what a blank is.
+use Rattle.std.specs.Prelude.{ℕ, Bool, nat_lt, ◌==◌, ◌||◌}
+
+-- a space or a tab
+abbrev pub is_blank : ℕ → Bool
+is_blank c = (c == 32) || (c == 9)
+
+-- U+0000 to U+001F, or U+007F
+abbrev pub is_control : ℕ → Bool
+is_control c = nat_lt c 32 || (c == 127)
