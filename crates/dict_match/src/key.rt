@@ -1,0 +1,172 @@
+//! The key under which a headword is filed and a query is looked up, by the first version of folding.
+
+ghost use Rattle.std.specs.Prelude.{◌≡◌, ◌↔◌, [], ◌∷◌, All, IfOk, IsTrue, List, codes, ℕ};
+ghost use Rattle.std.specs.Str.{IsUtf8, chars, encode_utf8_all};
+ghost use Rattle.dict_text.specs.Characters.{is_blank};
+ghost use Rattle.std.specs.String.{string_bytes};
+ghost use Rattle.dict_match.specs.Key.{key_of, is_kept, ascii_folded, without_leading_blanks, without_trailing_blanks};
+
+use dict_text::is_blank;
+use std::alloc::{AllocError, Global};
+use std::marker::Model;
+
+/// The key of a headword or a query. Two texts with one key are the same word to a search by `exact`.
+#[derive(Debug, Drop)]
+pub struct Key {
+    bytes: Vec<u8>,
+}
+
+impl Model for Key {
+    ghost use Rattle.std.specs.Prelude.{List, ℕ};
+
+    ghost Value = { List ℕ };
+
+    ghost view = { λ key. key.bytes.items };
+}
+
+impl Key {
+    /// The key's bytes, which are UTF-8.
+    pub fn as_bytes(&self) -> &[u8]
+        ensures { result.now ≡ self.now }
+    {
+        self.bytes.as_slice()
+    }
+}
+
+/// The key of `text`, read once, character by character: ASCII letters and digits, blanks and characters past
+/// ASCII are kept, `A-Z` become `a-z`, a run of blanks becomes one space, and a space at either end is left out.
+/// If nothing is left, the key is the text without blanks at its ends. The only error is want of memory.
+pub fn key_of(alloc: Global, text: &str) -> Result<Key, AllocError>
+    ensures { IfOk result (λ key. key ≡ key_of text.now) }
+{
+    let folded = fold(alloc, text)?;
+    let bytes = if folded.is_empty() {
+        let trimmed = without_trailing_blanks(without_leading_blanks(text.as_bytes()));
+        Vec::from_slice(alloc, trimmed)?
+    } else {
+        folded.into_bytes()
+    };
+    Ok(Key { bytes })
+}
+
+/// Whether folding keeps a character: a letter or a digit of ASCII, a blank, or a character past ASCII.
+fn is_kept(c: char) -> bool
+    ensures { result ≡ is_kept c }
+{
+    !c.is_ascii() || c.is_ascii_alphanumeric() || is_blank(c)
+}
+
+/// The words of what is kept of `text`, in lower case, joined by one space: nothing where nothing but blanks is kept.
+fn fold(alloc: Global, text: &str) -> Result<String, AllocError>
+    ensures { IfOk result (λ folded. string_bytes folded ≡ encode_utf8_all (ascii_folded (chars text.now))) }
+{
+    let mut folded = String::with_capacity(alloc, text.len())?;
+    let mut between_words = true;
+    for c in text.chars() {
+        if is_blank(c) {
+            between_words = true;
+        } else if is_kept(c) {
+            if between_words && !folded.is_empty() {
+                folded.push(' ')?;
+            }
+            folded.push(c.to_ascii_lowercase())?;
+            between_words = false;
+        }
+    }
+    Ok(folded)
+}
+
+/// The text without the blanks at its front.
+fn without_leading_blanks(text: &[u8]) -> &[u8]
+    ensures { result.now ≡ without_leading_blanks text.now }
+{
+    let mut rest = text;
+    while let Some((b' ' | b'\t', others)) = rest.split_first() {
+        rest = others;
+    }
+    rest
+}
+
+/// The text without the blanks at its end.
+fn without_trailing_blanks(text: &[u8]) -> &[u8]
+    ensures { result.now ≡ without_trailing_blanks text.now }
+{
+    let mut rest = text;
+    while let Some((last, others)) = rest.split_last() {
+        if *last != b' ' && *last != b'\t' {
+            break;
+        }
+        rest = others;
+    }
+    rest
+}
+
+/// Worked keys: what `key_of` makes of each kind of character.
+pub fn worked_keys()
+    ensures two_words { key_of (codes "Fire Opal") ≡ codes "fire opal" }
+    ensures signs_alone { key_of (codes " a - \tB ") ≡ codes "a b" }
+    ensures signs_within { key_of (codes "00-database-short") ≡ codes "00databaseshort" }
+    ensures apostrophe { key_of (codes "o'clock") ≡ codes "oclock" }
+    ensures nothing_left { key_of (codes "+ +") ≡ codes "+ +" }
+    ensures sign_in_front { key_of (codes "+a") ≡ codes "a" }
+    ensures blanks_alone { key_of (codes "\t ") ≡ [] }
+    // capital E with an acute accent, which is past ASCII (C3 89), then T, then that E again
+    ensures past_ascii { key_of (195 ∷ 137 ∷ 84 ∷ 195 ∷ 137 ∷ []) ≡ 195 ∷ 137 ∷ 116 ∷ 195 ∷ 137 ∷ [] }
+{}
+
+/// A key is text where the text is, and it is empty only where the text is blanks alone.
+pub fn key_laws()
+    ensures utf8 { (text : List ℕ) → IsUtf8 text → IsUtf8 (key_of text) }
+    ensures empty { (text : List ℕ) → (key_of text ≡ []) ↔ All (λ c. IsTrue (is_blank c)) (chars text) }
+{}
+
+#[cfg(test)]
+mod tests {
+    use super::*;
+    use std::test::Fail;
+
+    #[test]
+    fn keys_by_the_rules(rt: HostRuntime) -> Result<(), Fail> {
+        let rows = [
+            ("Fire Opal", "fire opal"),
+            (" a - \tB ", "a b"),
+            ("00-database-short", "00databaseshort"),
+            ("o'clock", "oclock"),
+            ("+ +", "+ +"),
+            (" \t+ +\t ", "+ +"),
+            ("+a", "a"),
+            ("a+", "a"),
+            ("a+b", "ab"),
+            ("a + b", "a b"),
+            ("\t ", ""),
+            ("", ""),
+            ("ÉTÉ", "ÉtÉ"),
+            ("  Zürich\t\tHB  ", "zürich hb"),
+            ("\u{a0}X", "\u{a0}x"),
+            ("(x)", "x"),
+            ("-", "-"),
+            ("A1\u{7f}B", "a1b"),
+        ];
+        for (text, key) in rows {
+            assert_eq!(rt;
+                key_of(rt.alloc(), text)?.as_bytes(),
+                key.as_bytes(),
+                "in {text:?}"
+            );
+        }
+        Ok(())
+    }
+
+    #[test]
+    fn a_key_of_a_key_is_the_key(rt: HostRuntime) -> Result<(), Fail> {
+        let once = key_of(rt.alloc(), "The  \"Great\" Bear")?;
+        assert_eq!(rt; once.as_bytes(), b"the great bear".as_slice());
+        assert_eq!(rt;
+            key_of(rt.alloc(), "the great bear")?.as_bytes(),
+            once.as_bytes()
+        );
+        worked_keys();
+        key_laws();
+        Ok(())
+    }
+}
