@@ -1,0 +1,49 @@
+-- What a pair of files in dictd's form means: an edition, or the first test that it doesn't pass.
+use Rattle.std.specs.Prelude.{◌≡◌, ℕ, ◌+◌, ◌<◌, ◌⊎◌, not, List, length, filter, Option, Some, None}
+use Rattle.std.specs.List.{AllZip}
+use Rattle.dict_text.specs.Lines.{text_lines}
+use Rattle.dict_match.specs.Key.{key_of}
+use Rattle.dict_index.specs.Line.{Line, IsLine}
+use Rattle.dict_index.specs.Reserved.{is_reserved, title_in, info_in}
+use Rattle.dict_index.specs.Edition.{Edition, Reading, edition_of}
+use Rattle.dict_index.specs.Tests.{Passes, IsOfLine, Precedes}
+use Rattle.dict_index.specs.declared.fault.Refusal.{Refusal}
+
+-- line k is there, from 0, where the test is one of a line
+abbrev pub IsMade : Refusal → List ℕ → ℕ → Type 0
+IsMade refusal index k = IsOfLine refusal → k < length (text_lines index)
+
+-- the number of the line that is told with a refusal, from 1: a test of the whole has none
+abbrev pub Tells : Refusal → ℕ → Option ℕ → Type 0
+Tells refusal k line = (IsOfLine refusal × (line ≡ Some (k + 1))) ⊎ (¬ IsOfLine refusal × (line ≡ None))
+
+-- the lines of the index that make entries, and what they say
+abbrev pub entry_lines : List Line → List Line
+entry_lines lines = filter (λ said. not (is_reserved (key_of said.headword))) lines
+
+-- no test fails, and the reading is what the lines say: its lines are those of the index in order, without the
+-- reserved ones
+pub record IsReading (index text : List ℕ) (reading : Reading) : Type 0 where
+  pub passes : (refusal : Refusal) (k : ℕ) → IsMade refusal index k → Passes refusal index text k
+  pub lines : List Line
+  pub said : AllZip IsLine (text_lines index) lines
+  pub entries : reading.lines ≡ entry_lines lines
+  pub title : title_in text lines ≡ Some reading.title
+  pub info : reading.info ≡ info_in text lines
+  pub whole : reading.text ≡ text
+
+-- the edition that the index and the text say
+abbrev pub IsEdition : List ℕ → List ℕ → Edition → Type 0
+IsEdition index text edition = (reading : Reading) × IsReading index text reading × (edition ≡ edition_of reading)
+
+-- an edition that some index and some text say
+abbrev pub IsLawful : Edition → Type 0
+IsLawful edition = (index : List ℕ) × (text : List ℕ) × IsEdition index text edition
+
+-- the test fails, at this line where it is one of a line, and each test before it passes
+pub record IsFault (index text : List ℕ) (refusal : Refusal) (line : Option ℕ) : Type 0 where
+  pub at : ℕ
+  pub tells : Tells refusal at line
+  pub made : IsMade refusal index at
+  pub fails : ¬ Passes refusal index text at
+  pub earlier : (f : Refusal) (j : ℕ) → Precedes f j refusal at → IsMade f index j → Passes f index text j

@@ -1,0 +1,39 @@
+-- The reserved entries of a dictd database, by the key of their headwords, and what they tell of it.
+use Rattle.std.specs.Prelude.{ℕ, Bool, ◌||◌, ◌==◌, nat_eq, List, [], ◌∷◌, codes, Option, slice_get, find, option_and_then, if◌then◌else◌}
+use Rattle.std.specs.List.{starts_with, list_any, before_first, after_first}
+use Rattle.std.specs.Option.{option_map, option_map_or}
+use Rattle.std.specs.Str.{bytes_eq}
+use Rattle.dict_text.specs.Lines.{text_lines}
+use Rattle.dict_match.specs.Key.{key_of, without_blanks_at_ends}
+use Rattle.dict_index.specs.Line.{Line, body_in}
+
+abbrev pub short_key : List ℕ
+short_key = codes "00databaseshort"
+
+abbrev pub info_key : List ℕ
+info_key = codes "00databaseinfo"
+
+-- the key is reserved: it begins with 00database
+abbrev pub is_reserved : List ℕ → Bool
+is_reserved key = starts_with nat_eq key (codes "00database")
+
+-- the reserved key is one of those that are known
+abbrev pub is_known : List ℕ → Bool
+is_known key = list_any (bytes_eq key) (short_key ∷ info_key ∷ codes "00databaseurl" ∷ codes "00databaseutf8" ∷ codes "00databasealphabet" ∷ [])
+    || starts_with nat_eq key (codes "00databasedictfmt")
+
+-- the body of the first line with this key
+abbrev pub text_under : List ℕ → List ℕ → List Line → Option (List ℕ)
+text_under key text lines = option_map (body_in text) (find (λ said. bytes_eq (key_of said.headword) key) lines)
+
+-- a text without its first line, where that line has this key
+abbrev pub without_key_line : List ℕ → List ℕ → List ℕ
+without_key_line key text = if bytes_eq (key_of (before_first (λ octet. octet == 10) text)) key then after_first (λ octet. octet == 10) text else text
+
+-- the first line that remains of the short text, without blanks at its ends
+abbrev pub title_in : List ℕ → List Line → Option (List ℕ)
+title_in text lines = option_and_then (λ short. option_map without_blanks_at_ends (slice_get (text_lines (without_key_line short_key short)) 0)) (text_under short_key text lines)
+
+-- what remains of the info text, or the empty text where there is none
+abbrev pub info_in : List ℕ → List Line → List ℕ
+info_in text lines = option_map_or (without_key_line info_key) (text_under info_key text lines) []

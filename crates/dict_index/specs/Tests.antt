@@ -1,0 +1,83 @@
+-- The tests that an index and a text have to pass, and the order in which they are made.
+use Rattle.std.specs.Prelude.{◌≡◌, ◌≢◌, ℕ, ◌+◌, ◌<◌, ◌≤◌, ◌==◌, ◌⊎◌, List, [], ◌∷◌, ◌++◌, length, take, count_by, IsTrue, IsSome, IfSome, slice_index_or}
+use Rattle.std.specs.List.{AllByRecursion, AllZip}
+use Rattle.std.specs.Str.{IsUtf8}
+use Rattle.dict_text.specs.Characters.{is_control}
+use Rattle.dict_text.specs.Lines.{text_lines}
+use Rattle.dict_match.specs.Key.{key_of}
+use Rattle.dict_index.specs.Line.{Line, IsLine, body_in, tab}
+use Rattle.dict_index.specs.Reserved.{is_reserved, is_known, title_in}
+use Rattle.dict_index.specs.declared.fault.Refusal.{Refusal}
+use Rattle.dict_index.specs.declared.fault.Refusal.TheVariants.{IndexNotUtf8, Columns, Number, Interval, Headword, BodyText, BodyLine, Reserved, ReservedTwice, NoTitle, BadTitle, TooManyEntries, TextTooLong, LastLine}
+
+-- what the line says, where it says something, has the property
+abbrev pub IfSays : List ℕ → (Line → Type 0) → Type 0
+IfSays line P = (said : Line) → IsLine line said → P said
+
+-- what all lines say, where each says something, has the property
+abbrev pub IfAllSay : List (List ℕ) → (List Line → Type 0) → Type 0
+IfAllSay lines P = (all_said : List Line) → AllZip IsLine lines all_said → P all_said
+
+-- no control character stands in it
+abbrev pub HasNoControl : List ℕ → Type 0
+HasNoControl octets = AllByRecursion (λ octet. ¬ IsTrue (is_control octet)) octets
+
+-- 1 to 255 octets, no control character, and a key that isn't empty
+abbrev pub IsHeadword : List ℕ → Type 0
+IsHeadword headword = (1 ≤ length headword) × (length headword ≤ 255) × HasNoControl headword × (key_of headword ≢ [])
+
+-- UTF-8, with no control character but LF and tab
+abbrev pub IsText : List ℕ → Type 0
+IsText octets = IsUtf8 octets × AllByRecursion (λ octet. (octet ≡ 10) ⊎ (octet ≡ 9) ⊎ ¬ IsTrue (is_control octet)) octets
+
+-- no line says an entry with this key
+abbrev pub NoneHasKey : List (List ℕ) → List ℕ → Type 0
+NoneHasKey lines key = AllByRecursion (λ line. IfSays line (λ said. key_of said.headword ≢ key)) lines
+
+-- 1 to 200 octets, no control character
+abbrev pub IsTitle : List ℕ → Type 0
+IsTitle title = (1 ≤ length title) × (length title ≤ 200) × HasNoControl title
+
+-- the index and the text pass the test; a test of a line is made at the line with this number, from 0
+abbrev pub Passes : Refusal → List ℕ → List ℕ → ℕ → Type 0
+Passes TextTooLong index text k = length text ≤ 16777216
+Passes IndexNotUtf8 index text k = IsUtf8 index
+Passes LastLine index text k = (index ≡ []) ⊎ ((front : List ℕ) × (index ≡ front ++ 10 ∷ []))
+Passes TooManyEntries index text k = length (text_lines index) ≤ 65536
+Passes Columns index text k = count_by (λ octet. octet == tab) (slice_index_or (text_lines index) k []) ≡ 2
+Passes Number index text k = (said : Line) × IsLine (slice_index_or (text_lines index) k []) said
+Passes Interval index text k = IfSays (slice_index_or (text_lines index) k []) (λ said. said.offset + said.size ≤ length text)
+Passes Headword index text k = IfSays (slice_index_or (text_lines index) k []) (λ said. IsHeadword said.headword)
+Passes BodyText index text k = IfSays (slice_index_or (text_lines index) k []) (λ said. IsText (body_in text said))
+Passes BodyLine index text k = IfSays (slice_index_or (text_lines index) k []) (λ said. AllByRecursion (λ line. length line ≤ 1021) (text_lines (body_in text said)))
+Passes Reserved index text k = IfSays (slice_index_or (text_lines index) k []) (λ said. IsTrue (is_reserved (key_of said.headword)) → IsTrue (is_known (key_of said.headword)))
+Passes ReservedTwice index text k = IfSays (slice_index_or (text_lines index) k []) (λ said. IsTrue (is_known (key_of said.headword)) → NoneHasKey (take k (text_lines index)) (key_of said.headword))
+Passes NoTitle index text k = IfAllSay (text_lines index) (λ all_said. IsSome (title_in text all_said))
+Passes BadTitle index text k = IfAllSay (text_lines index) (λ all_said. IfSome (title_in text all_said) IsTitle)
+
+-- the tests in order: first those of the whole files, then for each line these eight, then those of the title
+abbrev pub rank : Refusal → ℕ
+rank TextTooLong = 0
+rank IndexNotUtf8 = 1
+rank LastLine = 2
+rank TooManyEntries = 3
+rank Columns = 4
+rank Number = 5
+rank Interval = 6
+rank Headword = 7
+rank BodyText = 8
+rank BodyLine = 9
+rank Reserved = 10
+rank ReservedTwice = 11
+rank NoTitle = 12
+rank BadTitle = 13
+
+-- the test is one of a line
+abbrev pub IsOfLine : Refusal → Type 0
+IsOfLine refusal = (4 ≤ rank refusal) × (rank refusal < 12)
+
+-- test f at line j is made before test g at line k
+abbrev pub Precedes : Refusal → ℕ → Refusal → ℕ → Type 0
+Precedes f j g k =
+    ((rank f < rank g) × ¬ (IsOfLine f × IsOfLine g))
+    ⊎ (IsOfLine f × IsOfLine g × ((j < k) ⊎ ((j ≡ k) × (rank f < rank g))))

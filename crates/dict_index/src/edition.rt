@@ -1,0 +1,63 @@
+// An edition as it was read.
+ghost use Rattle.std.specs.Prelude.{◌≡◌, map};
+ghost use Rattle.std.specs.List.{AllByRecursion};
+ghost use Rattle.dict_index.specs.Views.{line_of, HasBodyIn};
+
+use crate::entry::Entry;
+use std::marker::Model;
+
+/// A whole edition: its title, its info and its entries in the order of the index. All borrow from the two
+/// files. There is no way to make one but to read it.
+#[derive(Drop)]
+pub struct Edition<'a> {
+    title: &'a str,
+    info: &'a str,
+    text: &'a [u8],
+    entries: Vec<Entry<'a>>,
+}
+
+impl<'a> Model for Edition<'a> {
+    ghost use Rattle.std.specs.Prelude.{map};
+    ghost use Rattle.std.specs.List.{AllByRecursion};
+    ghost use Rattle.dict_index.specs.Edition.{Reading, edition_of};
+    ghost use Rattle.dict_index.specs.Meaning.{IsLawful};
+    ghost use Rattle.dict_index.specs.Views.{line_of, HasBodyIn};
+
+    ghost Value = { Reading };
+
+    ghost view = { λ e. record { title = e.title.now; info = e.info.now; text = e.text.now; lines = map line_of e.entries.items } };
+
+    ghost invariant = { λ e. AllByRecursion (HasBodyIn e.text.now) e.entries.items
+        × IsLawful (edition_of (record { title = e.title.now; info = e.info.now; text = e.text.now; lines = map line_of e.entries.items })) };
+}
+
+impl<'a> Edition<'a> {
+    /// The first line of the database's short text, without blanks at its ends.
+    pub fn title(&self) -> &'a str
+        ensures { result.now ≡ self.now.title }
+    {
+        self.title
+    }
+
+    /// What the database says of itself.
+    pub fn info(&self) -> &'a str
+        ensures { result.now ≡ self.now.info }
+    {
+        self.info
+    }
+
+    /// The whole file that the texts were cut out of.
+    pub fn text(&self) -> &'a [u8]
+        ensures { result.now ≡ self.now.text }
+    {
+        self.text
+    }
+
+    /// The entries, in the order of the index.
+    pub fn entries(&self) -> &[Entry<'a>]
+        ensures lines { map line_of result.now ≡ self.now.lines }
+        ensures bodies { AllByRecursion (HasBodyIn self.now.text) result.now }
+    {
+        self.entries.as_slice()
+    }
+}

@@ -1,0 +1,119 @@
+// Why a pair of files is no edition.
+ghost use Rattle.std.specs.Prelude.{◌≡◌};
+ghost use Rattle.dict_index.specs.Refusals.{refusal_number, refusal_name};
+
+use std::alloc::{AllocError, AllocFailed};
+use thiserror::Error;
+
+/// The test of an edition that failed.
+#[derive(Clone, Copy, Debug, PartialEq, Eq)]
+pub enum Refusal {
+    /// The index is not UTF-8.
+    IndexNotUtf8,
+    /// A line hasn't exactly two tabs.
+    Columns,
+    /// An offset or a length is no number of dictd's.
+    Number,
+    /// The offset and the length together are greater than the text's length.
+    Interval,
+    /// The headword isn't 1 to 255 octets, or has a control character, or its key is empty.
+    Headword,
+    /// The interval is not UTF-8, or has a control character other than LF and tab.
+    BodyText,
+    /// A line of the interval has more than 1,021 octets.
+    BodyLine,
+    /// The headword is reserved, and not one of those that are known.
+    Reserved,
+    /// The headword is a known reserved one that an earlier line has.
+    ReservedTwice,
+    /// There is no entry for the title, or no line remains in it.
+    NoTitle,
+    /// The title isn't 1 to 200 octets, or has a control character.
+    BadTitle,
+    /// There are more than 65,536 lines.
+    TooManyEntries,
+    /// The text is longer than 16,777,216 octets.
+    TextTooLong,
+    /// An index that isn't empty doesn't end by LF.
+    LastLine,
+}
+
+impl Refusal {
+    /// The refusal's number, as users see it: 1 to 14.
+    pub fn number(self) -> u8
+        ensures { result ≡ refusal_number self }
+    {
+        match self {
+            Refusal::IndexNotUtf8 => 1,
+            Refusal::Columns => 2,
+            Refusal::Number => 3,
+            Refusal::Interval => 4,
+            Refusal::Headword => 5,
+            Refusal::BodyText => 6,
+            Refusal::BodyLine => 7,
+            Refusal::Reserved => 8,
+            Refusal::ReservedTwice => 9,
+            Refusal::NoTitle => 10,
+            Refusal::BadTitle => 11,
+            Refusal::TooManyEntries => 12,
+            Refusal::TextTooLong => 13,
+            Refusal::LastLine => 14,
+        }
+    }
+
+    /// The refusal's name, as users see it.
+    pub fn name(self) -> &'static str
+        ensures { result.now ≡ refusal_name self }
+    {
+        match self {
+            Refusal::IndexNotUtf8 => "IndexNotUtf8",
+            Refusal::Columns => "Columns",
+            Refusal::Number => "Number",
+            Refusal::Interval => "Interval",
+            Refusal::Headword => "Headword",
+            Refusal::BodyText => "BodyText",
+            Refusal::BodyLine => "BodyLine",
+            Refusal::Reserved => "Reserved",
+            Refusal::ReservedTwice => "ReservedTwice",
+            Refusal::NoTitle => "NoTitle",
+            Refusal::BadTitle => "BadTitle",
+            Refusal::TooManyEntries => "TooManyEntries",
+            Refusal::TextTooLong => "TextTooLong",
+            Refusal::LastLine => "LastLine",
+        }
+    }
+}
+
+/// Why no edition was read.
+#[derive(Clone, Copy, Debug, PartialEq, Eq, Error)]
+pub enum IndexFault {
+    /// A test failed, at the line with this number, from 1, where it is a test of a line.
+    #[error("the files are refused")]
+    Refused {
+        refusal: Refusal,
+        line: Option<usize>,
+    },
+    /// A growth was refused.
+    #[error("out of memory")]
+    Memory,
+}
+
+impl From<AllocError> for IndexFault {
+    ghost use Rattle.dict_index.specs.declared.fault.IndexFault.TheVariants.{Memory};
+
+    ghost from_gives = { λ _ fault. fault ≡ Memory };
+
+    fn from(_: AllocError) -> Self {
+        IndexFault::Memory
+    }
+}
+
+impl<T: Drop> From<AllocFailed<T>> for IndexFault {
+    ghost use Rattle.dict_index.specs.declared.fault.IndexFault.TheVariants.{Memory};
+
+    ghost from_gives = { λ _ fault. fault ≡ Memory };
+
+    fn from(_: AllocFailed<T>) -> Self {
+        IndexFault::Memory
+    }
+}

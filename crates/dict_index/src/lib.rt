@@ -1,0 +1,11 @@
+//! Reads a pair of files in dictd's form, an index and a text, into an edition, or tells the first test that
+//! they don't pass.
+#![tactic(auto)]
+
+mod edition;
+mod entry;
+mod fault;
+
+pub use edition::Edition;
+pub use entry::Entry;
+pub use fault::{IndexFault, Refusal};
