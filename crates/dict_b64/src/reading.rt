@@ -28,6 +28,7 @@ pub enum NumberFault {
 pub fn read_number(text: &[u8]) -> Result<u64, NumberFault>
     ensures found { IfOk result (λ n. Spells text.now n) }
     ensures only { (n : ℕ) → Spells text.now n → result ≡ Ok n }
+    ensures small { IfOk result (λ n. n < 64 ^ 6) }
     ensures fault { IfErr result (λ fault. IsFault text.now fault) }
     ensures first { (fault : NumberFault) → IsFault text.now fault → result ≡ Err fault }
 {

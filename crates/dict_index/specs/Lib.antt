@@ -5,3 +5,5 @@ pub mod Tests
 pub mod Meaning
 pub mod Refusals
 pub mod Views
+pub mod Cuts
+pub mod Order

@@ -26,9 +26,17 @@ HasNoControl octets = AllByRecursion (λ octet. ¬ IsTrue (is_control octet)) oc
 abbrev pub IsHeadword : List ℕ → Type 0
 IsHeadword headword = (1 ≤ length headword) × (length headword ≤ 255) × HasNoControl headword × (key_of headword ≢ [])
 
+-- LF, tab, or no control character
+abbrev pub IsTextOctet : ℕ → Type 0
+IsTextOctet octet = (octet ≡ 10) ⊎ (octet ≡ 9) ⊎ ¬ IsTrue (is_control octet)
+
 -- UTF-8, with no control character but LF and tab
 abbrev pub IsText : List ℕ → Type 0
-IsText octets = IsUtf8 octets × AllByRecursion (λ octet. (octet ≡ 10) ⊎ (octet ≡ 9) ⊎ ¬ IsTrue (is_control octet)) octets
+IsText octets = IsUtf8 octets × AllByRecursion IsTextOctet octets
+
+-- no line of a text has more than 1,021 octets
+abbrev pub HasShortLines : List ℕ → Type 0
+HasShortLines octets = AllByRecursion (λ line. length line ≤ 1021) (text_lines octets)
 
 -- no line says an entry with this key
 abbrev pub NoneHasKey : List (List ℕ) → List ℕ → Type 0
@@ -38,22 +46,27 @@ NoneHasKey lines key = AllByRecursion (λ line. IfSays line (λ said. key_of sai
 abbrev pub IsTitle : List ℕ → Type 0
 IsTitle title = (1 ≤ length title) × (length title ≤ 200) × HasNoControl title
 
+-- the line passes the test, over this text and behind these lines; a test of the whole passes
+abbrev pub PassesLine : Refusal → List ℕ → List (List ℕ) → List ℕ → Type 0
+PassesLine Columns text before line = count_by (λ octet. octet == tab) line ≡ 2
+PassesLine Number text before line = (said : Line) × IsLine line said
+PassesLine Interval text before line = IfSays line (λ said. said.offset + said.size ≤ length text)
+PassesLine Headword text before line = IfSays line (λ said. IsHeadword said.headword)
+PassesLine BodyText text before line = IfSays line (λ said. IsText (body_in text said))
+PassesLine BodyLine text before line = IfSays line (λ said. HasShortLines (body_in text said))
+PassesLine Reserved text before line = IfSays line (λ said. IsTrue (is_reserved (key_of said.headword)) → IsTrue (is_known (key_of said.headword)))
+PassesLine ReservedTwice text before line = IfSays line (λ said. IsTrue (is_known (key_of said.headword)) → NoneHasKey before (key_of said.headword))
+PassesLine _ text before line = Unit {0}
+
 -- the index and the text pass the test; a test of a line is made at the line with this number, from 0
 abbrev pub Passes : Refusal → List ℕ → List ℕ → ℕ → Type 0
 Passes TextTooLong index text k = length text ≤ 16777216
 Passes IndexNotUtf8 index text k = IsUtf8 index
 Passes LastLine index text k = (index ≡ []) ⊎ ((front : List ℕ) × (index ≡ front ++ 10 ∷ []))
 Passes TooManyEntries index text k = length (text_lines index) ≤ 65536
-Passes Columns index text k = count_by (λ octet. octet == tab) (slice_index_or (text_lines index) k []) ≡ 2
-Passes Number index text k = (said : Line) × IsLine (slice_index_or (text_lines index) k []) said
-Passes Interval index text k = IfSays (slice_index_or (text_lines index) k []) (λ said. said.offset + said.size ≤ length text)
-Passes Headword index text k = IfSays (slice_index_or (text_lines index) k []) (λ said. IsHeadword said.headword)
-Passes BodyText index text k = IfSays (slice_index_or (text_lines index) k []) (λ said. IsText (body_in text said))
-Passes BodyLine index text k = IfSays (slice_index_or (text_lines index) k []) (λ said. AllByRecursion (λ line. length line ≤ 1021) (text_lines (body_in text said)))
-Passes Reserved index text k = IfSays (slice_index_or (text_lines index) k []) (λ said. IsTrue (is_reserved (key_of said.headword)) → IsTrue (is_known (key_of said.headword)))
-Passes ReservedTwice index text k = IfSays (slice_index_or (text_lines index) k []) (λ said. IsTrue (is_known (key_of said.headword)) → NoneHasKey (take k (text_lines index)) (key_of said.headword))
 Passes NoTitle index text k = IfAllSay (text_lines index) (λ all_said. IsSome (title_in text all_said))
 Passes BadTitle index text k = IfAllSay (text_lines index) (λ all_said. IfSome (title_in text all_said) IsTitle)
+Passes refusal index text k = PassesLine refusal text (take k (text_lines index)) (slice_index_or (text_lines index) k [])
 
 -- the tests in order: first those of the whole files, then for each line these eight, then those of the title
 abbrev pub rank : Refusal → ℕ

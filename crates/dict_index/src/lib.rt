@@ -2,9 +2,11 @@
 //! they don't pass.
 #![tactic(auto)]
 
+mod columns;
 mod edition;
 mod entry;
 mod fault;
+mod line;
 
 pub use edition::Edition;
 pub use entry::Entry;

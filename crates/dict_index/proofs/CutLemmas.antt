@@ -1,0 +1,96 @@
+-- Lists of octets cut at an octet.
+use Rattle.std.proofs.Common.{◌≡◌, ◌≢◌, ℕ, zero, suc, ◌+◌, ◌-◌, ◌<◌, ◌≤◌, List, [], ◌∷◌, ◌++◌, length, take, drop, get_or, refl, ap, sym, ◌∙◌, subst, arith, cond, true, false, eqb, eq-eqb, eqb-true, append_assoc, add-one}
+use Rattle.std.proofs.lemmas.Bool.Decides.{nat_tests}
+use Rattle.std.proofs.lemmas.List.{take_rest, take-append-drop, length-take-le}
+use Rattle.std.proofs.lemmas.List.Sums.{sum_by-append, sum_by-cons}
+use Rattle.std.proofs.lemmas.Str.{IsUtf8-take, IsUtf8-drop, IsCharBoundary-before_ascii, IsCharBoundary-after_ascii}
+use Rattle.std.proofs.Math.Seq.{drop-cons, take-append_seam, drop-append_seam}
+use Rattle.std.specs.Prelude.{◌==◌, count_by}
+use Rattle.std.specs.List.{AllByRecursion}
+use Rattle.std.specs.Str.{IsUtf8}
+use Rattle.memchr.specs.Find.{NoneBefore, Nowhere, Passes, is_byte}
+use Rattle.dict_index.specs.Cuts.{HasNo, IsCutAt, AreColumns}
+
+-- what holds of each place is said by recursion
+pub has_no_from : (b : ℕ) (xs : List ℕ) → ((k : ℕ) → k < length xs → get_or xs k 0 ≢ b) → HasNo b xs
+has_no_from b [] h = tt
+has_no_from b (x ∷ xs) h = (h 0 (omega arith), has_no_from b xs (λ k lt. h (suc k) (omega arith)))
+
+get_or_front : (xs : List ℕ) (n k : ℕ) → k < n → get_or (take n xs) k 0 ≡ get_or xs k 0
+get_or_front [] zero k lt = refl
+get_or_front [] (suc n) k lt = refl
+get_or_front xs zero k lt = absurd (omega arith)
+get_or_front (x ∷ xs) (suc n) zero lt = refl
+get_or_front (x ∷ xs) (suc n) (suc k) lt = get_or_front xs n k (omega arith)
+
+-- a search for the first place of an octet cuts there
+pub cut_from_search : (b : ℕ) (xs : List ℕ) (n : ℕ) → NoneBefore (Passes (is_byte b) xs) 0 (length xs) n → Passes (is_byte b) xs n → IsCutAt b xs (take n xs) (take (length xs - (n + 1)) (drop (n + 1) xs))
+cut_from_search b xs n none here =
+    let lt : n < length xs = none.high in
+    record {
+      whole = sym (take-append-drop n xs) ∙ ap (λ l. take n xs ++ l) (drop-cons xs n 0 lt ∙ (ap (λ x. x ∷ drop (suc n) xs) (eqb-true _ _ here) ∙ ap (λ l. b ∷ l) (ap (λ m. drop m xs) (sym (add-one n)) ∙ sym (take_rest xs (n + 1)))));
+      none = has_no_from b (take n xs) (λ k small. λ same. none.before k (omega arith) (omega (arith, length-take-le n xs (omega arith))) (eq-eqb _ _ (sym (get_or_front xs n k (omega (arith, length-take-le n xs (omega arith)))) ∙ same)));
+    }
+
+pub none_from_search : (b : ℕ) (xs : List ℕ) → Nowhere (Passes (is_byte b) xs) 0 (length xs) → HasNo b xs
+none_from_search b xs none = has_no_from b xs (λ k lt. λ same. none k (omega arith) lt (eq-eqb _ _ same))
+
+-- how often an octet stands in a list that doesn't have it, or that it cuts
+pub count_none : (b : ℕ) (xs : List ℕ) → HasNo b xs → count_by (λ x. x == b) xs ≡ 0
+count_none b [] h = refl
+count_none b (x ∷ xs) h =
+    let other : x ≢ b = h.0 in
+    let test : (x == b) ≡ false = grind (arith, nat_tests, other) in
+    sum_by-cons (λ x. cond (x == b) 1 0) x xs ∙ (ap (λ t. cond t 1 0 + count_by (λ x. x == b) xs) test ∙ omega (arith, count_none b xs h.1))
+
+pub count_cut : (b : ℕ) (xs ys zs : List ℕ) → IsCutAt b xs ys zs → count_by (λ x. x == b) xs ≡ 1 + count_by (λ x. x == b) zs
+count_cut b xs ys zs h =
+    let test : (b == b) ≡ true = eq-eqb b b refl in
+    let front : count_by (λ x. x == b) ys ≡ 0 = count_none b ys h.none in
+    let back : count_by (λ x. x == b) (b ∷ zs) ≡ 1 + count_by (λ x. x == b) zs = sum_by-cons (λ x. cond (x == b) 1 0) b zs ∙ ap (λ t. cond t 1 0 + count_by (λ x. x == b) zs) test in
+    ap (count_by (λ x. x == b)) h.whole ∙ (sum_by-append (λ x. cond (x == b) 1 0) ys (b ∷ zs) ∙ omega (arith, front, back))
+
+-- three columns have two tabs between them
+pub count_columns : (line h o t : List ℕ) → AreColumns line h o t → count_by (λ x. x == 9) line ≡ 2
+count_columns line h o t c =
+    let first = count_cut 9 line h (o ++ 9 ∷ t) (record { whole = c.whole ∙ append_assoc h (9 ∷ o) (9 ∷ t); none = c.first_none }) in
+    let second = count_cut 9 (o ++ 9 ∷ t) o t (record { whole = refl; none = c.second_none }) in
+    omega (arith, first, second, count_none 9 t c.third_none)
+
+-- one list is cut at an octet in one way
+pub one_cut : (b : ℕ) (xs us ys vs : List ℕ) → HasNo b xs → HasNo b ys → xs ++ b ∷ us ≡ ys ++ b ∷ vs → (xs ≡ ys) × (us ≡ vs)
+one_cut b [] us [] vs h k e = (refl, (cc))
+one_cut b [] us (y ∷ ys) vs h k e = absurd (k.0 (let same : y ≡ b = cc in same))
+one_cut b (x ∷ xs) us [] vs h k e = absurd (h.0 (let same : x ≡ b = cc in same))
+one_cut b (x ∷ xs) us (y ∷ ys) vs h k e =
+    let heads : x ≡ y = cc in
+    let tails : xs ++ b ∷ us ≡ ys ++ b ∷ vs = cc in
+    let rest = one_cut b xs us ys vs h.1 k.1 tails in
+    (ap (λ z. z ∷ xs) heads ∙ ap (λ l. y ∷ l) rest.0, rest.1)
+
+at_seam_lt : (xs : List ℕ) (b : ℕ) (ys : List ℕ) → length xs < length (xs ++ b ∷ ys)
+at_seam_lt [] b ys = omega arith
+at_seam_lt (x ∷ xs) b ys = omega (arith, at_seam_lt xs b ys)
+
+at_seam : (xs : List ℕ) (b : ℕ) (ys : List ℕ) → get_or (xs ++ b ∷ ys) (length xs) 0 ≡ b
+at_seam [] b ys = refl
+at_seam (x ∷ xs) b ys = at_seam xs b ys
+
+one_further : (xs : List ℕ) (b : ℕ) (ys : List ℕ) → drop (suc (length xs)) (xs ++ b ∷ ys) ≡ ys
+one_further [] b ys = refl
+one_further (x ∷ xs) b ys = one_further xs b ys
+
+behind_seam : (xs : List ℕ) (b : ℕ) (ys : List ℕ) → drop (length xs + 1) (xs ++ b ∷ ys) ≡ ys
+behind_seam xs b ys = ap (λ n. drop n (xs ++ b ∷ ys)) (add-one (length xs)) ∙ one_further xs b ys
+
+-- a text that an ASCII character cuts is text on both sides
+pub utf8_parts : (bs xs ys : List ℕ) (b : ℕ) → bs ≡ xs ++ b ∷ ys → b < 128 → IsUtf8 bs → IsUtf8 xs × IsUtf8 ys
+utf8_parts bs xs ys b e ascii u =
+    let v : IsUtf8 (xs ++ b ∷ ys) = subst IsUtf8 e u in
+    let lt : length xs < length (xs ++ b ∷ ys) = at_seam_lt xs b ys in
+    let here : get_or (xs ++ b ∷ ys) (length xs) 0 ≡ b = at_seam xs b ys in
+    let small : get_or (xs ++ b ∷ ys) (length xs) 0 < 128 = omega (arith, here) in
+    (
+      subst IsUtf8 (take-append_seam xs (b ∷ ys)) (IsUtf8-take (xs ++ b ∷ ys) (length xs) v (IsCharBoundary-before_ascii _ _ lt small)),
+      subst IsUtf8 (behind_seam xs b ys) (IsUtf8-drop (xs ++ b ∷ ys) (length xs + 1) v (IsCharBoundary-after_ascii _ _ v lt small)),
+    )

@@ -1,0 +1,5 @@
+pub mod CutLemmas
+pub mod AllLemmas
+pub mod OrderLemmas
+pub mod LineLemmas
+pub mod ReadLemmas

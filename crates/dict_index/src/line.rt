@@ -1,0 +1,176 @@
+// What one line of an index says, over a text.
+ghost use Rattle.std.specs.Prelude.{◌≡◌, ℕ, ◌+◌, ◌<◌, ◌≤◌, ◌^◌, length, take, drop, MatchOption, MatchBool, IfOk, IfErr, OnOk, List};
+ghost use Rattle.std.specs.Str.{IsUtf8};
+ghost use Rattle.dict_b64.specs.Number.{Spells};
+ghost use Rattle.dict_match.specs.Key.{key_of};
+ghost use Rattle.dict_index.specs.Cuts.{AreColumns};
+ghost use Rattle.dict_index.specs.Line.{IsLine};
+ghost use Rattle.dict_index.specs.Views.{line_of, HasBodyIn};
+ghost use Rattle.dict_index.specs.Order.{PassesBefore, IsLineFault};
+ghost use Rattle.dict_index.specs.declared.fault.Refusal.TheVariants.{Reserved};
+ghost use Rattle.dict_index.specs.Tests.{IsHeadword, IsText, IsTextOctet, HasNoControl, HasShortLines};
+
+use crate::columns::{Columns, columns_of};
+use crate::entry::Entry;
+use crate::fault::Refusal;
+use bstr::ByteSlice;
+use dict_b64::read_number;
+use dict_match::{Key, key_of};
+use dict_text::{is_control, text_lines};
+use std::alloc::{AllocError, Global};
+
+const MAX_HEADWORD: usize = 255;
+
+const MAX_TEXT_LINE: usize = 1021;
+
+// The offset and the size that the columns spell.
+pub(crate) fn interval_of(columns: Columns<'_>) -> Option<(u64, u64)>
+    ensures spelled { MatchOption result ((m n : ℕ) → Spells columns.entry.offset.now m → Spells columns.entry.size.now n → ⊥)
+        (λ interval. Spells columns.entry.offset.now interval.0 × Spells columns.entry.size.now interval.1) }
+    ensures small { MatchOption result (Unit {0}) (λ interval. (interval.0 < 64 ^ 6) × (interval.1 < 64 ^ 6)) }
+{
+    let Ok(offset) = read_number(columns.offset) else {
+        return None;
+    };
+    let Ok(size) = read_number(columns.size) else {
+        return None;
+    };
+    Some((offset, size))
+}
+
+// What an interval cuts out of the text, if it lies within it.
+pub(crate) fn cut_out(text: &[u8], offset: u64, size: u64) -> Option<&[u8]>
+    requires offset { offset < 64 ^ 6 }
+    requires size { size < 64 ^ 6 }
+    ensures { MatchOption result (length text.now < offset + size)
+        (λ body. (offset + size ≤ length text.now) × (body.now ≡ take size (drop offset text.now))) }
+{
+    let end = offset + size;
+    if end > text.len() as u64 {
+        return None;
+    }
+    Some(&text[offset as usize..end as usize])
+}
+
+// Whether a control character stands among the octets.
+pub(crate) fn has_control(octets: &[u8]) -> bool
+    ensures { MatchBool result (¬ HasNoControl octets.now) (HasNoControl octets.now) }
+{
+    for octet in octets {
+        if is_control(char::from(*octet)) {
+            return true;
+        }
+    }
+    false
+}
+
+// The key of a headword, if it may be one.
+pub(crate) fn headword_key(alloc: Global, headword: &str) -> Result<Option<Key>, AllocError>
+    ensures { IfOk result (λ found. MatchOption found (¬ IsHeadword headword.now) (λ key. IsHeadword headword.now × (key ≡ key_of headword.now))) }
+{
+    if headword.is_empty() || headword.len() > MAX_HEADWORD || has_control(headword.as_bytes()) {
+        return Ok(None);
+    }
+    let key = key_of(alloc, headword)?;
+    if key.as_bytes().is_empty() {
+        return Ok(None);
+    }
+    Ok(Some(key))
+}
+
+// Whether an octet is none of a control character, or LF, or tab.
+fn is_text_octet(octet: u8) -> bool
+    ensures { MatchBool result (IsTextOctet octet) (¬ IsTextOctet octet) }
+{
+    octet == b'\n' || octet == b'\t' || !is_control(char::from(octet))
+}
+
+// The octets as text, if they are text with no control character but LF and tab.
+pub(crate) fn text_of(octets: &[u8]) -> Option<&str>
+    ensures { MatchOption result (¬ IsText octets.now) (λ text. IsText octets.now × (text.now ≡ octets.now)) }
+{
+    for octet in octets {
+        if !is_text_octet(*octet) {
+            return None;
+        }
+    }
+    match octets.to_str() {
+        Ok(text) => Some(text),
+        Err(_) => None,
+    }
+}
+
+// Whether no line of the text is too long for a reply.
+pub(crate) fn has_short_lines(text: &[u8]) -> bool
+    ensures { MatchBool result (HasShortLines text.now) (¬ HasShortLines text.now) }
+{
+    let mut lines = text_lines(text);
+    while let Some(line) = lines.next() {
+        if line.len() > MAX_TEXT_LINE {
+            return false;
+        }
+    }
+    true
+}
+
+// The octets of a text, as text.
+pub(crate) fn as_text(octets: &[u8]) -> &str
+    requires { IsUtf8 octets.now }
+    ensures { result.now ≡ octets.now }
+{
+    match octets.to_str() {
+        Ok(text) => text,
+        Err(_) => unreachable!(),
+    }
+}
+
+/// Why a line is no entry.
+#[derive(Clone, Copy, Debug, PartialEq, Eq)]
+pub(crate) enum LineFault {
+    Refused(Refusal),
+    Memory,
+}
+
+// What a line says, where it passes the tests up to that of its body's lines: its entry, and the key of its
+// headword.
+pub(crate) fn read_line<'a>(
+    alloc: Global,
+    line: &'a [u8],
+    text: &'a [u8],
+) -> Result<(Entry<'a>, Key), LineFault>
+    requires { IsUtf8 line.now }
+    ensures said { IfOk result (λ found. IsLine line.now (line_of found.0)) }
+    ensures body { IfOk result (λ found. HasBodyIn text.now found.0) }
+    ensures key { IfOk result (λ found. found.1 ≡ key_of found.0.headword.now) }
+    ensures passes { OnOk result ((before : List (List ℕ)) → PassesBefore Reserved text.now before line.now) }
+    ensures refused { IfErr result (λ fault. IsLineFault fault text.now line.now) }
+{
+    let Some(columns) = columns_of(line) else {
+        return Err(LineFault::Refused(Refusal::Columns));
+    };
+    let Some((offset, size)) = interval_of(columns) else {
+        return Err(LineFault::Refused(Refusal::Number));
+    };
+    let Some(body) = cut_out(text, offset, size) else {
+        return Err(LineFault::Refused(Refusal::Interval));
+    };
+    let headword = as_text(columns.headword);
+    let key = match headword_key(alloc, headword) {
+        Ok(Some(key)) => key,
+        Ok(None) => return Err(LineFault::Refused(Refusal::Headword)),
+        Err(_) => return Err(LineFault::Memory),
+    };
+    let Some(body) = text_of(body) else {
+        return Err(LineFault::Refused(Refusal::BodyText));
+    };
+    if !has_short_lines(body.as_bytes()) {
+        return Err(LineFault::Refused(Refusal::BodyLine));
+    }
+    let entry = Entry {
+        headword,
+        body,
+        offset: offset as usize,
+        size: size as usize,
+    };
+    Ok((entry, key))
+}
