@@ -4,3 +4,7 @@ pub mod FoldLemmas
 pub mod TrimLemmas
 pub mod KeyLemmas
 pub mod KeyLaws
+pub mod StrategyLemmas
+pub mod WordLemmas
+pub mod MatchLemmas
+pub mod HitLemmas

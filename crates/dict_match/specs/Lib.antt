@@ -1,2 +1,4 @@
 pub mod Key
+pub mod Matching
+pub mod StrategyText
 pub mod Words

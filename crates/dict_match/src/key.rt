@@ -4,8 +4,9 @@ ghost use Rattle.std.specs.Prelude.{◌≡◌, ◌↔◌, [], ◌∷◌, All, If
 ghost use Rattle.std.specs.Str.{IsUtf8, chars, encode_utf8_all};
 ghost use Rattle.dict_text.specs.Characters.{is_blank};
 ghost use Rattle.std.specs.String.{string_bytes};
-ghost use Rattle.dict_match.specs.Key.{key_of, is_kept, ascii_folded, without_leading_blanks, without_trailing_blanks};
+ghost use Rattle.dict_match.specs.Key.{key_of, is_kept, ascii_folded, without_trailing_blanks};
 
+use crate::word::without_leading_blanks;
 use dict_text::is_blank;
 use std::alloc::{AllocError, Global};
 use std::marker::Model;
@@ -74,17 +75,6 @@ fn fold(alloc: Global, text: &str) -> Result<String, AllocError>
         }
     }
     Ok(folded)
-}
-
-/// The text without the blanks at its front.
-fn without_leading_blanks(text: &[u8]) -> &[u8]
-    ensures { result.now ≡ without_leading_blanks text.now }
-{
-    let mut rest = text;
-    while let Some((b' ' | b'\t', others)) = rest.split_first() {
-        rest = others;
-    }
-    rest
 }
 
 /// The text without the blanks at its end.

@@ -2,5 +2,11 @@
 #![tactic(auto)]
 
 mod key;
+mod matching;
+mod strategy;
+mod word;
 
 pub use key::{Key, key_laws, key_of, worked_keys};
+pub use matching::matches;
+pub use strategy::Strategy;
+pub use word::{WordIterator, words};
