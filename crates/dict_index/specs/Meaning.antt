@@ -36,6 +36,10 @@ pub record IsReading (index text : List ℕ) (reading : Reading) : Type 0 where
 abbrev pub IsEdition : List ℕ → List ℕ → Edition → Type 0
 IsEdition index text edition = (reading : Reading) × IsReading index text reading × (edition ≡ edition_of reading)
 
+-- what some index says of the text that the reading has
+abbrev pub IsRead : Reading → Type 0
+IsRead reading = (index : List ℕ) × IsReading index reading.text reading
+
 -- an edition that some index and some text say
 abbrev pub IsLawful : Edition → Type 0
 IsLawful edition = (index : List ℕ) × (text : List ℕ) × IsEdition index text edition

@@ -38,7 +38,7 @@ IsText octets = IsUtf8 octets × AllByRecursion IsTextOctet octets
 abbrev pub HasShortLines : List ℕ → Type 0
 HasShortLines octets = AllByRecursion (λ line. length line ≤ 1021) (text_lines octets)
 
--- no line says an entry with this key
+-- no line says a headword with this key
 abbrev pub NoneHasKey : List (List ℕ) → List ℕ → Type 0
 NoneHasKey lines key = AllByRecursion (λ line. IfSays line (λ said. key_of said.headword ≢ key)) lines
 
@@ -58,6 +58,10 @@ PassesLine Reserved text before line = IfSays line (λ said. IsTrue (is_reserved
 PassesLine ReservedTwice text before line = IfSays line (λ said. IsTrue (is_known (key_of said.headword)) → NoneHasKey before (key_of said.headword))
 PassesLine _ text before line = Unit {0}
 
+-- the line of the index with this number, from 0
+abbrev pub line_at : List ℕ → ℕ → List ℕ
+line_at index k = slice_index_or (text_lines index) k []
+
 -- the index and the text pass the test; a test of a line is made at the line with this number, from 0
 abbrev pub Passes : Refusal → List ℕ → List ℕ → ℕ → Type 0
 Passes TextTooLong index text k = length text ≤ 16777216
@@ -66,7 +70,7 @@ Passes LastLine index text k = (index ≡ []) ⊎ ((front : List ℕ) × (index 
 Passes TooManyEntries index text k = length (text_lines index) ≤ 65536
 Passes NoTitle index text k = IfAllSay (text_lines index) (λ all_said. IsSome (title_in text all_said))
 Passes BadTitle index text k = IfAllSay (text_lines index) (λ all_said. IfSome (title_in text all_said) IsTitle)
-Passes refusal index text k = PassesLine refusal text (take k (text_lines index)) (slice_index_or (text_lines index) k [])
+Passes refusal index text k = PassesLine refusal text (take k (text_lines index)) (line_at index k)
 
 -- the tests in order: first those of the whole files, then for each line these eight, then those of the title
 abbrev pub rank : Refusal → ℕ
@@ -87,7 +91,7 @@ rank BadTitle = 13
 
 -- the test is one of a line
 abbrev pub IsOfLine : Refusal → Type 0
-IsOfLine refusal = (4 ≤ rank refusal) × (rank refusal < 12)
+IsOfLine refusal = (rank Columns ≤ rank refusal) × (rank refusal ≤ rank ReservedTwice)
 
 -- test f at line j is made before test g at line k
 abbrev pub Precedes : Refusal → ℕ → Refusal → ℕ → Type 0

@@ -19,8 +19,8 @@ pub struct Edition<'a> {
 impl<'a> Model for Edition<'a> {
     ghost use Rattle.std.specs.Prelude.{map};
     ghost use Rattle.std.specs.List.{AllByRecursion};
-    ghost use Rattle.dict_index.specs.Edition.{Reading, edition_of};
-    ghost use Rattle.dict_index.specs.Meaning.{IsLawful};
+    ghost use Rattle.dict_index.specs.Edition.{Reading};
+    ghost use Rattle.dict_index.specs.Meaning.{IsRead};
     ghost use Rattle.dict_index.specs.Views.{line_of, HasBodyIn};
 
     ghost Value = { Reading };
@@ -28,11 +28,11 @@ impl<'a> Model for Edition<'a> {
     ghost view = { λ e. record { title = e.title.now; info = e.info.now; text = e.text.now; lines = map line_of e.entries.items } };
 
     ghost invariant = { λ e. AllByRecursion (HasBodyIn e.text.now) e.entries.items
-        × IsLawful (edition_of (record { title = e.title.now; info = e.info.now; text = e.text.now; lines = map line_of e.entries.items })) };
+        × IsRead (record { title = e.title.now; info = e.info.now; text = e.text.now; lines = map line_of e.entries.items }) };
 }
 
 impl<'a> Edition<'a> {
-    /// The first line of the database's short text, without blanks at its ends.
+    /// The first line that remains of the short text once its key line is dropped, without blanks at its ends.
     pub fn title(&self) -> &'a str
         ensures { result.now ≡ self.now.title }
     {

@@ -24,7 +24,7 @@ pub enum Refusal {
     BodyLine,
     /// The headword is reserved, and not one of those that are known.
     Reserved,
-    /// The headword is a known reserved one that an earlier line has.
+    /// The headword's key is a known reserved one, and an earlier line has that key.
     ReservedTwice,
     /// There is no entry for the title, or no line remains in it.
     NoTitle,

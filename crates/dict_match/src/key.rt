@@ -4,7 +4,7 @@ ghost use Rattle.std.specs.Prelude.{◌≡◌, ◌↔◌, [], ◌∷◌, All, If
 ghost use Rattle.std.specs.Str.{IsUtf8, chars, encode_utf8_all};
 ghost use Rattle.dict_text.specs.Characters.{is_blank};
 ghost use Rattle.std.specs.String.{string_bytes};
-ghost use Rattle.dict_match.specs.Key.{key_of, is_kept, ascii_folded, without_trailing_blanks};
+ghost use Rattle.dict_match.specs.Key.{key_of, is_kept, ascii_folded, without_trailing_blanks, without_blanks_at_ends};
 
 use crate::word::without_leading_blanks;
 use dict_text::is_blank;
@@ -42,12 +42,18 @@ pub fn key_of(alloc: Global, text: &str) -> Result<Key, AllocError>
 {
     let folded = fold(alloc, text)?;
     let bytes = if folded.is_empty() {
-        let trimmed = without_trailing_blanks(without_leading_blanks(text.as_bytes()));
-        Vec::from_slice(alloc, trimmed)?
+        Vec::from_slice(alloc, without_blanks_at_ends(text.as_bytes()))?
     } else {
         folded.into_bytes()
     };
     Ok(Key { bytes })
+}
+
+/// The text without the blanks at its ends, borrowed from it.
+pub fn without_blanks_at_ends(text: &[u8]) -> &[u8]
+    ensures { result.now ≡ without_blanks_at_ends text.now }
+{
+    without_trailing_blanks(without_leading_blanks(text))
 }
 
 /// Whether folding keeps a character: a letter or a digit of ASCII, a blank, or a character past ASCII.

@@ -1,4 +1,4 @@
--- Kinds of characters. RFC 2229, section 2, with this project's choice of what a blank is.
+-- Kinds of characters (RFC 2229, section 2.2).
 use Rattle.std.specs.Prelude.{ℕ, Bool, nat_lt, ◌==◌, ◌||◌}
 
 -- a space or a tab

@@ -1,6 +1,6 @@
 use Rattle.std.proofs.Common.{◌≡◌, length, sym, ap, ◌∙◌, string_bytes}
 use Rattle.std.proofs.lemmas.Bool.{eqb-true, eqb-false}
-use Rattle.dict_match.specs.Key.{without_leading_blanks, without_trailing_blanks}
+use Rattle.dict_match.specs.Key.{without_blanks_at_ends}
 use Rattle.dict_match.proofs.KeyLemmas.{key_of-nothing, key_of-folded}
 use Rattle.dict_match.proofs.key.key_of.Goals as goal
 use Rattle.dict_match.proofs.key.key_of.Goals.{then-is_empty+in_ok-bytes, else-is_empty}
@@ -12,8 +12,8 @@ returns c =
       | then-is_empty+in_ok-bytes w ↦
           let none : length (string_bytes c.in_ok-folded.folded) ≡ 0 =
           sym length_is ∙ eqb-true _ 0 (sym c.is_empty.ensures ∙ w.if-is_empty.true) in
-          ap (λ v. v.items) w.bytes-is ∙ w.in_ok-bytes.ensures.items ∙ w.without_trailing_blanks-trimmed.ensures
-          ∙ ap without_trailing_blanks (w.without_leading_blanks.ensures ∙ ap without_leading_blanks w.as_bytes.ensures.value)
+          ap (λ v. v.items) w.bytes-is ∙ w.in_ok-bytes.ensures.items ∙ w.without_blanks_at_ends.ensures
+          ∙ ap without_blanks_at_ends w.as_bytes.ensures.value
           ∙ sym (key_of-nothing c.args.text.now (string_bytes c.in_ok-folded.folded) c.utf8.text c.in_ok-folded.ensures none)
       | else-is_empty w ↦
           let some : length (string_bytes c.in_ok-folded.folded) ≡ 0 → ⊥ =
