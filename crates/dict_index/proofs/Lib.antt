@@ -3,3 +3,5 @@ pub mod AllLemmas
 pub mod OrderLemmas
 pub mod LineLemmas
 pub mod ReadLemmas
+pub mod GatherLemmas
+pub mod GatheredLemmas

@@ -7,3 +7,4 @@ pub mod Refusals
 pub mod Views
 pub mod Cuts
 pub mod Order
+pub mod Gathered

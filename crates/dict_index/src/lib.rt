@@ -6,6 +6,7 @@ mod columns;
 mod edition;
 mod entry;
 mod fault;
+mod gather;
 mod line;
 
 pub use edition::Edition;

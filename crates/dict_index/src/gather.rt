@@ -1,0 +1,89 @@
+// The entries and the reserved texts of the lines of an index.
+ghost use Rattle.std.specs.Prelude.{◌≡◌, ℕ, List, [], ◌∷◌, ◌++◌, IfErr, OnOk, OnErr};
+ghost use Rattle.std.specs.Str.{IsUtf8};
+ghost use Rattle.dict_match.specs.Key.{key_of};
+ghost use Rattle.dict_index.specs.Reserved.{is_reserved, is_known};
+ghost use Rattle.dict_index.specs.Line.{IsLine};
+ghost use Rattle.dict_index.specs.Views.{line_of, HasBodyIn};
+ghost use Rattle.dict_index.specs.Tests.{PassesLine};
+ghost use Rattle.dict_index.specs.declared.fault.Refusal.TheVariants.{Reserved, ReservedTwice};
+
+use crate::entry::Entry;
+use crate::fault::Refusal;
+use crate::line::{LineFault, as_text};
+use dict_match::Key;
+use std::alloc::Global;
+use std::collections::BTreeMap;
+
+/// What the lines so far say: their entries, and the texts of the known reserved keys.
+#[derive(Drop)]
+pub(crate) struct Gathered<'a> {
+    pub entries: Vec<Entry<'a>>,
+    pub reserved: BTreeMap<String, &'a str>,
+}
+
+// Whether a key is reserved.
+fn is_reserved_key(key: &[u8]) -> bool
+    ensures { result ≡ is_reserved key.now }
+{
+    key.starts_with(b"00database".as_slice())
+}
+
+// Whether a reserved key is one of those that are known.
+fn is_known_key(key: &[u8]) -> bool
+    ensures { result ≡ is_known key.now }
+{
+    key == b"00databaseshort".as_slice()
+        || key == b"00databaseinfo".as_slice()
+        || key == b"00databaseurl".as_slice()
+        || key == b"00databaseutf8".as_slice()
+        || key == b"00databasealphabet".as_slice()
+        || key.starts_with(b"00databasedictfmt".as_slice())
+}
+
+impl<'a> Gathered<'a> {
+    ghost use Rattle.dict_index.specs.Gathered.{Gathers, IsGatherFault};
+
+    /// Nothing yet.
+    pub(crate) fn new(alloc: Global) -> Self
+        ensures { (text : List ℕ) → Gathers text [] result }
+    {
+        Gathered {
+            entries: Vec::new(alloc),
+            reserved: BTreeMap::new(alloc),
+        }
+    }
+
+    // Adds a line's entry, or its text where its key is reserved.
+    pub(crate) fn add(&mut self, alloc: Global, read: Entry<'a>, key: &Key) -> Result<(), LineFault>
+        requires key { key.now ≡ key_of read.headword.now }
+        requires text { IsUtf8 read.headword.now }
+        ensures added { OnOk result ((text : List ℕ) (lines : List (List ℕ)) (line : List ℕ) →
+            IsLine line (line_of read.entry) → HasBodyIn text read.entry → Gathers text lines self.old → Gathers text (lines ++ line ∷ []) self.new) }
+        ensures passes { OnOk result ((text : List ℕ) (lines : List (List ℕ)) (line : List ℕ) →
+            IsLine line (line_of read.entry) → Gathers text lines self.old → PassesLine Reserved text lines line × PassesLine ReservedTwice text lines line) }
+        ensures refused { IfErr result (λ fault. (text : List ℕ) (lines : List (List ℕ)) (line : List ℕ) →
+            IsLine line (line_of read.entry) → Gathers text lines self.old → IsGatherFault fault text lines line) }
+    {
+        if !is_reserved_key(key.as_bytes()) {
+            return match self.entries.push(read) {
+                Ok(()) => Ok(()),
+                Err(_) => Err(LineFault::Memory),
+            };
+        }
+        if !is_known_key(key.as_bytes()) {
+            return Err(LineFault::Refused(Refusal::Reserved));
+        }
+        let name = as_text(key.as_bytes());
+        if self.reserved.contains_key(name) {
+            return Err(LineFault::Refused(Refusal::ReservedTwice));
+        }
+        let Ok(owned) = String::from_str(alloc, name) else {
+            return Err(LineFault::Memory);
+        };
+        let Ok(_) = self.reserved.insert(owned, read.body) else {
+            return Err(LineFault::Memory);
+        };
+        Ok(())
+    }
+}
