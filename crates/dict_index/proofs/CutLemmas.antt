@@ -80,7 +80,7 @@ one_further : (xs : List ℕ) (b : ℕ) (ys : List ℕ) → drop (suc (length xs
 one_further [] b ys = refl
 one_further (x ∷ xs) b ys = one_further xs b ys
 
-behind_seam : (xs : List ℕ) (b : ℕ) (ys : List ℕ) → drop (length xs + 1) (xs ++ b ∷ ys) ≡ ys
+pub behind_seam : (xs : List ℕ) (b : ℕ) (ys : List ℕ) → drop (length xs + 1) (xs ++ b ∷ ys) ≡ ys
 behind_seam xs b ys = ap (λ n. drop n (xs ++ b ∷ ys)) (add-one (length xs)) ∙ one_further xs b ys
 
 -- a text that an ASCII character cuts is text on both sides

@@ -5,3 +5,5 @@ pub mod LineLemmas
 pub mod ReadLemmas
 pub mod GatherLemmas
 pub mod GatheredLemmas
+pub mod TextLemmas
+pub mod TrimLemmas

@@ -1,6 +1,6 @@
 -- The reserved entries of a dictd database, by the key of their headwords, and what they tell of it.
-use Rattle.std.specs.Prelude.{ℕ, Bool, ◌||◌, ◌==◌, nat_eq, List, [], ◌∷◌, codes, Option, slice_get, find, option_and_then, if◌then◌else◌}
-use Rattle.std.specs.List.{starts_with, list_any, before_first, after_first}
+use Rattle.std.specs.Prelude.{ℕ, ◌+◌, Bool, ◌||◌, nat_eq, List, [], ◌∷◌, length, drop, codes, Option, slice_get, slice_index_or, find, option_and_then, if◌then◌else◌}
+use Rattle.std.specs.List.{starts_with, list_any}
 use Rattle.std.specs.Option.{option_map, option_map_or}
 use Rattle.std.specs.Str.{bytes_eq}
 use Rattle.dict_text.specs.Lines.{text_lines}
@@ -26,9 +26,13 @@ is_known key = list_any (bytes_eq key) (short_key ∷ info_key ∷ codes "00data
 abbrev pub text_under : List ℕ → List ℕ → List Line → Option (List ℕ)
 text_under key text lines = option_map (body_in text) (find (λ said. bytes_eq (key_of said.headword) key) lines)
 
--- a text without its first line, where that line has this key
+-- the first line of a text, or nothing where it has none
+abbrev pub first_line_of : List ℕ → List ℕ
+first_line_of text = slice_index_or (text_lines text) 0 []
+
+-- a text without its first line and the LF behind that, where that line has this key
 abbrev pub without_key_line : List ℕ → List ℕ → List ℕ
-without_key_line key text = if bytes_eq (key_of (before_first (λ octet. octet == 10) text)) key then after_first (λ octet. octet == 10) text else text
+without_key_line key text = if bytes_eq (key_of (first_line_of text)) key then drop (length (first_line_of text) + 1) text else text
 
 -- the first line that remains of the short text, without blanks at its ends
 abbrev pub title_in : List ℕ → List Line → Option (List ℕ)

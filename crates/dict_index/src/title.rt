@@ -1,0 +1,77 @@
+// The title and the info that a database's reserved texts tell.
+ghost use Rattle.std.specs.Prelude.{◌≡◌, IfOk, MatchBool, slice_get};
+ghost use Rattle.std.specs.Option.{option_map};
+ghost use Rattle.std.specs.Str.{bytes_eq};
+ghost use Rattle.dict_text.specs.Lines.{text_lines};
+ghost use Rattle.dict_match.specs.Key.{without_blanks_at_ends, key_of};
+ghost use Rattle.dict_index.specs.Reserved.{without_key_line, short_key};
+ghost use Rattle.dict_index.specs.Tests.{IsTitle};
+
+use crate::columns::cut_at;
+use crate::line::{as_text, has_control};
+use dict_match::{key_of, without_blanks_at_ends};
+use std::alloc::{AllocError, Global};
+
+const MAX_TITLE: usize = 200;
+
+// Whether a line has the key.
+fn has_key(alloc: Global, line: &str, key: &[u8]) -> Result<bool, AllocError>
+    ensures { IfOk result (λ has. has ≡ bytes_eq (key_of line.now) key.now) }
+{
+    let line_key = key_of(alloc, line)?;
+    Ok(line_key.as_bytes() == key)
+}
+
+// The text without its first line, where that line has the key.
+pub(crate) fn without_key_line<'a>(
+    alloc: Global,
+    text: &'a str,
+    key: &[u8],
+) -> Result<&'a str, AllocError>
+    ensures { IfOk result (λ rest. rest.now ≡ without_key_line key.now text.now) }
+{
+    let Some((first, rest)) = cut_at(b'\n', text.as_bytes()) else {
+        return if has_key(alloc, text, key)? {
+            Ok("")
+        } else {
+            Ok(text)
+        };
+    };
+    if has_key(alloc, as_text(first), key)? {
+        Ok(as_text(rest))
+    } else {
+        Ok(text)
+    }
+}
+
+// The first line of a text.
+fn first_line(text: &str) -> Option<&str>
+    ensures { option_map (λ line. line.now) result ≡ slice_get (text_lines text.now) 0 }
+{
+    if text.is_empty() {
+        return None;
+    }
+    match cut_at(b'\n', text.as_bytes()) {
+        Some((first, _behind)) => Some(as_text(first)),
+        None => Some(text),
+    }
+}
+
+// The first line that remains of the short text, without blanks at its ends.
+pub(crate) fn title_of<'a>(alloc: Global, short: &'a str) -> Result<Option<&'a str>, AllocError>
+    ensures { IfOk result (λ title. option_map (λ line. line.now) title
+        ≡ option_map without_blanks_at_ends (slice_get (text_lines (without_key_line short_key short.now)) 0)) }
+{
+    let rest = without_key_line(alloc, short, b"00databaseshort")?;
+    let Some(line) = first_line(rest) else {
+        return Ok(None);
+    };
+    Ok(Some(as_text(without_blanks_at_ends(line.as_bytes()))))
+}
+
+// Whether a text may be a title.
+pub(crate) fn is_title(title: &str) -> bool
+    ensures { MatchBool result (IsTitle title.now) (¬ IsTitle title.now) }
+{
+    !title.is_empty() && title.len() <= MAX_TITLE && !has_control(title.as_bytes())
+}
