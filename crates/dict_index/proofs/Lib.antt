@@ -7,3 +7,4 @@ pub mod GatherLemmas
 pub mod GatheredLemmas
 pub mod TextLemmas
 pub mod TrimLemmas
+pub mod PassLemmas

@@ -8,3 +8,4 @@ pub mod Views
 pub mod Cuts
 pub mod Order
 pub mod Gathered
+pub mod Refused

@@ -8,6 +8,7 @@ mod entry;
 mod fault;
 mod gather;
 mod line;
+mod reading;
 mod title;
 
 pub use edition::Edition;

@@ -142,6 +142,7 @@ pub(crate) fn read_line<'a>(
     ensures said { IfOk result (λ found. IsLine line.now (line_of found.0)) }
     ensures body { IfOk result (λ found. HasBodyIn text.now found.0) }
     ensures key { IfOk result (λ found. found.1 ≡ key_of found.0.headword.now) }
+    ensures text { IfOk result (λ found. IsUtf8 found.0.headword.now) }
     ensures passes { OnOk result ((before : List (List ℕ)) → PassesBefore Reserved text.now before line.now) }
     ensures refused { IfErr result (λ fault. IsLineFault fault text.now line.now) }
 {

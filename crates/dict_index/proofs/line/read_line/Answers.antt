@@ -46,3 +46,6 @@ returns-clause-passes c before =
     to_reserved c.args.text.now before c.args.line.now _ _ _ c.in-Some.ensures _ (line_from_columns c.args.line.now _ _ _ _ _ c.in-Some.ensures spelled.0 spelled.1)
     c.in-Some-cut_out.ensures.0 (subst IsHeadword c.as_text-headword.ensures some.0) (subst IsText c.in-Some-cut_out.ensures.1 c.in-Some-text_of.ensures.0)
     (subst HasShortLines (c.as_bytes.ensures.value ∙ (c.in-Some-text_of.ensures.1 ∙ c.in-Some-cut_out.ensures.1)) c.if-not-has_short_lines.ensures)
+
+pub returns-clause-text : goal.returns-clause-text
+returns-clause-text c = c.as_text-headword.utf8

@@ -1,0 +1,70 @@
+// From an index and a text to an edition.
+ghost use Rattle.std.specs.Prelude.{◌≡◌, ℕ, ◌≤◌, ◌++◌, ◌∷◌, [], List, IfOk, IfErr, OnOk, length};
+ghost use Rattle.std.specs.Str.{IsUtf8};
+ghost use Rattle.dict_text.specs.Lines.{text_lines};
+ghost use Rattle.dict_index.specs.Tests.{PassesLine, IsOfLine};
+ghost use Rattle.dict_index.specs.Gathered.{Gathers};
+ghost use Rattle.dict_index.specs.Refused.{PassLines, IsLinesFault, IsFaultBehind, told_at};
+ghost use Rattle.dict_index.specs.declared.fault.Refusal.{Refusal};
+
+use crate::fault::{IndexFault, Refusal};
+use crate::gather::Gathered;
+use crate::line::{LineFault, read_line};
+use dict_text::text_lines;
+use std::alloc::Global;
+
+// Reads a line, and adds what it says.
+fn read_and_add<'a>(
+    alloc: Global,
+    gathered: &mut Gathered<'a>,
+    line: &'a [u8],
+    text: &'a [u8],
+) -> Result<(), LineFault>
+    requires { IsUtf8 line.now }
+    ensures added { OnOk result ((lines : List (List ℕ)) → Gathers text.now lines gathered.old → Gathers text.now (lines ++ line.now ∷ []) gathered.new) }
+    ensures passes { OnOk result ((lines : List (List ℕ)) → Gathers text.now lines gathered.old → (f : Refusal) → IsOfLine f → PassesLine f text.now lines line.now) }
+    ensures refused { IfErr result (λ fault. (lines : List (List ℕ)) → Gathers text.now lines gathered.old → IsFaultBehind fault text.now lines line.now) }
+{
+    match read_line(alloc, line, text) {
+        Ok((entry, key)) => gathered.add(alloc, entry, &key),
+        Err(fault) => Err(fault),
+    }
+}
+
+// A line's fault, told with the line's number.
+fn at_line(fault: LineFault, number: usize) -> IndexFault
+    ensures { result ≡ told_at fault number }
+{
+    match fault {
+        LineFault::Memory => IndexFault::Memory,
+        LineFault::Refused(refusal) => IndexFault::Refused {
+            refusal,
+            line: Some(number),
+        },
+    }
+}
+
+// Gathers the lines of an index in order, up to the first that a test refuses.
+fn gather_lines<'a>(
+    alloc: Global,
+    index: &'a [u8],
+    text: &'a [u8],
+) -> Result<Gathered<'a>, IndexFault>
+    requires text { IsUtf8 index.now }
+    requires few { length (text_lines index.now) ≤ 65536 }
+    ensures gathered { IfOk result (Gathers text.now (text_lines index.now)) }
+    ensures passes { OnOk result (PassLines index.now text.now (length (text_lines index.now))) }
+    ensures refused { IfErr result (λ fault. IsLinesFault fault index.now text.now) }
+{
+    let mut gathered = Gathered::new(alloc);
+    let mut number = 0usize;
+    let mut lines = text_lines(index);
+    while let Some(line) = lines.next() {
+        number += 1;
+        match read_and_add(alloc, &mut gathered, line, text) {
+            Ok(()) => {}
+            Err(fault) => return Err(at_line(fault, number)),
+        }
+    }
+    Ok(gathered)
+}
