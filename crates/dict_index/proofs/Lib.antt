@@ -8,3 +8,4 @@ pub mod GatheredLemmas
 pub mod TextLemmas
 pub mod TrimLemmas
 pub mod PassLemmas
+pub mod WholeLemmas

@@ -35,9 +35,15 @@ abbrev pub without_key_line : List ℕ → List ℕ → List ℕ
 without_key_line key text = if bytes_eq (key_of (first_line_of text)) key then drop (length (first_line_of text) + 1) text else text
 
 -- the first line that remains of the short text, without blanks at its ends
+abbrev pub title_from : Option (List ℕ) → Option (List ℕ)
+title_from short = option_and_then (λ text. option_map without_blanks_at_ends (slice_get (text_lines (without_key_line short_key text)) 0)) short
+
 abbrev pub title_in : List ℕ → List Line → Option (List ℕ)
-title_in text lines = option_and_then (λ short. option_map without_blanks_at_ends (slice_get (text_lines (without_key_line short_key short)) 0)) (text_under short_key text lines)
+title_in text lines = title_from (text_under short_key text lines)
 
 -- what remains of the info text, or the empty text where there is none
+abbrev pub info_from : Option (List ℕ) → List ℕ
+info_from info = option_map_or (without_key_line info_key) info []
+
 abbrev pub info_in : List ℕ → List Line → List ℕ
-info_in text lines = option_map_or (without_key_line info_key) (text_under info_key text lines) []
+info_in text lines = info_from (text_under info_key text lines)

@@ -58,6 +58,10 @@ PassesLine Reserved text before line = IfSays line (λ said. IsTrue (is_reserved
 PassesLine ReservedTwice text before line = IfSays line (λ said. IsTrue (is_known (key_of said.headword)) → NoneHasKey before (key_of said.headword))
 PassesLine _ text before line = Unit {0}
 
+-- an index that isn't empty ends by LF
+abbrev pub EndsByLineFeed : List ℕ → Type 0
+EndsByLineFeed index = (index ≡ []) ⊎ ((front : List ℕ) × (index ≡ front ++ 10 ∷ []))
+
 -- the line of the index with this number, from 0
 abbrev pub line_at : List ℕ → ℕ → List ℕ
 line_at index k = slice_index_or (text_lines index) k []
@@ -66,7 +70,7 @@ line_at index k = slice_index_or (text_lines index) k []
 abbrev pub Passes : Refusal → List ℕ → List ℕ → ℕ → Type 0
 Passes TextTooLong index text k = length text ≤ 16777216
 Passes IndexNotUtf8 index text k = IsUtf8 index
-Passes LastLine index text k = (index ≡ []) ⊎ ((front : List ℕ) × (index ≡ front ++ 10 ∷ []))
+Passes LastLine index text k = EndsByLineFeed index
 Passes TooManyEntries index text k = length (text_lines index) ≤ 65536
 Passes NoTitle index text k = IfAllSay (text_lines index) (λ all_said. IsSome (title_in text all_said))
 Passes BadTitle index text k = IfAllSay (text_lines index) (λ all_said. IfSome (title_in text all_said) IsTitle)

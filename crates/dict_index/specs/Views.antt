@@ -1,5 +1,7 @@
 -- What contracts see of an edition and its entries.
-use Rattle.std.specs.Prelude.{◌≡◌, ℕ, List}
+use Rattle.std.specs.Prelude.{◌≡◌, ℕ, List, Option, map}
+use Rattle.std.specs.Option.{option_map}
+use Rattle.std.specs.Borrow.{Bor}
 use Rattle.dict_index.specs.Line.{Line, body_in}
 use Rattle.dict_index.specs.declared.entry.Entry.{Entry as ReadEntry}
 
@@ -10,3 +12,7 @@ line_of entry = record { headword = entry.headword.now; offset = entry.offset; s
 -- the entry's body is what its interval cuts out of the text
 abbrev pub HasBodyIn : List ℕ → ReadEntry → Type 0
 HasBodyIn text entry = entry.body.now ≡ body_in text (line_of entry)
+
+-- what a text that may be there points to
+abbrev pub octets_of : Option (Bor (List ℕ)) → Option (List ℕ)
+octets_of found = option_map (λ text. text.now) found

@@ -10,6 +10,7 @@ mod gather;
 mod line;
 mod reading;
 mod title;
+mod whole;
 
 pub use edition::Edition;
 pub use entry::Entry;

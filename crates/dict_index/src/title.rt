@@ -1,16 +1,21 @@
 // The title and the info that a database's reserved texts tell.
-ghost use Rattle.std.specs.Prelude.{◌≡◌, IfOk, MatchBool, slice_get};
+ghost use Rattle.std.specs.Prelude.{◌≡◌, IfOk, IfErr, MatchBool, Some, None, slice_get};
+ghost use Rattle.std.specs.BTreeMap.{get_by_text};
+ghost use Rattle.dict_index.specs.Refused.{IsTitleFault};
+ghost use Rattle.dict_index.specs.Views.{octets_of};
 ghost use Rattle.std.specs.Option.{option_map};
 ghost use Rattle.std.specs.Str.{bytes_eq};
 ghost use Rattle.dict_text.specs.Lines.{text_lines};
 ghost use Rattle.dict_match.specs.Key.{without_blanks_at_ends, key_of};
-ghost use Rattle.dict_index.specs.Reserved.{without_key_line, short_key};
+ghost use Rattle.dict_index.specs.Reserved.{without_key_line, short_key, info_key, title_from, info_from};
 ghost use Rattle.dict_index.specs.Tests.{IsTitle};
 
 use crate::columns::cut_at;
+use crate::fault::{IndexFault, Refusal};
 use crate::line::{as_text, has_control};
 use dict_match::{key_of, without_blanks_at_ends};
 use std::alloc::{AllocError, Global};
+use std::collections::BTreeMap;
 
 const MAX_TITLE: usize = 200;
 
@@ -74,4 +79,51 @@ pub(crate) fn is_title(title: &str) -> bool
     ensures { MatchBool result (IsTitle title.now) (¬ IsTitle title.now) }
 {
     !title.is_empty() && title.len() <= MAX_TITLE && !has_control(title.as_bytes())
+}
+
+// The text under a reserved key.
+fn text_at<'a>(reserved: &BTreeMap<String, &'a str>, key: &str) -> Option<&'a str>
+    ensures { result ≡ get_by_text reserved.now key.now }
+{
+    reserved.get(key).copied()
+}
+
+// The title and the info that the texts under the reserved keys tell.
+pub(crate) fn title_and_info<'a>(
+    alloc: Global,
+    reserved: &BTreeMap<String, &'a str>,
+) -> Result<(&'a str, &'a str), IndexFault>
+    ensures title { IfOk result (λ told. title_from (octets_of (get_by_text reserved.now short_key)) ≡ Some told.0.now) }
+    ensures good { IfOk result (λ told. IsTitle told.0.now) }
+    ensures info { IfOk result (λ told. told.1.now ≡ info_from (octets_of (get_by_text reserved.now info_key))) }
+    ensures refused { IfErr result (λ fault. IsTitleFault fault (title_from (octets_of (get_by_text reserved.now short_key)))) }
+{
+    let Some(short) = text_at(reserved, "00databaseshort") else {
+        return Err(refused(Refusal::NoTitle));
+    };
+    let title = match title_of(alloc, short) {
+        Ok(Some(title)) => title,
+        Ok(None) => return Err(refused(Refusal::NoTitle)),
+        Err(_) => return Err(IndexFault::Memory),
+    };
+    if !is_title(title) {
+        return Err(refused(Refusal::BadTitle));
+    }
+    let Some(info) = text_at(reserved, "00databaseinfo") else {
+        return Ok((title, ""));
+    };
+    match without_key_line(alloc, info, b"00databaseinfo") {
+        Ok(info) => Ok((title, info)),
+        Err(_) => Err(IndexFault::Memory),
+    }
+}
+
+// A refusal without a line.
+pub(crate) fn refused(refusal: Refusal) -> IndexFault
+    ensures { result ≡ IndexFault.Refused refusal None }
+{
+    IndexFault::Refused {
+        refusal,
+        line: None,
+    }
 }
