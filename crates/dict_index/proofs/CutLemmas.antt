@@ -1,12 +1,11 @@
 -- Lists of octets cut at an octet.
-use Rattle.std.proofs.Common.{◌≡◌, ◌≢◌, ℕ, zero, suc, ◌+◌, ◌-◌, ◌<◌, ◌≤◌, List, [], ◌∷◌, ◌++◌, length, take, drop, get_or, refl, ap, sym, ◌∙◌, subst, arith, cond, true, false, eqb, eq-eqb, eqb-true, append_assoc, add-one}
+use Rattle.std.proofs.Common.{◌≡◌, ◌≢◌, ℕ, zero, suc, ◌+◌, ◌-◌, ◌<◌, List, [], ◌∷◌, ◌++◌, length, take, drop, get_or, refl, ap, sym, ◌∙◌, subst, arith, cond, true, false, eq-eqb, eqb-true, append_assoc, add-one}
 use Rattle.std.proofs.lemmas.Bool.Decides.{nat_tests}
 use Rattle.std.proofs.lemmas.List.{take_rest, take-append-drop, length-take-le}
 use Rattle.std.proofs.lemmas.List.Sums.{sum_by-append, sum_by-cons}
 use Rattle.std.proofs.lemmas.Str.{IsUtf8-take, IsUtf8-drop, IsCharBoundary-before_ascii, IsCharBoundary-after_ascii}
-use Rattle.std.proofs.Math.Seq.{drop-cons, take-append_seam, drop-append_seam}
+use Rattle.std.proofs.Math.Seq.{drop-cons, take-append_seam}
 use Rattle.std.specs.Prelude.{◌==◌, count_by}
-use Rattle.std.specs.List.{AllByRecursion}
 use Rattle.std.specs.Str.{IsUtf8}
 use Rattle.memchr.specs.Find.{NoneBefore, Nowhere, Passes, is_byte}
 use Rattle.dict_index.specs.Cuts.{HasNo, IsCutAt, AreColumns}
@@ -89,8 +88,7 @@ utf8_parts bs xs ys b e ascii u =
     let v : IsUtf8 (xs ++ b ∷ ys) = subst IsUtf8 e u in
     let lt : length xs < length (xs ++ b ∷ ys) = at_seam_lt xs b ys in
     let here : get_or (xs ++ b ∷ ys) (length xs) 0 ≡ b = at_seam xs b ys in
-    let small : get_or (xs ++ b ∷ ys) (length xs) 0 < 128 = omega (arith, here) in
-    (
+    let small : get_or (xs ++ b ∷ ys) (length xs) 0 < 128 = omega (arith, here) in (
       subst IsUtf8 (take-append_seam xs (b ∷ ys)) (IsUtf8-take (xs ++ b ∷ ys) (length xs) v (IsCharBoundary-before_ascii _ _ lt small)),
       subst IsUtf8 (behind_seam xs b ys) (IsUtf8-drop (xs ++ b ∷ ys) (length xs + 1) v (IsCharBoundary-after_ascii _ _ v lt small)),
     )

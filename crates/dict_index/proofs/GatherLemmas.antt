@@ -1,20 +1,17 @@
 -- One line more among those that are gathered.
 use Rattle.std.proofs.Common.{◌≡◌, ◌≢◌, ℕ, zero, suc, ◌≤◌, List, [], ◌∷◌, ◌++◌, refl, sym, ap, ◌∙◌, subst, arith, cond, ◌⊎◌, Bool, true, false, inl, inr}
-use Rattle.std.proofs.lemmas.Map.Text.{btree_map_updates_text}
-use Rattle.std.proofs.lemmas.Bool.Decides.{nat_tests, not_from_Decides}
+use Rattle.std.proofs.lemmas.Bool.Decides.{not_from_Decides}
 use Rattle.std.proofs.lemmas.Slice.Eq.{bytes_eq-Decides}
-use Rattle.std.specs.Prelude.{nat_eq, not, map, filter, find, Option, Some, None, IsTrue, is_some, ◌&&◌, ◌||◌, codes, length, take}
+use Rattle.std.specs.Prelude.{nat_eq, not, map, find, Option, Some, None, ◌||◌, codes, take}
 use Rattle.std.specs.List.{AllZip, AllByRecursion, starts_with, list_any}
-use Rattle.std.specs.Map.{update}
 use Rattle.std.specs.Option.{option_map}
 use Rattle.std.specs.Str.{bytes_eq}
 use Rattle.dict_match.specs.Key.{key_of}
 use Rattle.dict_index.specs.Line.{Line, IsLine, body_in}
 use Rattle.dict_index.specs.Reserved.{is_reserved, is_known, text_under, short_key, info_key}
-use Rattle.dict_index.specs.Tests.{NoneHasKey, IfSays, PassesLine}
+use Rattle.dict_index.specs.Tests.{NoneHasKey}
 use Rattle.dict_index.specs.Meaning.{entry_lines}
-use Rattle.dict_index.specs.declared.fault.Refusal.TheVariants.{Reserved, ReservedTwice}
-use Rattle.dict_index.proofs.LineLemmas.{one_said, if_says}
+use Rattle.dict_index.proofs.LineLemmas.{if_says}
 
 pub said_push : (lines : List (List ℕ)) (said : List Line) (line : List ℕ) (s : Line) → AllZip IsLine lines said → IsLine line s → AllZip IsLine (lines ++ line ∷ []) (said ++ s ∷ [])
 said_push [] [] line s h l = (l, tt)

@@ -1,6 +1,5 @@
 -- What stays true of what is gathered when a line comes.
-use Rattle.std.proofs.Common.{◌≡◌, ◌≢◌, ℕ, List, [], ◌∷◌, ◌++◌, refl, sym, ap, ◌∙◌, subst, cond, Bool, true, false, Bor}
-use Rattle.std.proofs.lemmas.Bool.Decides.{not_from_Decides}
+use Rattle.std.proofs.Common.{◌≡◌, ℕ, List, [], ◌∷◌, ◌++◌, refl, sym, ap, ◌∙◌, subst, cond, Bool, true, false, Bor}
 use Rattle.std.proofs.lemmas.Slice.Eq.{bytes_eq-Decides}
 use Rattle.std.specs.Prelude.{map, Option, Some, None, IsTrue, is_some}
 use Rattle.std.specs.List.{AllByRecursion}
@@ -9,10 +8,9 @@ use Rattle.std.specs.Option.{option_map}
 use Rattle.std.specs.Str.{bytes_eq}
 use Rattle.std.specs.BTreeMap.{get_by_text}
 use Rattle.dict_match.specs.Key.{key_of}
-use Rattle.dict_index.specs.Line.{Line, IsLine, body_in}
+use Rattle.dict_index.specs.Line.{IsLine}
 use Rattle.dict_index.specs.Reserved.{is_reserved, is_known, text_under}
 use Rattle.dict_index.specs.Tests.{NoneHasKey, PassesLine}
-use Rattle.dict_index.specs.Meaning.{entry_lines}
 use Rattle.dict_index.specs.Views.{line_of, HasBodyIn}
 use Rattle.dict_index.specs.Gathered.{Gathers}
 use Rattle.dict_index.specs.declared.entry.Entry.{Entry}

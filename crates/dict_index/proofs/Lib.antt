@@ -9,3 +9,4 @@ pub mod TextLemmas
 pub mod TrimLemmas
 pub mod PassLemmas
 pub mod WholeLemmas
+pub mod MeaningLemmas

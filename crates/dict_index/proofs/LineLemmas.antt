@@ -1,8 +1,8 @@
 -- What a line says is one thing.
-use Rattle.std.proofs.Common.{◌≡◌, ◌≢◌, ℕ, zero, suc, ◌+◌, ◌<◌, ◌≤◌, ◌⊎◌, inl, inr, List, [], ◌∷◌, ◌++◌, refl, sym, ap, ◌∙◌, subst, arith, append_assoc, Bool, true, false, eq-eqb, eqb-true}
+use Rattle.std.proofs.Common.{◌≡◌, ◌≢◌, ℕ, zero, suc, ◌<◌, inl, inr, List, [], ◌∷◌, ◌++◌, refl, sym, ap, ◌∙◌, subst, arith, append_assoc, Bool, true, false, eq-eqb}
 use Rattle.std.proofs.lemmas.Bool.{cases_lt}
 use Rattle.std.specs.Prelude.{◌==◌, ◌&&◌, not, slice_index}
-use Rattle.std.specs.List.{AllByRecursion, AllZip}
+use Rattle.std.specs.List.{AllZip}
 use Rattle.dict_b64.specs.Number.{Spells, IsDigit, alphabet}
 use Rattle.dict_b64.proofs.NumberLemmas.{one_number}
 use Rattle.dict_index.specs.Cuts.{HasNo, AreColumns}
@@ -25,6 +25,7 @@ no_tab_at (suc n) all v lt e = elim (cases_lt v n) [
     rest : (a b : Bool) → (a && b) ≡ true → b ≡ true
     rest true b h = h
     rest false b h = absurd (let no : false ≡ true = h in cc)
+
     here : (a b : Bool) → (not a && b) ≡ true → a ≡ true → ⊥
     here true b h k = let no : false ≡ true = h in cc
     here false b h k = cc

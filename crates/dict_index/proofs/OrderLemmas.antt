@@ -1,8 +1,8 @@
 -- The tests of a line, one after the other.
-use Rattle.std.proofs.Common.{◌≡◌, ℕ, suc, ◌+◌, ◌<◌, ◌≤◌, ◌⊎◌, inl, inr, List, [], ◌∷◌, refl, sym, ap, ◌∙◌, subst, arith}
+use Rattle.std.proofs.Common.{◌≡◌, ℕ, ◌+◌, inl, inr, List, [], ◌∷◌, refl, sym, ap, ◌∙◌, subst, arith}
 use Rattle.std.proofs.lemmas.Bool.{cases_lt}
 use Rattle.std.specs.Prelude.{slice_index_or}
-use Rattle.dict_index.specs.Tests.{PassesLine, IsOfLine, rank}
+use Rattle.dict_index.specs.Tests.{PassesLine, rank}
 use Rattle.dict_index.specs.Order.{PassesBefore}
 use Rattle.dict_index.specs.declared.fault.Refusal.{Refusal}
 use Rattle.dict_index.specs.declared.fault.Refusal.TheVariants.{IndexNotUtf8, Columns, Number, Interval, Headword, BodyText, BodyLine, Reserved, ReservedTwice, NoTitle, BadTitle, TooManyEntries, TextTooLong, LastLine}

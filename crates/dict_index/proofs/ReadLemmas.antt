@@ -1,15 +1,14 @@
 -- The tests that a line has passed by each step of reading it, and the first that it fails.
-use Rattle.std.proofs.Common.{◌≡◌, ℕ, ◌+◌, ◌<◌, ◌≤◌, List, ◌∷◌, ◌++◌, refl, ◌∙◌, length, take, drop, arith, append_assoc}
+use Rattle.std.proofs.Common.{ℕ, ◌+◌, ◌<◌, ◌≤◌, List, ◌∷◌, ◌++◌, refl, ◌∙◌, length, arith, append_assoc}
 use Rattle.std.specs.Str.{IsUtf8}
 use Rattle.dict_b64.specs.Number.{Spells}
 use Rattle.dict_index.specs.Cuts.{AreColumns}
 use Rattle.dict_index.specs.Line.{Line, IsLine, body_in}
-use Rattle.dict_index.specs.Tests.{IsHeadword, IsText, HasShortLines, PassesLine, IsOfLine, rank, IfSays}
+use Rattle.dict_index.specs.Tests.{IsHeadword, IsText, HasShortLines}
 use Rattle.dict_index.specs.Order.{PassesBefore, FailsFirst}
-use Rattle.dict_index.specs.declared.fault.Refusal.{Refusal}
 use Rattle.dict_index.specs.declared.fault.Refusal.TheVariants.{Columns, Number, Interval, Headword, BodyText, BodyLine, Reserved}
 use Rattle.dict_index.proofs.CutLemmas.{count_columns, utf8_parts}
-use Rattle.dict_index.proofs.LineLemmas.{if_says, one_said, columns_of_line}
+use Rattle.dict_index.proofs.LineLemmas.{if_says, columns_of_line}
 use Rattle.dict_index.proofs.OrderLemmas.{before_columns, before_next}
 
 module _ (text : List ℕ) (before : List (List ℕ)) (line : List ℕ) where

@@ -1,5 +1,5 @@
 -- The first line of a text, and that the lines of text are text.
-use Rattle.std.proofs.Common.{◌≡◌, ◌≢◌, ℕ, zero, suc, ◌+◌, ◌<◌, ◌≤◌, ◌⊎◌, inl, inr, List, [], ◌∷◌, ◌++◌, length, take, drop, get_or, refl, sym, ap, ◌∙◌, subst, arith, add-one, cond, Bool, true, false, eqb, eqb-true, length-append}
+use Rattle.std.proofs.Common.{◌≡◌, ◌≢◌, ℕ, zero, suc, ◌+◌, ◌<◌, ◌≤◌, ◌⊎◌, inl, inr, List, [], ◌∷◌, ◌++◌, length, drop, refl, sym, ap, ◌∙◌, subst, arith, cond, Bool, true, false, eqb, eqb-true, length-append}
 use Rattle.std.proofs.lemmas.Bool.{eqb-false}
 use Rattle.std.proofs.lemmas.List.{drop_all}
 use Rattle.std.proofs.lemmas.Bool.Decides.{nat_tests}
@@ -67,6 +67,7 @@ cut_or_none b (x ∷ t) = by_first (eqb x b) refl (cut_or_none b t)
   where
     longer : x ≢ b → ((xs : List ℕ) × (ys : List ℕ) × IsCutAt b t xs ys) → ((xs : List ℕ) × (ys : List ℕ) × IsCutAt b (x ∷ t) xs ys)
     longer other c = (x ∷ c.0, c.1, record { whole = ap (λ l. x ∷ l) c.2.whole; none = (other, c.2.none) })
+
     by_first : (e : Bool) → eqb x b ≡ e → HasNo b t ⊎ ((xs : List ℕ) × (ys : List ℕ) × IsCutAt b t xs ys) → HasNo b (x ∷ t) ⊎ ((xs : List ℕ) × (ys : List ℕ) × IsCutAt b (x ∷ t) xs ys)
     by_first true e h = inr ([], t, record { whole = ap (λ y. y ∷ t) (eqb-true x b e); none = tt })
     by_first false e (inl none) = inl (eqb-false x b e, none)
@@ -80,6 +81,7 @@ lines_utf8_within (suc n) (x ∷ t) le u = by_cut (cut_or_none 10 (x ∷ t)) (λ
   where
     shorter : (xs ys : List ℕ) → IsCutAt 10 (x ∷ t) xs ys → length ys ≤ n
     shorter xs ys c = omega (arith, ap length c.whole, length-append xs (10 ∷ ys))
+
     by_cut : HasNo 10 (x ∷ t) ⊎ ((xs : List ℕ) × (ys : List ℕ) × IsCutAt 10 (x ∷ t) xs ys) → ((xs ys : List ℕ) → IsCutAt 10 (x ∷ t) xs ys → AllByRecursion IsUtf8 (text_lines ys)) → AllByRecursion IsUtf8 (text_lines (x ∷ t))
     by_cut (inl none) later = subst (AllByRecursion IsUtf8) (sym (only_line (x ∷ t) none (omega arith))) (u, tt)
     by_cut (inr c) later = subst (AllByRecursion IsUtf8) (sym (first_line_cut (x ∷ t) c.0 c.1 c.2)) ((utf8_parts (x ∷ t) c.0 c.1 10 c.2.whole (omega arith) u).0, later c.0 c.1 c.2)

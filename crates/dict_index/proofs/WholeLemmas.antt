@@ -1,10 +1,10 @@
 -- The tests of the whole, one after the other.
-use Rattle.std.proofs.Common.{◌≡◌, ℕ, ◌+◌, ◌<◌, ◌≤◌, List, [], ◌∷◌, ◌++◌, length, refl, arith, subst, inl, inr}
+use Rattle.std.proofs.Common.{◌≡◌, ℕ, ◌+◌, List, arith, subst, inl, inr}
 use Rattle.std.proofs.lemmas.Bool.{cases_lt}
 use Rattle.dict_index.specs.Tests.{Passes, rank}
 use Rattle.dict_index.specs.Refused.{PassWholes}
 use Rattle.dict_index.specs.declared.fault.Refusal.{Refusal}
-use Rattle.dict_index.specs.declared.fault.Refusal.TheVariants.{TextTooLong, IndexNotUtf8, LastLine, TooManyEntries, Columns}
+use Rattle.dict_index.specs.declared.fault.Refusal.TheVariants.{TextTooLong}
 use Rattle.dict_index.proofs.OrderLemmas.{one_rank}
 
 pub wholes_none : (index text : List ℕ) → PassWholes TextTooLong index text

@@ -1,5 +1,5 @@
 -- What has been gathered from the lines so far.
-use Rattle.std.specs.Prelude.{◌≡◌, ℕ, ◌++◌, ◌∷◌, [], List, Option, IsTrue, map}
+use Rattle.std.specs.Prelude.{◌≡◌, ℕ, List, IsTrue, map}
 use Rattle.std.specs.List.{AllByRecursion, AllZip}
 use Rattle.std.specs.Option.{option_map}
 use Rattle.std.specs.BTreeMap.{get_by_text}

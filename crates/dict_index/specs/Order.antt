@@ -1,10 +1,6 @@
 -- The tests of one line in their order.
-use Rattle.std.specs.Prelude.{ℕ, ◌<◌, List, ◌≡◌}
-use Rattle.dict_match.specs.Key.{key_of}
-use Rattle.dict_index.specs.Line.{Line, IsLine}
+use Rattle.std.specs.Prelude.{ℕ, ◌<◌, List}
 use Rattle.dict_index.specs.Tests.{PassesLine, IsOfLine, rank}
-use Rattle.dict_index.specs.Views.{line_of, HasBodyIn}
-use Rattle.dict_index.specs.declared.entry.Entry.{Entry as ReadEntry}
 use Rattle.dict_index.specs.declared.fault.Refusal.{Refusal}
 use Rattle.dict_index.specs.declared.line.LineFault.{LineFault}
 use Rattle.dict_index.specs.declared.line.LineFault.TheVariants.{Refused, Memory}

@@ -1,5 +1,5 @@
 -- What is told of the line at which reading stops.
-use Rattle.std.specs.Prelude.{◌≡◌, ℕ, ◌+◌, ◌<◌, List, Option, Some, None, length, take, slice_index_or, []}
+use Rattle.std.specs.Prelude.{◌≡◌, ℕ, ◌+◌, ◌<◌, List, Option, Some, None, length, take}
 use Rattle.dict_text.specs.Lines.{text_lines}
 use Rattle.dict_index.specs.Tests.{Passes, PassesLine, IsOfLine, IsTitle, line_at, rank}
 use Rattle.dict_index.specs.Meaning.{IsFault}

@@ -10,10 +10,10 @@ use std::marker::Model;
 /// files. There is no way to make one but to read it.
 #[derive(Drop)]
 pub struct Edition<'a> {
-    title: &'a str,
-    info: &'a str,
-    text: &'a [u8],
-    entries: Vec<Entry<'a>>,
+    pub(crate) title: &'a str,
+    pub(crate) info: &'a str,
+    pub(crate) text: &'a [u8],
+    pub(crate) entries: Vec<Entry<'a>>,
 }
 
 impl<'a> Model for Edition<'a> {

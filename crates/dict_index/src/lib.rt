@@ -15,3 +15,4 @@ mod whole;
 pub use edition::Edition;
 pub use entry::Entry;
 pub use fault::{IndexFault, Refusal};
+pub use reading::read_edition;

@@ -4,12 +4,16 @@ ghost use Rattle.std.specs.Str.{IsUtf8};
 ghost use Rattle.dict_text.specs.Lines.{text_lines};
 ghost use Rattle.dict_index.specs.Tests.{PassesLine, IsOfLine};
 ghost use Rattle.dict_index.specs.Gathered.{Gathers};
-ghost use Rattle.dict_index.specs.Refused.{PassLines, IsLinesFault, IsFaultBehind, told_at};
+ghost use Rattle.dict_index.specs.Meaning.{IsReading};
+ghost use Rattle.dict_index.specs.Refused.{PassLines, IsLinesFault, IsFaultBehind, IsIndexFault, told_at};
 ghost use Rattle.dict_index.specs.declared.fault.Refusal.{Refusal};
 
-use crate::fault::{IndexFault, Refusal};
+use crate::edition::Edition;
+use crate::fault::IndexFault;
 use crate::gather::Gathered;
 use crate::line::{LineFault, read_line};
+use crate::title::{refused, title_and_info};
+use crate::whole::whole_refusal;
 use dict_text::text_lines;
 use std::alloc::Global;
 
@@ -67,4 +71,36 @@ fn gather_lines<'a>(
         }
     }
     Ok(gathered)
+}
+
+/// Reads an edition from dictd's two files, an index and a text, both whole. The edition borrows from them.
+///
+/// The index is UTF-8 text whose lines, each ended by LF, are headword, tab, offset, tab and length. The first
+/// test that fails is told, and its line where it is a test of a line: `Memory` comes only where a growth was
+/// refused.
+pub fn read_edition<'a>(
+    alloc: Global,
+    index: &'a [u8],
+    text: &'a [u8],
+) -> Result<Edition<'a>, IndexFault>
+    ensures edition { IfOk result (IsReading index.now text.now) }
+    ensures refused { IfErr result (λ fault. IsIndexFault fault index.now text.now) }
+{
+    if let Some(refusal) = whole_refusal(index, text) {
+        return Err(refused(refusal));
+    }
+    let Gathered { entries, reserved } = match gather_lines(alloc, index, text) {
+        Ok(gathered) => gathered,
+        Err(fault) => return Err(fault),
+    };
+    let (title, info) = match title_and_info(alloc, &reserved) {
+        Ok(told) => told,
+        Err(fault) => return Err(fault),
+    };
+    Ok(Edition {
+        title,
+        info,
+        text,
+        entries,
+    })
 }

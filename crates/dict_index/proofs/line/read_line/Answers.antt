@@ -1,6 +1,4 @@
-use Rattle.std.proofs.Common.{◌≡◌, ◌∙◌, sym, subst, true, false}
-use Rattle.std.specs.Prelude.{MatchBool}
-use Rattle.dict_index.specs.Line.{Line, IsLine, body_in}
+use Rattle.std.proofs.Common.{◌∙◌, sym, subst}
 use Rattle.dict_index.specs.Tests.{IsHeadword, IsText, HasShortLines}
 use Rattle.dict_index.proofs.LineLemmas.{line_from_columns}
 use Rattle.dict_index.proofs.ReadLemmas.{number_fails, interval_fails, headword_fails, body_fails, lines_fail, to_reserved, headword_utf8}

@@ -1,11 +1,8 @@
-use Rattle.std.proofs.Common.{◌≡◌, ℕ, ◌+◌, ◌≤◌, List, [], length, take, drop, refl, sym, ap, ◌∙◌, subst, arith}
+use Rattle.std.proofs.Common.{[], take, sym, ◌∙◌, subst, arith}
 use Rattle.std.proofs.lemmas.List.{take_all}
 use Rattle.std.specs.Str.{IsUtf8}
 use Rattle.dict_text.specs.Lines.{text_lines}
 use Rattle.dict_index.specs.Gathered.{Gathers}
-use Rattle.dict_index.specs.Tests.{line_at}
-use Rattle.dict_index.specs.Refused.{IsFaultBehind, StopsAt}
-use Rattle.dict_index.specs.Order.{FailsFirst}
 use Rattle.dict_index.proofs.AllLemmas.{all_at}
 use Rattle.dict_index.proofs.TextLemmas.{lines_utf8}
 use Rattle.dict_index.proofs.PassLemmas.{next_of, pass_more, none_left, lines_fault}

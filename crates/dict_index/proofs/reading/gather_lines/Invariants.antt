@@ -1,4 +1,4 @@
-use Rattle.std.proofs.Common.{◌≡◌, take, drop, length}
+use Rattle.std.proofs.Common.{◌≡◌, take, drop}
 use Rattle.dict_text.specs.Lines.{text_lines}
 use Rattle.dict_index.specs.Gathered.{Gathers}
 use Rattle.dict_index.specs.Refused.{PassLines}

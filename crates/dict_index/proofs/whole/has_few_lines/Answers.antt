@@ -1,4 +1,4 @@
-use Rattle.std.proofs.Common.{◌≡◌, ◌∙◌, sym, length, arith}
+use Rattle.std.proofs.Common.{◌∙◌, sym, arith}
 use Rattle.dict_text.specs.Lines.{text_lines}
 use Rattle.dict_index.proofs.PassLemmas.{next_of, none_left}
 use Rattle.dict_index.proofs.whole.has_few_lines.Goals as goal

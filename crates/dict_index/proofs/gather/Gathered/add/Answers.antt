@@ -1,4 +1,4 @@
-use Rattle.std.proofs.Common.{◌≡◌, ℕ, List, ◌∙◌, refl, sym, ap, subst, Bool, true, false}
+use Rattle.std.proofs.Common.{◌≡◌, ℕ, List, ◌∙◌, refl, sym, ap, subst, true, false}
 use Rattle.std.proofs.lemmas.Map.Text.{btree_map_updates_text}
 use Rattle.std.specs.Prelude.{is_some, Some}
 use Rattle.std.specs.Map.{update}
@@ -49,7 +49,7 @@ returns-clause-added c text lines line l body g =
     let missing = tested (λ k. is_some (get_by_text c.args.self.now.reserved k)) c.as_text-name.result.now headword_key c.contains_key.result false name_is c.contains_key.ensures c.if-contains_key.false in
     gathers_reserved text lines line c.args.self.now (record { entries = c.args.self.now.entries; reserved = c.insert.new.self }) c.args.read l known missing refl
     (λ key. btree_map_updates_text (string_bytes c.in-Ok-from_str.owned) c.args.self.now.reserved c.insert.new.self (Some c.args.read.body) c.in-Ok-insert.ensures.updates key
-        ∙ ap (λ b. update bytes_eq (get_by_text c.args.self.now.reserved) b (Some c.args.read.body) key) (c.in-Ok-from_str.ensures.ok ∙ name_is))
+    ∙ ap (λ b. update bytes_eq (get_by_text c.args.self.now.reserved) b (Some c.args.read.body) key) (c.in-Ok-from_str.ensures.ok ∙ name_is))
     body g
 
 pub returns-clause-passes : goal.returns-clause-passes
