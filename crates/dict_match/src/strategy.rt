@@ -112,7 +112,8 @@ mod tests {
                 "Key ends with the words of the query",
             ),
         ];
-        for (strategy, name, title) in rows {
+        for ((strategy, name, title), listed) in rows.into_iter().zip(Strategy::ALL) {
+            assert_eq!(rt; listed, strategy);
             assert_eq!(rt; Strategy::by_name(name), Some(strategy));
             assert_eq!(rt; strategy.name(), name);
             assert_eq!(rt; strategy.title(), title);
