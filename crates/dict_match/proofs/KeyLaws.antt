@@ -78,7 +78,7 @@ empty-list [] e = refl
 empty-list (x ∷ xs) e = absurd (omega arith)
 
 -- blanks alone have no words
-no_words-from_blanks : (cs : List ℕ) → All IsBlank cs → words_of cs ≡ []
+pub no_words-from_blanks : (cs : List ℕ) → All IsBlank cs → words_of cs ≡ []
 no_words-from_blanks [] h = refl
 no_words-from_blanks (c ∷ cs) h =
     ap (filter is_word) (slice_split-cons_yes is_blank c cs (All-head IsBlank c cs h)) ∙ no_words-from_blanks cs (All-tail IsBlank c cs h)

@@ -8,3 +8,4 @@ pub mod StrategyLemmas
 pub mod WordLemmas
 pub mod MatchLemmas
 pub mod HitLemmas
+pub mod WordLaws

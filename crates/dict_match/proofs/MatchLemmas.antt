@@ -1,5 +1,5 @@
 -- Words that stand in a list of words.
-use Rattle.std.proofs.Common.{◌≡◌, ◌≢◌, ◌↔◌, ℕ, zero, suc, ◌+◌, ◌-◌, ◌<◌, ◌≤◌, List, [], ◌∷◌, ◌++◌, length, take, drop, refl, ap, sym, ◌∙◌, subst, arith, length-append, length-drop, append_assoc}
+use Rattle.std.proofs.Common.{◌≡◌, ◌≢◌, ℕ, zero, suc, ◌+◌, ◌-◌, ◌≤◌, List, [], ◌∷◌, ◌++◌, length, take, drop, refl, ap, sym, ◌∙◌, arith, length-append, length-drop, append_assoc}
 use Rattle.std.proofs.lemmas.List.{append-nil, take-append-drop, append_cancel_left, drop_all}
 use Rattle.std.proofs.lemmas.List.Prefix.{end_rest}
 use Rattle.dict_match.specs.Matching.{HasWords, BeginsWithWords, EndsWithWords}

@@ -1,13 +1,13 @@
 -- The first word of a list, and the words that are left after it.
-use Rattle.std.proofs.Common.{◌≡◌, ◌≢◌, ℕ, zero, suc, ◌+◌, ◌-◌, ◌<◌, ◌≤◌, Bool, true, false, cond, not, ◌==◌, List, [], ◌∷◌, ◌++◌, length, take, drop, get_or, All, Option, None, Some, MatchOption, refl, ap, sym, ◌∙◌, subst, inl, inr, arith}
+use Rattle.std.proofs.Common.{◌≡◌, ℕ, zero, suc, ◌+◌, ◌-◌, ◌<◌, ◌≤◌, true, false, not, List, [], ◌∷◌, ◌++◌, length, take, drop, get_or, All, Option, None, Some, refl, ap, sym, ◌∙◌, subst, inl, inr, arith}
 use Rattle.std.specs.List.{slice_split, onto_first, filter}
 use Rattle.std.specs.Option.{unwrap_or}
-use Rattle.std.proofs.lemmas.Bool.{cases_Bool, cases_lt, cond-true, cond-false, cond_both, ne_eqb, eqb-false, both_ways, false_from_ne_true}
+use Rattle.std.proofs.lemmas.Bool.{cases_Bool, cond-true, cond-false, cond_both, ne_eqb, both_ways, false_from_ne_true}
 use Rattle.std.proofs.lemmas.List.{append-nil, take-append-drop, get_or-take, length-take-le, length-drop}
 use Rattle.std.proofs.lemmas.List.Elements.{All-from_get_or}
 use Rattle.std.proofs.lemmas.List.Splits.{slice_split-cons_yes, slice_split-cons_no, slice_split_none, slice_split_at}
-use Rattle.std.proofs.Math.Seq.{drop-cons, drop-length}
-use Rattle.memchr.specs.Find.{IsFirstByte, NoneBefore, Nowhere, Passes, is_byte2}
+use Rattle.std.proofs.Math.Seq.{drop-cons}
+use Rattle.memchr.specs.Find.{IsFirstByte, is_byte2}
 use Rattle.dict_text.specs.Characters.{is_blank}
 use Rattle.dict_match.specs.Words.{words_of}
 use Rattle.dict_match.specs.Key.{without_leading_blanks}
@@ -40,7 +40,7 @@ leading_solid (b ∷ bs) some =
     ]
 
 -- a run without blanks, up to a blank or the end, is the first word
-words_of-run : (run rest : List ℕ) → All IsSolid run → 0 < length run → (0 < length rest → is_blank (get_or rest 0 0) ≡ true)
+pub words_of-run : (run rest : List ℕ) → All IsSolid run → 0 < length run → (0 < length rest → is_blank (get_or rest 0 0) ≡ true)
     → words_of (run ++ rest) ≡ run ∷ words_of rest
 words_of-run run [] solid some ends =
     ap words_of (append-nil run) ∙ ap (filter is_word) (slice_split_none is_blank run solid)

@@ -9,4 +9,4 @@ mod word;
 pub use key::{Key, key_laws, key_of, without_blanks_at_ends, worked_keys};
 pub use matching::matches;
 pub use strategy::Strategy;
-pub use word::{WordIterator, words};
+pub use word::{WordIterator, word_laws, words};

@@ -86,3 +86,109 @@ fn without_words(key: &[u8], count: usize) -> &[u8]
     }
     rest
 }
+
+#[cfg(test)]
+mod tests {
+    use super::*;
+    use std::test::Fail;
+
+    const ALL_SEVEN: &str = "exact prefix suffix substring word first last";
+
+    // query, key, and the strategies by which the one finds the other; all other strategies do not
+    static ROWS: [(&str, &str, &str); 68] = [
+        // empty texts, and texts of one character
+        ("", "", ""),
+        ("", "a", ""),
+        ("a", "", ""),
+        ("a", "a", ALL_SEVEN),
+        ("a", "b", ""),
+        ("a", "ab", "prefix substring"),
+        ("b", "ab", "suffix substring"),
+        ("b", "abc", "substring"),
+        // overlaps
+        ("aa", "aaa", "prefix suffix substring"),
+        ("aba", "ababa", "prefix suffix substring"),
+        ("bab", "ababa", "substring"),
+        ("ab", "aab", "suffix substring"),
+        ("aab", "aaab", "suffix substring"),
+        ("abcabd", "abcabcabd", "suffix substring"),
+        ("oo", "foo", "suffix substring"),
+        ("oof", "foo", ""),
+        // queries that are longer than the key
+        ("aaa", "aa", ""),
+        ("fire opal gem", "fire opal", ""),
+        ("a b c", "a b", ""),
+        ("opals", "opal", ""),
+        // several words
+        ("fire", "fire opal", "prefix substring word first"),
+        ("opal", "fire opal", "suffix substring word last"),
+        ("fire opal", "fire opal", ALL_SEVEN),
+        ("fire opal", "opal fire", ""),
+        ("opal fire", "fire opal fire", "suffix substring word last"),
+        ("fire opal", "fire opal fire", "prefix substring word first"),
+        (
+            "fire",
+            "fire opal fire",
+            "prefix suffix substring word first last",
+        ),
+        ("opal", "fire opal fire", "substring word"),
+        ("fire gem", "fire opal gem", ""),
+        ("opal gem", "fire opal gem", "suffix substring word last"),
+        ("b c", "a b c d", "substring word"),
+        ("a b", "a b a b", "prefix suffix substring word first last"),
+        ("b a", "a b a b", "substring word"),
+        ("a a", "a a a", "prefix suffix substring word first last"),
+        ("a a b", "a a a b", "suffix substring word last"),
+        ("the", "the the", "prefix suffix substring word first last"),
+        // runs that are no whole words
+        ("e o", "fire opal", "substring"),
+        ("fir", "fire opal", "prefix substring"),
+        ("pal", "fire opal", "suffix substring"),
+        ("ire", "fire opal", "substring"),
+        ("fire", "firefly", "prefix substring"),
+        ("fly", "firefly", "suffix substring"),
+        ("a b", "a bb", "prefix substring"),
+        ("a b", "aa b", "suffix substring"),
+        ("a b", "aa bb", "substring"),
+        ("00", "00databaseshort", "prefix substring"),
+        // characters past ASCII
+        ("é", "été", "prefix suffix substring"),
+        ("t", "été", "substring"),
+        ("été", "été", ALL_SEVEN),
+        ("été", "un été", "suffix substring word last"),
+        ("un", "un été chaud", "prefix substring word first"),
+        ("été", "un été chaud", "substring word"),
+        ("é", "É", ""),
+        ("ÉtÉ", "ÉtÉ", ALL_SEVEN),
+        ("火", "火山", "prefix substring"),
+        ("山", "火山", "suffix substring"),
+        ("山 火", "火 山", ""),
+        ("\u{a0}", "a\u{a0}b", "substring"),
+        // keys of signs alone, and blanks other than one space between words
+        ("+ +", "+ +", ALL_SEVEN),
+        ("+", "+ +", "prefix suffix substring word first last"),
+        ("a\tb", "a b", "word first last"),
+        ("a b", "a\tb", "word first last"),
+        (" a", "a", "word first last"),
+        ("a ", "a b", "prefix substring word first"),
+        (" b", "a b", "suffix substring word last"),
+        // a query of blanks alone has no words, and no words stand anywhere
+        (" ", "a b", "substring word first last"),
+        (" ", "ab", "word first last"),
+        ("\t", "", "word first last"),
+    ];
+
+    #[test]
+    fn hits_by_the_rules(rt: HostRuntime) -> Result<(), Fail> {
+        for (query, key, finders) in &ROWS {
+            for strategy in Strategy::ALL {
+                assert_eq!(rt;
+                    matches(strategy, query.as_bytes(), key.as_bytes()),
+                    finders.contains(strategy.name()),
+                    "by {strategy:?}: {query:?} in {key:?}"
+                );
+            }
+        }
+        Ok(())
+    }
+}

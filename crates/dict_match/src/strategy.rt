@@ -83,3 +83,51 @@ impl Strategy {
         }
     }
 }
+
+#[cfg(test)]
+mod tests {
+    use super::*;
+    use std::test::Fail;
+
+    #[test]
+    fn names_and_titles(rt: HostRuntime) -> Result<(), Fail> {
+        let rows = [
+            (Strategy::Exact, "exact", "Equal keys"),
+            (Strategy::Prefix, "prefix", "Key begins with the query"),
+            (Strategy::Suffix, "suffix", "Key ends with the query"),
+            (Strategy::Substring, "substring", "Key contains the query"),
+            (
+                Strategy::Word,
+                "word",
+                "Words of the query stand together in the key",
+            ),
+            (
+                Strategy::First,
+                "first",
+                "Key begins with the words of the query",
+            ),
+            (
+                Strategy::Last,
+                "last",
+                "Key ends with the words of the query",
+            ),
+        ];
+        for ((strategy, name, title), listed) in rows.into_iter().zip(Strategy::ALL) {
+            assert_eq!(rt; listed, strategy);
+            assert_eq!(rt; Strategy::by_name(name), Some(strategy));
+            assert_eq!(rt; strategy.name(), name);
+            assert_eq!(rt; strategy.title(), title);
+        }
+        Ok(())
+    }
+
+    #[test]
+    fn other_names(rt: HostRuntime) -> Result<(), Fail> {
+        for name in [
+            "", ".", "PREFIX", "Exact", "exac", "exactly", " exact", "re", "soundex", "lev",
+        ] {
+            assert_eq!(rt; Strategy::by_name(name), None, "{name:?}");
+        }
+        Ok(())
+    }
+}

@@ -1,8 +1,8 @@
 //! The words of a key: its longest runs of bytes other than space and tab.
 
-ghost use Rattle.std.specs.Prelude.{◌≡◌, ◌∷◌, ◌≤◌, [], length, MatchOption, List, ℕ};
+ghost use Rattle.std.specs.Prelude.{◌≡◌, ◌↔◌, ◌∷◌, ◌≤◌, [], length, MatchOption, List, ℕ};
 ghost use Rattle.std.specs.Iterator.{YieldsFirstRef, item_count};
-ghost use Rattle.dict_match.specs.Words.{words_of};
+ghost use Rattle.dict_match.specs.Words.{AreLongestRuns, words_of};
 ghost use Rattle.dict_match.specs.Key.{without_leading_blanks};
 
 use memchr::memchr2;
@@ -43,6 +43,11 @@ impl<'a> Iterator for WordIterator<'a> {
     }
 }
 
+/// The words of a list are its longest runs without blanks, all of them, in order.
+pub fn word_laws()
+    ensures { (cs : List ℕ) (words : List (List ℕ)) → (words_of cs ≡ words) ↔ AreLongestRuns cs words }
+{}
+
 /// The first word of `bytes`, and what stands after it; nothing where there is no word.
 pub(crate) fn split_word(bytes: &[u8]) -> Option<(&[u8], &[u8])>
     ensures { MatchOption result (words_of bytes.now ≡ []) (λ parts. words_of bytes.now ≡ parts.0.now ∷ words_of parts.1.now) }
@@ -64,4 +69,26 @@ pub(crate) fn without_leading_blanks(bytes: &[u8]) -> &[u8]
         rest = others;
     }
     rest
+}
+
+#[cfg(test)]
+mod tests {
+    use super::*;
+    use std::test::Fail;
+
+    #[test]
+    fn words_by_the_rules(rt: HostRuntime) -> Result<(), Fail> {
+        let mut left = words(b" fire\t opal  \xc3\xa9 ");
+        assert_eq!(rt; left.next(), Some(b"fire".as_slice()));
+        assert_eq!(rt; left.next(), Some(b"opal".as_slice()));
+        assert_eq!(rt; left.next(), Some(b"\xc3\xa9".as_slice()));
+        assert_eq!(rt; left.next(), None);
+        assert_eq!(rt; left.next(), None);
+        assert_eq!(rt; words(b"").count(), 0);
+        assert_eq!(rt; words(b" \t ").count(), 0);
+        assert_eq!(rt; words(b"a").count(), 1);
+        assert_eq!(rt; words(b"a\nb c").count(), 2);
+        word_laws();
+        Ok(())
+    }
 }

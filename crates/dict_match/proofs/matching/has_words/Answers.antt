@@ -1,7 +1,7 @@
-use Rattle.std.proofs.Common.{◌≡◌, ℕ, List, true, false, sym, ◌∙◌, refl}
+use Rattle.std.proofs.Common.{refl}
 use Rattle.std.proofs.lemmas.Bool.{both_ways, false≢true}
 use Rattle.dict_match.specs.Words.{words_of}
-use Rattle.dict_match.specs.Matching.{HasWords, BeginsWithWords}
+use Rattle.dict_match.specs.Matching.{BeginsWithWords}
 use Rattle.dict_match.proofs.MatchLemmas.{has_more, has_rest, has_none, has_here}
 use Rattle.dict_match.proofs.matching.has_words.Goals as goal
 

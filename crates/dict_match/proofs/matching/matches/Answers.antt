@@ -1,4 +1,4 @@
-use Rattle.std.proofs.Common.{◌≡◌, ◌≢◌, List, [], length, sym, ap, ◌∙◌}
+use Rattle.std.proofs.Common.{◌≢◌, [], length, sym, ap, ◌∙◌}
 use Rattle.std.proofs.lemmas.Bool.{eqb-false}
 use Rattle.dict_match.proofs.HitLemmas.{hits_prefix, hits_suffix, hits_substring}
 use Rattle.dict_match.proofs.matching.matches.Goals as goal

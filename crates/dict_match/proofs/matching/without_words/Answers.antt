@@ -1,5 +1,4 @@
-use Rattle.std.proofs.Common.{◌≡◌, ◌≤◌, ◌+◌, ℕ, List, drop, sym, ap, ◌∙◌, arith}
-use Rattle.dict_match.specs.Words.{words_of}
+use Rattle.std.proofs.Common.{sym, ◌∙◌, arith}
 use Rattle.dict_match.proofs.MatchLemmas.{drop_past, drop_next}
 use Rattle.dict_match.proofs.matching.without_words.Goals as goal
 

@@ -1,4 +1,4 @@
-use Rattle.std.proofs.Common.{◌≡◌, ◌∷◌, ◌<◌, ℕ, List, [], true, false, length, take, drop, get_or, sym, ap, ap₂, ◌∙◌, subst, arith}
+use Rattle.std.proofs.Common.{◌≡◌, ◌∷◌, ◌<◌, false, length, take, drop, get_or, sym, ap, ap₂, ◌∙◌, subst}
 use Rattle.std.specs.Option.{unwrap_or}
 use Rattle.dict_text.specs.Characters.{is_blank}
 use Rattle.dict_match.specs.Key.{without_leading_blanks}
