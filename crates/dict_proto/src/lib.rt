@@ -1,0 +1,11 @@
+//! The protocol of a DICT server (RFC 2229): what a line asks, the octets of each reply, and what octets come
+//! from and go to.
+#![tactic(auto)]
+
+mod limited;
+mod sink;
+mod source;
+
+pub use limited::LimitedSink;
+pub use sink::{OverWrite, Sink, SinkFault, put_all};
+pub use source::{OverRead, Source, SourceFault};
