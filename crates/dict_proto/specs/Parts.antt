@@ -1,7 +1,6 @@
 -- What the parts of a reply line stand for.
 use Rattle.std.specs.Prelude.{ℕ, List, decimal}
-use Rattle.dict_text.specs.Lines.{text_lines}
-use Rattle.dict_proto.specs.Text.{block, quoted}
+use Rattle.dict_proto.specs.Text.{quoted}
 use Rattle.dict_proto.specs.declared.part.Part.{Part}
 use Rattle.dict_proto.specs.declared.part.Part.TheVariants.{Octets, Number, Quoted}
 

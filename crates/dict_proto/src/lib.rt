@@ -3,15 +3,19 @@
 #![tactic(auto)]
 
 mod limited;
+mod line;
 mod part;
 mod quoted;
 mod reply;
+mod request;
 mod sink;
 mod source;
 mod text;
 
 pub use limited::LimitedSink;
+pub use line::{MAX_LINE_CHARACTERS, MAX_LINE_OCTETS, parse_line};
 pub use quoted::put_quoted;
 pub use reply::{Reply, write_reply};
+pub use request::{LineFault, Request};
 pub use sink::{OverWrite, Sink, SinkFault, put_all};
 pub use source::{OverRead, Source, SourceFault};

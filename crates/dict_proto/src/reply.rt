@@ -11,11 +11,19 @@ use crate::text::put_text;
 #[derive(Clone, Copy, Debug, PartialEq, Eq)]
 pub enum Reply<'a> {
     /// 220, a connection's greeting: the host's name and the connection's number.
-    Banner { host: &'a str, connection: u64 },
+    Banner {
+        host: &'a str,
+        connection: u64,
+    },
     /// 150: how many definitions follow.
     DefinitionCount(u64),
     /// 151: one definition, with its text.
-    Definition { headword: &'a str, name: &'a str, title: &'a str, body: &'a [u8] },
+    Definition {
+        headword: &'a str,
+        name: &'a str,
+        title: &'a str,
+        body: &'a [u8],
+    },
     /// 250.
     Done,
     /// 221, the answer to QUIT.
@@ -86,7 +94,13 @@ fn put_definition_count<K: Sink>(sink: &mut K, count: u64) -> Result<(), SinkFau
     )
 }
 
-fn put_definition<'a, K: Sink>(sink: &mut K, headword: &'a str, name: &'a str, title: &'a str, body: &'a [u8]) -> Result<(), SinkFault>
+fn put_definition<'a, K: Sink>(
+    sink: &mut K,
+    headword: &'a str,
+    name: &'a str,
+    title: &'a str,
+    body: &'a [u8],
+) -> Result<(), SinkFault>
     ensures octets { Puts result (K.octets sink.old) (K.octets sink.new) (definition_octets headword.now name.now title.now body.now) }
     ensures failures { Counts result (K.failures sink.old) (K.failures sink.new) }
 {
@@ -94,7 +108,12 @@ fn put_definition<'a, K: Sink>(sink: &mut K, headword: &'a str, name: &'a str, t
     put_text(sink, body)
 }
 
-fn put_definition_line<'a, K: Sink>(sink: &mut K, headword: &'a str, name: &'a str, title: &'a str) -> Result<(), SinkFault>
+fn put_definition_line<'a, K: Sink>(
+    sink: &mut K,
+    headword: &'a str,
+    name: &'a str,
+    title: &'a str,
+) -> Result<(), SinkFault>
     ensures octets { Puts result (K.octets sink.old) (K.octets sink.new) (definition_line headword.now name.now title.now) }
     ensures failures { Counts result (K.failures sink.old) (K.failures sink.new) }
 {

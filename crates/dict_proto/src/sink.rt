@@ -50,7 +50,10 @@ impl<W: Write> OverWrite<W> {
     pub fn into_inner(self) -> W
         ensures { W.contents result ≡ W.contents self.writer }
     {
-        let OverWrite { writer, failures: _ } = self;
+        let OverWrite {
+            writer,
+            failures: _,
+        } = self;
         writer
     }
 }

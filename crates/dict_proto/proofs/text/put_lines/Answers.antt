@@ -1,11 +1,10 @@
-use Rattle.std.proofs.Common.{rules, ◌≡◌, ℕ, List, [], ◌∷◌, ◌++◌, sym, ap, ◌∙◌, subst, append_assoc, append-nil, refl}
+use Rattle.std.proofs.Common.{rules, ◌≡◌, ℕ, List, [], ◌∷◌, ◌++◌, sym, ap, ◌∙◌, subst, append_assoc, append-nil}
 use Rattle.std.specs.List.{flat_map}
 use Rattle.std.specs.Io.KnownBytes.{Appends}
 use Rattle.std.specs.Prelude.{Option}
-use Rattle.std.proofs.KnownBytes.{Appends-trans, Appends-nil}
+use Rattle.std.proofs.KnownBytes.{Appends-trans}
 use Rattle.std.proofs.lemmas.List.Concat.{flat_map-append}
-use Rattle.dict_text.specs.Lines.{text_lines}
-use Rattle.dict_proto.specs.Octets.{Puts, AppendsFront}
+use Rattle.dict_proto.specs.Octets.{AppendsFront}
 use Rattle.dict_proto.specs.Text.{sent_line}
 use Rattle.dict_proto.proofs.PutLemmas.{puts_err, front_after, front_longer}
 use Rattle.dict_proto.proofs.text.put_lines.Goals as goal
