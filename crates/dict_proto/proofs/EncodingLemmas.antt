@@ -10,7 +10,7 @@ use Rattle.std.proofs.lemmas.Str.{encode_ascii, inside_one, length-encode, len_u
 use Rattle.dict_text.specs.Characters.{is_blank, is_control}
 use Rattle.dict_proto.specs.Words.{is_plain, is_atom_character, is_quoting, is_quote_sign}
 use Rattle.dict_proto.specs.Reading.{Place, words_of, words_from, with_character, next_place, at_end, between, within, in_string, escaped, escaped_in, stuck, onto_first, end_before}
-use Rattle.dict_proto.proofs.ReadingLemmas.{within-atom, between-atom, both_true}
+use Rattle.dict_proto.proofs.ReadingLemmas.{within-atom, between-atom, both_true, onto_all, onto_all-word}
 
 -- ---- octets past ASCII
 
@@ -125,17 +125,11 @@ next_place-low stuck c h = tt
 
 -- ---- a character's octets, one after the other
 
-onto_all : List ℕ → Option (List (List ℕ)) → Option (List (List ℕ))
-onto_all [] r = r
-onto_all (b ∷ bs) r = onto_first b (onto_all bs r)
-
 onto_all-none : (bs : List ℕ) → onto_all bs None ≡ None
-unfolding onto_all
 onto_all-none [] = refl
 onto_all-none (b ∷ bs) = ap (onto_first b) (onto_all-none bs)
 
 onto_first-empty : (b : ℕ) (bs : List ℕ) → onto_all (b ∷ bs) (Some []) ≡ None
-unfolding onto_all
 onto_first-empty b [] = refl
 onto_first-empty b (c ∷ bs) = ap (onto_first b) (onto_first-empty c bs)
 
@@ -143,20 +137,15 @@ onto_all-empty : (bs : List ℕ) → 0 < length bs → onto_all bs (Some []) ≡
 onto_all-empty [] lt = absurd (omega arith)
 onto_all-empty (b ∷ bs) lt = onto_first-empty b bs
 
-onto_all-word : (bs word : List ℕ) (words : List (List ℕ)) → onto_all bs (Some (word ∷ words)) ≡ Some ((bs ++ word) ∷ words)
-unfolding onto_all
-onto_all-word [] word words = refl
-onto_all-word (b ∷ bs) word words = ap (onto_first b) (onto_all-word bs word words)
-
 -- octets past ASCII at a place that stays
 past-run : (bs rest : List ℕ) (place : Place) → IsLow place → goes_on place ≡ place → ArePast bs → words_from place (bs ++ rest) ≡ onto_all bs (words_from place rest)
-unfolding onto_all ArePast
+unfolding ArePast
 past-run [] rest place low stays h = refl
 past-run (b ∷ bs) rest place low stays h =
     words_from-past place b (bs ++ rest) low h.0 ∙ ap (onto_first b) (ap (λ p. words_from p (bs ++ rest)) stays ∙ past-run bs rest place low stays h.1)
 
 past-character : (bs rest : List ℕ) (place : Place) → IsLow place → 0 < length bs → ArePast bs → words_from place (bs ++ rest) ≡ onto_all bs (words_from (goes_on place) rest)
-unfolding onto_all ArePast
+unfolding ArePast
 past-character [] rest place low some h = absurd (omega arith)
 past-character (b ∷ bs) rest place low some h =
     words_from-past place b (bs ++ rest) low h.0 ∙ ap (onto_first b) (past-run bs rest (goes_on place) (goes_on-low place low) (goes_on-twice place) h.1)
@@ -176,7 +165,6 @@ as_octets-onto c (Some []) = onto_all-empty (encode_utf8 c) (encode-some c)
 as_octets-onto c (Some (word ∷ words)) = onto_all-word (encode_utf8 c) (encode_utf8_all word) (map encode_utf8_all words)
 
 as_octets-ascii : (c : ℕ) (r : Option (List (List ℕ))) → c < 128 → onto_first c (as_octets r) ≡ as_octets (onto_first c r)
-unfolding onto_all
 as_octets-ascii c r lt = ap (λ bs. onto_all bs (as_octets r)) (sym (encode_ascii c lt)) ∙ as_octets-onto c r
 
 as_octets-end : (r : Option (List (List ℕ))) → end_before (as_octets r) ≡ as_octets (end_before r)

@@ -1,5 +1,5 @@
 -- How the computed words of a line of atoms begin.
-use Rattle.std.proofs.Common.{◌≡◌, ℕ, zero, suc, ◌+◌, ◌<◌, ◌≤◌, List, [], ◌∷◌, Bool, true, false, not, ◌&&◌, ◌||◌, arith, length, take, drop, get_or, refl, sym, ap, ◌∙◌, subst}
+use Rattle.std.proofs.Common.{◌≡◌, ℕ, zero, suc, ◌+◌, ◌<◌, ◌≤◌, List, [], ◌∷◌, ◌++◌, Bool, true, false, not, ◌&&◌, ◌||◌, arith, length, take, drop, get_or, refl, sym, ap, ◌∙◌, subst}
 use Rattle.std.specs.Prelude.{Option, None, Some, nat_lt, if◌then◌else◌, ◌==◌, unwrap_or}
 use Rattle.std.specs.Option.{option_map}
 use Rattle.std.specs.List.{list_all, position, position_or_len}
@@ -179,3 +179,13 @@ pub words_of-given : (line word rest word' rest' : List ℕ) → word ≡ word' 
     → (words_of line ≡ option_map (λ words. word ∷ words) (words_of rest)) × (list_all is_plain rest ≡ true)
 words_of-given line word rest word' rest' e f (cut, plain) =
     (cut ∙ (ap (λ w. option_map (λ words. w ∷ words) (words_of rest')) (sym e) ∙ ap (λ r. option_map (λ words. word ∷ words) (words_of r)) (sym f)), ap (list_all is_plain) f ∙ plain)
+
+-- ---- characters at the front of the first word
+
+abbrev pub onto_all : List ℕ → Option (List (List ℕ)) → Option (List (List ℕ))
+onto_all [] r = r
+onto_all (b ∷ bs) r = onto_first b (onto_all bs r)
+
+pub onto_all-word : (bs word : List ℕ) (words : List (List ℕ)) → onto_all bs (Some (word ∷ words)) ≡ Some ((bs ++ word) ∷ words)
+onto_all-word [] word words = refl
+onto_all-word (b ∷ bs) word words = ap (onto_first b) (onto_all-word bs word words)

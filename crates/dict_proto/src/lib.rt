@@ -11,6 +11,7 @@ mod request;
 mod sink;
 mod source;
 mod text;
+mod words;
 
 pub use limited::LimitedSink;
 pub use line::{MAX_LINE_CHARACTERS, MAX_LINE_OCTETS, parse_line};
@@ -19,3 +20,4 @@ pub use reply::{Reply, write_reply};
 pub use request::{LineFault, Request};
 pub use sink::{OverWrite, Sink, SinkFault, put_all};
 pub use source::{OverRead, Source, SourceFault};
+pub use words::one_reading;
