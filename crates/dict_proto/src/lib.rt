@@ -21,3 +21,6 @@ pub use request::{LineFault, Request};
 pub use sink::{OverWrite, Sink, SinkFault, put_all};
 pub use source::{OverRead, Source, SourceFault};
 pub use words::one_reading;
+
+#[cfg(test)]
+mod tests;
