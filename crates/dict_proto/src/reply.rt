@@ -1,5 +1,7 @@
 // The replies, and how they are put.
+ghost use Rattle.dict_proto.specs.declared.reply.Reply.{Reply};
 ghost use Rattle.dict_proto.specs.Octets.{Puts, Counts};
+ghost use Rattle.dict_proto.specs.ReplyLines.{AreShortLines, IsWithinLimits};
 ghost use Rattle.dict_proto.specs.Replies.{reply_octets, banner_octets, definition_count_octets, definition_octets, definition_line};
 
 use crate::part::{Part, put_parts};
@@ -130,3 +132,9 @@ fn put_definition_line<'a, K: Sink>(
         ],
     )
 }
+
+/// A law of replies: where host, headword, name, title and text keep their limits (253, 255, 32, 200 octets, and
+/// 1,021 for each line of a text), no line of a reply has more than 1,024 octets, its CR LF counted.
+pub fn reply_lines_are_short()
+    ensures { (reply : Reply) → IsWithinLimits reply → AreShortLines (reply_octets reply) }
+{}
