@@ -15,10 +15,10 @@ use Rattle.dict_proto.specs.Reading.{words_of, words_from, place_after, within, 
 one_more : (n : ℕ) → 1 + n ≡ suc n
 one_more n = omega arith
 
-here : (p : ℕ → Bool) (b : ℕ) (bs : List ℕ) → p b ≡ true → position_or_len p (b ∷ bs) ≡ 0
+pub here : (p : ℕ → Bool) (b : ℕ) (bs : List ℕ) → p b ≡ true → position_or_len p (b ∷ bs) ≡ 0
 here p b bs e = rw e refl
 
-later : (p : ℕ → Bool) (b : ℕ) (bs : List ℕ) → p b ≡ false → position_or_len p (b ∷ bs) ≡ suc (position_or_len p bs)
+pub later : (p : ℕ → Bool) (b : ℕ) (bs : List ℕ) → p b ≡ false → position_or_len p (b ∷ bs) ≡ suc (position_or_len p bs)
 later p b bs e = rw e (one_more _)
 
 picks : (m n : ℕ) (test : Bool) → nat_lt m n ≡ test → (i : ℕ) → (if test then Some m else None) ≡ Some i → (i ≡ m) × (m < n)

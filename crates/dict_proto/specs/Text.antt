@@ -1,5 +1,5 @@
 -- How lines, texts and quoted words are sent. RFC 2229, sections 2.2 and 2.4.3.
-use Rattle.std.specs.Prelude.{ℕ, List, ◌∷◌, [], ◌++◌, slice_index, ◌==◌, if◌then◌else◌, ◌||◌}
+use Rattle.std.specs.Prelude.{ℕ, List, ◌∷◌, [], ◌++◌, slice_index, ◌==◌, if◌then◌else◌, ◌||◌, Bool}
 use Rattle.std.specs.List.{flat_map}
 
 -- what ends a line: CR LF
@@ -18,9 +18,13 @@ sent_line line = stuffed line ++ crlf
 abbrev pub block : List (List ℕ) → List ℕ
 block lines = flat_map sent_line lines ++ 46 ∷ crlf
 
--- a backslash is put before a quote sign and before a backslash
+-- a double quote sign, or a backslash
+abbrev pub needs_backslash : ℕ → Bool
+needs_backslash octet = (octet == 34) || (octet == 92)
+
+-- a backslash is put before each of these
 abbrev pub escaped : ℕ → List ℕ
-escaped octet = if (octet == 34) || (octet == 92) then 92 ∷ octet ∷ [] else octet ∷ []
+escaped octet = if needs_backslash octet then 92 ∷ octet ∷ [] else octet ∷ []
 
 -- a text between quote signs
 abbrev pub quoted : List ℕ → List ℕ

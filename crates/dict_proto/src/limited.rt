@@ -57,10 +57,8 @@ impl Sink for LimitedSink {
                 self.failures += 1;
                 Err(SinkFault)
             }
-            Err(_) => {
-                self.failures += 1;
-                Err(SinkFault)
-            }
+            // The room was reserved when the sink was made.
+            Err(_) => unreachable!(),
         }
     }
 }
