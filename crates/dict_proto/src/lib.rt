@@ -20,7 +20,7 @@ pub use reply::{Reply, reply_lines_are_short, write_reply};
 pub use request::{LineFault, Request};
 pub use sink::{OverWrite, Sink, SinkFault, put_all};
 pub use source::{OverRead, Source, SourceFault};
-pub use words::one_reading;
+pub use words::{one_reading, worked_lines};
 
 #[cfg(test)]
 mod tests;

@@ -1,7 +1,8 @@
 // A sink in memory with a bound.
-ghost use Rattle.std.specs.Prelude.{◌≡◌, ◌≤◌, ◌+◌, Some, [], IfOk, vec_len, vec_capacity};
+ghost use Rattle.std.specs.Prelude.{◌≢◌, ◌-◌, ◌^◌, length, IsOk, OnOk, ◌≡◌, ◌≤◌, ◌+◌, Some, [], IfOk, vec_len, vec_capacity};
+ghost use Rattle.dict_proto.specs.Octets.{Puts, Counts, IsWornOut};
 
-use super::sink::{Sink, SinkFault};
+use crate::sink::{Sink, SinkFault};
 use std::alloc::{AllocError, Global};
 
 /// A sink in memory that takes a given number of octets, and fails from then on. It takes no memory after it
@@ -42,7 +43,15 @@ impl Sink for LimitedSink {
 
     ghost failures = { λ s. s.failures };
 
-    fn put(&mut self, bytes: &[u8]) -> Result<(), SinkFault> {
+    // It fails only where there is no room for all, or its count of failures is at an end.
+    fn put(&mut self, bytes: &[u8]) -> Result<(), SinkFault>
+        ensures octets { Puts result (Some self.old.taken.items) (Some self.new.taken.items) bytes.now }
+        ensures failures { Counts result self.old.failures self.new.failures }
+        ensures worn_out { self.old.failures ≡ 2 ^ 64 - 1
+            → IsWornOut result (Some self.old.taken.items) (Some self.new.taken.items) }
+        ensures fits { length bytes.now ≤ self.old.room → self.old.failures ≢ 2 ^ 64 - 1 → IsOk result }
+        ensures room { OnOk result (self.new.room + length bytes.now ≡ self.old.room) }
+    {
         if self.failures == u64::MAX {
             return Err(SinkFault);
         }

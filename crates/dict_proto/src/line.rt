@@ -90,7 +90,8 @@ fn text_of(octets: &[u8]) -> &str
 fn next_word(line: &[u8]) -> Option<(&[u8], &[u8])>
     requires { list_all is_plain line.now ≡ true }
     ensures { MatchOption result (words_of line.now ≡ Some [])
-        (λ x. (words_of line.now ≡ option_map (λ words. x.0.now ∷ words) (words_of x.1.now)) × (list_all is_plain x.1.now ≡ true)) }
+        (λ x. (words_of line.now ≡ option_map (λ words. x.0.now ∷ words) (words_of x.1.now))
+        × (list_all is_plain x.1.now ≡ true)) }
 {
     let text = &line[first_word_octet(line)?..];
     let end = first_blank(text).unwrap_or(text.len());
@@ -118,7 +119,8 @@ fn is_blank_octet(octet: u8) -> bool
 
 // The line as a text, if it passes the tests that every command line has to.
 fn readable_text(line: &[u8]) -> Option<&str>
-    ensures { MatchOption result (is_readable line.now ≡ false) (λ text. (text.now ≡ line.now) × (is_readable line.now ≡ true)) }
+    ensures { MatchOption result (is_readable line.now ≡ false)
+        (λ text. (text.now ≡ line.now) × (is_readable line.now ≡ true)) }
 {
     if line.len() > MAX_LINE_OCTETS - 2 {
         return None;

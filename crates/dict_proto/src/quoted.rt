@@ -28,7 +28,8 @@ pub fn put_quoted<K: Sink>(sink: &mut K, text: &str) -> Result<(), SinkFault>
 
 // The octets before the first that needs a backslash, that octet, and those after it.
 fn cut_to_escape(octets: &[u8]) -> Option<(&[u8], u8, &[u8])>
-    ensures octets { MatchOption result (flat_map escaped octets.now ≡ octets.now) (λ x. flat_map escaped octets.now ≡ x.0.now ++ (92 ∷ x.1 ∷ flat_map escaped x.2.now)) }
+    ensures octets { MatchOption result (flat_map escaped octets.now ≡ octets.now)
+        (λ x. flat_map escaped octets.now ≡ x.0.now ++ (92 ∷ x.1 ∷ flat_map escaped x.2.now)) }
     ensures shorter { IfSome result (λ x. length x.2.now < length octets.now) }
 {
     let i = first_to_escape(octets)?;

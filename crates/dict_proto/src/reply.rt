@@ -65,7 +65,8 @@ pub fn write_reply<K: Sink>(sink: &mut K, reply: &Reply) -> Result<(), SinkFault
 }
 
 fn put_banner<K: Sink>(sink: &mut K, host: &str, connection: u64) -> Result<(), SinkFault>
-    ensures octets { Puts result (K.octets sink.old) (K.octets sink.new) (banner_octets host.now connection) }
+    ensures octets { Puts result (K.octets sink.old) (K.octets sink.new)
+        (banner_octets host.now connection) }
     ensures failures { Counts result (K.failures sink.old) (K.failures sink.new) }
 {
     put_parts(
@@ -83,7 +84,8 @@ fn put_banner<K: Sink>(sink: &mut K, host: &str, connection: u64) -> Result<(), 
 }
 
 fn put_definition_count<K: Sink>(sink: &mut K, count: u64) -> Result<(), SinkFault>
-    ensures octets { Puts result (K.octets sink.old) (K.octets sink.new) (definition_count_octets count) }
+    ensures octets { Puts result (K.octets sink.old) (K.octets sink.new)
+        (definition_count_octets count) }
     ensures failures { Counts result (K.failures sink.old) (K.failures sink.new) }
 {
     put_parts(
@@ -103,7 +105,8 @@ fn put_definition<'a, K: Sink>(
     title: &'a str,
     body: &'a [u8],
 ) -> Result<(), SinkFault>
-    ensures octets { Puts result (K.octets sink.old) (K.octets sink.new) (definition_octets headword.now name.now title.now body.now) }
+    ensures octets { Puts result (K.octets sink.old) (K.octets sink.new)
+        (definition_octets headword.now name.now title.now body.now) }
     ensures failures { Counts result (K.failures sink.old) (K.failures sink.new) }
 {
     put_definition_line(sink, headword, name, title)?;
@@ -116,7 +119,8 @@ fn put_definition_line<'a, K: Sink>(
     name: &'a str,
     title: &'a str,
 ) -> Result<(), SinkFault>
-    ensures octets { Puts result (K.octets sink.old) (K.octets sink.new) (definition_line headword.now name.now title.now) }
+    ensures octets { Puts result (K.octets sink.old) (K.octets sink.new)
+        (definition_line headword.now name.now title.now) }
     ensures failures { Counts result (K.failures sink.old) (K.failures sink.new) }
 {
     put_parts(

@@ -34,7 +34,8 @@ pub fn put_text<K: Sink>(sink: &mut K, text: &[u8]) -> Result<(), SinkFault>
 
 // Puts the lines of a text.
 fn put_lines<K: Sink>(sink: &mut K, text: &[u8]) -> Result<(), SinkFault>
-    ensures octets { Puts result (K.octets sink.old) (K.octets sink.new) (flat_map sent_line (text_lines text.now)) }
+    ensures octets { Puts result (K.octets sink.old) (K.octets sink.new)
+        (flat_map sent_line (text_lines text.now)) }
     ensures failures { Counts result (K.failures sink.old) (K.failures sink.new) }
 {
     for line in text_lines(text) {

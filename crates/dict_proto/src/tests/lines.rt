@@ -1,4 +1,4 @@
-use crate::{LineFault, Request, one_reading, parse_line};
+use crate::{LineFault, Request, one_reading, parse_line, reply_lines_are_short, worked_lines};
 use std::alloc::Global;
 use std::test::Fail;
 
@@ -23,6 +23,8 @@ fn followed_by(alloc: Global, command: &[u8], octet: u8, count: usize) -> Result
 #[test]
 fn commands(rt: HostRuntime) -> Result<(), Fail> {
     one_reading();
+    worked_lines();
+    reply_lines_are_short();
     assert!(rt; defines(b"DEFINE gem opal", "gem", "opal"));
     assert!(rt; defines(b"define gem OPAL", "gem", "OPAL"));
     assert!(rt; defines(b" dEfInE\tGEM  opal \t", "GEM", "opal"));
