@@ -1,0 +1,17 @@
+use Rattle.std.proofs.Common.{◌≡◌, ℕ, List, [], ◌∷◌, ap, ◌∙◌}
+use Rattle.std.specs.Prelude.{Some}
+use Rattle.std.specs.Option.{option_map}
+use Rattle.dict_proto.specs.Reading.{words_of}
+use Rattle.dict_proto.proofs.line.parse_plain.Goals as goal
+
+-- three words, from the first to the last
+three : (line a b c r s t : List ℕ) → words_of line ≡ option_map (λ words. a ∷ words) (words_of r) → words_of r ≡ option_map (λ words. b ∷ words) (words_of s)
+    → words_of s ≡ option_map (λ words. c ∷ words) (words_of t) → words_of t ≡ Some [] → words_of line ≡ Some (a ∷ b ∷ c ∷ [])
+three line a b c r s t e f g h =
+    e ∙ ap (option_map (λ words. a ∷ words)) (f ∙ ap (option_map (λ words. b ∷ words)) (g ∙ ap (option_map (λ words. c ∷ words)) h))
+
+pub with_two_parameters-requires-clause-database : goal.with_two_parameters-requires-clause-database
+with_two_parameters-requires-clause-database c = (c.requires.utf8 _ (three c.args.line.now c.in-Some.command.now c.in-Some-next_word.database.now c.in-Some-next_word-2.word.now c.in-Some.rest.now c.in-Some-next_word.rest.now c.in-Some-next_word-2.rest.now c.in-Some.ensures.0 c.in-Some-next_word.ensures.0 c.in-Some-next_word-2.ensures.0 c.in-None.ensures)).1.0
+
+pub with_two_parameters-requires-clause-word : goal.with_two_parameters-requires-clause-word
+with_two_parameters-requires-clause-word c = (c.requires.utf8 _ (three c.args.line.now c.in-Some.command.now c.in-Some-next_word.database.now c.in-Some-next_word-2.word.now c.in-Some.rest.now c.in-Some-next_word.rest.now c.in-Some-next_word-2.rest.now c.in-Some.ensures.0 c.in-Some-next_word.ensures.0 c.in-Some-next_word-2.ensures.0 c.in-None.ensures)).1.1.0

@@ -1,0 +1,57 @@
+-- The octets of each reply. RFC 2229, sections 3.1 to 3.9, with this project's wording after the codes.
+use Rattle.std.specs.Prelude.{ℕ, List, ◌++◌, codes, decimal}
+use Rattle.dict_text.specs.Lines.{text_lines}
+use Rattle.dict_proto.specs.Text.{crlf, block, quoted}
+use Rattle.dict_proto.specs.declared.reply.Reply.{Reply}
+use Rattle.dict_proto.specs.declared.reply.Reply.TheVariants.{Banner, DefinitionCount, Definition, Done, Closing, Unavailable, NotRecognized, InvalidDatabase, NoMatch}
+
+-- the greeting of a connection: 220, the host and the connection's number
+unfoldable pub banner_octets : List ℕ → ℕ → List ℕ
+banner_octets host connection = codes "220 " ++ (host ++ (codes " dictcat ready <" ++ (decimal connection ++ (codes "@" ++ (host ++ (codes ">" ++ crlf))))))
+
+-- how many definitions follow
+unfoldable pub definition_count_octets : ℕ → List ℕ
+definition_count_octets count = codes "150 " ++ (decimal count ++ (codes " definitions retrieved" ++ crlf))
+
+-- the line before a definition's text
+unfoldable pub definition_line : List ℕ → List ℕ → List ℕ → List ℕ
+definition_line headword name title = codes "151 " ++ (quoted headword ++ (codes " " ++ (name ++ (codes " " ++ (quoted title ++ crlf)))))
+
+-- one definition: the headword, the database's name and title, and the text
+unfoldable pub definition_octets : List ℕ → List ℕ → List ℕ → List ℕ → List ℕ
+definition_octets headword name title body = definition_line headword name title ++ block (text_lines body)
+
+-- what ends a reply that has a text, and what answers a command that has no other answer
+unfoldable pub done_octets : List ℕ
+done_octets = codes "250 ok" ++ crlf
+
+-- the answer to QUIT
+unfoldable pub closing_octets : List ℕ
+closing_octets = codes "221 closing connection" ++ crlf
+
+-- in place of a reply that could not be made
+unfoldable pub unavailable_octets : List ℕ
+unavailable_octets = codes "420 server temporarily unavailable" ++ crlf
+
+-- the answer to a line that is no command
+unfoldable pub not_recognized_octets : List ℕ
+not_recognized_octets = codes "500 command not recognized" ++ crlf
+
+-- the database asked is not there
+unfoldable pub invalid_database_octets : List ℕ
+invalid_database_octets = codes "550 invalid database" ++ crlf
+
+-- nothing was found
+unfoldable pub no_match_octets : List ℕ
+no_match_octets = codes "552 no match" ++ crlf
+
+abbrev pub reply_octets : Reply → List ℕ
+reply_octets (Banner host connection) = banner_octets host.now connection
+reply_octets (DefinitionCount count) = definition_count_octets count
+reply_octets (Definition headword name title body) = definition_octets headword.now name.now title.now body.now
+reply_octets Done = done_octets
+reply_octets Closing = closing_octets
+reply_octets Unavailable = unavailable_octets
+reply_octets NotRecognized = not_recognized_octets
+reply_octets InvalidDatabase = invalid_database_octets
+reply_octets NoMatch = no_match_octets

@@ -1,0 +1,144 @@
+// The replies, and how they are put.
+ghost use Rattle.dict_proto.specs.declared.reply.Reply.{Reply};
+ghost use Rattle.dict_proto.specs.Octets.{Puts, Counts};
+ghost use Rattle.dict_proto.specs.ReplyLines.{AreShortLines, IsWithinLimits};
+ghost use Rattle.dict_proto.specs.Replies.{reply_octets, banner_octets, definition_count_octets, definition_octets, definition_line};
+
+use crate::part::{Part, put_parts};
+use crate::sink::{Sink, SinkFault};
+use crate::text::put_text;
+
+/// A reply, or a part of one: the answer to a DEFINE that finds something is a `DefinitionCount`, each
+/// `Definition` and then `Done`.
+#[derive(Clone, Copy, Debug, PartialEq, Eq)]
+pub enum Reply<'a> {
+    /// 220, a connection's greeting: the host's name and the connection's number.
+    Banner {
+        host: &'a str,
+        connection: u64,
+    },
+    /// 150: how many definitions follow.
+    DefinitionCount(u64),
+    /// 151: one definition, with its text.
+    Definition {
+        headword: &'a str,
+        name: &'a str,
+        title: &'a str,
+        body: &'a [u8],
+    },
+    /// 250.
+    Done,
+    /// 221, the answer to QUIT.
+    Closing,
+    /// 420: no reply could be made.
+    Unavailable,
+    /// 500: the line is no command.
+    NotRecognized,
+    /// 550: no such database.
+    InvalidDatabase,
+    /// 552: nothing was found.
+    NoMatch,
+}
+
+/// Puts the reply. It takes no memory, and is Ok wherever the sink did not fail; where it failed, a front of the
+/// reply's octets was put.
+pub fn write_reply<K: Sink>(sink: &mut K, reply: &Reply) -> Result<(), SinkFault>
+    ensures octets { Puts result (K.octets sink.old) (K.octets sink.new) (reply_octets reply.now) }
+    ensures failures { Counts result (K.failures sink.old) (K.failures sink.new) }
+{
+    match *reply {
+        Reply::Banner { host, connection } => put_banner(sink, host, connection),
+        Reply::DefinitionCount(count) => put_definition_count(sink, count),
+        Reply::Definition {
+            headword,
+            name,
+            title,
+            body,
+        } => put_definition(sink, headword, name, title, body),
+        Reply::Done => sink.put(b"250 ok\r\n"),
+        Reply::Closing => sink.put(b"221 closing connection\r\n"),
+        Reply::Unavailable => sink.put(b"420 server temporarily unavailable\r\n"),
+        Reply::NotRecognized => sink.put(b"500 command not recognized\r\n"),
+        Reply::InvalidDatabase => sink.put(b"550 invalid database\r\n"),
+        Reply::NoMatch => sink.put(b"552 no match\r\n"),
+    }
+}
+
+fn put_banner<K: Sink>(sink: &mut K, host: &str, connection: u64) -> Result<(), SinkFault>
+    ensures octets { Puts result (K.octets sink.old) (K.octets sink.new)
+        (banner_octets host.now connection) }
+    ensures failures { Counts result (K.failures sink.old) (K.failures sink.new) }
+{
+    put_parts(
+        sink,
+        &[
+            Part::Octets(b"220 "),
+            Part::Octets(host.as_bytes()),
+            Part::Octets(b" dictcat ready <"),
+            Part::Number(connection),
+            Part::Octets(b"@"),
+            Part::Octets(host.as_bytes()),
+            Part::Octets(b">\r\n"),
+        ],
+    )
+}
+
+fn put_definition_count<K: Sink>(sink: &mut K, count: u64) -> Result<(), SinkFault>
+    ensures octets { Puts result (K.octets sink.old) (K.octets sink.new)
+        (definition_count_octets count) }
+    ensures failures { Counts result (K.failures sink.old) (K.failures sink.new) }
+{
+    put_parts(
+        sink,
+        &[
+            Part::Octets(b"150 "),
+            Part::Number(count),
+            Part::Octets(b" definitions retrieved\r\n"),
+        ],
+    )
+}
+
+fn put_definition<'a, K: Sink>(
+    sink: &mut K,
+    headword: &'a str,
+    name: &'a str,
+    title: &'a str,
+    body: &'a [u8],
+) -> Result<(), SinkFault>
+    ensures octets { Puts result (K.octets sink.old) (K.octets sink.new)
+        (definition_octets headword.now name.now title.now body.now) }
+    ensures failures { Counts result (K.failures sink.old) (K.failures sink.new) }
+{
+    put_definition_line(sink, headword, name, title)?;
+    put_text(sink, body)
+}
+
+fn put_definition_line<'a, K: Sink>(
+    sink: &mut K,
+    headword: &'a str,
+    name: &'a str,
+    title: &'a str,
+) -> Result<(), SinkFault>
+    ensures octets { Puts result (K.octets sink.old) (K.octets sink.new)
+        (definition_line headword.now name.now title.now) }
+    ensures failures { Counts result (K.failures sink.old) (K.failures sink.new) }
+{
+    put_parts(
+        sink,
+        &[
+            Part::Octets(b"151 "),
+            Part::Quoted(headword),
+            Part::Octets(b" "),
+            Part::Octets(name.as_bytes()),
+            Part::Octets(b" "),
+            Part::Quoted(title),
+            Part::Octets(b"\r\n"),
+        ],
+    )
+}
+
+/// A law of replies: where host, headword, name, title and text keep their limits (253, 255, 32, 200 octets, and
+/// 1,021 for each line of a text), no line of a reply has more than 1,024 octets, its CR LF counted.
+pub fn reply_lines_are_short()
+    ensures { (reply : Reply) → IsWithinLimits reply → AreShortLines (reply_octets reply) }
+{}

@@ -1,0 +1,156 @@
+use crate::{LimitedSink, OverWrite, Reply, Sink, put_all, put_quoted, write_reply};
+use std::alloc::Global;
+use std::test::Fail;
+
+// What a reply puts.
+fn octets_of(alloc: Global, reply: &Reply) -> Result<Vec<u8>, Fail> {
+    let mut sink = OverWrite::new(Vec::new(alloc));
+    write_reply(&mut sink, reply)?;
+    Ok(sink.into_inner())
+}
+
+// What the text reply of a body has after its first line.
+fn block_of(alloc: Global, body: &[u8]) -> Result<Vec<u8>, Fail> {
+    let octets = octets_of(
+        alloc,
+        &Reply::Definition {
+            headword: "a",
+            name: "b",
+            title: "c",
+            body,
+        },
+    )?;
+    let line = b"151 \"a\" b \"c\"\r\n".as_slice();
+    let Some(block) = octets.as_slice().strip_prefix(line) else {
+        return Err(Fail::from("another first line"));
+    };
+    Ok(block.to_vec(alloc)?)
+}
+
+#[test]
+fn lines_of_a_session(rt: HostRuntime) -> Result<(), Fail> {
+    let alloc = rt.alloc();
+    let banner = Reply::Banner {
+        host: "localhost",
+        connection: 1,
+    };
+    assert_eq!(rt;
+        octets_of(alloc, &banner)?.as_slice(),
+        b"220 localhost dictcat ready <1@localhost>\r\n".as_slice()
+    );
+    assert_eq!(rt;
+        octets_of(alloc, &Reply::DefinitionCount(18_446_744_073_709_551_615))?.as_slice(),
+        b"150 18446744073709551615 definitions retrieved\r\n".as_slice()
+    );
+    assert_eq!(rt;
+        octets_of(alloc, &Reply::DefinitionCount(1))?.as_slice(),
+        b"150 1 definitions retrieved\r\n".as_slice()
+    );
+    Ok(())
+}
+
+#[test]
+fn fixed_lines(rt: HostRuntime) -> Result<(), Fail> {
+    let alloc = rt.alloc();
+    let lines = [
+        (Reply::Done, b"250 ok\r\n".as_slice()),
+        (Reply::Closing, b"221 closing connection\r\n".as_slice()),
+        (
+            Reply::Unavailable,
+            b"420 server temporarily unavailable\r\n".as_slice(),
+        ),
+        (
+            Reply::NotRecognized,
+            b"500 command not recognized\r\n".as_slice(),
+        ),
+        (
+            Reply::InvalidDatabase,
+            b"550 invalid database\r\n".as_slice(),
+        ),
+        (Reply::NoMatch, b"552 no match\r\n".as_slice()),
+    ];
+    for (reply, want) in &lines {
+        assert_eq!(rt; octets_of(alloc, reply)?.as_slice(), *want);
+    }
+    Ok(())
+}
+
+#[test]
+fn one_definition(rt: HostRuntime) -> Result<(), Fail> {
+    let definition = Reply::Definition {
+        headword: "Fire Opal",
+        name: "gem",
+        title: "Gems",
+        body: b"opal\n  a stone\n",
+    };
+    assert_eq!(rt;
+        octets_of(rt.alloc(), &definition)?.as_slice(),
+        b"151 \"Fire Opal\" gem \"Gems\"\r\nopal\r\n  a stone\r\n.\r\n".as_slice()
+    );
+    Ok(())
+}
+
+#[test]
+fn quoted_headword_and_title(rt: HostRuntime) -> Result<(), Fail> {
+    let definition = Reply::Definition {
+        headword: "a\"b\\c",
+        name: "x",
+        title: "\"",
+        body: b"",
+    };
+    assert_eq!(rt;
+        octets_of(rt.alloc(), &definition)?.as_slice(),
+        b"151 \"a\\\"b\\\\c\" x \"\\\"\"\r\n.\r\n".as_slice()
+    );
+    Ok(())
+}
+
+#[test]
+fn periods_are_doubled_on_each_line(rt: HostRuntime) -> Result<(), Fail> {
+    let alloc = rt.alloc();
+    assert_eq!(rt;
+        block_of(alloc, b"x\n.y\n.\n..z\na.b")?.as_slice(),
+        b"x\r\n..y\r\n..\r\n...z\r\na.b\r\n.\r\n".as_slice()
+    );
+    assert_eq!(rt;
+        block_of(alloc, b".dot\n")?.as_slice(),
+        b"..dot\r\n.\r\n".as_slice()
+    );
+    assert_eq!(rt; block_of(alloc, b"")?.as_slice(), b".\r\n".as_slice());
+    assert_eq!(rt; block_of(alloc, b"\n")?.as_slice(), b"\r\n.\r\n".as_slice());
+    Ok(())
+}
+
+#[test]
+fn quotes(rt: HostRuntime) -> Result<(), Fail> {
+    let mut sink = OverWrite::new(Vec::new(rt.alloc()));
+    put_quoted(&mut sink, "Gems")?;
+    put_all(&mut sink, &[b" ", b"-", b" "])?;
+    put_quoted(&mut sink, "say \"a\\b\"")?;
+    sink.put(b"\r\n")?;
+    assert_eq!(rt;
+        sink.into_inner().as_slice(),
+        b"\"Gems\" - \"say \\\"a\\\\b\\\"\"\r\n".as_slice()
+    );
+    Ok(())
+}
+
+// A sink with room for k octets takes the first k, and the reply is Ok only with room for all.
+#[test]
+fn a_sink_with_little_room(rt: HostRuntime) -> Result<(), Fail> {
+    let want = b"151 \"a\\\"b\" gem \"Gems\"\r\nx\r\n..y\r\n.\r\n".as_slice();
+    let definition = Reply::Definition {
+        headword: "a\"b",
+        name: "gem",
+        title: "Gems",
+        body: b"x\n.y\n",
+    };
+    for room in 0..want.len() + 2 {
+        let mut sink = LimitedSink::new(rt.alloc(), room)?;
+        let written = write_reply(&mut sink, &definition);
+        assert_eq!(rt; written.is_ok(), room >= want.len(), "room for {room}");
+        let front = want.get(..room).unwrap_or(want);
+        assert_eq!(rt; sink.taken(), front, "room for {room}");
+    }
+    Ok(())
+}
