@@ -1,0 +1,51 @@
+-- The answer to each line. RFC 2229, sections 3.2 and 3.9.
+use Rattle.std.specs.Prelude.{ℕ, Bool, true, false, ◌==◌, List, [], ◌++◌, length, if◌then◌else◌}
+use Rattle.std.specs.List.{flat_map}
+use Rattle.std.specs.Str.{bytes_eq}
+use Rattle.dict_match.specs.Key.{key_of}
+use Rattle.dict_index.specs.Edition.{Entry}
+use Rattle.dict_proto.specs.Meaning.{Meaning, meaning, define, quit, not_recognized}
+use Rattle.dict_proto.specs.Replies.{definition_count_octets, definition_octets, done_octets, closing_octets, not_recognized_octets, invalid_database_octets, no_match_octets}
+use Rattle.dict_session.specs.Database.{Database, found, is_found}
+
+-- an entry as a definition of the database with this name and title
+abbrev pub shown : List ℕ → List ℕ → Entry → List ℕ
+shown name title entry = definition_octets entry.headword name title entry.body
+
+-- the same where a query finds the entry, and else nothing
+abbrev pub shown_if_found : List ℕ → List ℕ → List ℕ → Entry → List ℕ
+shown_if_found name title query entry = if is_found query entry then shown name title entry else []
+
+-- one definition of the database's
+abbrev pub definition_of : Database → Entry → List ℕ
+definition_of database entry = shown database.name database.edition.title entry
+
+-- these entries, as an answer to DEFINE
+abbrev pub definitions : Database → List Entry → List ℕ
+definitions database entries = definition_count_octets (length entries) ++ (flat_map (definition_of database) entries ++ done_octets)
+
+-- the answer where these entries were found
+abbrev pub found_answer : Database → List Entry → List ℕ
+found_answer database entries = if length entries == 0 then no_match_octets else definitions database entries
+
+-- the answer to DEFINE with a database's name and a word
+unfoldable pub define_answer : Database → List ℕ → List ℕ → List ℕ
+define_answer database name word = if bytes_eq name database.name then found_answer database (found (key_of word) database.edition) else invalid_database_octets
+
+abbrev pub answer_to : Database → Meaning → List ℕ
+answer_to database (define name word) = define_answer database name word
+answer_to database quit = closing_octets
+answer_to database not_recognized = not_recognized_octets
+
+abbrev pub ends_session : Meaning → Bool
+ends_session (define name word) = false
+ends_session quit = true
+ends_session not_recognized = false
+
+-- the answer to a line, without its CR LF
+abbrev pub answer : Database → List ℕ → List ℕ
+answer database line = answer_to database (meaning line)
+
+-- the line is a QUIT
+abbrev pub is_quit : List ℕ → Bool
+is_quit line = ends_session (meaning line)

@@ -1,0 +1,121 @@
+// The answer to one line.
+ghost use Rattle.std.specs.Prelude.{◌≡◌, ℕ, List};
+ghost use Rattle.dict_proto.specs.Octets.{Puts, Counts};
+ghost use Rattle.dict_proto.specs.Meaning.{told};
+ghost use Rattle.dict_session.specs.Answers.{answer_to, define_answer, found_answer, ends_session};
+ghost use Rattle.dict_proto.specs.Replies.{reply_octets};
+ghost use Rattle.dict_session.specs.Database.{found};
+ghost use Rattle.dict_session.specs.Answered.{Answers};
+ghost use Rattle.dict_session.specs.Ending.{Finishes, Tallies};
+
+use crate::plain::Plain;
+use crate::step::Step;
+use dict_match::key_of;
+use dict_proto::{LineFault, Reply, Request, Sink, SinkFault, write_reply};
+use std::alloc::Global;
+
+// Whether a line got its answer, or the 420 line in its place.
+#[derive(Clone, Copy, Debug, PartialEq, Eq)]
+pub(crate) enum Answered {
+    Whole,
+    Unavailable,
+}
+
+// Puts the answer to what a line asks, or 420 where memory for it is refused before the answer's first octet.
+pub(crate) fn put_answer<K: Sink>(
+    alloc: Global,
+    plain: &Plain,
+    asked: Result<Request, LineFault>,
+    sink: &mut K,
+) -> Result<Answered, SinkFault>
+    ensures octets { Answers result (K.octets sink.old) (K.octets sink.new) (answer_to plain.now (told asked.entry)) }
+    ensures failures { Counts result (K.failures sink.old) (K.failures sink.new) }
+{
+    match asked {
+        Ok(Request::Define { database, word }) => put_define(alloc, plain, database, word, sink),
+        Ok(Request::Quit) => put_whole(&Reply::Closing, sink),
+        Err(LineFault::NotRecognized) => put_whole(&Reply::NotRecognized, sink),
+    }
+}
+
+fn put_whole<K: Sink>(reply: &Reply, sink: &mut K) -> Result<Answered, SinkFault>
+    ensures octets { Answers result (K.octets sink.old) (K.octets sink.new) (reply_octets reply.now) }
+    ensures failures { Counts result (K.failures sink.old) (K.failures sink.new) }
+{
+    match write_reply(sink, reply) {
+        Ok(()) => Ok(Answered::Whole),
+        Err(fault) => Err(fault),
+    }
+}
+
+// Puts the answer to DEFINE.
+fn put_define<K: Sink>(
+    alloc: Global,
+    plain: &Plain,
+    database: &str,
+    word: &str,
+    sink: &mut K,
+) -> Result<Answered, SinkFault>
+    ensures octets { Answers result (K.octets sink.old) (K.octets sink.new) (define_answer plain.now database.now word.now) }
+    ensures failures { Counts result (K.failures sink.old) (K.failures sink.new) }
+{
+    if !plain.has_name(database) {
+        return put_whole(&Reply::InvalidDatabase, sink);
+    }
+    let Ok(key) = key_of(alloc, word) else {
+        return put_unavailable(sink);
+    };
+    match put_found(plain, key.as_bytes(), sink) {
+        Ok(()) => Ok(Answered::Whole),
+        Err(fault) => Err(fault),
+    }
+}
+
+fn put_unavailable<K: Sink>(sink: &mut K) -> Result<Answered, SinkFault>
+    ensures octets { (answer : List ℕ) → Answers result (K.octets sink.old) (K.octets sink.new) answer }
+    ensures failures { Counts result (K.failures sink.old) (K.failures sink.new) }
+{
+    match write_reply(sink, &Reply::Unavailable) {
+        Ok(()) => Ok(Answered::Unavailable),
+        Err(fault) => Err(fault),
+    }
+}
+
+// Puts the definitions that a query finds.
+fn put_found<K: Sink>(plain: &Plain, query: &[u8], sink: &mut K) -> Result<(), SinkFault>
+    ensures octets { Puts result (K.octets sink.old) (K.octets sink.new) (found_answer plain.now (found query.now plain.now.edition)) }
+    ensures failures { Counts result (K.failures sink.old) (K.failures sink.new) }
+{
+    let count = plain.count(query);
+    if count == 0 {
+        return write_reply(sink, &Reply::NoMatch);
+    }
+    write_reply(sink, &Reply::DefinitionCount(count))?;
+    plain.put_found(query, sink)?;
+    write_reply(sink, &Reply::Done)
+}
+
+// Puts the answer to what a line asks, and tells whether the session goes on.
+pub(crate) fn answer_request<K: Sink>(
+    alloc: Global,
+    plain: &Plain,
+    asked: Result<Request, LineFault>,
+    sink: &mut K,
+) -> Step
+    ensures octets { Finishes plain.now result (K.octets sink.old) (K.octets sink.new) (told asked.entry) }
+    ensures failures { Tallies result (K.failures sink.old) (K.failures sink.new) }
+{
+    let ends = is_quit(&asked);
+    match put_answer(alloc, plain, asked, sink) {
+        Err(_) => Step::Broken,
+        Ok(Answered::Whole) if ends => Step::Quit,
+        Ok(_) => Step::More,
+    }
+}
+
+// Whether a QUIT is asked.
+fn is_quit(asked: &Result<Request, LineFault>) -> bool
+    ensures { result ≡ ends_session (told asked.now) }
+{
+    matches!(asked, Ok(Request::Quit))
+}

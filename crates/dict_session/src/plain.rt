@@ -1,0 +1,73 @@
+// One database in lists.
+ghost use Rattle.std.specs.Prelude.{◌≡◌, IfOk, length};
+ghost use Rattle.std.specs.List.{flat_map};
+ghost use Rattle.std.specs.Str.{bytes_eq};
+ghost use Rattle.dict_proto.specs.Octets.{Puts, Counts};
+ghost use Rattle.dict_index.specs.Edition.{edition_of};
+ghost use Rattle.dict_session.specs.Database.{found};
+ghost use Rattle.dict_session.specs.Answers.{definition_of};
+
+use crate::keyed::{KeyedEntry, count_found, keyed_entries, put_definitions};
+use dict_index::Edition;
+use dict_proto::{Sink, SinkFault};
+use std::alloc::{AllocError, Global};
+use std::marker::Model;
+
+/// A name and the edition that stands under it, with the keys of its entries. Contracts see it as a `Database`.
+#[derive(Drop)]
+pub struct Plain<'a> {
+    name: &'a str,
+    title: &'a str,
+    info: &'a str,
+    entries: Vec<KeyedEntry<'a>>,
+}
+
+impl<'a> Model for Plain<'a> {
+    ghost use Rattle.std.specs.Prelude.{map};
+    ghost use Rattle.std.specs.List.{AllByRecursion};
+    ghost use Rattle.dict_session.specs.Database.{Database};
+    ghost use Rattle.dict_session.specs.Keyed.{entry_of, HasItsKey};
+
+    ghost Value = { Database };
+
+    ghost view = { λ p. record { name = p.name.now; edition = record { title = p.title.now; info = p.info.now; entries = map entry_of p.entries.items } } };
+
+    ghost invariant = { λ p. AllByRecursion HasItsKey p.entries.items };
+}
+
+impl<'a> Plain<'a> {
+    /// The edition under a name. Its entries' keys take memory.
+    pub fn new(alloc: Global, name: &'a str, edition: &Edition<'a>) -> Result<Self, AllocError>
+        ensures { IfOk result (λ plain. plain ≡ record { name = name.now; edition = edition_of edition.now }) }
+    {
+        let entries = keyed_entries(alloc, edition.entries())?;
+        Ok(Plain {
+            name,
+            title: edition.title(),
+            info: edition.info(),
+            entries,
+        })
+    }
+
+    // Whether this is the database's name.
+    pub(crate) fn has_name(&self, name: &str) -> bool
+        ensures { result ≡ bytes_eq name.now self.now.name }
+    {
+        name == self.name
+    }
+
+    // How many entries a query finds.
+    pub(crate) fn count(&self, query: &[u8]) -> u64
+        ensures { result ≡ length (found query.now self.now.edition) }
+    {
+        count_found(&self.entries, query)
+    }
+
+    // Puts the definition of each entry that a query finds.
+    pub(crate) fn put_found<K: Sink>(&self, query: &[u8], sink: &mut K) -> Result<(), SinkFault>
+        ensures octets { Puts result (K.octets sink.old) (K.octets sink.new) (flat_map (definition_of self.now) (found query.now self.now.edition)) }
+        ensures failures { Counts result (K.failures sink.old) (K.failures sink.new) }
+    {
+        put_definitions(&self.entries, self.name, self.title, query, sink)
+    }
+}
