@@ -1,4 +1,4 @@
-use Rattle.std.proofs.Common.{◌≡◌, ◌↔◌, IsTrue, drop, length, sym, ap, subst, ◌∙◌, arith}
+use Rattle.std.proofs.Common.{sym, subst, arith}
 use Rattle.std.proofs.lemmas.Bool.{false≢true, leb-true}
 use Rattle.dict_match.specs.Matching.{StandsIn}
 use Rattle.dict_match.proofs.HitLemmas.{stands_found, stands_fits, stands_nowhere, stands_from}
