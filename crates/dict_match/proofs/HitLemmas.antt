@@ -1,14 +1,14 @@
 -- What std's searches of slices say of a hit.
-use Rattle.std.proofs.Common.{◌≡◌, ◌≢◌, ◌↔◌, IsTrue, ℕ, ◌+◌, Bool, nat_eq, List, [], ◌++◌, Option, Some, None, is_some, length, take, drop, ap, sym, ◌∙◌, arith, length-append, append_assoc}
+use Rattle.std.proofs.Common.{◌≡◌, ◌≢◌, ◌↔◌, IsTrue, ℕ, ◌+◌, ◌<◌, ◌≤◌, Bool, nat_eq, List, [], ◌++◌, Option, Some, None, is_some, length, take, drop, get_or, ap, sym, ◌∙◌, arith, length-append, append_assoc}
 use Rattle.std.specs.List.{starts_with, ends_with}
-use Rattle.std.proofs.lemmas.Bool.{false≢true}
+use Rattle.std.proofs.lemmas.Bool.{false≢true, eq-eqb}
 use Rattle.std.proofs.lemmas.Bool.Decides.{Decides-eqb}
-use Rattle.std.proofs.lemmas.List.{take-append-drop}
+use Rattle.std.proofs.lemmas.List.{take-append-drop, drop-append-le}
 use Rattle.std.proofs.lemmas.List.Prefix.{front_rest, at_from_reads, at_reads}
 use Rattle.std.proofs.lemmas.Slice.Eq.{starts_is, ends_is}
-use Rattle.memchr.specs.Find.{FindsNeedle, OccursAt}
-use Rattle.dict_match.specs.declared.strategy.Strategy.TheVariants.{Prefix, Suffix, Substring}
-use Rattle.dict_match.specs.Matching.{Hits}
+use Rattle.memchr.specs.Find.{FindsNeedle, OccursAt, NoneBefore, Nowhere, Passes, is_byte}
+use Rattle.dict_match.specs.declared.strategy.Strategy.TheVariants.{Prefix, Suffix}
+use Rattle.dict_match.specs.Matching.{Hits, StandsIn}
 
 pub hits_prefix : (q k : List ℕ) (r : Bool) → q ≢ [] → r ≡ starts_with nat_eq k q → IsTrue r ↔ Hits Prefix q k
 hits_prefix q k r some is =
@@ -34,13 +34,49 @@ cuts-occurs q k a b e =
     let size' : length (q ++ b) ≡ length q + length b = length-append q b in
     record { fits = omega arith; reads = λ i lt. at_reads 0 k q (length a) b rest i lt }
 
-pub hits_substring : (q k : List ℕ) (r : Option ℕ) (t : Bool) → q ≢ [] → FindsNeedle k q 0 r → t ≡ is_some r → IsTrue t ↔ Hits Substring q k
-hits_substring q k None t some none is = (
+-- what a search for the query says
+pub stands_found : (q k : List ℕ) (r : Option ℕ) (t : Bool) → FindsNeedle k q 0 r → t ≡ is_some r → IsTrue t ↔ StandsIn q k
+stands_found q k None t none is = (
   (λ h. absurd (false≢true (sym is ∙ h))),
   (λ h.
-      let occurs = cuts-occurs q k h.1.0 h.1.1 h.1.2 in
+      let occurs = cuts-occurs q k h.0 h.1 h.2 in
       let fits = occurs.fits in
-      absurd (none (length h.1.0) (omega arith) (omega arith) occurs)),
+      absurd (none (length h.0) (omega arith) (omega arith) occurs)),
 )
-hits_substring q k (Some n) t some found is =
-    ((λ h. (some, (take n k, drop (n + length q) k, occurs-cuts q k n found.1))), (λ h. is))
+stands_found q k (Some n) t found is = ((λ h. (take n k, drop (n + length q) k, occurs-cuts q k n found.1)), (λ h. is))
+
+-- a longer list doesn't stand in a shorter
+pub stands_fits : (q k : List ℕ) → StandsIn q k → length q ≤ length k
+stands_fits q k h = let fits = (cuts-occurs q k h.0 h.1 h.2).fits in omega arith
+
+-- where the query stands, its first byte does
+stands-passes : (q k : List ℕ) → 0 < length q → (h : StandsIn q k) → (length h.0 < length k) × Passes (is_byte (get_or q 0 0)) k (length h.0)
+stands-passes q k some h =
+    let occurs = cuts-occurs q k h.0 h.1 h.2 in
+    let fits = occurs.fits in
+    let place : length h.0 + 0 ≡ length h.0 = omega arith in
+    (omega arith, eq-eqb _ _ (sym (ap (λ n. get_or k n 0) place) ∙ occurs.reads 0 some))
+
+-- a list without the query's first byte hasn't the query in it
+pub stands_nowhere : (q k : List ℕ) → 0 < length q → Nowhere (Passes (is_byte (get_or q 0 0)) k) 0 (length k) → StandsIn q k → ⊥
+stands_nowhere q k some none h = let passes = stands-passes q k some h in none (length h.0) (omega arith) passes.0 passes.1
+
+-- the query stands in a list as it does from the first place of its first byte on
+pub stands_from : (q k : List ℕ) (n : ℕ) → 0 < length q → NoneBefore (Passes (is_byte (get_or q 0 0)) k) 0 (length k) n
+    → StandsIn q (drop n k) ↔ StandsIn q k
+stands_from q k n some first = (
+  (λ h. (
+    take n k ++ h.0,
+    h.1,
+    sym (take-append-drop n k) ∙ ap (λ bs. take n k ++ bs) h.2 ∙ sym (append_assoc (take n k) (h.0 ++ q) h.1)
+        ∙ ap (λ bs. bs ++ h.1) (sym (append_assoc (take n k) h.0 q)),
+  )),
+  (λ h.
+      let passes = stands-passes q k some h in
+      let not_before : length h.0 < n → ⊥ = λ lt. first.before (length h.0) (omega arith) lt passes.1 in
+      let within : n ≤ length h.0 = omega (arith, not_before) in (
+        drop n h.0,
+        h.1,
+        ap (drop n) (h.2 ∙ append_assoc h.0 q h.1) ∙ drop-append-le n h.0 (q ++ h.1) within ∙ sym (append_assoc (drop n h.0) q h.1),
+      )),
+)

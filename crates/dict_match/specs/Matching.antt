@@ -4,6 +4,10 @@ use Rattle.dict_match.specs.Words.{words_of}
 use Rattle.dict_match.specs.declared.strategy.Strategy.{Strategy}
 use Rattle.dict_match.specs.declared.strategy.Strategy.TheVariants.{Exact, Prefix, Suffix, Substring, Word, First, Last}
 
+-- q stands in k
+abbrev pub StandsIn : List ℕ → List ℕ → Type 0
+StandsIn q k = (a : List ℕ) × (b : List ℕ) × (k ≡ a ++ q ++ b)
+
 -- the words of q are a run among these words; they are the first of them; they are the last of them
 abbrev pub HasWords : List (List ℕ) → List (List ℕ) → Type 0
 HasWords words run = (a : List (List ℕ)) × (b : List (List ℕ)) × (words ≡ a ++ run ++ b)
@@ -19,7 +23,7 @@ abbrev pub Fits : Strategy → List ℕ → List ℕ → Type 0
 Fits Exact q k = k ≡ q
 Fits Prefix q k = (b : List ℕ) × (k ≡ q ++ b)
 Fits Suffix q k = (a : List ℕ) × (k ≡ a ++ q)
-Fits Substring q k = (a : List ℕ) × (b : List ℕ) × (k ≡ a ++ q ++ b)
+Fits Substring q k = StandsIn q k
 Fits Word q k = HasWords (words_of k) (words_of q)
 Fits First q k = BeginsWithWords (words_of k) (words_of q)
 Fits Last q k = EndsWithWords (words_of k) (words_of q)

@@ -1,12 +1,12 @@
 //! Which keys a query finds.
 
-ghost use Rattle.std.specs.Prelude.{◌≡◌, ◌↔◌, ◌++◌, length, drop, IsTrue};
+ghost use Rattle.std.specs.Prelude.{◌≡◌, ◌↔◌, ◌++◌, ◌<◌, length, drop, IsTrue};
 ghost use Rattle.dict_match.specs.Words.{words_of};
-ghost use Rattle.dict_match.specs.Matching.{Hits, HasWords, BeginsWithWords, EndsWithWords};
+ghost use Rattle.dict_match.specs.Matching.{Hits, StandsIn, HasWords, BeginsWithWords, EndsWithWords};
 
 use crate::strategy::Strategy;
 use crate::word::{split_word, words};
-use memchr::memmem;
+use memchr::{memchr, memmem};
 
 /// Whether a query finds an entry by a strategy, given the keys of both. An empty query finds nothing.
 /// No memory is taken.
@@ -20,11 +20,24 @@ pub fn matches(strategy: Strategy, query: &[u8], key: &[u8]) -> bool
         Strategy::Exact => key == query,
         Strategy::Prefix => key.starts_with(query),
         Strategy::Suffix => key.ends_with(query),
-        Strategy::Substring => memmem::find(key, query).is_some(),
+        Strategy::Substring => contains(key, query),
         Strategy::Word => has_words(key, query),
         Strategy::First => begins_with_words(key, query),
         Strategy::Last => ends_with_words(key, query),
     }
+}
+
+/// Whether `query`, which isn't empty, stands in `key`. Most keys are told by a search for its first byte,
+/// which is quicker than to begin a search for the whole.
+fn contains(key: &[u8], query: &[u8]) -> bool
+    requires { 0 < length query.now }
+    ensures { IsTrue result ↔ StandsIn query.now key.now }
+{
+    let Some(at) = memchr(query[0], key) else {
+        return false;
+    };
+    let (_, rest) = key.split_at(at);
+    query.len() <= rest.len() && memmem::find(rest, query).is_some()
 }
 
 /// Whether the words of `query` are the first words of `key`.

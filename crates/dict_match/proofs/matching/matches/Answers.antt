@@ -1,6 +1,6 @@
 use Rattle.std.proofs.Common.{◌≢◌, [], length, sym, ap, ◌∙◌}
 use Rattle.std.proofs.lemmas.Bool.{eqb-false}
-use Rattle.dict_match.proofs.HitLemmas.{hits_prefix, hits_suffix, hits_substring}
+use Rattle.dict_match.proofs.HitLemmas.{hits_prefix, hits_suffix}
 use Rattle.dict_match.proofs.matching.matches.Goals as goal
 
 pub returns-in-Prefix : goal.returns-in-Prefix
@@ -12,8 +12,3 @@ pub returns-in-Suffix : goal.returns-in-Suffix
 returns-in-Suffix c =
     let some : c.args.query.now ≢ [] = λ none. eqb-false _ 0 (sym c.is_empty.ensures ∙ c.if-is_empty.false) (ap length none) in
     rw c.in-Suffix.is (hits_suffix c.args.query.now c.args.key.now c.ends_with.result some c.ends_with.ensures.value)
-
-pub returns-in-Substring : goal.returns-in-Substring
-returns-in-Substring c =
-    let some : c.args.query.now ≢ [] = λ none. eqb-false _ 0 (sym c.is_empty.ensures ∙ c.if-is_empty.false) (ap length none) in
-    rw c.in-Substring.is (hits_substring c.args.query.now c.args.key.now c.find.result c.is_some.result some c.find.ensures c.is_some.ensures)
