@@ -1,20 +1,55 @@
 -- No line of a reply is too long.
-use Rattle.std.proofs.Common.{◌≡◌, ℕ, ◌+◌, ◌*◌, ◌^◌, ◌<◌, ◌≤◌, List, [], ◌∷◌, ◌++◌, Bool, true, false, map, length, refl, sym, ap, ◌∙◌, arith, append_assoc, append-nil, length-append, codes}
-use Rattle.std.specs.Prelude.{decimal, ◌==◌, ◌||◌, slice_index}
-use Rattle.std.specs.List.{flat_map, AllByRecursion}
-use Rattle.std.proofs.lemmas.Fmt.{length-decimal-le}
+use Rattle.std.proofs.Common.{◌≢◌, ◌%◌, not, eq-eqb, ◌≡◌, ℕ, ◌+◌, ◌*◌, ◌^◌, ◌<◌, ◌≤◌, List, [], ◌∷◌, ◌++◌, Bool, true, false, map, length, refl, sym, ap, ◌∙◌, arith, append_assoc, append-nil, length-append, codes}
+use Rattle.std.specs.Prelude.{decimal, ◌==◌, slice_index}
+use Rattle.std.specs.List.{flat_map, list_all, AllByRecursion}
+use Rattle.std.proofs.lemmas.Fmt.{length-decimal-le, decimal_by_steps}
+use Rattle.dict_proto.proofs.ReadingLemmas.{both_true}
 use Rattle.dict_text.specs.Lines.{text_lines}
-use Rattle.dict_proto.specs.Text.{crlf, escaped, quoted, stuffed, sent_line, block}
+use Rattle.dict_proto.specs.Text.{crlf, needs_backslash, escaped, quoted, stuffed, sent_line, block}
 use Rattle.dict_proto.specs.Replies.{banner_octets, definition_count_octets, definition_line, definition_octets, done_octets, closing_octets, unavailable_octets, not_recognized_octets, invalid_database_octets, no_match_octets, reply_octets}
-use Rattle.dict_proto.specs.ReplyLines.{AreShortLines, IsWithinLimits}
+use Rattle.dict_proto.specs.ReplyLines.{AreShortLines, HasNoReturn, IsShort, IsWithinLimits}
 use Rattle.dict_proto.specs.declared.reply.Reply.{Reply}
 use Rattle.dict_proto.specs.declared.reply.Reply.TheVariants.{Banner, DefinitionCount, Definition, Done, Closing, Unavailable, NotRecognized, InvalidDatabase, NoMatch}
 
--- one line
-one_line : (octets content : List ℕ) → octets ≡ content ++ crlf → length content + 2 ≤ 1024 → AreShortLines octets
-one_line octets content is short = (content ∷ [], is ∙ sym (append-nil (content ++ crlf)), (short, tt))
+-- ---- no CR
 
-escaped-short : (c : ℕ) (test : Bool) → ((c == 34) || (c == 92)) ≡ test → length (escaped c) ≤ 2
+return-append : (xs ys : List ℕ) → HasNoReturn xs → HasNoReturn ys → HasNoReturn (xs ++ ys)
+return-append [] ys h k = k
+return-append (x ∷ xs) ys h k = (h.0, return-append xs ys h.1 k)
+
+return-escaped : (c : ℕ) (test : Bool) → needs_backslash c ≡ test → c ≢ 13 → HasNoReturn (escaped c)
+return-escaped c true e h = rw e ((λ f. omega (arith, f)), (h, tt))
+return-escaped c false e h = rw e (h, tt)
+
+return-flat_map : (text : List ℕ) → HasNoReturn text → HasNoReturn (flat_map escaped text)
+return-flat_map [] h = tt
+return-flat_map (c ∷ text) h = return-append (escaped c) (flat_map escaped text) (return-escaped c _ refl h.0) (return-flat_map text h.1)
+
+return-quoted : (text : List ℕ) → HasNoReturn text → HasNoReturn (quoted text)
+return-quoted text h = ((λ f. omega (arith, f)), return-append (flat_map escaped text) (34 ∷ []) (return-flat_map text h) ((λ f. omega (arith, f)), tt))
+
+return-decimal : (n : ℕ) → n < 2 ^ 64 → HasNoReturn (decimal n)
+return-decimal n lt = decimal_by_steps (λ m ds. HasNoReturn ds) (λ m small. ((λ f. omega (arith, f)), tt)) (λ m ds more h. return-append ds ((48 + m % 10) ∷ []) h ((λ f. omega (arith, f)), tt)) n lt
+
+-- the octets of a text that is written out
+is_other : ℕ → Bool
+is_other c = not (c == 13)
+
+no_return : (c : ℕ) → is_other c ≡ true → c ≢ 13
+unfolding is_other
+no_return c e f = let same : (c == 13) ≡ true = eq-eqb c 13 f in let other : not (c == 13) ≡ false = ap not same in cc
+
+return-written : (text : List ℕ) → list_all is_other text ≡ true → HasNoReturn text
+return-written [] e = tt
+return-written (c ∷ text) e = (no_return c (both_true _ _ e).0, return-written text (both_true _ _ e).1)
+
+-- ---- single lines
+
+-- one line
+one_line : (octets content : List ℕ) → octets ≡ content ++ crlf → length content + 2 ≤ 1024 → HasNoReturn content → AreShortLines octets
+one_line octets content is short whole = (content ∷ [], is ∙ sym (append-nil (content ++ crlf)), ((short, whole), tt))
+
+escaped-short : (c : ℕ) (test : Bool) → needs_backslash c ≡ test → length (escaped c) ≤ 2
 escaped-short c true e = rw e (omega arith)
 escaped-short c false e = rw e (omega arith)
 
@@ -39,6 +74,13 @@ banner_short host n h lt =
     let digits : length (decimal n) ≤ 20 = length-decimal-le 20 n (omega arith) (omega arith) lt in
     simp length-append (omega arith)
 
+banner_whole : (host : List ℕ) (n : ℕ) → HasNoReturn host → n < 2 ^ 64 → HasNoReturn (banner_content host n)
+unfolding banner_content is_other
+banner_whole host n h lt =
+    return-append (codes "220 ") _ (return-written (codes "220 ") refl)
+    (return-append host _ h (return-append (codes " dictcat ready <") _ (return-written (codes " dictcat ready <") refl)
+    (return-append (decimal n) _ (return-decimal n lt) (return-append (codes "@") _ (return-written (codes "@") refl) (return-append host _ h (return-written (codes ">") refl))))))
+
 -- how many definitions there are
 count_content : ℕ → List ℕ
 count_content n = codes "150 " ++ (decimal n ++ codes " definitions retrieved")
@@ -53,6 +95,11 @@ count_short n lt =
     let digits : length (decimal n) ≤ 20 = length-decimal-le 20 n (omega arith) (omega arith) lt in
     simp length-append (omega arith)
 
+count_whole : (n : ℕ) → n < 2 ^ 64 → HasNoReturn (count_content n)
+unfolding count_content is_other
+count_whole n lt =
+    return-append (codes "150 ") _ (return-written (codes "150 ") refl) (return-append (decimal n) _ (return-decimal n lt) (return-written (codes " definitions retrieved") refl))
+
 -- the line before a definition
 definition_content : List ℕ → List ℕ → List ℕ → List ℕ
 definition_content headword name title = codes "151 " ++ (quoted headword ++ (codes " " ++ (name ++ (codes " " ++ quoted title))))
@@ -66,38 +113,53 @@ unfolding definition_content
 definition_short headword name title h k l =
     omega (arith, quoted-short headword, quoted-short title, length-append (quoted headword) (32 ∷ (name ++ (32 ∷ quoted title))), length-append name (32 ∷ quoted title))
 
--- a text
+definition_whole : (headword name title : List ℕ) → HasNoReturn headword → HasNoReturn name → HasNoReturn title → HasNoReturn (definition_content headword name title)
+unfolding definition_content is_other
+definition_whole headword name title h k l =
+    let space : HasNoReturn (codes " ") = return-written (codes " ") refl in
+    let to_title : List ℕ = codes " " ++ quoted title in
+    let to_name : List ℕ = codes " " ++ (name ++ to_title) in
+    let title_whole : HasNoReturn to_title = return-append (codes " ") (quoted title) space (return-quoted title l) in
+    let name_whole : HasNoReturn to_name = return-append (codes " ") (name ++ to_title) space (return-append name to_title k title_whole) in
+    return-append (codes "151 ") (quoted headword ++ to_name) (return-written (codes "151 ") refl) (return-append (quoted headword) to_name (return-quoted headword h) name_whole)
+
+-- ---- texts
+
 stuffed-short : (line : List ℕ) (test : Bool) → (slice_index line 0 == 46) ≡ test → length line ≤ 1021 → length (stuffed line) + 2 ≤ 1024
 stuffed-short line true e h = rw e (omega arith)
 stuffed-short line false e h = rw e (omega arith)
 
-all_stuffed : (lines : List (List ℕ)) → AllByRecursion (λ line. length line ≤ 1021) lines → AllByRecursion (λ line. length line + 2 ≤ 1024) (map stuffed lines ++ ((46 ∷ []) ∷ []))
-all_stuffed [] h = (omega arith, tt)
-all_stuffed (line ∷ lines) h = (stuffed-short line _ refl h.0, all_stuffed lines h.1)
+stuffed-whole : (line : List ℕ) (test : Bool) → (slice_index line 0 == 46) ≡ test → HasNoReturn line → HasNoReturn (stuffed line)
+stuffed-whole line true e h = rw e ((λ f. omega (arith, f)), h)
+stuffed-whole line false e h = rw e h
+
+all_stuffed : (lines : List (List ℕ)) → AllByRecursion (IsShort 1021) lines → AllByRecursion (λ line. (length line + 2 ≤ 1024) × HasNoReturn line) (map stuffed lines ++ ((46 ∷ []) ∷ []))
+all_stuffed [] h = ((omega arith, ((λ f. omega (arith, f)), tt)), tt)
+all_stuffed (line ∷ lines) h = ((stuffed-short line _ refl h.0.0, stuffed-whole line _ refl h.0.1), all_stuffed lines h.1)
 
 block_is : (lines : List (List ℕ)) → block lines ≡ flat_map (λ line. line ++ crlf) (map stuffed lines ++ ((46 ∷ []) ∷ []))
 unfolding sent_line
 block_is [] = refl
 block_is (line ∷ lines) = append_assoc (stuffed line ++ crlf) (flat_map sent_line lines) (46 ∷ crlf) ∙ ap (λ l. (stuffed line ++ crlf) ++ l) (block_is lines)
 
-definition-lines : (headword name title body : List ℕ) → length headword ≤ 255 → length name ≤ 32 → length title ≤ 200
-    → AllByRecursion (λ line. length line ≤ 1021) (text_lines body) → AreShortLines (definition_octets headword name title body)
+definition-lines : (headword name title body : List ℕ) → IsShort 255 headword → IsShort 32 name → IsShort 200 title
+    → AllByRecursion (IsShort 1021) (text_lines body) → AreShortLines (definition_octets headword name title body)
 unfolding definition_octets
 definition-lines headword name title body h k l m = (
   definition_content headword name title ∷ (map stuffed (text_lines body) ++ ((46 ∷ []) ∷ [])),
   ap (λ x. x ++ block (text_lines body)) (definition_is headword name title) ∙ ap (λ x. (definition_content headword name title ++ crlf) ++ x) (block_is (text_lines body)),
-  (definition_short headword name title h k l, all_stuffed (text_lines body) m),
+  ((definition_short headword name title h.0 k.0 l.0, definition_whole headword name title h.1 k.1 l.1), all_stuffed (text_lines body) m),
 )
 
 -- every line of a reply within the limits is short
 pub reply_octets-short : (reply : Reply) → IsWithinLimits reply → AreShortLines (reply_octets reply)
-unfolding done_octets closing_octets unavailable_octets not_recognized_octets invalid_database_octets no_match_octets
-reply_octets-short (Banner host connection) (h, k) = one_line _ _ (banner_is host.now connection) (banner_short host.now connection h k)
-reply_octets-short (DefinitionCount count) h = one_line _ _ (count_is count) (count_short count h)
+unfolding is_other done_octets closing_octets unavailable_octets not_recognized_octets invalid_database_octets no_match_octets
+reply_octets-short (Banner host connection) (h, k) = one_line _ _ (banner_is host.now connection) (banner_short host.now connection h.0 k) (banner_whole host.now connection h.1 k)
+reply_octets-short (DefinitionCount count) h = one_line _ _ (count_is count) (count_short count h) (count_whole count h)
 reply_octets-short (Definition headword name title body) (h, k, l, m) = definition-lines headword.now name.now title.now body.now h k l m
-reply_octets-short Done h = one_line _ (codes "250 ok") refl (omega arith)
-reply_octets-short Closing h = one_line _ (codes "221 closing connection") refl (omega arith)
-reply_octets-short Unavailable h = one_line _ (codes "420 server temporarily unavailable") refl (omega arith)
-reply_octets-short NotRecognized h = one_line _ (codes "500 command not recognized") refl (omega arith)
-reply_octets-short InvalidDatabase h = one_line _ (codes "550 invalid database") refl (omega arith)
-reply_octets-short NoMatch h = one_line _ (codes "552 no match") refl (omega arith)
+reply_octets-short Done h = one_line _ (codes "250 ok") refl (omega arith) (return-written (codes "250 ok") refl)
+reply_octets-short Closing h = one_line _ (codes "221 closing connection") refl (omega arith) (return-written (codes "221 closing connection") refl)
+reply_octets-short Unavailable h = one_line _ (codes "420 server temporarily unavailable") refl (omega arith) (return-written (codes "420 server temporarily unavailable") refl)
+reply_octets-short NotRecognized h = one_line _ (codes "500 command not recognized") refl (omega arith) (return-written (codes "500 command not recognized") refl)
+reply_octets-short InvalidDatabase h = one_line _ (codes "550 invalid database") refl (omega arith) (return-written (codes "550 invalid database") refl)
+reply_octets-short NoMatch h = one_line _ (codes "552 no match") refl (omega arith) (return-written (codes "552 no match") refl)

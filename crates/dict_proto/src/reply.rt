@@ -138,7 +138,8 @@ fn put_definition_line<'a, K: Sink>(
 }
 
 /// A law of replies: where host, headword, name, title and text keep their limits (253, 255, 32, 200 octets, and
-/// 1,021 for each line of a text), no line of a reply has more than 1,024 octets, its CR LF counted.
+/// 1,021 for each line of a text, none of them with a CR), a reply is lines, each ended by CR LF, without another CR
+/// and of at most 1,024 octets, their CR LF counted.
 pub fn reply_lines_are_short()
     ensures { (reply : Reply) → IsWithinLimits reply → AreShortLines (reply_octets reply) }
 {}
