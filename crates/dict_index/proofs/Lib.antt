@@ -10,3 +10,6 @@ pub mod TrimLemmas
 pub mod PassLemmas
 pub mod WholeLemmas
 pub mod MeaningLemmas
+pub mod LawLemmas
+pub mod DecideLemmas
+pub mod ChoiceLemmas
