@@ -13,3 +13,4 @@ pub mod MeaningLemmas
 pub mod LawLemmas
 pub mod DecideLemmas
 pub mod ChoiceLemmas
+pub mod WorkedLemmas

@@ -16,5 +16,5 @@ mod whole;
 pub use edition::Edition;
 pub use entry::Entry;
 pub use fault::{IndexFault, Refusal};
-pub use meaning::one_meaning;
+pub use meaning::{one_meaning, worked_edition};
 pub use reading::read_edition;

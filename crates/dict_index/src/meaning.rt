@@ -2,6 +2,7 @@
 ghost use Rattle.std.specs.Prelude.{◌≡◌, ◌⊎◌, ℕ, List, Option};
 ghost use Rattle.dict_index.specs.Edition.{Reading};
 ghost use Rattle.dict_index.specs.Meaning.{IsReading, IsFault};
+ghost use Rattle.dict_index.specs.Worked.{worked_index, worked_text, worked_reading};
 ghost use Rattle.dict_index.specs.declared.fault.Refusal.{Refusal};
 
 /// Each index and each text mean exactly one thing: one edition, or one refusal with its line.
@@ -15,5 +16,13 @@ pub fn one_meaning()
     ensures one_reading { (index text : List ℕ) (a b : Reading) → IsReading index text a → IsReading index text b → a ≡ b }
     ensures one_fault { (index text : List ℕ) (f g : Refusal) (k l : Option ℕ) →
         IsFault index text f k → IsFault index text g l → (f ≡ g) × (k ≡ l) }
+{
+}
+
+/// What a small database says that was worked by hand: the title `Gems`, no info, and three entries.
+///
+/// It does nothing. Its clause is the example, from the definitions alone.
+pub fn worked_edition()
+    ensures { IsReading worked_index worked_text worked_reading }
 {
 }
