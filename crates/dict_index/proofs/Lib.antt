@@ -10,3 +10,7 @@ pub mod TrimLemmas
 pub mod PassLemmas
 pub mod WholeLemmas
 pub mod MeaningLemmas
+pub mod LawLemmas
+pub mod DecideLemmas
+pub mod ChoiceLemmas
+pub mod WorkedLemmas

@@ -9,3 +9,4 @@ pub mod Cuts
 pub mod Order
 pub mod Gathered
 pub mod Refused
+pub mod Worked

@@ -1,0 +1,28 @@
+// What every index and every text mean.
+ghost use Rattle.std.specs.Prelude.{◌≡◌, ◌⊎◌, ℕ, List, Option};
+ghost use Rattle.dict_index.specs.Edition.{Reading};
+ghost use Rattle.dict_index.specs.Meaning.{IsReading, IsFault};
+ghost use Rattle.dict_index.specs.Worked.{worked_index, worked_text, worked_reading};
+ghost use Rattle.dict_index.specs.declared.fault.Refusal.{Refusal};
+
+/// Each index and each text mean exactly one thing: one edition, or one refusal with its line.
+///
+/// It does nothing. Its clauses are the law, of which `read_edition` finds out the side.
+pub fn one_meaning()
+    ensures some { (index text : List ℕ) → ((reading : Reading) × IsReading index text reading)
+        ⊎ ((refusal : Refusal) × (line : Option ℕ) × IsFault index text refusal line) }
+    ensures not_both { (index text : List ℕ) (reading : Reading) (refusal : Refusal) (line : Option ℕ) →
+        IsReading index text reading → IsFault index text refusal line → ⊥ }
+    ensures one_reading { (index text : List ℕ) (a b : Reading) → IsReading index text a → IsReading index text b → a ≡ b }
+    ensures one_fault { (index text : List ℕ) (f g : Refusal) (k l : Option ℕ) →
+        IsFault index text f k → IsFault index text g l → (f ≡ g) × (k ≡ l) }
+{
+}
+
+/// What a small database says that was worked by hand: the title `Gems`, no info, and three entries.
+///
+/// It does nothing. Its clause is the example, from the definitions alone.
+pub fn worked_edition()
+    ensures { IsReading worked_index worked_text worked_reading }
+{
+}
