@@ -1,0 +1,57 @@
+-- What contracts see of the values of this crate.
+use Rattle.std.specs.Prelude.{◌≡◌, ℕ, List, map, Option, None, Some, option_map, Result, Ok, Err, string_bytes, ⊤}
+use Rattle.std.specs.declared.string.String.{String}
+use Rattle.dict_index.specs.Edition.{Edition, edition_of}
+use Rattle.dict_catalogue.specs.Items.{Stored, Item as AnItem, regular, virtual}
+use Rattle.dict_catalogue.specs.Commands.{Command as ACommand, install, rollback, retire, put_virtual, place, command_as}
+use Rattle.dict_catalogue.specs.Tests.{Holdings, refusal_of}
+use Rattle.dict_catalogue.specs.Effects.{KeptReply, effect, reply_to, editions_gone}
+use Rattle.dict_catalogue.specs.declared.listing.StoredTitle.{StoredTitle}
+use Rattle.dict_catalogue.specs.declared.listing.Item.{Item}
+use Rattle.dict_catalogue.specs.declared.listing.Item.TheVariants.{Regular, Virtual}
+use Rattle.dict_catalogue.specs.declared.listing.Summary.{Summary}
+use Rattle.dict_catalogue.specs.declared.commands.Command.{Command}
+use Rattle.dict_catalogue.specs.declared.commands.Command.TheVariants.{Install, Rollback, Retire, PutVirtual, Place}
+use Rattle.dict_catalogue.specs.declared.reply.Kept.{Kept}
+use Rattle.dict_catalogue.specs.declared.planning.Change.{Change}
+use Rattle.dict_catalogue.specs.declared.fault.PlanFault.{PlanFault}
+use Rattle.dict_catalogue.specs.declared.fault.PlanFault.TheVariants.{Refused, Memory}
+
+-- an edition by its number and title
+abbrev pub stored_shown : StoredTitle → Stored (List ℕ)
+stored_shown stored = record { number = stored.number; content = string_bytes stored.title }
+
+abbrev pub item_shown : Item → AnItem (List ℕ)
+item_shown (Regular name current former) = regular (string_bytes name) (stored_shown current) (option_map stored_shown former)
+item_shown (Virtual name title members) = virtual (string_bytes name) (string_bytes title) (map string_bytes members.items)
+
+abbrev pub summary_shown : Summary → Holdings (List ℕ)
+summary_shown summary = record { items = map item_shown summary.items.items; installs = summary.installs; accepted = summary.accepted }
+
+-- the command with its whole edition
+abbrev pub command_meant : Command → ACommand Edition
+command_meant (Install name edition) = install name.now (edition_of edition.now)
+command_meant (Rollback name) = rollback name.now
+command_meant (Retire name) = retire name.now
+command_meant (PutVirtual name title members) = put_virtual name.now title.now (map (λ member. member.now) members.now)
+command_meant (Place name at) = place name.now at
+
+-- the command with its edition's title
+abbrev pub command_shown : Command → ACommand (List ℕ)
+command_shown command = command_as (λ edition. edition.title) (command_meant command)
+
+abbrev pub kept_shown : Kept → KeptReply
+kept_shown kept = record { number = kept.number; verb = kept.verb; name = string_bytes kept.name; edition = kept.edition }
+
+-- the change is what the command does to a summary: no test fails, the summary after it is that of its effect, the
+-- editions that go are those that were there before and are not after, and the reply is the one to be kept
+pub record IsChange (before : Holdings (List ℕ)) (command : ACommand (List ℕ)) (change : Change) : Type 0 where
+  pub accepted : refusal_of before command ≡ None
+  pub after : summary_shown change.summary ≡ effect command before
+  pub gone : change.gone.items ≡ editions_gone before.items (effect command before).items
+  pub kept : kept_shown change.kept ≡ reply_to command (effect command before)
+
+-- the refusal is that of the first test that fails. Want of memory says nothing of the command
+abbrev pub IsFaultOf : Holdings (List ℕ) → ACommand (List ℕ) → PlanFault → Type 0
+IsFaultOf before command (Refused refusal) = refusal_of before command ≡ Some refusal
+IsFaultOf before command Memory = ⊤
