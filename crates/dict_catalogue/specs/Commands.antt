@@ -5,15 +5,15 @@ use Rattle.dict_catalogue.specs.declared.reply.Verb.TheVariants.{Install, Rollba
 
 pub data Command (A : Type 0) : Type 0 where
   -- the edition becomes the current one of this name
-  pub install : List ℕ → A → Command A
+  install : List ℕ → A → Command A
   -- current and former edition are swapped
-  pub rollback : List ℕ → Command A
+  rollback : List ℕ → Command A
   -- the item is taken out
-  pub retire : List ℕ → Command A
+  retire : List ℕ → Command A
   -- a virtual item of this name, with a title and members
-  pub put_virtual : List ℕ → List ℕ → List (List ℕ) → Command A
+  put_virtual : List ℕ → List ℕ → List (List ℕ) → Command A
   -- the item is put at this place, from 0
-  pub place : List ℕ → ℕ → Command A
+  place : List ℕ → ℕ → Command A
 
 -- the name that the command is about
 abbrev pub target : {A : Type 0} → Command A → List ℕ

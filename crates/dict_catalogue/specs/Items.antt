@@ -11,8 +11,8 @@ pub record Stored (A : Type 0) : Type 0 where
 -- a regular item has a name, a current edition and perhaps a former one; a virtual item has a name, a title and
 -- members, which are names
 pub data Item (A : Type 0) : Type 0 where
-  pub regular : List ℕ → Stored A → Option (Stored A) → Item A
-  pub virtual : List ℕ → List ℕ → List (List ℕ) → Item A
+  regular : List ℕ → Stored A → Option (Stored A) → Item A
+  virtual : List ℕ → List ℕ → List (List ℕ) → Item A
 
 abbrev pub name_of : {A : Type 0} → Item A → List ℕ
 name_of (regular name current former) = name

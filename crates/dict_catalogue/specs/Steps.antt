@@ -41,8 +41,8 @@ kept_under [] id = None
 kept_under (one ∷ kept) id = if bytes_eq one.id id then Some one.reply else kept_under kept id
 
 pub data Reply : Type 0 where
-  pub accepted : KeptReply → Reply
-  pub refused : Refusal → Reply
+  accepted : KeptReply → Reply
+  refused : Refusal → Reply
 
 -- a reply, and the catalogue after it
 pub record Outcome : Type 0 where

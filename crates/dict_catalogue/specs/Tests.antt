@@ -48,34 +48,48 @@ member_tests items earlier (member ∷ later) =
     ∷ member_tests items (earlier ++ member ∷ []) later
 
 -- the tests of each command, in order
-abbrev pub tests_of : {A : Type 0} → Holdings A → Command A → List Test
-tests_of before (install name content) =
+abbrev pub install_tests : {A : Type 0} → Holdings A → List ℕ → List Test
+install_tests before name =
     wants (is_name name) BadName
     ∷ wants (not (names_virtual before.items name)) IsVirtual
     ∷ wants (has_room before name) CatalogueFull ∷ []
-tests_of before (rollback name) =
+
+abbrev pub rollback_tests : {A : Type 0} → Holdings A → List ℕ → List Test
+rollback_tests before name =
     wants (is_name name) BadName
     ∷ wants (is_known before.items name) Unknown
     ∷ wants (not (names_virtual before.items name)) IsVirtual
     ∷ wants (names_former before.items name) NoFormer
     ∷ wants (has_turn before) CatalogueFull ∷ []
-tests_of before (retire name) =
+
+abbrev pub retire_tests : {A : Type 0} → Holdings A → List ℕ → List Test
+retire_tests before name =
     wants (is_name name) BadName
     ∷ wants (is_known before.items name) Unknown
     ∷ wants (not (is_listed before.items name)) Listed
     ∷ wants (has_turn before) CatalogueFull ∷ []
-tests_of before (put_virtual name title members) =
-    (wants (is_name name) BadName
+
+abbrev pub put_virtual_tests : {A : Type 0} → Holdings A → List ℕ → List ℕ → List (List ℕ) → List Test
+put_virtual_tests before name title members =
+    wants (is_name name) BadName
     ∷ wants (not (names_regular before.items name)) IsRegular
     ∷ wants (is_title title) BadTitle
     ∷ wants (nat_le 1 (length members) && nat_le (length members) 64) MemberCount
-    ∷ member_tests before.items [] members)
-    ++ wants (has_room before name) CatalogueFull ∷ []
-tests_of before (place name at) =
+    ∷ (member_tests before.items [] members ++ wants (has_room before name) CatalogueFull ∷ [])
+
+abbrev pub place_tests : {A : Type 0} → Holdings A → List ℕ → ℕ → List Test
+place_tests before name at =
     wants (is_name name) BadName
     ∷ wants (is_known before.items name) Unknown
     ∷ wants (nat_lt at (length before.items)) BadPlace
     ∷ wants (has_turn before) CatalogueFull ∷ []
+
+abbrev pub tests_of : {A : Type 0} → Holdings A → Command A → List Test
+tests_of before (install name content) = install_tests before name
+tests_of before (rollback name) = rollback_tests before name
+tests_of before (retire name) = retire_tests before name
+tests_of before (put_virtual name title members) = put_virtual_tests before name title members
+tests_of before (place name at) = place_tests before name at
 
 -- why the command is refused, if it is
 abbrev pub refusal_of : {A : Type 0} → Holdings A → Command A → Option Refusal

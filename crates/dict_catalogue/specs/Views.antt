@@ -1,6 +1,6 @@
 -- What contracts see of the values of this crate.
-use Rattle.std.specs.Prelude.{◌≡◌, ℕ, List, map, Option, None, Some, option_map, Result, Ok, Err, string_bytes, ⊤}
-use Rattle.std.specs.declared.string.String.{String}
+use Rattle.std.specs.Prelude.{◌≡◌, ℕ, List, map, Option, None, Some, option_map, String, string_bytes, ⊤}
+use Rattle.std.specs.Borrow.{Bor}
 use Rattle.dict_index.specs.Edition.{Edition, edition_of}
 use Rattle.dict_catalogue.specs.Items.{Stored, Item as AnItem, regular, virtual}
 use Rattle.dict_catalogue.specs.Commands.{Command as ACommand, install, rollback, retire, put_virtual, place, command_as}
@@ -21,9 +21,16 @@ use Rattle.dict_catalogue.specs.declared.fault.PlanFault.TheVariants.{Refused, M
 abbrev pub stored_shown : StoredTitle → Stored (List ℕ)
 stored_shown stored = record { number = stored.number; content = string_bytes stored.title }
 
+-- texts by their octets
+abbrev pub texts_shown : {A : Type 0} → List (String A) → List (List ℕ)
+texts_shown texts = map string_bytes texts
+
+abbrev pub names_shown : List (Bor (List ℕ)) → List (List ℕ)
+names_shown names = map (λ name. name.now) names
+
 abbrev pub item_shown : Item → AnItem (List ℕ)
 item_shown (Regular name current former) = regular (string_bytes name) (stored_shown current) (option_map stored_shown former)
-item_shown (Virtual name title members) = virtual (string_bytes name) (string_bytes title) (map string_bytes members.items)
+item_shown (Virtual name title members) = virtual (string_bytes name) (string_bytes title) (texts_shown members.items)
 
 abbrev pub summary_shown : Summary → Holdings (List ℕ)
 summary_shown summary = record { items = map item_shown summary.items.items; installs = summary.installs; accepted = summary.accepted }
@@ -33,7 +40,7 @@ abbrev pub command_meant : Command → ACommand Edition
 command_meant (Install name edition) = install name.now (edition_of edition.now)
 command_meant (Rollback name) = rollback name.now
 command_meant (Retire name) = retire name.now
-command_meant (PutVirtual name title members) = put_virtual name.now title.now (map (λ member. member.now) members.now)
+command_meant (PutVirtual name title members) = put_virtual name.now title.now (names_shown members.now)
 command_meant (Place name at) = place name.now at
 
 -- the command with its edition's title

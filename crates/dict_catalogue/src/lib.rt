@@ -8,8 +8,10 @@
 mod commands;
 mod fault;
 mod listing;
+mod lookups;
 mod naming;
 mod planning;
+mod refusing;
 mod reply;
 
 pub use commands::Command;
