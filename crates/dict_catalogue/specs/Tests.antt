@@ -39,6 +39,10 @@ has_turn before = nat_lt before.accepted 9223372036854775807
 abbrev pub has_room : {A : Type 0} → Holdings A → List ℕ → Bool
 has_room before name = (is_known before.items name || nat_lt (length before.items) 64) && has_turn before
 
+-- 1 to 64 members
+abbrev pub has_member_count : List (List ℕ) → Bool
+has_member_count members = nat_le 1 (length members) && nat_le (length members) 64
+
 -- each member in order names a regular item, and no earlier member is equal
 abbrev pub member_tests : {A : Type 0} → List (Item A) → List (List ℕ) → List (List ℕ) → List Test
 member_tests items earlier [] = []
@@ -74,7 +78,7 @@ put_virtual_tests before name title members =
     wants (is_name name) BadName
     ∷ wants (not (names_regular before.items name)) IsRegular
     ∷ wants (is_title title) BadTitle
-    ∷ wants (nat_le 1 (length members) && nat_le (length members) 64) MemberCount
+    ∷ wants (has_member_count members) MemberCount
     ∷ (member_tests before.items [] members ++ wants (has_room before name) CatalogueFull ∷ [])
 
 abbrev pub place_tests : {A : Type 0} → Holdings A → List ℕ → ℕ → List Test

@@ -1,7 +1,7 @@
 // The tests that a command has to pass, in order.
 ghost use Rattle.std.specs.Prelude.{◌≡◌, ◌<◌, map, length, IfNone, take, List, ℕ, []};
 ghost use Rattle.dict_catalogue.specs.Items.{is_among};
-ghost use Rattle.dict_catalogue.specs.Tests.{has_turn, has_room, first_failing, member_tests, install_tests, rollback_tests, retire_tests, put_virtual_tests, place_tests, refusal_of};
+ghost use Rattle.dict_catalogue.specs.Tests.{has_turn, has_member_count, has_room, first_failing, member_tests, install_tests, rollback_tests, retire_tests, put_virtual_tests, place_tests, refusal_of};
 ghost use Rattle.dict_catalogue.specs.Views.{item_shown, summary_shown, names_shown, command_shown};
 
 use crate::commands::Command;
@@ -118,7 +118,7 @@ fn put_virtual_refusal(
     if !is_title(title) {
         return Some(Refusal::BadTitle);
     }
-    if members.is_empty() || members.len() > MAX_MEMBERS {
+    if !has_member_count(members) {
         return Some(Refusal::MemberCount);
     }
     if let Some(refusal) = member_refusal(&summary.items, members) {
@@ -128,6 +128,12 @@ fn put_virtual_refusal(
         return Some(Refusal::CatalogueFull);
     }
     None
+}
+
+fn has_member_count(members: &[&str]) -> bool
+    ensures { result ≡ has_member_count (names_shown members.now) }
+{
+    1 <= members.len() && members.len() <= MAX_MEMBERS
 }
 
 /// Each member in order has to name a regular item, and to be none of the earlier ones.
@@ -148,7 +154,12 @@ fn member_refusal(items: &[Item], members: &[&str]) -> Option<Refusal>
 fn is_among(names: &[&str], name: &str) -> bool
     ensures { result ≡ is_among (names_shown names.now) name.now }
 {
-    names.iter().any(|one| *one == name)
+    for one in names {
+        if *one == name {
+            return true;
+        }
+    }
+    false
 }
 
 fn place_refusal(summary: &Summary, name: &str, place: u64) -> Option<Refusal>
