@@ -6,6 +6,7 @@
 #![tactic(auto)]
 
 mod commands;
+mod copies;
 mod fault;
 mod listing;
 mod lookups;
