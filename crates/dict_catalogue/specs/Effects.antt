@@ -6,13 +6,29 @@ use Rattle.dict_catalogue.specs.Commands.{Command, install, rollback, retire, pu
 use Rattle.dict_catalogue.specs.Tests.{Holdings}
 use Rattle.dict_catalogue.specs.declared.reply.Verb.{Verb}
 
--- what an install, a rollback or a virtual item put anew makes of the item that it names: an installed edition
--- becomes current, the current one former, and an older former one is dropped
+-- an installed edition becomes current, the current one former, and an older former one is dropped
+abbrev pub installed : {A : Type 0} → Stored A → Item A → Item A
+installed edition (regular name current former) = regular name edition (Some current)
+installed edition (virtual name title members) = virtual name title members
+
+-- current and former edition are swapped
+abbrev pub swapped : {A : Type 0} → Item A → Item A
+swapped (regular name current (Some former)) = regular name former (Some current)
+swapped (regular name current None) = regular name current None
+swapped (virtual name title members) = virtual name title members
+
+-- a virtual item gets another title and other members
+abbrev pub put_anew : {A : Type 0} → List ℕ → List ℕ → List (List ℕ) → Item A → Item A
+put_anew name title members (regular old current former) = regular old current former
+put_anew name title members (virtual old old_title old_members) = virtual name title members
+
+-- what the command makes of the item that it names. The number is that of an installed edition
 abbrev pub changed : {A : Type 0} → ℕ → Command A → Item A → Item A
-changed number (install _ content) (regular name current former) = regular name (record { number = number; content = content }) (Some current)
-changed number (rollback _) (regular name current (Some former)) = regular name former (Some current)
-changed number (put_virtual name title members) (virtual _ _ _) = virtual name title members
-changed number command item = item
+changed number (install name content) item = installed (record { number = number; content = content }) item
+changed number (rollback name) item = swapped item
+changed number (retire name) item = item
+changed number (put_virtual name title members) item = put_anew name title members item
+changed number (place name at) item = item
 
 -- each item in its place, and the named one changed
 abbrev pub changed_in_place : {A : Type 0} → ℕ → Command A → List (Item A) → List (Item A)

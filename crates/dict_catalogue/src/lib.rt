@@ -7,6 +7,7 @@
 
 mod commands;
 mod copies;
+mod effects;
 mod fault;
 mod listing;
 mod lookups;
