@@ -50,13 +50,16 @@ command_shown command = command_as (λ edition. edition.title) (command_meant co
 abbrev pub kept_shown : Kept → KeptReply
 kept_shown kept = record { number = kept.number; verb = kept.verb; name = string_bytes kept.name; edition = kept.edition }
 
--- the change is what the command does to a summary: no test fails, the summary after it is that of its effect, the
--- editions that go are those that were there before and are not after, and the reply is the one to be kept
-pub record IsChange (before : Holdings (List ℕ)) (command : ACommand (List ℕ)) (change : Change) : Type 0 where
-  pub accepted : refusal_of before command ≡ None
+-- the change is what the command does to a summary: the summary after it is that of its effect, the editions that
+-- go are those that were there before and are not after, and the reply is the one to be kept
+pub record IsEffect (before : Holdings (List ℕ)) (command : ACommand (List ℕ)) (change : Change) : Type 0 where
   pub after : summary_shown change.summary ≡ effect command before
   pub gone : change.gone.items ≡ editions_gone before.items (effect command before).items
   pub kept : kept_shown change.kept ≡ reply_to command (effect command before)
+
+-- and none of the command's tests fails
+abbrev pub IsChange : Holdings (List ℕ) → ACommand (List ℕ) → Change → Type 0
+IsChange before command change = (refusal_of before command ≡ None) × IsEffect before command change
 
 -- the refusal is that of the first test that fails. Want of memory says nothing of the command
 abbrev pub IsFaultOf : Holdings (List ℕ) → ACommand (List ℕ) → PlanFault → Type 0

@@ -16,9 +16,13 @@ pub enum Command<'a> {
         edition: &'a Edition<'a>,
     },
     /// The current and the former edition are swapped.
-    Rollback { name: &'a str },
+    Rollback {
+        name: &'a str,
+    },
     /// The item is taken out, a regular one with its editions.
-    Retire { name: &'a str },
+    Retire {
+        name: &'a str,
+    },
     /// A virtual item is added last, or one that is there gets this title and these members.
     PutVirtual {
         name: &'a str,
@@ -26,7 +30,10 @@ pub enum Command<'a> {
         members: &'a [&'a str],
     },
     /// The item is taken out and put in at this place, from 0. The others keep their order.
-    Place { name: &'a str, place: u64 },
+    Place {
+        name: &'a str,
+        place: u64,
+    },
 }
 
 impl<'a> Command<'a> {

@@ -25,7 +25,11 @@ pub fn items_after(
             if is_known(items, name) {
                 changed_in_place(alloc, items, command, number)
             } else {
-                with_last(alloc, items, new_item(alloc, name, edition.title(), number)?)
+                with_last(
+                    alloc,
+                    items,
+                    new_item(alloc, name, edition.title(), number)?,
+                )
             }
         }
         Command::Rollback { .. } => changed_in_place(alloc, items, command, number),
@@ -75,12 +79,7 @@ fn virtual_item(
 }
 
 /// The item after an install: the edition is current, and the current one is former.
-fn installed(
-    alloc: Global,
-    item: &Item,
-    title: &str,
-    number: u64,
-) -> Result<Item, AllocError>
+fn installed(alloc: Global, item: &Item, title: &str, number: u64) -> Result<Item, AllocError>
     ensures { IfOk result (λ after. item_shown after ≡ installed (record { number = number; content = title.now }) (item_shown item.now)) }
 {
     match item {
@@ -131,12 +130,7 @@ fn put_anew(
 }
 
 /// What the command makes of the item that it names.
-fn changed(
-    alloc: Global,
-    item: &Item,
-    command: &Command,
-    number: u64,
-) -> Result<Item, AllocError>
+fn changed(alloc: Global, item: &Item, command: &Command, number: u64) -> Result<Item, AllocError>
     ensures { IfOk result (λ after. item_shown after ≡ changed number (command_shown command.now) (item_shown item.now)) }
 {
     match command {
