@@ -1,3 +1,4 @@
-pub mod ListLemmas
 pub mod TestLemmas
 pub mod MoveLemmas
+pub mod SummaryLemmas
+pub mod StepLemmas

@@ -1,10 +1,10 @@
 -- A catalogue, and what one command or a list of commands makes of it.
-use Rattle.std.specs.Prelude.{ℕ, Bool, true, false, List, [], ◌∷◌, ◌++◌, map, length, Option, Some, None, is_some, bytes_eq, if◌then◌else◌}
+use Rattle.std.specs.Prelude.{◌≡◌, IsTrue, ℕ, Bool, true, false, List, [], ◌∷◌, ◌++◌, map, length, Option, Some, None, is_some, bytes_eq, if◌then◌else◌}
 use Rattle.dict_index.specs.Edition.{Edition}
 use Rattle.dict_catalogue.specs.Names.{is_request_id}
 use Rattle.dict_catalogue.specs.Items.{Item}
 use Rattle.dict_catalogue.specs.Commands.{Command, command_as}
-use Rattle.dict_catalogue.specs.Tests.{Holdings, holdings_as, refusal_of}
+use Rattle.dict_catalogue.specs.Tests.{Test, wants, Holdings, holdings_as, tests_of, refusal_of}
 use Rattle.dict_catalogue.specs.Effects.{KeptReply, effect, reply_to}
 use Rattle.dict_catalogue.specs.declared.fault.Refusal.{Refusal}
 use Rattle.dict_catalogue.specs.declared.fault.Refusal.TheVariants.{BadRequestId}
@@ -71,6 +71,33 @@ step before id command =
     if is_request_id id
     then answered before id command (kept_under before.kept id)
     else record { reply = refused BadRequestId; catalogue = before }
+
+-- all of the tests are passed
+abbrev pub AllHold : List Test → Type 0
+AllHold [] = Unit {0}
+AllHold (test ∷ tests) = IsTrue test.holds × AllHold tests
+
+-- the first test that isn't passed has this refusal
+pub record FailsFirst (tests : List Test) (refusal : Refusal) : Type 0 where
+  pub front : List Test
+  pub back : List Test
+  pub split : tests ≡ front ++ wants false refusal ∷ back
+  pub holds : AllHold front
+
+-- the same by cases: the id is unlawful; it is kept; the first test of the command that fails has this refusal; none
+-- fails, and the effect is done and its reply kept under the id
+pub data IsStep (before : Catalogue) (id : List ℕ) (command : Command Edition) (outcome : Outcome) : Type 0 where
+  id_unlawful : is_request_id id ≡ false →
+      outcome ≡ record { reply = refused BadRequestId; catalogue = before } → IsStep before id command outcome
+  id_kept : (reply : KeptReply) → is_request_id id ≡ true → kept_under before.kept id ≡ Some reply →
+      outcome ≡ record { reply = accepted reply; catalogue = before } → IsStep before id command outcome
+  test_failed : (refusal : Refusal) → is_request_id id ≡ true → kept_under before.kept id ≡ None →
+      FailsFirst (tests_of (holdings before) command) refusal →
+      outcome ≡ record { reply = refused refusal; catalogue = before } → IsStep before id command outcome
+  none_failed : is_request_id id ≡ true → kept_under before.kept id ≡ None →
+      AllHold (tests_of (holdings before) command) →
+      outcome ≡ record { reply = accepted (reply_to command (effect command (holdings before))); catalogue = with_effect before id command } →
+      IsStep before id command outcome
 
 -- a command with the id of its request
 pub record Request : Type 0 where

@@ -9,6 +9,7 @@ mod commands;
 mod copies;
 mod effects;
 mod fault;
+mod laws;
 mod listing;
 mod lookups;
 mod naming;
@@ -18,6 +19,7 @@ mod reply;
 
 pub use commands::Command;
 pub use fault::{PlanFault, Refusal};
+pub use laws::{after_laws, step_law, summary_laws};
 pub use listing::{Item, StoredTitle, Summary};
 pub use naming::{is_name, is_request_id, is_title};
 pub use planning::Change;
