@@ -4,7 +4,8 @@ ghost use Rattle.dict_index.specs.Edition.{Edition};
 ghost use Rattle.dict_catalogue.specs.Commands.{Command};
 ghost use Rattle.dict_catalogue.specs.Tests.{refusal_of};
 ghost use Rattle.dict_catalogue.specs.Effects.{effect, reply_to, editions_gone};
-ghost use Rattle.dict_catalogue.specs.Steps.{Catalogue, holdings, Outcome, Request, summary_of, command_summary, with_effect, step, IsStep, after, acting};
+ghost use Rattle.dict_catalogue.specs.Steps.{Catalogue, holdings, Outcome, Request, summary_of, command_summary, with_effect, empty_catalogue, step, IsStep, after, acting};
+ghost use Rattle.dict_catalogue.specs.WellFormed.{IsLawfulCommand, IsWellFormed};
 
 /// A command over a catalogue's summary does what it does over the catalogue: it is refused for the same test, the
 /// summary after its effect is that of the catalogue after it, the same editions go, and the reply is the same.
@@ -27,4 +28,11 @@ pub fn after_laws()
     ensures same { (M : Catalogue) (requests : List Request) → after M (acting M requests) ≡ after M requests }
     ensures again { (M : Catalogue) (requests : List Request) → acting M (acting M requests) ≡ acting M requests }
     ensures once { (M : Catalogue) (requests : List Request) → map (λ one. one.id) (after M requests).kept ≡ map (λ one. one.id) M.kept ++ map (λ request. request.id) (acting M requests) }
+{}
+
+/// The empty catalogue is well formed, and a well formed catalogue stays so under every command whose edition, where
+/// it has one, is that of some index and some text.
+pub fn well_formed_laws()
+    ensures empty { IsWellFormed empty_catalogue }
+    ensures step { (M : Catalogue) (id : List ℕ) (command : Command Edition) → IsLawfulCommand command → IsWellFormed M → IsWellFormed (step M id command).catalogue }
 {}

@@ -19,7 +19,7 @@ mod reply;
 
 pub use commands::Command;
 pub use fault::{PlanFault, Refusal};
-pub use laws::{after_laws, step_law, summary_laws};
+pub use laws::{after_laws, step_law, summary_laws, well_formed_laws};
 pub use listing::{Item, StoredTitle, Summary};
 pub use naming::{is_name, is_request_id, is_title};
 pub use planning::Change;
