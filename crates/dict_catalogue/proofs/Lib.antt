@@ -6,3 +6,4 @@ pub mod ListLemmas
 pub mod ItemLemmas
 pub mod CountLemmas
 pub mod WellFormedLemmas
+pub mod PlanLemmas

@@ -8,6 +8,8 @@ use Rattle.dict_catalogue.specs.Names.{is_name, is_title}
 use Rattle.dict_catalogue.specs.Items.{Stored, Item, regular, virtual, name_of, is_regular, is_virtual, has_former, is_named, lists, is_known, names_regular, names_virtual, names_former, is_listed, is_among, current_of, current_number, editions_of, numbers_of, edition_numbers, stored_as, item_as}
 use Rattle.dict_catalogue.specs.Commands.{Command, install, rollback, retire, put_virtual, place, target, command_as}
 use Rattle.dict_catalogue.specs.Tests.{Test, wants, Holdings, holdings_as, member_tests, has_turn, has_room, has_member_count, install_tests, rollback_tests, retire_tests, put_virtual_tests, place_tests, tests_of, refusal_of, first_failing}
+use Rattle.dict_index.specs.Edition.{Edition}
+use Rattle.dict_catalogue.specs.Steps.{Catalogue, holdings, summary_of, command_summary, with_effect}
 use Rattle.dict_catalogue.specs.declared.fault.Refusal.TheVariants.{BadName, Unknown, IsVirtual, NoFormer, Listed, CatalogueFull, BadMember, MemberTwice, MemberCount, BadTitle, BadPlace, IsRegular}
 use Rattle.dict_catalogue.specs.declared.reply.Verb.TheVariants.{Install, Rollback}
 use Rattle.dict_catalogue.specs.Effects.{installed, swapped, put_anew, changed, changed_in_place, others_than, moved, items_after, installs_after, effect, KeptReply, edition_told, reply_to, editions_gone}
@@ -238,3 +240,13 @@ editions_gone_as {A} {B} f command before =
 -- one more kept reply
 pub length_push : {X : Type 0} (xs : List X) (x : X) → length xs + 1 ≡ length (xs ++ x ∷ [])
 length_push xs x = sym (length-append xs (x ∷ []))
+
+-- a catalogue's summary after an effect
+pub effect_with : (M : Catalogue) (id : List ℕ) (command : Command Edition) → effect (command_summary command) (summary_of M) ≡ summary_of (with_effect M id command)
+effect_with M id command =
+    effect_as (λ edition. edition.title) command (holdings M)
+    ∙ (λ i. record {
+      items = map (item_as (λ edition. edition.title)) (items_after (M.installs + 1) command M.items);
+      installs = installs_after command M.installs;
+      accepted = length_push M.kept (record { id = id; reply = reply_to command (effect command (holdings M)) }) i;
+    })

@@ -1,11 +1,12 @@
 -- What contracts see of the values of this crate.
-use Rattle.std.specs.Prelude.{◌≡◌, ℕ, List, map, Option, None, Some, option_map, String, string_bytes, ⊤}
+use Rattle.std.specs.Prelude.{◌≡◌, ℕ, List, map, Option, None, Some, option_map, String, string_bytes, Result, MatchResult, ⊤}
 use Rattle.std.specs.Borrow.{Bor}
 use Rattle.dict_index.specs.Edition.{Edition, edition_of}
 use Rattle.dict_catalogue.specs.Items.{Stored, Item as AnItem, regular, virtual}
 use Rattle.dict_catalogue.specs.Commands.{Command as ACommand, install, rollback, retire, put_virtual, place, command_as}
 use Rattle.dict_catalogue.specs.Tests.{Holdings, refusal_of}
 use Rattle.dict_catalogue.specs.Effects.{KeptReply, effect, reply_to, editions_gone}
+use Rattle.dict_catalogue.specs.Steps.{Catalogue, Outcome, accepted, refused, summary_of}
 use Rattle.dict_catalogue.specs.declared.listing.StoredTitle.{StoredTitle}
 use Rattle.dict_catalogue.specs.declared.listing.Item.{Item}
 use Rattle.dict_catalogue.specs.declared.listing.Item.TheVariants.{Regular, Virtual}
@@ -34,6 +35,11 @@ item_shown (Virtual name title members) = virtual (string_bytes name) (string_by
 
 abbrev pub summary_shown : Summary → Holdings (List ℕ)
 summary_shown summary = record { items = map item_shown summary.items.items; installs = summary.installs; accepted = summary.accepted }
+
+-- an item's title: of a database, its current edition's
+abbrev pub title_of : AnItem (List ℕ) → List ℕ
+title_of (regular name current former) = current.content
+title_of (virtual name title members) = title
 
 -- the command with its whole edition
 abbrev pub command_meant : Command → ACommand Edition
@@ -65,3 +71,18 @@ IsChange before command change = (refusal_of before command ≡ None) × IsEffec
 abbrev pub IsFaultOf : Holdings (List ℕ) → ACommand (List ℕ) → PlanFault → Type 0
 IsFaultOf before command (Refused refusal) = refusal_of before command ≡ Some refusal
 IsFaultOf before command Memory = ⊤
+
+-- the change is what the command did to a catalogue, of which this is the outcome: the same reply, the summary of the
+-- catalogue after, and the editions that stood before and don't stand after
+pub record IsChangeOf (before : Catalogue) (outcome : Outcome) (change : Change) : Type 0 where
+  pub reply : outcome.reply ≡ accepted (kept_shown change.kept)
+  pub summary : summary_shown change.summary ≡ summary_of outcome.catalogue
+  pub gone : change.gone.items ≡ editions_gone before.items outcome.catalogue.items
+
+-- the refusal is the outcome's, and the catalogue is the one before
+abbrev pub IsFaultFor : Catalogue → Outcome → PlanFault → Type 0
+IsFaultFor before outcome (Refused refusal) = outcome ≡ record { reply = refused refusal; catalogue = before }
+IsFaultFor before outcome Memory = ⊤
+
+abbrev pub IsPlanOf : Catalogue → Outcome → Result Change PlanFault → Type 0
+IsPlanOf before outcome result = MatchResult result (IsChangeOf before outcome) (IsFaultFor before outcome)

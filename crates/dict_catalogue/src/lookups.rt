@@ -1,25 +1,15 @@
 // What the items of a summary say of a name.
 ghost use Rattle.std.specs.Prelude.{◌≡◌, map, length};
-ghost use Rattle.dict_catalogue.specs.Items.{name_of, is_regular, is_virtual, has_former, members_of, is_named, is_among, lists, is_known, names_regular, names_virtual, names_former, is_listed, current_of, current_number};
+ghost use Rattle.dict_catalogue.specs.Items.{is_regular, is_virtual, has_former, members_of, is_named, is_among, lists, is_known, names_regular, names_virtual, names_former, is_listed, current_of, current_number};
 ghost use Rattle.dict_catalogue.specs.Views.{item_shown, texts_shown};
 
 use crate::listing::Item;
-
-/// The item's name.
-fn name_of(item: &Item) -> &str
-    ensures { result.now ≡ name_of (item_shown item.now) }
-{
-    match item {
-        Item::Regular { name, .. } => name.as_str(),
-        Item::Virtual { name, .. } => name.as_str(),
-    }
-}
 
 /// Whether the item has this name.
 pub fn is_named(item: &Item, name: &str) -> bool
     ensures { result ≡ is_named name.now (item_shown item.now) }
 {
-    name_of(item) == name
+    item.name() == name
 }
 
 fn is_regular(item: &Item) -> bool
