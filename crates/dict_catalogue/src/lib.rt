@@ -22,5 +22,8 @@ pub use fault::{PlanFault, Refusal};
 pub use laws::{after_laws, step_law, summary_laws, well_formed_laws};
 pub use listing::{Item, StoredTitle, Summary};
 pub use naming::{is_name, is_request_id, is_title};
-pub use planning::Change;
+pub use planning::{Change, plan};
 pub use reply::{Kept, Verb};
+
+#[cfg(test)]
+mod tests;
