@@ -1,0 +1,122 @@
+// Why a command is refused.
+ghost use Rattle.std.specs.Prelude.{◌≡◌};
+ghost use Rattle.dict_catalogue.specs.Refusals.{refusal_number, refusal_name};
+
+use std::alloc::{AllocError, AllocFailed};
+use thiserror::Error;
+
+/// The test of a command that failed.
+#[derive(Clone, Copy, Debug, PartialEq, Eq)]
+pub enum Refusal {
+    /// The name isn't 1 to 32 of `a-z 0-9 _ -` beginning with `a-z`.
+    BadName,
+    /// No item has the name.
+    Unknown,
+    /// The item is virtual.
+    IsVirtual,
+    /// The item has no former edition.
+    NoFormer,
+    /// A virtual item lists the name.
+    Listed,
+    /// The name is a new one where 64 items stand, or 9,223,372,036,854,775,807 commands were accepted.
+    CatalogueFull,
+    /// No regular item has the member's name.
+    BadMember,
+    /// An earlier member is equal.
+    MemberTwice,
+    /// There aren't 1 to 64 members.
+    MemberCount,
+    /// The title isn't 1 to 200 octets, or has a control character, or a blank at an end.
+    BadTitle,
+    /// The place is not below the number of items.
+    BadPlace,
+    /// The request's id isn't 1 to 64 of `A-Z a-z 0-9 -`.
+    BadRequestId,
+    /// The item is regular, and was to be put as a virtual one.
+    IsRegular,
+}
+
+impl Refusal {
+    /// The refusal's number, as users see it: 20 to 32.
+    pub fn number(self) -> u8
+        ensures { result ≡ refusal_number self }
+    {
+        match self {
+            Refusal::BadName => 20,
+            Refusal::Unknown => 21,
+            Refusal::IsVirtual => 22,
+            Refusal::NoFormer => 23,
+            Refusal::Listed => 24,
+            Refusal::CatalogueFull => 25,
+            Refusal::BadMember => 26,
+            Refusal::MemberTwice => 27,
+            Refusal::MemberCount => 28,
+            Refusal::BadTitle => 29,
+            Refusal::BadPlace => 30,
+            Refusal::BadRequestId => 31,
+            Refusal::IsRegular => 32,
+        }
+    }
+
+    /// The refusal's name, as users see it.
+    pub fn name(self) -> &'static str
+        ensures { result.now ≡ refusal_name self }
+    {
+        match self {
+            Refusal::BadName => "BadName",
+            Refusal::Unknown => "Unknown",
+            Refusal::IsVirtual => "IsVirtual",
+            Refusal::NoFormer => "NoFormer",
+            Refusal::Listed => "Listed",
+            Refusal::CatalogueFull => "CatalogueFull",
+            Refusal::BadMember => "BadMember",
+            Refusal::MemberTwice => "MemberTwice",
+            Refusal::MemberCount => "MemberCount",
+            Refusal::BadTitle => "BadTitle",
+            Refusal::BadPlace => "BadPlace",
+            Refusal::BadRequestId => "BadRequestId",
+            Refusal::IsRegular => "IsRegular",
+        }
+    }
+}
+
+/// Why there is no plan for a command.
+#[derive(Clone, Copy, Debug, PartialEq, Eq, Error)]
+pub enum PlanFault {
+    /// The first of the command's tests that failed.
+    #[error("the command is refused")]
+    Refused(Refusal),
+    /// A growth was refused.
+    #[error("out of memory")]
+    Memory,
+}
+
+impl From<AllocError> for PlanFault {
+    ghost use Rattle.dict_catalogue.specs.declared.fault.PlanFault.TheVariants.{Memory};
+
+    ghost from_gives = { λ _ fault. fault ≡ Memory };
+
+    fn from(_: AllocError) -> Self {
+        PlanFault::Memory
+    }
+}
+
+impl<T: Drop> From<AllocFailed<T>> for PlanFault {
+    ghost use Rattle.dict_catalogue.specs.declared.fault.PlanFault.TheVariants.{Memory};
+
+    ghost from_gives = { λ _ fault. fault ≡ Memory };
+
+    fn from(_: AllocFailed<T>) -> Self {
+        PlanFault::Memory
+    }
+}
+
+impl From<Refusal> for PlanFault {
+    ghost use Rattle.dict_catalogue.specs.declared.fault.PlanFault.TheVariants.{Refused};
+
+    ghost from_gives = { λ refusal fault. fault ≡ Refused refusal };
+
+    fn from(refusal: Refusal) -> Self {
+        PlanFault::Refused(refusal)
+    }
+}

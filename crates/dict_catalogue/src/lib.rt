@@ -1,0 +1,29 @@
+//! The rules of the catalogue: what a command does, or why it is refused.
+//!
+//! A catalogue is a list of items in order: databases, each with a current edition and perhaps a former one, and
+//! virtual databases, which list names of databases. Commands install editions, take them back, retire items, and
+//! put and place virtual ones. This crate decides them over a catalogue's summary, without any store.
+#![tactic(auto)]
+
+mod commands;
+mod copies;
+mod effects;
+mod fault;
+mod laws;
+mod listing;
+mod lookups;
+mod naming;
+mod planning;
+mod refusing;
+mod reply;
+
+pub use commands::Command;
+pub use fault::{PlanFault, Refusal};
+pub use laws::{after_laws, step_law, summary_laws, well_formed_laws};
+pub use listing::{Item, StoredTitle, Summary};
+pub use naming::{is_name, is_request_id, is_title};
+pub use planning::{Change, plan};
+pub use reply::{Kept, Verb};
+
+#[cfg(test)]
+mod tests;
