@@ -1,0 +1,5 @@
+pub mod InsertLemmas
+pub mod TextLemmas
+pub mod InsertTexts
+pub mod StateLemmas
+pub mod AddLemmas

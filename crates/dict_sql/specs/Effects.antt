@@ -1,0 +1,56 @@
+-- What a statement does to the rows of a table.
+use Rattle.std.specs.Prelude.{◌≡◌, ◌≢◌, ◌⊎◌, ⊤, IsTrue, ℕ, ℤ, ◌^◌, ◌==◌, nat_lt, List, [], ◌∷◌, map, find, Option, Some, true, slice_get, option_map, option_and_then, unwrap_or, IsPermutation, length}
+use Rattle.std.specs.List.{AllByRecursion, range_with_len}
+use Rattle.sqlite.specs.Effect.{Database, IsDatabase}
+use Rattle.sqlite.specs.declared.types.Value.TheVariants.{Int}
+use Rattle.sqlite.specs.Order.{Row, column}
+use Rattle.sqlite.specs.State.{State, Shows, KeepsCommit, IsUnchanged, IsRolledBack, HasCause, store_error}
+use Rattle.sqlite.specs.declared.error.Error.{Error}
+use Rattle.sqlite_trees.specs.declared.error.StoreError.{StoreError}
+use Rattle.sqlite.specs.Table.{Table}
+use Rattle.sqlite.specs.Schema.{Schema}
+use Rattle.sqlite_schema.specs.Names.{table_named, place_of}
+
+-- The schema has the table at this place of its list, alone in its tree. A caller tests it over the schema that it finds.
+pub record HasTable (schema : Schema) (at : ℕ) (table : Table) : Type 0 where
+  pub named : table_named schema table.name ≡ Some at
+  pub is : slice_get schema.tables at ≡ Some table
+  pub alone : find (λ t. t.tree == table.tree) schema.tables ≡ Some table
+  pub stored : nat_lt table.tree (2 ^ 31) ≡ true
+
+-- the database has the table, in some tree
+abbrev pub Has : (ℕ → Table) → Database → Type 0
+Has table db = (at : ℕ) × (tree : ℕ) × HasTable db.schema at (table tree)
+
+-- the rowid of a stored row, and then its columns as they were declared
+abbrev pub shown : Table → Row → Row
+shown table row = column row 0 ∷ map (λ at. column row (place_of table at)) (range_with_len 0 (length table.columns))
+
+abbrev pub table_in : List ℕ → Database → Option Table
+table_in name db = option_and_then (slice_get db.schema.tables) (table_named db.schema name)
+
+-- the rows of a table, each after its rowid, in no order that counts
+abbrev pub rows_of : List ℕ → Database → List Row
+rows_of name db = unwrap_or (option_map (λ t. map (shown t) (db.trees t.tree)) (table_in name db)) []
+
+-- The table is the only one that may have changed.
+abbrev pub SameOthers : List ℕ → Database → Database → Type 0
+SameOthers name old new = (table : Table) → table_in name old ≡ Some table → AllByRecursion (λ t. t.tree ≢ table.tree → new.trees t.tree ≡ old.trees t.tree) old.schema.tables
+
+-- one row more in one table, under a rowid that was free, and nothing else has changed
+pub record IsAdded (name : List ℕ) (row : Row) (old new : Database) : Type 0 where
+  pub schema : new.schema ≡ old.schema
+  pub id : ℤ
+  pub free : AllByRecursion (λ r. column r 0 ≢ Int id) (rows_of name old)
+  pub rows : IsPermutation ((Int id ∷ row) ∷ rows_of name old) (rows_of name new)
+  pub others : SameOthers name old new
+  pub sound : IsDatabase new
+
+-- A statement of a transaction failed: nothing was committed, and it changed nothing or the transaction was undone, for want of memory or by a fault of the store.
+pub record FailsIn (old new : State) (e : Error) : Type 0 where
+  pub keeps : KeepsCommit old new
+  pub cause : IsTrue old.in_transaction → IsUnchanged old new ⊎ ((why : StoreError) × (e ≡ store_error why) × HasCause old new ⊤ why × IsRolledBack old new)
+
+-- A statement of a transaction succeeded: it sees what it wrote, and nothing was committed.
+abbrev pub GoesOn : State → State → Type 0
+GoesOn old new = Shows old new new.now old.committed true

@@ -1,0 +1,4 @@
+//! The statements of the store: what each SQL text does to the tables.
+#![tactic(auto)]
+
+pub mod insert;
