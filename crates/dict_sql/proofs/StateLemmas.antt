@@ -10,7 +10,7 @@ use Rattle.sqlite.specs.Clock.{timed}
 use Rattle.sqlite_trees.specs.declared.error.StoreError.{StoreError}
 use Rattle.sqlite_trees.specs.declared.error.StoreError.TheVariants as why
 use Rattle.sqlite_resolve.specs.declared.compiled.Compiled.{Compiled}
-use Rattle.dict_sql.specs.Effects.{FailsIn, GoesOn}
+use Rattle.dict_sql.specs.Effects.{Stops, FailsIn, GoesOn}
 
 pub inside : {A : Type 0} (text : List ℕ) (params : Row) (old new : State) (result : Result ℕ Error) → ((count : ℕ) → Executes text params old new (Ok count) → A) → (old.in_transaction ≡ false → result ≡ Err (SqliteFailure code.TransactionState))
     → (IsTrue old.in_transaction → ExecutesInside 0 text params old new result) → OnOk result (A × GoesOn old new)
@@ -32,9 +32,6 @@ fails_inside old new sql params e (inl h) = elim h.1 [ inl same ↦ same_commit 
 fails_inside old new sql params e (inr h) = same_commit old new h.2
 
 module _ (old new : State) (e : Error) where
-  abbrev Stopped : Type 0
-  Stopped = IsUnchanged old new ⊎ ((cause : StoreError) × (e ≡ store_error cause) × HasCause old new (Unit {0}) cause × IsRolledBack old new)
-
   eased : (P : Type 0) (cause : StoreError) → HasCause old new P cause → HasCause old new (Unit {0}) cause
   eased P why.OutOfMemory h = tt
   eased P why.Io h = h
@@ -43,19 +40,19 @@ module _ (old new : State) (e : Error) where
   eased P why.Broken h = h
   eased P why.Unstorable h = tt
 
-  failed : (P : Type 0) → Fails old new P e → Stopped
+  failed : (P : Type 0) → Fails old new P e → Stops old new e
   failed P f = inr (f.0, f.1, eased P f.0 f.2, f.3)
 
-  not_run : (sql : List ℕ) (params : Row) → IsNotRun old new sql params e → Stopped
+  not_run : (sql : List ℕ) (params : Row) → IsNotRun old new sql params e → Stops old new e
   unfolding IsNotRun
   not_run sql params (inl h) = inl h.1
   not_run sql params (inr f) = failed _ f
 
-  commanded : (sql : List ℕ) (c : Compiled) (params : Row) → RunsCommand old new sql c params (Err e) → Stopped
+  commanded : (sql : List ℕ) (c : Compiled) (params : Row) → RunsCommand old new sql c params (Err e) → Stops old new e
   commanded sql c params (inl h) = inl h.1
   commanded sql c params (inr f) = failed _ f
 
-  stopped : (sql : List ℕ) (params : Row) → Executes sql params old new (Err e) → Stopped
+  stopped : (sql : List ℕ) (params : Row) → Executes sql params old new (Err e) → Stops old new e
   unfolding ExecutesIn
   stopped sql params (inl h) = not_run sql params h
   stopped sql params (inr h) = elim (cases_Bool (shows_rows false h.0)) [
@@ -63,7 +60,7 @@ module _ (old new : State) (e : Error) where
     | inr runs ↦ commanded sql h.0 (timed params h.0.formats h.1.now) (rw runs at h.2)
   ]
 
-  stops_inside : (sql : List ℕ) (params : Row) → ExecutesInside 0 sql params old new (Err e) → Stopped
+  stops_inside : (sql : List ℕ) (params : Row) → ExecutesInside 0 sql params old new (Err e) → Stops old new e
   stops_inside sql params (inl h) = stopped sql params h.0
   stops_inside sql params (inr h) = inl h.2
 

@@ -1,5 +1,5 @@
 -- What a statement does to the rows of a table.
-use Rattle.std.specs.Prelude.{◌≡◌, ◌≢◌, ◌⊎◌, ⊤, IsTrue, ℕ, ℤ, ◌^◌, ◌==◌, nat_lt, List, [], ◌∷◌, map, find, Option, Some, true, slice_get, option_map, option_and_then, unwrap_or, IsPermutation, length}
+use Rattle.std.specs.Prelude.{◌<◌, ◌≡◌, ◌≢◌, ◌⊎◌, ⊤, IsTrue, ℕ, ℤ, ◌^◌, ◌==◌, nat_lt, List, [], ◌∷◌, map, find, Option, Some, true, slice_get, option_map, option_and_then, unwrap_or, IsPermutation, length}
 use Rattle.std.specs.List.{AllByRecursion, range_with_len}
 use Rattle.sqlite.specs.Effect.{Database, IsDatabase}
 use Rattle.sqlite.specs.declared.types.Value.TheVariants.{Int}
@@ -16,7 +16,7 @@ pub record HasTable (schema : Schema) (at : ℕ) (table : Table) : Type 0 where
   pub named : table_named schema table.name ≡ Some at
   pub is : slice_get schema.tables at ≡ Some table
   pub alone : find (λ t. t.tree == table.tree) schema.tables ≡ Some table
-  pub stored : nat_lt table.tree (2 ^ 31) ≡ true
+  pub stored : table.tree < 2 ^ 31
 
 -- the database has the table, in some tree
 abbrev pub Has : (ℕ → Table) → Database → Type 0
@@ -46,10 +46,14 @@ pub record IsAdded (name : List ℕ) (row : Row) (old new : Database) : Type 0 w
   pub others : SameOthers name old new
   pub sound : IsDatabase new
 
--- A statement of a transaction failed: nothing was committed, and it changed nothing or the transaction was undone, for want of memory or by a fault of the store.
+-- A statement changed nothing, or its transaction was undone, for want of memory or by a fault of the store.
+abbrev pub Stops : State → State → Error → Type 0
+Stops old new e = IsUnchanged old new ⊎ ((why : StoreError) × (e ≡ store_error why) × HasCause old new ⊤ why × IsRolledBack old new)
+
+-- A statement of a transaction failed: nothing was committed.
 pub record FailsIn (old new : State) (e : Error) : Type 0 where
   pub keeps : KeepsCommit old new
-  pub cause : IsTrue old.in_transaction → IsUnchanged old new ⊎ ((why : StoreError) × (e ≡ store_error why) × HasCause old new ⊤ why × IsRolledBack old new)
+  pub cause : IsTrue old.in_transaction → Stops old new e
 
 -- A statement of a transaction succeeded: it sees what it wrote, and nothing was committed.
 abbrev pub GoesOn : State → State → Type 0

@@ -1,3 +1,4 @@
 pub mod Tables
 pub mod Records
 pub mod Effects
+pub mod Reads
