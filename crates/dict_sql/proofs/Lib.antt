@@ -6,3 +6,4 @@ pub mod AddLemmas
 pub mod ReadLemmas
 pub mod ListLemmas
 pub mod ReadTexts
+pub mod ListingLemmas

@@ -298,3 +298,8 @@ module _ (schema : Schema) (at : ℕ) (table : Table) (has : HasTable schema at 
           pub text_is : (text : List ℕ) (p : Parsed) → first text ≡ Ok p → p.statement ≡ written.Select select → p.formats ≡ [] → understood schema text ≡ Ok (with_command p ([], (Select' program names, None)))
           unfolding compiled understood
           text_is text p parsed statement formats = rw (parsed, planned_is p statement formats) refl
+
+          -- the text reads no list of the schema
+          pub listing_is : (text : List ℕ) (p : Parsed) → first text ≡ Ok p → p.statement ≡ written.Select select → p.formats ≡ [] → reads_listing schema text ≡ false
+          unfolding compiled
+          listing_is text p parsed statement formats = rw (parsed, planned_is p statement formats) refl

@@ -51,7 +51,7 @@ pub record ReadsTable (text : List ℕ) (p : Parsed) (table : ℕ → Table) (so
   pub shows : (at tree : ℕ) (r : Row) → eval_all (query_over at (table tree) [] order).project ([] ∷ r ∷ []) ≡ shown (table tree) r
   pub keyed : (tree : ℕ) (r : Row) → eval_all (map (λ (k : Term × Key). k.0) order) ([] ∷ r ∷ []) ≡ map (column (shown (table tree) r)) columns
   pub compares : (a b : Row) → key_cmp 0 (map (λ (k : Term × Key). k.1) order) (map (column a) columns) (map (column b) columns) ≡ by_columns columns a b
-  pub accepted : (schema : Schema) (at tree : ℕ) → find (λ t. t.tree == tree) schema.tables ≡ Some (table tree) → nat_le (2 ^ 31) tree ≡ false → accepts_program schema [] (query_over at (table tree) [] order) [] ≡ true
+  pub accepted : (schema : Schema) (at tree : ℕ) → find (λ t. t.tree == (table tree).tree) schema.tables ≡ Some (table tree) → nat_le (2 ^ 31) (table tree).tree ≡ false → accepts_program schema [] (query_over at (table tree) [] order) [] ≡ true
 
 
 unfoldable pub read_mark : Parsed

@@ -2,3 +2,4 @@
 #![tactic(auto)]
 
 pub mod insert;
+pub mod read;
