@@ -7,3 +7,4 @@ pub mod ReadLemmas
 pub mod ListLemmas
 pub mod ReadTexts
 pub mod ListingLemmas
+pub mod RowLemmas

@@ -2,3 +2,4 @@ pub mod Tables
 pub mod Records
 pub mod Effects
 pub mod Reads
+pub mod Stored
