@@ -1,4 +1,4 @@
-use Rattle.std.proofs.Common.{ℕ, [], ◌∷◌, refl, arith}
+use Rattle.std.proofs.Common.{refl, arith}
 use Rattle.sqlite.specs.Held.{state}
 use Rattle.dict_sql.specs.Tables.{item}
 use Rattle.dict_sql.specs.Reads.{select_item}
