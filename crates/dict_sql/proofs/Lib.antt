@@ -7,4 +7,8 @@ pub mod ReadLemmas
 pub mod ListLemmas
 pub mod ReadTexts
 pub mod ListingLemmas
+pub mod DeleteLemmas
 pub mod RowLemmas
+pub mod RemoveLemmas
+pub mod DeleteEffects
+pub mod DeleteTexts

@@ -21,10 +21,10 @@ overlaid true t rows = refl
 overlaid false t rows = refl
 
 module _ (params : Row) (tests : List Term) where
-  abbrev env_of : Row → Env
+  abbrev pub env_of : Row → Env
   env_of r = params ∷ r ∷ []
 
-  abbrev passes : Row → Bool
+  abbrev pub passes : Row → Bool
   passes r = list_all (holds (env_of r)) tests
 
   matched : (rows : List Row) → flat_map (λ r. cond (passes r) (env_of r ∷ []) []) rows ≡ map env_of (filter passes rows)

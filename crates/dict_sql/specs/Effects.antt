@@ -1,22 +1,30 @@
 -- What a statement does to the rows of a table.
-use Rattle.std.specs.Prelude.{◌<◌, ◌≡◌, ◌≢◌, ◌⊎◌, ⊤, IsTrue, ℕ, ℤ, ◌^◌, ◌==◌, nat_lt, List, [], ◌∷◌, map, find, Option, Some, true, slice_get, option_map, option_and_then, unwrap_or, IsPermutation, length}
-use Rattle.std.specs.List.{AllByRecursion, range_with_len}
+use Rattle.std.specs.Prelude.{Bool, true, false, None, not, filter, pos, ◌<◌, ◌≡◌, ◌≢◌, ◌⊎◌, ⊤, IsTrue, ℕ, ℤ, ◌^◌, ◌==◌, nat_lt, List, [], ◌∷◌, map, find, Option, Some, slice_get, option_map, option_and_then, unwrap_or, IsPermutation, length}
+use Rattle.std.specs.List.{AllByRecursion, IsDistinct, range_with_len}
+use Rattle.std.specs.Ordering.{is_eq}
+use Rattle.sqlite_schema.specs.declared.schema.Reference.{Reference}
+use Rattle.sqlite.specs.declared.types.Value.{Value}
 use Rattle.sqlite.specs.Effect.{Database, IsDatabase}
 use Rattle.sqlite.specs.declared.types.Value.TheVariants.{Int}
-use Rattle.sqlite.specs.Order.{Row, column}
+use Rattle.sqlite.specs.Order.{Row, column, value_cmp}
 use Rattle.sqlite.specs.State.{State, Shows, KeepsCommit, IsUnchanged, IsRolledBack, HasCause, store_error}
 use Rattle.sqlite.specs.declared.error.Error.{Error}
 use Rattle.sqlite_trees.specs.declared.error.StoreError.{StoreError}
 use Rattle.sqlite.specs.Table.{Table}
 use Rattle.sqlite.specs.Schema.{Schema}
-use Rattle.sqlite_schema.specs.Names.{table_named, place_of}
+use Rattle.sqlite_schema.specs.Names.{table_named, place_of, same_name}
 
--- The schema has the table at this place of its list, alone in its tree. A caller tests it over the schema that it finds.
+abbrev pub is_in : ℕ → Option Table → Bool
+is_in tree None = false
+is_in tree (Some t) = t.tree == tree
+
+-- The schema has the table at this place of its list, the first in its tree, and no foreign key refers to it. A caller tests it over the schema that it finds.
 pub record HasTable (schema : Schema) (at : ℕ) (table : Table) : Type 0 where
   pub named : table_named schema table.name ≡ Some at
   pub is : slice_get schema.tables at ≡ Some table
   pub alone : find (λ t. t.tree == table.tree) schema.tables ≡ Some table
   pub stored : table.tree < 2 ^ 31
+  pub unreferred : AllByRecursion (λ child. AllByRecursion (λ (ref : Reference). is_in table.tree (find (λ t. same_name t.name ref.parent) schema.tables) ≡ false) child.references) schema.tables
 
 -- the database has the table, in some tree
 abbrev pub Has : (ℕ → Table) → Database → Type 0
@@ -37,6 +45,14 @@ rows_of name db = unwrap_or (option_map (λ t. map (shown t) (db.trees t.tree)) 
 abbrev pub SameOthers : List ℕ → Database → Database → Type 0
 SameOthers name old new = (table : Table) → table_in name old ≡ Some table → AllByRecursion (λ t. t.tree ≢ table.tree → new.trees t.tree ≡ old.trees t.tree) old.schema.tables
 
+abbrev pub same_value : Value → Value → Bool
+same_value a b = is_eq (value_cmp a b)
+
+-- the rowids are integers, and no two are the same
+pub record HasApartRowids (rows : List Row) : Type 0 where
+  pub integers : AllByRecursion (λ r. (n : ℤ) × (column r 0 ≡ Int n)) rows
+  pub apart : IsDistinct same_value (map (λ r. column r 0) rows)
+
 -- one row more in one table, under a rowid that was free, and nothing else has changed
 pub record IsAdded (name : List ℕ) (row : Row) (old new : Database) : Type 0 where
   pub schema : new.schema ≡ old.schema
@@ -45,6 +61,17 @@ pub record IsAdded (name : List ℕ) (row : Row) (old new : Database) : Type 0 w
   pub rows : IsPermutation ((Int id ∷ row) ∷ rows_of name old) (rows_of name new)
   pub others : SameOthers name old new
   pub sound : IsDatabase new
+
+-- the rows of one table that pass a test are gone, and nothing else has changed
+pub record IsRemoved (name : List ℕ) (test : Row → Bool) (old new : Database) : Type 0 where
+  pub schema : new.schema ≡ old.schema
+  pub rows : rows_of name new ≡ filter (λ r. not (test r)) (rows_of name old)
+  pub others : SameOthers name old new
+  pub sound : IsDatabase new
+
+-- the rows that have this number in a column, as SQL compares values
+abbrev pub equals_number : ℕ → ℕ → Row → Bool
+equals_number at n r = same_value (column r at) (Int (pos n))
 
 -- A statement changed nothing, or its transaction was undone, for want of memory or by a fault of the store.
 abbrev pub Stops : State → State → Error → Type 0

@@ -3,3 +3,4 @@ pub mod Records
 pub mod Effects
 pub mod Reads
 pub mod Stored
+pub mod Deletes
