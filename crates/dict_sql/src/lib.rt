@@ -1,6 +1,7 @@
 //! The statements of the store: what each SQL text does to the tables.
 #![tactic(auto)]
 
+pub mod commit;
 pub mod delete;
 pub mod insert;
 pub mod read;
