@@ -13,6 +13,7 @@ use Rattle.sqlite_resolve.specs.Expr.{lower_to, lower, node, opened, passes, ope
 use Rattle.sqlite_resolve.specs.Compare.{compared, converted, affinity_of, of_column, may_be_text, is_parameter}
 use Rattle.sqlite_resolve.specs.Lowering.{Checked, Lowering, and_then, fresh, max_budget, spend, begin, finish, nothing, chosen, alone, first_found}
 use Rattle.sqlite_resolve.specs.declared.state.State.{State}
+use Rattle.sqlite_resolve.specs.declared.scope.Output.{Output}
 use Rattle.sqlite_resolve.specs.declared.state.Carried.{Carried}
 use Rattle.sqlite_resolve.specs.Body.{tests}
 use Rattle.sqlite_resolve.specs.Terms.{conjuncts}
@@ -62,9 +63,9 @@ out_equals name = refl
 abbrev after : ℕ → State → Carried → State
 after n s carried = record s { budget = s.budget - n; written = None; last = carried }
 
-module _ (schema : Schema) (at : ℕ) (table : Table) (is : slice_get schema.tables at ≡ Some table) (name : Name) (k : ℕ) (c : Column) (place : column_named table name ≡ Some k) (has : slice_get table.columns k ≡ Some c) where
+module _ (schema : Schema) (at : ℕ) (table : Table) (is : slice_get schema.tables at ≡ Some table) (name : Name) (k : ℕ) (c : Column) (place : column_named table name ≡ Some k) (has : slice_get table.columns k ≡ Some c) (shows : List Output) where
   abbrev cx : Context
-  cx = context_of schema at table [] false true
+  cx = context_of schema at table shows false true
 
   column_is : (s : State) → column cx None name s ≡ Ok (col 1 (place_of table k), record s { last = declared table k c })
   unfolding column find_name in_level only hit column_in term_of column_at is_among
@@ -82,20 +83,21 @@ module _ (schema : Schema) (at : ℕ) (table : Table) (is : slice_get schema.tab
   test = op2 (by.Compare compare.Eq Binary) (col 1 (place_of table k)) (col 0 0)
 
   module _ (plain : chosen (declared table k c) nothing ≡ Binary) (compares : compared cx (by.Compare compare.Eq Binary) (col 1 (place_of table k)) (col 0 0) ≡ test) where
-    abbrev begun : State
-    begun = record (fresh 2 max_budget) { budget = 99999 }
+    module _ (b : ℕ) (rich : nat_lt 1 b ≡ true) (second : nat_lt 1 (b - 1) ≡ true) (third : nat_lt 1 (b - 1 - 1) ≡ true) where
+      abbrev begun : State
+      begun = record (fresh 2 max_budget) { budget = b - 1 }
 
-    both_is : both (lower_to 699) cx binary.Eq (column_expr name) parameter_expr begun ≡ Ok (test, record begun { budget = 99997; last = nothing })
-    unfolding both tests_truth tests_alias combine
-    both_is = rw (lower_column 698 begun refl refl, lower_parameter 698 (after 1 begun (declared table k c)) refl refl, plain, compares) refl
+      both_is : both (lower_to 699) cx binary.Eq (column_expr name) parameter_expr begun ≡ Ok (test, record begun { budget = b - 1 - 1 - 1; last = nothing })
+      unfolding both tests_truth tests_alias combine
+      both_is = rw (lower_column 698 begun second refl, lower_parameter 698 (after 1 begun (declared table k c)) third refl, plain, compares) refl
 
-    lower_equals : lower cx (equals_expr name) (fresh 2 max_budget) ≡ Ok (test, record (fresh 2 max_budget) { budget = 99997 })
-    unfolding lower_to node opened spend begin finish passes operation wanted_truth
-    lower_equals = rw (out_equals name, both_is) refl
+      lower_equals : lower cx (equals_expr name) (record (fresh 2 max_budget) { budget = b }) ≡ Ok (test, record (fresh 2 max_budget) { budget = b - 1 - 1 - 1 })
+      unfolding lower_to node opened spend begin finish passes operation wanted_truth
+      lower_equals = rw (rich, out_equals name, both_is) refl
 
-    pub tests_equals : tests lower cx [] (Some (equals_expr name)) (fresh 2 max_budget) ≡ Ok (test ∷ [], record (fresh 2 max_budget) { budget = 99997 })
-    unfolding tests
-    tests_equals = rw lower_equals refl
+      pub tests_equals : tests lower cx [] (Some (equals_expr name)) (record (fresh 2 max_budget) { budget = b }) ≡ Ok (test ∷ [], record (fresh 2 max_budget) { budget = b - 1 - 1 - 1 })
+      unfolding tests
+      tests_equals = rw lower_equals refl
 
 -- ---- DELETE, by a test that is read so
 

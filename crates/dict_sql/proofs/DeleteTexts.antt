@@ -31,26 +31,12 @@ use Rattle.sqlite.specs.Command.{Command}
 use Rattle.sqlite.specs.Command.TheVariants.{Delete}
 use Rattle.sqlite.proofs.Callers.{IsPlain, command_of, statement_of, runs_as}
 use Rattle.dict_sql.proofs.ListLemmas.{passes}
+use Rattle.dict_sql.proofs.CompareLemmas.{and_true, equals_is}
 use Rattle.dict_sql.proofs.DeleteEffects.{removes}
 use Rattle.dict_sql.specs.Deletes.{delete_mark, delete_item, delete_member, delete_edition, delete_entry}
 use Rattle.dict_sql.proofs.TextLemmas.{parsed_or}
 use Rattle.dict_sql.proofs.ReadLemmas.{context_of}
 use Rattle.dict_sql.proofs.DeleteLemmas.{column_expr, parameter_expr, equals_expr, doomed, tests_equals, delete_text_is}
-
--- ---- a comparison with a number
-
-by_ordering : (o : Ordering) → is_true (from_truth (Some (test compare.Eq o))) ≡ is_eq o
-by_ordering Less = refl
-by_ordering Equal = refl
-by_ordering Greater = refl
-
-pub equals_is : (v : Value) (n : ℕ) → is_true (binary (by.Compare compare.Eq Binary) v (Int (pos n))) ≡ same_value v (Int (pos n))
-unfolding binary value_cmp
-equals_is Null n = refl
-equals_is (Int m) n = by_ordering (value_cmp (Int m) (Int (pos n)))
-equals_is (Real x) n = by_ordering (value_cmp (Real x) (Int (pos n)))
-equals_is (Text t) n = by_ordering (value_cmp (Text t) (Int (pos n)))
-equals_is (Blob b) n = by_ordering (value_cmp (Blob b) (Int (pos n)))
 
 -- ---- the texts
 
@@ -99,7 +85,7 @@ reads_edition = record {
   read = refl;
   statement = λ tree. refl;
   formats = refl;
-  tests = λ schema at tree is. tests_equals schema at (edition tree) is (codes "number") 0 (needed (codes "number") Integer) refl refl refl refl;
+  tests = λ schema at tree is. tests_equals schema at (edition tree) is (codes "number") 0 (needed (codes "number") Integer) refl refl [] refl refl max_budget refl refl refl;
   accepted = λ schema tree alone low. rw (low, alone) refl;
 }
 
@@ -116,15 +102,11 @@ reads_entry = record {
   read = refl;
   statement = λ tree. refl;
   formats = refl;
-  tests = λ schema at tree is. tests_equals schema at (entry tree) is (codes "edition") 0 (needed (codes "edition") Integer) refl refl refl (rw is refl);
+  tests = λ schema at tree is. tests_equals schema at (entry tree) is (codes "edition") 0 (needed (codes "edition") Integer) refl refl [] refl (rw is refl) max_budget refl refl refl;
   accepted = λ schema tree alone low. rw (low, alone) refl;
 }
 
 -- ---- what they do
-
-and_true : (a : Bool) → (a && true) ≡ a
-and_true true = refl
-and_true false = refl
 
 pub all_go : (table : Table) (params row : Row) → passes params [] row ≡ true
 all_go table params row = refl

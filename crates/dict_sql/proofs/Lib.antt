@@ -12,3 +12,4 @@ pub mod RowLemmas
 pub mod RemoveLemmas
 pub mod DeleteEffects
 pub mod DeleteTexts
+pub mod CompareLemmas

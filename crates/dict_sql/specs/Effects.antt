@@ -5,7 +5,7 @@ use Rattle.std.specs.Ordering.{is_eq}
 use Rattle.sqlite_schema.specs.declared.schema.Reference.{Reference}
 use Rattle.sqlite.specs.declared.types.Value.{Value}
 use Rattle.sqlite.specs.Effect.{Database, IsDatabase}
-use Rattle.sqlite.specs.declared.types.Value.TheVariants.{Int}
+use Rattle.sqlite.specs.declared.types.Value.TheVariants.{Int, Text as Words}
 use Rattle.sqlite.specs.Order.{Row, column, value_cmp}
 use Rattle.sqlite.specs.State.{State, Shows, KeepsCommit, IsUnchanged, IsRolledBack, HasCause, store_error}
 use Rattle.sqlite.specs.declared.error.Error.{Error}
@@ -72,6 +72,9 @@ pub record IsRemoved (name : List ℕ) (test : Row → Bool) (old new : Database
 -- the rows that have this number in a column, as SQL compares values
 abbrev pub equals_number : ℕ → ℕ → Row → Bool
 equals_number at n r = same_value (column r at) (Int (pos n))
+
+abbrev pub equals_text : ℕ → List ℕ → Row → Bool
+equals_text at t r = same_value (column r at) (Words t)
 
 -- A statement changed nothing, or its transaction was undone, for want of memory or by a fault of the store.
 abbrev pub Stops : State → State → Error → Type 0

@@ -3,13 +3,13 @@
 ghost use Rattle.std.specs.Prelude.{◌≡◌, ℕ, false, [], ◌∷◌, map, codes, IfOk, IfErr};
 ghost use Rattle.sqlite.specs.State.{HasCleanDisk, Survives, IsUnchanged};
 ghost use Rattle.sqlite.specs.Held.{state};
-ghost use Rattle.dict_sql.specs.Tables.{mark, item, member, edition, entry, kept};
+ghost use Rattle.dict_sql.specs.Tables.{mark, item, member, edition as edition_table, entry, kept};
 ghost use Rattle.dict_sql.specs.Stored.{stored_mark, stored_item, stored_member, stored_edition, stored_entry, stored_kept};
-ghost use Rattle.dict_sql.specs.Effects.{Has, Stops};
-ghost use Rattle.dict_sql.specs.Reads.{IsListing};
+ghost use Rattle.dict_sql.specs.Effects.{Has, Stops, equals_number, equals_text};
+ghost use Rattle.dict_sql.specs.Reads.{IsListing, IsSelection};
 
 use crate::records::{Edition, Entry, Item, Kept, Mark, Member, Record};
-use sqlite::{Alter, Connection, Error, Row};
+use sqlite::{Alter, Connection, Error, Row, params};
 use std::alloc::Global;
 
 // The record of each row, in turn.
@@ -90,7 +90,7 @@ pub fn members<S: Alter>(alloc: Global, conn: &mut Connection<S>) -> Result<Vec<
 }
 
 fn edition_rows<S: Alter>(conn: &mut Connection<S>) -> Result<Vec<Row>, Error>
-    requires { HasCleanDisk (state S.Store conn.old) → Has edition (state S.Store conn.old).now }
+    requires { HasCleanDisk (state S.Store conn.old) → Has edition_table (state S.Store conn.old).now }
     ensures listed { HasCleanDisk (state S.Store conn.new) → IfOk result (λ rows. IsListing (codes "edition") (1 ∷ []) (state S.Store conn.old).now rows.items × IsUnchanged (state S.Store conn.old) (state S.Store conn.new)) }
     ensures failed { HasCleanDisk (state S.Store conn.new) → IfErr result (Stops (state S.Store conn.old) (state S.Store conn.new)) }
     ensures mode { conn.old.in_transaction ≡ false → conn.new.in_transaction ≡ false }
@@ -101,7 +101,7 @@ fn edition_rows<S: Alter>(conn: &mut Connection<S>) -> Result<Vec<Row>, Error>
 
 /// All editions with their whole texts, in the order of their numbers.
 pub fn editions<S: Alter>(alloc: Global, conn: &mut Connection<S>) -> Result<Vec<Edition>, Error>
-    requires { HasCleanDisk (state S.Store conn.old) → Has edition (state S.Store conn.old).now }
+    requires { HasCleanDisk (state S.Store conn.old) → Has edition_table (state S.Store conn.old).now }
     ensures listed { HasCleanDisk (state S.Store conn.new) → IfOk result (λ all. IsListing (codes "edition") (1 ∷ []) (state S.Store conn.old).now (map stored_edition all.items) × IsUnchanged (state S.Store conn.old) (state S.Store conn.new)) }
     ensures failed { HasCleanDisk (state S.Store conn.new) → IfErr result (Stops (state S.Store conn.old) (state S.Store conn.new)) }
     ensures mode { conn.old.in_transaction ≡ false → conn.new.in_transaction ≡ false }
@@ -152,5 +152,92 @@ pub fn kept_replies<S: Alter>(alloc: Global, conn: &mut Connection<S>) -> Result
     ensures survives { Survives (state S.Store conn.old) (state S.Store conn.new) (λ _. ⊥) }
 {
     let rows = kept_rows(conn)?;
+    records_of(alloc, &rows)
+}
+
+fn one_edition_rows<S: Alter>(conn: &mut Connection<S>, number: u32) -> Result<Vec<Row>, Error>
+    requires { HasCleanDisk (state S.Store conn.old) → Has edition_table (state S.Store conn.old).now }
+    ensures selected { HasCleanDisk (state S.Store conn.new) → IfOk result (λ rows. IsSelection (codes "edition") (equals_number 1 number) (1 ∷ []) (state S.Store conn.old).now rows.items × IsUnchanged (state S.Store conn.old) (state S.Store conn.new)) }
+    ensures failed { HasCleanDisk (state S.Store conn.new) → IfErr result (Stops (state S.Store conn.old) (state S.Store conn.new)) }
+    ensures mode { conn.old.in_transaction ≡ false → conn.new.in_transaction ≡ false }
+    ensures survives { Survives (state S.Store conn.old) (state S.Store conn.new) (λ _. ⊥) }
+{
+    conn.query_all(
+        "SELECT rowid, * FROM edition WHERE number = ?1 ORDER BY 2",
+        params![number],
+    )
+}
+
+/// The editions of this number; the key allows one at most.
+pub fn editions_numbered<S: Alter>(
+    alloc: Global,
+    conn: &mut Connection<S>,
+    number: u32,
+) -> Result<Vec<Edition>, Error>
+    requires { HasCleanDisk (state S.Store conn.old) → Has edition_table (state S.Store conn.old).now }
+    ensures selected { HasCleanDisk (state S.Store conn.new) → IfOk result (λ all. IsSelection (codes "edition") (equals_number 1 number) (1 ∷ []) (state S.Store conn.old).now (map stored_edition all.items) × IsUnchanged (state S.Store conn.old) (state S.Store conn.new)) }
+    ensures failed { HasCleanDisk (state S.Store conn.new) → IfErr result (Stops (state S.Store conn.old) (state S.Store conn.new)) }
+    ensures mode { conn.old.in_transaction ≡ false → conn.new.in_transaction ≡ false }
+    ensures survives { Survives (state S.Store conn.old) (state S.Store conn.new) (λ _. ⊥) }
+{
+    let rows = one_edition_rows(conn, number)?;
+    records_of(alloc, &rows)
+}
+
+fn some_entries_rows<S: Alter>(conn: &mut Connection<S>, edition: u32) -> Result<Vec<Row>, Error>
+    requires { HasCleanDisk (state S.Store conn.old) → Has entry (state S.Store conn.old).now }
+    ensures selected { HasCleanDisk (state S.Store conn.new) → IfOk result (λ rows. IsSelection (codes "entry") (equals_number 1 edition) (2 ∷ []) (state S.Store conn.old).now rows.items × IsUnchanged (state S.Store conn.old) (state S.Store conn.new)) }
+    ensures failed { HasCleanDisk (state S.Store conn.new) → IfErr result (Stops (state S.Store conn.old) (state S.Store conn.new)) }
+    ensures mode { conn.old.in_transaction ≡ false → conn.new.in_transaction ≡ false }
+    ensures survives { Survives (state S.Store conn.old) (state S.Store conn.new) (λ _. ⊥) }
+{
+    conn.query_all(
+        "SELECT rowid, * FROM entry WHERE edition = ?1 ORDER BY 3",
+        params![edition],
+    )
+}
+
+/// The entries of this edition, in their order.
+pub fn entries_of<S: Alter>(
+    alloc: Global,
+    conn: &mut Connection<S>,
+    edition: u32,
+) -> Result<Vec<Entry>, Error>
+    requires { HasCleanDisk (state S.Store conn.old) → Has entry (state S.Store conn.old).now }
+    ensures selected { HasCleanDisk (state S.Store conn.new) → IfOk result (λ all. IsSelection (codes "entry") (equals_number 1 edition) (2 ∷ []) (state S.Store conn.old).now (map stored_entry all.items) × IsUnchanged (state S.Store conn.old) (state S.Store conn.new)) }
+    ensures failed { HasCleanDisk (state S.Store conn.new) → IfErr result (Stops (state S.Store conn.old) (state S.Store conn.new)) }
+    ensures mode { conn.old.in_transaction ≡ false → conn.new.in_transaction ≡ false }
+    ensures survives { Survives (state S.Store conn.old) (state S.Store conn.new) (λ _. ⊥) }
+{
+    let rows = some_entries_rows(conn, edition)?;
+    records_of(alloc, &rows)
+}
+
+fn one_kept_rows<S: Alter>(conn: &mut Connection<S>, id: &str) -> Result<Vec<Row>, Error>
+    requires { HasCleanDisk (state S.Store conn.old) → Has kept (state S.Store conn.old).now }
+    ensures selected { HasCleanDisk (state S.Store conn.new) → IfOk result (λ rows. IsSelection (codes "kept") (equals_text 1 id.now) (2 ∷ []) (state S.Store conn.old).now rows.items × IsUnchanged (state S.Store conn.old) (state S.Store conn.new)) }
+    ensures failed { HasCleanDisk (state S.Store conn.new) → IfErr result (Stops (state S.Store conn.old) (state S.Store conn.new)) }
+    ensures mode { conn.old.in_transaction ≡ false → conn.new.in_transaction ≡ false }
+    ensures survives { Survives (state S.Store conn.old) (state S.Store conn.new) (λ _. ⊥) }
+{
+    conn.query_all(
+        "SELECT rowid, * FROM kept WHERE id = ?1 ORDER BY 3",
+        params![id],
+    )
+}
+
+/// The replies that are kept for this id; the key allows one at most.
+pub fn kept_replies_of<S: Alter>(
+    alloc: Global,
+    conn: &mut Connection<S>,
+    id: &str,
+) -> Result<Vec<Kept>, Error>
+    requires { HasCleanDisk (state S.Store conn.old) → Has kept (state S.Store conn.old).now }
+    ensures selected { HasCleanDisk (state S.Store conn.new) → IfOk result (λ all. IsSelection (codes "kept") (equals_text 1 id.now) (2 ∷ []) (state S.Store conn.old).now (map stored_kept all.items) × IsUnchanged (state S.Store conn.old) (state S.Store conn.new)) }
+    ensures failed { HasCleanDisk (state S.Store conn.new) → IfErr result (Stops (state S.Store conn.old) (state S.Store conn.new)) }
+    ensures mode { conn.old.in_transaction ≡ false → conn.new.in_transaction ≡ false }
+    ensures survives { Survives (state S.Store conn.old) (state S.Store conn.new) (λ _. ⊥) }
+{
+    let rows = one_kept_rows(conn, id)?;
     records_of(alloc, &rows)
 }
