@@ -13,3 +13,5 @@ pub mod RemoveLemmas
 pub mod DeleteEffects
 pub mod DeleteTexts
 pub mod CompareLemmas
+pub mod FindLemmas
+pub mod CreateLemmas

@@ -4,3 +4,4 @@ pub mod Effects
 pub mod Reads
 pub mod Stored
 pub mod Deletes
+pub mod Creates

@@ -2,6 +2,7 @@
 #![tactic(auto)]
 
 pub mod commit;
+pub mod create;
 pub mod delete;
 pub mod insert;
 pub mod read;
