@@ -5,3 +5,4 @@ pub mod Reads
 pub mod Stored
 pub mod Deletes
 pub mod Creates
+pub mod Names

@@ -5,5 +5,6 @@ pub mod commit;
 pub mod create;
 pub mod delete;
 pub mod insert;
+pub mod names;
 pub mod read;
 pub mod records;
