@@ -1,5 +1,5 @@
 -- The tables of schema 1 as data, and the texts that make them and write their rows.
-use Rattle.std.specs.Prelude.{ℕ, List, [], ◌∷◌, codes, Option, Some, None, true, false}
+use Rattle.std.specs.Prelude.{ℕ, Bool, List, [], ◌∷◌, codes, Option, Some, None, true, false}
 use Rattle.sqlite.specs.Collation.TheVariants.{Binary}
 use Rattle.sqlite.specs.declared.types.Value.TheVariants.{Null}
 use Rattle.sqlite.specs.Kind.{Kind}
@@ -14,6 +14,10 @@ needed name kind = record { name = name; kind = kind; is_strict = true; not_null
 
 abbrev pub optional : List ℕ → Kind → Column
 optional name kind = record { name = name; kind = kind; is_strict = true; not_null = false; default = Null; collation = Binary }
+
+-- a strict column with no default
+abbrev pub column_of : List ℕ → Kind → Bool → Column
+column_of name kind not_null = record { name = name; kind = kind; is_strict = true; not_null = not_null; default = Null; collation = Binary }
 
 -- a table with no CHECK, no reference, no default that reads the time and no AUTOINCREMENT
 abbrev pub simple : List ℕ → ℕ → List Column → Option ℕ → List ℕ → List (List ℕ) → List Order → Table

@@ -4,6 +4,7 @@
 pub mod commit;
 pub mod create;
 pub mod delete;
+pub mod found;
 pub mod insert;
 pub mod names;
 pub mod read;
