@@ -6,3 +6,4 @@ pub mod Stored
 pub mod Deletes
 pub mod Creates
 pub mod Names
+pub mod Found

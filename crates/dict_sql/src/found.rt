@@ -4,7 +4,8 @@ ghost use Rattle.std.specs.Prelude.{true, false, ◌≡◌, ◌<◌, ◌^◌, �
 ghost use Rattle.std.specs.List.{list_any, position_from};
 ghost use Rattle.sqlite_schema.specs.Names.{table_named};
 ghost use Rattle.sqlite_schema.specs.declared.schema.Reference.{Reference as SqlReference};
-ghost use Rattle.dict_sql.specs.Effects.{Has, HasTable, is_in};
+ghost use Rattle.dict_sql.specs.Effects.{HasTable, is_in};
+ghost use Rattle.dict_sql.specs.Found.{IsAlone};
 ghost use Rattle.sqlite_value.specs.Keys.{plain};
 ghost use Rattle.sqlite.specs.Kind.TheVariants.{Integer};
 ghost use Rattle.dict_sql.specs.Tables.{mark, item, member, edition as edition_table, entry, kept, column_of};
@@ -284,4 +285,89 @@ fn first_in_tree(schema: &Schema, tree: u32) -> Option<usize>
 {
     let tables = schema.tables.as_slice();
     tables.iter().position(|t| t.tree == tree)
+}
+
+// Whether the table at this place is the first in its tree, and no foreign key leads into the tree.
+fn is_alone(schema: &Schema, at: usize, tree: u32) -> bool
+    ensures { IsTrue result → IsAlone schema.now at tree }
+{
+    tree < 2_147_483_648 && first_in_tree(schema, tree) == Some(at) && !is_parent(schema, tree)
+}
+
+/// Whether the schema has the table `mark` as it is defined here, in a tree of its own, with no foreign key that refers to it.
+pub fn has_mark(schema: &Schema) -> bool
+    ensures { IsTrue result → (at : ℕ) × (tree : ℕ) × HasTable schema.now at (mark tree) }
+{
+    let Some(at) = schema.table_named(b"mark") else {
+        return false;
+    };
+    let Some(table) = schema.tables.get(at) else {
+        return false;
+    };
+    is_mark(table) && is_alone(schema, at, table.tree)
+}
+
+/// Whether the schema has the table `item` as it is defined here, in a tree of its own, with no foreign key that refers to it.
+pub fn has_item(schema: &Schema) -> bool
+    ensures { IsTrue result → (at : ℕ) × (tree : ℕ) × HasTable schema.now at (item tree) }
+{
+    let Some(at) = schema.table_named(b"item") else {
+        return false;
+    };
+    let Some(table) = schema.tables.get(at) else {
+        return false;
+    };
+    is_item(table) && is_alone(schema, at, table.tree)
+}
+
+/// Whether the schema has the table `member` as it is defined here, in a tree of its own, with no foreign key that refers to it.
+pub fn has_member(schema: &Schema) -> bool
+    ensures { IsTrue result → (at : ℕ) × (tree : ℕ) × HasTable schema.now at (member tree) }
+{
+    let Some(at) = schema.table_named(b"member") else {
+        return false;
+    };
+    let Some(table) = schema.tables.get(at) else {
+        return false;
+    };
+    is_member(table) && is_alone(schema, at, table.tree)
+}
+
+/// Whether the schema has the table `edition` as it is defined here, in a tree of its own, with no foreign key that refers to it.
+pub fn has_edition(schema: &Schema) -> bool
+    ensures { IsTrue result → (at : ℕ) × (tree : ℕ) × HasTable schema.now at (edition_table tree) }
+{
+    let Some(at) = schema.table_named(b"edition") else {
+        return false;
+    };
+    let Some(table) = schema.tables.get(at) else {
+        return false;
+    };
+    is_edition(table) && is_alone(schema, at, table.tree)
+}
+
+/// Whether the schema has the table `entry` as it is defined here, in a tree of its own, with no foreign key that refers to it.
+pub fn has_entry(schema: &Schema) -> bool
+    ensures { IsTrue result → (at : ℕ) × (tree : ℕ) × HasTable schema.now at (entry tree) }
+{
+    let Some(at) = schema.table_named(b"entry") else {
+        return false;
+    };
+    let Some(table) = schema.tables.get(at) else {
+        return false;
+    };
+    is_entry(table) && is_alone(schema, at, table.tree)
+}
+
+/// Whether the schema has the table `kept` as it is defined here, in a tree of its own, with no foreign key that refers to it.
+pub fn has_kept(schema: &Schema) -> bool
+    ensures { IsTrue result → (at : ℕ) × (tree : ℕ) × HasTable schema.now at (kept tree) }
+{
+    let Some(at) = schema.table_named(b"kept") else {
+        return false;
+    };
+    let Some(table) = schema.tables.get(at) else {
+        return false;
+    };
+    is_kept(table) && is_alone(schema, at, table.tree)
 }
