@@ -16,3 +16,4 @@ pub mod CompareLemmas
 pub mod FindLemmas
 pub mod CreateLemmas
 pub mod FoundLemmas
+pub mod Callers

@@ -79,7 +79,7 @@ flipped Less = refl
 flipped Equal = refl
 flipped Greater = refl
 
-same_flips : (a b : Value) → same_value a b ≡ same_value b a
+pub same_flips : (a b : Value) → same_value a b ≡ same_value b a
 same_flips a b = ap is_eq (value_cmp_total.antisymm a b) ∙ flipped (value_cmp b a)
 
 is_itself : (r : Row) → IsNumbered r → is_row r r ≡ true

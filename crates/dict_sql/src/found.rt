@@ -10,8 +10,8 @@ ghost use Rattle.sqlite_value.specs.Keys.{plain};
 ghost use Rattle.sqlite.specs.Kind.TheVariants.{Integer};
 ghost use Rattle.dict_sql.specs.Tables.{mark, item, member, edition as edition_table, entry, kept, column_of};
 
-use sqlite_schema::schema::{Column, Kind, Reference, Schema, Table};
 use sqlite_items::Items;
+use sqlite_schema::schema::{Column, Kind, Reference, Schema, Table};
 use sqlite_value::keys::{Collation, Order};
 use sqlite_value::value::Value;
 
@@ -110,13 +110,19 @@ fn are_mark_columns(columns: &[Column]) -> bool
 fn are_mark_keys(t: &Table) -> bool
     ensures { IsTrue result → (t.now.key ≡ (mark 0).key) × (t.now.primary ≡ (mark 0).primary) × (t.now.uniques ≡ (mark 0).uniques) × (t.now.orders ≡ (mark 0).orders) }
 {
-    t.key == Some(0) && t.primary.as_slice() == [0].as_slice() && t.uniques.is_empty() && t.orders.is_empty()
+    t.key == Some(0)
+        && t.primary.as_slice() == [0].as_slice()
+        && t.uniques.is_empty()
+        && t.orders.is_empty()
 }
 
 fn is_mark(t: &Table) -> bool
     ensures { IsTrue result → t.now ≡ mark t.now.tree }
 {
-    t.name.as_slice() == b"mark".as_slice() && are_mark_columns(t.columns.as_slice()) && are_mark_keys(t) && is_plain(t)
+    t.name.as_slice() == b"mark".as_slice()
+        && are_mark_columns(t.columns.as_slice())
+        && are_mark_keys(t)
+        && is_plain(t)
 }
 
 fn are_item_columns(columns: &[Column]) -> bool
@@ -138,13 +144,19 @@ fn are_item_columns(columns: &[Column]) -> bool
 fn are_item_keys(t: &Table) -> bool
     ensures { IsTrue result → (t.now.key ≡ (item 0).key) × (t.now.primary ≡ (item 0).primary) × (t.now.uniques ≡ (item 0).uniques) × (t.now.orders ≡ (item 0).orders) }
 {
-    t.key == Some(0) && t.primary.as_slice() == [0].as_slice() && is_one_key(t.uniques.as_slice(), &[2]) && is_one_plain(t.orders.as_slice())
+    t.key == Some(0)
+        && t.primary.as_slice() == [0].as_slice()
+        && is_one_key(t.uniques.as_slice(), &[2])
+        && is_one_plain(t.orders.as_slice())
 }
 
 fn is_item(t: &Table) -> bool
     ensures { IsTrue result → t.now ≡ item t.now.tree }
 {
-    t.name.as_slice() == b"item".as_slice() && are_item_columns(t.columns.as_slice()) && are_item_keys(t) && is_plain(t)
+    t.name.as_slice() == b"item".as_slice()
+        && are_item_columns(t.columns.as_slice())
+        && are_item_keys(t)
+        && is_plain(t)
 }
 
 fn are_member_columns(columns: &[Column]) -> bool
@@ -163,13 +175,19 @@ fn are_member_columns(columns: &[Column]) -> bool
 fn are_member_keys(t: &Table) -> bool
     ensures { IsTrue result → (t.now.key ≡ (member 0).key) × (t.now.primary ≡ (member 0).primary) × (t.now.uniques ≡ (member 0).uniques) × (t.now.orders ≡ (member 0).orders) }
 {
-    t.key.is_none() && t.primary.as_slice() == [1, 2].as_slice() && are_two_keys(t.uniques.as_slice(), &[1, 2], &[1, 3]) && are_two_plain(t.orders.as_slice())
+    t.key.is_none()
+        && t.primary.as_slice() == [1, 2].as_slice()
+        && are_two_keys(t.uniques.as_slice(), &[1, 2], &[1, 3])
+        && are_two_plain(t.orders.as_slice())
 }
 
 fn is_member(t: &Table) -> bool
     ensures { IsTrue result → t.now ≡ member t.now.tree }
 {
-    t.name.as_slice() == b"member".as_slice() && are_member_columns(t.columns.as_slice()) && are_member_keys(t) && is_plain(t)
+    t.name.as_slice() == b"member".as_slice()
+        && are_member_columns(t.columns.as_slice())
+        && are_member_keys(t)
+        && is_plain(t)
 }
 
 fn are_edition_columns(columns: &[Column]) -> bool
@@ -190,13 +208,19 @@ fn are_edition_columns(columns: &[Column]) -> bool
 fn are_edition_keys(t: &Table) -> bool
     ensures { IsTrue result → (t.now.key ≡ (edition_table 0).key) × (t.now.primary ≡ (edition_table 0).primary) × (t.now.uniques ≡ (edition_table 0).uniques) × (t.now.orders ≡ (edition_table 0).orders) }
 {
-    t.key == Some(0) && t.primary.as_slice() == [0].as_slice() && t.uniques.is_empty() && t.orders.is_empty()
+    t.key == Some(0)
+        && t.primary.as_slice() == [0].as_slice()
+        && t.uniques.is_empty()
+        && t.orders.is_empty()
 }
 
 fn is_edition(t: &Table) -> bool
     ensures { IsTrue result → t.now ≡ edition_table t.now.tree }
 {
-    t.name.as_slice() == b"edition".as_slice() && are_edition_columns(t.columns.as_slice()) && are_edition_keys(t) && is_plain(t)
+    t.name.as_slice() == b"edition".as_slice()
+        && are_edition_columns(t.columns.as_slice())
+        && are_edition_keys(t)
+        && is_plain(t)
 }
 
 fn are_entry_columns(columns: &[Column]) -> bool
@@ -217,13 +241,19 @@ fn are_entry_columns(columns: &[Column]) -> bool
 fn are_entry_keys(t: &Table) -> bool
     ensures { IsTrue result → (t.now.key ≡ (entry 0).key) × (t.now.primary ≡ (entry 0).primary) × (t.now.uniques ≡ (entry 0).uniques) × (t.now.orders ≡ (entry 0).orders) }
 {
-    t.key.is_none() && t.primary.as_slice() == [1, 2].as_slice() && is_one_key(t.uniques.as_slice(), &[1, 2]) && is_one_plain(t.orders.as_slice())
+    t.key.is_none()
+        && t.primary.as_slice() == [1, 2].as_slice()
+        && is_one_key(t.uniques.as_slice(), &[1, 2])
+        && is_one_plain(t.orders.as_slice())
 }
 
 fn is_entry(t: &Table) -> bool
     ensures { IsTrue result → t.now ≡ entry t.now.tree }
 {
-    t.name.as_slice() == b"entry".as_slice() && are_entry_columns(t.columns.as_slice()) && are_entry_keys(t) && is_plain(t)
+    t.name.as_slice() == b"entry".as_slice()
+        && are_entry_columns(t.columns.as_slice())
+        && are_entry_keys(t)
+        && is_plain(t)
 }
 
 fn are_kept_columns(columns: &[Column]) -> bool
@@ -244,13 +274,19 @@ fn are_kept_columns(columns: &[Column]) -> bool
 fn are_kept_keys(t: &Table) -> bool
     ensures { IsTrue result → (t.now.key ≡ (kept 0).key) × (t.now.primary ≡ (kept 0).primary) × (t.now.uniques ≡ (kept 0).uniques) × (t.now.orders ≡ (kept 0).orders) }
 {
-    t.key.is_none() && t.primary.as_slice() == [1].as_slice() && are_two_keys(t.uniques.as_slice(), &[1], &[2]) && are_two_plain(t.orders.as_slice())
+    t.key.is_none()
+        && t.primary.as_slice() == [1].as_slice()
+        && are_two_keys(t.uniques.as_slice(), &[1], &[2])
+        && are_two_plain(t.orders.as_slice())
 }
 
 fn is_kept(t: &Table) -> bool
     ensures { IsTrue result → t.now ≡ kept t.now.tree }
 {
-    t.name.as_slice() == b"kept".as_slice() && are_kept_columns(t.columns.as_slice()) && are_kept_keys(t) && is_plain(t)
+    t.name.as_slice() == b"kept".as_slice()
+        && are_kept_columns(t.columns.as_slice())
+        && are_kept_keys(t)
+        && is_plain(t)
 }
 
 // Whether the table that a foreign key names is in this tree.
