@@ -1,0 +1,142 @@
+-- The texts of the DELETE statements.
+use Rattle.std.proofs.Common.{◌≡◌, ◌==◌, ◌^◌, ℕ, pos, List, [], ◌∷◌, codes, Bool, true, false, ◌&&◌, Ordering, Less, Equal, Greater, Ok, Some, None, Option, refl, sym, ap, subst, ◌∙◌, find, nat_le, slice_get}
+use Rattle.std.proofs.lemmas.Bool.{lt-leb}
+use Rattle.std.specs.Ordering.{is_eq}
+use Rattle.sqlite.specs.declared.types.Value.{Value}
+use Rattle.sqlite.specs.declared.types.Value.TheVariants.{Null, Int, Real, Text, Blob}
+use Rattle.sqlite.specs.Order.{Row, column, value_cmp}
+use Rattle.sqlite.specs.Ops.{binary}
+use Rattle.sqlite_sql.specs.Ops.{is_true, test, truth, from_truth}
+use Rattle.sqlite.specs.Term.{Term, col, op2}
+use Rattle.sqlite.specs.Schema.{Schema}
+use Rattle.sqlite.specs.Table.{Table}
+use Rattle.sqlite.specs.Compile.{first, with_command}
+use Rattle.sqlite_sql.specs.declared.ops.BinaryOp.TheVariants as by
+use Rattle.sqlite_sql.specs.declared.ops.CompareOp.TheVariants as compare
+use Rattle.sqlite.specs.Kind.TheVariants.{Integer}
+use Rattle.sqlite.specs.Collation.TheVariants.{Binary}
+use Rattle.sqlite_tied.specs.Compute.{everything}
+use Rattle.sqlite_resolve.specs.Expr.{lower}
+use Rattle.sqlite_resolve.specs.Body.{tests}
+use Rattle.sqlite_resolve.specs.Lowering.{fresh, max_budget}
+use Rattle.sqlite_typing.specs.Types.{accepts_program}
+use Rattle.sqlite_ast.specs.declared.Expr.{Expr}
+use Rattle.sqlite_ast.specs.declared.Statement.TheVariants as written
+use Rattle.sqlite_syntax.specs.declared.statement.Parsed.{Parsed}
+use Rattle.dict_sql.specs.Tables.{needed, mark, item, member, edition, entry}
+use Rattle.dict_sql.specs.Effects.{same_value, Has, HasTable, HasApartRowids, IsRemoved, equals_number, rows_of, shown}
+use Rattle.sqlite.specs.State.{State, Executes}
+use Rattle.sqlite.specs.Listing.{understood}
+use Rattle.sqlite.specs.Command.{Command}
+use Rattle.sqlite.specs.Command.TheVariants.{Delete}
+use Rattle.sqlite.proofs.Callers.{IsPlain, command_of, statement_of, runs_as}
+use Rattle.dict_sql.proofs.ListLemmas.{passes}
+use Rattle.dict_sql.proofs.CompareLemmas.{and_true, equals_is}
+use Rattle.dict_sql.proofs.DeleteEffects.{removes}
+use Rattle.dict_sql.specs.Deletes.{delete_mark, delete_item, delete_member, delete_edition, delete_entry}
+use Rattle.dict_sql.proofs.TextLemmas.{parsed_or}
+use Rattle.dict_sql.proofs.ReadLemmas.{context_of}
+use Rattle.dict_sql.proofs.DeleteLemmas.{column_expr, parameter_expr, equals_expr, doomed, tests_equals, delete_text_is}
+
+-- ---- the texts
+
+-- the text takes out the rows that pass the test, whatever tree the table is in
+pub record ReadsDelete (text : List ℕ) (p : Parsed) (table : ℕ → Table) (condition : Option Expr) (filter : List Term) (left : ℕ) : Type 0 where
+  pub read : first text ≡ Ok p
+  pub statement : (tree : ℕ) → p.statement ≡ written.Delete (table tree).name condition []
+  pub formats : p.formats ≡ []
+  pub tests : (schema : Schema) (at tree : ℕ) → slice_get schema.tables at ≡ Some (table tree) → tests lower (context_of schema at (table tree) [] false true) [] condition (fresh 2 max_budget) ≡ Ok (filter, record (fresh 2 max_budget) { budget = left })
+  pub accepted : (schema : Schema) (tree : ℕ) → find (λ t. t.tree == (table tree).tree) schema.tables ≡ Some (table tree) → nat_le (2 ^ 31) (table tree).tree ≡ false → accepts_program schema [] (doomed (table tree) filter) [] ≡ true
+
+unfoldable pub read_mark : Parsed
+unfolding everything
+read_mark = parsed_or (first delete_mark)
+
+pub reads_mark : ReadsDelete delete_mark read_mark mark None [] 100000
+unfolding everything read_mark
+reads_mark = record { read = refl; statement = λ tree. refl; formats = refl; tests = λ schema at tree is. refl; accepted = λ schema tree alone low. rw (low, alone) refl }
+
+unfoldable pub read_item : Parsed
+unfolding everything
+read_item = parsed_or (first delete_item)
+
+pub reads_item : ReadsDelete delete_item read_item item None [] 100000
+unfolding everything read_item
+reads_item = record { read = refl; statement = λ tree. refl; formats = refl; tests = λ schema at tree is. refl; accepted = λ schema tree alone low. rw (low, alone) refl }
+
+unfoldable pub read_member : Parsed
+unfolding everything
+read_member = parsed_or (first delete_member)
+
+pub reads_member : ReadsDelete delete_member read_member member None [] 100000
+unfolding everything read_member
+reads_member = record { read = refl; statement = λ tree. refl; formats = refl; tests = λ schema at tree is. refl; accepted = λ schema tree alone low. rw (low, alone) refl }
+
+unfoldable pub read_edition : Parsed
+unfolding everything
+read_edition = parsed_or (first delete_edition)
+
+abbrev pub test_edition : List Term
+test_edition = op2 (by.Compare compare.Eq Binary) (col 1 0) (col 0 0) ∷ []
+
+pub reads_edition : ReadsDelete delete_edition read_edition edition (Some (equals_expr (codes "number"))) test_edition 99997
+unfolding everything read_edition column_expr parameter_expr equals_expr
+reads_edition = record {
+  read = refl;
+  statement = λ tree. refl;
+  formats = refl;
+  tests = λ schema at tree is. tests_equals schema at (edition tree) is (codes "number") 0 (needed (codes "number") Integer) refl refl [] refl refl max_budget refl refl refl;
+  accepted = λ schema tree alone low. rw (low, alone) refl;
+}
+
+unfoldable pub read_entry : Parsed
+unfolding everything
+read_entry = parsed_or (first delete_entry)
+
+abbrev pub test_entry : List Term
+test_entry = op2 (by.Compare compare.Eq Binary) (col 1 1) (col 0 0) ∷ []
+
+pub reads_entry : ReadsDelete delete_entry read_entry entry (Some (equals_expr (codes "edition"))) test_entry 99997
+unfolding everything read_entry column_expr parameter_expr equals_expr
+reads_entry = record {
+  read = refl;
+  statement = λ tree. refl;
+  formats = refl;
+  tests = λ schema at tree is. tests_equals schema at (entry tree) is (codes "edition") 0 (needed (codes "edition") Integer) refl refl [] refl (rw is refl) max_budget refl refl refl;
+  accepted = λ schema tree alone low. rw (low, alone) refl;
+}
+
+-- ---- what they do
+
+pub all_go : (table : Table) (params row : Row) → passes params [] row ≡ true
+all_go table params row = refl
+
+pub edition_goes : (tree n : ℕ) (row : Row) → passes (Int (pos n) ∷ []) test_edition row ≡ equals_number 1 n (shown (edition tree) row)
+edition_goes tree n row = and_true _ ∙ equals_is (column row 0) n
+
+pub entry_goes : (tree n : ℕ) (row : Row) → passes (Int (pos n) ∷ []) test_entry row ≡ equals_number 1 n (shown (entry tree) row)
+entry_goes tree n row = and_true _ ∙ equals_is (column row 1) n
+
+module _ (text : List ℕ) (p : Parsed) (table : ℕ → Table) (condition : Option Expr) (filter : List Term) (left : ℕ) (r : ReadsDelete text p table condition filter left) where
+  module _ (schema : Schema) (at tree : ℕ) (has : HasTable schema at (table tree)) where
+    abbrev command : Command
+    command = Delete at (record { lets = []; body = doomed (table tree) filter })
+
+    compiles : understood schema text ≡ Ok (with_command p ([], (command, None)))
+    compiles = delete_text_is schema at (table tree) has condition filter left (r.tests schema at tree has.is) (r.accepted schema tree has.alone (lt-leb (2 ^ 31) (table tree).tree has.stored)) text p r.read (r.statement tree) r.formats
+
+    delete_command : command_of (understood schema text) ≡ command
+    delete_command = rw compiles refl
+
+    delete_plain : IsPlain (understood schema text)
+    delete_plain = rw compiles (refl, refl)
+
+  module _ (named : (tree : ℕ) → (table tree).name ≡ (table 0).name) (params : Row) (test : Row → Bool) (tested : (tree : ℕ) (row : Row) → passes params filter row ≡ test (shown (table tree) row)) (old new : State) (count : ℕ) where
+    pub removes_rows : Has table old.now → HasApartRowids (rows_of (table 0).name old.now) → Executes text params old new (Ok count) → IsRemoved (table 0).name test old.now new.now
+    removes_rows has apart h =
+        let at = has.0 in
+        let tree = has.1 in
+        let s = old.now.schema in
+        let w = runs_as text params old new s refl (command s at tree has.2) (delete_command s at tree has.2) (delete_plain s at tree has.2) count h in
+        subst (λ n. IsRemoved n test old.now new.now) (named tree)
+        (removes old new at (table tree) has.2 filter (statement_of text (understood s text)) params count (subst (λ n. HasApartRowids (rows_of n old.now)) (sym (named tree)) apart) test (tested tree) w)

@@ -1,0 +1,101 @@
+-- The texts of the INSERT statements.
+use Rattle.std.proofs.Common.{◌≡◌, List, [], ◌∷◌, Ok, refl}
+use Rattle.sqlite.specs.declared.types.Value.TheVariants.{Null}
+use Rattle.sqlite.specs.Term.{Term, lit, col}
+use Rattle.sqlite.specs.Source.TheVariants.{Values}
+use Rattle.sqlite.specs.Compile.{table_defined_by, first}
+use Rattle.sqlite.specs.Listing.{understood}
+use Rattle.sqlite_tied.specs.Compute.{everything}
+use Rattle.sqlite_syntax.specs.declared.statement.Parsed.{Parsed}
+use Rattle.dict_sql.specs.Tables.{mark, create_mark, insert_mark, item, create_item, insert_item, member, create_member, insert_member, edition, create_edition, insert_edition, entry, create_entry, insert_entry, kept, create_kept, insert_kept}
+use Rattle.dict_sql.proofs.TextLemmas.{parsed_or, ReadsInsert}
+
+defines_mark : table_defined_by create_mark ≡ Ok (mark 0)
+unfolding understood everything
+defines_mark = refl
+
+defines_item : table_defined_by create_item ≡ Ok (item 0)
+unfolding understood everything
+defines_item = refl
+
+defines_member : table_defined_by create_member ≡ Ok (member 0)
+unfolding understood everything
+defines_member = refl
+
+defines_edition : table_defined_by create_edition ≡ Ok (edition 0)
+unfolding understood everything
+defines_edition = refl
+
+defines_entry : table_defined_by create_entry ≡ Ok (entry 0)
+unfolding understood everything
+defines_entry = refl
+
+defines_kept : table_defined_by create_kept ≡ Ok (kept 0)
+unfolding understood everything
+defines_kept = refl
+
+abbrev pub mark_terms : List Term
+mark_terms = col 0 0 ∷ lit Null ∷ col 0 1 ∷ col 0 2 ∷ col 0 3 ∷ []
+
+unfoldable pub read_mark : Parsed
+unfolding everything
+read_mark = parsed_or (first insert_mark)
+
+pub reads_mark : ReadsInsert insert_mark read_mark mark (Values mark_terms 5)
+unfolding everything read_mark
+reads_mark = record { read = refl; statement = λ tree. refl; formats = refl; timeless = λ tree. refl; rows = λ schema tree. refl }
+
+abbrev pub item_terms : List Term
+item_terms = col 0 0 ∷ lit Null ∷ col 0 1 ∷ col 0 2 ∷ col 0 3 ∷ col 0 4 ∷ col 0 5 ∷ []
+
+unfoldable pub read_item : Parsed
+unfolding everything
+read_item = parsed_or (first insert_item)
+
+pub reads_item : ReadsInsert insert_item read_item item (Values item_terms 7)
+unfolding everything read_item
+reads_item = record { read = refl; statement = λ tree. refl; formats = refl; timeless = λ tree. refl; rows = λ schema tree. refl }
+
+abbrev pub member_terms : List Term
+member_terms = lit Null ∷ col 0 0 ∷ col 0 1 ∷ col 0 2 ∷ []
+
+unfoldable pub read_member : Parsed
+unfolding everything
+read_member = parsed_or (first insert_member)
+
+pub reads_member : ReadsInsert insert_member read_member member (Values member_terms 4)
+unfolding everything read_member
+reads_member = record { read = refl; statement = λ tree. refl; formats = refl; timeless = λ tree. refl; rows = λ schema tree. refl }
+
+abbrev pub edition_terms : List Term
+edition_terms = col 0 0 ∷ lit Null ∷ col 0 1 ∷ col 0 2 ∷ col 0 3 ∷ col 0 4 ∷ []
+
+unfoldable pub read_edition : Parsed
+unfolding everything
+read_edition = parsed_or (first insert_edition)
+
+pub reads_edition : ReadsInsert insert_edition read_edition edition (Values edition_terms 6)
+unfolding everything read_edition
+reads_edition = record { read = refl; statement = λ tree. refl; formats = refl; timeless = λ tree. refl; rows = λ schema tree. refl }
+
+abbrev pub entry_terms : List Term
+entry_terms = lit Null ∷ col 0 0 ∷ col 0 1 ∷ col 0 2 ∷ col 0 3 ∷ col 0 4 ∷ []
+
+unfoldable pub read_entry : Parsed
+unfolding everything
+read_entry = parsed_or (first insert_entry)
+
+pub reads_entry : ReadsInsert insert_entry read_entry entry (Values entry_terms 6)
+unfolding everything read_entry
+reads_entry = record { read = refl; statement = λ tree. refl; formats = refl; timeless = λ tree. refl; rows = λ schema tree. refl }
+
+abbrev pub kept_terms : List Term
+kept_terms = lit Null ∷ col 0 0 ∷ col 0 1 ∷ col 0 2 ∷ col 0 3 ∷ col 0 4 ∷ []
+
+unfoldable pub read_kept : Parsed
+unfolding everything
+read_kept = parsed_or (first insert_kept)
+
+pub reads_kept : ReadsInsert insert_kept read_kept kept (Values kept_terms 6)
+unfolding everything read_kept
+reads_kept = record { read = refl; statement = λ tree. refl; formats = refl; timeless = λ tree. refl; rows = λ schema tree. refl }

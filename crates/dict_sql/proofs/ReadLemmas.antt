@@ -1,0 +1,305 @@
+-- What `SELECT rowid, * FROM table WHERE .. ORDER BY ..` stands for, over any schema that has the table, level by level of the resolver.
+use Rattle.std.proofs.Common.{◌≡◌, ℕ, suc, ◌+◌, ◌-◌, ◌^◌, pos, negsuc, List, [], ◌∷◌, ◌++◌, map, length, codes, Bool, true, false, Some, None, Option, Ok, Err, Result, refl, sym, ap, subst, ◌∙◌, slice_get, find, nat_lt, nat_le, unwrap_or, option_map, option_and_then}
+use Rattle.std.proofs.lemmas.Bool.{lt-ltb}
+use Rattle.sqlite.specs.Term.{Term, lit, col}
+use Rattle.sqlite.specs.Table.{Table}
+use Rattle.sqlite.specs.Schema.{Schema}
+use Rattle.sqlite_resolve.specs.declared.error.CompileError.{CompileError}
+use Rattle.sqlite_resolve.specs.declared.scope.Level.{Level}
+use Rattle.sqlite_resolve.specs.declared.scope.Bound.{Bound}
+use Rattle.sqlite_resolve.specs.declared.scope.Output.{Output}
+use Rattle.sqlite_resolve.specs.Scope.{Name, column, Context, find as find_name, in_level, only, hit, column_in, rowid_in, is_rowid, term_of, column_at, declared, is_among}
+use Rattle.sqlite_resolve.specs.Expr.{lower_to, lower, node, opened, passes}
+use Rattle.sqlite_resolve.specs.Lowering.{Checked, Lowering, and_then, fresh, max_budget, spend, begin, finish, passed, either, written_or, nothing, take_slot}
+use Rattle.sqlite_resolve.specs.declared.state.State.{State}
+use Rattle.sqlite_resolve.specs.declared.state.Carried.{Carried}
+use Rattle.sqlite_resolve.specs.Body.{body, result, matching, outputs, shown, stars, columns_of, columns_from, heading, is_column, bounds, bound as bound_of, table_in, joins, join, shared, inner_join, tests, declared as declared_name}
+use Rattle.sqlite_resolve.specs.declared.body.Body.{Body}
+use Rattle.sqlite_resolve.specs.Select.{outermost, parts, having, named as named', assembled, ungrouped, paging, constant_or}
+use Rattle.sqlite_resolve.specs.Order.{keys, sorts}
+use Rattle.sqlite_resolve.specs.Program.{Shown as Shown', query as query', query_to, level as level', with, whole, alone, single, sources, source, viewing, program as program'}
+use Rattle.sqlite.specs.Compile.{compiled, first, planned, meaning, command, with_command, returning, timed, small, read as read'}
+use Rattle.sqlite.specs.Listing.{understood, reads_listing}
+use Rattle.sqlite_syntax.specs.declared.statement.Parsed.{Parsed}
+use Rattle.sqlite_ast.specs.declared.Statement.TheVariants as written
+use Rattle.sqlite.specs.Command.TheVariants.{Select as Select'}
+use Rattle.sqlite_schema.specs.declared.program.Program.{Program}
+use Rattle.sqlite_draft.specs.Query.{query_of}
+use Rattle.sqlite_typing.specs.Types.{accepts_program}
+use Rattle.sqlite_draft.specs.declared.query.Draft.{Draft}
+use Rattle.sqlite.specs.Query.{Query, inner, end}
+use Rattle.sqlite.specs.declared.types.Value.TheVariants.{Int}
+use Rattle.sqlite_value.specs.declared.keys.Key.{Key}
+use Rattle.sqlite_schema.specs.Names.{table_named, column_named, place_of, same_name}
+use Rattle.sqlite_schema.specs.declared.schema.Column.{Column}
+use Rattle.sqlite_draft.specs.declared.join.Step.TheVariants.{Inner}
+use Rattle.sqlite_tied.specs.Compute.{everything}
+use Rattle.sqlite_ast.specs.Layer.{Layer, ShownLayer}
+use Rattle.sqlite_ast.specs.declared.Expr.{Expr, out-Expr, roll-Expr}
+use Rattle.sqlite_ast.specs.declared.Expr.TheOpen.{Expr-F, Shown-F}
+use Rattle.sqlite_ast.specs.declared.Shown.{Shown, out-Shown, roll-Shown}
+use Rattle.sqlite_ast.specs.declared.Source.{Source, out-Source, roll-Source}
+use Rattle.sqlite_ast.specs.declared.Core.{Core, out-Core, roll-Core}
+use Rattle.sqlite_ast.specs.declared.Select.{Select, out-Select, roll-Select}
+use Rattle.sqlite_ast.specs.declared.Sort.{Sort, out-Sort, roll-Sort}
+use Rattle.sqlite_ast.specs.declared.Origin.TheVariants.{Table as Table'}
+use Rattle.dict_sql.specs.Effects.{HasTable}
+
+-- ---- the tree of such a text
+
+unfoldable pub rowid_expr : Expr
+rowid_expr = roll-Expr (Expr-F.Column None (codes "rowid"))
+
+unfoldable pub rowid_shown : Shown
+rowid_shown = roll-Shown (Shown-F.One rowid_expr None (codes "rowid"))
+
+unfoldable pub all_shown : Shown
+all_shown = roll-Shown Shown-F.All
+
+unfoldable pub source_of : Name → Source
+source_of name = roll-Source (record { is_left = false; origin = Table' name; alias = None; on = None; using = [] })
+
+unfoldable pub core_of : Name → Option Expr → Core
+core_of name test = roll-Core (record { distinct = false; shown = rowid_shown ∷ all_shown ∷ []; from = source_of name ∷ []; filter = test; group = []; having = None })
+
+unfoldable pub select_of : Name → Option Expr → List Sort → Select
+select_of name test order = roll-Select (record { with = []; first = core_of name test; others = []; order = order; limit = None; offset = None })
+
+out_rowid : out-Expr rowid_expr ≡ Expr-F.Column None (codes "rowid")
+unfolding everything rowid_expr
+out_rowid = refl
+
+out_one : out-Shown rowid_shown ≡ Shown-F.One rowid_expr None (codes "rowid")
+unfolding everything rowid_shown
+out_one = refl
+
+out_all : out-Shown all_shown ≡ Shown-F.All
+unfolding everything all_shown
+out_all = refl
+
+module _ (name : Name) where
+  out_origin : (out-Source (source_of name)).origin ≡ Table' name
+  unfolding everything source_of
+  out_origin = refl
+
+  out_alias : (out-Source (source_of name)).alias ≡ None
+  unfolding everything source_of
+  out_alias = refl
+
+  out_using : (out-Source (source_of name)).using ≡ []
+  unfolding everything source_of
+  out_using = refl
+
+  out_on : (out-Source (source_of name)).on ≡ None
+  unfolding everything source_of
+  out_on = refl
+
+  out_left : (out-Source (source_of name)).is_left ≡ false
+  unfolding everything source_of
+  out_left = refl
+
+module _ (name : Name) (test : Option Expr) where
+  out_distinct : (out-Core (core_of name test)).distinct ≡ false
+  unfolding everything core_of
+  out_distinct = refl
+
+  out_shown : (out-Core (core_of name test)).shown ≡ rowid_shown ∷ all_shown ∷ []
+  unfolding everything core_of
+  out_shown = refl
+
+  out_from : (out-Core (core_of name test)).from ≡ source_of name ∷ []
+  unfolding everything core_of
+  out_from = refl
+
+  out_group : (out-Core (core_of name test)).group ≡ []
+  unfolding everything core_of
+  out_group = refl
+
+  out_having : (out-Core (core_of name test)).having ≡ None
+  unfolding everything core_of
+  out_having = refl
+
+out_filter : (name : Name) (test : Option Expr) → (out-Core (core_of name test)).filter ≡ test
+unfolding everything core_of
+out_filter name None = refl
+out_filter name (Some e) = refl
+
+module _ (name : Name) (test : Option Expr) (order : List Sort) where
+  out_with : (out-Select (select_of name test order)).with ≡ []
+  unfolding everything select_of
+  out_with = refl
+
+  out_first : (out-Select (select_of name test order)).first ≡ core_of name test
+  unfolding everything select_of
+  out_first = refl
+
+  out_others : (out-Select (select_of name test order)).others ≡ []
+  unfolding everything select_of
+  out_others = refl
+
+  out_limit : (out-Select (select_of name test order)).limit ≡ None
+  unfolding everything select_of
+  out_limit = refl
+
+  out_offset : (out-Select (select_of name test order)).offset ≡ None
+  unfolding everything select_of
+  out_offset = refl
+
+-- what is collected, where no step and no aggregate is needed
+abbrev pub plainly : ℕ → Carried → State
+plainly budget carried = record { next = 2; steps = []; aggregates = []; budget = budget; written = None; last = carried }
+
+abbrev pub bound_in : ℕ → Table → Bound
+bound_in at table = record { name = table.name; table = at; slot = 1; shared = [] }
+
+abbrev pub context_of : Schema → ℕ → Table → List Output → Bool → Bool → Context
+context_of schema at table shows may_aggregate may_alias = record { schema = schema; levels = record { tables = bound_in at table ∷ []; shown = shows } ∷ []; may_aggregate = may_aggregate; may_alias = may_alias }
+
+-- the name that the rowid is shown under
+abbrev pub rowid_name : Table → Name
+rowid_name table = unwrap_or (option_and_then (λ k. option_map (λ (c : Column). c.name) (slice_get table.columns k)) table.key) (codes "rowid")
+
+abbrev pub rowid_output : Table → Output
+rowid_output table = record { name = rowid_name table; is_alias = false; is_column = true; term = col 1 0; carried = nothing }
+
+-- the rowid, and then each column
+abbrev pub outputs_of : ℕ → Table → List Output
+outputs_of at table = columns_from None table (bound_in at table) 0 (rowid_output table ∷ []) table.columns
+
+abbrev pub draft_of : ℕ → Table → List Term → List (Term × Key) → Draft
+draft_of at table filter order = record { from = inner table.tree end; filter = filter; group = None; project = map (λ (o : Output). o.term) (outputs_of at table); distinct = false; collations = []; order = order; limit = lit (Int (negsuc 0)); offset = lit (Int (pos 0)) }
+
+abbrev pub query_over : ℕ → Table → List Term → List (Term × Key) → Query
+query_over at table filter order = query_of (draft_of at table filter order)
+
+-- ---- the levels
+
+module _ (schema : Schema) (at : ℕ) (table : Table) (has : HasTable schema at table) (no_rowid : column_named table (codes "rowid") ≡ None) where
+  abbrev named : table_named schema table.name ≡ Some at
+  named = has.named
+
+  abbrev is : slice_get schema.tables at ≡ Some table
+  is = has.is
+
+  abbrev bound : Bound
+  bound = bound_in at table
+
+  module _ (shows : List Output) (may_aggregate may_alias : Bool) where
+    abbrev cx : Context
+    cx = context_of schema at table shows may_aggregate may_alias
+
+    rowid_is : (s : State) → column cx None (codes "rowid") s ≡ Ok (col 1 0, record s { last = nothing })
+    unfolding column find_name in_level only hit column_in rowid_in is_rowid same_name term_of is_among
+    rowid_is s = let stored = lt-ltb table.tree (2 ^ 31) has.stored in rw (is, no_rowid, stored) refl
+
+    lower_rowid : (s : State) → nat_lt 1 s.budget ≡ true → s.written ≡ None
+        → lower cx rowid_expr s ≡ Ok (col 1 0, record s { budget = s.budget - 1; written = None; last = nothing })
+    unfolding lower_to node opened spend begin finish passes
+    lower_rowid s rich clear = rw (rich, out_rowid, clear, rowid_is (record s { budget = s.budget - 1; written = None; last = nothing })) refl
+
+  heading_is : (shows : List Output) (may_aggregate may_alias : Bool) → heading (cx shows may_aggregate may_alias) rowid_expr (codes "rowid") ≡ rowid_name table
+  unfolding heading find_name in_level only hit column_in rowid_in is_rowid same_name is_among declared_name
+  heading_is shows may_aggregate may_alias = let stored = lt-ltb table.tree (2 ^ 31) has.stored in rw (out_rowid, is, no_rowid, stored) (rw is refl)
+
+  abbrev outs : List Output
+  outs = outputs_of at table
+
+  module _ (few : nat_lt 2000 (length outs) ≡ false) (some : nat_lt 1 (length outs) ≡ true) (test : Option Expr) where
+    stars_are : stars schema None (rowid_output table ∷ []) (bound ∷ []) ≡ Ok outs
+    unfolding stars columns_of
+    stars_are = rw (is, few, some) refl
+
+    abbrev core : Core
+    core = core_of table.name test
+
+    abbrev level : Level
+    level = record { tables = bound ∷ []; shown = [] }
+
+    abbrev after : State
+    after = record (fresh 2 max_budget) { budget = max_budget - 1 }
+
+    bounds_are : bounds schema (source_of table.name ∷ []) (fresh 1 max_budget) ≡ Ok (bound ∷ [], fresh 2 max_budget)
+    unfolding bounds bound_of table_in take_slot
+    bounds_are = rw (out_origin table.name, has.named, out_alias table.name, out_using table.name) refl
+
+    result_is : result lower (outermost schema) level core (fresh 2 max_budget) ≡ Ok (outs, after)
+    unfolding result outputs shown is_column
+    result_is = rw (out_shown table.name test, out_one, out_all, lower_rowid [] true true (fresh 2 max_budget) refl refl, heading_is [] true true, out_rowid, stars_are) refl
+
+    joins_are : joins lower (cx outs false true) (bound ∷ []) (source_of table.name ∷ []) after ≡ Ok (record { steps = Inner table.tree ∷ []; filter = [] }, after)
+    unfolding joins join shared inner_join tests
+    joins_are = rw (out_on table.name, out_using table.name, is, out_left table.name) refl
+
+    module _ (filter : List Term) (left : ℕ) (carried : Carried) (filter_is : tests lower (cx outs false true) [] test after ≡ Ok (filter, plainly left carried)) where
+      abbrev then : State
+      then = plainly left carried
+
+      matching_is : matching lower (outermost schema) (record { tables = bound ∷ []; shown = outs }) core after ≡ Ok (record { steps = Inner table.tree ∷ []; filter = filter }, then)
+      unfolding matching
+      matching_is = rw (out_from table.name test, joins_are, out_filter table.name test, filter_is) refl
+
+      body_is : body lower (outermost schema) core (fresh 1 max_budget) ≡ Ok (record { level = record { tables = bound ∷ []; shown = outs }; steps = Inner table.tree ∷ []; filter = filter }, then)
+      unfolding body
+      body_is = rw (out_from table.name test, bounds_are, result_is, matching_is) refl
+
+      module _ (sorted : List Sort) (order : List (Term × Key)) (rest : ℕ) (last : Carried) (sorts_are : sorts lower (cx outs false true) outs sorted then ≡ Ok (order, plainly rest last)) (orders : (out-Select (select_of table.name test sorted)).order ≡ sorted) where
+        having_is : (may_aggregate : Bool) (s : State) → having (cx outs may_aggregate true) None s ≡ Ok ([], s)
+        unfolding having tests
+        having_is true s = refl
+        having_is false s = refl
+
+        no_keys : (s : State) → keys lower (cx outs false true) outs [] s ≡ Ok (([], []), s)
+        unfolding keys
+        no_keys s = refl
+
+        parts_are : parts schema core sorted (fresh 1 max_budget) ≡ Ok (record { body = record { level = record { tables = bound ∷ []; shown = outs }; steps = Inner table.tree ∷ []; filter = filter }; is_grouped = false; keys = []; collations = []; having = []; order = order }, plainly rest last)
+        unfolding parts
+        parts_are = rw (body_is, out_group table.name test, no_keys then, out_having table.name test, having_is false then, sorts_are) refl
+
+        abbrev draft : Draft
+        draft = draft_of at table filter order
+
+        abbrev page : Term × Term
+        page = (lit (Int (negsuc 0)), lit (Int (pos 0)))
+
+        abbrev read : Shown'
+        read = (draft, map (λ (o : Output). o.name) outs, map (λ (o : Output). o.carried.collation) outs)
+
+        named_is : named' schema core sorted page ≡ Ok read
+        unfolding named' assembled ungrouped
+        named_is = rw (parts_are, out_distinct table.name test) refl
+
+        abbrev select : Select
+        select = select_of table.name test sorted
+
+        paging_is : paging schema select ≡ Ok page
+        unfolding paging constant_or
+        paging_is = rw (out_limit table.name test sorted, out_offset table.name test sorted) refl
+
+        query_is : query' schema select ≡ Ok (read, [])
+        unfolding query' query_to level' with whole alone single sources source viewing
+        query_is = rw (out_with table.name test sorted, out_others table.name test sorted, paging_is, out_first table.name test sorted, orders, out_from table.name test, out_origin table.name, named_is) refl
+
+        abbrev pub program : Program
+        program = record { lets = []; body = query_of draft }
+
+        abbrev pub names : List Name
+        names = map (λ (o : Output). o.name) outs
+
+        module _ (accepted : accepts_program schema [] (query_of draft) [] ≡ true) where
+          reads_is : read' schema select ≡ Ok (Select' program names)
+          unfolding read' program'
+          reads_is = rw (query_is, accepted) refl
+
+          planned_is : (p : Parsed) → p.statement ≡ written.Select select → p.formats ≡ [] → planned schema p ≡ Ok ([], (Select' program names, None))
+          unfolding planned meaning command returning timed
+          planned_is p statement formats = rw (statement, formats, reads_is) refl
+
+          pub text_is : (text : List ℕ) (p : Parsed) → first text ≡ Ok p → p.statement ≡ written.Select select → p.formats ≡ [] → understood schema text ≡ Ok (with_command p ([], (Select' program names, None)))
+          unfolding compiled understood
+          text_is text p parsed statement formats = rw (parsed, planned_is p statement formats) refl
+
+          -- the text reads no list of the schema
+          pub listing_is : (text : List ℕ) (p : Parsed) → first text ≡ Ok p → p.statement ≡ written.Select select → p.formats ≡ [] → reads_listing schema text ≡ false
+          unfolding compiled
+          listing_is text p parsed statement formats = rw (parsed, planned_is p statement formats) refl

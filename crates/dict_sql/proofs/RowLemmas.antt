@@ -1,0 +1,23 @@
+-- A row from its columns.
+use Rattle.std.proofs.Common.{◌≡◌, ℕ, suc, ◌+◌, List, [], ◌∷◌, map, length, refl, sym, ap, subst, ◌∙◌, arith, add-zero, Option, Some, None, MatchOption, ◌≢◌}
+use Rattle.sqlite.specs.declared.types.Value.{Value}
+use Rattle.sqlite.specs.declared.types.Value.TheVariants.{Null}
+use Rattle.sqlite.specs.Values.{or_null}
+use Rattle.std.specs.List.{range_with_len}
+use Rattle.sqlite.specs.Order.{Row, column}
+
+cells_from : (r : Row) (a : ℕ) (s : Row) → ((k : ℕ) → column s (a + k) ≡ column r k) → map (column s) (range_with_len a (length r)) ≡ r
+cells_from [] a s h = refl
+cells_from (x ∷ r) a s h =
+    let head : column s a ≡ x = ap (column s) (sym (add-zero a)) ∙ h 0 in
+    let next : (k : ℕ) → column s ((a + 1) + k) ≡ column r k = λ k. let same : (a + 1) + k ≡ a + suc k = omega arith in ap (column s) same ∙ h (suc k) in
+    rw head (ap (λ rest. x ∷ rest) (cells_from r (a + 1) s next))
+
+-- a row of this width is its columns in their order
+pub cells : (r : Row) (n : ℕ) → length r ≡ n → r ≡ map (column r) (range_with_len 0 n)
+cells r n wide = sym (subst (λ w. map (column r) (range_with_len 0 w) ≡ r) wide (cells_from r 0 r (λ k. let same : 0 + k ≡ k = omega arith in ap (column r) same)))
+
+-- what is read of a column that may be NULL
+pub read_or_null : {X : Type 0} (f : X → Value) (v : Value) (o : Option X) → MatchOption o (v ≡ Null) (λ x. (v ≢ Null) × (v ≡ f x)) → v ≡ or_null f o
+read_or_null f v None h = h
+read_or_null f v (Some x) h = h.1

@@ -1,0 +1,18 @@
+use Rattle.std.proofs.Common.{[], ap, arith}
+use Rattle.sqlite.specs.Held.{state}
+use Rattle.dict_sql.specs.Tables.{mark, create_mark}
+use Rattle.dict_sql.proofs.StateLemmas.{inside, fails_in}
+use Rattle.dict_sql.proofs.CreateLemmas.{read_mark, reads_mark, makes}
+use Rattle.dict_sql.proofs.create.create_mark.Goals as goal
+
+pub returns-clause-made : goal.returns-clause-made
+returns-clause-made g c clean =
+    let old = state g.S.Store c.args.tx.now.conn.now in
+    let new = state g.S.Store c.execute.new.self.conn.now in
+    inside create_mark [] old new c.execute.result
+    (λ count. makes create_mark read_mark (mark 0) reads_mark old new count (c.requires (omega (arith, c.execute.ensures.survives.clean))))
+    (λ outside. (c.execute.ensures.ended outside).0) (c.execute.ensures.runs clean)
+
+pub returns-clause-failed : goal.returns-clause-failed
+returns-clause-failed g c clean =
+    fails_in (state g.S.Store c.args.tx.now.conn.now) (state g.S.Store c.execute.new.self.conn.now) _ _ c.execute.result (λ outside. ap (state g.S.Store) (c.execute.ensures.ended outside).1) (c.execute.ensures.runs clean)

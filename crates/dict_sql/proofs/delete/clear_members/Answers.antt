@@ -1,0 +1,19 @@
+use Rattle.std.proofs.Common.{true, [], refl, ap, arith}
+use Rattle.sqlite.specs.Held.{state}
+use Rattle.dict_sql.specs.Tables.{member}
+use Rattle.dict_sql.specs.Deletes.{delete_member}
+use Rattle.dict_sql.proofs.StateLemmas.{inside, fails_in}
+use Rattle.dict_sql.proofs.DeleteTexts.{read_member, reads_member, removes_rows}
+use Rattle.dict_sql.proofs.delete.clear_members.Goals as goal
+
+pub returns-clause-removed : goal.returns-clause-removed
+returns-clause-removed g c clean =
+    let old = state g.S.Store c.args.tx.now.conn.now in
+    let new = state g.S.Store c.execute.new.self.conn.now in
+    inside delete_member [] old new c.execute.result
+    (λ count. removes_rows delete_member read_member member _ _ _ reads_member (λ tree. refl) [] (λ _. true) (λ tree row. refl) old new count (c.requires.has (omega (arith, c.execute.ensures.survives.clean))) (c.requires.apart (omega (arith, c.execute.ensures.survives.clean))))
+    (λ outside. (c.execute.ensures.ended outside).0) (λ within. (c.execute.ensures.runs clean within))
+
+pub returns-clause-failed : goal.returns-clause-failed
+returns-clause-failed g c clean =
+    fails_in (state g.S.Store c.args.tx.now.conn.now) (state g.S.Store c.execute.new.self.conn.now) _ _ c.execute.result (λ outside. ap (state g.S.Store) (c.execute.ensures.ended outside).1) (c.execute.ensures.runs clean)

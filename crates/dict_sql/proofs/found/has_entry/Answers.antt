@@ -1,0 +1,17 @@
+use Rattle.std.proofs.Common.{◌≡◌, Some, codes, slice_get, rules, sym, ap, subst, IsTrue}
+use Rattle.sqlite.specs.Table.{Table}
+use Rattle.dict_sql.specs.Tables.{entry}
+use Rattle.dict_sql.specs.Effects.{HasTable}
+use Rattle.dict_sql.proofs.FoundLemmas.{is_found}
+use Rattle.dict_sql.proofs.found.has_entry.Goals as goal
+
+pub returns-then-is_entry : goal.returns-then-is_entry
+returns-then-is_entry c held =
+    let schema = c.args.schema.now in
+    let at = c.in-Some.at in
+    let table : Table = c.in-Some-get.table.now in
+    let yes : IsTrue c.is_entry.result = search rules in
+    let same : table ≡ entry table.tree = c.is_entry.ensures yes in
+    let there : slice_get schema.tables at ≡ Some table = sym c.in-Some-get.ensures.value in
+    let found = is_found schema at table there (c.is_alone.ensures held) (codes "entry") (ap (λ (t : Table). t.name) same) (sym c.in-Some.ensures) in
+    (at, table.tree, subst (HasTable schema at) same found)

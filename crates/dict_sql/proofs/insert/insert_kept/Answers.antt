@@ -1,0 +1,19 @@
+use Rattle.sqlite.specs.Held.{state}
+use Rattle.std.proofs.Common.{ap, arith}
+use Rattle.dict_sql.specs.Tables.{insert_kept}
+use Rattle.dict_sql.specs.Records.{Kept, kept_row}
+use Rattle.dict_sql.proofs.StateLemmas.{inside, fails_in}
+use Rattle.dict_sql.proofs.AddLemmas.{adds_kept, bound_number}
+use Rattle.dict_sql.proofs.insert.insert_kept.Goals as goal
+
+pub returns-clause-added : goal.returns-clause-added
+returns-clause-added g c clean =
+    let old = state g.S.Store c.args.tx.now.conn.now in
+    let new = state g.S.Store c.execute.new.self.conn.now in
+    let given : Kept = record { id = c.args.id.now; number = c.args.number; verb = c.args.verb.now; name = c.args.name.now; edition = c.args.edition } in
+    inside insert_kept (kept_row given) old new c.execute.result (λ count. adds_kept old new given count (c.requires (omega (arith, c.execute.ensures.survives.clean)))) (λ outside. (c.execute.ensures.ended outside).0)
+    (λ within. rw (c.params-to_sql.ensures, c.params-to_sql-2.ensures, c.params-to_sql-3.ensures, c.params-to_sql-4.ensures, c.params-to_sql-5.ensures, bound_number c.args.edition) at (c.execute.ensures.runs clean within))
+
+pub returns-clause-failed : goal.returns-clause-failed
+returns-clause-failed g c clean =
+    fails_in (state g.S.Store c.args.tx.now.conn.now) (state g.S.Store c.execute.new.self.conn.now) _ _ c.execute.result (λ outside. ap (state g.S.Store) (c.execute.ensures.ended outside).1) (c.execute.ensures.runs clean)

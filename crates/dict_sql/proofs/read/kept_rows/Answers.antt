@@ -1,0 +1,20 @@
+use Rattle.std.proofs.Common.{[], true, codes, refl, arith}
+use Rattle.sqlite.specs.Held.{state}
+use Rattle.dict_sql.specs.Tables.{kept}
+use Rattle.dict_sql.specs.Reads.{select_kept}
+use Rattle.dict_sql.proofs.ReadTexts.{read_kept, reads_kept}
+use Rattle.dict_sql.proofs.ListingLemmas.{lists_whole, selects, fails_to_list, reads_nothing_else}
+use Rattle.dict_sql.proofs.read.kept_rows.Goals as goal
+
+pub returns-clause-listed : goal.returns-clause-listed
+returns-clause-listed g c clean =
+    lists_whole (codes "kept") _ (state g.S.Store c.args.conn.now) (state g.S.Store c.query_all.new.self) c.query_all.result
+    (selects select_kept read_kept kept _ _ _ _ _ _ _ _ reads_kept (λ tree. refl) [] (λ _. true) (λ tree row. refl) (state g.S.Store c.args.conn.now) (state g.S.Store c.query_all.new.self) c.query_all.result (c.requires (omega (arith, c.query_all.ensures.survives.clean))) (c.query_all.ensures.ok clean))
+
+pub returns-clause-failed : goal.returns-clause-failed
+returns-clause-failed g c clean =
+    fails_to_list select_kept read_kept kept _ _ _ _ _ _ _ _ reads_kept (λ tree. refl) [] (λ _. true) (λ tree row. refl) (state g.S.Store c.args.conn.now) (state g.S.Store c.query_all.new.self) c.query_all.result (c.requires (omega (arith, c.query_all.ensures.survives.clean))) (c.query_all.ensures.err clean)
+
+pub returns-clause-survives : goal.returns-clause-survives
+returns-clause-survives g c =
+    reads_nothing_else select_kept read_kept kept _ _ _ _ _ _ _ _ reads_kept (λ tree. refl) [] (λ _. true) (λ tree row. refl) (state g.S.Store c.args.conn.now) (state g.S.Store c.query_all.new.self) c.requires c.query_all.ensures.survives

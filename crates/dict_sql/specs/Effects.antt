@@ -1,0 +1,90 @@
+-- What a statement does to the rows of a table.
+use Rattle.std.specs.Prelude.{Bool, true, false, None, not, filter, pos, ◌<◌, ◌≡◌, ◌≢◌, ◌⊎◌, ⊤, IsTrue, ℕ, ℤ, ◌^◌, ◌==◌, nat_lt, List, [], ◌∷◌, map, find, Option, Some, slice_get, option_map, option_and_then, unwrap_or, IsPermutation, length}
+use Rattle.std.specs.List.{AllByRecursion, IsDistinct, range_with_len}
+use Rattle.std.specs.Ordering.{is_eq}
+use Rattle.sqlite_schema.specs.declared.schema.Reference.{Reference}
+use Rattle.sqlite.specs.declared.types.Value.{Value}
+use Rattle.sqlite.specs.Effect.{Database, IsDatabase}
+use Rattle.sqlite.specs.declared.types.Value.TheVariants.{Int, Text as Words}
+use Rattle.sqlite.specs.Order.{Row, column, value_cmp}
+use Rattle.sqlite.specs.State.{State, Shows, KeepsCommit, IsUnchanged, IsRolledBack, HasCause, store_error}
+use Rattle.sqlite.specs.declared.error.Error.{Error}
+use Rattle.sqlite_trees.specs.declared.error.StoreError.{StoreError}
+use Rattle.sqlite.specs.Table.{Table}
+use Rattle.sqlite.specs.Schema.{Schema}
+use Rattle.sqlite_schema.specs.Names.{table_named, place_of, same_name}
+
+abbrev pub is_in : ℕ → Option Table → Bool
+is_in tree None = false
+is_in tree (Some t) = t.tree == tree
+
+-- The schema has the table at this place of its list, the first in its tree, and no foreign key refers to it. A caller tests it over the schema that it finds.
+pub record HasTable (schema : Schema) (at : ℕ) (table : Table) : Type 0 where
+  pub named : table_named schema table.name ≡ Some at
+  pub is : slice_get schema.tables at ≡ Some table
+  pub alone : find (λ t. t.tree == table.tree) schema.tables ≡ Some table
+  pub stored : table.tree < 2 ^ 31
+  pub unreferred : AllByRecursion (λ child. AllByRecursion (λ (ref : Reference). is_in table.tree (find (λ t. same_name t.name ref.parent) schema.tables) ≡ false) child.references) schema.tables
+
+-- the database has the table, in some tree
+abbrev pub Has : (ℕ → Table) → Database → Type 0
+Has table db = (at : ℕ) × (tree : ℕ) × HasTable db.schema at (table tree)
+
+-- the rowid of a stored row, and then its columns as they were declared
+abbrev pub shown : Table → Row → Row
+shown table row = column row 0 ∷ map (λ at. column row (place_of table at)) (range_with_len 0 (length table.columns))
+
+abbrev pub table_in : List ℕ → Database → Option Table
+table_in name db = option_and_then (slice_get db.schema.tables) (table_named db.schema name)
+
+-- the rows of a table, each after its rowid, in no order that counts
+abbrev pub rows_of : List ℕ → Database → List Row
+rows_of name db = unwrap_or (option_map (λ t. map (shown t) (db.trees t.tree)) (table_in name db)) []
+
+-- The table is the only one that may have changed.
+abbrev pub SameOthers : List ℕ → Database → Database → Type 0
+SameOthers name old new = (table : Table) → table_in name old ≡ Some table → AllByRecursion (λ t. t.tree ≢ table.tree → new.trees t.tree ≡ old.trees t.tree) old.schema.tables
+
+abbrev pub same_value : Value → Value → Bool
+same_value a b = is_eq (value_cmp a b)
+
+-- the rowids are integers, and no two are the same
+pub record HasApartRowids (rows : List Row) : Type 0 where
+  pub integers : AllByRecursion (λ r. (n : ℤ) × (column r 0 ≡ Int n)) rows
+  pub apart : IsDistinct same_value (map (λ r. column r 0) rows)
+
+-- one row more in one table, under a rowid that was free, and nothing else has changed
+pub record IsAdded (name : List ℕ) (row : Row) (old new : Database) : Type 0 where
+  pub schema : new.schema ≡ old.schema
+  pub id : ℤ
+  pub free : AllByRecursion (λ r. column r 0 ≢ Int id) (rows_of name old)
+  pub rows : IsPermutation ((Int id ∷ row) ∷ rows_of name old) (rows_of name new)
+  pub others : SameOthers name old new
+  pub sound : IsDatabase new
+
+-- the rows of one table that pass a test are gone, and nothing else has changed
+pub record IsRemoved (name : List ℕ) (test : Row → Bool) (old new : Database) : Type 0 where
+  pub schema : new.schema ≡ old.schema
+  pub rows : rows_of name new ≡ filter (λ r. not (test r)) (rows_of name old)
+  pub others : SameOthers name old new
+  pub sound : IsDatabase new
+
+-- the rows that have this number in a column, as SQL compares values
+abbrev pub equals_number : ℕ → ℕ → Row → Bool
+equals_number at n r = same_value (column r at) (Int (pos n))
+
+abbrev pub equals_text : ℕ → List ℕ → Row → Bool
+equals_text at t r = same_value (column r at) (Words t)
+
+-- A statement changed nothing, or its transaction was undone, for want of memory or by a fault of the store.
+abbrev pub Stops : State → State → Error → Type 0
+Stops old new e = IsUnchanged old new ⊎ ((why : StoreError) × (e ≡ store_error why) × HasCause old new ⊤ why × IsRolledBack old new)
+
+-- A statement of a transaction failed: nothing was committed.
+pub record FailsIn (old new : State) (e : Error) : Type 0 where
+  pub keeps : KeepsCommit old new
+  pub cause : IsTrue old.in_transaction → Stops old new e
+
+-- A statement of a transaction succeeded: it sees what it wrote, and nothing was committed.
+abbrev pub GoesOn : State → State → Type 0
+GoesOn old new = Shows old new new.now old.committed true

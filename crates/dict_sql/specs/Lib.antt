@@ -1,0 +1,9 @@
+pub mod Tables
+pub mod Records
+pub mod Effects
+pub mod Reads
+pub mod Stored
+pub mod Deletes
+pub mod Creates
+pub mod Names
+pub mod Found

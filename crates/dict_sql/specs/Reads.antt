@@ -1,0 +1,50 @@
+-- The texts that read a table whole, and in which order its rows come.
+use Rattle.std.specs.Prelude.{ℕ, List, [], ◌∷◌, codes, Bool, filter, IsPermutation, IsSorted}
+use Rattle.std.specs.declared.cmp.Ordering.{Ordering}
+use Rattle.std.specs.declared.cmp.Ordering.TheVariants.{Equal}
+use Rattle.std.specs.Ordering.{ordering_then}
+use Rattle.sqlite.specs.Order.{Row, column, value_cmp}
+use Rattle.sqlite.specs.Effect.{Database}
+use Rattle.dict_sql.specs.Effects.{rows_of}
+
+abbrev pub select_mark : List ℕ
+select_mark = codes "SELECT rowid, * FROM mark ORDER BY 2"
+
+abbrev pub select_item : List ℕ
+select_item = codes "SELECT rowid, * FROM item ORDER BY 2"
+
+abbrev pub select_member : List ℕ
+select_member = codes "SELECT rowid, * FROM member ORDER BY 2, 3"
+
+abbrev pub select_edition : List ℕ
+select_edition = codes "SELECT rowid, * FROM edition ORDER BY 2"
+
+abbrev pub select_entry : List ℕ
+select_entry = codes "SELECT rowid, * FROM entry ORDER BY 2, 3"
+
+abbrev pub select_kept : List ℕ
+select_kept = codes "SELECT rowid, * FROM kept ORDER BY 3"
+
+-- the order of rows by these columns, where the rowid is column 0
+abbrev pub by_columns : List ℕ → Row → Row → Ordering
+by_columns [] a b = Equal
+by_columns (c ∷ cs) a b = ordering_then (value_cmp (column a c) (column b c)) (by_columns cs a b)
+
+-- all rows of a table, each after its rowid, in the order of these columns
+pub record IsListing (name : List ℕ) (columns : List ℕ) (db : Database) (rows : List Row) : Type 0 where
+  pub same : IsPermutation (rows_of name db) rows
+  pub sorted : IsSorted (by_columns columns) rows
+
+abbrev pub select_one_edition : List ℕ
+select_one_edition = codes "SELECT rowid, * FROM edition WHERE number = ?1 ORDER BY 2"
+
+abbrev pub select_some_entries : List ℕ
+select_some_entries = codes "SELECT rowid, * FROM entry WHERE edition = ?1 ORDER BY 3"
+
+abbrev pub select_one_kept : List ℕ
+select_one_kept = codes "SELECT rowid, * FROM kept WHERE id = ?1 ORDER BY 3"
+
+-- the rows of a table that pass a test, each after its rowid, in the order of these columns
+pub record IsSelection (name : List ℕ) (test : Row → Bool) (columns : List ℕ) (db : Database) (rows : List Row) : Type 0 where
+  pub same : IsPermutation (filter test (rows_of name db)) rows
+  pub sorted : IsSorted (by_columns columns) rows

@@ -1,0 +1,409 @@
+//! Whether a schema that is found has the tables as they are defined here.
+
+ghost use Rattle.std.specs.Prelude.{true, false, ◌≡◌, ◌<◌, ◌^◌, ℕ, List, [], ◌∷◌, codes, IsTrue, IfSome, ◌==◌, option_and_then, slice_get};
+ghost use Rattle.std.specs.List.{list_any, position_from};
+ghost use Rattle.sqlite_schema.specs.Names.{table_named};
+ghost use Rattle.sqlite_schema.specs.declared.schema.Reference.{Reference as SqlReference};
+ghost use Rattle.dict_sql.specs.Effects.{HasTable, is_in};
+ghost use Rattle.dict_sql.specs.Found.{IsAlone};
+ghost use Rattle.sqlite_value.specs.Keys.{plain};
+ghost use Rattle.sqlite.specs.Kind.TheVariants.{Integer};
+ghost use Rattle.dict_sql.specs.Tables.{mark, item, member, edition as edition_table, entry, kept, column_of};
+
+use sqlite_items::Items;
+use sqlite_schema::schema::{Column, Kind, Reference, Schema, Table};
+use sqlite_value::keys::{Collation, Order};
+use sqlite_value::value::Value;
+
+// Whether a column is strict, with no default, and has this name and kind.
+fn is_column(column: &Column, name: &[u8], kind: Kind, not_null: bool) -> bool
+    ensures { IsTrue result → column.now ≡ column_of name.now kind not_null }
+{
+    column.name.as_slice() == name
+        && column.kind == kind
+        && column.is_strict
+        && column.not_null == not_null
+        && matches!(column.default, Value::Null)
+        && column.collation == Collation::Binary
+}
+
+// No rule of the table is more than its keys.
+fn is_plain(table: &Table) -> bool
+    ensures { IsTrue result → (table.now.checks ≡ []) × (table.now.references ≡ []) × (table.now.computed ≡ []) × (table.now.stamps ≡ record { places = []; terms = []; formats = [] }) × (table.now.is_counted ≡ false) }
+{
+    table.checks.roots.is_empty()
+        && table.references.is_empty()
+        && table.computed.is_empty()
+        && table.stamps.places.is_empty()
+        && table.stamps.terms.roots.is_empty()
+        && table.stamps.formats.is_empty()
+        && !table.is_counted
+}
+
+fn is_key(places: &Items<usize>, key: &[usize]) -> bool
+    ensures { IsTrue result → places.now ≡ key.now }
+{
+    places.as_slice() == key
+}
+
+fn is_one_key(keys: &[Items<usize>], key: &[usize]) -> bool
+    ensures { IsTrue result → keys.now ≡ key.now ∷ [] }
+{
+    match keys {
+        [only] => is_key(only, key),
+        _ => false,
+    }
+}
+
+fn are_two_keys(keys: &[Items<usize>], first: &[usize], second: &[usize]) -> bool
+    ensures { IsTrue result → keys.now ≡ first.now ∷ second.now ∷ [] }
+{
+    match keys {
+        [a, b] => is_key(a, first) && is_key(b, second),
+        _ => false,
+    }
+}
+
+fn is_one_plain(orders: &[Order]) -> bool
+    ensures { IsTrue result → orders.now ≡ plain ∷ [] }
+{
+    match orders {
+        [only] => only.digits == 0,
+        _ => false,
+    }
+}
+
+fn are_two_plain(orders: &[Order]) -> bool
+    ensures { IsTrue result → orders.now ≡ plain ∷ plain ∷ [] }
+{
+    match orders {
+        [a, b] => a.digits == 0 && b.digits == 0,
+        _ => false,
+    }
+}
+
+fn are_count_columns(columns: &[Column]) -> bool
+    ensures { IsTrue result → columns.now ≡ column_of (codes "version") Integer true ∷ column_of (codes "installs") Integer true ∷ [] }
+{
+    match columns {
+        [version, installs] => {
+            is_column(version, b"version", Kind::Integer, true)
+                && is_column(installs, b"installs", Kind::Integer, true)
+        }
+        _ => false,
+    }
+}
+
+fn are_mark_columns(columns: &[Column]) -> bool
+    ensures { IsTrue result → columns.now ≡ (mark 0).columns }
+{
+    match columns {
+        [id, magic, counts @ ..] => {
+            is_column(id, b"id", Kind::Integer, true)
+                && is_column(magic, b"magic", Kind::Text, true)
+                && are_count_columns(counts)
+        }
+        _ => false,
+    }
+}
+
+fn are_mark_keys(t: &Table) -> bool
+    ensures { IsTrue result → (t.now.key ≡ (mark 0).key) × (t.now.primary ≡ (mark 0).primary) × (t.now.uniques ≡ (mark 0).uniques) × (t.now.orders ≡ (mark 0).orders) }
+{
+    t.key == Some(0)
+        && t.primary.as_slice() == [0].as_slice()
+        && t.uniques.is_empty()
+        && t.orders.is_empty()
+}
+
+fn is_mark(t: &Table) -> bool
+    ensures { IsTrue result → t.now ≡ mark t.now.tree }
+{
+    t.name.as_slice() == b"mark".as_slice()
+        && are_mark_columns(t.columns.as_slice())
+        && are_mark_keys(t)
+        && is_plain(t)
+}
+
+fn are_item_columns(columns: &[Column]) -> bool
+    ensures { IsTrue result → columns.now ≡ (item 0).columns }
+{
+    match columns {
+        [a, b, c, d, e, f] => {
+            is_column(a, b"place", Kind::Integer, true)
+                && is_column(b, b"name", Kind::Text, true)
+                && is_column(c, b"kind", Kind::Integer, true)
+                && is_column(d, b"title", Kind::Text, false)
+                && is_column(e, b"current", Kind::Integer, false)
+                && is_column(f, b"former", Kind::Integer, false)
+        }
+        _ => false,
+    }
+}
+
+fn are_item_keys(t: &Table) -> bool
+    ensures { IsTrue result → (t.now.key ≡ (item 0).key) × (t.now.primary ≡ (item 0).primary) × (t.now.uniques ≡ (item 0).uniques) × (t.now.orders ≡ (item 0).orders) }
+{
+    t.key == Some(0)
+        && t.primary.as_slice() == [0].as_slice()
+        && is_one_key(t.uniques.as_slice(), &[2])
+        && is_one_plain(t.orders.as_slice())
+}
+
+fn is_item(t: &Table) -> bool
+    ensures { IsTrue result → t.now ≡ item t.now.tree }
+{
+    t.name.as_slice() == b"item".as_slice()
+        && are_item_columns(t.columns.as_slice())
+        && are_item_keys(t)
+        && is_plain(t)
+}
+
+fn are_member_columns(columns: &[Column]) -> bool
+    ensures { IsTrue result → columns.now ≡ (member 0).columns }
+{
+    match columns {
+        [a, b, c] => {
+            is_column(a, b"owner", Kind::Text, true)
+                && is_column(b, b"ord", Kind::Integer, true)
+                && is_column(c, b"name", Kind::Text, true)
+        }
+        _ => false,
+    }
+}
+
+fn are_member_keys(t: &Table) -> bool
+    ensures { IsTrue result → (t.now.key ≡ (member 0).key) × (t.now.primary ≡ (member 0).primary) × (t.now.uniques ≡ (member 0).uniques) × (t.now.orders ≡ (member 0).orders) }
+{
+    t.key.is_none()
+        && t.primary.as_slice() == [1, 2].as_slice()
+        && are_two_keys(t.uniques.as_slice(), &[1, 2], &[1, 3])
+        && are_two_plain(t.orders.as_slice())
+}
+
+fn is_member(t: &Table) -> bool
+    ensures { IsTrue result → t.now ≡ member t.now.tree }
+{
+    t.name.as_slice() == b"member".as_slice()
+        && are_member_columns(t.columns.as_slice())
+        && are_member_keys(t)
+        && is_plain(t)
+}
+
+fn are_edition_columns(columns: &[Column]) -> bool
+    ensures { IsTrue result → columns.now ≡ (edition_table 0).columns }
+{
+    match columns {
+        [a, b, c, d, e] => {
+            is_column(a, b"number", Kind::Integer, true)
+                && is_column(b, b"owner", Kind::Text, true)
+                && is_column(c, b"title", Kind::Text, true)
+                && is_column(d, b"info", Kind::Text, true)
+                && is_column(e, b"body", Kind::Blob, true)
+        }
+        _ => false,
+    }
+}
+
+fn are_edition_keys(t: &Table) -> bool
+    ensures { IsTrue result → (t.now.key ≡ (edition_table 0).key) × (t.now.primary ≡ (edition_table 0).primary) × (t.now.uniques ≡ (edition_table 0).uniques) × (t.now.orders ≡ (edition_table 0).orders) }
+{
+    t.key == Some(0)
+        && t.primary.as_slice() == [0].as_slice()
+        && t.uniques.is_empty()
+        && t.orders.is_empty()
+}
+
+fn is_edition(t: &Table) -> bool
+    ensures { IsTrue result → t.now ≡ edition_table t.now.tree }
+{
+    t.name.as_slice() == b"edition".as_slice()
+        && are_edition_columns(t.columns.as_slice())
+        && are_edition_keys(t)
+        && is_plain(t)
+}
+
+fn are_entry_columns(columns: &[Column]) -> bool
+    ensures { IsTrue result → columns.now ≡ (entry 0).columns }
+{
+    match columns {
+        [a, b, c, d, e] => {
+            is_column(a, b"edition", Kind::Integer, true)
+                && is_column(b, b"ord", Kind::Integer, true)
+                && is_column(c, b"headword", Kind::Text, true)
+                && is_column(d, b"start", Kind::Integer, true)
+                && is_column(e, b"length", Kind::Integer, true)
+        }
+        _ => false,
+    }
+}
+
+fn are_entry_keys(t: &Table) -> bool
+    ensures { IsTrue result → (t.now.key ≡ (entry 0).key) × (t.now.primary ≡ (entry 0).primary) × (t.now.uniques ≡ (entry 0).uniques) × (t.now.orders ≡ (entry 0).orders) }
+{
+    t.key.is_none()
+        && t.primary.as_slice() == [1, 2].as_slice()
+        && is_one_key(t.uniques.as_slice(), &[1, 2])
+        && is_one_plain(t.orders.as_slice())
+}
+
+fn is_entry(t: &Table) -> bool
+    ensures { IsTrue result → t.now ≡ entry t.now.tree }
+{
+    t.name.as_slice() == b"entry".as_slice()
+        && are_entry_columns(t.columns.as_slice())
+        && are_entry_keys(t)
+        && is_plain(t)
+}
+
+fn are_kept_columns(columns: &[Column]) -> bool
+    ensures { IsTrue result → columns.now ≡ (kept 0).columns }
+{
+    match columns {
+        [a, b, c, d, e] => {
+            is_column(a, b"id", Kind::Text, true)
+                && is_column(b, b"number", Kind::Integer, true)
+                && is_column(c, b"verb", Kind::Text, true)
+                && is_column(d, b"name", Kind::Text, true)
+                && is_column(e, b"edition", Kind::Integer, false)
+        }
+        _ => false,
+    }
+}
+
+fn are_kept_keys(t: &Table) -> bool
+    ensures { IsTrue result → (t.now.key ≡ (kept 0).key) × (t.now.primary ≡ (kept 0).primary) × (t.now.uniques ≡ (kept 0).uniques) × (t.now.orders ≡ (kept 0).orders) }
+{
+    t.key.is_none()
+        && t.primary.as_slice() == [1].as_slice()
+        && are_two_keys(t.uniques.as_slice(), &[1], &[2])
+        && are_two_plain(t.orders.as_slice())
+}
+
+fn is_kept(t: &Table) -> bool
+    ensures { IsTrue result → t.now ≡ kept t.now.tree }
+{
+    t.name.as_slice() == b"kept".as_slice()
+        && are_kept_columns(t.columns.as_slice())
+        && are_kept_keys(t)
+        && is_plain(t)
+}
+
+// Whether the table that a foreign key names is in this tree.
+fn leads_into(schema: &Schema, reference: &Reference, tree: u32) -> bool
+    ensures { result ≡ is_in tree (option_and_then (slice_get schema.now.tables) (table_named schema.now reference.now.parent)) }
+{
+    match schema.table_named(reference.parent.as_slice()) {
+        Some(at) => match schema.tables.get(at) {
+            Some(table) => table.tree == tree,
+            None => false,
+        },
+        None => false,
+    }
+}
+
+fn is_child_of(schema: &Schema, child: &Table, tree: u32) -> bool
+    ensures { result ≡ list_any (λ (ref : SqlReference). is_in tree (option_and_then (slice_get schema.now.tables) (table_named schema.now ref.parent))) child.now.references }
+{
+    let references = child.references.as_slice();
+    references.iter().any(|r| leads_into(schema, r, tree))
+}
+
+fn is_parent(schema: &Schema, tree: u32) -> bool
+    ensures { result ≡ list_any (λ child. list_any (λ (ref : SqlReference). is_in tree (option_and_then (slice_get schema.now.tables) (table_named schema.now ref.parent))) child.references) schema.now.tables }
+{
+    let tables = schema.tables.as_slice();
+    tables.iter().any(|child| is_child_of(schema, child, tree))
+}
+
+fn first_in_tree(schema: &Schema, tree: u32) -> Option<usize>
+    ensures { result ≡ position_from (λ t. t.tree == tree) 0 schema.now.tables }
+{
+    let tables = schema.tables.as_slice();
+    tables.iter().position(|t| t.tree == tree)
+}
+
+// Whether the table at this place is the first in its tree, and no foreign key leads into the tree.
+fn is_alone(schema: &Schema, at: usize, tree: u32) -> bool
+    ensures { IsTrue result → IsAlone schema.now at tree }
+{
+    tree < 2_147_483_648 && first_in_tree(schema, tree) == Some(at) && !is_parent(schema, tree)
+}
+
+/// Whether the schema has the table `mark` as it is defined here, in a tree of its own, with no foreign key that refers to it.
+pub fn has_mark(schema: &Schema) -> bool
+    ensures { IsTrue result → (at : ℕ) × (tree : ℕ) × HasTable schema.now at (mark tree) }
+{
+    let Some(at) = schema.table_named(b"mark") else {
+        return false;
+    };
+    let Some(table) = schema.tables.get(at) else {
+        return false;
+    };
+    is_mark(table) && is_alone(schema, at, table.tree)
+}
+
+/// Whether the schema has the table `item` as it is defined here, in a tree of its own, with no foreign key that refers to it.
+pub fn has_item(schema: &Schema) -> bool
+    ensures { IsTrue result → (at : ℕ) × (tree : ℕ) × HasTable schema.now at (item tree) }
+{
+    let Some(at) = schema.table_named(b"item") else {
+        return false;
+    };
+    let Some(table) = schema.tables.get(at) else {
+        return false;
+    };
+    is_item(table) && is_alone(schema, at, table.tree)
+}
+
+/// Whether the schema has the table `member` as it is defined here, in a tree of its own, with no foreign key that refers to it.
+pub fn has_member(schema: &Schema) -> bool
+    ensures { IsTrue result → (at : ℕ) × (tree : ℕ) × HasTable schema.now at (member tree) }
+{
+    let Some(at) = schema.table_named(b"member") else {
+        return false;
+    };
+    let Some(table) = schema.tables.get(at) else {
+        return false;
+    };
+    is_member(table) && is_alone(schema, at, table.tree)
+}
+
+/// Whether the schema has the table `edition` as it is defined here, in a tree of its own, with no foreign key that refers to it.
+pub fn has_edition(schema: &Schema) -> bool
+    ensures { IsTrue result → (at : ℕ) × (tree : ℕ) × HasTable schema.now at (edition_table tree) }
+{
+    let Some(at) = schema.table_named(b"edition") else {
+        return false;
+    };
+    let Some(table) = schema.tables.get(at) else {
+        return false;
+    };
+    is_edition(table) && is_alone(schema, at, table.tree)
+}
+
+/// Whether the schema has the table `entry` as it is defined here, in a tree of its own, with no foreign key that refers to it.
+pub fn has_entry(schema: &Schema) -> bool
+    ensures { IsTrue result → (at : ℕ) × (tree : ℕ) × HasTable schema.now at (entry tree) }
+{
+    let Some(at) = schema.table_named(b"entry") else {
+        return false;
+    };
+    let Some(table) = schema.tables.get(at) else {
+        return false;
+    };
+    is_entry(table) && is_alone(schema, at, table.tree)
+}
+
+/// Whether the schema has the table `kept` as it is defined here, in a tree of its own, with no foreign key that refers to it.
+pub fn has_kept(schema: &Schema) -> bool
+    ensures { IsTrue result → (at : ℕ) × (tree : ℕ) × HasTable schema.now at (kept tree) }
+{
+    let Some(at) = schema.table_named(b"kept") else {
+        return false;
+    };
+    let Some(table) = schema.tables.get(at) else {
+        return false;
+    };
+    is_kept(table) && is_alone(schema, at, table.tree)
+}

@@ -1,0 +1,11 @@
+//! The statements of the store: what each SQL text does to the tables.
+#![tactic(auto)]
+
+pub mod commit;
+pub mod create;
+pub mod delete;
+pub mod found;
+pub mod insert;
+pub mod names;
+pub mod read;
+pub mod records;
