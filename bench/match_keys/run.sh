@@ -1,5 +1,6 @@
 #!/usr/bin/env bash
 # Times `matches` over 65,536 keys, beside the same loops in Rust: bench/match_keys/run.sh [COUNT]
+# The program over dict_match is program.txt: a file of code outside a crate would be refused by the gate.
 # Both programs print, for each strategy, its name, how many hits there were and how many microseconds that took;
 # the table has keys a second of the best of three runs, and the ratio of the times. Outside the gate: it needs rustc and python3.
 set -e
@@ -10,7 +11,7 @@ trap 'rm -rf "$work"' EXIT
 
 mkdir -p "$work/crates/match_keys/src"
 cp -r "$top/crates/dict_text" "$top/crates/dict_match" "$work/crates/"
-cp "$here/main.rt" "$work/crates/match_keys/src/"
+cp "$here/program.txt" "$work/crates/match_keys/src/main.rt"
 printf 'dict_text: memchr\ndict_match: dict_text memchr\nmatch_keys: dict_match\n' > "$work/crates.txt"
 python3 "$here/keys.py" "${1:-65536}" > "$work/keys"
 rustc -O -o "$work/rust" "$here/main.rs"
