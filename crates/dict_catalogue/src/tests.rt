@@ -328,14 +328,10 @@ fn virtual_items_that_are_refused(rt: HostRuntime) -> Result<(), Fail> {
 
 /// `ore`, `gem` and the virtual `all`, with one command left.
 fn late(alloc: Global) -> Result<Summary, AllocError> {
-    let Summary {
-        items,
-        installs,
-        ..
-    } = three(alloc)?;
+    let Summary { items, .. } = three(alloc)?;
     Ok(Summary {
         items,
-        installs,
+        installs: 2,
         accepted: 9_223_372_036_854_775_806,
     })
 }
