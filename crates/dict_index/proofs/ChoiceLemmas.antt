@@ -103,15 +103,18 @@ module _ (index text : List ℕ) where
   by_title wholes passed said are (Some found) e = by_test (is_title found)
     where
       by_test : Decided (IsTitle found) → Meaning
-      by_test (inl good) = inl (record { title = found; info = info_in text said; text = text; lines = entry_lines said }, record {
-        passes = all_pass index text wholes passed said are found e good;
-        lines = said;
-        said = are;
-        entries = refl;
-        title = e;
-        info = refl;
-        whole = refl;
-      })
+      by_test (inl good) = inl (
+        record { title = found; info = info_in text said; text = text; lines = entry_lines said },
+        record {
+          passes = all_pass index text wholes passed said are found e good;
+          lines = said;
+          said = are;
+          entries = refl;
+          title = e;
+          info = refl;
+          whole = refl;
+        },
+      )
       by_test (inr bad) = inr (BadTitle, None, bad_title index text wholes passed said are found e bad)
 
   by_lines : PassWholes Columns index text → FirstStop index text ⊎ PassLines index text (length (text_lines index)) → Meaning

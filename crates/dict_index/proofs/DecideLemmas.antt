@@ -134,17 +134,22 @@ unfolding HasColumns
 columns line = elim (cut_or_none 9 line) [
   | inl none ↦ inr (λ e. omega (arith, e, count_none 9 line none))
   | inr c ↦ (elim (cut_or_none 9 c.1) [
-      | inl none ↦ inr (λ e. omega (arith, e, count_cut 9 line c.0 c.1 c.2, count_none 9 c.1 none))
-      | inr d ↦ (elim (cut_or_none 9 d.1) [
-          | inl none ↦ inl (c.0, d.0, d.1, record {
-              whole = c.2.whole ∙ (ap (λ l. c.0 ++ 9 ∷ l) d.2.whole ∙ sym (append_assoc c.0 (9 ∷ d.0) (9 ∷ d.1)));
-              first_none = c.2.none;
-              second_none = d.2.none;
-              third_none = none;
-            })
-          | inr f ↦ inr (λ e. omega (arith, e, count_cut 9 line c.0 c.1 c.2, count_cut 9 c.1 d.0 d.1 d.2, count_cut 9 d.1 f.0 f.1 f.2))
-        ])
+    | inl none ↦ inr (λ e. omega (arith, e, count_cut 9 line c.0 c.1 c.2, count_none 9 c.1 none))
+    | inr d ↦ (elim (cut_or_none 9 d.1) [
+      | inl none ↦ inl (
+        c.0,
+        d.0,
+        d.1,
+        record {
+          whole = c.2.whole ∙ (ap (λ l. c.0 ++ 9 ∷ l) d.2.whole ∙ sym (append_assoc c.0 (9 ∷ d.0) (9 ∷ d.1)));
+          first_none = c.2.none;
+          second_none = d.2.none;
+          third_none = none;
+        },
+      )
+      | inr f ↦ inr (λ e. omega (arith, e, count_cut 9 line c.0 c.1 c.2, count_cut 9 c.1 d.0 d.1 d.2, count_cut 9 d.1 f.0 f.1 f.2))
     ])
+  ])
 ]
 
 columns_in : (line : List ℕ) (said : Line) (l : IsLine line said) → AreColumns line said.headword l.offset_text l.size_text

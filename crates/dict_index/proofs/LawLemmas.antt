@@ -27,9 +27,9 @@ both_of_line : (f : Refusal) (j : ℕ) (g : Refusal) (k : ℕ) → IsOfLine f �
 unfolding AreOne
 both_of_line f j g k o p = elim (cases_order j k) [
   | inl same ↦ (elim (cases_order (rank f) (rank g)) [
-      | inl equal ↦ inr (inr (one_rank f g equal, λ _. same))
-      | inr other ↦ (elim other [ inl less ↦ inl (inr (o, p, inr (same, less))) | inr more ↦ inr (inl (inr (p, o, inr (sym same, more)))) ])
-    ])
+    | inl equal ↦ inr (inr (one_rank f g equal, λ _. same))
+    | inr other ↦ (elim other [ inl less ↦ inl (inr (o, p, inr (same, less))) | inr more ↦ inr (inl (inr (p, o, inr (sym same, more)))) ])
+  ])
   | inr other ↦ (elim other [ inl less ↦ inl (inr (o, p, inl less)) | inr more ↦ inr (inl (inr (p, o, inl more))) ])
 ]
 
@@ -58,9 +58,9 @@ unfolding AreOne
 one_fault index text f g k l h i = elim (in_order_or_one f h.at g i.at) [
   | inl before ↦ absurd (h.fails (i.earlier f h.at before h.made))
   | inr other ↦ (elim other [
-      | inl behind ↦ absurd (i.fails (h.earlier g i.at behind i.made))
-      | inr one ↦ (one.0, one_line g h.at i.at k l (λ o. one.1 (subst IsOfLine (sym one.0) o)) (subst (λ r. Tells r h.at k) one.0 h.tells) i.tells)
-    ])
+    | inl behind ↦ absurd (i.fails (h.earlier g i.at behind i.made))
+    | inr one ↦ (one.0, one_line g h.at i.at k l (λ o. one.1 (subst IsOfLine (sym one.0) o)) (subst (λ r. Tells r h.at k) one.0 h.tells) i.tells)
+  ])
 ]
 
 pub not_both : (index text : List ℕ) (reading : Reading) (refusal : Refusal) (line : Option ℕ) → IsReading index text reading → IsFault index text refusal line → ⊥
@@ -80,7 +80,7 @@ pub one_reading : (index text : List ℕ) (a b : Reading) → IsReading index te
 one_reading index text a b h i =
     let one : h.lines ≡ i.lines = all_said_one (text_lines index) h.lines i.lines h.said i.said in
     same_reading a b
-      (same_some a.title b.title (title_in text i.lines) (sym (ap (title_in text) one) ∙ h.title) i.title)
-      (h.info ∙ (ap (info_in text) one ∙ sym i.info))
-      (h.whole ∙ sym i.whole)
-      (h.entries ∙ (ap entry_lines one ∙ sym i.entries))
+    (same_some a.title b.title (title_in text i.lines) (sym (ap (title_in text) one) ∙ h.title) i.title)
+    (h.info ∙ (ap (info_in text) one ∙ sym i.info))
+    (h.whole ∙ sym i.whole)
+    (h.entries ∙ (ap entry_lines one ∙ sym i.entries))

@@ -44,9 +44,9 @@ unfolding is_plain is_text_octet
 text_octet octet e = elim (or_cases (octet == 10) ((octet == 9) || not (is_control octet)) e) [
   | inl feed ↦ inl (eqb-true octet 10 feed)
   | inr other ↦ (elim (or_cases (octet == 9) (not (is_control octet)) other) [
-      | inl blank ↦ inr (inl (eqb-true octet 9 blank))
-      | inr plain ↦ inr (inr (not_true (is_control octet) plain))
-    ])
+    | inl blank ↦ inr (inl (eqb-true octet 9 blank))
+    | inr plain ↦ inr (inr (not_true (is_control octet) plain))
+  ])
 ]
 
 no_control : (octets : List ℕ) → list_all is_plain octets ≡ true → HasNoControl octets
@@ -98,8 +98,8 @@ entry_passes : (text : List ℕ) (before : List (List ℕ)) (line : List ℕ) (s
     → is_good said.headword (body_in text said) text ≡ true → key_of said.headword ≢ [] → is_reserved (key_of said.headword) ≡ false → (f : Refusal) → PassesLine f text before line
 entry_passes text before line said l tabs within g key free f =
     passes_by text before line said l tabs within (good _ _ text g) key
-      (if_says line said (λ said. IsTrue (is_reserved (key_of said.headword)) → IsTrue (is_known (key_of said.headword))) l (λ e. absurd (reserved e)))
-      (if_says line said (λ said. IsTrue (is_known (key_of said.headword)) → NoneHasKey before (key_of said.headword)) l (λ e. absurd (reserved (known_is_reserved (key_of said.headword) e)))) f
+    (if_says line said (λ said. IsTrue (is_reserved (key_of said.headword)) → IsTrue (is_known (key_of said.headword))) l (λ e. absurd (reserved e)))
+    (if_says line said (λ said. IsTrue (is_known (key_of said.headword)) → NoneHasKey before (key_of said.headword)) l (λ e. absurd (reserved (known_is_reserved (key_of said.headword) e)))) f
   where
     reserved : is_reserved (key_of said.headword) ≡ true → ⊥
     reserved e = let bad : false ≡ true = sym free ∙ e in cc
@@ -109,8 +109,8 @@ first_passes : (text line : List ℕ) (said : Line) → IsLine line said → cou
     → is_good said.headword (body_in text said) text ≡ true → key_of said.headword ≢ [] → is_known (key_of said.headword) ≡ true → (f : Refusal) → PassesLine f text [] line
 first_passes text line said l tabs within g key known f =
     passes_by text [] line said l tabs within (good _ _ text g) key
-      (if_says line said (λ said. IsTrue (is_reserved (key_of said.headword)) → IsTrue (is_known (key_of said.headword))) l (λ e. known))
-      (λ other k e. tt) f
+    (if_says line said (λ said. IsTrue (is_reserved (key_of said.headword)) → IsTrue (is_known (key_of said.headword))) l (λ e. known))
+    (λ other k e. tt) f
 
 -- one digit spells its value
 one_digit : (byte value : ℕ) → value < 64 → byte ≡ slice_index alphabet value → Spells (byte ∷ []) value
@@ -176,12 +176,12 @@ wholes : PassWholes Columns worked_index worked_text
 unfolding is_utf8 chars encode
 wholes =
     wholes_next TooManyEntries Columns worked_index worked_text refl
-      (wholes_next LastLine TooManyEntries worked_index worked_text refl
-        (wholes_next IndexNotUtf8 LastLine worked_index worked_text refl
-          (wholes_next TextTooLong IndexNotUtf8 worked_index worked_text refl (wholes_none worked_index worked_text) (λ k. leb-true (length worked_text) 16777216 refl))
-          (λ k. IsUtf8-from_is_utf8 worked_index refl))
-        (λ k. inr (take 52 worked_index, refl)))
-      (λ k. leb-true (length (text_lines worked_index)) 65536 refl)
+    (wholes_next LastLine TooManyEntries worked_index worked_text refl
+    (wholes_next IndexNotUtf8 LastLine worked_index worked_text refl
+    (wholes_next TextTooLong IndexNotUtf8 worked_index worked_text refl (wholes_none worked_index worked_text) (λ k. leb-true (length worked_text) 16777216 refl))
+    (λ k. IsUtf8-from_is_utf8 worked_index refl))
+    (λ k. inr (take 52 worked_index, refl)))
+    (λ k. leb-true (length (text_lines worked_index)) 65536 refl)
 
 worked_said : List Line
 worked_said = short ∷ opal ∷ fire_opal ∷ dot ∷ []

@@ -18,3 +18,6 @@ pub use entry::Entry;
 pub use fault::{IndexFault, Refusal};
 pub use meaning::{one_meaning, worked_edition};
 pub use reading::read_edition;
+
+#[cfg(test)]
+mod tests;

@@ -16,13 +16,11 @@ pub fn one_meaning()
     ensures one_reading { (index text : List ℕ) (a b : Reading) → IsReading index text a → IsReading index text b → a ≡ b }
     ensures one_fault { (index text : List ℕ) (f g : Refusal) (k l : Option ℕ) →
         IsFault index text f k → IsFault index text g l → (f ≡ g) × (k ≡ l) }
-{
-}
+{}
 
 /// What a small database says that was worked by hand: the title `Gems`, no info, and three entries.
 ///
 /// It does nothing. Its clause is the example, from the definitions alone.
 pub fn worked_edition()
     ensures { IsReading worked_index worked_text worked_reading }
-{
-}
+{}
