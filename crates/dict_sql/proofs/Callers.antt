@@ -1,7 +1,7 @@
 -- What a caller's proof needs of the statements: the tables stay where they are, and rowids stay apart.
 use Rattle.std.proofs.Common.{◌≡◌, ◌≢◌, ℕ, zero, suc, ℤ, All, arith, Ordering, Less, Equal, Greater, List, [], ◌∷◌, map, filter, find, Bool, true, false, not, Option, Some, None, option_and_then, option_map, unwrap_or, slice_get, inl, inr, refl, sym, ap, subst, subst₂, ◌∙◌}
 use Rattle.std.proofs.lemmas.Bool.{cases_Bool}
-use Rattle.std.proofs.lemmas.List.Sorted.{IsPermutation-map, All-permutation}
+use Rattle.std.proofs.lemmas.List.Sorted.{IsPermutation-map, IsPermutation-sym, All-permutation}
 use Rattle.std.proofs.lemmas.Map.Keys.{IsDistinct-IsPermutation}
 use Rattle.std.proofs.lemmas.Map.Lookups.{exact_signed}
 use Rattle.std.specs.List.{AllByRecursion, IsDistinct}
@@ -14,6 +14,7 @@ use Rattle.sqlite.specs.Order.{Row, column}
 use Rattle.sqlite.specs.declared.types.Value.{Value}
 use Rattle.sqlite.specs.declared.types.Value.TheVariants.{Int}
 use Rattle.dict_sql.specs.Effects.{Has, HasTable, HasApartRowids, IsAdded, IsRemoved, rows_of, same_value}
+use Rattle.dict_sql.specs.Reads.{IsListing}
 use Rattle.dict_sql.proofs.RemoveLemmas.{same_flips}
 
 -- the table stays where it is
@@ -92,3 +93,14 @@ apart_added name row old new one apart =
       integers = from_all _ _ (All-permutation (λ r. (n : ℤ) × (column r 0 ≡ Int n)) (first ∷ rows_of name old) _ one.rows (to_all _ (first ∷ rows_of name old) ((one.id, refl), apart.integers)));
       apart = IsDistinct-IsPermutation same_value same_flips _ _ (IsPermutation-map (λ r. column r 0) _ _ one.rows) d;
     }
+
+-- ---- a listing has the rows of its table, so what is tested of it holds of them
+
+apart_same : (xs ys : List Row) → IsPermutation xs ys → HasApartRowids xs → HasApartRowids ys
+apart_same xs ys same apart = record {
+  integers = from_all _ _ (All-permutation (λ r. (n : ℤ) × (column r 0 ≡ Int n)) xs ys same (to_all _ xs apart.integers));
+  apart = IsDistinct-IsPermutation same_value same_flips _ _ (IsPermutation-map (λ r. column r 0) xs ys same) apart.apart;
+}
+
+pub apart_listed : (name columns : List ℕ) (db : Database) (rows : List Row) → IsListing name columns db rows → HasApartRowids rows → HasApartRowids (rows_of name db)
+apart_listed name columns db rows listing = apart_same rows (rows_of name db) (IsPermutation-sym _ _ listing.same)
