@@ -1,0 +1,105 @@
+#!/usr/bin/env python3
+"""Pipes DEFINE lines through `dictcat plain`, and prints requests a second and peak memory.
+
+Usage: bench/plain.py [MEGABYTES]    (20 where nothing is given)
+
+Half of the lines find an entry and half find none. The databases are examples/type and one of 1,000 entries that
+is made here. Each is asked with MEGABYTES and with a tenth of it: the memory should be the same for both.
+"""
+
+import os
+import pathlib
+import subprocess
+import sys
+import tempfile
+import time
+
+TOP = pathlib.Path(__file__).resolve().parent.parent
+DIGITS = "ABCDEFGHIJKLMNOPQRSTUVWXYZabcdefghijklmnopqrstuvwxyz0123456789+/"
+
+
+def number(value):
+    digits = DIGITS[value % 64]
+    while value >= 64:
+        value //= 64
+        digits = DIGITS[value % 64] + digits
+    return digits
+
+
+def make_thousand(folder):
+    """A database of 1,000 entries, each of one line."""
+    text = "00-database-short\nA thousand\n"
+    lines = [f"00-database-short\tA\t{number(len(text))}\n"]
+    for i in range(1000):
+        body = f"word{i}\n  the entry of this number\n"
+        lines.append(f"word{i}\t{number(len(text))}\t{number(len(body))}\n")
+        text += body
+    (folder / "thousand.index").write_text("".join(lines))
+    (folder / "thousand.dict").write_text(text)
+    return [f"word{i}" for i in range(1000)]
+
+
+def make_requests(path, name, words, octets):
+    """Lines for so many octets, hits and misses in turn, with a QUIT at the end; tells how many."""
+    block = "".join(
+        f'DEFINE {name} {word}\r\nDEFINE {name} no{word}\r\n' for word in words
+    ).encode()
+    count = 0
+    with open(path, "wb") as out:
+        written = 0
+        while written < octets:
+            out.write(block)
+            written += len(block)
+            count += 2 * len(words)
+        out.write(b"QUIT\r\n")
+    return count + 1
+
+
+def measure(program, name, index, text, requests):
+    """Seconds, peak memory in KB, and octets of the answers."""
+    read_end, write_end = os.pipe()
+    with open(requests, "rb") as source:
+        begin = time.monotonic()
+        child = subprocess.Popen(
+            [program, "plain", name, index, text],
+            stdin=source,
+            stdout=write_end,
+        )
+        os.close(write_end)
+        answered = 0
+        while piece := os.read(read_end, 1 << 16):
+            answered += len(piece)
+        _, status, usage = os.wait4(child.pid, 0)
+        seconds = time.monotonic() - begin
+    os.close(read_end)
+    if status != 0:
+        sys.exit(f"the program ended with {status}")
+    return seconds, usage.ru_maxrss, answered
+
+
+def main():
+    megabytes = float(sys.argv[1]) if len(sys.argv) > 1 else 20
+    subprocess.run([TOP / "dictcat", "--version"], check=True, stdout=subprocess.DEVNULL)
+    program = TOP / "crates/dictcat/out/dictcat"
+    with tempfile.TemporaryDirectory() as folder:
+        folder = pathlib.Path(folder)
+        thousand = make_thousand(folder)
+        index = (TOP / "examples/type.index").read_text().splitlines()
+        heads = (line.split("\t")[0] for line in index)
+        glossary = [head for head in heads if head.isalpha() and head.isascii()]
+        cases = [
+            ("type", TOP / "examples/type.index", TOP / "examples/type.dict", glossary),
+            ("thousand", folder / "thousand.index", folder / "thousand.dict", thousand),
+        ]
+        for name, index, text, words in cases:
+            for size in (megabytes / 10, megabytes):
+                path = folder / "requests"
+                count = make_requests(path, name, words, int(size * 1_000_000))
+                seconds, peak, answered = measure(program, name, index, text, path)
+                print(
+                    f"{name}: {size:g} MB, {count} requests in {seconds:.2f} s: "
+                    f"{count / seconds:,.0f} requests/s, {answered / 1e6:.0f} MB answered, peak {peak} KB"
+                )
+
+
+main()

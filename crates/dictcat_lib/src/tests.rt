@@ -1,0 +1,4 @@
+mod faults;
+mod fixtures;
+mod sessions;
+mod usage;

@@ -1,0 +1,71 @@
+// What the tests read from and write to.
+use crate::command;
+use dict_proto::{LimitedSink, OverRead};
+use std::alloc::Global;
+use std::io;
+use std::io::Read;
+use std::rt::Files;
+use std::test::Fail;
+
+pub const GEM_INDEX: &[u8] = b"00-database-short\tA\tZ\nopal\tZ\tP\nFire Opal\tZ\tP\ndot\to\tF\n";
+
+pub const GEM_TEXT: &[u8] = b"00-database-short\n  Gems\nopal\n  a stone\n.dot\n";
+
+pub const BANNER: &str = "220 localhost dictcat ready <1@localhost>\r\n";
+
+pub const OPAL: &str =
+    "150 1 definitions retrieved\r\n151 \"opal\" gem \"Gems\"\r\nopal\r\n  a stone\r\n.\r\n250 ok\r\n";
+
+pub const DOT: &str =
+    "150 1 definitions retrieved\r\n151 \"dot\" gem \"Gems\"\r\n..dot\r\n.\r\n250 ok\r\n";
+
+pub const CLOSING: &str = "221 closing connection\r\n";
+
+/// Gives octets, the first time so many and then pieces of another size, and then ends or fails.
+#[derive(Drop)]
+pub struct Pieces<'a> {
+    pub rest: &'a [u8],
+    pub size: usize,
+    pub next_size: usize,
+    pub fails: bool,
+}
+
+impl Read for Pieces<'_> {
+    fn read(&mut self, room: &mut [u8]) -> io::Result<usize> {
+        if self.rest.is_empty() && self.fails {
+            return Err(io::Error::from(io::ErrorKind::ConnectionReset));
+        }
+        let size = self.size.min(self.rest.len()).min(room.len());
+        let (piece, rest) = self.rest.split_at(size);
+        room[..size].copy_from_slice(piece);
+        self.rest = rest;
+        self.size = self.next_size;
+        Ok(size)
+    }
+}
+
+/// A status, and what went to standard output and to standard error.
+pub type Outcome = (u8, String, String);
+
+/// What comes of these words with this input, where standard output takes so many octets.
+pub fn outcome<R: Files + AllocGlobal>(
+    rt: &R,
+    words: &[&str],
+    input: &[u8],
+    room: usize,
+) -> Result<Outcome, Fail> {
+    let mut reader = OverRead::new(input);
+    let mut writer = LimitedSink::new(rt.alloc(), room)?;
+    let mut faults = LimitedSink::new(rt.alloc(), 1000)?;
+    let status = command(rt, words, &mut reader, &mut writer, &mut faults);
+    Ok((
+        status,
+        taken(rt.alloc(), &writer)?,
+        taken(rt.alloc(), &faults)?,
+    ))
+}
+
+/// What a sink took, as text.
+pub fn taken(alloc: Global, sink: &LimitedSink) -> Result<String, Fail> {
+    String::from_utf8(sink.taken().to_vec(alloc)?).map_err(|_| Fail::from("no text"))
+}

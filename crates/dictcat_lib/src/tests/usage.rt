@@ -1,0 +1,115 @@
+use super::fixtures::{outcome, taken};
+use crate::refuse_words;
+use dict_proto::LimitedSink;
+use std::io;
+use std::test::Fail;
+
+const HELP: &str = "A DICT server (RFC 2229) whose answers are proved
+
+Usage: dictcat <COMMAND>
+
+Commands:
+  plain  Runs a DICT session on standard input and output over one database
+  help   Print this message or the help of the given subcommand(s)
+
+Options:
+  -h, --help     Print help
+  -V, --version  Print version
+";
+
+const PLAIN_HELP: &str = "Runs a DICT session on standard input and output over one database
+
+Usage: dictcat plain <NAME> <INDEX> <DICT>
+
+Arguments:
+  <NAME>   The database's name
+  <INDEX>  The database's index file
+  <DICT>   The database's text file
+
+Options:
+  -h, --help  Print help
+";
+
+#[test]
+fn shows_help_and_version(rt: HostRuntime) -> Result<(), Fail> {
+    let rows: [(&[&str], &str); 5] = [
+        (&["dictcat", "--help"], HELP),
+        (&["dictcat", "help"], HELP),
+        (&["dictcat", "plain", "--help"], PLAIN_HELP),
+        (&["dictcat", "help", "plain"], PLAIN_HELP),
+        (&["dictcat", "--version"], "dictcat 0.1.0\n"),
+    ];
+    for (words, text) in rows {
+        let (status, shown, told) = outcome(&rt, words, b"", 2000)?;
+        assert_eq!(rt; status, 0);
+        assert_eq!(rt; shown.as_str(), text);
+        assert_eq!(rt; told.as_str(), "");
+    }
+    let (status, _, told) = outcome(&rt, &["dictcat", "--help"], b"", 9)?;
+    assert_eq!(rt; status, 3);
+    assert_eq!(rt; told.as_str(), "cannot write output\n");
+    Ok(())
+}
+
+#[test]
+fn tells_what_is_wrong_with_the_words(rt: HostRuntime) -> Result<(), Fail> {
+    let alloc = rt.alloc();
+    let rows: [(&[&str], &str, &str); 5] = [
+        (
+            &["dictcat"],
+            "error: 'dictcat' requires a subcommand but one was not provided\n  [subcommands: plain, help]",
+            "<COMMAND>",
+        ),
+        (
+            &["dictcat", "nosuch"],
+            "error: unrecognized subcommand 'nosuch'",
+            "<COMMAND>",
+        ),
+        (
+            &["dictcat", "plain", "gem"],
+            "error: the following required arguments were not provided:\n  <INDEX>\n  <DICT>",
+            "plain <NAME> <INDEX> <DICT>",
+        ),
+        (
+            &["dictcat", "plain", "gem", "a", "b", "c"],
+            "error: unexpected argument 'c' found",
+            "plain <NAME> <INDEX> <DICT>",
+        ),
+        (
+            &["dictcat", "plain", "-x", "a", "b"],
+            "error: unexpected argument '-x' found\n\n  tip: to pass '-x' as a value, use '-- -x'",
+            "plain <NAME> <INDEX> <DICT>",
+        ),
+    ];
+    for (words, error, usage) in rows {
+        let want = format!(in alloc;
+            "{error}\n\nUsage: dictcat {usage}\n\nFor more information, try '--help'.\n"
+        )?;
+        let (status, shown, told) = outcome(&rt, words, b"", 2000)?;
+        assert_eq!(rt; status, 2);
+        assert_eq!(rt; shown.as_str(), "");
+        assert_eq!(rt; told.as_str(), want.as_str());
+    }
+    Ok(())
+}
+
+#[test]
+fn refuses_words_that_are_no_texts(rt: HostRuntime) -> Result<(), Fail> {
+    let rows = [
+        (
+            io::ErrorKind::InvalidData,
+            2,
+            "error: invalid UTF-8 was detected in one or more arguments\n\nUsage: dictcat <COMMAND>\n\nFor more information, try '--help'.\n",
+        ),
+        (io::ErrorKind::OutOfMemory, 4, "fault 40 Memory\n"),
+    ];
+    for (kind, status, text) in rows {
+        let mut faults = LimitedSink::new(rt.alloc(), 1000)?;
+        assert_eq!(rt;
+            refuse_words(rt.alloc(), &io::Error::from(kind), &mut faults),
+            status
+        );
+        assert_eq!(rt; taken(rt.alloc(), &faults)?.as_str(), text);
+    }
+    Ok(())
+}
