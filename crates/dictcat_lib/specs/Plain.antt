@@ -1,5 +1,5 @@
 -- How a session over one database in lists ends.
-use Rattle.std.specs.Prelude.{◌≡◌, ◌≢◌, ℕ, ◌⊎◌, List, [], Option, Some, None, Result, Ok, Err, codes}
+use Rattle.std.specs.Prelude.{◌≡◌, ◌≢◌, ℕ, ◌⊎◌, List, [], Some, None, Result, Ok, Err, codes}
 use Rattle.std.specs.Io.KnownBytes.{Appends}
 use Rattle.dict_index.specs.Edition.{Edition}
 use Rattle.dict_index.specs.Meaning.{IsEdition, IsFault}
@@ -54,3 +54,8 @@ FilesEnd name result reader writer =
 abbrev pub IsDone : Change → Change → Type 0
 IsDone reader writer = (reader.new ≡ reader.old)
     ⊎ ((name : List ℕ) × (index : List ℕ) × (text : List ℕ) × (end : End) × EndsOver name index text (Ok end) reader writer)
+
+-- nothing was read, or a session over a lawful database ended by a fault of its reader or its writer
+abbrev pub IsFailed : Change → Change → Type 0
+IsFailed reader writer = (reader.new ≡ reader.old)
+    ⊎ ((name : List ℕ) × (index : List ℕ) × (text : List ℕ) × (fault : SessionFault) × (fault ≢ session_faults.Memory) × EndsOver name index text (Err fault) reader writer)

@@ -1,7 +1,7 @@
 // The program but for its standard streams.
 ghost use Rattle.std.specs.Prelude.{◌≡◌, ◌≤◌, ◌⊎◌};
 ghost use Rattle.dictcat_lib.specs.Status.{status_of};
-ghost use Rattle.dictcat_lib.specs.Plain.{IsUntouched, IsDone};
+ghost use Rattle.dictcat_lib.specs.Plain.{IsUntouched, IsDone, IsFailed};
 
 use crate::fault::Fault;
 use crate::plain::run_files;
@@ -31,6 +31,9 @@ pub fn command<R: Files + AllocGlobal, W: AsStr, S: Source, K: Sink, F: Sink>(
         (record { old = K.octets writer.old; new = K.octets writer.new; old_failures = K.failures writer.old; new_failures = K.failures writer.new }) }
     ensures quiet { result ≡ 0 → F.octets faults.new ≡ F.octets faults.old }
     ensures refused { (result ≡ 1) ⊎ (result ≡ 2) → IsUntouched
+        (record { old = S.remaining reader.old; new = S.remaining reader.new; old_failures = S.failures reader.old; new_failures = S.failures reader.new })
+        (record { old = K.octets writer.old; new = K.octets writer.new; old_failures = K.failures writer.old; new_failures = K.failures writer.new }) }
+    ensures failed { result ≡ 3 → IsFailed
         (record { old = S.remaining reader.old; new = S.remaining reader.new; old_failures = S.failures reader.old; new_failures = S.failures reader.new })
         (record { old = K.octets writer.old; new = K.octets writer.new; old_failures = K.failures writer.old; new_failures = K.failures writer.new }) }
 {
