@@ -1,11 +1,8 @@
 //! dictcat on the command line.
 #![tactic(auto)]
 
-mod output;
-
 use dict_proto::{OverRead, OverWrite};
 use dictcat_lib::{command, refuse_words};
-use output::Output;
 use std::process::ExitCode;
 use std::rt::Env;
 use std::{env, io};
@@ -17,8 +14,8 @@ fn words<R: Env + AllocGlobal>(rt: &R) -> io::Result<Vec<String>> {
 
 fn main(rt: HostRuntime) -> ExitCode {
     let mut reader = OverRead::new(rt.reader());
-    let mut writer = OverWrite::new(Output::new(&rt.stdout()));
-    let mut faults = OverWrite::new(Output::new(&rt.stderr()));
+    let mut writer = OverWrite::new(rt.stdout());
+    let mut faults = OverWrite::new(rt.stderr());
     let status = match words(&rt) {
         Ok(words) => command(&rt, words.as_slice(), &mut reader, &mut writer, &mut faults),
         Err(fault) => refuse_words(rt.alloc(), &fault, &mut faults),
