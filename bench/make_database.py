@@ -9,16 +9,7 @@ own, of some lines; the texts stand behind one another in the order of the index
 
 import sys
 
-DIGITS = "ABCDEFGHIJKLMNOPQRSTUVWXYZabcdefghijklmnopqrstuvwxyz0123456789+/"
-
-
-def spelled(number):
-    """The number in dictd's base 64."""
-    text = DIGITS[number % 64]
-    while number >= 64:
-        number //= 64
-        text = DIGITS[number % 64] + text
-    return text
+from dictd import spelled
 
 
 def body(number, size):

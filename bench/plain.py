@@ -14,25 +14,18 @@ import sys
 import tempfile
 import time
 
+from dictd import spelled
+
 TOP = pathlib.Path(__file__).resolve().parent.parent
-DIGITS = "ABCDEFGHIJKLMNOPQRSTUVWXYZabcdefghijklmnopqrstuvwxyz0123456789+/"
-
-
-def number(value):
-    digits = DIGITS[value % 64]
-    while value >= 64:
-        value //= 64
-        digits = DIGITS[value % 64] + digits
-    return digits
 
 
 def make_thousand(folder):
     """A database of 1,000 entries, each of one line."""
     text = "00-database-short\nA thousand\n"
-    lines = [f"00-database-short\tA\t{number(len(text))}\n"]
+    lines = [f"00-database-short\tA\t{spelled(len(text))}\n"]
     for i in range(1000):
         body = f"word{i}\n  the entry of this number\n"
-        lines.append(f"word{i}\t{number(len(text))}\t{number(len(body))}\n")
+        lines.append(f"word{i}\t{spelled(len(text))}\t{spelled(len(body))}\n")
         text += body
     (folder / "thousand.index").write_text("".join(lines))
     (folder / "thousand.dict").write_text(text)

@@ -2,8 +2,10 @@
 """Writes type.index and type.dict beside this script: a small glossary of typography in dictd's form."""
 
 import pathlib
+import sys
 
-DIGITS = "ABCDEFGHIJKLMNOPQRSTUVWXYZabcdefghijklmnopqrstuvwxyz0123456789+/"
+sys.path.insert(0, str(pathlib.Path(__file__).resolve().parent.parent / "bench"))
+from dictd import spelled
 
 TITLE = "A small glossary of typography"
 
@@ -123,15 +125,6 @@ ENTRIES = [
 ]
 
 
-def number(value):
-    """A number in dictd's digits."""
-    digits = DIGITS[value % 64]
-    while value >= 64:
-        value //= 64
-        digits = DIGITS[value % 64] + digits
-    return digits
-
-
 def main():
     here = pathlib.Path(__file__).resolve().parent
     text = b""
@@ -141,7 +134,7 @@ def main():
         nonlocal text
         octets = body.encode()
         for headword in headwords:
-            lines.append(f"{headword}\t{number(len(text))}\t{number(len(octets))}\n")
+            lines.append(f"{headword}\t{spelled(len(text))}\t{spelled(len(octets))}\n")
         text += octets
 
     add(["00-database-short"], f"00-database-short\n     {TITLE}\n")
