@@ -6,7 +6,7 @@ use Rattle.std.proofs.lemmas.List.{length-map, length-append}
 use Rattle.std.proofs.lemmas.Bool.{false≢true, and_parts, and_from, not-true, not_from_false}
 use Rattle.std.proofs.lemmas.Bool.Decides.{nat_tests}
 use Rattle.std.proofs.lemmas.Slice.Eq.{bytes_eq-Decides}
-use Rattle.dict_catalogue.specs.Names.{is_name, is_title}
+use Rattle.dict_name.specs.Names.{is_name, is_title}
 use Rattle.dict_catalogue.specs.Items.{Stored, Item, regular, virtual, name_of, is_regular, is_virtual, has_former, members_of, editions_of, is_named, lists, is_among, is_known, names_regular, names_virtual, names_former, is_listed, current_of, current_number, numbers_of, edition_numbers}
 use Rattle.dict_catalogue.specs.Commands.{Command, install, rollback, retire, put_virtual, place, target}
 use Rattle.dict_catalogue.specs.Effects.{installed, swapped, put_anew, changed, changed_in_place, others_than, moved, items_after}

@@ -1,4 +1,3 @@
-pub mod Names
 pub mod Items
 pub mod Commands
 pub mod Tests

@@ -3,7 +3,7 @@ use Rattle.std.specs.Prelude.{◌≡◌, ℕ, ◌+◌, ◌<◌, ◌≤◌, Bool,
 use Rattle.std.specs.List.{AllByRecursion}
 use Rattle.dict_index.specs.Edition.{Edition}
 use Rattle.dict_index.specs.Meaning.{IsLawful}
-use Rattle.dict_catalogue.specs.Names.{is_name, is_title, is_request_id}
+use Rattle.dict_name.specs.Names.{is_name, is_title, is_request_id}
 use Rattle.dict_catalogue.specs.Items.{Stored, Item, regular, virtual, name_of, is_named, members_of, editions_of, names_regular, edition_numbers}
 use Rattle.dict_catalogue.specs.Commands.{Command, install, rollback, retire, put_virtual, place}
 use Rattle.dict_catalogue.specs.Effects.{KeptReply}

@@ -12,7 +12,6 @@ mod fault;
 mod laws;
 mod listing;
 mod lookups;
-mod naming;
 mod planning;
 mod refusing;
 mod reply;
@@ -21,7 +20,6 @@ pub use commands::Command;
 pub use fault::{PlanFault, Refusal};
 pub use laws::{after_laws, step_law, summary_laws, well_formed_laws};
 pub use listing::{Item, StoredTitle, Summary};
-pub use naming::{is_name, is_request_id, is_title};
 pub use planning::{Change, plan};
 pub use reply::{Kept, Verb};
 

@@ -1,7 +1,4 @@
-use crate::{
-    Change, Command, Item, PlanFault, Refusal, StoredTitle, Summary, Verb, is_name, is_request_id,
-    is_title, plan,
-};
+use crate::{Change, Command, Item, PlanFault, Refusal, StoredTitle, Summary, Verb, plan};
 use dict_index::{Edition, IndexFault, read_edition};
 use std::alloc::{AllocError, Global};
 use std::process::Abort;
@@ -430,58 +427,6 @@ fn where_64_items_stand(rt: HostRuntime) -> Result<(), Fail> {
         assert_eq!(rt; left, *count);
     }
     Ok(())
-}
-
-#[test]
-fn names_titles_and_ids(rt: HostRuntime) {
-    let names = [
-        ("a", true),
-        ("a_b-9", true),
-        ("abcdefghijklmnopqrstuvwxyz012345", true),
-        ("abcdefghijklmnopqrstuvwxyz0123456", false),
-        ("", false),
-        ("1a", false),
-        ("_a", false),
-        ("Gem", false),
-        ("g m", false),
-        ("gé", false),
-        ("*", false),
-    ];
-    for (name, lawful) in &names {
-        assert_eq!(rt; is_name(name), *lawful);
-    }
-    let ids = [
-        ("r1", true),
-        ("-", true),
-        ("Z-9", true),
-        (
-            "0123456789012345678901234567890123456789012345678901234567890123",
-            true,
-        ),
-        (
-            "01234567890123456789012345678901234567890123456789012345678901234",
-            false,
-        ),
-        ("", false),
-        ("r_1", false),
-        ("r 1", false),
-        ("ü", false),
-    ];
-    for (id, lawful) in &ids {
-        assert_eq!(rt; is_request_id(id), *lawful);
-    }
-    let titles = [
-        ("All", true),
-        ("A b\u{a0}", true),
-        ("", false),
-        (" A", false),
-        ("A ", false),
-        ("\tA", false),
-        ("A\u{7f}b", false),
-    ];
-    for (title, lawful) in &titles {
-        assert_eq!(rt; is_title(title), *lawful);
-    }
 }
 
 #[test]

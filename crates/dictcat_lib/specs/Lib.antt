@@ -1,3 +1,2 @@
-pub mod Name
 pub mod Status
 pub mod Plain

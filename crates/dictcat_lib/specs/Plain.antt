@@ -1,6 +1,7 @@
 -- How a session over one database in lists ends.
-use Rattle.std.specs.Prelude.{◌≡◌, ◌≢◌, ℕ, ◌⊎◌, List, [], Some, None, Result, Ok, Err, codes}
+use Rattle.std.specs.Prelude.{◌≡◌, ◌≢◌, ℕ, ◌⊎◌, IsTrue, false, List, [], Some, None, Result, Ok, Err, codes}
 use Rattle.std.specs.Io.KnownBytes.{Appends}
+use Rattle.dict_name.specs.Names.{is_name}
 use Rattle.dict_index.specs.Edition.{Edition}
 use Rattle.dict_index.specs.Meaning.{IsEdition, IsFault}
 use Rattle.dict_session.specs.Database.{Database}
@@ -8,7 +9,6 @@ use Rattle.dict_session.specs.Run.{Change, Ends}
 use Rattle.dict_session.specs.declared.running.End.{End}
 use Rattle.dict_session.specs.declared.running.SessionFault.{SessionFault}
 use Rattle.dict_session.specs.declared.running.SessionFault.TheVariants as session_faults
-use Rattle.dictcat_lib.specs.Name.{IsName}
 use Rattle.dictcat_lib.specs.declared.fault.Fault.{Fault}
 use Rattle.dictcat_lib.specs.declared.fault.Fault.TheVariants as faults
 
@@ -18,7 +18,7 @@ IsUntouched reader writer = (reader.new ≡ reader.old) × (writer.new ≡ write
 
 -- the edition that an index and a text say, under a lawful name
 abbrev pub IsDatabase : List ℕ → List ℕ → List ℕ → Database → Type 0
-IsDatabase name index text database = (database.name ≡ name) × IsName name × IsEdition index text database.edition
+IsDatabase name index text database = (database.name ≡ name) × IsTrue (is_name name) × IsEdition index text database.edition
 
 -- a session over that database, greeted as the first at localhost, ended so
 abbrev pub EndsOver : List ℕ → List ℕ → List ℕ → Result End SessionFault → Change → Change → Type 0
@@ -31,7 +31,7 @@ PlainEnds name index text (Ok _) reader writer = (end : End) × EndsOver name in
 PlainEnds name index text (Err (faults.Line refusal line)) reader writer = IsFault index text refusal (Some line) × IsUntouched reader writer
 PlainEnds name index text (Err (faults.Edition refusal)) reader writer = IsFault index text refusal None × IsUntouched reader writer
 PlainEnds name index text (Err faults.BadName) reader writer =
-    (IsName name → ⊥) × ((edition : Edition) × IsEdition index text edition) × IsUntouched reader writer
+    (is_name name ≡ false) × ((edition : Edition) × IsEdition index text edition) × IsUntouched reader writer
 PlainEnds name index text (Err faults.SessionEnded) reader writer =
     (fault : SessionFault) × (fault ≢ session_faults.Memory) × EndsOver name index text (Err fault) reader writer
 PlainEnds name index text (Err faults.Memory) reader writer = Appends writer.old writer.new []

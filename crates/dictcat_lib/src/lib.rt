@@ -3,14 +3,12 @@
 
 mod fault;
 mod files;
-mod name;
 mod plain;
 mod program;
 mod report;
 mod words;
 
 pub use fault::Fault;
-pub use name::is_name;
 pub use plain::run_plain;
 pub use program::{command, refuse_words};
 

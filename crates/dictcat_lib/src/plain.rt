@@ -3,8 +3,8 @@ ghost use Rattle.dictcat_lib.specs.Plain.{PlainEnds, FilesEnd};
 
 use crate::fault::Fault;
 use crate::files::read_file;
-use crate::name::is_name;
 use dict_index::read_edition;
+use dict_name::is_name;
 use dict_proto::{Sink, Source};
 use dict_session::{Plain, SessionFault, run};
 use std::alloc::Global;

@@ -1,5 +1,5 @@
 use super::fixtures::{BANNER, GEM_INDEX, GEM_TEXT, OPAL, outcome};
-use crate::{Fault, is_name};
+use crate::Fault;
 use dict_index::Refusal;
 use std::fs;
 use std::test::Fail;
@@ -88,22 +88,4 @@ fn each_fault_has_a_line_and_a_status(rt: HostRuntime) -> Result<(), Fail> {
         assert_eq!(rt; fault.status(), status);
     }
     Ok(())
-}
-
-#[test]
-fn tests_names(rt: HostRuntime) {
-    for (text, is_lawful) in [
-        ("a", true),
-        ("z09_-", true),
-        ("a1234567890123456789012345678901", true),
-        ("a12345678901234567890123456789012", false),
-        ("", false),
-        ("9a", false),
-        ("_a", false),
-        ("Gem", false),
-        ("gem.x", false),
-        ("gém", false),
-    ] {
-        assert_eq!(rt; is_name(text), is_lawful, "{text}");
-    }
 }

@@ -2,7 +2,7 @@
 ghost use Rattle.std.specs.Prelude.{◌≡◌, not};
 ghost use Rattle.std.specs.List.{list_all};
 ghost use Rattle.dict_text.specs.Characters.{is_blank, is_control};
-ghost use Rattle.dict_catalogue.specs.Names.{is_name, is_request_id, is_title, is_small_letter, is_capital_letter, is_digit, is_name_octet, is_request_octet, has_size, first_passes, last_passes};
+ghost use Rattle.dict_name.specs.Names.{is_name, is_request_id, is_title, is_small_letter, is_capital_letter, is_digit, is_name_octet, is_request_octet, has_size, first_passes, last_passes};
 
 /// The most characters of a name.
 const MAX_NAME: usize = 32;

@@ -1,0 +1,9 @@
+//! What a database's name, a virtual database's title and a request's id may be.
+#![tactic(auto)]
+
+mod names;
+
+pub use names::{is_name, is_request_id, is_title};
+
+#[cfg(test)]
+mod tests;
