@@ -1,2 +1,2 @@
 pub mod PlaceLemmas
-mod FoundLemmas
+pub mod FoundLemmas
