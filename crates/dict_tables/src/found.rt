@@ -1,23 +1,22 @@
 //! Whether a schema that is found has the tables as they are defined here.
 
-ghost use Rattle.std.specs.Prelude.{true, false, ◌≡◌, ◌<◌, ◌^◌, ℕ, List, [], ◌∷◌, codes, IsTrue, IfSome, ◌==◌, option_and_then, slice_get};
-ghost use Rattle.std.specs.List.{list_any, position_from};
-ghost use Rattle.sqlite_schema.specs.Names.{table_named};
+ghost use Rattle.std.specs.Prelude.{true, false, ◌≡◌, ℕ, List, [], ◌∷◌, codes, IsTrue, ◌↔◌, ◌==◌, option_copied, nat_eq, count_by};
+ghost use Rattle.std.specs.List.{list_any};
+ghost use Rattle.std.specs.Cmp.Lexicographic.{pointwise};
 ghost use Rattle.sqlite_schema.specs.declared.schema.Reference.{Reference as SqlReference};
-ghost use Rattle.dict_sql.specs.Effects.{HasTable, is_in};
-ghost use Rattle.dict_sql.specs.Found.{IsAlone};
+ghost use Rattle.dict_tables.specs.Found.{HasOwn, IsAlone, adds_key, is_in, table_of};
 ghost use Rattle.sqlite_value.specs.Keys.{plain};
 ghost use Rattle.sqlite.specs.Kind.TheVariants.{Integer};
-ghost use Rattle.dict_sql.specs.Tables.{mark, item, member, edition as edition_table, entry, kept, column_of};
+ghost use Rattle.dict_tables.specs.Tables.{mark, item, member, edition as edition_table, entry, kept, column_of};
 
 use sqlite_items::Items;
-use sqlite_schema::schema::{Column, Kind, Reference, Schema, Table};
+use sqlite_schema::schema::{Column, Index, Kind, Reference, Schema, Table};
 use sqlite_value::keys::{Collation, Order};
 use sqlite_value::value::Value;
 
 // Whether a column is strict, with no default, and has this name and kind.
 fn is_column(column: &Column, name: &[u8], kind: Kind, not_null: bool) -> bool
-    ensures { IsTrue result → column.now ≡ column_of name.now kind not_null }
+    ensures { IsTrue result ↔ column.now ≡ column_of name.now kind not_null }
 {
     column.name.as_slice() == name
         && column.kind == kind
@@ -29,7 +28,7 @@ fn is_column(column: &Column, name: &[u8], kind: Kind, not_null: bool) -> bool
 
 // No rule of the table is more than its keys.
 fn is_plain(table: &Table) -> bool
-    ensures { IsTrue result → (table.now.checks ≡ []) × (table.now.references ≡ []) × (table.now.computed ≡ []) × (table.now.stamps ≡ record { places = []; terms = []; formats = [] }) × (table.now.is_counted ≡ false) }
+    ensures { IsTrue result ↔ (table.now.checks ≡ []) × (table.now.references ≡ []) × (table.now.computed ≡ []) × (table.now.stamps ≡ record { places = []; terms = []; formats = [] }) × (table.now.is_counted ≡ false) }
 {
     table.checks.roots.is_empty()
         && table.references.is_empty()
@@ -41,13 +40,13 @@ fn is_plain(table: &Table) -> bool
 }
 
 fn is_key(places: &Items<usize>, key: &[usize]) -> bool
-    ensures { IsTrue result → places.now ≡ key.now }
+    ensures { IsTrue result ↔ places.now ≡ key.now }
 {
     places.as_slice() == key
 }
 
 fn is_one_key(keys: &[Items<usize>], key: &[usize]) -> bool
-    ensures { IsTrue result → keys.now ≡ key.now ∷ [] }
+    ensures { IsTrue result ↔ keys.now ≡ key.now ∷ [] }
 {
     match keys {
         [only] => is_key(only, key),
@@ -56,7 +55,7 @@ fn is_one_key(keys: &[Items<usize>], key: &[usize]) -> bool
 }
 
 fn are_two_keys(keys: &[Items<usize>], first: &[usize], second: &[usize]) -> bool
-    ensures { IsTrue result → keys.now ≡ first.now ∷ second.now ∷ [] }
+    ensures { IsTrue result ↔ keys.now ≡ first.now ∷ second.now ∷ [] }
 {
     match keys {
         [a, b] => is_key(a, first) && is_key(b, second),
@@ -65,7 +64,7 @@ fn are_two_keys(keys: &[Items<usize>], first: &[usize], second: &[usize]) -> boo
 }
 
 fn is_one_plain(orders: &[Order]) -> bool
-    ensures { IsTrue result → orders.now ≡ plain ∷ [] }
+    ensures { IsTrue result ↔ orders.now ≡ plain ∷ [] }
 {
     match orders {
         [only] => only.digits == 0,
@@ -74,7 +73,7 @@ fn is_one_plain(orders: &[Order]) -> bool
 }
 
 fn are_two_plain(orders: &[Order]) -> bool
-    ensures { IsTrue result → orders.now ≡ plain ∷ plain ∷ [] }
+    ensures { IsTrue result ↔ orders.now ≡ plain ∷ plain ∷ [] }
 {
     match orders {
         [a, b] => a.digits == 0 && b.digits == 0,
@@ -83,7 +82,7 @@ fn are_two_plain(orders: &[Order]) -> bool
 }
 
 fn are_count_columns(columns: &[Column]) -> bool
-    ensures { IsTrue result → columns.now ≡ column_of (codes "version") Integer true ∷ column_of (codes "installs") Integer true ∷ [] }
+    ensures { IsTrue result ↔ columns.now ≡ column_of (codes "version") Integer true ∷ column_of (codes "installs") Integer true ∷ [] }
 {
     match columns {
         [version, installs] => {
@@ -95,7 +94,7 @@ fn are_count_columns(columns: &[Column]) -> bool
 }
 
 fn are_mark_columns(columns: &[Column]) -> bool
-    ensures { IsTrue result → columns.now ≡ (mark 0).columns }
+    ensures { IsTrue result ↔ columns.now ≡ (mark 0).columns }
 {
     match columns {
         [id, magic, counts @ ..] => {
@@ -108,7 +107,7 @@ fn are_mark_columns(columns: &[Column]) -> bool
 }
 
 fn are_mark_keys(t: &Table) -> bool
-    ensures { IsTrue result → (t.now.key ≡ (mark 0).key) × (t.now.primary ≡ (mark 0).primary) × (t.now.uniques ≡ (mark 0).uniques) × (t.now.orders ≡ (mark 0).orders) }
+    ensures { IsTrue result ↔ (t.now.key ≡ (mark 0).key) × (t.now.primary ≡ (mark 0).primary) × (t.now.uniques ≡ (mark 0).uniques) × (t.now.orders ≡ (mark 0).orders) }
 {
     t.key == Some(0)
         && t.primary.as_slice() == [0].as_slice()
@@ -117,7 +116,7 @@ fn are_mark_keys(t: &Table) -> bool
 }
 
 fn is_mark(t: &Table) -> bool
-    ensures { IsTrue result → t.now ≡ mark t.now.tree }
+    ensures { IsTrue result ↔ t.now ≡ mark t.now.tree }
 {
     t.name.as_slice() == b"mark".as_slice()
         && are_mark_columns(t.columns.as_slice())
@@ -126,7 +125,7 @@ fn is_mark(t: &Table) -> bool
 }
 
 fn are_item_columns(columns: &[Column]) -> bool
-    ensures { IsTrue result → columns.now ≡ (item 0).columns }
+    ensures { IsTrue result ↔ columns.now ≡ (item 0).columns }
 {
     match columns {
         [a, b, c, d, e, f] => {
@@ -142,7 +141,7 @@ fn are_item_columns(columns: &[Column]) -> bool
 }
 
 fn are_item_keys(t: &Table) -> bool
-    ensures { IsTrue result → (t.now.key ≡ (item 0).key) × (t.now.primary ≡ (item 0).primary) × (t.now.uniques ≡ (item 0).uniques) × (t.now.orders ≡ (item 0).orders) }
+    ensures { IsTrue result ↔ (t.now.key ≡ (item 0).key) × (t.now.primary ≡ (item 0).primary) × (t.now.uniques ≡ (item 0).uniques) × (t.now.orders ≡ (item 0).orders) }
 {
     t.key == Some(0)
         && t.primary.as_slice() == [0].as_slice()
@@ -151,7 +150,7 @@ fn are_item_keys(t: &Table) -> bool
 }
 
 fn is_item(t: &Table) -> bool
-    ensures { IsTrue result → t.now ≡ item t.now.tree }
+    ensures { IsTrue result ↔ t.now ≡ item t.now.tree }
 {
     t.name.as_slice() == b"item".as_slice()
         && are_item_columns(t.columns.as_slice())
@@ -160,7 +159,7 @@ fn is_item(t: &Table) -> bool
 }
 
 fn are_member_columns(columns: &[Column]) -> bool
-    ensures { IsTrue result → columns.now ≡ (member 0).columns }
+    ensures { IsTrue result ↔ columns.now ≡ (member 0).columns }
 {
     match columns {
         [a, b, c] => {
@@ -173,7 +172,7 @@ fn are_member_columns(columns: &[Column]) -> bool
 }
 
 fn are_member_keys(t: &Table) -> bool
-    ensures { IsTrue result → (t.now.key ≡ (member 0).key) × (t.now.primary ≡ (member 0).primary) × (t.now.uniques ≡ (member 0).uniques) × (t.now.orders ≡ (member 0).orders) }
+    ensures { IsTrue result ↔ (t.now.key ≡ (member 0).key) × (t.now.primary ≡ (member 0).primary) × (t.now.uniques ≡ (member 0).uniques) × (t.now.orders ≡ (member 0).orders) }
 {
     t.key.is_none()
         && t.primary.as_slice() == [1, 2].as_slice()
@@ -182,7 +181,7 @@ fn are_member_keys(t: &Table) -> bool
 }
 
 fn is_member(t: &Table) -> bool
-    ensures { IsTrue result → t.now ≡ member t.now.tree }
+    ensures { IsTrue result ↔ t.now ≡ member t.now.tree }
 {
     t.name.as_slice() == b"member".as_slice()
         && are_member_columns(t.columns.as_slice())
@@ -191,7 +190,7 @@ fn is_member(t: &Table) -> bool
 }
 
 fn are_edition_columns(columns: &[Column]) -> bool
-    ensures { IsTrue result → columns.now ≡ (edition_table 0).columns }
+    ensures { IsTrue result ↔ columns.now ≡ (edition_table 0).columns }
 {
     match columns {
         [a, b, c, d, e] => {
@@ -206,7 +205,7 @@ fn are_edition_columns(columns: &[Column]) -> bool
 }
 
 fn are_edition_keys(t: &Table) -> bool
-    ensures { IsTrue result → (t.now.key ≡ (edition_table 0).key) × (t.now.primary ≡ (edition_table 0).primary) × (t.now.uniques ≡ (edition_table 0).uniques) × (t.now.orders ≡ (edition_table 0).orders) }
+    ensures { IsTrue result ↔ (t.now.key ≡ (edition_table 0).key) × (t.now.primary ≡ (edition_table 0).primary) × (t.now.uniques ≡ (edition_table 0).uniques) × (t.now.orders ≡ (edition_table 0).orders) }
 {
     t.key == Some(0)
         && t.primary.as_slice() == [0].as_slice()
@@ -215,7 +214,7 @@ fn are_edition_keys(t: &Table) -> bool
 }
 
 fn is_edition(t: &Table) -> bool
-    ensures { IsTrue result → t.now ≡ edition_table t.now.tree }
+    ensures { IsTrue result ↔ t.now ≡ edition_table t.now.tree }
 {
     t.name.as_slice() == b"edition".as_slice()
         && are_edition_columns(t.columns.as_slice())
@@ -224,7 +223,7 @@ fn is_edition(t: &Table) -> bool
 }
 
 fn are_entry_columns(columns: &[Column]) -> bool
-    ensures { IsTrue result → columns.now ≡ (entry 0).columns }
+    ensures { IsTrue result ↔ columns.now ≡ (entry 0).columns }
 {
     match columns {
         [a, b, c, d, e] => {
@@ -239,7 +238,7 @@ fn are_entry_columns(columns: &[Column]) -> bool
 }
 
 fn are_entry_keys(t: &Table) -> bool
-    ensures { IsTrue result → (t.now.key ≡ (entry 0).key) × (t.now.primary ≡ (entry 0).primary) × (t.now.uniques ≡ (entry 0).uniques) × (t.now.orders ≡ (entry 0).orders) }
+    ensures { IsTrue result ↔ (t.now.key ≡ (entry 0).key) × (t.now.primary ≡ (entry 0).primary) × (t.now.uniques ≡ (entry 0).uniques) × (t.now.orders ≡ (entry 0).orders) }
 {
     t.key.is_none()
         && t.primary.as_slice() == [1, 2].as_slice()
@@ -248,7 +247,7 @@ fn are_entry_keys(t: &Table) -> bool
 }
 
 fn is_entry(t: &Table) -> bool
-    ensures { IsTrue result → t.now ≡ entry t.now.tree }
+    ensures { IsTrue result ↔ t.now ≡ entry t.now.tree }
 {
     t.name.as_slice() == b"entry".as_slice()
         && are_entry_columns(t.columns.as_slice())
@@ -257,7 +256,7 @@ fn is_entry(t: &Table) -> bool
 }
 
 fn are_kept_columns(columns: &[Column]) -> bool
-    ensures { IsTrue result → columns.now ≡ (kept 0).columns }
+    ensures { IsTrue result ↔ columns.now ≡ (kept 0).columns }
 {
     match columns {
         [a, b, c, d, e] => {
@@ -272,7 +271,7 @@ fn are_kept_columns(columns: &[Column]) -> bool
 }
 
 fn are_kept_keys(t: &Table) -> bool
-    ensures { IsTrue result → (t.now.key ≡ (kept 0).key) × (t.now.primary ≡ (kept 0).primary) × (t.now.uniques ≡ (kept 0).uniques) × (t.now.orders ≡ (kept 0).orders) }
+    ensures { IsTrue result ↔ (t.now.key ≡ (kept 0).key) × (t.now.primary ≡ (kept 0).primary) × (t.now.uniques ≡ (kept 0).uniques) × (t.now.orders ≡ (kept 0).orders) }
 {
     t.key.is_none()
         && t.primary.as_slice() == [1].as_slice()
@@ -281,7 +280,7 @@ fn are_kept_keys(t: &Table) -> bool
 }
 
 fn is_kept(t: &Table) -> bool
-    ensures { IsTrue result → t.now ≡ kept t.now.tree }
+    ensures { IsTrue result ↔ t.now ≡ kept t.now.tree }
 {
     t.name.as_slice() == b"kept".as_slice()
         && are_kept_columns(t.columns.as_slice())
@@ -289,121 +288,132 @@ fn is_kept(t: &Table) -> bool
         && is_plain(t)
 }
 
+// The table of this name.
+fn table_of<'a>(schema: &'a Schema, name: &[u8]) -> Option<&'a Table>
+    ensures { option_copied result ≡ table_of schema.now name.now }
+{
+    schema.tables.get(schema.table_named(name)?)
+}
+
 // Whether the table that a foreign key names is in this tree.
 fn leads_into(schema: &Schema, reference: &Reference, tree: u32) -> bool
-    ensures { result ≡ is_in tree (option_and_then (slice_get schema.now.tables) (table_named schema.now reference.now.parent)) }
+    ensures { result ≡ is_in tree (table_of schema.now reference.now.parent) }
 {
-    match schema.table_named(reference.parent.as_slice()) {
-        Some(at) => match schema.tables.get(at) {
-            Some(table) => table.tree == tree,
-            None => false,
-        },
+    match table_of(schema, reference.parent.as_slice()) {
+        Some(table) => table.tree == tree,
         None => false,
     }
 }
 
 fn is_child_of(schema: &Schema, child: &Table, tree: u32) -> bool
-    ensures { result ≡ list_any (λ (ref : SqlReference). is_in tree (option_and_then (slice_get schema.now.tables) (table_named schema.now ref.parent))) child.now.references }
+    ensures { result ≡ list_any (λ (ref : SqlReference). is_in tree (table_of schema.now ref.parent)) child.now.references }
 {
     let references = child.references.as_slice();
     references.iter().any(|r| leads_into(schema, r, tree))
 }
 
 fn is_parent(schema: &Schema, tree: u32) -> bool
-    ensures { result ≡ list_any (λ child. list_any (λ (ref : SqlReference). is_in tree (option_and_then (slice_get schema.now.tables) (table_named schema.now ref.parent))) child.references) schema.now.tables }
+    ensures { result ≡ list_any (λ child. list_any (λ (ref : SqlReference). is_in tree (table_of schema.now ref.parent)) child.references) schema.now.tables }
 {
     let tables = schema.tables.as_slice();
     tables.iter().any(|child| is_child_of(schema, child, tree))
 }
 
-fn first_in_tree(schema: &Schema, tree: u32) -> Option<usize>
-    ensures { result ≡ position_from (λ t. t.tree == tree) 0 schema.now.tables }
+fn count_in_tree(schema: &Schema, tree: u32) -> usize
+    ensures { result ≡ count_by (λ t. t.tree == tree) schema.now.tables }
 {
     let tables = schema.tables.as_slice();
-    tables.iter().position(|t| t.tree == tree)
+    tables.iter().filter(|t| t.tree == tree).count()
 }
 
-// Whether the table at this place is the first in its tree, and no foreign key leads into the tree.
-fn is_alone(schema: &Schema, at: usize, tree: u32) -> bool
-    ensures { IsTrue result → IsAlone schema.now at tree }
+fn has_key(table: &Table, places: &[usize]) -> bool
+    ensures { result ≡ list_any (λ key. pointwise nat_eq key places.now) table.now.uniques }
 {
-    tree < 2_147_483_648 && first_in_tree(schema, tree) == Some(at) && !is_parent(schema, tree)
+    let keys = table.uniques.as_slice();
+    keys.iter().any(|key| key.as_slice() == places)
 }
 
-/// Whether the schema has the table `mark` as it is defined here, in a tree of its own, with no foreign key that refers to it.
+fn adds_key(table: &Table, index: &Index) -> bool
+    ensures { result ≡ adds_key table.now index.now }
+{
+    index.table == table.tree
+        && index.is_unique
+        && !(index.order.digits == 0 && has_key(table, index.columns.as_slice()))
+}
+
+fn has_further_key(schema: &Schema, table: &Table) -> bool
+    ensures { result ≡ list_any (adds_key table.now) schema.now.indexes }
+{
+    let indexes = schema.indexes.as_slice();
+    indexes.iter().any(|index| adds_key(table, index))
+}
+
+// Whether the table shares its tree with none, no foreign key leads into it, and no index adds a key.
+fn is_alone(schema: &Schema, table: &Table) -> bool
+    ensures { IsTrue result ↔ IsAlone schema.now table.now }
+{
+    table.tree < 2_147_483_648
+        && count_in_tree(schema, table.tree) == 1
+        && !is_parent(schema, table.tree)
+        && !has_further_key(schema, table)
+}
+
+/// Whether the schema has the table `mark` exactly as it is defined here, in a tree that no other table shares, with no foreign key that refers to it and no index that adds a key.
 pub fn has_mark(schema: &Schema) -> bool
-    ensures { IsTrue result → (at : ℕ) × (tree : ℕ) × HasTable schema.now at (mark tree) }
+    ensures { IsTrue result ↔ HasOwn schema.now mark }
 {
-    let Some(at) = schema.table_named(b"mark") else {
-        return false;
-    };
-    let Some(table) = schema.tables.get(at) else {
-        return false;
-    };
-    is_mark(table) && is_alone(schema, at, table.tree)
+    match table_of(schema, b"mark") {
+        Some(table) => is_mark(table) && is_alone(schema, table),
+        None => false,
+    }
 }
 
-/// Whether the schema has the table `item` as it is defined here, in a tree of its own, with no foreign key that refers to it.
+/// Whether the schema has the table `item` exactly as it is defined here, in a tree that no other table shares, with no foreign key that refers to it and no index that adds a key.
 pub fn has_item(schema: &Schema) -> bool
-    ensures { IsTrue result → (at : ℕ) × (tree : ℕ) × HasTable schema.now at (item tree) }
+    ensures { IsTrue result ↔ HasOwn schema.now item }
 {
-    let Some(at) = schema.table_named(b"item") else {
-        return false;
-    };
-    let Some(table) = schema.tables.get(at) else {
-        return false;
-    };
-    is_item(table) && is_alone(schema, at, table.tree)
+    match table_of(schema, b"item") {
+        Some(table) => is_item(table) && is_alone(schema, table),
+        None => false,
+    }
 }
 
-/// Whether the schema has the table `member` as it is defined here, in a tree of its own, with no foreign key that refers to it.
+/// Whether the schema has the table `member` exactly as it is defined here, in a tree that no other table shares, with no foreign key that refers to it and no index that adds a key.
 pub fn has_member(schema: &Schema) -> bool
-    ensures { IsTrue result → (at : ℕ) × (tree : ℕ) × HasTable schema.now at (member tree) }
+    ensures { IsTrue result ↔ HasOwn schema.now member }
 {
-    let Some(at) = schema.table_named(b"member") else {
-        return false;
-    };
-    let Some(table) = schema.tables.get(at) else {
-        return false;
-    };
-    is_member(table) && is_alone(schema, at, table.tree)
+    match table_of(schema, b"member") {
+        Some(table) => is_member(table) && is_alone(schema, table),
+        None => false,
+    }
 }
 
-/// Whether the schema has the table `edition` as it is defined here, in a tree of its own, with no foreign key that refers to it.
+/// Whether the schema has the table `edition` exactly as it is defined here, in a tree that no other table shares, with no foreign key that refers to it and no index that adds a key.
 pub fn has_edition(schema: &Schema) -> bool
-    ensures { IsTrue result → (at : ℕ) × (tree : ℕ) × HasTable schema.now at (edition_table tree) }
+    ensures { IsTrue result ↔ HasOwn schema.now edition_table }
 {
-    let Some(at) = schema.table_named(b"edition") else {
-        return false;
-    };
-    let Some(table) = schema.tables.get(at) else {
-        return false;
-    };
-    is_edition(table) && is_alone(schema, at, table.tree)
+    match table_of(schema, b"edition") {
+        Some(table) => is_edition(table) && is_alone(schema, table),
+        None => false,
+    }
 }
 
-/// Whether the schema has the table `entry` as it is defined here, in a tree of its own, with no foreign key that refers to it.
+/// Whether the schema has the table `entry` exactly as it is defined here, in a tree that no other table shares, with no foreign key that refers to it and no index that adds a key.
 pub fn has_entry(schema: &Schema) -> bool
-    ensures { IsTrue result → (at : ℕ) × (tree : ℕ) × HasTable schema.now at (entry tree) }
+    ensures { IsTrue result ↔ HasOwn schema.now entry }
 {
-    let Some(at) = schema.table_named(b"entry") else {
-        return false;
-    };
-    let Some(table) = schema.tables.get(at) else {
-        return false;
-    };
-    is_entry(table) && is_alone(schema, at, table.tree)
+    match table_of(schema, b"entry") {
+        Some(table) => is_entry(table) && is_alone(schema, table),
+        None => false,
+    }
 }
 
-/// Whether the schema has the table `kept` as it is defined here, in a tree of its own, with no foreign key that refers to it.
+/// Whether the schema has the table `kept` exactly as it is defined here, in a tree that no other table shares, with no foreign key that refers to it and no index that adds a key.
 pub fn has_kept(schema: &Schema) -> bool
-    ensures { IsTrue result → (at : ℕ) × (tree : ℕ) × HasTable schema.now at (kept tree) }
+    ensures { IsTrue result ↔ HasOwn schema.now kept }
 {
-    let Some(at) = schema.table_named(b"kept") else {
-        return false;
-    };
-    let Some(table) = schema.tables.get(at) else {
-        return false;
-    };
-    is_kept(table) && is_alone(schema, at, table.tree)
+    match table_of(schema, b"kept") {
+        Some(table) => is_kept(table) && is_alone(schema, table),
+        None => false,
+    }
 }

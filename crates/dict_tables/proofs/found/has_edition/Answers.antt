@@ -1,0 +1,13 @@
+use Rattle.std.proofs.Common.{rules, IsTrue, codes, refl, sym}
+use Rattle.dict_tables.specs.Tables.{edition}
+use Rattle.dict_tables.proofs.FoundLemmas.{owns, is_own}
+use Rattle.dict_tables.proofs.found.has_edition.Goals as goal
+
+pub returns-then-is_edition : goal.returns-then-is_edition
+returns-then-is_edition c =
+    let schema = c.args.schema.now in
+    let table = c.in-Some.table.now in
+    let yes : IsTrue c.is_edition.result = search rules in (
+      λ alone. owns schema edition (codes "edition") (λ n. refl) (λ n. refl) table (sym c.in-Some.ensures) (c.is_edition.ensures.0 yes) (c.is_alone.ensures.0 alone),
+      λ own. c.is_alone.ensures.1 (is_own schema edition (codes "edition") (λ n. refl) (λ n. refl) table (sym c.in-Some.ensures) own).1,
+    )

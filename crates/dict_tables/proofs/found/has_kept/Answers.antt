@@ -1,0 +1,13 @@
+use Rattle.std.proofs.Common.{rules, IsTrue, codes, refl, sym}
+use Rattle.dict_tables.specs.Tables.{kept}
+use Rattle.dict_tables.proofs.FoundLemmas.{owns, is_own}
+use Rattle.dict_tables.proofs.found.has_kept.Goals as goal
+
+pub returns-then-is_kept : goal.returns-then-is_kept
+returns-then-is_kept c =
+    let schema = c.args.schema.now in
+    let table = c.in-Some.table.now in
+    let yes : IsTrue c.is_kept.result = search rules in (
+      λ alone. owns schema kept (codes "kept") (λ n. refl) (λ n. refl) table (sym c.in-Some.ensures) (c.is_kept.ensures.0 yes) (c.is_alone.ensures.0 alone),
+      λ own. c.is_alone.ensures.1 (is_own schema kept (codes "kept") (λ n. refl) (λ n. refl) table (sym c.in-Some.ensures) own).1,
+    )
