@@ -8,4 +8,5 @@ pub mod StrategyLemmas
 pub mod WordLemmas
 pub mod MatchLemmas
 pub mod HitLemmas
+pub mod DecideLemmas
 pub mod WordLaws

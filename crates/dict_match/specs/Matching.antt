@@ -1,5 +1,7 @@
 -- Which keys a query finds, by strategy (RFC 2229, section 3.3, with this project's choice of strategies).
-use Rattle.std.specs.Prelude.{◌≡◌, ◌≢◌, ℕ, List, [], ◌++◌}
+use Rattle.std.specs.Prelude.{◌≡◌, ◌≢◌, ℕ, Bool, List, [], ◌∷◌, ◌++◌, length, not, ◌&&◌, ◌||◌, ◌==◌, nat_eq}
+use Rattle.std.specs.List.{starts_with, ends_with}
+use Rattle.std.specs.Str.{bytes_eq}
 use Rattle.dict_match.specs.Words.{words_of}
 use Rattle.dict_match.specs.declared.strategy.Strategy.{Strategy}
 use Rattle.dict_match.specs.declared.strategy.Strategy.TheVariants.{Exact, Prefix, Suffix, Substring, Word, First, Last}
@@ -31,3 +33,20 @@ Fits Last q k = EndsWithWords (words_of k) (words_of q)
 -- an empty query finds nothing
 abbrev pub Hits : Strategy → List ℕ → List ℕ → Type 0
 Hits strategy q k = (q ≢ []) × Fits strategy q k
+
+-- the same as tests: run stands in the list where some tail of it begins with run, whose elements eq tells apart
+abbrev pub has_run : {X : Type 0} → (X → X → Bool) → List X → List X → Bool
+has_run eq [] run = starts_with eq [] run
+has_run eq (x ∷ xs) run = starts_with eq (x ∷ xs) run || has_run eq xs run
+
+abbrev pub is_fit : Strategy → List ℕ → List ℕ → Bool
+is_fit Exact q k = bytes_eq k q
+is_fit Prefix q k = starts_with nat_eq k q
+is_fit Suffix q k = ends_with nat_eq k q
+is_fit Substring q k = has_run nat_eq k q
+is_fit Word q k = has_run bytes_eq (words_of k) (words_of q)
+is_fit First q k = starts_with bytes_eq (words_of k) (words_of q)
+is_fit Last q k = ends_with bytes_eq (words_of k) (words_of q)
+
+unfoldable pub is_hit : Strategy → List ℕ → List ℕ → Bool
+is_hit strategy q k = not (length q == 0) && is_fit strategy q k

@@ -7,6 +7,6 @@ mod strategy;
 mod word;
 
 pub use key::{Key, key_laws, key_of, without_blanks_at_ends, worked_keys};
-pub use matching::matches;
+pub use matching::{hit_laws, matches};
 pub use strategy::Strategy;
 pub use word::{WordIterator, word_laws, words};

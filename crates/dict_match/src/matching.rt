@@ -1,8 +1,8 @@
 //! Which keys a query finds.
 
-ghost use Rattle.std.specs.Prelude.{◌≡◌, ◌↔◌, ◌++◌, ◌<◌, length, drop, IsTrue};
+ghost use Rattle.std.specs.Prelude.{◌≡◌, ◌↔◌, ◌++◌, ◌<◌, ℕ, List, length, drop, IsTrue};
 ghost use Rattle.dict_match.specs.Words.{words_of};
-ghost use Rattle.dict_match.specs.Matching.{Hits, StandsIn, HasWords, BeginsWithWords, EndsWithWords};
+ghost use Rattle.dict_match.specs.Matching.{Hits, Fits, is_hit, StandsIn, HasWords, BeginsWithWords, EndsWithWords};
 
 use crate::strategy::Strategy;
 use crate::word::{split_word, words};
@@ -11,11 +11,22 @@ use memchr::{memchr, memmem};
 /// Whether a query finds an entry by a strategy, given the keys of both. An empty query finds nothing.
 /// No memory is taken.
 pub fn matches(strategy: Strategy, query: &[u8], key: &[u8]) -> bool
-    ensures { IsTrue result ↔ Hits strategy query.now key.now }
+    ensures hits { IsTrue result ↔ Hits strategy query.now key.now }
+    ensures decided { result ≡ is_hit strategy query.now key.now }
 {
-    if query.is_empty() {
-        return false;
-    }
+    !query.is_empty() && fits(strategy, query, key)
+}
+
+/// What makes a hit is decided by a test of both keys.
+pub fn hit_laws()
+    ensures { (strategy : Strategy) (q k : List ℕ) → IsTrue (is_hit strategy q k) ↔ Hits strategy q k }
+{}
+
+/// Whether a key is as the strategy wants it, for a query that isn't empty.
+fn fits(strategy: Strategy, query: &[u8], key: &[u8]) -> bool
+    requires { 0 < length query.now }
+    ensures { IsTrue result ↔ Fits strategy query.now key.now }
+{
     match strategy {
         Strategy::Exact => key == query,
         Strategy::Prefix => key.starts_with(query),
@@ -202,6 +213,7 @@ mod tests {
                 );
             }
         }
+        hit_laws();
         Ok(())
     }
 }

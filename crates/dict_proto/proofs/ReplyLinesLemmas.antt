@@ -6,10 +6,10 @@ use Rattle.std.proofs.lemmas.Fmt.{length-decimal-le, decimal_by_steps}
 use Rattle.dict_proto.proofs.ReadingLemmas.{both_true}
 use Rattle.dict_text.specs.Lines.{text_lines}
 use Rattle.dict_proto.specs.Text.{crlf, needs_backslash, escaped, quoted, stuffed, sent_line, block}
-use Rattle.dict_proto.specs.Replies.{banner_octets, definition_count_octets, definition_line, definition_octets, done_octets, closing_octets, unavailable_octets, not_recognized_octets, invalid_database_octets, no_match_octets, reply_octets}
+use Rattle.dict_proto.specs.Replies.{banner_octets, definition_count_octets, definition_line, definition_octets, match_count_octets, list_row, list_line_octets, list_end_octets, done_octets, closing_octets, unavailable_octets, not_recognized_octets, invalid_database_octets, invalid_strategy_octets, no_match_octets, reply_octets}
 use Rattle.dict_proto.specs.ReplyLines.{AreShortLines, HasNoReturn, IsShort, IsWithinLimits}
 use Rattle.dict_proto.specs.declared.reply.Reply.{Reply}
-use Rattle.dict_proto.specs.declared.reply.Reply.TheVariants.{Banner, DefinitionCount, Definition, Done, Closing, Unavailable, NotRecognized, InvalidDatabase, NoMatch}
+use Rattle.dict_proto.specs.declared.reply.Reply.TheVariants.{Banner, DefinitionCount, Definition, MatchCount, ListLine, ListEnd, Done, Closing, Unavailable, NotRecognized, InvalidDatabase, InvalidStrategy, NoMatch}
 
 -- ---- no CR
 
@@ -100,6 +100,25 @@ unfolding count_content is_other
 count_whole n lt =
     return-append (codes "150 ") _ (return-written (codes "150 ") refl) (return-append (decimal n) _ (return-decimal n lt) (return-written (codes " definitions retrieved") refl))
 
+-- how many matches there are
+matches_content : ℕ → List ℕ
+matches_content n = codes "152 " ++ (decimal n ++ codes " matches found")
+
+matches_is : (n : ℕ) → match_count_octets n ≡ matches_content n ++ crlf
+unfolding match_count_octets matches_content
+matches_is n = simp append_assoc
+
+matches_short : (n : ℕ) → n < 2 ^ 64 → length (matches_content n) + 2 ≤ 1024
+unfolding matches_content
+matches_short n lt =
+    let digits : length (decimal n) ≤ 20 = length-decimal-le 20 n (omega arith) (omega arith) lt in
+    simp length-append (omega arith)
+
+matches_whole : (n : ℕ) → n < 2 ^ 64 → HasNoReturn (matches_content n)
+unfolding matches_content is_other
+matches_whole n lt =
+    return-append (codes "152 ") _ (return-written (codes "152 ") refl) (return-append (decimal n) _ (return-decimal n lt) (return-written (codes " matches found") refl))
+
 -- the line before a definition
 definition_content : List ℕ → List ℕ → List ℕ → List ℕ
 definition_content headword name title = codes "151 " ++ (quoted headword ++ (codes " " ++ (name ++ (codes " " ++ quoted title))))
@@ -133,6 +152,19 @@ stuffed-whole : (line : List ℕ) (test : Bool) → (slice_index line 0 == 46) �
 stuffed-whole line true e h = rw e ((λ f. omega (arith, f)), h)
 stuffed-whole line false e h = rw e h
 
+-- a line of a list
+row-short : (name text : List ℕ) → length name ≤ 32 → length text ≤ 255 → length (list_row name text) ≤ 1021
+row-short name text h k = omega (arith, quoted-short text, length-append name (32 ∷ quoted text))
+
+row-whole : (name text : List ℕ) → HasNoReturn name → HasNoReturn text → HasNoReturn (list_row name text)
+unfolding is_other
+row-whole name text h k = return-append name (codes " " ++ quoted text) h (return-append (codes " ") (quoted text) (return-written (codes " ") refl) (return-quoted text k))
+
+list_line-short : (name text : List ℕ) → IsShort 32 name → IsShort 255 text → AreShortLines (list_line_octets name text)
+unfolding list_line_octets sent_line
+list_line-short name text h k =
+    one_line _ (stuffed (list_row name text)) refl (stuffed-short (list_row name text) _ refl (row-short name text h.0 k.0)) (stuffed-whole (list_row name text) _ refl (row-whole name text h.1 k.1))
+
 all_stuffed : (lines : List (List ℕ)) → AllByRecursion (IsShort 1021) lines → AllByRecursion (λ line. (length line + 2 ≤ 1024) × HasNoReturn line) (map stuffed lines ++ ((46 ∷ []) ∷ []))
 all_stuffed [] h = ((omega arith, ((λ f. omega (arith, f)), tt)), tt)
 all_stuffed (line ∷ lines) h = ((stuffed-short line _ refl h.0.0, stuffed-whole line _ refl h.0.1), all_stuffed lines h.1)
@@ -153,13 +185,17 @@ definition-lines headword name title body h k l m = (
 
 -- every line of a reply within the limits is short
 pub reply_octets-short : (reply : Reply) → IsWithinLimits reply → AreShortLines (reply_octets reply)
-unfolding is_other done_octets closing_octets unavailable_octets not_recognized_octets invalid_database_octets no_match_octets
+unfolding is_other list_end_octets done_octets closing_octets unavailable_octets not_recognized_octets invalid_database_octets invalid_strategy_octets no_match_octets
 reply_octets-short (Banner host connection) (h, k) = one_line _ _ (banner_is host.now connection) (banner_short host.now connection h.0 k) (banner_whole host.now connection h.1 k)
 reply_octets-short (DefinitionCount count) h = one_line _ _ (count_is count) (count_short count h) (count_whole count h)
 reply_octets-short (Definition headword name title body) (h, k, l, m) = definition-lines headword.now name.now title.now body.now h k l m
+reply_octets-short (MatchCount count) h = one_line _ _ (matches_is count) (matches_short count h) (matches_whole count h)
+reply_octets-short (ListLine name text) (h, k) = list_line-short name.now text.now h k
+reply_octets-short ListEnd h = one_line _ (codes ".") refl (omega arith) (return-written (codes ".") refl)
 reply_octets-short Done h = one_line _ (codes "250 ok") refl (omega arith) (return-written (codes "250 ok") refl)
 reply_octets-short Closing h = one_line _ (codes "221 closing connection") refl (omega arith) (return-written (codes "221 closing connection") refl)
 reply_octets-short Unavailable h = one_line _ (codes "420 server temporarily unavailable") refl (omega arith) (return-written (codes "420 server temporarily unavailable") refl)
 reply_octets-short NotRecognized h = one_line _ (codes "500 command not recognized") refl (omega arith) (return-written (codes "500 command not recognized") refl)
 reply_octets-short InvalidDatabase h = one_line _ (codes "550 invalid database") refl (omega arith) (return-written (codes "550 invalid database") refl)
+reply_octets-short InvalidStrategy h = one_line _ (codes "551 invalid strategy") refl (omega arith) (return-written (codes "551 invalid strategy") refl)
 reply_octets-short NoMatch h = one_line _ (codes "552 no match") refl (omega arith) (return-written (codes "552 no match") refl)

@@ -1,4 +1,4 @@
--- What a command line means. RFC 2229, sections 2.2, 2.3, 3.2 and 3.9.
+-- What a command line means. RFC 2229, sections 2.2, 2.3, 3.2, 3.3 and 3.9.
 use Rattle.std.specs.Prelude.{ℕ, ◌+◌, List, [], ◌∷◌, Bool, not, nat_le, ◌&&◌, ◌||◌, ◌==◌, if◌then◌else◌, length, map, codes, Option, None, Some, Result, Ok, Err}
 use Rattle.std.specs.List.{list_all, list_any}
 use Rattle.std.specs.Option.{option_map}
@@ -7,13 +7,15 @@ use Rattle.dict_text.specs.Characters.{is_control}
 use Rattle.dict_proto.specs.Words.{is_quoting}
 use Rattle.dict_proto.specs.Reading.{words_of}
 use Rattle.dict_proto.specs.declared.request.Request.{Request}
-use Rattle.dict_proto.specs.declared.request.Request.TheVariants.{Define, Quit}
+use Rattle.dict_proto.specs.declared.request.Request.TheVariants.{Define, Match, Quit}
 use Rattle.dict_proto.specs.declared.request.LineFault.{LineFault}
 use Rattle.dict_proto.specs.declared.request.LineFault.TheVariants.{NotRecognized}
 
--- what a line asks for: the definitions of a word in a database, the end of the session, or nothing known
+-- what a line asks for: the definitions of a word in a database, the headwords in a database that a strategy finds by
+-- a word, the end of the session, or nothing known
 pub data Meaning : Type 0 where
   define : List ℕ → List ℕ → Meaning
+  matching : List ℕ → List ℕ → List ℕ → Meaning
   quit : Meaning
   not_recognized : Meaning
 
@@ -29,7 +31,8 @@ asked_by [] = not_recognized
 asked_by (command ∷ []) = if str_eq_ignore_ascii_case command (codes "quit") then quit else not_recognized
 asked_by (command ∷ database ∷ []) = not_recognized
 asked_by (command ∷ database ∷ word ∷ []) = if str_eq_ignore_ascii_case command (codes "define") then define database word else not_recognized
-asked_by (command ∷ database ∷ word ∷ other ∷ more) = not_recognized
+asked_by (command ∷ database ∷ strategy ∷ word ∷ []) = if str_eq_ignore_ascii_case command (codes "match") then matching database strategy word else not_recognized
+asked_by (command ∷ database ∷ strategy ∷ word ∷ other ∷ more) = not_recognized
 
 -- the same, where the line can be cut into words
 abbrev pub asked : Option (List (List ℕ)) → Meaning
@@ -43,5 +46,6 @@ meaning line = if is_readable line && not (list_any is_quoting (chars line)) the
 -- the meaning that a parser told
 abbrev pub told : Result Request LineFault → Meaning
 told (Ok (Define database word)) = define database.now word.now
+told (Ok (Match database strategy word)) = matching database.now strategy.now word.now
 told (Ok Quit) = quit
 told (Err NotRecognized) = not_recognized

@@ -1,9 +1,9 @@
 -- The octets of each reply. RFC 2229, sections 3.1 to 3.9, with this project's wording after the codes.
 use Rattle.std.specs.Prelude.{ℕ, List, ◌++◌, codes, decimal}
 use Rattle.dict_text.specs.Lines.{text_lines}
-use Rattle.dict_proto.specs.Text.{crlf, block, quoted}
+use Rattle.dict_proto.specs.Text.{crlf, sent_line, block, quoted}
 use Rattle.dict_proto.specs.declared.reply.Reply.{Reply}
-use Rattle.dict_proto.specs.declared.reply.Reply.TheVariants.{Banner, DefinitionCount, Definition, Done, Closing, Unavailable, NotRecognized, InvalidDatabase, NoMatch}
+use Rattle.dict_proto.specs.declared.reply.Reply.TheVariants.{Banner, DefinitionCount, Definition, MatchCount, ListLine, ListEnd, Done, Closing, Unavailable, NotRecognized, InvalidDatabase, InvalidStrategy, NoMatch}
 
 -- the greeting of a connection: 220, the host and the connection's number
 unfoldable pub banner_octets : List ℕ → ℕ → List ℕ
@@ -20,6 +20,22 @@ definition_line headword name title = codes "151 " ++ (quoted headword ++ (codes
 -- one definition: the headword, the database's name and title, and the text
 unfoldable pub definition_octets : List ℕ → List ℕ → List ℕ → List ℕ → List ℕ
 definition_octets headword name title body = definition_line headword name title ++ block (text_lines body)
+
+-- how many matches follow
+unfoldable pub match_count_octets : ℕ → List ℕ
+match_count_octets count = codes "152 " ++ (decimal count ++ (codes " matches found" ++ crlf))
+
+-- a line of a list, before it is sent: a name, and a headword or a title between quote signs
+abbrev pub list_row : List ℕ → List ℕ → List ℕ
+list_row name text = name ++ (codes " " ++ quoted text)
+
+-- the same as it is sent
+unfoldable pub list_line_octets : List ℕ → List ℕ → List ℕ
+list_line_octets name text = sent_line (list_row name text)
+
+-- what ends a list: a line of one period
+unfoldable pub list_end_octets : List ℕ
+list_end_octets = codes "." ++ crlf
 
 -- what ends a reply that has a text, and what answers a command that has no other answer
 unfoldable pub done_octets : List ℕ
@@ -41,6 +57,10 @@ not_recognized_octets = codes "500 command not recognized" ++ crlf
 unfoldable pub invalid_database_octets : List ℕ
 invalid_database_octets = codes "550 invalid database" ++ crlf
 
+-- the strategy asked is not there
+unfoldable pub invalid_strategy_octets : List ℕ
+invalid_strategy_octets = codes "551 invalid strategy" ++ crlf
+
 -- nothing was found
 unfoldable pub no_match_octets : List ℕ
 no_match_octets = codes "552 no match" ++ crlf
@@ -49,9 +69,13 @@ abbrev pub reply_octets : Reply → List ℕ
 reply_octets (Banner host connection) = banner_octets host.now connection
 reply_octets (DefinitionCount count) = definition_count_octets count
 reply_octets (Definition headword name title body) = definition_octets headword.now name.now title.now body.now
+reply_octets (MatchCount count) = match_count_octets count
+reply_octets (ListLine name text) = list_line_octets name.now text.now
+reply_octets ListEnd = list_end_octets
 reply_octets Done = done_octets
 reply_octets Closing = closing_octets
 reply_octets Unavailable = unavailable_octets
 reply_octets NotRecognized = not_recognized_octets
 reply_octets InvalidDatabase = invalid_database_octets
+reply_octets InvalidStrategy = invalid_strategy_octets
 reply_octets NoMatch = no_match_octets

@@ -16,7 +16,7 @@ mod words;
 pub use limited::LimitedSink;
 pub use line::{MAX_LINE_CHARACTERS, MAX_LINE_OCTETS, parse_line};
 pub use quoted::put_quoted;
-pub use reply::{Reply, reply_lines_are_short, write_reply};
+pub use reply::{Reply, list_is_a_block, reply_lines_are_short, write_reply};
 pub use request::{LineFault, Request};
 pub use sink::{OverWrite, Sink, SinkFault, put_all};
 pub use source::{OverRead, Source, SourceFault};

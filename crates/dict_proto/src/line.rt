@@ -40,13 +40,16 @@ fn parse_plain(line: &[u8]) -> Result<Request<'_>, LineFault>
     let Some((database, rest)) = next_word(rest) else {
         return without_parameters(command);
     };
-    let Some((word, rest)) = next_word(rest) else {
+    let Some((second, rest)) = next_word(rest) else {
         return Err(LineFault::NotRecognized);
+    };
+    let Some((third, rest)) = next_word(rest) else {
+        return with_two_parameters(command, database, second);
     };
     let None = next_word(rest) else {
         return Err(LineFault::NotRecognized);
     };
-    with_two_parameters(command, database, word)
+    with_three_parameters(command, database, second, third)
 }
 
 fn without_parameters<'a>(command: &[u8]) -> Result<Request<'a>, LineFault>
@@ -72,6 +75,29 @@ fn with_two_parameters<'a>(
         Ok(Request::Define {
             database: text_of(database),
             word: text_of(word),
+        })
+    } else {
+        Err(LineFault::NotRecognized)
+    }
+}
+
+fn with_three_parameters<'a>(
+    command: &[u8],
+    database: &'a [u8],
+    strategy: &'a [u8],
+    word: &'a [u8],
+) -> Result<Request<'a>, LineFault>
+    requires database { IsUtf8 database.now }
+    requires strategy { IsUtf8 strategy.now }
+    requires word { IsUtf8 word.now }
+    ensures { told result ≡ asked_by (command.now ∷ database.now ∷ strategy.now ∷ word.now ∷ []) }
+{
+    if command.eq_ignore_ascii_case(b"match") {
+        let (database, strategy, word) = (text_of(database), text_of(strategy), text_of(word));
+        Ok(Request::Match {
+            database,
+            strategy,
+            word,
         })
     } else {
         Err(LineFault::NotRecognized)

@@ -1,15 +1,19 @@
 // The replies, and how they are put.
+ghost use Rattle.std.specs.Prelude.{◌≡◌, ℕ, List, ◌++◌, decimal, map};
+ghost use Rattle.std.specs.List.{flat_map};
 ghost use Rattle.dict_proto.specs.declared.reply.Reply.{Reply};
 ghost use Rattle.dict_proto.specs.Octets.{Puts, Counts};
+ghost use Rattle.dict_proto.specs.Text.{block};
 ghost use Rattle.dict_proto.specs.ReplyLines.{AreShortLines, IsWithinLimits};
-ghost use Rattle.dict_proto.specs.Replies.{reply_octets, banner_octets, definition_count_octets, definition_octets, definition_line};
+ghost use Rattle.dict_proto.specs.Replies.{reply_octets, banner_octets, definition_octets, definition_line, list_row, list_line_octets, list_end_octets};
 
 use crate::part::{Part, put_parts};
 use crate::sink::{Sink, SinkFault};
-use crate::text::put_text;
+use crate::text::{put_text, stuffing};
 
 /// A reply, or a part of one: the answer to a DEFINE that finds something is a `DefinitionCount`, each
-/// `Definition` and then `Done`.
+/// `Definition` and then `Done`; the answer to a MATCH that finds something is a `MatchCount`, a `ListLine` for each
+/// headword, `ListEnd` and `Done`.
 #[derive(Clone, Copy, Debug, PartialEq, Eq)]
 pub enum Reply<'a> {
     /// 220, a connection's greeting: the host's name and the connection's number.
@@ -26,6 +30,15 @@ pub enum Reply<'a> {
         title: &'a str,
         body: &'a [u8],
     },
+    /// 152: how many matches follow.
+    MatchCount(u64),
+    /// A line of a list: a name, and a headword or a title between quote signs.
+    ListLine {
+        name: &'a str,
+        text: &'a str,
+    },
+    /// The end of a list: a line of one period.
+    ListEnd,
     /// 250.
     Done,
     /// 221, the answer to QUIT.
@@ -36,6 +49,8 @@ pub enum Reply<'a> {
     NotRecognized,
     /// 550: no such database.
     InvalidDatabase,
+    /// 551: no such strategy.
+    InvalidStrategy,
     /// 552: nothing was found.
     NoMatch,
 }
@@ -48,18 +63,27 @@ pub fn write_reply<K: Sink>(sink: &mut K, reply: &Reply) -> Result<(), SinkFault
 {
     match *reply {
         Reply::Banner { host, connection } => put_banner(sink, host, connection),
-        Reply::DefinitionCount(count) => put_definition_count(sink, count),
+        Reply::DefinitionCount(count) => put_count(
+            sink,
+            b"150 ",
+            count,
+            b" definitions retrieved\r\n",
+        ),
         Reply::Definition {
             headword,
             name,
             title,
             body,
         } => put_definition(sink, headword, name, title, body),
+        Reply::MatchCount(count) => put_count(sink, b"152 ", count, b" matches found\r\n"),
+        Reply::ListLine { name, text } => put_list_line(sink, name, text),
+        Reply::ListEnd => sink.put(b".\r\n"),
         Reply::Done => sink.put(b"250 ok\r\n"),
         Reply::Closing => sink.put(b"221 closing connection\r\n"),
         Reply::Unavailable => sink.put(b"420 server temporarily unavailable\r\n"),
         Reply::NotRecognized => sink.put(b"500 command not recognized\r\n"),
         Reply::InvalidDatabase => sink.put(b"550 invalid database\r\n"),
+        Reply::InvalidStrategy => sink.put(b"551 invalid strategy\r\n"),
         Reply::NoMatch => sink.put(b"552 no match\r\n"),
     }
 }
@@ -83,18 +107,20 @@ fn put_banner<K: Sink>(sink: &mut K, host: &str, connection: u64) -> Result<(), 
     )
 }
 
-fn put_definition_count<K: Sink>(sink: &mut K, count: u64) -> Result<(), SinkFault>
+// Puts a line that tells how many follow: its code and a space, the number, and how it ends.
+fn put_count<'a, K: Sink>(
+    sink: &mut K,
+    code: &'a [u8],
+    count: u64,
+    end: &'a [u8],
+) -> Result<(), SinkFault>
     ensures octets { Puts result (K.octets sink.old) (K.octets sink.new)
-        (definition_count_octets count) }
+        (code.now ++ (decimal count ++ end.now)) }
     ensures failures { Counts result (K.failures sink.old) (K.failures sink.new) }
 {
     put_parts(
         sink,
-        &[
-            Part::Octets(b"150 "),
-            Part::Number(count),
-            Part::Octets(b" definitions retrieved\r\n"),
-        ],
+        &[Part::Octets(code), Part::Number(count), Part::Octets(end)],
     )
 }
 
@@ -137,9 +163,34 @@ fn put_definition_line<'a, K: Sink>(
     )
 }
 
+fn put_list_line<'a, K: Sink>(sink: &mut K, name: &'a str, text: &'a str) -> Result<(), SinkFault>
+    ensures octets { Puts result (K.octets sink.old) (K.octets sink.new)
+        (list_line_octets name.now text.now) }
+    ensures failures { Counts result (K.failures sink.old) (K.failures sink.new) }
+{
+    put_parts(
+        sink,
+        &[
+            Part::Octets(stuffing(name.as_bytes())),
+            Part::Octets(name.as_bytes()),
+            Part::Octets(b" "),
+            Part::Quoted(text),
+            Part::Octets(b"\r\n"),
+        ],
+    )
+}
+
+/// A law of lists: a `ListLine` for each row, and then `ListEnd`, are one text (RFC 2229, section 2.4.3) whose lines
+/// are the rows: the name, a space, and the headword or the title between quote signs.
+pub fn list_is_a_block()
+    ensures { (rows : List (List ℕ × List ℕ))
+        → flat_map (λ row. list_line_octets row.0 row.1) rows ++ list_end_octets
+        ≡ block (map (λ row. list_row row.0 row.1) rows) }
+{}
+
 /// A law of replies: where host, headword, name, title and text keep their limits (253, 255, 32, 200 octets, and
-/// 1,021 for each line of a text, none of them with a CR), a reply is lines, each ended by CR LF, without another CR
-/// and of at most 1,024 octets, their CR LF counted.
+/// 1,021 for each line of a text; 255 for the headword or the title in a line of a list; none of them with a CR), a
+/// reply is lines, each ended by CR LF, without another CR and of at most 1,024 octets, their CR LF counted.
 pub fn reply_lines_are_short()
     ensures { (reply : Reply) → IsWithinLimits reply → AreShortLines (reply_octets reply) }
 {}

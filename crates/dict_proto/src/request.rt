@@ -4,7 +4,16 @@
 #[derive(Clone, Copy, Debug, PartialEq, Eq)]
 pub enum Request<'a> {
     /// DEFINE: the definitions of the word in the database.
-    Define { database: &'a str, word: &'a str },
+    Define {
+        database: &'a str,
+        word: &'a str,
+    },
+    /// MATCH: the headwords in the database that the strategy finds by the word.
+    Match {
+        database: &'a str,
+        strategy: &'a str,
+        word: &'a str,
+    },
     /// QUIT: the end of the session.
     Quit,
 }

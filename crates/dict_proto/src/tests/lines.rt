@@ -1,10 +1,23 @@
-use crate::{LineFault, Request, one_reading, parse_line, reply_lines_are_short, worked_lines};
+use crate::{
+    LineFault, Request, list_is_a_block, one_reading, parse_line, reply_lines_are_short,
+    worked_lines,
+};
 use std::alloc::Global;
 use std::test::Fail;
 
 // Whether the line is a DEFINE of these two words.
 fn defines(line: &[u8], database: &str, word: &str) -> bool {
     parse_line(line) == Ok(Request::Define { database, word })
+}
+
+// Whether the line is a MATCH of these three words.
+fn matches(line: &[u8], database: &str, strategy: &str, word: &str) -> bool {
+    let request = Request::Match {
+        database,
+        strategy,
+        word,
+    };
+    parse_line(line) == Ok(request)
 }
 
 fn is_refused(line: &[u8]) -> bool {
@@ -25,6 +38,7 @@ fn commands(rt: HostRuntime) -> Result<(), Fail> {
     one_reading();
     worked_lines();
     reply_lines_are_short();
+    list_is_a_block();
     assert!(rt; defines(b"DEFINE gem opal", "gem", "opal"));
     assert!(rt; defines(b"define gem OPAL", "gem", "OPAL"));
     assert!(rt; defines(b" dEfInE\tGEM  opal \t", "GEM", "opal"));
@@ -38,6 +52,24 @@ fn commands(rt: HostRuntime) -> Result<(), Fail> {
 }
 
 #[test]
+fn matches_of_three_words(rt: HostRuntime) -> Result<(), Fail> {
+    assert!(rt; matches(b"MATCH gem prefix fire", "gem", "prefix", "fire"));
+    assert!(rt; matches(b"match gem PREFIX Fire", "gem", "PREFIX", "Fire"));
+    assert!(rt; matches(b"\tmAtCh  * \t.\topal  ", "*", ".", "opal"));
+    assert!(rt; matches("MATCH ! suffix été".as_bytes(), "!", "suffix", "été"));
+    assert!(rt;
+        matches(
+            "MATCH \u{a0} \u{2028} \u{10ffff}".as_bytes(),
+            "\u{a0}",
+            "\u{2028}",
+            "\u{10ffff}"
+        )
+    );
+    assert!(rt; matches(b"MATCH match match match", "match", "match", "match"));
+    Ok(())
+}
+
+#[test]
 fn other_lines(rt: HostRuntime) -> Result<(), Fail> {
     let lines = [
         b"".as_slice(),
@@ -45,6 +77,14 @@ fn other_lines(rt: HostRuntime) -> Result<(), Fail> {
         b"DEFINE".as_slice(),
         b"DEFINE gem".as_slice(),
         b"DEFINE gem fire opal".as_slice(),
+        b"MATCH".as_slice(),
+        b"MATCH gem".as_slice(),
+        b"MATCH gem prefix".as_slice(),
+        b"MATCH gem prefix fire opal".as_slice(),
+        b"MATCHES gem prefix fire".as_slice(),
+        b"DEFINE gem prefix fire".as_slice(),
+        b"MATCH gem prefix \"fire\"".as_slice(),
+        b"MATCH gem prefix fi\\re".as_slice(),
         b"QUIT now".as_slice(),
         b"QUITE".as_slice(),
         b"DEFIN\xc3\x89 a b".as_slice(),

@@ -67,10 +67,49 @@ fn fixed_lines(rt: HostRuntime) -> Result<(), Fail> {
             Reply::InvalidDatabase,
             b"550 invalid database\r\n".as_slice(),
         ),
+        (
+            Reply::InvalidStrategy,
+            b"551 invalid strategy\r\n".as_slice(),
+        ),
+        (Reply::ListEnd, b".\r\n".as_slice()),
         (Reply::NoMatch, b"552 no match\r\n".as_slice()),
     ];
     for (reply, want) in &lines {
         assert_eq!(rt; octets_of(alloc, reply)?.as_slice(), *want);
+    }
+    Ok(())
+}
+
+#[test]
+fn counts_of_matches(rt: HostRuntime) -> Result<(), Fail> {
+    let alloc = rt.alloc();
+    assert_eq!(rt;
+        octets_of(alloc, &Reply::MatchCount(1))?.as_slice(),
+        b"152 1 matches found\r\n".as_slice()
+    );
+    assert_eq!(rt;
+        octets_of(alloc, &Reply::MatchCount(18_446_744_073_709_551_615))?.as_slice(),
+        b"152 18446744073709551615 matches found\r\n".as_slice()
+    );
+    Ok(())
+}
+
+#[test]
+fn lines_of_a_list(rt: HostRuntime) -> Result<(), Fail> {
+    let alloc = rt.alloc();
+    let rows = [
+        ("gem", "Opal, fire", b"gem \"Opal, fire\"\r\n".as_slice()),
+        ("gem", "a\"b\\c", b"gem \"a\\\"b\\\\c\"\r\n".as_slice()),
+        ("ete", "été", b"ete \"\xc3\xa9t\xc3\xa9\"\r\n".as_slice()),
+        (".", ".x", b".. \".x\"\r\n".as_slice()),
+        ("..a", "", b"...a \"\"\r\n".as_slice()),
+        ("", ".", b" \".\"\r\n".as_slice()),
+    ];
+    for (name, text, want) in &rows {
+        assert_eq!(rt;
+            octets_of(alloc, &Reply::ListLine { name, text })?.as_slice(),
+            *want
+        );
     }
     Ok(())
 }
@@ -138,6 +177,11 @@ fn quotes(rt: HostRuntime) -> Result<(), Fail> {
 // A sink with room for k octets takes the first k, and the reply is Ok only with room for all.
 #[test]
 fn a_sink_with_little_room(rt: HostRuntime) -> Result<(), Fail> {
+    let row = Reply::ListLine {
+        name: ".gem",
+        text: "a\"b",
+    };
+    let line = b"..gem \"a\\\"b\"\r\n".as_slice();
     let want = b"151 \"a\\\"b\" gem \"Gems\"\r\nx\r\n..y\r\n.\r\n".as_slice();
     let definition = Reply::Definition {
         headword: "a\"b",
@@ -145,12 +189,14 @@ fn a_sink_with_little_room(rt: HostRuntime) -> Result<(), Fail> {
         title: "Gems",
         body: b"x\n.y\n",
     };
-    for room in 0..want.len() + 2 {
-        let mut sink = LimitedSink::new(rt.alloc(), room)?;
-        let written = write_reply(&mut sink, &definition);
-        assert_eq!(rt; written.is_ok(), room >= want.len(), "room for {room}");
-        let front = want.get(..room).unwrap_or(want);
-        assert_eq!(rt; sink.taken(), front, "room for {room}");
+    for (reply, want) in &[(row, line), (definition, want)] {
+        for room in 0..want.len() + 2 {
+            let mut sink = LimitedSink::new(rt.alloc(), room)?;
+            let written = write_reply(&mut sink, reply);
+            assert_eq!(rt; written.is_ok(), room >= want.len(), "room for {room}");
+            let front = want.get(..room).unwrap_or(want);
+            assert_eq!(rt; sink.taken(), front, "room for {room}");
+        }
     }
     Ok(())
 }

@@ -1,14 +1,19 @@
-use Rattle.std.proofs.Common.{◌≢◌, [], length, sym, ap, ◌∙◌}
-use Rattle.std.proofs.lemmas.Bool.{eqb-false}
-use Rattle.dict_match.proofs.HitLemmas.{hits_prefix, hits_suffix}
+use Rattle.std.proofs.Common.{◌≡◌, ◌≢◌, ℕ, List, [], ◌∷◌, length, refl, ap, sym, ◌∙◌, arith}
+use Rattle.std.proofs.lemmas.Bool.{eqb-true, eqb-false, not_from_true, false≢true}
+use Rattle.dict_match.proofs.DecideLemmas.{decided_hit}
 use Rattle.dict_match.proofs.matching.matches.Goals as goal
 
-pub returns-in-Prefix : goal.returns-in-Prefix
-returns-in-Prefix c =
-    let some : c.args.query.now ≢ [] = λ none. eqb-false _ 0 (sym c.is_empty.ensures ∙ c.if-is_empty.false) (ap length none) in
-    rw c.in-Prefix.is (hits_prefix c.args.query.now c.args.key.now c.starts_with.result some c.starts_with.ensures.value)
+-- a list without elements is the empty list
+nothing : (q : List ℕ) → length q ≡ 0 → q ≢ [] → ⊥
+nothing [] e some = some refl
+nothing (x ∷ q) e some = omega (arith, e)
 
-pub returns-in-Suffix : goal.returns-in-Suffix
-returns-in-Suffix c =
-    let some : c.args.query.now ≢ [] = λ none. eqb-false _ 0 (sym c.is_empty.ensures ∙ c.if-is_empty.false) (ap length none) in
-    rw c.in-Suffix.is (hits_suffix c.args.query.now c.args.key.now c.ends_with.result some c.ends_with.ensures.value)
+pub returns-then-not-is_empty-clause-decided : goal.returns-then-not-is_empty-clause-decided
+returns-then-not-is_empty-clause-decided c =
+    let some : c.args.query.now ≢ [] = λ none. eqb-false _ 0 (sym c.is_empty.ensures ∙ c.if-not-is_empty.true) (ap length none) in
+    decided_hit c.args.strategy c.args.query.now c.args.key.now c.fits.result ((λ h. (some, c.fits.ensures.0 h)), (λ h. c.fits.ensures.1 h.1))
+
+pub returns-else-not-is_empty-clause-decided : goal.returns-else-not-is_empty-clause-decided
+returns-else-not-is_empty-clause-decided c =
+    let none : length c.args.query.now ≡ 0 = eqb-true _ 0 (sym c.is_empty.ensures ∙ c.if-not-is_empty.false) in
+    not_from_true _ c.if-not-is_empty.false ∙ decided_hit c.args.strategy c.args.query.now c.args.key.now _ ((λ h. absurd (false≢true h)), (λ h. absurd (nothing c.args.query.now none h.0)))

@@ -1,9 +1,21 @@
-use Rattle.dict_proto.specs.Replies.{done_octets, closing_octets, unavailable_octets, not_recognized_octets, invalid_database_octets, no_match_octets}
+use Rattle.dict_proto.specs.Replies.{definition_count_octets, match_count_octets, list_end_octets, done_octets, closing_octets, unavailable_octets, not_recognized_octets, invalid_database_octets, invalid_strategy_octets, no_match_octets}
 use Rattle.dict_proto.proofs.reply.write_reply.Goals as goal
+
+pub returns-in-DefinitionCount-clause-octets : goal.returns-in-DefinitionCount-clause-octets
+unfolding definition_count_octets
+returns-in-DefinitionCount-clause-octets g c = rw c.in-DefinitionCount.is c.put_count.ensures.octets
+
+pub returns-in-MatchCount-clause-octets : goal.returns-in-MatchCount-clause-octets
+unfolding match_count_octets
+returns-in-MatchCount-clause-octets g c = rw c.in-MatchCount.is c.put_count-in-MatchCount.ensures.octets
+
+pub returns-in-ListEnd-clause-octets : goal.returns-in-ListEnd-clause-octets
+unfolding list_end_octets
+returns-in-ListEnd-clause-octets g c = rw c.in-ListEnd.is c.put.ensures.octets
 
 pub returns-in-Done-clause-octets : goal.returns-in-Done-clause-octets
 unfolding done_octets
-returns-in-Done-clause-octets g c = rw c.in-Done.is c.put.ensures.octets
+returns-in-Done-clause-octets g c = rw c.in-Done.is c.put-in-Done.ensures.octets
 
 pub returns-in-Closing-clause-octets : goal.returns-in-Closing-clause-octets
 unfolding closing_octets
@@ -20,6 +32,10 @@ returns-in-NotRecognized-clause-octets g c = rw c.in-NotRecognized.is c.put-in-N
 pub returns-in-InvalidDatabase-clause-octets : goal.returns-in-InvalidDatabase-clause-octets
 unfolding invalid_database_octets
 returns-in-InvalidDatabase-clause-octets g c = rw c.in-InvalidDatabase.is c.put-in-InvalidDatabase.ensures.octets
+
+pub returns-in-InvalidStrategy-clause-octets : goal.returns-in-InvalidStrategy-clause-octets
+unfolding invalid_strategy_octets
+returns-in-InvalidStrategy-clause-octets g c = rw c.in-InvalidStrategy.is c.put-in-InvalidStrategy.ensures.octets
 
 pub returns-in-NoMatch-clause-octets : goal.returns-in-NoMatch-clause-octets
 unfolding no_match_octets
