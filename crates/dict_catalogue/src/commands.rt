@@ -1,7 +1,8 @@
 // What an installer may ask of a catalogue.
 ghost use Rattle.std.specs.Prelude.{◌≡◌};
 ghost use Rattle.dict_catalogue.specs.Commands.{target, verb_of};
-ghost use Rattle.dict_catalogue.specs.Views.{command_shown};
+ghost use Rattle.dict_catalogue.specs.Views.{command_shown, command_meant};
+ghost use Rattle.dict_catalogue.specs.WellFormed.{IsLawfulCommand};
 
 use crate::reply::Verb;
 use dict_index::Edition;
@@ -60,6 +61,16 @@ impl<'a> Command<'a> {
             Command::Retire { .. } => Verb::Retire,
             Command::PutVirtual { .. } => Verb::Virtual,
             Command::Place { .. } => Verb::Place,
+        }
+    }
+    /// An installed edition is one that some index and some text say, so a well formed catalogue stays so.
+    ///
+    /// It does nothing. Its clause is what holds of every command.
+    pub fn is_lawful(&self)
+        ensures { IsLawfulCommand (command_meant self.now) }
+    {
+        if let Command::Install { edition, .. } = self {
+            edition.is_said();
         }
     }
 }

@@ -1,6 +1,8 @@
 // An edition as it was read.
 ghost use Rattle.std.specs.Prelude.{◌≡◌, map};
 ghost use Rattle.std.specs.List.{AllByRecursion};
+ghost use Rattle.dict_index.specs.Edition.{edition_of};
+ghost use Rattle.dict_index.specs.Meaning.{IsLawful};
 ghost use Rattle.dict_index.specs.Views.{line_of, HasBodyIn};
 
 use crate::entry::Entry;
@@ -59,5 +61,14 @@ impl<'a> Edition<'a> {
         ensures bodies { AllByRecursion (HasBodyIn self.now.text) result.now }
     {
         self.entries.as_slice()
+    }
+
+    /// Some index and some text say this edition.
+    ///
+    /// It does nothing. Its clause is what holds of every edition, for the layers that keep editions.
+    pub fn is_said(&self)
+        ensures { IsLawful (edition_of self.now) }
+    {
+        let _ = &self.entries;
     }
 }
