@@ -457,4 +457,5 @@ fn what_a_command_is_about(rt: HostRuntime) {
     let command = place("gem", 2);
     assert_eq!(rt; command.target(), "gem");
     assert_eq!(rt; command.verb(), Verb::Place);
+    command.is_lawful();
 }

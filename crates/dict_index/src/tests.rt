@@ -96,6 +96,7 @@ fn reads_editions(rt: HostRuntime) -> Result<(), Fail> {
     ];
     for (index, text, title, info, entries) in &cases {
         let edition = read_edition(rt.alloc(), index, text)?;
+        edition.is_said();
         assert_eq!(rt; edition.title(), *title);
         assert_eq!(rt; edition.info(), *info, "of {title}");
         assert!(rt; edition.text() == *text, "text of {title}");
