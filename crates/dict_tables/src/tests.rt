@@ -56,9 +56,23 @@ fn finds_the_tables(rt: HostRuntime) -> Result<(), Fail> {
 }
 
 #[test]
+fn misses_what_else_has_a_name(rt: HostRuntime) -> Result<(), Fail> {
+    for made in [
+        "CREATE TABLE mark (a TEXT); CREATE TABLE item (a TEXT); CREATE TABLE member (a TEXT); CREATE TABLE edition (a TEXT); CREATE TABLE entry (a TEXT); CREATE TABLE kept (a TEXT)",
+        "CREATE VIEW mark AS SELECT 1; CREATE VIEW item AS SELECT 1; CREATE VIEW member AS SELECT 1; CREATE VIEW edition AS SELECT 1; CREATE VIEW entry AS SELECT 1; CREATE VIEW kept AS SELECT 1",
+    ] {
+        let schema = schema_of(rt.alloc(), made)?;
+        assert!(rt; !has_mark(&schema) && !has_item(&schema) && !has_member(&schema));
+        assert!(rt; !has_edition(&schema) && !has_entry(&schema) && !has_kept(&schema));
+    }
+    Ok(())
+}
+
+#[test]
 fn misses_other_marks(rt: HostRuntime) -> Result<(), Fail> {
     for (part, other) in [
         ("TABLE mark", "TABLE marks"),
+        ("TABLE mark", "TABLE MARK"),
         ("magic TEXT", "magic BLOB"),
         ("installs INTEGER NOT NULL", "installs INTEGER"),
         ("magic TEXT NOT NULL", "magic TEXT NOT NULL UNIQUE"),
