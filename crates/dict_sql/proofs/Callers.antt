@@ -13,7 +13,7 @@ use Rattle.sqlite.specs.Table.{Table}
 use Rattle.sqlite.specs.Order.{Row, column}
 use Rattle.sqlite.specs.declared.types.Value.{Value}
 use Rattle.sqlite.specs.declared.types.Value.TheVariants.{Int}
-use Rattle.dict_tables.specs.Found.{HasTable}
+use Rattle.dict_tables.specs.Found.{HasTable, HasOwn}
 use Rattle.dict_sql.specs.Effects.{Has, HasApartRowids, IsAdded, IsRemoved, rows_of, same_value}
 use Rattle.dict_sql.specs.Reads.{IsListing}
 use Rattle.dict_sql.proofs.RemoveLemmas.{same_flips}
@@ -21,6 +21,10 @@ use Rattle.dict_sql.proofs.RemoveLemmas.{same_flips}
 -- the table stays where it is
 pub still_has : (table : ℕ → Table) (old new : Database) → new.schema ≡ old.schema → Has table old → Has table new
 still_has table old new same has = (has.0, has.1, subst (λ s. HasTable s has.0 (table has.1)) (sym same) has.2)
+
+-- a table that a test found is one that the statements can use
+pub own_has : (table : ℕ → Table) (db : Database) → HasOwn db.schema table → Has table db
+own_has table db own = (own.at, own.tree, own.has)
 
 pub apart_none : HasApartRowids []
 unfolding IsDistinct

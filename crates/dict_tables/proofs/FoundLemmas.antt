@@ -7,7 +7,7 @@ use Rattle.sqlite.specs.Schema.{Schema}
 use Rattle.sqlite.specs.Table.{Table}
 use Rattle.sqlite_schema.specs.Names.{table_named, same_name}
 use Rattle.sqlite_schema.specs.declared.schema.Reference.{Reference}
-use Rattle.dict_tables.specs.Found.{HasTable, HasOwn, IsAlone, adds_key, is_in, table_of}
+use Rattle.dict_tables.specs.Found.{HasTable, HasOwn, IsAlone, is_further_key, is_in, table_of}
 use Rattle.dict_tables.proofs.PlaceLemmas.{found}
 
 -- ---- a test that none passes
@@ -112,7 +112,7 @@ module _ (schema : Schema) where
           tree = t.tree;
           has = subst (HasTable schema place.0) same has;
           only = subst (λ o. filter (λ o. o.tree == t.tree) schema.tables ≡ o ∷ []) same only;
-          keyed = subst (λ o. AllByRecursion (λ index. adds_key o index ≡ false) schema.indexes) same (none_passes (adds_key t) schema.indexes alone.unkeyed);
+          keyed = subst (λ o. AllByRecursion (λ index. is_further_key o index ≡ false) schema.indexes) same (none_passes (is_further_key t) schema.indexes alone.unkeyed);
         }
 
     pub is_own : HasOwn schema table → (t ≡ table t.tree) × IsAlone schema t
@@ -127,6 +127,6 @@ module _ (schema : Schema) where
             stored = own.has.stored;
             single = sym (length-filter (λ o. o.tree == (table own.tree).tree) schema.tables) ∙ rw (trees own.tree) (ap length own.only);
             unreferred = leads_none (table own.tree).tree own.has.unreferred;
-            unkeyed = passes_none (adds_key (table own.tree)) schema.indexes own.keyed;
+            unkeyed = passes_none (is_further_key (table own.tree)) schema.indexes own.keyed;
           }),
         )

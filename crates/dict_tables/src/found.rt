@@ -4,7 +4,7 @@ ghost use Rattle.std.specs.Prelude.{true, false, ◌≡◌, ℕ, List, [], ◌�
 ghost use Rattle.std.specs.List.{list_any};
 ghost use Rattle.std.specs.Cmp.Lexicographic.{pointwise};
 ghost use Rattle.sqlite_schema.specs.declared.schema.Reference.{Reference as SqlReference};
-ghost use Rattle.dict_tables.specs.Found.{HasOwn, IsAlone, adds_key, is_in, table_of};
+ghost use Rattle.dict_tables.specs.Found.{HasOwn, IsAlone, is_further_key, is_in, table_of};
 ghost use Rattle.sqlite_value.specs.Keys.{plain};
 ghost use Rattle.sqlite.specs.Kind.TheVariants.{Integer};
 ghost use Rattle.dict_tables.specs.Tables.{mark, item, member, edition as edition_table, entry, kept, column_of};
@@ -333,8 +333,9 @@ fn has_key(table: &Table, places: &[usize]) -> bool
     keys.iter().any(|key| key.as_slice() == places)
 }
 
-fn adds_key(table: &Table, index: &Index) -> bool
-    ensures { result ≡ adds_key table.now index.now }
+// Whether an index is unique, over this table, and not that of one of its UNIQUE keys.
+fn is_further_key(table: &Table, index: &Index) -> bool
+    ensures { result ≡ is_further_key table.now index.now }
 {
     index.table == table.tree
         && index.is_unique
@@ -342,13 +343,13 @@ fn adds_key(table: &Table, index: &Index) -> bool
 }
 
 fn has_further_key(schema: &Schema, table: &Table) -> bool
-    ensures { result ≡ list_any (adds_key table.now) schema.now.indexes }
+    ensures { result ≡ list_any (is_further_key table.now) schema.now.indexes }
 {
     let indexes = schema.indexes.as_slice();
-    indexes.iter().any(|index| adds_key(table, index))
+    indexes.iter().any(|index| is_further_key(table, index))
 }
 
-// Whether the table shares its tree with none, no foreign key leads into it, and no index adds a key.
+// Whether the table shares its tree with none, no foreign key leads into it, and it has no further unique index.
 fn is_alone(schema: &Schema, table: &Table) -> bool
     ensures { IsTrue result ↔ IsAlone schema.now table.now }
 {
@@ -358,7 +359,7 @@ fn is_alone(schema: &Schema, table: &Table) -> bool
         && !has_further_key(schema, table)
 }
 
-/// Whether the schema has the table `mark` exactly as it is defined here, in a tree that no other table shares, with no foreign key that refers to it and no index that adds a key.
+/// Whether the schema has the table `mark` exactly as it is defined here, in a tree that no other table shares, with no foreign key that refers to it and no further unique index.
 pub fn has_mark(schema: &Schema) -> bool
     ensures { IsTrue result ↔ HasOwn schema.now mark }
 {
@@ -368,7 +369,7 @@ pub fn has_mark(schema: &Schema) -> bool
     }
 }
 
-/// Whether the schema has the table `item` exactly as it is defined here, in a tree that no other table shares, with no foreign key that refers to it and no index that adds a key.
+/// Whether the schema has the table `item` exactly as it is defined here, in a tree that no other table shares, with no foreign key that refers to it and no further unique index.
 pub fn has_item(schema: &Schema) -> bool
     ensures { IsTrue result ↔ HasOwn schema.now item }
 {
@@ -378,7 +379,7 @@ pub fn has_item(schema: &Schema) -> bool
     }
 }
 
-/// Whether the schema has the table `member` exactly as it is defined here, in a tree that no other table shares, with no foreign key that refers to it and no index that adds a key.
+/// Whether the schema has the table `member` exactly as it is defined here, in a tree that no other table shares, with no foreign key that refers to it and no further unique index.
 pub fn has_member(schema: &Schema) -> bool
     ensures { IsTrue result ↔ HasOwn schema.now member }
 {
@@ -388,7 +389,7 @@ pub fn has_member(schema: &Schema) -> bool
     }
 }
 
-/// Whether the schema has the table `edition` exactly as it is defined here, in a tree that no other table shares, with no foreign key that refers to it and no index that adds a key.
+/// Whether the schema has the table `edition` exactly as it is defined here, in a tree that no other table shares, with no foreign key that refers to it and no further unique index.
 pub fn has_edition(schema: &Schema) -> bool
     ensures { IsTrue result ↔ HasOwn schema.now edition_table }
 {
@@ -398,7 +399,7 @@ pub fn has_edition(schema: &Schema) -> bool
     }
 }
 
-/// Whether the schema has the table `entry` exactly as it is defined here, in a tree that no other table shares, with no foreign key that refers to it and no index that adds a key.
+/// Whether the schema has the table `entry` exactly as it is defined here, in a tree that no other table shares, with no foreign key that refers to it and no further unique index.
 pub fn has_entry(schema: &Schema) -> bool
     ensures { IsTrue result ↔ HasOwn schema.now entry }
 {
@@ -408,7 +409,7 @@ pub fn has_entry(schema: &Schema) -> bool
     }
 }
 
-/// Whether the schema has the table `kept` exactly as it is defined here, in a tree that no other table shares, with no foreign key that refers to it and no index that adds a key.
+/// Whether the schema has the table `kept` exactly as it is defined here, in a tree that no other table shares, with no foreign key that refers to it and no further unique index.
 pub fn has_kept(schema: &Schema) -> bool
     ensures { IsTrue result ↔ HasOwn schema.now kept }
 {

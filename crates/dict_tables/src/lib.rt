@@ -6,3 +6,6 @@ mod names;
 
 pub use found::{has_edition, has_entry, has_item, has_kept, has_mark, has_member};
 pub use names::{is_name_used, is_own_name_used, waits_for_counter};
+
+#[cfg(test)]
+mod tests;
