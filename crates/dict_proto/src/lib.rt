@@ -2,6 +2,7 @@
 //! from and go to.
 #![tactic(auto)]
 
+mod gathered;
 mod limited;
 mod line;
 mod part;

@@ -1,9 +1,11 @@
 // The parts of a reply line.
 ghost use Rattle.std.specs.List.{flat_map};
 ghost use Rattle.dict_proto.specs.Octets.{Puts, Counts};
+ghost use Rattle.dict_proto.specs.Gathering.{Gathers};
 ghost use Rattle.dict_proto.specs.Parts.{part_octets};
 
-use crate::quoted::put_quoted;
+use crate::gathered::Gathered;
+use crate::quoted::add_quoted;
 use crate::sink::{Sink, SinkFault};
 use itoa::Buffer;
 
@@ -23,22 +25,37 @@ pub fn put_parts<K: Sink>(sink: &mut K, parts: &[Part]) -> Result<(), SinkFault>
     ensures octets { Puts result (K.octets sink.old) (K.octets sink.new) (flat_map part_octets parts.now) }
     ensures failures { Counts result (K.failures sink.old) (K.failures sink.new) }
 {
+    let mut gathered = Gathered::new();
+    add_parts(&mut gathered, sink, parts)?;
+    gathered.put(sink)
+}
+
+fn add_parts<K: Sink>(
+    gathered: &mut Gathered,
+    sink: &mut K,
+    parts: &[Part],
+) -> Result<(), SinkFault>
+    ensures octets { Gathers result (K.octets sink.old) (K.octets sink.new) gathered.old.octets.items
+        gathered.new.octets.items (flat_map part_octets parts.now) }
+    ensures failures { Counts result (K.failures sink.old) (K.failures sink.new) }
+{
     for part in parts {
-        put_part(sink, *part)?;
+        add_part(gathered, sink, *part)?;
     }
     Ok(())
 }
 
-fn put_part<K: Sink>(sink: &mut K, part: Part) -> Result<(), SinkFault>
-    ensures octets { Puts result (K.octets sink.old) (K.octets sink.new) (part_octets part.entry) }
+fn add_part<K: Sink>(gathered: &mut Gathered, sink: &mut K, part: Part) -> Result<(), SinkFault>
+    ensures octets { Gathers result (K.octets sink.old) (K.octets sink.new) gathered.old.octets.items
+        gathered.new.octets.items (part_octets part.entry) }
     ensures failures { Counts result (K.failures sink.old) (K.failures sink.new) }
 {
     match part {
-        Part::Octets(octets) => sink.put(octets),
+        Part::Octets(octets) => gathered.add(sink, octets),
         Part::Number(n) => {
             let mut buffer = Buffer::new();
-            sink.put(buffer.format(n).as_bytes())
+            gathered.add(sink, buffer.format(n).as_bytes())
         }
-        Part::Quoted(text) => put_quoted(sink, text),
+        Part::Quoted(text) => add_quoted(gathered, sink, text),
     }
 }

@@ -2,9 +2,11 @@
 ghost use Rattle.std.specs.Prelude.{◌≡◌, ◌<◌, ◌∷◌, ◌++◌, length, MatchOption, IfSome};
 ghost use Rattle.std.specs.List.{flat_map, position};
 ghost use Rattle.dict_proto.specs.Octets.{Puts, Counts};
+ghost use Rattle.dict_proto.specs.Gathering.{Gathers};
 ghost use Rattle.dict_proto.specs.Text.{escaped, needs_backslash, quoted};
 
-use crate::sink::{Sink, SinkFault, put_all};
+use crate::gathered::Gathered;
+use crate::sink::{Sink, SinkFault};
 
 const QUOTE: &[u8] = b"\"";
 
@@ -17,13 +19,28 @@ pub fn put_quoted<K: Sink>(sink: &mut K, text: &str) -> Result<(), SinkFault>
     ensures octets { Puts result (K.octets sink.old) (K.octets sink.new) (quoted text.now) }
     ensures failures { Counts result (K.failures sink.old) (K.failures sink.new) }
 {
-    sink.put(QUOTE)?;
+    let mut gathered = Gathered::new();
+    add_quoted(&mut gathered, sink, text)?;
+    gathered.put(sink)
+}
+
+/// Adds a text between quote signs, in the same way.
+pub fn add_quoted<K: Sink>(
+    gathered: &mut Gathered,
+    sink: &mut K,
+    text: &str,
+) -> Result<(), SinkFault>
+    ensures octets { Gathers result (K.octets sink.old) (K.octets sink.new) gathered.old.octets.items
+        gathered.new.octets.items (quoted text.now) }
+    ensures failures { Counts result (K.failures sink.old) (K.failures sink.new) }
+{
+    gathered.add(sink, QUOTE)?;
     let mut rest = text.as_bytes();
     while let Some((front, octet, back)) = cut_to_escape(rest) {
-        put_all(sink, &[front, BACKSLASH, &[octet]])?;
+        gathered.add_all(sink, &[front, BACKSLASH, &[octet]])?;
         rest = back;
     }
-    put_all(sink, &[rest, QUOTE])
+    gathered.add_all(sink, &[rest, QUOTE])
 }
 
 // The octets before the first that needs a backslash, that octet, and those after it.

@@ -3,9 +3,11 @@ ghost use Rattle.std.specs.Prelude.{◌≡◌, ◌∷◌, [], slice_index, ◌==
 ghost use Rattle.std.specs.List.{flat_map};
 ghost use Rattle.dict_text.specs.Lines.{text_lines};
 ghost use Rattle.dict_proto.specs.Octets.{Puts, Counts};
+ghost use Rattle.dict_proto.specs.Gathering.{Gathers};
 ghost use Rattle.dict_proto.specs.Text.{block, sent_line};
 
-use crate::sink::{Sink, SinkFault, put_all};
+use crate::gathered::Gathered;
+use crate::sink::{Sink, SinkFault};
 use dict_text::text_lines;
 
 const PERIOD: &[u8] = b".";
@@ -23,31 +25,43 @@ pub fn stuffing(line: &[u8]) -> &[u8]
     }
 }
 
-/// Puts one line of a text, its front period doubled.
-pub fn put_line<K: Sink>(sink: &mut K, line: &[u8]) -> Result<(), SinkFault>
-    ensures octets { Puts result (K.octets sink.old) (K.octets sink.new) (sent_line line.now) }
-    ensures failures { Counts result (K.failures sink.old) (K.failures sink.new) }
-{
-    put_all(sink, &[stuffing(line), line, LINE_END])
-}
-
 /// Puts a text: each of its lines, and then a line of one period.
 pub fn put_text<K: Sink>(sink: &mut K, text: &[u8]) -> Result<(), SinkFault>
     ensures octets { Puts result (K.octets sink.old) (K.octets sink.new) (block (text_lines text.now)) }
     ensures failures { Counts result (K.failures sink.old) (K.failures sink.new) }
 {
-    put_lines(sink, text)?;
-    sink.put(b".\r\n")
+    let mut gathered = Gathered::new();
+    add_text(&mut gathered, sink, text)?;
+    gathered.put(sink)
 }
 
-// Puts the lines of a text.
-fn put_lines<K: Sink>(sink: &mut K, text: &[u8]) -> Result<(), SinkFault>
-    ensures octets { Puts result (K.octets sink.old) (K.octets sink.new)
-        (flat_map sent_line (text_lines text.now)) }
+// Adds a text.
+fn add_text<K: Sink>(gathered: &mut Gathered, sink: &mut K, text: &[u8]) -> Result<(), SinkFault>
+    ensures octets { Gathers result (K.octets sink.old) (K.octets sink.new) gathered.old.octets.items
+        gathered.new.octets.items (block (text_lines text.now)) }
+    ensures failures { Counts result (K.failures sink.old) (K.failures sink.new) }
+{
+    add_lines(gathered, sink, text)?;
+    gathered.add(sink, b".\r\n")
+}
+
+// Adds the lines of a text.
+fn add_lines<K: Sink>(gathered: &mut Gathered, sink: &mut K, text: &[u8]) -> Result<(), SinkFault>
+    ensures octets { Gathers result (K.octets sink.old) (K.octets sink.new) gathered.old.octets.items
+        gathered.new.octets.items (flat_map sent_line (text_lines text.now)) }
     ensures failures { Counts result (K.failures sink.old) (K.failures sink.new) }
 {
     for line in text_lines(text) {
-        put_line(sink, line)?;
+        add_line(gathered, sink, line)?;
     }
     Ok(())
+}
+
+// Adds one line of a text, its front period doubled.
+fn add_line<K: Sink>(gathered: &mut Gathered, sink: &mut K, line: &[u8]) -> Result<(), SinkFault>
+    ensures octets { Gathers result (K.octets sink.old) (K.octets sink.new) gathered.old.octets.items
+        gathered.new.octets.items (sent_line line.now) }
+    ensures failures { Counts result (K.failures sink.old) (K.failures sink.new) }
+{
+    gathered.add_all(sink, &[stuffing(line), line, LINE_END])
 }

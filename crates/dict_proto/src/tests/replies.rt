@@ -160,6 +160,27 @@ fn periods_are_doubled_on_each_line(rt: HostRuntime) -> Result<(), Fail> {
     Ok(())
 }
 
+// Lines about as long as what is gathered at once, and longer.
+#[test]
+fn long_texts(rt: HostRuntime) -> Result<(), Fail> {
+    let alloc = rt.alloc();
+    for n in [1017, 1018, 1019, 1020, 1021, 1022, 1023, 1024, 1025, 3000] {
+        let mut body = Vec::new(alloc);
+        for _ in 0..n {
+            body.push(b'x')?;
+        }
+        let mut want = body.as_slice().to_vec(alloc)?;
+        body.extend_from_slice(b"\n.y\n")?;
+        want.extend_from_slice(b"\r\n..y\r\n.\r\n")?;
+        assert_eq!(rt;
+            block_of(alloc, body.as_slice())?.as_slice(),
+            want.as_slice(),
+            "{n}"
+        );
+    }
+    Ok(())
+}
+
 #[test]
 fn quotes(rt: HostRuntime) -> Result<(), Fail> {
     let mut sink = OverWrite::new(Vec::new(rt.alloc()));

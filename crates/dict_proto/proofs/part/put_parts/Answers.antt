@@ -1,10 +1,9 @@
-use Rattle.std.proofs.Common.{sym, subst, arith}
-use Rattle.dict_proto.specs.Octets.{Puts}
-use Rattle.dict_proto.specs.Parts.{part_octets}
-use Rattle.dict_proto.proofs.PutLemmas.{puts_err, front_after, front_longer, pieces_at}
+use Rattle.dict_proto.proofs.PutLemmas.{puts_err}
+use Rattle.dict_proto.proofs.GatheringLemmas.{puts_gathered, front_gathered}
 use Rattle.dict_proto.proofs.part.put_parts.Goals as goal
 
-pub returns-in_err-put_part-clause-octets : goal.returns-in_err-put_part-clause-octets
-returns-in_err-put_part-clause-octets g c =
-    subst (Puts c.from_residual.result (g.K.Sink.octets c.args.sink.now) (g.K.Sink.octets c.put_part.new.sink)) (sym (pieces_at part_octets c.args.parts.now c.loop-part.part-index _ (omega arith)))
-    (puts_err _ _ _ _ c.from_residual.ensures.0 (front_after _ _ _ _ _ c.loop-part.invariant.put (front_longer _ _ _ _ c.in_err-put_part.ensures.octets)))
+pub returns-in_err-add_parts-clause-octets : goal.returns-in_err-add_parts-clause-octets
+returns-in_err-add_parts-clause-octets g c = puts_err _ _ _ _ c.from_residual.ensures.0 (front_gathered _ _ _ _ c.new-gathered.ensures c.in_err-add_parts.ensures.octets)
+
+pub returns-clause-octets : goal.returns-clause-octets
+returns-clause-octets g c = puts_gathered _ _ _ _ _ _ _ c.new-gathered.ensures c.in_ok-add_parts.ensures.octets c.put.ensures.octets

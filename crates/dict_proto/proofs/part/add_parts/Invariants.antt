@@ -1,11 +1,11 @@
 use Rattle.std.proofs.Common.{◌≡◌, take}
 use Rattle.std.specs.List.{flat_map}
-use Rattle.std.specs.Io.KnownBytes.{Appends}
+use Rattle.dict_proto.specs.Gathering.{Joins}
 use Rattle.dict_proto.specs.Parts.{part_octets}
-use Rattle.dict_proto.proofs.part.put_parts.Given as goal
+use Rattle.dict_proto.proofs.part.add_parts.Given as goal
 
 abbrev pub invariant-loop-part : goal.invariant-loop-part
 invariant-loop-part g l = record {
-  put : Appends (g.K.Sink.octets l.fn.sink) (g.K.Sink.octets l.sink) (flat_map part_octets (take l.part-index l.parts));
+  added : Joins (g.K.Sink.octets l.fn.sink) (g.K.Sink.octets l.sink) l.fn.gathered.octets.items l.gathered.octets.items (flat_map part_octets (take l.part-index l.parts));
   count : g.K.Sink.failures l.sink ≡ g.K.Sink.failures l.fn.sink;
 }

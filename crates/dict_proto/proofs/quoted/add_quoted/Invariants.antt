@@ -1,12 +1,12 @@
 use Rattle.std.proofs.Common.{◌≡◌, ℕ, List, ◌∷◌, ◌++◌, length}
 use Rattle.std.specs.List.{flat_map}
-use Rattle.std.specs.Io.KnownBytes.{Appends}
+use Rattle.dict_proto.specs.Gathering.{Joins}
 use Rattle.dict_proto.specs.Text.{escaped}
-use Rattle.dict_proto.proofs.quoted.put_quoted.Given as goal
+use Rattle.dict_proto.proofs.quoted.add_quoted.Given as goal
 
 abbrev pub invariant-loop-front : goal.invariant-loop-front
 invariant-loop-front g l = record {
-  put : (done : List ℕ) × (34 ∷ flat_map escaped l.fn.text ≡ done ++ flat_map escaped l.rest) × Appends (g.K.Sink.octets l.fn.sink) (g.K.Sink.octets l.sink) done;
+  added : (done : List ℕ) × (34 ∷ flat_map escaped l.fn.text ≡ done ++ flat_map escaped l.rest) × Joins (g.K.Sink.octets l.fn.sink) (g.K.Sink.octets l.sink) l.fn.gathered.octets.items l.gathered.octets.items done;
   count : g.K.Sink.failures l.sink ≡ g.K.Sink.failures l.fn.sink;
 }
 
