@@ -1,5 +1,8 @@
 pub mod LineLemmas
 pub mod KeyedLemmas
+pub mod HeadwordLemmas
+pub mod SeenLemmas
+pub mod StrategyLemmas
 pub mod SpokenLemmas
 pub mod SessionLemmas
 pub mod AnswerLemmas

@@ -1,20 +1,22 @@
--- The answer to each line. RFC 2229, sections 3.2 and 3.9.
-use Rattle.std.specs.Prelude.{ℕ, Bool, true, false, ◌==◌, List, [], ◌++◌, length, if◌then◌else◌}
+-- The answer to each line. RFC 2229, sections 3.2, 3.3 and 3.9.
+use Rattle.std.specs.Prelude.{ℕ, Bool, true, false, ◌==◌, List, [], ◌++◌, length, if◌then◌else◌, Option, Some, None}
 use Rattle.std.specs.List.{flat_map}
 use Rattle.std.specs.Str.{bytes_eq}
 use Rattle.dict_match.specs.Key.{key_of}
+use Rattle.dict_match.specs.declared.strategy.Strategy.{Strategy}
+use Rattle.dict_match.specs.declared.strategy.Strategy.TheVariants.{Exact}
 use Rattle.dict_index.specs.Edition.{Entry}
-use Rattle.dict_proto.specs.Meaning.{Meaning, meaning, define, quit, not_recognized}
-use Rattle.dict_proto.specs.Replies.{definition_count_octets, definition_octets, done_octets, closing_octets, not_recognized_octets, invalid_database_octets, no_match_octets}
-use Rattle.dict_session.specs.Database.{Database, found, is_found}
+use Rattle.dict_proto.specs.Meaning.{Meaning, meaning, define, matching, quit, not_recognized}
+use Rattle.dict_proto.specs.Replies.{definition_count_octets, definition_octets, match_count_octets, list_line_octets, list_end_octets, done_octets, closing_octets, not_recognized_octets, invalid_database_octets, invalid_strategy_octets, no_match_octets}
+use Rattle.dict_session.specs.Database.{Database, found, is_found, headwords, strategy_of}
 
 -- an entry as a definition of the database with this name and title
 abbrev pub shown : List ℕ → List ℕ → Entry → List ℕ
 shown name title entry = definition_octets entry.headword name title entry.body
 
 -- the same where a query finds the entry, and else nothing
-abbrev pub shown_if_found : List ℕ → List ℕ → List ℕ → Entry → List ℕ
-shown_if_found name title query entry = if is_found query entry then shown name title entry else []
+abbrev pub shown_if_found : List ℕ → List ℕ → Strategy → List ℕ → Entry → List ℕ
+shown_if_found name title strategy query entry = if is_found strategy query entry then shown name title entry else []
 
 -- one definition of the database's
 abbrev pub definition_of : Database → Entry → List ℕ
@@ -30,15 +32,34 @@ found_answer database entries = if length entries == 0 then no_match_octets else
 
 -- the answer to DEFINE with a database's name and a word
 unfoldable pub define_answer : Database → List ℕ → List ℕ → List ℕ
-define_answer database name word = if bytes_eq name database.name then found_answer database (found (key_of word) database.edition) else invalid_database_octets
+define_answer database name word = if bytes_eq name database.name then found_answer database (found Exact (key_of word) database.edition) else invalid_database_octets
+
+-- these headwords, as an answer to MATCH
+abbrev pub matches : Database → List (List ℕ) → List ℕ
+matches database words = match_count_octets (length words) ++ (flat_map (list_line_octets database.name) words ++ (list_end_octets ++ done_octets))
+
+-- the answer where these headwords were found
+abbrev pub matched_answer : Database → List (List ℕ) → List ℕ
+matched_answer database words = if length words == 0 then no_match_octets else matches database words
+
+-- the answer where this strategy was named
+abbrev pub strategy_answer : Database → Option Strategy → List ℕ → List ℕ
+strategy_answer database None word = invalid_strategy_octets
+strategy_answer database (Some strategy) word = matched_answer database (headwords (found strategy (key_of word) database.edition))
+
+-- the answer to MATCH with a database's name, a strategy's name and a word
+unfoldable pub match_answer : Database → List ℕ → List ℕ → List ℕ → List ℕ
+match_answer database name strategy word = if bytes_eq name database.name then strategy_answer database (strategy_of strategy) word else invalid_database_octets
 
 abbrev pub answer_to : Database → Meaning → List ℕ
 answer_to database (define name word) = define_answer database name word
+answer_to database (matching name strategy word) = match_answer database name strategy word
 answer_to database quit = closing_octets
 answer_to database not_recognized = not_recognized_octets
 
 abbrev pub ends_session : Meaning → Bool
 ends_session (define name word) = false
+ends_session (matching name strategy word) = false
 ends_session quit = true
 ends_session not_recognized = false
 

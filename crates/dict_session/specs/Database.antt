@@ -1,7 +1,11 @@
--- A database that is asked, and what a query finds in it.
-use Rattle.std.specs.Prelude.{ℕ, Bool, not, ◌&&◌, ◌==◌, List, length, filter}
+-- A database that is asked, and what a query finds in it. RFC 2229, sections 3.2 and 3.3.
+use Rattle.std.specs.Prelude.{ℕ, Bool, not, List, [], ◌∷◌, map, filter, codes, if◌then◌else◌, Option, Some, None}
 use Rattle.std.specs.Str.{bytes_eq}
 use Rattle.dict_match.specs.Key.{key_of}
+use Rattle.dict_match.specs.Matching.{is_hit}
+use Rattle.dict_match.specs.StrategyText.{name_of}
+use Rattle.dict_match.specs.declared.strategy.Strategy.{Strategy}
+use Rattle.dict_match.specs.declared.strategy.Strategy.TheVariants.{Exact, Prefix, Suffix, Substring, Word, First, Last}
 use Rattle.dict_index.specs.Edition.{Edition, Entry}
 
 -- a name and the edition that stands under it
@@ -9,10 +13,31 @@ pub record Database : Type 0 where
   pub name : List ℕ
   pub edition : Edition
 
--- a headword's key is the query's, which isn't empty
-abbrev pub is_found : List ℕ → Entry → Bool
-is_found query entry = not (length query == 0) && bytes_eq (key_of entry.headword) query
+-- a query's key finds the key of this headword
+abbrev pub is_headword_found : Strategy → List ℕ → List ℕ → Bool
+is_headword_found strategy query headword = is_hit strategy query (key_of headword)
 
--- the entries whose keys are the query's, in the order of the index
-abbrev pub found : List ℕ → Edition → List Entry
-found query edition = filter (is_found query) edition.entries
+abbrev pub is_found : Strategy → List ℕ → Entry → Bool
+is_found strategy query entry = is_headword_found strategy query entry.headword
+
+-- the entries whose keys a query's key finds by a strategy, in the order of the index
+abbrev pub found : Strategy → List ℕ → Edition → List Entry
+found strategy query edition = filter (is_found strategy query) edition.entries
+
+-- each of these texts once, where it stands first: the first text, and then those of the others that differ from it
+abbrev pub distinct : List (List ℕ) → List (List ℕ)
+distinct [] = []
+distinct (text ∷ texts) = text ∷ filter (λ other. not (bytes_eq other text)) (distinct texts)
+
+-- the headwords of these entries, each once, where it stands first
+abbrev pub headwords : List Entry → List (List ℕ)
+headwords entries = distinct (map (λ entry. entry.headword) entries)
+
+-- the first of these strategies that has this name
+abbrev pub named : List ℕ → List Strategy → Option Strategy
+named name [] = None
+named name (strategy ∷ strategies) = if bytes_eq name (name_of strategy) then Some strategy else named name strategies
+
+-- the strategy that MATCH asks for by this name: a period is the server's choice, which is prefix
+unfoldable pub strategy_of : List ℕ → Option Strategy
+strategy_of name = if bytes_eq name (codes ".") then Some Prefix else named name (Exact ∷ Prefix ∷ Suffix ∷ Substring ∷ Word ∷ First ∷ Last ∷ [])

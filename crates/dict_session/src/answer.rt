@@ -2,15 +2,16 @@
 ghost use Rattle.std.specs.Prelude.{◌≡◌, ℕ, List};
 ghost use Rattle.dict_proto.specs.Octets.{Puts, Counts};
 ghost use Rattle.dict_proto.specs.Meaning.{told};
-ghost use Rattle.dict_session.specs.Answers.{answer_to, define_answer, found_answer, ends_session};
-ghost use Rattle.dict_proto.specs.Replies.{reply_octets};
-ghost use Rattle.dict_session.specs.Database.{found};
+ghost use Rattle.dict_session.specs.Answers.{answer_to, define_answer, found_answer, match_answer, matched_answer, ends_session};
+ghost use Rattle.dict_proto.specs.Replies.{reply_octets, done_octets};
+ghost use Rattle.dict_session.specs.Database.{found, headwords, strategy_of};
+ghost use Rattle.dict_match.specs.declared.strategy.Strategy.TheVariants.{Exact};
 ghost use Rattle.dict_session.specs.Answered.{Answers};
 ghost use Rattle.dict_session.specs.Ending.{Finishes, Tallies};
 
 use crate::plain::Plain;
 use crate::step::Step;
-use dict_match::key_of;
+use dict_match::{Strategy, key_of};
 use dict_proto::{LineFault, Reply, Request, Sink, SinkFault, write_reply};
 use std::alloc::Global;
 
@@ -33,6 +34,13 @@ pub(crate) fn put_answer<K: Sink>(
 {
     match asked {
         Ok(Request::Define { database, word }) => put_define(alloc, plain, database, word, sink),
+        Ok(
+            Request::Match {
+                database,
+                strategy,
+                word,
+            },
+        ) => put_match(alloc, plain, database, strategy, word, sink),
         Ok(Request::Quit) => put_whole(&Reply::Closing, sink),
         Err(LineFault::NotRecognized) => put_whole(&Reply::NotRecognized, sink),
     }
@@ -83,16 +91,82 @@ fn put_unavailable<K: Sink>(sink: &mut K) -> Result<Answered, SinkFault>
 
 // Puts the definitions that a query finds.
 fn put_found<K: Sink>(plain: &Plain, query: &[u8], sink: &mut K) -> Result<(), SinkFault>
-    ensures octets { Puts result (K.octets sink.old) (K.octets sink.new) (found_answer plain.now (found query.now plain.now.edition)) }
+    ensures octets { Puts result (K.octets sink.old) (K.octets sink.new) (found_answer plain.now (found Exact query.now plain.now.edition)) }
     ensures failures { Counts result (K.failures sink.old) (K.failures sink.new) }
 {
-    let count = plain.count(query);
+    let count = plain.count(Strategy::Exact, query);
     if count == 0 {
         return write_reply(sink, &Reply::NoMatch);
     }
     write_reply(sink, &Reply::DefinitionCount(count))?;
-    plain.put_found(query, sink)?;
+    plain.put_found(Strategy::Exact, query, sink)?;
+    put_done(sink)
+}
+
+// Puts the line that ends an answer of several replies.
+fn put_done<K: Sink>(sink: &mut K) -> Result<(), SinkFault>
+    ensures octets { Puts result (K.octets sink.old) (K.octets sink.new) done_octets }
+    ensures failures { Counts result (K.failures sink.old) (K.failures sink.new) }
+{
     write_reply(sink, &Reply::Done)
+}
+
+// The strategy that MATCH asks for by this name.
+fn strategy_of(name: &str) -> Option<Strategy>
+    ensures { result ≡ strategy_of name.now }
+{
+    if name == "." {
+        Some(Strategy::Prefix)
+    } else {
+        Strategy::by_name(name)
+    }
+}
+
+// Puts the answer to MATCH.
+fn put_match<K: Sink>(
+    alloc: Global,
+    plain: &Plain,
+    name: &str,
+    strategy: &str,
+    word: &str,
+    sink: &mut K,
+) -> Result<Answered, SinkFault>
+    ensures octets { Answers result (K.octets sink.old) (K.octets sink.new) (match_answer plain.now name.now strategy.now word.now) }
+    ensures failures { Counts result (K.failures sink.old) (K.failures sink.new) }
+{
+    if !plain.has_name(name) {
+        return put_whole(&Reply::InvalidDatabase, sink);
+    }
+    let Some(strategy) = strategy_of(strategy) else {
+        return put_whole(&Reply::InvalidStrategy, sink);
+    };
+    let Ok(key) = key_of(alloc, word) else {
+        return put_unavailable(sink);
+    };
+    match put_matched(plain, strategy, key.as_bytes(), sink) {
+        Ok(()) => Ok(Answered::Whole),
+        Err(fault) => Err(fault),
+    }
+}
+
+// Puts the headwords that a query finds.
+fn put_matched<K: Sink>(
+    plain: &Plain,
+    strategy: Strategy,
+    query: &[u8],
+    sink: &mut K,
+) -> Result<(), SinkFault>
+    ensures octets { Puts result (K.octets sink.old) (K.octets sink.new) (matched_answer plain.now (headwords (found strategy query.now plain.now.edition))) }
+    ensures failures { Counts result (K.failures sink.old) (K.failures sink.new) }
+{
+    let count = plain.count_headwords(strategy, query);
+    if count == 0 {
+        return write_reply(sink, &Reply::NoMatch);
+    }
+    write_reply(sink, &Reply::MatchCount(count))?;
+    plain.put_headwords(strategy, query, sink)?;
+    write_reply(sink, &Reply::ListEnd)?;
+    put_done(sink)
 }
 
 // Puts the answer to what a line asks, and tells whether the session goes on.

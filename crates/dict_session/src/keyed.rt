@@ -1,64 +1,94 @@
 // Entries with the keys of their headwords.
-ghost use Rattle.std.specs.Prelude.{◌≡◌, ℕ, List, IfOk, length, map, filter};
+ghost use Rattle.std.specs.Prelude.{◌≡◌, ℕ, [], List, IfOk, length, map, filter};
 ghost use Rattle.std.specs.List.{AllByRecursion, flat_map};
 ghost use Rattle.dict_proto.specs.Octets.{Puts, Counts};
-ghost use Rattle.dict_session.specs.Keyed.{entry_of, read_entry, HasItsKey};
-ghost use Rattle.dict_session.specs.Database.{is_found};
+ghost use Rattle.dict_proto.specs.Replies.{list_line_octets};
+ghost use Rattle.dict_session.specs.Keyed.{entry_of, read_entry, HasItsKey, AreMarked, is_listed, line_if_listed};
+ghost use Rattle.dict_session.specs.Database.{is_found, headwords};
 ghost use Rattle.dict_session.specs.Answers.{shown, shown_if_found};
 
 use dict_index::Entry;
-use dict_match::{Key, key_of};
+use dict_match::{Key, Strategy, key_of, matches};
 use dict_proto::{Reply, Sink, SinkFault, write_reply};
 use std::alloc::{AllocError, Global};
+use std::collections::BTreeSet;
 
-/// An entry with the key of its headword.
+/// An entry with the key of its headword, and whether it is the first entry with this headword.
 #[derive(Drop)]
 pub(crate) struct KeyedEntry<'a> {
     pub headword: &'a str,
     pub body: &'a str,
     pub key: Key,
+    pub is_first: bool,
 }
 
-// The entries with their keys.
+// The entries with their keys. Earlier headwords are looked up in a set in order.
 pub(crate) fn keyed_entries<'a>(
     alloc: Global,
     entries: &[Entry<'a>],
 ) -> Result<Vec<KeyedEntry<'a>>, AllocError>
     ensures entries { IfOk result (λ keyed. map entry_of keyed.items ≡ map read_entry entries.now) }
     ensures keys { IfOk result (λ keyed. AllByRecursion HasItsKey keyed.items) }
+    ensures marks { IfOk result (λ keyed. AreMarked [] keyed.items) }
 {
     let mut keyed = Vec::with_capacity(alloc, entries.len())?;
+    let mut seen = BTreeSet::new(alloc);
     for entry in entries {
         let key = key_of(alloc, entry.headword)?;
+        let is_first = seen.insert(entry.headword)?;
         keyed.push(KeyedEntry {
             headword: entry.headword,
             body: entry.body,
             key,
+            is_first,
         })?;
     }
     Ok(keyed)
 }
 
 // Whether a query finds the entry.
-fn finds(query: &[u8], entry: &KeyedEntry) -> bool
+fn finds(strategy: Strategy, query: &[u8], entry: &KeyedEntry) -> bool
     requires { HasItsKey entry.now }
-    ensures { result ≡ is_found query.now (entry_of entry.now) }
+    ensures { result ≡ is_found strategy query.now (entry_of entry.now) }
 {
-    !query.is_empty() && entry.key.as_bytes() == query
+    matches(strategy, query, entry.key.as_bytes())
+}
+
+// Whether a query finds the entry, which is the first of its headword.
+fn lists(strategy: Strategy, query: &[u8], entry: &KeyedEntry) -> bool
+    requires { HasItsKey entry.now }
+    ensures { result ≡ is_listed strategy query.now entry.now }
+{
+    entry.is_first && finds(strategy, query, entry)
 }
 
 // How many entries a query finds.
-pub(crate) fn count_found(entries: &[KeyedEntry], query: &[u8]) -> u64
+pub(crate) fn count_found(entries: &[KeyedEntry], strategy: Strategy, query: &[u8]) -> u64
     requires { AllByRecursion HasItsKey entries.now }
-    ensures { result ≡ length (filter (is_found query.now) (map entry_of entries.now)) }
+    ensures { result ≡ length (filter (is_found strategy query.now) (map entry_of entries.now)) }
 {
     let mut count = 0u64;
     for entry in entries {
-        if finds(query, entry) {
+        if finds(strategy, query, entry) {
             count += 1;
         }
     }
     count
+}
+
+// How many headwords a query finds.
+pub(crate) fn count_headwords(entries: &[KeyedEntry], strategy: Strategy, query: &[u8]) -> u64
+    requires keys { AllByRecursion HasItsKey entries.now }
+    requires marks { AreMarked [] entries.now }
+    ensures { result ≡ length (headwords (filter (is_found strategy query.now) (map entry_of entries.now))) }
+{
+    let mut headwords = 0u64;
+    for entry in entries {
+        if lists(strategy, query, entry) {
+            headwords += 1;
+        }
+    }
+    headwords
 }
 
 // Puts the definition of each entry that a query finds.
@@ -66,15 +96,16 @@ pub(crate) fn put_definitions<K: Sink>(
     entries: &[KeyedEntry],
     name: &str,
     title: &str,
+    strategy: Strategy,
     query: &[u8],
     sink: &mut K,
 ) -> Result<(), SinkFault>
     requires { AllByRecursion HasItsKey entries.now }
-    ensures octets { Puts result (K.octets sink.old) (K.octets sink.new) (flat_map (shown name.now title.now) (filter (is_found query.now) (map entry_of entries.now))) }
+    ensures octets { Puts result (K.octets sink.old) (K.octets sink.new) (flat_map (shown name.now title.now) (filter (is_found strategy query.now) (map entry_of entries.now))) }
     ensures failures { Counts result (K.failures sink.old) (K.failures sink.new) }
 {
     for entry in entries {
-        put_if_found(entry, name, title, query, sink)?;
+        put_if_found(entry, name, title, strategy, query, sink)?;
     }
     Ok(())
 }
@@ -84,19 +115,62 @@ fn put_if_found<K: Sink>(
     entry: &KeyedEntry,
     name: &str,
     title: &str,
+    strategy: Strategy,
     query: &[u8],
     sink: &mut K,
 ) -> Result<(), SinkFault>
     requires { HasItsKey entry.now }
-    ensures octets { Puts result (K.octets sink.old) (K.octets sink.new) (shown_if_found name.now title.now query.now (entry_of entry.now)) }
+    ensures octets { Puts result (K.octets sink.old) (K.octets sink.new) (shown_if_found name.now title.now strategy query.now (entry_of entry.now)) }
     ensures failures { Counts result (K.failures sink.old) (K.failures sink.new) }
 {
-    if finds(query, entry) {
+    if finds(strategy, query, entry) {
         let reply = Reply::Definition {
             headword: entry.headword,
             name,
             title,
             body: entry.body.as_bytes(),
+        };
+        write_reply(sink, &reply)
+    } else {
+        Ok(())
+    }
+}
+
+// Puts a line for each headword that a query finds.
+pub(crate) fn put_headwords<K: Sink>(
+    entries: &[KeyedEntry],
+    name: &str,
+    strategy: Strategy,
+    query: &[u8],
+    sink: &mut K,
+) -> Result<(), SinkFault>
+    requires keys { AllByRecursion HasItsKey entries.now }
+    requires marks { AreMarked [] entries.now }
+    ensures octets { Puts result (K.octets sink.old) (K.octets sink.new) (flat_map (list_line_octets name.now) (headwords (filter (is_found strategy query.now) (map entry_of entries.now)))) }
+    ensures failures { Counts result (K.failures sink.old) (K.failures sink.new) }
+{
+    for entry in entries {
+        put_if_listed(entry, name, strategy, query, sink)?;
+    }
+    Ok(())
+}
+
+// Puts the line of the entry's headword, if a query finds it and the entry is the first of its headword.
+fn put_if_listed<K: Sink>(
+    entry: &KeyedEntry,
+    name: &str,
+    strategy: Strategy,
+    query: &[u8],
+    sink: &mut K,
+) -> Result<(), SinkFault>
+    requires { HasItsKey entry.now }
+    ensures octets { Puts result (K.octets sink.old) (K.octets sink.new) (line_if_listed name.now strategy query.now entry.now) }
+    ensures failures { Counts result (K.failures sink.old) (K.failures sink.new) }
+{
+    if lists(strategy, query, entry) {
+        let reply = Reply::ListLine {
+            name,
+            text: entry.headword,
         };
         write_reply(sink, &reply)
     } else {

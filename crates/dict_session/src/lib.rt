@@ -18,6 +18,9 @@ pub use plain::Plain;
 pub use running::{End, SessionFault, run};
 pub use step::Step;
 
+#[cfg(test)]
+mod tests;
+
 /// The lines of octets are these, and no others.
 pub fn one_cut()
     ensures found { (b : List ℕ) → AreLines b (cut b).lines (cut b).rest }

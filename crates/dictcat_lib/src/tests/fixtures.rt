@@ -11,6 +11,17 @@ pub const GEM_INDEX: &[u8] = b"00-database-short\tA\tZ\nopal\tZ\tP\nFire Opal\tZ
 
 pub const GEM_TEXT: &[u8] = b"00-database-short\n  Gems\nopal\n  a stone\n.dot\n";
 
+// One headword begins another; the longer ends with the last character of all, U+10FFFF.
+pub const EDGE_INDEX: &[u8] =
+    b"00-database-short\tA\tZ\na\tZ\tC\na\xf4\x8f\xbf\xbf\tZ\tC\nb\tZ\tC\n";
+
+pub const EDGE_TEXT: &[u8] = b"00-database-short\n  Gems\nx\n";
+
+// A headword of which folding leaves nothing.
+pub const PLUS_INDEX: &[u8] = b"00-database-short\tA\tZ\n+\tZ\tF\n";
+
+pub const PLUS_TEXT: &[u8] = b"00-database-short\n  Gems\nplus\n";
+
 pub const BANNER: &str = "220 localhost dictcat ready <1@localhost>\r\n";
 
 pub const OPAL: &str =

@@ -1,4 +1,7 @@
-use super::fixtures::{BANNER, CLOSING, DOT, GEM_INDEX, GEM_TEXT, OPAL, Pieces, taken};
+use super::fixtures::{
+    BANNER, CLOSING, DOT, EDGE_INDEX, EDGE_TEXT, GEM_INDEX, GEM_TEXT, OPAL, PLUS_INDEX, PLUS_TEXT,
+    Pieces, taken,
+};
 use crate::{Fault, run_plain};
 use dict_proto::{LimitedSink, OverRead};
 use std::alloc::Global;
@@ -55,6 +58,85 @@ fn answers_in_any_pieces(rt: HostRuntime) -> Result<(), Fail> {
                 assert_eq!(rt; octets.as_str(), want.as_str(), "{input} at {size}");
             }
         }
+    }
+    Ok(())
+}
+
+// A line, and the headwords that it finds in the order of the answer.
+fn matches(alloc: Global, name: &str, headwords: &[&str]) -> Result<String, Fail> {
+    let mut answer = format!(in alloc; "152 {} matches found\r\n", headwords.len())?;
+    for headword in headwords {
+        answer.push_str(&format!(in alloc; "{name} \"{headword}\"\r\n")?)?;
+    }
+    answer.push_str(".\r\n250 ok\r\n")?;
+    Ok(answer)
+}
+
+// What a session over these files writes after its greeting, in one piece and octet by octet.
+fn answers_over(
+    rt: &HostRuntime,
+    files: (&str, &[u8], &[u8]),
+    input: &str,
+    answer: &str,
+) -> Result<(), Fail> {
+    let alloc = rt.alloc();
+    let (name, index, text) = files;
+    let want = format!(in alloc; "{BANNER}{answer}")?;
+    for size in [1, 1000] {
+        let mut reader = OverRead::new(pieces(input.as_bytes(), size, size));
+        let mut writer = LimitedSink::new(alloc, 1000)?;
+        let end = run_plain(alloc, name, index, text, &mut reader, &mut writer);
+        assert_eq!(*rt; end, Ok(()), "{input}");
+        assert_eq!(*rt; taken(alloc, &writer)?.as_str(), want.as_str(), "{input}");
+    }
+    Ok(())
+}
+
+#[test]
+fn matches_by_each_strategy(rt: HostRuntime) -> Result<(), Fail> {
+    let gem = ("gem", GEM_INDEX, GEM_TEXT);
+    let edge = ("edge", EDGE_INDEX, EDGE_TEXT);
+    let rows: [(_, &str, &[&str]); 12] = [
+        (gem, "MATCH gem suffix opal", &["opal", "Fire Opal"]),
+        (gem, "match gem substring OPAL", &["opal", "Fire Opal"]),
+        (gem, "MATCH gem . fire", &["Fire Opal"]),
+        (gem, "MATCH gem prefix fire", &["Fire Opal"]),
+        (gem, "MATCH gem exact opal", &["opal"]),
+        (gem, "MATCH gem first opal", &["opal"]),
+        (gem, "MATCH gem word fire", &["Fire Opal"]),
+        (gem, "MATCH gem last opal", &["opal", "Fire Opal"]),
+        (gem, "MATCH gem substring o", &["opal", "Fire Opal", "dot"]),
+        (edge, "MATCH edge prefix a", &["a", "a\u{10FFFF}"]),
+        (edge, "MATCH edge suffix \u{10FFFF}", &["a\u{10FFFF}"]),
+        (edge, "MATCH edge . b", &["b"]),
+    ];
+    for (files, line, headwords) in rows {
+        let input = format!(in rt.alloc(); "{line}\r\n")?;
+        let answer = matches(rt.alloc(), files.0, headwords)?;
+        answers_over(&rt, files, input.as_str(), answer.as_str())?;
+    }
+    Ok(())
+}
+
+#[test]
+fn answers_what_is_not_found(rt: HostRuntime) -> Result<(), Fail> {
+    let gem = ("gem", GEM_INDEX, GEM_TEXT);
+    let plus = ("gem2", PLUS_INDEX, PLUS_TEXT);
+    let rows = [
+        (gem, "MATCH nosuch nosuch x\r\n", "550 invalid database\r\n"),
+        (gem, "MATCH gem nosuch x\r\n", "551 invalid strategy\r\n"),
+        (gem, "MATCH gem PREFIX opal\r\n", "551 invalid strategy\r\n"),
+        (gem, "MATCH gem exact x\r\n", "552 no match\r\n"),
+        (gem, "MATCH gem prefix 00\r\n", "552 no match\r\n"),
+        (
+            plus,
+            "DEFINE gem2 +\r\n",
+            "150 1 definitions retrieved\r\n151 \"+\" gem2 \"Gems\"\r\nplus\r\n.\r\n250 ok\r\n",
+        ),
+        (plus, "DEFINE gem2 -\r\n", "552 no match\r\n"),
+    ];
+    for (files, input, answer) in rows {
+        answers_over(&rt, files, input, answer)?;
     }
     Ok(())
 }

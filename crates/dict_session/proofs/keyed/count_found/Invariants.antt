@@ -6,6 +6,6 @@ use Rattle.dict_session.proofs.keyed.count_found.Given as goal
 
 abbrev pub invariant-loop-entry : goal.invariant-loop-entry
 invariant-loop-entry l = record {
-  counted : l.count ≡ length (filter (is_found l.query) (map entry_of (take l.entry-index l.entries)));
+  counted : l.count ≡ length (filter (is_found l.strategy l.query) (map entry_of (take l.entry-index l.entries)));
   few : l.count ≤ l.entry-index;
 }

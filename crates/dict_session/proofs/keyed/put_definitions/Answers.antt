@@ -11,13 +11,13 @@ use Rattle.dict_session.proofs.keyed.put_definitions.Goals as goal
 
 pub returns-in_err-put_if_found-clause-octets : goal.returns-in_err-put_if_found-clause-octets
 returns-in_err-put_if_found-clause-octets g c =
-    subst (Puts c.from_residual.result (g.K.Sink.octets c.args.sink.now) (g.K.Sink.octets c.put_if_found.new.sink)) (shown_all c.args.name.now c.args.title.now c.args.query.now c.args.entries.now)
+    subst (Puts c.from_residual.result (g.K.Sink.octets c.args.sink.now) (g.K.Sink.octets c.put_if_found.new.sink)) (shown_all c.args.name.now c.args.title.now c.args.strategy c.args.query.now c.args.entries.now)
     (subst (Puts c.from_residual.result (g.K.Sink.octets c.args.sink.now) (g.K.Sink.octets c.put_if_found.new.sink))
-    (sym (pieces_at (λ keyed. shown_if_found c.args.name.now c.args.title.now c.args.query.now (entry_of keyed)) c.args.entries.now c.loop-entry.entry-index c.entry-item.result (omega arith)))
-    (puts_err _ _ _ _ c.from_residual.ensures.0 (front_after _ _ _ _ _ c.loop-entry.invariant.put (front_longer _ _ _ _ (subst (λ k. AppendsFront (g.K.Sink.octets c.loop-entry.sink) (g.K.Sink.octets c.put_if_found.new.sink) (shown_if_found c.args.name.now c.args.title.now c.args.query.now (entry_of k))) c.entry-item.is c.in_err-put_if_found.ensures.octets)))))
+    (sym (pieces_at (λ keyed. shown_if_found c.args.name.now c.args.title.now c.args.strategy c.args.query.now (entry_of keyed)) c.args.entries.now c.loop-entry.entry-index c.entry-item.result (omega arith)))
+    (puts_err _ _ _ _ c.from_residual.ensures.0 (front_after _ _ _ _ _ c.loop-entry.invariant.put (front_longer _ _ _ _ (subst (λ k. AppendsFront (g.K.Sink.octets c.loop-entry.sink) (g.K.Sink.octets c.put_if_found.new.sink) (shown_if_found c.args.name.now c.args.title.now c.args.strategy c.args.query.now (entry_of k))) c.entry-item.is c.in_err-put_if_found.ensures.octets)))))
 
 pub returns-clause-octets : goal.returns-clause-octets
 returns-clause-octets g c =
     subst (Appends (g.K.Sink.octets c.args.sink.now) (g.K.Sink.octets c.loop-entry.sink))
-    (ap (flat_map (λ keyed. shown_if_found c.args.name.now c.args.title.now c.args.query.now (entry_of keyed))) (take_all c.loop-entry.entry-index c.args.entries.now (omega arith)) ∙ shown_all c.args.name.now c.args.title.now c.args.query.now c.args.entries.now)
+    (ap (flat_map (λ keyed. shown_if_found c.args.name.now c.args.title.now c.args.strategy c.args.query.now (entry_of keyed))) (take_all c.loop-entry.entry-index c.args.entries.now (omega arith)) ∙ shown_all c.args.name.now c.args.title.now c.args.strategy c.args.query.now c.args.entries.now)
     c.loop-entry.invariant.put

@@ -7,6 +7,6 @@ use Rattle.dict_session.proofs.keyed.put_definitions.Given as goal
 
 abbrev pub invariant-loop-entry : goal.invariant-loop-entry
 invariant-loop-entry g l = record {
-  put : Appends (g.K.Sink.octets l.fn.sink) (g.K.Sink.octets l.sink) (flat_map (λ keyed. shown_if_found l.name l.title l.query (entry_of keyed)) (take l.entry-index l.entries));
+  put : Appends (g.K.Sink.octets l.fn.sink) (g.K.Sink.octets l.sink) (flat_map (λ keyed. shown_if_found l.name l.title l.strategy l.query (entry_of keyed)) (take l.entry-index l.entries));
   count : g.K.Sink.failures l.sink ≡ g.K.Sink.failures l.fn.sink;
 }

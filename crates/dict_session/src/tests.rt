@@ -1,0 +1,118 @@
+// Sessions over a database in memory.
+use crate::{End, Plain, Session, Step, one_cut, run, spoken_answers};
+use dict_index::read_edition;
+use dict_proto::{LimitedSink, OverRead};
+use std::alloc::Global;
+use std::test::Fail;
+
+// Entries in another order than their headwords', with one headword twice.
+const INDEX: &[u8] =
+    b"00-database-short\tA\tb\npearl\tb\tC\nopal\tb\tC\npearl\td\tC\nagate\tb\tC\n";
+
+const TEXT: &[u8] = b"00-database-short\n  Stones\nx\ny\n";
+
+const PEARLS: &str =
+    "150 2 definitions retrieved\r\n151 \"pearl\" stones \"Stones\"\r\nx\r\n.\r\n151 \"pearl\" stones \"Stones\"\r\ny\r\n.\r\n250 ok\r\n";
+
+const ONE_PEARL: &str = "152 1 matches found\r\nstones \"pearl\"\r\n.\r\n250 ok\r\n";
+
+const ALL_STONES: &str =
+    "152 3 matches found\r\nstones \"pearl\"\r\nstones \"opal\"\r\nstones \"agate\"\r\n.\r\n250 ok\r\n";
+
+// What a client sends, whether a QUIT in it is answered, and the answers.
+static ROWS: [(&str, bool, &str); 10] = [
+    ("", false, ""),
+    ("DEFINE stones Pearl\r\n", false, PEARLS),
+    ("MATCH stones exact Pearl\r\n", false, ONE_PEARL),
+    ("MATCH stones . pe\r\n", false, ONE_PEARL),
+    ("MATCH stones substring a\r\n", false, ALL_STONES),
+    (
+        "MATCH nosuch nosuch x\r\n",
+        false,
+        "550 invalid database\r\n",
+    ),
+    (
+        "MATCH stones nosuch x\r\n",
+        false,
+        "551 invalid strategy\r\n",
+    ),
+    ("MATCH stones word p\r\n", false, "552 no match\r\n"),
+    (
+        "MATCH stones word\r\n",
+        false,
+        "500 command not recognized\r\n",
+    ),
+    (
+        "QUIT\r\nMATCH stones exact pearl\r\n",
+        true,
+        "221 closing connection\r\n",
+    ),
+];
+
+#[test]
+fn runs_whole_sessions(rt: HostRuntime) -> Result<(), Fail> {
+    let alloc = rt.alloc();
+    let edition = read_edition(alloc, INDEX, TEXT)?;
+    let plain = Plain::new(alloc, "stones", &edition)?;
+    for (input, is_over, answers) in &ROWS {
+        let mut reader = OverRead::new(input.as_bytes());
+        let mut writer = LimitedSink::new(alloc, 1000)?;
+        let end = run(alloc, &mut reader, &mut writer, &plain, "gems.test", 7);
+        let over = if *is_over { End::Quit } else { End::InputEnd };
+        let want = format!(in alloc; "220 gems.test dictcat ready <7@gems.test>\r\n{answers}")?;
+        assert_eq!(rt; end, Ok(over), "{input}");
+        assert_eq!(rt; writer.taken(), want.as_bytes(), "{input}");
+    }
+    one_cut();
+    spoken_answers();
+    Ok(())
+}
+
+// What comes of a first piece, and then of the other octets one by one, up to a QUIT or a fault of the sink.
+fn fed(
+    alloc: Global,
+    plain: &Plain,
+    first: &[u8],
+    others: &[u8],
+    room: usize,
+) -> Result<(Step, LimitedSink), Fail> {
+    let mut session = Session::new(alloc)?;
+    let mut writer = LimitedSink::new(alloc, room)?;
+    let mut step = session.feed(alloc, first, plain, &mut writer);
+    for octet in others {
+        if step == Step::More {
+            step = session.feed(alloc, &[*octet], plain, &mut writer);
+        }
+    }
+    Ok((step, writer))
+}
+
+#[test]
+fn feeds_one_piece_or_many(rt: HostRuntime) -> Result<(), Fail> {
+    let alloc = rt.alloc();
+    let edition = read_edition(alloc, INDEX, TEXT)?;
+    let plain = Plain::new(alloc, "stones", &edition)?;
+    for (input, is_over, answers) in &ROWS {
+        let want = if *is_over { Step::Quit } else { Step::More };
+        let (step, writer) = fed(alloc, &plain, input.as_bytes(), b"", 1000)?;
+        assert_eq!(rt; step, want, "{input}");
+        assert_eq!(rt; writer.taken(), answers.as_bytes(), "{input}");
+        let (step, writer) = fed(alloc, &plain, b"", input.as_bytes(), 1000)?;
+        assert_eq!(rt; step, want, "{input}");
+        assert_eq!(rt; writer.taken(), answers.as_bytes(), "{input}");
+    }
+    Ok(())
+}
+
+#[test]
+fn a_full_sink_breaks_a_list_off(rt: HostRuntime) -> Result<(), Fail> {
+    let alloc = rt.alloc();
+    let edition = read_edition(alloc, INDEX, TEXT)?;
+    let plain = Plain::new(alloc, "stones", &edition)?;
+    for room in 0..ALL_STONES.len() {
+        let (step, writer) = fed(alloc, &plain, b"MATCH stones substring a\r", b"\n", room)?;
+        assert_eq!(rt; step, Step::Broken, "room for {room}");
+        assert_eq!(rt; Some(writer.taken()), ALL_STONES.as_bytes().get(..room));
+    }
+    Ok(())
+}
