@@ -10,7 +10,7 @@ AppendsFront old new bs = (k : ℕ) × (k ≤ length bs) × Appends old new (tak
 abbrev pub Puts : {T E : Type 0} → Result T E → Option (List ℕ) → Option (List ℕ) → List ℕ → Type 0
 Puts r old new bs = MatchResult r (λ _. Appends old new bs) (λ _. AppendsFront old new bs)
 
--- one more failure is counted; at its greatest value the count stays
+-- the count of failures has risen, or stood at its greatest value
 abbrev pub HasFailed : ℕ → ℕ → Type 0
 HasFailed old new = (old < new) ⊎ (old ≡ 2 ^ 64 - 1)
 
