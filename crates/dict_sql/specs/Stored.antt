@@ -1,6 +1,7 @@
 -- The records as they are read, and the rows that they were read from.
-use Rattle.std.specs.Prelude.{pos, List, [], ◌∷◌, string_bytes}
-use Rattle.sqlite.specs.declared.types.Value.TheVariants.{Int, Text as Words, Blob as Bytes}
+use Rattle.std.specs.Prelude.{◌≡◌, ◌⊎◌, ◌<◌, ◌^◌, ⊤, ℕ, ℤ, pos, List, [], ◌∷◌, IsUtf8, string_bytes}
+use Rattle.sqlite.specs.declared.types.Value.{Value}
+use Rattle.sqlite.specs.declared.types.Value.TheVariants.{Null, Int, Text as Words, Blob as Bytes}
 use Rattle.sqlite.specs.Order.{Row}
 use Rattle.sqlite.specs.Values.{or_null}
 use Rattle.dict_sql.specs.declared.records.Mark.{Mark}
@@ -29,3 +30,53 @@ stored_entry r = Int r.rowid ∷ Int (pos r.edition) ∷ Int (pos r.ord) ∷ Wor
 
 abbrev pub stored_kept : Kept → Row
 stored_kept r = Int r.rowid ∷ Words (string_bytes r.id) ∷ Int (pos r.number) ∷ Words (string_bytes r.verb) ∷ Words (string_bytes r.name) ∷ or_null (λ n. Int (pos n)) r.edition ∷ []
+
+-- ---- which rows stand for a record
+
+-- what a column of a record holds
+pub data Content : Type 0 where
+  Rowid : Content
+  Number : Content
+  NumberOrNull : Content
+  Name : Content
+  NameOrNull : Content
+  Octets : Content
+
+-- a number of 32 bits, or a text in UTF-8
+abbrev pub IsNumber : Value → Type 0
+IsNumber v = (n : ℕ) × (v ≡ Int (pos n)) × (n < 2 ^ 32)
+
+abbrev pub IsText : Value → Type 0
+IsText v = (t : List ℕ) × (v ≡ Words t) × IsUtf8 t
+
+abbrev pub Holds : Content → Value → Type 0
+Holds Rowid v = (n : ℤ) × (v ≡ Int n)
+Holds Number v = IsNumber v
+Holds NumberOrNull v = (v ≡ Null) ⊎ IsNumber v
+Holds Name v = IsText v
+Holds NameOrNull v = (v ≡ Null) ⊎ IsText v
+Holds Octets v = (b : List ℕ) × (v ≡ Bytes b)
+
+-- the row has these columns and no others
+abbrev pub HasColumns : List Content → Row → Type 0
+HasColumns [] [] = ⊤
+HasColumns (c ∷ cs) (v ∷ vs) = Holds c v × HasColumns cs vs
+HasColumns _ _ = ⊥
+
+abbrev pub mark_columns : List Content
+mark_columns = Rowid ∷ Number ∷ Name ∷ Number ∷ Number ∷ []
+
+abbrev pub item_columns : List Content
+item_columns = Rowid ∷ Number ∷ Name ∷ Number ∷ NameOrNull ∷ NumberOrNull ∷ NumberOrNull ∷ []
+
+abbrev pub member_columns : List Content
+member_columns = Rowid ∷ Name ∷ Number ∷ Name ∷ []
+
+abbrev pub edition_columns : List Content
+edition_columns = Rowid ∷ Number ∷ Name ∷ Name ∷ Name ∷ Octets ∷ []
+
+abbrev pub entry_columns : List Content
+entry_columns = Rowid ∷ Number ∷ Number ∷ Name ∷ Number ∷ Number ∷ []
+
+abbrev pub kept_columns : List Content
+kept_columns = Rowid ∷ Name ∷ Number ∷ Name ∷ Name ∷ NumberOrNull ∷ []

@@ -1,18 +1,24 @@
 //! The records of the tables, as they are read.
 
-ghost use Rattle.std.specs.Prelude.{◌≡◌, List, IfOk};
+ghost use Rattle.std.specs.Prelude.{◌≡◌, ◌≢◌, List, IfOk, IfErr, OnOk};
+ghost use Rattle.sqlite.specs.declared.error.ErrorCode.TheVariants.{OutOfMemory};
 ghost use Rattle.sqlite.specs.declared.types.Value.{Value as SqlValue};
-ghost use Rattle.dict_sql.specs.Stored.{stored_mark, stored_item, stored_member, stored_edition, stored_entry, stored_kept};
+ghost use Rattle.dict_sql.specs.Stored.{Content, HasColumns, stored_mark, stored_item, stored_member, stored_edition, stored_entry, stored_kept, mark_columns, item_columns, member_columns, edition_columns, entry_columns, kept_columns};
 
 use sqlite::{Error, Row};
 
 /// A record that is read from a row: the rowid, and then the columns in their order.
 pub trait Record: Sized {
+    // The row that it stands in, and what each column of such a row holds.
     ghost stored: { Self → List SqlValue };
+
+    ghost columns: { List Content };
 
     /// The record, or the error of the first column that doesn't hold what the record has there. A row of another width is refused as a column that isn't there.
     fn from_row(row: &Row) -> Result<Self, Error>
-        ensures { IfOk result (λ r. row.now ≡ stored r) };
+        ensures read { IfOk result (λ r. row.now ≡ stored r) }
+        ensures lawful { OnOk result (HasColumns columns row.now) }
+        ensures refused { IfErr result (λ e. e ≢ Error.SqliteFailure OutOfMemory → ¬ HasColumns columns row.now) };
 }
 
 /// The mark, with the rowid of its row.
@@ -27,6 +33,8 @@ pub struct Mark {
 
 impl Record for Mark {
     ghost stored = { stored_mark };
+
+    ghost columns = { mark_columns };
 
     fn from_row(row: &Row) -> Result<Mark, Error> {
         if row.column_count() != 5 {
@@ -57,6 +65,8 @@ pub struct Item {
 impl Record for Item {
     ghost stored = { stored_item };
 
+    ghost columns = { item_columns };
+
     fn from_row(row: &Row) -> Result<Item, Error> {
         if row.column_count() != 7 {
             return Err(Error::InvalidColumnIndex(6));
@@ -85,6 +95,8 @@ pub struct Member {
 impl Record for Member {
     ghost stored = { stored_member };
 
+    ghost columns = { member_columns };
+
     fn from_row(row: &Row) -> Result<Member, Error> {
         if row.column_count() != 4 {
             return Err(Error::InvalidColumnIndex(3));
@@ -111,6 +123,8 @@ pub struct Edition {
 
 impl Record for Edition {
     ghost stored = { stored_edition };
+
+    ghost columns = { edition_columns };
 
     fn from_row(row: &Row) -> Result<Edition, Error> {
         if row.column_count() != 6 {
@@ -141,6 +155,8 @@ pub struct Entry {
 impl Record for Entry {
     ghost stored = { stored_entry };
 
+    ghost columns = { entry_columns };
+
     fn from_row(row: &Row) -> Result<Entry, Error> {
         if row.column_count() != 6 {
             return Err(Error::InvalidColumnIndex(5));
@@ -169,6 +185,8 @@ pub struct Kept {
 
 impl Record for Kept {
     ghost stored = { stored_kept };
+
+    ghost columns = { kept_columns };
 
     fn from_row(row: &Row) -> Result<Kept, Error> {
         if row.column_count() != 6 {
