@@ -9,7 +9,8 @@ use Rattle.sqlite.specs.Command.TheVariants.{Insert}
 use Rattle.sqlite.specs.Listing.{understood}
 use Rattle.sqlite.specs.State.{State, Executes}
 use Rattle.sqlite.proofs.Callers.{statement_of, runs_as}
-use Rattle.dict_sql.specs.Tables.{mark, insert_mark, item, insert_item, member, insert_member, edition, insert_edition, entry, insert_entry, kept, insert_kept}
+use Rattle.dict_tables.specs.Tables.{mark, item, member, edition, entry, kept}
+use Rattle.dict_sql.specs.Inserts.{insert_mark, insert_item, insert_member, insert_edition, insert_entry, insert_kept}
 use Rattle.dict_sql.specs.Records.{number_or_null, text_or_null, Mark, mark_row, Item, item_row, Member, member_row, Edition, edition_row, Entry, entry_row, Kept, kept_row}
 use Rattle.dict_sql.specs.Effects.{Has, IsAdded}
 use Rattle.dict_sql.proofs.InsertLemmas.{adds_chosen, adds_given, cast_int, cast_null}

@@ -1,5 +1,5 @@
 -- What a caller's proof needs of the statements: the tables stay where they are, and rowids stay apart.
-use Rattle.std.proofs.Common.{◌≡◌, ◌≢◌, ℕ, zero, suc, ℤ, All, arith, Ordering, Less, Equal, Greater, List, [], ◌∷◌, map, filter, find, Bool, true, false, not, Option, Some, None, option_and_then, option_map, unwrap_or, slice_get, inl, inr, refl, sym, ap, subst, subst₂, ◌∙◌}
+use Rattle.std.proofs.Common.{◌≡◌, ◌≢◌, ℕ, zero, suc, ℤ, All, arith, Ordering, Less, Equal, Greater, List, [], ◌∷◌, map, filter, Bool, true, false, not, inl, inr, refl, sym, ap, subst, ◌∙◌}
 use Rattle.std.proofs.lemmas.Bool.{cases_Bool}
 use Rattle.std.proofs.lemmas.List.Sorted.{IsPermutation-map, IsPermutation-sym, All-permutation}
 use Rattle.std.proofs.lemmas.Map.Keys.{IsDistinct-IsPermutation}
@@ -13,7 +13,8 @@ use Rattle.sqlite.specs.Table.{Table}
 use Rattle.sqlite.specs.Order.{Row, column}
 use Rattle.sqlite.specs.declared.types.Value.{Value}
 use Rattle.sqlite.specs.declared.types.Value.TheVariants.{Int}
-use Rattle.dict_sql.specs.Effects.{Has, HasTable, HasApartRowids, IsAdded, IsRemoved, rows_of, same_value}
+use Rattle.dict_tables.specs.Found.{HasTable}
+use Rattle.dict_sql.specs.Effects.{Has, HasApartRowids, IsAdded, IsRemoved, rows_of, same_value}
 use Rattle.dict_sql.specs.Reads.{IsListing}
 use Rattle.dict_sql.proofs.RemoveLemmas.{same_flips}
 

@@ -1,19 +1,14 @@
 -- What the CREATE TABLE of a table does, over any schema in which its name is free.
-use Rattle.std.proofs.Common.{◌≡◌, ℕ, ◌==◌, ◌+◌, List, [], ◌∷◌, ◌++◌, codes, map, length, find, Bool, true, false, not, ◌&&◌, ◌||◌, is_some, Some, None, Option, Ok, Err, Result, option_and_then, option_map, slice_get, inl, inr, refl, sym, ap, subst, ◌∙◌}
-use Rattle.std.proofs.lemmas.Bool.{cases_Bool}
+use Rattle.std.proofs.Common.{◌≡◌, ℕ, ◌==◌, List, [], ◌∷◌, codes, length, find, Bool, true, false, not, ◌&&◌, ◌||◌, is_some, Some, None, Option, Ok, refl, sym, ap, subst, ◌∙◌}
 use Rattle.std.specs.List.{AllByRecursion, list_any}
 use Rattle.sqlite.specs.Table.{Table}
 use Rattle.sqlite.specs.Schema.{Schema}
-use Rattle.sqlite.specs.Order.{Row}
-use Rattle.sqlite.specs.Tree.{Trees}
 use Rattle.sqlite.specs.Change.{created, next_tree, is_used}
-use Rattle.sqlite.specs.Does.{Tally, Does, lacks_sequence, sequence_text}
-use Rattle.sqlite.specs.Rows.{sequence}
-use Rattle.sqlite.specs.Effect.{Database, IsDatabase}
+use Rattle.sqlite.specs.Does.{Tally, lacks_sequence}
+use Rattle.sqlite.specs.Effect.{Database}
 use Rattle.sqlite.specs.State.{State, Writes, Executes}
-use Rattle.sqlite.specs.Command.{Command}
 use Rattle.sqlite.specs.Command.TheVariants.{CreateTable}
-use Rattle.sqlite.specs.Compile.{compiled, first, planned, meaning, command, create_table, creates, is_attached, is_reserved, with_command, returning, timed, small, table_defined_by, table_in}
+use Rattle.sqlite.specs.Compile.{compiled, first, planned, meaning, command, create_table, creates, is_attached, is_reserved, with_command, returning, timed, table_defined_by}
 use Rattle.sqlite.specs.Listing.{understood}
 use Rattle.sqlite.proofs.Callers.{IsPlain, command_of, statement_of, runs_as}
 use Rattle.sqlite_resolve.specs.Define as define
@@ -23,12 +18,13 @@ use Rattle.sqlite_ast.specs.declared.Statement.{Statement}
 use Rattle.sqlite_ast.specs.declared.Statement.TheVariants as written
 use Rattle.sqlite_ast.specs.declared.CreateTable as ast
 use Rattle.sqlite_syntax.specs.declared.statement.Parsed.{Parsed}
-use Rattle.dict_sql.specs.Tables.{mark, create_mark, item, create_item, member, create_member, edition, create_edition, entry, create_entry, kept, create_kept}
-use Rattle.dict_sql.specs.Effects.{rows_of, shown, table_in as table_of}
-use Rattle.dict_sql.specs.Creates.{IsFree, IsMade}
+use Rattle.dict_tables.specs.Tables.{mark, item, member, edition, entry, kept}
+use Rattle.dict_sql.specs.Effects.{rows_of, table_in as table_of}
+use Rattle.dict_sql.specs.Creates.{IsFree, IsMade, create_mark, create_item, create_member, create_edition, create_entry, create_kept}
 use Rattle.dict_sql.proofs.InsertLemmas.{went, same_value}
 use Rattle.dict_sql.proofs.TextLemmas.{parsed_or}
-use Rattle.dict_sql.proofs.FindLemmas.{found, find_past, lacks_no_more}
+use Rattle.dict_tables.proofs.PlaceLemmas.{found}
+use Rattle.dict_sql.proofs.FindLemmas.{find_past, lacks_no_more}
 
 abbrev pub nothing_defined : ast.CreateTable
 nothing_defined = record { if_missing = false; name = []; body = record { columns = []; rules = [] }; is_strict = false; resolves = false }

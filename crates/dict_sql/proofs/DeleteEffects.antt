@@ -1,39 +1,40 @@
 -- What a DELETE does to the rows of a table.
-use Rattle.std.proofs.Common.{◌≡◌, ◌≢◌, ◌⊎◌, ◌==◌, ◌&&◌, ◌++◌, ◌<◌, ℕ, ℤ, pos, List, [], ◌∷◌, map, filter, find, length, slice_get, Bool, true, false, not, cond, Option, Some, None, option_and_then, option_map, Ok, Err, Result, inl, inr, refl, sym, ap, subst, subst₂, ◌∙◌, append-nil}
+use Rattle.std.proofs.Common.{◌≡◌, ◌≢◌, ◌==◌, ℕ, ℤ, List, [], ◌∷◌, map, filter, find, Bool, true, false, not, Option, Some, None, option_and_then, option_map, inl, inr, refl, sym, ap, subst, ◌∙◌}
 use Rattle.std.proofs.lemmas.Bool.{cases_Bool}
 use Rattle.std.proofs.lemmas.List.Sorted.{IsPermutation-map}
-use Rattle.std.specs.List.{AllByRecursion, IsDistinct, list_all, flat_map, filter_map}
+use Rattle.std.specs.List.{AllByRecursion, IsDistinct, flat_map, filter_map}
 use Rattle.std.specs.List.Sorted.{IsPermutation}
 use Rattle.sqlite.specs.declared.types.Value.TheVariants.{Null, Int}
 use Rattle.sqlite.specs.Order.{Row, column}
 use Rattle.sqlite.specs.Tree.{Trees, rowid}
 use Rattle.sqlite.specs.Table.{Table}
 use Rattle.sqlite.specs.Schema.{Schema}
-use Rattle.sqlite.specs.Term.{Term, col, holds}
+use Rattle.sqlite.specs.Term.{Term, col}
 use Rattle.sqlite.specs.Command.TheVariants.{Delete}
-use Rattle.sqlite.specs.Edit.{Edit, edit_of, edited}
+use Rattle.sqlite.specs.Edit.{Edit, edit_of}
 use Rattle.sqlite.specs.Rowids.TheVariants.{Given}
-use Rattle.sqlite.specs.Does.{Tally, Does}
+use Rattle.sqlite.specs.Does.{Tally}
 use Rattle.sqlite.specs.Rows.{Written}
 use Rattle.sqlite.specs.Effect.{Database, IsDatabase, Answers}
-use Rattle.sqlite.specs.State.{State, mode_of, Writes}
+use Rattle.sqlite.specs.State.{State, Writes}
 use Rattle.sqlite.proofs.Callers.{one_step}
 use Rattle.sqlite_rules.specs.Edit.{Applies, id_in, without_all, taken_by}
 use Rattle.sqlite_rules.specs.Calls.{ids_of}
 use Rattle.sqlite_rules.specs.Action.{works, work_for, work_by, pairs, deed_for}
 use Rattle.sqlite_rules.specs.declared.action.Deed.{Deed}
-use Rattle.sqlite_schema.specs.Rules.{parent_key, ParentKey, key_in, key_places, declared_order}
-use Rattle.sqlite_schema.specs.Names.{same_name, table_named}
+use Rattle.sqlite_schema.specs.Rules.{key_in, key_places, declared_order}
+use Rattle.sqlite_schema.specs.Names.{same_name}
 use Rattle.sqlite_schema.specs.declared.schema.Keys.{Keys}
 use Rattle.sqlite_schema.specs.declared.schema.Keys.TheVariants.{Enforced}
 use Rattle.sqlite_schema.specs.declared.schema.Reference.{Reference}
 use Rattle.sqlite_schema.specs.declared.program.Program.{Program}
 use Rattle.sqlite_value.specs.declared.keys.Order.{Order}
-use Rattle.dict_sql.specs.Effects.{HasTable, HasApartRowids, IsRemoved, SameOthers, rows_of, table_in, shown, is_in, same_value}
+use Rattle.dict_tables.specs.Found.{HasTable, is_in}
+use Rattle.dict_sql.specs.Effects.{HasApartRowids, IsRemoved, SameOthers, rows_of, table_in, shown, same_value}
 use Rattle.dict_sql.proofs.InsertLemmas.{went, same_value as same_ok}
 use Rattle.dict_sql.proofs.DeleteLemmas.{doomed}
 use Rattle.dict_sql.proofs.ListLemmas.{lists, passes}
-use Rattle.dict_sql.proofs.RemoveLemmas.{removed, all_map, filter_all}
+use Rattle.dict_sql.proofs.RemoveLemmas.{removed, all_map}
 
 -- ---- no foreign key leads into the table, so none acts
 

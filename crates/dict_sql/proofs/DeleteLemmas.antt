@@ -1,5 +1,5 @@
 -- What `DELETE FROM table` and `DELETE FROM table WHERE column = ?1` stand for, over any schema that has the table.
-use Rattle.std.proofs.Common.{◌≡◌, ℕ, suc, ◌+◌, ◌-◌, ◌^◌, pos, negsuc, List, [], ◌∷◌, ◌++◌, map, length, codes, Bool, true, false, Some, None, Option, Ok, Err, Result, refl, sym, ap, subst, ◌∙◌, slice_get, find, nat_lt, nat_le, unwrap_or}
+use Rattle.std.proofs.Common.{◌≡◌, ℕ, suc, ◌-◌, pos, negsuc, List, [], ◌∷◌, true, false, Some, None, Option, Ok, refl, slice_get, nat_lt}
 use Rattle.sqlite.specs.Term.{Term, lit, col, op2}
 use Rattle.sqlite.specs.Table.{Table}
 use Rattle.sqlite.specs.Schema.{Schema}
@@ -9,21 +9,19 @@ use Rattle.sqlite_sql.specs.declared.ops.BinaryOp.TheVariants as by
 use Rattle.sqlite_sql.specs.declared.ops.CompareOp.TheVariants as compare
 use Rattle.sqlite_value.specs.declared.keys.Collation.TheVariants.{Binary}
 use Rattle.sqlite_resolve.specs.Scope.{Name, column, Context, find as find_name, in_level, only, hit, column_in, term_of, column_at, declared, is_among}
-use Rattle.sqlite_resolve.specs.Expr.{lower_to, lower, node, opened, passes, operation, both, wanted_truth, tests_truth, tests_alias, combine, truth}
-use Rattle.sqlite_resolve.specs.Compare.{compared, converted, affinity_of, of_column, may_be_text, is_parameter}
-use Rattle.sqlite_resolve.specs.Lowering.{Checked, Lowering, and_then, fresh, max_budget, spend, begin, finish, nothing, chosen, alone, first_found}
+use Rattle.sqlite_resolve.specs.Expr.{lower_to, lower, node, opened, passes, operation, both, wanted_truth, tests_truth, tests_alias, combine}
+use Rattle.sqlite_resolve.specs.Compare.{compared}
+use Rattle.sqlite_resolve.specs.Lowering.{fresh, max_budget, spend, begin, finish, nothing, chosen}
 use Rattle.sqlite_resolve.specs.declared.state.State.{State}
 use Rattle.sqlite_resolve.specs.declared.scope.Output.{Output}
 use Rattle.sqlite_resolve.specs.declared.state.Carried.{Carried}
 use Rattle.sqlite_resolve.specs.Body.{tests}
-use Rattle.sqlite_resolve.specs.Terms.{conjuncts}
 use Rattle.sqlite_resolve.specs.Write.{deleted, picked}
 use Rattle.sqlite_resolve.specs.Program.{program as program'}
-use Rattle.sqlite_schema.specs.Names.{table_named, column_named, place_of}
+use Rattle.sqlite_schema.specs.Names.{column_named, place_of}
 use Rattle.sqlite_schema.specs.declared.schema.Column.{Column}
 use Rattle.sqlite_schema.specs.declared.program.Program.{Program}
 use Rattle.sqlite_draft.specs.declared.query.Draft.{Draft}
-use Rattle.sqlite_draft.specs.Query.{query_of}
 use Rattle.sqlite_typing.specs.Types.{accepts_program}
 use Rattle.sqlite_tied.specs.Compute.{everything}
 use Rattle.sqlite_ast.specs.declared.Expr.{Expr, out-Expr, roll-Expr}
@@ -32,9 +30,9 @@ use Rattle.sqlite_ast.specs.declared.Binary.TheVariants as binary
 use Rattle.sqlite_ast.specs.declared.Statement.TheVariants as written
 use Rattle.sqlite_syntax.specs.declared.statement.Parsed.{Parsed}
 use Rattle.sqlite.specs.Command.TheVariants.{Delete}
-use Rattle.sqlite.specs.Compile.{compiled, first, planned, meaning, command, delete, with_command, returning, shows, timed, small}
+use Rattle.sqlite.specs.Compile.{compiled, first, planned, meaning, command, delete, with_command, returning, shows, timed}
 use Rattle.sqlite.specs.Listing.{understood}
-use Rattle.dict_sql.specs.Effects.{HasTable}
+use Rattle.dict_tables.specs.Found.{HasTable}
 use Rattle.dict_sql.proofs.ReadLemmas.{context_of}
 
 -- ---- `column = ?1`

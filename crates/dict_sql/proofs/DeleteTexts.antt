@@ -1,12 +1,8 @@
 -- The texts of the DELETE statements.
-use Rattle.std.proofs.Common.{◌≡◌, ◌==◌, ◌^◌, ℕ, pos, List, [], ◌∷◌, codes, Bool, true, false, ◌&&◌, Ordering, Less, Equal, Greater, Ok, Some, None, Option, refl, sym, ap, subst, ◌∙◌, find, nat_le, slice_get}
+use Rattle.std.proofs.Common.{◌≡◌, ◌==◌, ◌^◌, ℕ, pos, List, [], ◌∷◌, codes, Bool, true, false, Ok, Some, None, Option, refl, sym, subst, ◌∙◌, find, nat_le, slice_get}
 use Rattle.std.proofs.lemmas.Bool.{lt-leb}
-use Rattle.std.specs.Ordering.{is_eq}
-use Rattle.sqlite.specs.declared.types.Value.{Value}
-use Rattle.sqlite.specs.declared.types.Value.TheVariants.{Null, Int, Real, Text, Blob}
-use Rattle.sqlite.specs.Order.{Row, column, value_cmp}
-use Rattle.sqlite.specs.Ops.{binary}
-use Rattle.sqlite_sql.specs.Ops.{is_true, test, truth, from_truth}
+use Rattle.sqlite.specs.declared.types.Value.TheVariants.{Int}
+use Rattle.sqlite.specs.Order.{Row, column}
 use Rattle.sqlite.specs.Term.{Term, col, op2}
 use Rattle.sqlite.specs.Schema.{Schema}
 use Rattle.sqlite.specs.Table.{Table}
@@ -23,8 +19,9 @@ use Rattle.sqlite_typing.specs.Types.{accepts_program}
 use Rattle.sqlite_ast.specs.declared.Expr.{Expr}
 use Rattle.sqlite_ast.specs.declared.Statement.TheVariants as written
 use Rattle.sqlite_syntax.specs.declared.statement.Parsed.{Parsed}
-use Rattle.dict_sql.specs.Tables.{needed, mark, item, member, edition, entry}
-use Rattle.dict_sql.specs.Effects.{same_value, Has, HasTable, HasApartRowids, IsRemoved, equals_number, rows_of, shown}
+use Rattle.dict_tables.specs.Tables.{needed, mark, item, member, edition, entry}
+use Rattle.dict_tables.specs.Found.{HasTable}
+use Rattle.dict_sql.specs.Effects.{Has, HasApartRowids, IsRemoved, equals_number, rows_of, shown}
 use Rattle.sqlite.specs.State.{State, Executes}
 use Rattle.sqlite.specs.Listing.{understood}
 use Rattle.sqlite.specs.Command.{Command}

@@ -1,24 +1,8 @@
--- A table by its name.
-use Rattle.std.proofs.Common.{◌≡◌, ℕ, zero, suc, ◌+◌, List, [], ◌∷◌, ◌++◌, length, find, Bool, true, false, not, ◌&&◌, ◌||◌, is_some, Option, Some, None, option_and_then, slice_get, inl, inr, refl, sym, ap, subst, subst₂, ◌∙◌, arith, append_assoc}
+-- What is found in a list, once more stands behind it.
+use Rattle.std.proofs.Common.{◌≡◌, List, [], ◌∷◌, ◌++◌, find, Bool, true, false, not, ◌&&◌, is_some, Option, Some, None, inl, inr, refl, sym, ◌∙◌}
 use Rattle.std.proofs.lemmas.Bool.{cases_Bool}
-use Rattle.std.proofs.lemmas.List.{length-append}
 use Rattle.std.proofs.lemmas.List.Folds.{list_any-append}
-use Rattle.std.specs.List.{position_from, list_any}
-
-slice_get-middle : {X : Type 0} (pre : List X) (x : X) (xs : List X) → slice_get (pre ++ x ∷ xs) (length pre) ≡ Some x
-slice_get-middle [] x xs = refl
-slice_get-middle (y ∷ pre) x xs = slice_get-middle pre x xs
-
-found_from : {X : Type 0} (p : X → Bool) (pre xs : List X) → option_and_then (slice_get (pre ++ xs)) (position_from p (length pre) xs) ≡ find p xs
-found_from p pre [] = refl
-found_from p pre (x ∷ xs) = elim (cases_Bool (p x)) [
-  | inl hit ↦ rw hit (slice_get-middle pre x xs)
-  | inr miss ↦ rw miss (subst₂ (λ l n. option_and_then (slice_get l) (position_from p n xs) ≡ find p xs) (append_assoc pre (x ∷ []) xs) (length-append pre (x ∷ [])) (found_from p (pre ++ x ∷ []) xs))
-]
-
--- what stands at the place of the first is the first
-pub found : {X : Type 0} (p : X → Bool) (xs : List X) → option_and_then (slice_get xs) (position_from p 0 xs) ≡ find p xs
-found p xs = found_from p [] xs
+use Rattle.std.specs.List.{list_any}
 
 pub find_past : {X : Type 0} (p : X → Bool) (xs ys : List X) → find p xs ≡ None → find p (xs ++ ys) ≡ find p ys
 find_past p [] ys none = refl

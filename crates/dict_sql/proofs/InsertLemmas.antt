@@ -24,7 +24,7 @@ use Rattle.sqlite.specs.Rowids.TheVariants.{Chosen}
 use Rattle.sqlite.specs.Cast.{cast, cast_all}
 use Rattle.std.proofs.lemmas.Bool.{cases_Bool}
 use Rattle.sqlite_schema.specs.Names.{table_named}
-use Rattle.dict_sql.specs.Tables.{simple}
+use Rattle.dict_tables.specs.Tables.{simple}
 use Rattle.dict_sql.specs.Effects.{IsAdded, rows_of, table_in, shown, SameOthers}
 use Rattle.sqlite_rules.specs.Edit.{are_fresh, put_all}
 use Rattle.sqlite.specs.Does.{Tally}

@@ -7,7 +7,9 @@ use Rattle.sqlite.specs.Compile.{table_defined_by, first}
 use Rattle.sqlite.specs.Listing.{understood}
 use Rattle.sqlite_tied.specs.Compute.{everything}
 use Rattle.sqlite_syntax.specs.declared.statement.Parsed.{Parsed}
-use Rattle.dict_sql.specs.Tables.{mark, create_mark, insert_mark, item, create_item, insert_item, member, create_member, insert_member, edition, create_edition, insert_edition, entry, create_entry, insert_entry, kept, create_kept, insert_kept}
+use Rattle.dict_tables.specs.Tables.{mark, item, member, edition, entry, kept}
+use Rattle.dict_sql.specs.Creates.{create_mark, create_item, create_member, create_edition, create_entry, create_kept}
+use Rattle.dict_sql.specs.Inserts.{insert_mark, insert_item, insert_member, insert_edition, insert_entry, insert_kept}
 use Rattle.dict_sql.proofs.TextLemmas.{parsed_or, ReadsInsert}
 
 defines_mark : table_defined_by create_mark ≡ Ok (mark 0)

@@ -15,5 +15,4 @@ pub mod DeleteTexts
 pub mod CompareLemmas
 pub mod FindLemmas
 pub mod CreateLemmas
-pub mod FoundLemmas
 pub mod Callers

@@ -31,8 +31,9 @@ use Rattle.sqlite_resolve.specs.declared.state.Carried.{Carried}
 use Rattle.sqlite_value.specs.declared.keys.Key.{Key}
 use Rattle.sqlite_ast.specs.declared.Sort.{Sort}
 use Rattle.sqlite_syntax.specs.declared.statement.Parsed.{Parsed}
-use Rattle.dict_sql.specs.Effects.{equals_number, equals_text, Has, HasTable, rows_of, shown, Stops}
-use Rattle.dict_sql.specs.Tables.{edition, entry, kept}
+use Rattle.dict_tables.specs.Found.{HasTable}
+use Rattle.dict_sql.specs.Effects.{equals_number, equals_text, Has, rows_of, shown, Stops}
+use Rattle.dict_tables.specs.Tables.{edition, entry, kept}
 use Rattle.dict_sql.specs.Reads.{IsListing, IsSelection, by_columns}
 use Rattle.dict_sql.proofs.CompareLemmas.{and_true, equals_is, equals_text_is}
 use Rattle.sqlite_ast.specs.declared.Expr.{Expr}

@@ -43,7 +43,7 @@ use Rattle.sqlite_ast.specs.declared.Core.{Core, out-Core, roll-Core}
 use Rattle.sqlite_ast.specs.declared.Select.{Select, out-Select, roll-Select}
 use Rattle.sqlite_ast.specs.declared.Sort.{Sort, out-Sort, roll-Sort}
 use Rattle.sqlite_ast.specs.declared.Origin.TheVariants.{Table as Table'}
-use Rattle.dict_sql.specs.Effects.{HasTable}
+use Rattle.dict_tables.specs.Found.{HasTable}
 
 -- ---- the tree of such a text
 

@@ -26,7 +26,7 @@ use Rattle.sqlite_resolve.specs.Order.{sorts}
 use Rattle.sqlite_resolve.specs.declared.state.Carried.{Carried}
 use Rattle.sqlite_resolve.specs.Scope.{is_rowid}
 use Rattle.sqlite_schema.specs.Names.{column_named}
-use Rattle.dict_sql.specs.Tables.{needed, mark, item, member, edition, entry, kept}
+use Rattle.dict_tables.specs.Tables.{needed, mark, item, member, edition, entry, kept}
 use Rattle.dict_sql.specs.Effects.{shown}
 use Rattle.dict_sql.specs.Reads.{select_mark, select_item, select_member, select_edition, select_entry, select_kept, select_one_edition, select_some_entries, select_one_kept, by_columns}
 use Rattle.sqlite.specs.Order.{Row, column}

@@ -15,7 +15,7 @@ use Rattle.sqlite_ast.specs.declared.Conflict.TheVariants as conflict
 use Rattle.sqlite_ast.specs.declared.Rows.{Rows}
 use Rattle.sqlite_ast.specs.declared.Rows.TheVariants as rows
 use Rattle.sqlite_syntax.specs.declared.statement.Parsed.{Parsed}
-use Rattle.dict_sql.specs.Effects.{HasTable}
+use Rattle.dict_tables.specs.Found.{HasTable}
 
 abbrev pub nothing_read : Parsed
 nothing_read = record { statement = written.Empty; names = []; formats = []; start = 0; end = 0; tail = 0 }

@@ -1,8 +1,7 @@
 -- What a statement does to the rows of a table.
-use Rattle.std.specs.Prelude.{Bool, true, false, None, not, filter, pos, ◌<◌, ◌≡◌, ◌≢◌, ◌⊎◌, ⊤, IsTrue, ℕ, ℤ, ◌^◌, ◌==◌, nat_lt, List, [], ◌∷◌, map, find, Option, Some, slice_get, option_map, option_and_then, unwrap_or, IsPermutation, length}
+use Rattle.std.specs.Prelude.{Bool, true, not, filter, pos, ◌≡◌, ◌≢◌, ◌⊎◌, ⊤, IsTrue, ℕ, ℤ, List, [], ◌∷◌, map, Option, Some, slice_get, option_map, option_and_then, unwrap_or, IsPermutation, length}
 use Rattle.std.specs.List.{AllByRecursion, IsDistinct, range_with_len}
 use Rattle.std.specs.Ordering.{is_eq}
-use Rattle.sqlite_schema.specs.declared.schema.Reference.{Reference}
 use Rattle.sqlite.specs.declared.types.Value.{Value}
 use Rattle.sqlite.specs.Effect.{Database, IsDatabase}
 use Rattle.sqlite.specs.declared.types.Value.TheVariants.{Int, Text as Words}
@@ -11,20 +10,8 @@ use Rattle.sqlite.specs.State.{State, Shows, KeepsCommit, IsUnchanged, IsRolledB
 use Rattle.sqlite.specs.declared.error.Error.{Error}
 use Rattle.sqlite_trees.specs.declared.error.StoreError.{StoreError}
 use Rattle.sqlite.specs.Table.{Table}
-use Rattle.sqlite.specs.Schema.{Schema}
-use Rattle.sqlite_schema.specs.Names.{table_named, place_of, same_name}
-
-abbrev pub is_in : ℕ → Option Table → Bool
-is_in tree None = false
-is_in tree (Some t) = t.tree == tree
-
--- The schema has the table at this place of its list, the first in its tree, and no foreign key refers to it. A caller tests it over the schema that it finds.
-pub record HasTable (schema : Schema) (at : ℕ) (table : Table) : Type 0 where
-  pub named : table_named schema table.name ≡ Some at
-  pub is : slice_get schema.tables at ≡ Some table
-  pub alone : find (λ t. t.tree == table.tree) schema.tables ≡ Some table
-  pub stored : table.tree < 2 ^ 31
-  pub unreferred : AllByRecursion (λ child. AllByRecursion (λ (ref : Reference). is_in table.tree (find (λ t. same_name t.name ref.parent) schema.tables) ≡ false) child.references) schema.tables
+use Rattle.sqlite_schema.specs.Names.{table_named, place_of}
+use Rattle.dict_tables.specs.Found.{HasTable}
 
 -- the database has the table, in some tree
 abbrev pub Has : (ℕ → Table) → Database → Type 0

@@ -1,9 +1,7 @@
-pub mod Tables
+pub mod Inserts
 pub mod Records
 pub mod Effects
 pub mod Reads
 pub mod Stored
 pub mod Deletes
 pub mod Creates
-pub mod Names
-pub mod Found

@@ -3,7 +3,7 @@
 ghost use Rattle.std.specs.Prelude.{◌≡◌, false, codes, IsTrue, IfErr, OnOk};
 ghost use Rattle.sqlite.specs.State.{HasCleanDisk, Survives};
 ghost use Rattle.sqlite.specs.Held.{state};
-ghost use Rattle.dict_sql.specs.Tables.{mark, item, member, edition, entry, kept};
+ghost use Rattle.dict_tables.specs.Tables.{mark, item, member, edition, entry, kept};
 ghost use Rattle.dict_sql.specs.Effects.{FailsIn, GoesOn};
 ghost use Rattle.dict_sql.specs.Creates.{IsFree, IsMade};
 

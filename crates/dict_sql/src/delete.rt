@@ -3,7 +3,7 @@
 ghost use Rattle.std.specs.Prelude.{◌≡◌, true, false, codes, IsTrue, IfErr, OnOk};
 ghost use Rattle.sqlite.specs.State.{HasCleanDisk, Survives};
 ghost use Rattle.sqlite.specs.Held.{state};
-ghost use Rattle.dict_sql.specs.Tables.{mark, item, member, edition as edition_table, entry};
+ghost use Rattle.dict_tables.specs.Tables.{mark, item, member, edition as edition_table, entry};
 ghost use Rattle.dict_sql.specs.Effects.{Has, HasApartRowids, IsRemoved, FailsIn, GoesOn, equals_number, rows_of};
 
 use sqlite::{Alter, Error, Transaction, params};

@@ -3,7 +3,7 @@
 ghost use Rattle.std.specs.Prelude.{◌≡◌, false, codes, option_map, IsTrue, IfErr, OnOk};
 ghost use Rattle.sqlite.specs.State.{HasCleanDisk, Survives};
 ghost use Rattle.sqlite.specs.Held.{state};
-ghost use Rattle.dict_sql.specs.Tables.{mark, item, member, edition as edition_table, entry, kept};
+ghost use Rattle.dict_tables.specs.Tables.{mark, item, member, edition as edition_table, entry, kept};
 ghost use Rattle.dict_sql.specs.Records.{mark_row, item_row, member_row, edition_row, entry_row, kept_row};
 ghost use Rattle.dict_sql.specs.Effects.{Has, IsAdded, FailsIn, GoesOn};
 

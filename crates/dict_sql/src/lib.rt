@@ -4,8 +4,6 @@
 pub mod commit;
 pub mod create;
 pub mod delete;
-pub mod found;
 pub mod insert;
-pub mod names;
 pub mod read;
 pub mod records;

@@ -3,7 +3,7 @@
 ghost use Rattle.std.specs.Prelude.{◌≡◌, ℕ, false, [], ◌∷◌, map, codes, IfOk, IfErr};
 ghost use Rattle.sqlite.specs.State.{HasCleanDisk, Survives, IsUnchanged};
 ghost use Rattle.sqlite.specs.Held.{state};
-ghost use Rattle.dict_sql.specs.Tables.{mark, item, member, edition as edition_table, entry, kept};
+ghost use Rattle.dict_tables.specs.Tables.{mark, item, member, edition as edition_table, entry, kept};
 ghost use Rattle.dict_sql.specs.Stored.{stored_mark, stored_item, stored_member, stored_edition, stored_entry, stored_kept};
 ghost use Rattle.dict_sql.specs.Effects.{Has, Stops, equals_number, equals_text};
 ghost use Rattle.dict_sql.specs.Reads.{IsListing, IsSelection};

@@ -1,6 +1,7 @@
 use Rattle.std.proofs.Common.{[], ap, arith}
 use Rattle.sqlite.specs.Held.{state}
-use Rattle.dict_sql.specs.Tables.{edition, create_edition}
+use Rattle.dict_tables.specs.Tables.{edition}
+use Rattle.dict_sql.specs.Creates.{create_edition}
 use Rattle.dict_sql.proofs.StateLemmas.{inside, fails_in}
 use Rattle.dict_sql.proofs.CreateLemmas.{read_edition, reads_edition, makes}
 use Rattle.dict_sql.proofs.create.create_edition.Goals as goal

@@ -1,6 +1,7 @@
 use Rattle.std.proofs.Common.{[], ap, arith}
 use Rattle.sqlite.specs.Held.{state}
-use Rattle.dict_sql.specs.Tables.{entry, create_entry}
+use Rattle.dict_tables.specs.Tables.{entry}
+use Rattle.dict_sql.specs.Creates.{create_entry}
 use Rattle.dict_sql.proofs.StateLemmas.{inside, fails_in}
 use Rattle.dict_sql.proofs.CreateLemmas.{read_entry, reads_entry, makes}
 use Rattle.dict_sql.proofs.create.create_entry.Goals as goal

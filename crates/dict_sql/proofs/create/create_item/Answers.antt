@@ -1,6 +1,7 @@
 use Rattle.std.proofs.Common.{[], ap, arith}
 use Rattle.sqlite.specs.Held.{state}
-use Rattle.dict_sql.specs.Tables.{item, create_item}
+use Rattle.dict_tables.specs.Tables.{item}
+use Rattle.dict_sql.specs.Creates.{create_item}
 use Rattle.dict_sql.proofs.StateLemmas.{inside, fails_in}
 use Rattle.dict_sql.proofs.CreateLemmas.{read_item, reads_item, makes}
 use Rattle.dict_sql.proofs.create.create_item.Goals as goal

@@ -1,6 +1,7 @@
 use Rattle.std.proofs.Common.{[], ap, arith}
 use Rattle.sqlite.specs.Held.{state}
-use Rattle.dict_sql.specs.Tables.{kept, create_kept}
+use Rattle.dict_tables.specs.Tables.{kept}
+use Rattle.dict_sql.specs.Creates.{create_kept}
 use Rattle.dict_sql.proofs.StateLemmas.{inside, fails_in}
 use Rattle.dict_sql.proofs.CreateLemmas.{read_kept, reads_kept, makes}
 use Rattle.dict_sql.proofs.create.create_kept.Goals as goal

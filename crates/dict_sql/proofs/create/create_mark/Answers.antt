@@ -1,6 +1,7 @@
 use Rattle.std.proofs.Common.{[], ap, arith}
 use Rattle.sqlite.specs.Held.{state}
-use Rattle.dict_sql.specs.Tables.{mark, create_mark}
+use Rattle.dict_tables.specs.Tables.{mark}
+use Rattle.dict_sql.specs.Creates.{create_mark}
 use Rattle.dict_sql.proofs.StateLemmas.{inside, fails_in}
 use Rattle.dict_sql.proofs.CreateLemmas.{read_mark, reads_mark, makes}
 use Rattle.dict_sql.proofs.create.create_mark.Goals as goal

@@ -1,6 +1,7 @@
 use Rattle.std.proofs.Common.{[], ap, arith}
 use Rattle.sqlite.specs.Held.{state}
-use Rattle.dict_sql.specs.Tables.{member, create_member}
+use Rattle.dict_tables.specs.Tables.{member}
+use Rattle.dict_sql.specs.Creates.{create_member}
 use Rattle.dict_sql.proofs.StateLemmas.{inside, fails_in}
 use Rattle.dict_sql.proofs.CreateLemmas.{read_member, reads_member, makes}
 use Rattle.dict_sql.proofs.create.create_member.Goals as goal

@@ -1,6 +1,6 @@
 use Rattle.std.proofs.Common.{true, [], refl, ap, arith}
 use Rattle.sqlite.specs.Held.{state}
-use Rattle.dict_sql.specs.Tables.{item}
+use Rattle.dict_tables.specs.Tables.{item}
 use Rattle.dict_sql.specs.Deletes.{delete_item}
 use Rattle.dict_sql.proofs.StateLemmas.{inside, fails_in}
 use Rattle.dict_sql.proofs.DeleteTexts.{read_item, reads_item, removes_rows}

@@ -1,6 +1,6 @@
 use Rattle.std.proofs.Common.{true, [], refl, ap, arith}
 use Rattle.sqlite.specs.Held.{state}
-use Rattle.dict_sql.specs.Tables.{member}
+use Rattle.dict_tables.specs.Tables.{member}
 use Rattle.dict_sql.specs.Deletes.{delete_member}
 use Rattle.dict_sql.proofs.StateLemmas.{inside, fails_in}
 use Rattle.dict_sql.proofs.DeleteTexts.{read_member, reads_member, removes_rows}

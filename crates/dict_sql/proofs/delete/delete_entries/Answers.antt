@@ -2,7 +2,7 @@ use Rattle.std.proofs.Common.{pos, [], ◌∷◌, refl, ap, arith}
 use Rattle.sqlite.specs.Held.{state}
 use Rattle.sqlite.specs.declared.types.Value.TheVariants.{Int}
 use Rattle.dict_sql.specs.Effects.{equals_number}
-use Rattle.dict_sql.specs.Tables.{entry}
+use Rattle.dict_tables.specs.Tables.{entry}
 use Rattle.dict_sql.specs.Deletes.{delete_entry}
 use Rattle.dict_sql.proofs.StateLemmas.{inside, fails_in}
 use Rattle.dict_sql.proofs.DeleteTexts.{read_entry, reads_entry, removes_rows, entry_goes}

@@ -1,6 +1,6 @@
 use Rattle.sqlite.specs.Held.{state}
 use Rattle.std.proofs.Common.{ap, arith}
-use Rattle.dict_sql.specs.Tables.{insert_edition}
+use Rattle.dict_sql.specs.Inserts.{insert_edition}
 use Rattle.dict_sql.specs.Records.{Edition, edition_row}
 use Rattle.dict_sql.proofs.StateLemmas.{inside, fails_in}
 use Rattle.dict_sql.proofs.AddLemmas.{adds_edition}

@@ -1,6 +1,6 @@
 use Rattle.sqlite.specs.Held.{state}
 use Rattle.std.proofs.Common.{ap, arith, option_map}
-use Rattle.dict_sql.specs.Tables.{insert_item}
+use Rattle.dict_sql.specs.Inserts.{insert_item}
 use Rattle.dict_sql.specs.Records.{Item, item_row}
 use Rattle.dict_sql.proofs.StateLemmas.{inside, fails_in}
 use Rattle.dict_sql.proofs.AddLemmas.{adds_item, bound_number, bound_text}

@@ -1,6 +1,6 @@
 use Rattle.sqlite.specs.Held.{state}
 use Rattle.std.proofs.Common.{ap, arith}
-use Rattle.dict_sql.specs.Tables.{insert_member}
+use Rattle.dict_sql.specs.Inserts.{insert_member}
 use Rattle.dict_sql.specs.Records.{Member, member_row}
 use Rattle.dict_sql.proofs.StateLemmas.{inside, fails_in}
 use Rattle.dict_sql.proofs.AddLemmas.{adds_member}

@@ -1,6 +1,6 @@
 use Rattle.std.proofs.Common.{[], true, codes, refl, arith}
 use Rattle.sqlite.specs.Held.{state}
-use Rattle.dict_sql.specs.Tables.{entry}
+use Rattle.dict_tables.specs.Tables.{entry}
 use Rattle.dict_sql.specs.Reads.{select_entry}
 use Rattle.dict_sql.proofs.ReadTexts.{read_entry, reads_entry}
 use Rattle.dict_sql.proofs.ListingLemmas.{lists_whole, selects, fails_to_list, reads_nothing_else}

@@ -1,7 +1,7 @@
 use Rattle.std.proofs.Common.{[], ◌∷◌, refl, arith, pos}
 use Rattle.sqlite.specs.Held.{state}
 use Rattle.sqlite.specs.declared.types.Value.TheVariants.{Int}
-use Rattle.dict_sql.specs.Tables.{edition}
+use Rattle.dict_tables.specs.Tables.{edition}
 use Rattle.dict_sql.specs.Effects.{equals_number}
 use Rattle.dict_sql.specs.Reads.{select_one_edition}
 use Rattle.dict_sql.proofs.ReadTexts.{read_one_edition, reads_one_edition}

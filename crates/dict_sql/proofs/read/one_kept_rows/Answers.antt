@@ -1,7 +1,7 @@
 use Rattle.std.proofs.Common.{[], ◌∷◌, refl, arith}
 use Rattle.sqlite.specs.Held.{state}
 use Rattle.sqlite.specs.declared.types.Value.TheVariants.{Text}
-use Rattle.dict_sql.specs.Tables.{kept}
+use Rattle.dict_tables.specs.Tables.{kept}
 use Rattle.dict_sql.specs.Effects.{equals_text}
 use Rattle.dict_sql.specs.Reads.{select_one_kept}
 use Rattle.dict_sql.proofs.ReadTexts.{read_one_kept, reads_one_kept}

@@ -1,9 +1,9 @@
 use Rattle.std.proofs.Common.{◌≡◌, Some, codes, slice_get, rules, sym, ap, subst, IsTrue}
 use Rattle.sqlite.specs.Table.{Table}
-use Rattle.dict_sql.specs.Tables.{kept}
-use Rattle.dict_sql.specs.Effects.{HasTable}
-use Rattle.dict_sql.proofs.FoundLemmas.{is_found}
-use Rattle.dict_sql.proofs.found.has_kept.Goals as goal
+use Rattle.dict_tables.specs.Tables.{kept}
+use Rattle.dict_tables.specs.Found.{HasTable}
+use Rattle.dict_tables.proofs.FoundLemmas.{is_found}
+use Rattle.dict_tables.proofs.found.has_kept.Goals as goal
 
 pub returns-then-is_kept : goal.returns-then-is_kept
 returns-then-is_kept c held =

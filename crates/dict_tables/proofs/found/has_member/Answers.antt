@@ -1,9 +1,9 @@
 use Rattle.std.proofs.Common.{◌≡◌, Some, codes, slice_get, rules, sym, ap, subst, IsTrue}
 use Rattle.sqlite.specs.Table.{Table}
-use Rattle.dict_sql.specs.Tables.{member}
-use Rattle.dict_sql.specs.Effects.{HasTable}
-use Rattle.dict_sql.proofs.FoundLemmas.{is_found}
-use Rattle.dict_sql.proofs.found.has_member.Goals as goal
+use Rattle.dict_tables.specs.Tables.{member}
+use Rattle.dict_tables.specs.Found.{HasTable}
+use Rattle.dict_tables.proofs.FoundLemmas.{is_found}
+use Rattle.dict_tables.proofs.found.has_member.Goals as goal
 
 pub returns-then-is_member : goal.returns-then-is_member
 returns-then-is_member c held =

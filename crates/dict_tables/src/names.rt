@@ -5,7 +5,7 @@ ghost use Rattle.std.specs.List.{list_any};
 ghost use Rattle.sqlite.specs.Rows.{sequence};
 ghost use Rattle.sqlite.specs.Change.{is_used};
 ghost use Rattle.sqlite.specs.Does.{lacks_sequence};
-ghost use Rattle.dict_sql.specs.Names.{has_own_prefix, has_prefixed, uses_table_name};
+ghost use Rattle.dict_tables.specs.Names.{has_own_prefix, has_prefixed, uses_table_name};
 
 use sqlite_schema::names::same_name;
 use sqlite_schema::schema::Schema;

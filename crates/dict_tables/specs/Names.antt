@@ -1,5 +1,5 @@
 -- The names that are the product's.
-use Rattle.std.specs.Prelude.{ℕ, Bool, ◌||◌, List, [], ◌∷◌, codes, take}
+use Rattle.std.specs.Prelude.{ℕ, Bool, ◌||◌, List, codes, take}
 use Rattle.std.specs.List.{list_any}
 use Rattle.sqlite.specs.Schema.{Schema}
 use Rattle.sqlite.specs.Change.{is_used}

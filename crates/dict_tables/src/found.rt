@@ -4,11 +4,11 @@ ghost use Rattle.std.specs.Prelude.{true, false, ◌≡◌, ◌<◌, ◌^◌, �
 ghost use Rattle.std.specs.List.{list_any, position_from};
 ghost use Rattle.sqlite_schema.specs.Names.{table_named};
 ghost use Rattle.sqlite_schema.specs.declared.schema.Reference.{Reference as SqlReference};
-ghost use Rattle.dict_sql.specs.Effects.{HasTable, is_in};
-ghost use Rattle.dict_sql.specs.Found.{IsAlone};
+ghost use Rattle.dict_tables.specs.Found.{HasTable, is_in};
+ghost use Rattle.dict_tables.specs.Found.{IsAlone};
 ghost use Rattle.sqlite_value.specs.Keys.{plain};
 ghost use Rattle.sqlite.specs.Kind.TheVariants.{Integer};
-ghost use Rattle.dict_sql.specs.Tables.{mark, item, member, edition as edition_table, entry, kept, column_of};
+ghost use Rattle.dict_tables.specs.Tables.{mark, item, member, edition as edition_table, entry, kept, column_of};
 
 use sqlite_items::Items;
 use sqlite_schema::schema::{Column, Kind, Reference, Schema, Table};

@@ -1,14 +1,13 @@
 -- From the tests of a found schema to what the statements ask of it.
-use Rattle.std.proofs.Common.{◌≡◌, ◌==◌, ◌<◌, ◌^◌, ℕ, List, [], ◌∷◌, find, Bool, true, false, ◌||◌, Option, Some, None, option_and_then, slice_get, inl, inr, refl, sym, ap, subst, ◌∙◌}
-use Rattle.std.proofs.lemmas.Bool.{cases_Bool}
-use Rattle.std.specs.List.{AllByRecursion, list_any, position_from}
+use Rattle.std.proofs.Common.{◌≡◌, ◌==◌, ℕ, List, [], ◌∷◌, find, Bool, true, false, ◌||◌, Some, option_and_then, slice_get, refl, sym, ap, subst, ◌∙◌}
+use Rattle.std.specs.List.{AllByRecursion, list_any}
 use Rattle.sqlite.specs.Schema.{Schema}
 use Rattle.sqlite.specs.Table.{Table}
 use Rattle.sqlite_schema.specs.Names.{table_named, same_name}
 use Rattle.sqlite_schema.specs.declared.schema.Reference.{Reference}
-use Rattle.dict_sql.specs.Effects.{HasTable, is_in}
-use Rattle.dict_sql.specs.Found.{IsAlone}
-use Rattle.dict_sql.proofs.FindLemmas.{found}
+use Rattle.dict_tables.specs.Found.{HasTable, is_in}
+use Rattle.dict_tables.specs.Found.{IsAlone}
+use Rattle.dict_tables.proofs.PlaceLemmas.{found}
 
 neither : (a b : Bool) → (a || b) ≡ false → (a ≡ false) × (b ≡ false)
 neither false b h = (refl, h)
