@@ -1,6 +1,5 @@
-use Rattle.std.proofs.Common.{◌≡◌, ◌∙◌, refl, sym, subst, arith, length, rules}
+use Rattle.std.proofs.Common.{◌≡◌, ◌∙◌, sym, subst, arith, length, rules}
 use Rattle.std.proofs.lemmas.Str.{IsUtf8-string_bytes}
-use Rattle.sqlite.specs.Order.{column}
 use Rattle.dict_sql.specs.Stored.{HasColumns, edition_columns}
 use Rattle.dict_sql.proofs.RowLemmas.{cells}
 use Rattle.dict_sql.proofs.records.EditionRecord.from_row.Goals as goal
