@@ -19,3 +19,4 @@ pub mod FindLemmas
 pub mod CreateLemmas
 pub mod DropLemmas
 pub mod Callers
+pub mod NumberLemmas

@@ -1,5 +1,5 @@
 -- What a text that reads a table whole answers.
-use Rattle.std.proofs.Common.{◌≡◌, ℕ, ◌^◌, ◌+◌, nat_le, get_or, List, [], ◌∷◌, map, filter, Bool, true, false, Ok, Err, None, Result, Option, pos, IfOk, arith, inl, inr, refl, sym, ap, subst, ◌∙◌}
+use Rattle.std.proofs.Common.{◌≡◌, ℕ, ◌^◌, ◌+◌, nat_le, get_or, List, [], ◌∷◌, map, filter, Bool, true, false, Ok, Err, None, Result, Option, IfOk, arith, inl, inr, refl, sym, ap, subst, ◌∙◌, ℤ}
 use Rattle.std.proofs.lemmas.Bool.{lt-leb, cases_Bool}
 use Rattle.std.specs.List.Sorted.{IsPermutation, IsSorted}
 use Rattle.std.specs.Ordering.{is_lt}
@@ -20,7 +20,7 @@ use Rattle.sqlite.specs.State.{State, Shown, ShowsRows, HasCleanDisk, Survives, 
 use Rattle.sqlite.specs.declared.error.Error.{Error}
 use Rattle.sqlite.proofs.StateLemmas.{survives_weaker}
 use Rattle.std.specs.declared.alloc.Global.{Global}
-use Rattle.std.specs.Prelude.{Vec}
+use Rattle.std.specs.Prelude.{Vec, ℤ}
 use Rattle.sqlite.specs.Clock.{timed}
 use Rattle.sqlite.proofs.Callers.{IsPlain, command_of, reads_as, never_commits}
 use Rattle.sqlite_resolve.specs.Lowering.{nothing}
@@ -120,10 +120,10 @@ pub lists_whole : (name : List ℕ) (columns : List ℕ) (old new : State) (resu
 lists_whole name columns old new (Err e) h = tt
 lists_whole name columns old new (Ok rows) h = (record { same = subst (λ l. IsPermutation l rows.items) (all_pass (rows_of name old.now)) h.0.same; sorted = h.0.sorted }, h.1)
 
-pub edition_read : (tree n : ℕ) (row : Row) → passes (Int (pos n) ∷ []) test_one_edition row ≡ equals_number 1 n (shown (edition tree) row)
+pub edition_read : (tree : ℕ) (n : ℤ) (row : Row) → passes (Int n ∷ []) test_one_edition row ≡ equals_number 1 n (shown (edition tree) row)
 edition_read tree n row = and_true _ ∙ equals_is (column row 0) n
 
-pub entry_read : (tree n : ℕ) (row : Row) → passes (Int (pos n) ∷ []) test_some_entries row ≡ equals_number 1 n (shown (entry tree) row)
+pub entry_read : (tree : ℕ) (n : ℤ) (row : Row) → passes (Int n ∷ []) test_some_entries row ≡ equals_number 1 n (shown (entry tree) row)
 entry_read tree n row = and_true _ ∙ equals_is (column row 1) n
 
 pub kept_read : (tree : ℕ) (id : List ℕ) (row : Row) → passes (Text id ∷ []) test_one_kept row ≡ equals_text 1 id (shown (kept tree) row)

@@ -1,5 +1,5 @@
 -- Why a text that reads a table is refused: by the store, or at the limit on steps.
-use Rattle.std.proofs.Common.{◌≡◌, ◌≢◌, ◌⊎◌, ◌≤◌, ◌==◌, ◌^◌, ℕ, pos, List, [], ◌∷◌, length, find, nat_le, true, false, Ok, Err, Some, None, Option, Result, IsSome, IfErr, Vec, inl, inr, refl, sym, subst, subst₂, ◌∙◌, append-nil, lit≤}
+use Rattle.std.proofs.Common.{◌≡◌, ◌≢◌, ◌⊎◌, ◌≤◌, ◌==◌, ◌^◌, ℕ, List, [], ◌∷◌, length, find, nat_le, true, false, Ok, Err, Some, None, Option, Result, IsSome, IfErr, Vec, inl, inr, refl, sym, subst, subst₂, ◌∙◌, append-nil, lit≤, ℤ}
 use Rattle.std.proofs.lemmas.Bool.{lt-leb}
 use Rattle.std.specs.declared.alloc.Global.{Global}
 use Rattle.sqlite.specs.Order.{Row}
@@ -44,8 +44,8 @@ pub record Takes {X : Type 0} (text : List ℕ) (p : Parsed) (table : ℕ → Ta
 abbrev pub nothing : Unit {0} → Row
 nothing _ = []
 
-abbrev pub a_number : ℕ → Row
-a_number n = Int (pos n) ∷ []
+abbrev pub a_number : ℤ → Row
+a_number n = Int n ∷ []
 
 abbrev pub a_text : List ℕ → Row
 a_text t = Text t ∷ []

@@ -1,5 +1,5 @@
 -- A row from its columns.
-use Rattle.std.proofs.Common.{◌≡◌, inl, inr, ℕ, pos, suc, ◌+◌, ◌<◌, ◌^◌, [], ◌∷◌, map, length, refl, sym, ap, subst, ◌∙◌, arith, add-zero, Option, Some, None, MatchOption, IfSome, ◌≢◌, String, string_bytes}
+use Rattle.std.proofs.Common.{◌≡◌, inl, inr, ℕ, suc, ◌+◌, ◌<◌, ◌^◌, [], ◌∷◌, map, length, refl, sym, ap, subst, ◌∙◌, arith, add-zero, Option, Some, None, MatchOption, IfSome, ◌≢◌, String, string_bytes, ℤ}
 use Rattle.std.proofs.lemmas.Str.{IsUtf8-string_bytes}
 use Rattle.sqlite.specs.declared.types.Value.{Value}
 use Rattle.sqlite.specs.declared.types.Value.TheVariants.{Null, Int, Text}
@@ -25,9 +25,9 @@ pub read_or_null : {X : Type 0} (f : X → Value) (v : Value) (o : Option X) →
 read_or_null f v None h = h
 read_or_null f v (Some x) h = h.1
 
-pub number_or_null : (v : Value) (o : Option ℕ) → MatchOption o (v ≡ Null) (λ n. (v ≢ Null) × (v ≡ Int (pos n))) → IfSome o (λ n. n < 2 ^ 32) → Holds NumberOrNull v
-number_or_null v None h low = inl h
-number_or_null v (Some n) h low = inr (n, h.1, low)
+pub number_or_null : (v : Value) (o : Option ℤ) → MatchOption o (v ≡ Null) (λ n. (v ≢ Null) × (v ≡ Int n)) → Holds NumberOrNull v
+number_or_null v None h = inl h
+number_or_null v (Some n) h = inr (n, h.1)
 
 pub text_or_null : {Z : Type 0} (v : Value) (o : Option (String Z)) → MatchOption o (v ≡ Null) (λ s. (v ≢ Null) × (v ≡ Text (string_bytes s))) → Holds NameOrNull v
 text_or_null v None h = inl h

@@ -1,5 +1,5 @@
 -- What follows of rows that are read one at a time.
-use Rattle.std.proofs.Common.{◌≡◌, ◌≢◌, ◌++◌, ℕ, pos, List, [], ◌∷◌, codes, true, Ok, Err, Some, None, Option, Result, IfOk, IfErr, OnErr, IsErrAnd, inr, refl, sym, ap, subst, arith}
+use Rattle.std.proofs.Common.{◌≡◌, ◌≢◌, ◌++◌, ℕ, List, [], ◌∷◌, codes, true, Ok, Err, Some, None, Option, Result, IfOk, IfErr, OnErr, IsErrAnd, inr, refl, sym, ap, subst, arith}
 use Rattle.std.proofs.lemmas.List.Sorted.{IsPermutation-sym, Contains-permutation}
 use Rattle.std.specs.List.Sorted.{IsPermutation}
 use Rattle.sqlite.specs.Order.{Row}
@@ -34,7 +34,7 @@ whole name columns db rows h = record { same = subst (λ l. IsPermutation l rows
 shows : (what : Reading) (old new : State) (rows : List Row) → Has (table_of what) old.now → Shown (text_of what) (values_of what) old new rows → IsWhole what old.now rows
 shows AllEditions old new rows has h = whole (codes "edition") _ old.now rows (shown_selects select_edition read_edition edition _ _ _ _ _ _ _ _ reads_edition (λ tree. refl) [] (λ _. true) (λ tree row. refl) old new rows has h).0
 shows AllEntries old new rows has h = whole (codes "entry") _ old.now rows (shown_selects select_entry read_entry entry _ _ _ _ _ _ _ _ reads_entry (λ tree. refl) [] (λ _. true) (λ tree row. refl) old new rows has h).0
-shows (EntriesOf n) old new rows has h = (shown_selects select_some_entries read_some_entries entry _ _ _ _ _ _ _ _ reads_some_entries (λ tree. refl) (Int (pos n) ∷ []) (equals_number 1 n) (λ tree row. entry_read tree n row) old new rows has h).0
+shows (EntriesOf n) old new rows has h = (shown_selects select_some_entries read_some_entries entry _ _ _ _ _ _ _ _ reads_some_entries (λ tree. refl) (Int n ∷ []) (equals_number 1 n) (λ tree row. entry_read tree n row) old new rows has h).0
 shows AllKept old new rows has h = whole (codes "kept") _ old.now rows (shown_selects select_kept read_kept kept _ _ _ _ _ _ _ _ reads_kept (λ tree. refl) [] (λ _. true) (λ tree row. refl) old new rows has h).0
 
 plainly : (what : Reading) (db : Database) → Has (table_of what) db → IsPlain (understood db.schema (text_of what))

@@ -1,5 +1,5 @@
 -- What is read row by row, and what it has given so far.
-use Rattle.std.specs.Prelude.{◌≡◌, ◌≢◌, ◌⊎◌, ℕ, pos, false, List, [], ◌∷◌, ◌++◌, codes, Option, Some, None, Result, IfErr}
+use Rattle.std.specs.Prelude.{◌≡◌, ◌≢◌, ◌⊎◌, ℕ, false, List, [], ◌∷◌, ◌++◌, codes, Option, Some, None, Result, IfErr, ℤ}
 use Rattle.sqlite.specs.declared.types.Value.TheVariants.{Int}
 use Rattle.sqlite.specs.declared.error.Error.{Error}
 use Rattle.sqlite.specs.declared.error.Error.TheVariants.{SqliteFailure}
@@ -19,7 +19,7 @@ use Rattle.dict_sql.specs.Reads.{IsListing, IsSelection, FailsToRead, select_edi
 pub data Reading : Type 0 where
   AllEditions : Reading
   AllEntries : Reading
-  EntriesOf : ℕ → Reading
+  EntriesOf : ℤ → Reading
   AllKept : Reading
 
 abbrev pub table_of : Reading → ℕ → Table
@@ -36,7 +36,7 @@ text_of (EntriesOf number) = select_some_entries
 text_of AllKept = select_kept
 
 abbrev pub values_of : Reading → Row
-values_of (EntriesOf number) = Int (pos number) ∷ []
+values_of (EntriesOf number) = Int number ∷ []
 values_of _ = []
 
 -- all rows that are read, in their order

@@ -91,7 +91,7 @@ pub fn members<S: Alter>(alloc: Global, conn: &mut Connection<S>) -> Result<Vec<
     records_of(alloc, &rows)
 }
 
-fn one_edition_rows<S: Alter>(conn: &mut Connection<S>, number: u32) -> Result<Vec<Row>, Error>
+fn one_edition_rows<S: Alter>(conn: &mut Connection<S>, number: i64) -> Result<Vec<Row>, Error>
     requires { HasCleanDisk (state S.Store conn.old) → Has edition_table (state S.Store conn.old).now }
     ensures selected { HasCleanDisk (state S.Store conn.new) → IfOk result (λ rows. IsSelection (codes "edition") (equals_number 1 number) (1 ∷ []) (state S.Store conn.old).now rows.items × IsUnchanged (state S.Store conn.old) (state S.Store conn.new)) }
     ensures failed { HasCleanDisk (state S.Store conn.new) → IfErr result (FailsToRead (state S.Store conn.old) (state S.Store conn.new)) }
@@ -108,7 +108,7 @@ fn one_edition_rows<S: Alter>(conn: &mut Connection<S>, number: u32) -> Result<V
 pub fn editions_numbered<S: Alter>(
     alloc: Global,
     conn: &mut Connection<S>,
-    number: u32,
+    number: i64,
 ) -> Result<Vec<Edition>, Error>
     requires { HasCleanDisk (state S.Store conn.old) → Has edition_table (state S.Store conn.old).now }
     ensures selected { HasCleanDisk (state S.Store conn.new) → IfOk result (λ all. IsSelection (codes "edition") (equals_number 1 number) (1 ∷ []) (state S.Store conn.old).now (map stored_edition all.items) × IsUnchanged (state S.Store conn.old) (state S.Store conn.new)) }

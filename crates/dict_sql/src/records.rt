@@ -25,10 +25,10 @@ pub trait Record: Sized {
 #[derive(Drop)]
 pub struct Mark {
     pub rowid: i64,
-    pub id: u32,
+    pub id: i64,
     pub magic: String,
-    pub version: u32,
-    pub installs: u32,
+    pub version: i64,
+    pub installs: i64,
 }
 
 impl Record for Mark {
@@ -54,12 +54,12 @@ impl Record for Mark {
 #[derive(Drop)]
 pub struct Item {
     pub rowid: i64,
-    pub place: u32,
+    pub place: i64,
     pub name: String,
-    pub kind: u32,
+    pub kind: i64,
     pub title: Option<String>,
-    pub current: Option<u32>,
-    pub former: Option<u32>,
+    pub current: Option<i64>,
+    pub former: Option<i64>,
 }
 
 impl Record for Item {
@@ -88,7 +88,7 @@ impl Record for Item {
 pub struct Member {
     pub rowid: i64,
     pub owner: String,
-    pub ord: u32,
+    pub ord: i64,
     pub name: String,
 }
 
@@ -114,7 +114,7 @@ impl Record for Member {
 #[derive(Drop)]
 pub struct Edition {
     pub rowid: i64,
-    pub number: u32,
+    pub number: i64,
     pub owner: String,
     pub title: String,
     pub info: String,
@@ -145,11 +145,11 @@ impl Record for Edition {
 #[derive(Drop)]
 pub struct Entry {
     pub rowid: i64,
-    pub edition: u32,
-    pub ord: u32,
+    pub edition: i64,
+    pub ord: i64,
     pub headword: String,
-    pub start: u32,
-    pub length: u32,
+    pub start: i64,
+    pub length: i64,
 }
 
 impl Record for Entry {
@@ -177,10 +177,10 @@ impl Record for Entry {
 pub struct Kept {
     pub rowid: i64,
     pub id: String,
-    pub number: u32,
+    pub number: i64,
     pub verb: String,
     pub name: String,
-    pub edition: Option<u32>,
+    pub edition: Option<i64>,
 }
 
 impl Record for Kept {

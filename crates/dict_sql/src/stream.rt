@@ -50,7 +50,7 @@ pub fn read_entries<S: Alter>(conn: &mut Connection<S>) -> Result<Rows<'_, S>, E
 /// An error is the store's, or tells that the limit on steps was met.
 pub fn read_entries_of<S: Alter>(
     conn: &mut Connection<S>,
-    edition: u32,
+    edition: i64,
 ) -> Result<Rows<'_, S>, Error>
     requires { HasCleanDisk (state S.Store conn.old) → Has entry (state S.Store conn.old).now }
     ensures* refused { sem 𝓛 (RestsIfErr (the_row S.row S.Store) conn.entry (λ rows. rows.conn.ghost_name) result (IsNotBegun S.Store conn.old result)) }

@@ -15,4 +15,4 @@ returns-clause-lawful c =
     let row = c.args.row.now in
     let wide : length row ≡ 6 = omega (arith, c.column_count.ensures) in
     subst (HasColumns entry_columns) (sym (cells row 6 wide))
-    ((_, c.in_ok-get.ensures.ok.1), ((_, c.in_ok-get-2.ensures.ok.1, search rules), ((_, c.in_ok-get-3.ensures.ok.1, search rules), ((_, c.in_ok-get-4.ensures.ok.1, IsUtf8-string_bytes c.in_ok-get-4.field-0), ((_, c.in_ok-get-5.ensures.ok.1, search rules), ((_, c.in_ok-get-6.ensures.ok.1, search rules), tt))))))
+    ((_, c.in_ok-get.ensures.ok.1), ((_, c.in_ok-get-2.ensures.ok.1), ((_, c.in_ok-get-3.ensures.ok.1), ((_, c.in_ok-get-4.ensures.ok.1, IsUtf8-string_bytes c.in_ok-get-4.field-0), ((_, c.in_ok-get-5.ensures.ok.1), ((_, c.in_ok-get-6.ensures.ok.1), tt))))))

@@ -15,4 +15,4 @@ returns-clause-lawful c =
     let row = c.args.row.now in
     let wide : length row ≡ 4 = omega (arith, c.column_count.ensures) in
     subst (HasColumns member_columns) (sym (cells row 4 wide))
-    ((_, c.in_ok-get.ensures.ok.1), ((_, c.in_ok-get-2.ensures.ok.1, IsUtf8-string_bytes c.in_ok-get-2.field-0), ((_, c.in_ok-get-3.ensures.ok.1, search rules), ((_, c.in_ok-get-4.ensures.ok.1, IsUtf8-string_bytes c.in_ok-get-4.field-0), tt))))
+    ((_, c.in_ok-get.ensures.ok.1), ((_, c.in_ok-get-2.ensures.ok.1, IsUtf8-string_bytes c.in_ok-get-2.field-0), ((_, c.in_ok-get-3.ensures.ok.1), ((_, c.in_ok-get-4.ensures.ok.1, IsUtf8-string_bytes c.in_ok-get-4.field-0), tt))))
