@@ -1,5 +1,5 @@
 -- What the INSERT of one record of each table does.
-use Rattle.std.proofs.Common.{◌≡◌, ℕ, pos, List, [], ◌∷◌, codes, Option, Some, None, Ok, refl, option_map}
+use Rattle.std.proofs.Common.{◌≡◌, ℕ, pos, List, [], ◌∷◌, codes, Option, Some, None, Ok, refl, option_map, ℤ}
 use Rattle.sqlite.specs.Values.{or_null, bound_value}
 use Rattle.sqlite.specs.declared.types.Value.TheVariants.{Null, Int, Text, Blob}
 use Rattle.sqlite.specs.Kind.TheVariants.{Integer, Text as OfText}
@@ -17,16 +17,16 @@ use Rattle.dict_sql.proofs.InsertLemmas.{adds_chosen, adds_given, cast_int, cast
 use Rattle.dict_sql.proofs.TextLemmas.{insert_command, insert_plain}
 use Rattle.dict_sql.proofs.InsertTexts.{mark_terms, read_mark, reads_mark, item_terms, read_item, reads_item, member_terms, read_member, reads_member, edition_terms, read_edition, reads_edition, entry_terms, read_entry, reads_entry, kept_terms, read_kept, reads_kept}
 
-cast_number : (o : Option ℕ) → cast Integer (number_or_null o) ≡ number_or_null o
+cast_number : (o : Option ℤ) → cast Integer (number_or_null o) ≡ number_or_null o
 cast_number None = cast_null
-cast_number (Some n) = cast_int (pos n)
+cast_number (Some n) = cast_int n
 
 cast_text : (o : Option (List ℕ)) → cast OfText (text_or_null o) ≡ text_or_null o
 cast_text None = refl
 cast_text (Some t) = refl
 
 -- the values that are bound for an `Option`
-pub bound_number : (o : Option ℕ) → bound_value (or_null (λ n. Int (pos n)) o) ≡ number_or_null o
+pub bound_number : (o : Option ℤ) → bound_value (or_null Int o) ≡ number_or_null o
 bound_number None = refl
 bound_number (Some n) = refl
 
@@ -41,7 +41,7 @@ adds_mark old new m count has h =
     let s = old.now.schema in
     let w = runs_as insert_mark (mark_row m) old new s refl (Insert at (Values mark_terms 5)) (insert_command insert_mark read_mark mark (Values mark_terms 5) reads_mark s at tree has.2) (insert_plain insert_mark read_mark mark (Values mark_terms 5) reads_mark s at tree has.2) count h in
     adds_given old new at (codes "mark") tree (mark tree).columns (mark tree).key (mark tree).primary (mark tree).uniques (mark tree).orders has.2.named has.2.is mark_terms 5 (statement_of insert_mark (understood s insert_mark)) (mark_row m)
-    (Int (pos 1) ∷ Null ∷ Text m.magic ∷ Int (pos m.version) ∷ Int (pos m.installs) ∷ []) count refl (pos 1) (Null ∷ Text m.magic ∷ Int (pos m.version) ∷ Int (pos m.installs) ∷ []) (mark_row m) refl (rw (cast_int (pos m.version), cast_int (pos m.installs)) refl) w
+    (Int (pos 1) ∷ Null ∷ Text m.magic ∷ Int m.version ∷ Int m.installs ∷ []) count refl (pos 1) (Null ∷ Text m.magic ∷ Int m.version ∷ Int m.installs ∷ []) (mark_row m) refl (rw (cast_int m.version, cast_int m.installs) refl) w
 
 pub adds_item : (old new : State) (i : Item) (count : ℕ) → Has item old.now → Executes insert_item (item_row i) old new (Ok count) → IsAdded (codes "item") (item_row i) old.now new.now
 adds_item old new i count has h =
@@ -50,7 +50,7 @@ adds_item old new i count has h =
     let s = old.now.schema in
     let w = runs_as insert_item (item_row i) old new s refl (Insert at (Values item_terms 7)) (insert_command insert_item read_item item (Values item_terms 7) reads_item s at tree has.2) (insert_plain insert_item read_item item (Values item_terms 7) reads_item s at tree has.2) count h in
     adds_given old new at (codes "item") tree (item tree).columns (item tree).key (item tree).primary (item tree).uniques (item tree).orders has.2.named has.2.is item_terms 7 (statement_of insert_item (understood s insert_item)) (item_row i)
-    (Int (pos i.place) ∷ Null ∷ Text i.name ∷ Int (pos i.kind) ∷ text_or_null i.title ∷ number_or_null i.current ∷ number_or_null i.former ∷ []) count refl (pos i.place) (Null ∷ Text i.name ∷ Int (pos i.kind) ∷ text_or_null i.title ∷ number_or_null i.current ∷ number_or_null i.former ∷ []) (item_row i) refl (rw (cast_int (pos i.kind), cast_text i.title, cast_number i.current, cast_number i.former) refl) w
+    (Int i.place ∷ Null ∷ Text i.name ∷ Int i.kind ∷ text_or_null i.title ∷ number_or_null i.current ∷ number_or_null i.former ∷ []) count refl i.place (Null ∷ Text i.name ∷ Int i.kind ∷ text_or_null i.title ∷ number_or_null i.current ∷ number_or_null i.former ∷ []) (item_row i) refl (rw (cast_int i.kind, cast_text i.title, cast_number i.current, cast_number i.former) refl) w
 
 pub adds_member : (old new : State) (m : Member) (count : ℕ) → Has member old.now → Executes insert_member (member_row m) old new (Ok count) → IsAdded (codes "member") (member_row m) old.now new.now
 adds_member old new m count has h =
@@ -59,7 +59,7 @@ adds_member old new m count has h =
     let s = old.now.schema in
     let w = runs_as insert_member (member_row m) old new s refl (Insert at (Values member_terms 4)) (insert_command insert_member read_member member (Values member_terms 4) reads_member s at tree has.2) (insert_plain insert_member read_member member (Values member_terms 4) reads_member s at tree has.2) count h in
     adds_chosen old new at (codes "member") tree (member tree).columns (member tree).key (member tree).primary (member tree).uniques (member tree).orders has.2.named has.2.is member_terms 4 (statement_of insert_member (understood s insert_member)) (member_row m)
-    (Null ∷ Text m.owner ∷ Int (pos m.ord) ∷ Text m.name ∷ []) count refl (Text m.owner ∷ Int (pos m.ord) ∷ Text m.name ∷ []) (member_row m) refl (λ id. (rw (cast_int (pos m.ord)) refl)) w
+    (Null ∷ Text m.owner ∷ Int m.ord ∷ Text m.name ∷ []) count refl (Text m.owner ∷ Int m.ord ∷ Text m.name ∷ []) (member_row m) refl (λ id. (rw (cast_int m.ord) refl)) w
 
 pub adds_edition : (old new : State) (e : Edition) (count : ℕ) → Has edition old.now → Executes insert_edition (edition_row e) old new (Ok count) → IsAdded (codes "edition") (edition_row e) old.now new.now
 adds_edition old new e count has h =
@@ -68,7 +68,7 @@ adds_edition old new e count has h =
     let s = old.now.schema in
     let w = runs_as insert_edition (edition_row e) old new s refl (Insert at (Values edition_terms 6)) (insert_command insert_edition read_edition edition (Values edition_terms 6) reads_edition s at tree has.2) (insert_plain insert_edition read_edition edition (Values edition_terms 6) reads_edition s at tree has.2) count h in
     adds_given old new at (codes "edition") tree (edition tree).columns (edition tree).key (edition tree).primary (edition tree).uniques (edition tree).orders has.2.named has.2.is edition_terms 6 (statement_of insert_edition (understood s insert_edition)) (edition_row e)
-    (Int (pos e.number) ∷ Null ∷ Text e.owner ∷ Text e.title ∷ Text e.info ∷ Blob e.body ∷ []) count refl (pos e.number) (Null ∷ Text e.owner ∷ Text e.title ∷ Text e.info ∷ Blob e.body ∷ []) (edition_row e) refl refl w
+    (Int e.number ∷ Null ∷ Text e.owner ∷ Text e.title ∷ Text e.info ∷ Blob e.body ∷ []) count refl e.number (Null ∷ Text e.owner ∷ Text e.title ∷ Text e.info ∷ Blob e.body ∷ []) (edition_row e) refl refl w
 
 pub adds_entry : (old new : State) (e : Entry) (count : ℕ) → Has entry old.now → Executes insert_entry (entry_row e) old new (Ok count) → IsAdded (codes "entry") (entry_row e) old.now new.now
 adds_entry old new e count has h =
@@ -77,7 +77,7 @@ adds_entry old new e count has h =
     let s = old.now.schema in
     let w = runs_as insert_entry (entry_row e) old new s refl (Insert at (Values entry_terms 6)) (insert_command insert_entry read_entry entry (Values entry_terms 6) reads_entry s at tree has.2) (insert_plain insert_entry read_entry entry (Values entry_terms 6) reads_entry s at tree has.2) count h in
     adds_chosen old new at (codes "entry") tree (entry tree).columns (entry tree).key (entry tree).primary (entry tree).uniques (entry tree).orders has.2.named has.2.is entry_terms 6 (statement_of insert_entry (understood s insert_entry)) (entry_row e)
-    (Null ∷ Int (pos e.edition) ∷ Int (pos e.ord) ∷ Text e.headword ∷ Int (pos e.start) ∷ Int (pos e.length) ∷ []) count refl (Int (pos e.edition) ∷ Int (pos e.ord) ∷ Text e.headword ∷ Int (pos e.start) ∷ Int (pos e.length) ∷ []) (entry_row e) refl (λ id. (rw (cast_int (pos e.edition), cast_int (pos e.ord), cast_int (pos e.start), cast_int (pos e.length)) refl)) w
+    (Null ∷ Int e.edition ∷ Int e.ord ∷ Text e.headword ∷ Int e.start ∷ Int e.length ∷ []) count refl (Int e.edition ∷ Int e.ord ∷ Text e.headword ∷ Int e.start ∷ Int e.length ∷ []) (entry_row e) refl (λ id. (rw (cast_int e.edition, cast_int e.ord, cast_int e.start, cast_int e.length) refl)) w
 
 pub adds_kept : (old new : State) (k : Kept) (count : ℕ) → Has kept old.now → Executes insert_kept (kept_row k) old new (Ok count) → IsAdded (codes "kept") (kept_row k) old.now new.now
 adds_kept old new k count has h =
@@ -86,4 +86,4 @@ adds_kept old new k count has h =
     let s = old.now.schema in
     let w = runs_as insert_kept (kept_row k) old new s refl (Insert at (Values kept_terms 6)) (insert_command insert_kept read_kept kept (Values kept_terms 6) reads_kept s at tree has.2) (insert_plain insert_kept read_kept kept (Values kept_terms 6) reads_kept s at tree has.2) count h in
     adds_chosen old new at (codes "kept") tree (kept tree).columns (kept tree).key (kept tree).primary (kept tree).uniques (kept tree).orders has.2.named has.2.is kept_terms 6 (statement_of insert_kept (understood s insert_kept)) (kept_row k)
-    (Null ∷ Text k.id ∷ Int (pos k.number) ∷ Text k.verb ∷ Text k.name ∷ number_or_null k.edition ∷ []) count refl (Text k.id ∷ Int (pos k.number) ∷ Text k.verb ∷ Text k.name ∷ number_or_null k.edition ∷ []) (kept_row k) refl (λ id. (rw (cast_int (pos k.number), cast_number k.edition) refl)) w
+    (Null ∷ Text k.id ∷ Int k.number ∷ Text k.verb ∷ Text k.name ∷ number_or_null k.edition ∷ []) count refl (Text k.id ∷ Int k.number ∷ Text k.verb ∷ Text k.name ∷ number_or_null k.edition ∷ []) (kept_row k) refl (λ id. (rw (cast_int k.number, cast_number k.edition) refl)) w

@@ -1,5 +1,5 @@
 -- What `column = ?1` holds of.
-use Rattle.std.proofs.Common.{◌≡◌, ◌≢◌, ℕ, pos, Bool, true, false, ◌&&◌, Ordering, Less, Equal, Greater, Some, None, refl, List}
+use Rattle.std.proofs.Common.{◌≡◌, ℕ, Bool, true, false, ◌&&◌, Ordering, Less, Equal, Greater, Some, refl, List, ℤ}
 use Rattle.std.specs.Ordering.{is_eq}
 use Rattle.sqlite.specs.declared.types.Value.{Value}
 use Rattle.sqlite.specs.declared.types.Value.TheVariants.{Null, Int, Real, Text, Blob}
@@ -16,13 +16,13 @@ by_ordering Less = refl
 by_ordering Equal = refl
 by_ordering Greater = refl
 
-pub equals_is : (v : Value) (n : ℕ) → is_true (binary (by.Compare compare.Eq Binary) v (Int (pos n))) ≡ same_value v (Int (pos n))
+pub equals_is : (v : Value) (n : ℤ) → is_true (binary (by.Compare compare.Eq Binary) v (Int n)) ≡ same_value v (Int n)
 unfolding binary value_cmp
 equals_is Null n = refl
-equals_is (Int m) n = by_ordering (value_cmp (Int m) (Int (pos n)))
-equals_is (Real x) n = by_ordering (value_cmp (Real x) (Int (pos n)))
-equals_is (Text t) n = by_ordering (value_cmp (Text t) (Int (pos n)))
-equals_is (Blob b) n = by_ordering (value_cmp (Blob b) (Int (pos n)))
+equals_is (Int m) n = by_ordering (value_cmp (Int m) (Int n))
+equals_is (Real x) n = by_ordering (value_cmp (Real x) (Int n))
+equals_is (Text t) n = by_ordering (value_cmp (Text t) (Int n))
+equals_is (Blob b) n = by_ordering (value_cmp (Blob b) (Int n))
 
 pub equals_text_is : (v : Value) (s : List ℕ) → is_true (binary (by.Compare compare.Eq Binary) v (Text s)) ≡ same_value v (Text s)
 unfolding binary value_cmp

@@ -1,5 +1,5 @@
 -- The texts of the DELETE statements.
-use Rattle.std.proofs.Common.{◌≡◌, ◌==◌, ◌^◌, ℕ, pos, List, [], ◌∷◌, codes, Bool, true, false, Ok, Some, None, Option, refl, sym, subst, ◌∙◌, find, nat_le, slice_get}
+use Rattle.std.proofs.Common.{◌≡◌, ◌==◌, ◌^◌, ℕ, List, [], ◌∷◌, codes, Bool, true, false, Ok, Some, None, Option, refl, sym, subst, ◌∙◌, find, nat_le, slice_get, ℤ}
 use Rattle.std.proofs.lemmas.Bool.{lt-leb}
 use Rattle.sqlite.specs.declared.types.Value.TheVariants.{Int}
 use Rattle.sqlite.specs.Order.{Row, column}
@@ -108,10 +108,10 @@ reads_entry = record {
 pub all_go : (table : Table) (params row : Row) → passes params [] row ≡ true
 all_go table params row = refl
 
-pub edition_goes : (tree n : ℕ) (row : Row) → passes (Int (pos n) ∷ []) test_edition row ≡ equals_number 1 n (shown (edition tree) row)
+pub edition_goes : (tree : ℕ) (n : ℤ) (row : Row) → passes (Int n ∷ []) test_edition row ≡ equals_number 1 n (shown (edition tree) row)
 edition_goes tree n row = and_true _ ∙ equals_is (column row 0) n
 
-pub entry_goes : (tree n : ℕ) (row : Row) → passes (Int (pos n) ∷ []) test_entry row ≡ equals_number 1 n (shown (entry tree) row)
+pub entry_goes : (tree : ℕ) (n : ℤ) (row : Row) → passes (Int n ∷ []) test_entry row ≡ equals_number 1 n (shown (entry tree) row)
 entry_goes tree n row = and_true _ ∙ equals_is (column row 1) n
 
 module _ (text : List ℕ) (p : Parsed) (table : ℕ → Table) (condition : Option Expr) (filter : List Term) (left : ℕ) (r : ReadsDelete text p table condition filter left) where

@@ -7,6 +7,8 @@ pub mod ReadLemmas
 pub mod ListLemmas
 pub mod ReadTexts
 pub mod ListingLemmas
+pub mod ReadFaults
+pub mod StreamLemmas
 pub mod DeleteLemmas
 pub mod RowLemmas
 pub mod RemoveLemmas
@@ -15,4 +17,6 @@ pub mod DeleteTexts
 pub mod CompareLemmas
 pub mod FindLemmas
 pub mod CreateLemmas
+pub mod DropLemmas
 pub mod Callers
+pub mod NumberLemmas

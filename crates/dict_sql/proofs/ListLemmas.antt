@@ -1,5 +1,5 @@
 -- What a query over one table answers: its rows that pass the test, in the order of its keys.
-use Rattle.std.proofs.Common.{◌≡◌, ℕ, zero, suc, ◌-◌, ◌^◌, ◌++◌, ◌+◌, ◌<◌, ◌≤◌, pos, negsuc, List, [], ◌∷◌, map, length, filter, slice_get, Bool, true, false, cond, Option, Some, None, Ordering, nat_le, refl, sym, ap, subst, subst₂, ◌∙◌, arith, IsSorted, get_or, All, unwrap_or, inl, inr}
+use Rattle.std.proofs.Common.{◌≡◌, ℕ, ◌-◌, ◌^◌, ◌+◌, ◌<◌, pos, negsuc, List, [], ◌∷◌, map, length, filter, slice_get, Bool, true, false, cond, None, Ordering, nat_le, refl, sym, ap, subst, subst₂, ◌∙◌, arith, IsSorted, get_or, All, unwrap_or, inl, inr}
 use Rattle.std.proofs.lemmas.List.{length-map, get_or-map}
 use Rattle.std.proofs.lemmas.List.Elements.{All-map}
 use Rattle.std.proofs.lemmas.Bool.{cases_Bool}
@@ -7,12 +7,11 @@ use Rattle.std.proofs.lemmas.List.Sorted.{IsPermutation-map, All-permutation}
 use Rattle.std.specs.List.Sorted.{IsPermutation}
 use Rattle.std.specs.List.{flat_map, list_all}
 use Rattle.std.specs.Ordering.{is_lt}
-use Rattle.sqlite.specs.declared.types.Value.{Value}
-use Rattle.sqlite.specs.declared.types.Value.TheVariants.{Null, Int}
+use Rattle.sqlite.specs.declared.types.Value.TheVariants.{Int}
 use Rattle.sqlite.specs.Order.{Row}
 use Rattle.sqlite.specs.Tree.{Trees}
 use Rattle.sqlite.specs.Term.{Term, Env, lit, eval_all, holds}
-use Rattle.sqlite.specs.Query.{Query, Output, output, output_cmp, matches_as, key_cmp, IsAnswerAs, IsAnswer, page, inner, end}
+use Rattle.sqlite.specs.Query.{Query, Output, output, output_cmp, key_cmp, IsAnswer, inner, end}
 use Rattle.sqlite.specs.Program.{overlay}
 use Rattle.sqlite_value.specs.declared.keys.Key.{Key}
 

@@ -1,38 +1,35 @@
 -- What a text that reads a table whole answers.
-use Rattle.std.proofs.Common.{◌≡◌, ◌⊎◌, ℕ, ◌^◌, ◌-◌, ◌+◌, nat_le, get_or, List, [], ◌∷◌, map, filter, length, codes, Bool, true, false, Ok, Err, Some, None, Result, Option, pos, IfOk, IfErr, arith, inl, inr, refl, sym, ap, subst, subst₂, ◌∙◌}
+use Rattle.std.proofs.Common.{◌≡◌, ℕ, ◌^◌, ◌+◌, nat_le, get_or, List, [], ◌∷◌, map, filter, Bool, true, false, Ok, Err, None, Result, Option, IfOk, arith, inl, inr, refl, sym, ap, subst, ◌∙◌, ℤ}
 use Rattle.std.proofs.lemmas.Bool.{lt-leb, cases_Bool}
 use Rattle.std.specs.List.Sorted.{IsPermutation, IsSorted}
 use Rattle.std.specs.Ordering.{is_lt}
 use Rattle.sqlite.specs.Order.{Row, column}
 use Rattle.sqlite.specs.Schema.{Schema}
 use Rattle.sqlite.specs.Table.{Table}
-use Rattle.sqlite.specs.Term.{Term, eval_all}
+use Rattle.sqlite.specs.Term.{Term}
 use Rattle.sqlite.specs.Query.{key_cmp, IsAnswer}
-use Rattle.sqlite.specs.Effect.{Database, Reads}
 use Rattle.sqlite.specs.Command.{Command}
 use Rattle.sqlite.specs.Command.TheVariants.{Select}
 use Rattle.sqlite.specs.declared.types.Value.TheVariants.{Null, Int, Text}
 use Rattle.sqlite.specs.Tree.{Trees}
 use Rattle.sqlite.specs.Program.{overlay}
 use Rattle.sqlite_resolve.specs.declared.scope.Output.{Output}
-use Rattle.sqlite.specs.Compile.{compiled, with_command}
+use Rattle.sqlite.specs.Compile.{with_command}
 use Rattle.sqlite.specs.Listing.{understood, reads_listing}
-use Rattle.sqlite.specs.State.{State, Shown, ShowsRows, HasCleanDisk, Survives, CommitsShowing, IsUnchanged, FailsToQuery}
+use Rattle.sqlite.specs.State.{State, Shown, ShowsRows, HasCleanDisk, Survives, CommitsShowing, IsUnchanged}
 use Rattle.sqlite.specs.declared.error.Error.{Error}
 use Rattle.sqlite.proofs.StateLemmas.{survives_weaker}
-use Rattle.dict_sql.proofs.StateLemmas.{query_fails}
 use Rattle.std.specs.declared.alloc.Global.{Global}
-use Rattle.std.specs.Prelude.{Vec}
+use Rattle.std.specs.Prelude.{Vec, ℤ}
 use Rattle.sqlite.specs.Clock.{timed}
 use Rattle.sqlite.proofs.Callers.{IsPlain, command_of, reads_as, never_commits}
-use Rattle.sqlite_resolve.specs.declared.compiled.Compiled.{Compiled}
-use Rattle.sqlite_resolve.specs.Lowering.{max_budget, nothing}
+use Rattle.sqlite_resolve.specs.Lowering.{nothing}
 use Rattle.sqlite_resolve.specs.declared.state.Carried.{Carried}
 use Rattle.sqlite_value.specs.declared.keys.Key.{Key}
 use Rattle.sqlite_ast.specs.declared.Sort.{Sort}
 use Rattle.sqlite_syntax.specs.declared.statement.Parsed.{Parsed}
 use Rattle.dict_tables.specs.Found.{HasTable}
-use Rattle.dict_sql.specs.Effects.{equals_number, equals_text, Has, rows_of, shown, Stops}
+use Rattle.dict_sql.specs.Effects.{equals_number, equals_text, Has, rows_of, shown}
 use Rattle.dict_tables.specs.Tables.{edition, entry, kept}
 use Rattle.dict_sql.specs.Reads.{IsListing, IsSelection, by_columns}
 use Rattle.dict_sql.proofs.CompareLemmas.{and_true, equals_is, equals_text_is}
@@ -41,7 +38,7 @@ use Rattle.dict_sql.proofs.ReadLemmas.{text_is, listing_is, query_over, outputs_
 use Rattle.dict_sql.proofs.ReadTexts.{ReadsTable, test_one_edition, test_some_entries, test_one_kept}
 use Rattle.dict_sql.proofs.ListLemmas.{lists, sorts, passes}
 
-all_pass : {X : Type 0} (rows : List X) → filter (λ _. true) rows ≡ rows
+pub all_pass : {X : Type 0} (rows : List X) → filter (λ _. true) rows ≡ rows
 all_pass [] = refl
 all_pass (r ∷ rows) = ap (λ rest. r ∷ rest) (all_pass rows)
 
@@ -54,20 +51,20 @@ keep_shown table p q same (r ∷ rows) = elim (cases_Bool (q (shown table r))) [
 
 module _ (text : List ℕ) (p : Parsed) (table : ℕ → Table) (condition : Option Expr) (tests' : List Term) (left : ℕ) (sorted : List Sort) (order : List (Term × Key)) (columns : List ℕ) (rest : ℕ) (last : Carried) (r : ReadsTable text p table condition tests' left sorted order columns rest last) where
   module _ (schema : Schema) (at tree : ℕ) (has : HasTable schema at (table tree)) where
-    abbrev names : List (List ℕ)
+    abbrev pub names : List (List ℕ)
     names = map (λ (o : Output). o.name) (outputs_of at (table tree))
 
-    abbrev command : Command
+    abbrev pub command : Command
     command = Select (record { lets = []; body = query_over at (table tree) tests' order }) names
 
     low : nat_le (2 ^ 31) (table tree).tree ≡ false
     low = lt-leb (2 ^ 31) (table tree).tree has.stored
 
-    compiles : understood schema text ≡ Ok (with_command p ([], (command, None)))
+    pub compiles : understood schema text ≡ Ok (with_command p ([], (command, None)))
     compiles =
         text_is schema at (table tree) has (r.no_rowid tree) (r.few at tree) (r.some at tree) condition tests' left nothing (r.tests schema at tree has.is) sorted order rest last (r.sorts schema at tree) (r.orders tree) (r.accepted schema at tree has.alone low) text p r.read (r.statement tree) r.formats
 
-    unlisted : reads_listing schema text ≡ false
+    pub unlisted : reads_listing schema text ≡ false
     unlisted =
         listing_is schema at (table tree) has (r.no_rowid tree) (r.few at tree) (r.some at tree) condition tests' left nothing (r.tests schema at tree has.is) sorted order rest last (r.sorts schema at tree) (r.orders tree) (r.accepted schema at tree has.alone low) text p r.read (r.statement tree) r.formats
 
@@ -100,7 +97,7 @@ module _ (text : List ℕ) (p : Parsed) (table : ℕ → Table) (condition : Opt
     abbrev pub SelectsIn : List Row → Type 0
     SelectsIn rows = IsSelection (table 0).name test columns old.now rows × IsUnchanged old new
 
-    shown_selects : (rows : List Row) → Has table old.now → Shown text params old new rows → SelectsIn rows
+    pub shown_selects : (rows : List Row) → Has table old.now → Shown text params old new rows → SelectsIn rows
     unfolding Shown
     shown_selects rows has h =
         let at = has.0 in
@@ -115,10 +112,6 @@ module _ (text : List ℕ) (p : Parsed) (table : ℕ → Table) (condition : Opt
     selects (Err e) has h = tt
     selects (Ok rows) has h = shown_selects rows.items has h
 
-    pub fails_to_list : (result : Result (Vec Row Global) Error) → Has table old.now → IfErr result (FailsToQuery text params old new) → IfErr result (Stops old new)
-    fails_to_list (Ok rows) has h = tt
-    fails_to_list (Err e) has h = query_fails old new text params e (reads_plain old.now.schema has.0 has.1 has.2) h
-
     pub reads_nothing_else : (HasCleanDisk old → Has table old.now) → Survives old new (CommitsShowing text params old) → Survives old new (λ _. ⊥)
     reads_nothing_else has s = survives_weaker old new _ _ (λ clean db. let it = has (omega (arith, s.clean, clean)) in never_commits text params old db (reads_plain old.now.schema it.0 it.1 it.2)) s
 
@@ -127,10 +120,10 @@ pub lists_whole : (name : List ℕ) (columns : List ℕ) (old new : State) (resu
 lists_whole name columns old new (Err e) h = tt
 lists_whole name columns old new (Ok rows) h = (record { same = subst (λ l. IsPermutation l rows.items) (all_pass (rows_of name old.now)) h.0.same; sorted = h.0.sorted }, h.1)
 
-pub edition_read : (tree n : ℕ) (row : Row) → passes (Int (pos n) ∷ []) test_one_edition row ≡ equals_number 1 n (shown (edition tree) row)
+pub edition_read : (tree : ℕ) (n : ℤ) (row : Row) → passes (Int n ∷ []) test_one_edition row ≡ equals_number 1 n (shown (edition tree) row)
 edition_read tree n row = and_true _ ∙ equals_is (column row 0) n
 
-pub entry_read : (tree n : ℕ) (row : Row) → passes (Int (pos n) ∷ []) test_some_entries row ≡ equals_number 1 n (shown (entry tree) row)
+pub entry_read : (tree : ℕ) (n : ℤ) (row : Row) → passes (Int n ∷ []) test_some_entries row ≡ equals_number 1 n (shown (entry tree) row)
 entry_read tree n row = and_true _ ∙ equals_is (column row 1) n
 
 pub kept_read : (tree : ℕ) (id : List ℕ) (row : Row) → passes (Text id ∷ []) test_one_kept row ≡ equals_text 1 id (shown (kept tree) row)

@@ -1,24 +1,22 @@
 -- What `SELECT rowid, * FROM table WHERE .. ORDER BY ..` stands for, over any schema that has the table, level by level of the resolver.
-use Rattle.std.proofs.Common.{◌≡◌, ℕ, suc, ◌+◌, ◌-◌, ◌^◌, pos, negsuc, List, [], ◌∷◌, ◌++◌, map, length, codes, Bool, true, false, Some, None, Option, Ok, Err, Result, refl, sym, ap, subst, ◌∙◌, slice_get, find, nat_lt, nat_le, unwrap_or, option_map, option_and_then}
+use Rattle.std.proofs.Common.{◌≡◌, ℕ, ◌-◌, ◌^◌, pos, negsuc, List, [], ◌∷◌, map, length, codes, Bool, true, false, Some, None, Option, Ok, refl, slice_get, nat_lt, unwrap_or, option_map, option_and_then}
 use Rattle.std.proofs.lemmas.Bool.{lt-ltb}
 use Rattle.sqlite.specs.Term.{Term, lit, col}
 use Rattle.sqlite.specs.Table.{Table}
 use Rattle.sqlite.specs.Schema.{Schema}
-use Rattle.sqlite_resolve.specs.declared.error.CompileError.{CompileError}
 use Rattle.sqlite_resolve.specs.declared.scope.Level.{Level}
 use Rattle.sqlite_resolve.specs.declared.scope.Bound.{Bound}
 use Rattle.sqlite_resolve.specs.declared.scope.Output.{Output}
-use Rattle.sqlite_resolve.specs.Scope.{Name, column, Context, find as find_name, in_level, only, hit, column_in, rowid_in, is_rowid, term_of, column_at, declared, is_among}
+use Rattle.sqlite_resolve.specs.Scope.{Name, column, Context, find as find_name, in_level, only, hit, column_in, rowid_in, is_rowid, term_of, is_among}
 use Rattle.sqlite_resolve.specs.Expr.{lower_to, lower, node, opened, passes}
-use Rattle.sqlite_resolve.specs.Lowering.{Checked, Lowering, and_then, fresh, max_budget, spend, begin, finish, passed, either, written_or, nothing, take_slot}
+use Rattle.sqlite_resolve.specs.Lowering.{fresh, max_budget, spend, begin, finish, nothing, take_slot}
 use Rattle.sqlite_resolve.specs.declared.state.State.{State}
 use Rattle.sqlite_resolve.specs.declared.state.Carried.{Carried}
 use Rattle.sqlite_resolve.specs.Body.{body, result, matching, outputs, shown, stars, columns_of, columns_from, heading, is_column, bounds, bound as bound_of, table_in, joins, join, shared, inner_join, tests, declared as declared_name}
-use Rattle.sqlite_resolve.specs.declared.body.Body.{Body}
 use Rattle.sqlite_resolve.specs.Select.{outermost, parts, having, named as named', assembled, ungrouped, paging, constant_or}
 use Rattle.sqlite_resolve.specs.Order.{keys, sorts}
 use Rattle.sqlite_resolve.specs.Program.{Shown as Shown', query as query', query_to, level as level', with, whole, alone, single, sources, source, viewing, program as program'}
-use Rattle.sqlite.specs.Compile.{compiled, first, planned, meaning, command, with_command, returning, timed, small, read as read'}
+use Rattle.sqlite.specs.Compile.{compiled, first, planned, meaning, command, with_command, returning, timed, read as read'}
 use Rattle.sqlite.specs.Listing.{understood, reads_listing}
 use Rattle.sqlite_syntax.specs.declared.statement.Parsed.{Parsed}
 use Rattle.sqlite_ast.specs.declared.Statement.TheVariants as written
@@ -30,18 +28,17 @@ use Rattle.sqlite_draft.specs.declared.query.Draft.{Draft}
 use Rattle.sqlite.specs.Query.{Query, inner, end}
 use Rattle.sqlite.specs.declared.types.Value.TheVariants.{Int}
 use Rattle.sqlite_value.specs.declared.keys.Key.{Key}
-use Rattle.sqlite_schema.specs.Names.{table_named, column_named, place_of, same_name}
+use Rattle.sqlite_schema.specs.Names.{table_named, column_named, same_name}
 use Rattle.sqlite_schema.specs.declared.schema.Column.{Column}
 use Rattle.sqlite_draft.specs.declared.join.Step.TheVariants.{Inner}
 use Rattle.sqlite_tied.specs.Compute.{everything}
-use Rattle.sqlite_ast.specs.Layer.{Layer, ShownLayer}
 use Rattle.sqlite_ast.specs.declared.Expr.{Expr, out-Expr, roll-Expr}
 use Rattle.sqlite_ast.specs.declared.Expr.TheOpen.{Expr-F, Shown-F}
 use Rattle.sqlite_ast.specs.declared.Shown.{Shown, out-Shown, roll-Shown}
 use Rattle.sqlite_ast.specs.declared.Source.{Source, out-Source, roll-Source}
 use Rattle.sqlite_ast.specs.declared.Core.{Core, out-Core, roll-Core}
 use Rattle.sqlite_ast.specs.declared.Select.{Select, out-Select, roll-Select}
-use Rattle.sqlite_ast.specs.declared.Sort.{Sort, out-Sort, roll-Sort}
+use Rattle.sqlite_ast.specs.declared.Sort.{Sort}
 use Rattle.sqlite_ast.specs.declared.Origin.TheVariants.{Table as Table'}
 use Rattle.dict_tables.specs.Found.{HasTable}
 

@@ -7,7 +7,6 @@ use Rattle.sqlite.specs.Kind.TheVariants.{Integer, Text}
 use Rattle.dict_sql.proofs.DeleteLemmas.{column_expr, parameter_expr, equals_expr, tests_equals}
 use Rattle.sqlite_resolve.specs.Body.{tests}
 use Rattle.sqlite.specs.Compile.{first}
-use Rattle.sqlite.specs.Listing.{understood}
 use Rattle.sqlite.specs.Schema.{Schema}
 use Rattle.sqlite.specs.Table.{Table}
 use Rattle.sqlite.specs.Collation.TheVariants.{Binary}
@@ -24,7 +23,6 @@ use Rattle.sqlite_typing.specs.Types.{accepts_program}
 use Rattle.sqlite_resolve.specs.Expr.{lower}
 use Rattle.sqlite_resolve.specs.Order.{sorts}
 use Rattle.sqlite_resolve.specs.declared.state.Carried.{Carried}
-use Rattle.sqlite_resolve.specs.Scope.{is_rowid}
 use Rattle.sqlite_schema.specs.Names.{column_named}
 use Rattle.dict_tables.specs.Tables.{needed, mark, item, member, edition, entry, kept}
 use Rattle.dict_sql.specs.Effects.{shown}
@@ -37,7 +35,7 @@ use Rattle.dict_sql.proofs.ReadLemmas.{rowid_expr, rowid_shown, all_shown, sourc
 unfoldable pub sort_by : List ℕ → Sort
 sort_by digits = roll-Sort (record { key = roll-Expr (Expr-F.Integer digits); descending = false; nulls_first = None })
 
-abbrev key_at : ℕ → Term × Key
+abbrev pub key_at : ℕ → Term × Key
 key_at place = (col 1 place, record { collation = Binary; descending = false })
 
 abbrev of_column : Carried

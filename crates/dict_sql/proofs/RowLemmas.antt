@@ -1,10 +1,13 @@
 -- A row from its columns.
-use Rattle.std.proofs.Common.{◌≡◌, ℕ, suc, ◌+◌, List, [], ◌∷◌, map, length, refl, sym, ap, subst, ◌∙◌, arith, add-zero, Option, Some, None, MatchOption, ◌≢◌}
+use Rattle.std.proofs.Common.{◌≡◌, inl, inr, ℕ, suc, ◌+◌, ◌<◌, ◌^◌, [], ◌∷◌, map, length, refl, sym, ap, subst, ◌∙◌, arith, add-zero, Option, Some, None, MatchOption, IfSome, ◌≢◌, String, string_bytes, ℤ}
+use Rattle.std.proofs.lemmas.Str.{IsUtf8-string_bytes}
 use Rattle.sqlite.specs.declared.types.Value.{Value}
-use Rattle.sqlite.specs.declared.types.Value.TheVariants.{Null}
+use Rattle.sqlite.specs.declared.types.Value.TheVariants.{Null, Int, Text}
 use Rattle.sqlite.specs.Values.{or_null}
 use Rattle.std.specs.List.{range_with_len}
 use Rattle.sqlite.specs.Order.{Row, column}
+use Rattle.dict_sql.specs.Stored.{Holds}
+use Rattle.dict_sql.specs.Stored.Content.{NumberOrNull, NameOrNull}
 
 cells_from : (r : Row) (a : ℕ) (s : Row) → ((k : ℕ) → column s (a + k) ≡ column r k) → map (column s) (range_with_len a (length r)) ≡ r
 cells_from [] a s h = refl
@@ -21,3 +24,11 @@ cells r n wide = sym (subst (λ w. map (column r) (range_with_len 0 w) ≡ r) wi
 pub read_or_null : {X : Type 0} (f : X → Value) (v : Value) (o : Option X) → MatchOption o (v ≡ Null) (λ x. (v ≢ Null) × (v ≡ f x)) → v ≡ or_null f o
 read_or_null f v None h = h
 read_or_null f v (Some x) h = h.1
+
+pub number_or_null : (v : Value) (o : Option ℤ) → MatchOption o (v ≡ Null) (λ n. (v ≢ Null) × (v ≡ Int n)) → Holds NumberOrNull v
+number_or_null v None h = inl h
+number_or_null v (Some n) h = inr (n, h.1)
+
+pub text_or_null : {Z : Type 0} (v : Value) (o : Option (String Z)) → MatchOption o (v ≡ Null) (λ s. (v ≢ Null) × (v ≡ Text (string_bytes s))) → Holds NameOrNull v
+text_or_null v None h = inl h
+text_or_null v (Some s) h = inr (string_bytes s, h.1, IsUtf8-string_bytes s)

@@ -1,14 +1,12 @@
 -- What a statement of a transaction leaves, at its success and at its failure.
-use Rattle.std.proofs.Common.{◌≡◌, ◌⊎◌, ℕ, List, false, Ok, Err, Result, IsTrue, OnOk, IfErr, inl, inr, refl, sym, subst}
+use Rattle.std.proofs.Common.{◌≡◌, ℕ, List, false, Ok, Err, Result, IsTrue, OnOk, IfErr, inl, inr, refl, sym, subst}
 use Rattle.std.proofs.lemmas.Bool.{cases_Bool}
 use Rattle.sqlite.specs.declared.error.Error.{Error}
 use Rattle.sqlite.specs.declared.error.Error.TheVariants.{SqliteFailure}
 use Rattle.sqlite.specs.declared.error.ErrorCode.TheVariants as code
 use Rattle.sqlite.specs.Order.{Row}
-use Rattle.sqlite.specs.State.{State, Executes, ExecutesIn, ExecutesInside, IsNotRun, RunsCommand, Fails, KeepsCommit, IsUnchanged, IsRolledBack, FailsToQuery, FailsToShow, HasCause, shows_rows, store_error}
+use Rattle.sqlite.specs.State.{State, Executes, ExecutesIn, ExecutesInside, IsNotRun, RunsCommand, Fails, KeepsCommit, IsUnchanged, IsRolledBack, HasCause, shows_rows}
 use Rattle.sqlite.specs.Clock.{timed}
-use Rattle.sqlite.specs.Listing.{understood}
-use Rattle.sqlite.proofs.Callers.{IsPlain}
 use Rattle.sqlite_trees.specs.declared.error.StoreError.{StoreError}
 use Rattle.sqlite_trees.specs.declared.error.StoreError.TheVariants as why
 use Rattle.sqlite_resolve.specs.declared.compiled.Compiled.{Compiled}
@@ -76,13 +74,3 @@ fails_in old new sql params (Err e) ended runs = record {
   ];
   cause = λ inside'. stops_inside old new e sql params (runs inside');
 }
-
--- ---- a query that failed
-
-pub query_fails : (old new : State) (sql : List ℕ) (params : Row) (e : Error) → IsPlain (understood old.now.schema sql) → FailsToQuery sql params old new e → Stops old new e
-unfolding FailsToQuery
-query_fails old new sql params e plain (inl h) = not_run old new e sql params h
-query_fails old new sql params e plain (inr h) =
-    let bare = subst IsPlain h.1.is plain in
-    let it = subst (FailsToShow old new sql h.0 (timed params h.0.formats h.1.now) e) bare.0 h.2 in
-    inl it.3

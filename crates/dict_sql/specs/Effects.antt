@@ -1,5 +1,5 @@
 -- What a statement does to the rows of a table.
-use Rattle.std.specs.Prelude.{Bool, true, not, filter, pos, ◌≡◌, ◌≢◌, ◌⊎◌, ⊤, IsTrue, ℕ, ℤ, List, [], ◌∷◌, map, Option, Some, slice_get, option_map, option_and_then, unwrap_or, IsPermutation, length}
+use Rattle.std.specs.Prelude.{Bool, true, not, filter, ◌≡◌, ◌≢◌, ◌⊎◌, ⊤, IsTrue, ℕ, ℤ, List, [], ◌∷◌, map, Option, Some, slice_get, option_map, option_and_then, unwrap_or, IsPermutation, length}
 use Rattle.std.specs.List.{AllByRecursion, IsDistinct, range_with_len}
 use Rattle.std.specs.Ordering.{is_eq}
 use Rattle.sqlite.specs.declared.types.Value.{Value}
@@ -57,8 +57,8 @@ pub record IsRemoved (name : List ℕ) (test : Row → Bool) (old new : Database
   pub sound : IsDatabase new
 
 -- the rows that have this number in a column, as SQL compares values
-abbrev pub equals_number : ℕ → ℕ → Row → Bool
-equals_number at n r = same_value (column r at) (Int (pos n))
+abbrev pub equals_number : ℕ → ℤ → Row → Bool
+equals_number at n r = same_value (column r at) (Int n)
 
 abbrev pub equals_text : ℕ → List ℕ → Row → Bool
 equals_text at t r = same_value (column r at) (Words t)

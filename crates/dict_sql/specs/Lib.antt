@@ -2,6 +2,8 @@ pub mod Inserts
 pub mod Records
 pub mod Effects
 pub mod Reads
+pub mod Streams
 pub mod Stored
 pub mod Deletes
 pub mod Creates
+pub mod Drops

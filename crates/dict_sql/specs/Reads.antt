@@ -1,11 +1,17 @@
--- The texts that read a table whole, and in which order its rows come.
-use Rattle.std.specs.Prelude.{ℕ, List, [], ◌∷◌, codes, Bool, filter, IsPermutation, IsSorted}
+-- The texts that read a table, in which order its rows come, and why it isn't read.
+use Rattle.std.specs.Prelude.{◌≡◌, ◌≢◌, ◌⊎◌, ℕ, List, [], ◌∷◌, codes, Bool, filter, IsSome, IsPermutation, IsSorted}
+use Rattle.std.specs.List.{Contains}
 use Rattle.std.specs.declared.cmp.Ordering.{Ordering}
 use Rattle.std.specs.declared.cmp.Ordering.TheVariants.{Equal}
 use Rattle.std.specs.Ordering.{ordering_then}
 use Rattle.sqlite.specs.Order.{Row, column, value_cmp}
 use Rattle.sqlite.specs.Effect.{Database}
+use Rattle.sqlite.specs.State.{State, IsUnchanged, Fails}
+use Rattle.sqlite.specs.declared.error.Error.{Error}
+use Rattle.sqlite.specs.declared.error.Error.TheVariants.{SqliteFailure}
+use Rattle.sqlite.specs.declared.error.ErrorCode.TheVariants.{OutOfMemory, OperationInterrupted}
 use Rattle.dict_sql.specs.Effects.{rows_of}
+use Rattle.dict_sql.specs.Stored.{Content, HasColumns}
 
 abbrev pub select_mark : List ℕ
 select_mark = codes "SELECT rowid, * FROM mark ORDER BY 2"
@@ -48,3 +54,15 @@ select_one_kept = codes "SELECT rowid, * FROM kept WHERE id = ?1 ORDER BY 3"
 pub record IsSelection (name : List ℕ) (test : Row → Bool) (columns : List ℕ) (db : Database) (rows : List Row) : Type 0 where
   pub same : IsPermutation (filter test (rows_of name db)) rows
   pub sorted : IsSorted (by_columns columns) rows
+
+-- The store failed, and the transaction is undone; or the limit on steps was met, and nothing has changed.
+abbrev pub FailsToRead : State → State → Error → Type 0
+FailsToRead old new e = Fails old new ⊥ e ⊎ ((e ≡ SqliteFailure OperationInterrupted) × IsSome old.step_limit × IsUnchanged old new)
+
+-- one of the rows stands for no record of these columns
+abbrev pub HasNoRecord : List Content → List Row → Type 0
+HasNoRecord columns rows = (row : Row) × Contains rows row × ¬ HasColumns columns row
+
+-- The rows were not read; or they were, nothing has changed, and memory was refused or one of them is no record.
+abbrev pub FailsToList : List Content → List Row → State → State → Error → Type 0
+FailsToList columns rows old new e = FailsToRead old new e ⊎ (IsUnchanged old new × (e ≢ SqliteFailure OutOfMemory → HasNoRecord columns rows))

@@ -48,7 +48,7 @@ pub fn clear_members<S: Alter>(tx: &mut Transaction<'_, S>) -> Result<usize, Err
 }
 
 /// Takes out the edition of this number. It answers the count of rows that `sqlite` reports.
-pub fn delete_edition<S: Alter>(tx: &mut Transaction<'_, S>, number: u32) -> Result<usize, Error>
+pub fn delete_edition<S: Alter>(tx: &mut Transaction<'_, S>, number: i64) -> Result<usize, Error>
     requires has { HasCleanDisk (state S.Store tx.old.conn.now) → Has edition_table (state S.Store tx.old.conn.now).now }
     requires apart { HasCleanDisk (state S.Store tx.old.conn.now) → HasApartRowids (rows_of (codes "edition") (state S.Store tx.old.conn.now).now) }
     ensures same_reference { tx.new.conn.ghost_name ≡ tx.old.conn.ghost_name }
@@ -61,7 +61,7 @@ pub fn delete_edition<S: Alter>(tx: &mut Transaction<'_, S>, number: u32) -> Res
 }
 
 /// Takes out the entries of this edition. It answers the count of rows that `sqlite` reports.
-pub fn delete_entries<S: Alter>(tx: &mut Transaction<'_, S>, edition: u32) -> Result<usize, Error>
+pub fn delete_entries<S: Alter>(tx: &mut Transaction<'_, S>, edition: i64) -> Result<usize, Error>
     requires has { HasCleanDisk (state S.Store tx.old.conn.now) → Has entry (state S.Store tx.old.conn.now).now }
     requires apart { HasCleanDisk (state S.Store tx.old.conn.now) → HasApartRowids (rows_of (codes "entry") (state S.Store tx.old.conn.now).now) }
     ensures same_reference { tx.new.conn.ghost_name ≡ tx.old.conn.ghost_name }

@@ -13,8 +13,8 @@ use sqlite::{Alter, Error, Transaction, params};
 pub fn insert_mark<S: Alter>(
     tx: &mut Transaction<'_, S>,
     magic: &str,
-    version: u32,
-    installs: u32,
+    version: i64,
+    installs: i64,
 ) -> Result<usize, Error>
     requires { HasCleanDisk (state S.Store tx.old.conn.now) → Has mark (state S.Store tx.old.conn.now).now }
     ensures same_reference { tx.new.conn.ghost_name ≡ tx.old.conn.ghost_name }
@@ -26,19 +26,19 @@ pub fn insert_mark<S: Alter>(
 {
     tx.execute(
         "INSERT INTO mark (id, magic, version, installs) VALUES (?1, ?2, ?3, ?4)",
-        params![1u32, magic, version, installs],
+        params![1i64, magic, version, installs],
     )
 }
 
 /// Inserts an item of the list of databases: a regular one, of kind 0, has its current and perhaps its former edition, a virtual one, of kind 1, its title. It answers the count of written rows that `sqlite` reports.
 pub fn insert_item<S: Alter>(
     tx: &mut Transaction<'_, S>,
-    place: u32,
+    place: i64,
     name: &str,
-    kind: u32,
+    kind: i64,
     title: Option<&str>,
-    current: Option<u32>,
-    former: Option<u32>,
+    current: Option<i64>,
+    former: Option<i64>,
 ) -> Result<usize, Error>
     requires { HasCleanDisk (state S.Store tx.old.conn.now) → Has item (state S.Store tx.old.conn.now).now }
     ensures same_reference { tx.new.conn.ghost_name ≡ tx.old.conn.ghost_name }
@@ -58,7 +58,7 @@ pub fn insert_item<S: Alter>(
 pub fn insert_member<S: Alter>(
     tx: &mut Transaction<'_, S>,
     owner: &str,
-    ord: u32,
+    ord: i64,
     name: &str,
 ) -> Result<usize, Error>
     requires { HasCleanDisk (state S.Store tx.old.conn.now) → Has member (state S.Store tx.old.conn.now).now }
@@ -78,7 +78,7 @@ pub fn insert_member<S: Alter>(
 /// Inserts an edition with the whole text that its entries are cut from. It answers the count of written rows that `sqlite` reports.
 pub fn insert_edition<S: Alter>(
     tx: &mut Transaction<'_, S>,
-    number: u32,
+    number: i64,
     owner: &str,
     title: &str,
     info: &str,
@@ -101,11 +101,11 @@ pub fn insert_edition<S: Alter>(
 /// Inserts an entry of an edition: its headword, and where its body stands in the edition's text. It answers the count of written rows that `sqlite` reports.
 pub fn insert_entry<S: Alter>(
     tx: &mut Transaction<'_, S>,
-    edition: u32,
-    ord: u32,
+    edition: i64,
+    ord: i64,
     headword: &str,
-    start: u32,
-    length: u32,
+    start: i64,
+    length: i64,
 ) -> Result<usize, Error>
     requires { HasCleanDisk (state S.Store tx.old.conn.now) → Has entry (state S.Store tx.old.conn.now).now }
     ensures same_reference { tx.new.conn.ghost_name ≡ tx.old.conn.ghost_name }
@@ -125,10 +125,10 @@ pub fn insert_entry<S: Alter>(
 pub fn insert_kept<S: Alter>(
     tx: &mut Transaction<'_, S>,
     id: &str,
-    number: u32,
+    number: i64,
     verb: &str,
     name: &str,
-    edition: Option<u32>,
+    edition: Option<i64>,
 ) -> Result<usize, Error>
     requires { HasCleanDisk (state S.Store tx.old.conn.now) → Has kept (state S.Store tx.old.conn.now).now }
     ensures same_reference { tx.new.conn.ghost_name ≡ tx.old.conn.ghost_name }

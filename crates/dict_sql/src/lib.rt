@@ -4,6 +4,8 @@
 pub mod commit;
 pub mod create;
 pub mod delete;
+pub mod drop;
 pub mod insert;
 pub mod read;
 pub mod records;
+pub mod stream;

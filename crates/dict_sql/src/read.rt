@@ -1,20 +1,22 @@
-//! The records of a table, in the order of its key.
+//! The records of a small table, or those that a condition names, as lists in the order of the key.
 
-ghost use Rattle.std.specs.Prelude.{◌≡◌, ℕ, false, [], ◌∷◌, map, codes, IfOk, IfErr};
+ghost use Rattle.std.specs.Prelude.{◌≡◌, ◌≢◌, ℕ, false, [], ◌∷◌, filter, map, codes, IfOk, IfErr};
+ghost use Rattle.sqlite.specs.declared.error.ErrorCode.TheVariants.{OutOfMemory};
 ghost use Rattle.sqlite.specs.State.{HasCleanDisk, Survives, IsUnchanged};
 ghost use Rattle.sqlite.specs.Held.{state};
-ghost use Rattle.dict_tables.specs.Tables.{mark, item, member, edition as edition_table, entry, kept};
-ghost use Rattle.dict_sql.specs.Stored.{stored_mark, stored_item, stored_member, stored_edition, stored_entry, stored_kept};
-ghost use Rattle.dict_sql.specs.Effects.{Has, Stops, equals_number, equals_text};
-ghost use Rattle.dict_sql.specs.Reads.{IsListing, IsSelection};
+ghost use Rattle.dict_tables.specs.Tables.{mark, item, member, edition as edition_table, kept};
+ghost use Rattle.dict_sql.specs.Stored.{stored_mark, stored_item, stored_member, stored_edition, stored_kept, mark_columns, item_columns, member_columns, edition_columns, kept_columns};
+ghost use Rattle.dict_sql.specs.Effects.{Has, equals_number, equals_text, rows_of};
+ghost use Rattle.dict_sql.specs.Reads.{IsListing, IsSelection, FailsToRead, FailsToList, HasNoRecord};
 
-use crate::records::{Edition, Entry, Item, Kept, Mark, Member, Record};
+use crate::records::{Edition, Item, Kept, Mark, Member, Record};
 use sqlite::{Alter, Connection, Error, Row, params};
 use std::alloc::Global;
 
 // The record of each row, in turn.
 fn records_of<R: Record + Drop>(alloc: Global, rows: &[Row]) -> Result<Vec<R>, Error>
-    ensures { IfOk result (λ all. map R.Record.stored all.items ≡ rows.now) }
+    ensures read { IfOk result (λ all. map R.Record.stored all.items ≡ rows.now) }
+    ensures refused { IfErr result (λ e. e ≢ Error.SqliteFailure OutOfMemory → HasNoRecord R.Record.columns rows.now) }
 {
     let mut all = Vec::new(alloc);
     for row in rows {
@@ -26,7 +28,7 @@ fn records_of<R: Record + Drop>(alloc: Global, rows: &[Row]) -> Result<Vec<R>, E
 fn mark_rows<S: Alter>(conn: &mut Connection<S>) -> Result<Vec<Row>, Error>
     requires { HasCleanDisk (state S.Store conn.old) → Has mark (state S.Store conn.old).now }
     ensures listed { HasCleanDisk (state S.Store conn.new) → IfOk result (λ rows. IsListing (codes "mark") (1 ∷ []) (state S.Store conn.old).now rows.items × IsUnchanged (state S.Store conn.old) (state S.Store conn.new)) }
-    ensures failed { HasCleanDisk (state S.Store conn.new) → IfErr result (Stops (state S.Store conn.old) (state S.Store conn.new)) }
+    ensures failed { HasCleanDisk (state S.Store conn.new) → IfErr result (FailsToRead (state S.Store conn.old) (state S.Store conn.new)) }
     ensures mode { conn.old.in_transaction ≡ false → conn.new.in_transaction ≡ false }
     ensures survives { Survives (state S.Store conn.old) (state S.Store conn.new) (λ _. ⊥) }
 {
@@ -37,7 +39,7 @@ fn mark_rows<S: Alter>(conn: &mut Connection<S>) -> Result<Vec<Row>, Error>
 pub fn marks<S: Alter>(alloc: Global, conn: &mut Connection<S>) -> Result<Vec<Mark>, Error>
     requires { HasCleanDisk (state S.Store conn.old) → Has mark (state S.Store conn.old).now }
     ensures listed { HasCleanDisk (state S.Store conn.new) → IfOk result (λ all. IsListing (codes "mark") (1 ∷ []) (state S.Store conn.old).now (map stored_mark all.items) × IsUnchanged (state S.Store conn.old) (state S.Store conn.new)) }
-    ensures failed { HasCleanDisk (state S.Store conn.new) → IfErr result (Stops (state S.Store conn.old) (state S.Store conn.new)) }
+    ensures failed { HasCleanDisk (state S.Store conn.new) → IfErr result (FailsToList mark_columns (rows_of (codes "mark") (state S.Store conn.old).now) (state S.Store conn.old) (state S.Store conn.new)) }
     ensures mode { conn.old.in_transaction ≡ false → conn.new.in_transaction ≡ false }
     ensures survives { Survives (state S.Store conn.old) (state S.Store conn.new) (λ _. ⊥) }
 {
@@ -48,7 +50,7 @@ pub fn marks<S: Alter>(alloc: Global, conn: &mut Connection<S>) -> Result<Vec<Ma
 fn item_rows<S: Alter>(conn: &mut Connection<S>) -> Result<Vec<Row>, Error>
     requires { HasCleanDisk (state S.Store conn.old) → Has item (state S.Store conn.old).now }
     ensures listed { HasCleanDisk (state S.Store conn.new) → IfOk result (λ rows. IsListing (codes "item") (1 ∷ []) (state S.Store conn.old).now rows.items × IsUnchanged (state S.Store conn.old) (state S.Store conn.new)) }
-    ensures failed { HasCleanDisk (state S.Store conn.new) → IfErr result (Stops (state S.Store conn.old) (state S.Store conn.new)) }
+    ensures failed { HasCleanDisk (state S.Store conn.new) → IfErr result (FailsToRead (state S.Store conn.old) (state S.Store conn.new)) }
     ensures mode { conn.old.in_transaction ≡ false → conn.new.in_transaction ≡ false }
     ensures survives { Survives (state S.Store conn.old) (state S.Store conn.new) (λ _. ⊥) }
 {
@@ -59,7 +61,7 @@ fn item_rows<S: Alter>(conn: &mut Connection<S>) -> Result<Vec<Row>, Error>
 pub fn items<S: Alter>(alloc: Global, conn: &mut Connection<S>) -> Result<Vec<Item>, Error>
     requires { HasCleanDisk (state S.Store conn.old) → Has item (state S.Store conn.old).now }
     ensures listed { HasCleanDisk (state S.Store conn.new) → IfOk result (λ all. IsListing (codes "item") (1 ∷ []) (state S.Store conn.old).now (map stored_item all.items) × IsUnchanged (state S.Store conn.old) (state S.Store conn.new)) }
-    ensures failed { HasCleanDisk (state S.Store conn.new) → IfErr result (Stops (state S.Store conn.old) (state S.Store conn.new)) }
+    ensures failed { HasCleanDisk (state S.Store conn.new) → IfErr result (FailsToList item_columns (rows_of (codes "item") (state S.Store conn.old).now) (state S.Store conn.old) (state S.Store conn.new)) }
     ensures mode { conn.old.in_transaction ≡ false → conn.new.in_transaction ≡ false }
     ensures survives { Survives (state S.Store conn.old) (state S.Store conn.new) (λ _. ⊥) }
 {
@@ -70,7 +72,7 @@ pub fn items<S: Alter>(alloc: Global, conn: &mut Connection<S>) -> Result<Vec<It
 fn member_rows<S: Alter>(conn: &mut Connection<S>) -> Result<Vec<Row>, Error>
     requires { HasCleanDisk (state S.Store conn.old) → Has member (state S.Store conn.old).now }
     ensures listed { HasCleanDisk (state S.Store conn.new) → IfOk result (λ rows. IsListing (codes "member") (1 ∷ 2 ∷ []) (state S.Store conn.old).now rows.items × IsUnchanged (state S.Store conn.old) (state S.Store conn.new)) }
-    ensures failed { HasCleanDisk (state S.Store conn.new) → IfErr result (Stops (state S.Store conn.old) (state S.Store conn.new)) }
+    ensures failed { HasCleanDisk (state S.Store conn.new) → IfErr result (FailsToRead (state S.Store conn.old) (state S.Store conn.new)) }
     ensures mode { conn.old.in_transaction ≡ false → conn.new.in_transaction ≡ false }
     ensures survives { Survives (state S.Store conn.old) (state S.Store conn.new) (λ _. ⊥) }
 {
@@ -81,7 +83,7 @@ fn member_rows<S: Alter>(conn: &mut Connection<S>) -> Result<Vec<Row>, Error>
 pub fn members<S: Alter>(alloc: Global, conn: &mut Connection<S>) -> Result<Vec<Member>, Error>
     requires { HasCleanDisk (state S.Store conn.old) → Has member (state S.Store conn.old).now }
     ensures listed { HasCleanDisk (state S.Store conn.new) → IfOk result (λ all. IsListing (codes "member") (1 ∷ 2 ∷ []) (state S.Store conn.old).now (map stored_member all.items) × IsUnchanged (state S.Store conn.old) (state S.Store conn.new)) }
-    ensures failed { HasCleanDisk (state S.Store conn.new) → IfErr result (Stops (state S.Store conn.old) (state S.Store conn.new)) }
+    ensures failed { HasCleanDisk (state S.Store conn.new) → IfErr result (FailsToList member_columns (rows_of (codes "member") (state S.Store conn.old).now) (state S.Store conn.old) (state S.Store conn.new)) }
     ensures mode { conn.old.in_transaction ≡ false → conn.new.in_transaction ≡ false }
     ensures survives { Survives (state S.Store conn.old) (state S.Store conn.new) (λ _. ⊥) }
 {
@@ -89,76 +91,10 @@ pub fn members<S: Alter>(alloc: Global, conn: &mut Connection<S>) -> Result<Vec<
     records_of(alloc, &rows)
 }
 
-fn edition_rows<S: Alter>(conn: &mut Connection<S>) -> Result<Vec<Row>, Error>
-    requires { HasCleanDisk (state S.Store conn.old) → Has edition_table (state S.Store conn.old).now }
-    ensures listed { HasCleanDisk (state S.Store conn.new) → IfOk result (λ rows. IsListing (codes "edition") (1 ∷ []) (state S.Store conn.old).now rows.items × IsUnchanged (state S.Store conn.old) (state S.Store conn.new)) }
-    ensures failed { HasCleanDisk (state S.Store conn.new) → IfErr result (Stops (state S.Store conn.old) (state S.Store conn.new)) }
-    ensures mode { conn.old.in_transaction ≡ false → conn.new.in_transaction ≡ false }
-    ensures survives { Survives (state S.Store conn.old) (state S.Store conn.new) (λ _. ⊥) }
-{
-    conn.query_all("SELECT rowid, * FROM edition ORDER BY 2", &[])
-}
-
-/// All editions with their whole texts, in the order of their numbers.
-pub fn editions<S: Alter>(alloc: Global, conn: &mut Connection<S>) -> Result<Vec<Edition>, Error>
-    requires { HasCleanDisk (state S.Store conn.old) → Has edition_table (state S.Store conn.old).now }
-    ensures listed { HasCleanDisk (state S.Store conn.new) → IfOk result (λ all. IsListing (codes "edition") (1 ∷ []) (state S.Store conn.old).now (map stored_edition all.items) × IsUnchanged (state S.Store conn.old) (state S.Store conn.new)) }
-    ensures failed { HasCleanDisk (state S.Store conn.new) → IfErr result (Stops (state S.Store conn.old) (state S.Store conn.new)) }
-    ensures mode { conn.old.in_transaction ≡ false → conn.new.in_transaction ≡ false }
-    ensures survives { Survives (state S.Store conn.old) (state S.Store conn.new) (λ _. ⊥) }
-{
-    let rows = edition_rows(conn)?;
-    records_of(alloc, &rows)
-}
-
-fn entry_rows<S: Alter>(conn: &mut Connection<S>) -> Result<Vec<Row>, Error>
-    requires { HasCleanDisk (state S.Store conn.old) → Has entry (state S.Store conn.old).now }
-    ensures listed { HasCleanDisk (state S.Store conn.new) → IfOk result (λ rows. IsListing (codes "entry") (1 ∷ 2 ∷ []) (state S.Store conn.old).now rows.items × IsUnchanged (state S.Store conn.old) (state S.Store conn.new)) }
-    ensures failed { HasCleanDisk (state S.Store conn.new) → IfErr result (Stops (state S.Store conn.old) (state S.Store conn.new)) }
-    ensures mode { conn.old.in_transaction ≡ false → conn.new.in_transaction ≡ false }
-    ensures survives { Survives (state S.Store conn.old) (state S.Store conn.new) (λ _. ⊥) }
-{
-    conn.query_all("SELECT rowid, * FROM entry ORDER BY 2, 3", &[])
-}
-
-/// The entries of all editions, by edition and then in their order.
-pub fn entries<S: Alter>(alloc: Global, conn: &mut Connection<S>) -> Result<Vec<Entry>, Error>
-    requires { HasCleanDisk (state S.Store conn.old) → Has entry (state S.Store conn.old).now }
-    ensures listed { HasCleanDisk (state S.Store conn.new) → IfOk result (λ all. IsListing (codes "entry") (1 ∷ 2 ∷ []) (state S.Store conn.old).now (map stored_entry all.items) × IsUnchanged (state S.Store conn.old) (state S.Store conn.new)) }
-    ensures failed { HasCleanDisk (state S.Store conn.new) → IfErr result (Stops (state S.Store conn.old) (state S.Store conn.new)) }
-    ensures mode { conn.old.in_transaction ≡ false → conn.new.in_transaction ≡ false }
-    ensures survives { Survives (state S.Store conn.old) (state S.Store conn.new) (λ _. ⊥) }
-{
-    let rows = entry_rows(conn)?;
-    records_of(alloc, &rows)
-}
-
-fn kept_rows<S: Alter>(conn: &mut Connection<S>) -> Result<Vec<Row>, Error>
-    requires { HasCleanDisk (state S.Store conn.old) → Has kept (state S.Store conn.old).now }
-    ensures listed { HasCleanDisk (state S.Store conn.new) → IfOk result (λ rows. IsListing (codes "kept") (2 ∷ []) (state S.Store conn.old).now rows.items × IsUnchanged (state S.Store conn.old) (state S.Store conn.new)) }
-    ensures failed { HasCleanDisk (state S.Store conn.new) → IfErr result (Stops (state S.Store conn.old) (state S.Store conn.new)) }
-    ensures mode { conn.old.in_transaction ≡ false → conn.new.in_transaction ≡ false }
-    ensures survives { Survives (state S.Store conn.old) (state S.Store conn.new) (λ _. ⊥) }
-{
-    conn.query_all("SELECT rowid, * FROM kept ORDER BY 3", &[])
-}
-
-/// All kept replies, in the order of their numbers.
-pub fn kept_replies<S: Alter>(alloc: Global, conn: &mut Connection<S>) -> Result<Vec<Kept>, Error>
-    requires { HasCleanDisk (state S.Store conn.old) → Has kept (state S.Store conn.old).now }
-    ensures listed { HasCleanDisk (state S.Store conn.new) → IfOk result (λ all. IsListing (codes "kept") (2 ∷ []) (state S.Store conn.old).now (map stored_kept all.items) × IsUnchanged (state S.Store conn.old) (state S.Store conn.new)) }
-    ensures failed { HasCleanDisk (state S.Store conn.new) → IfErr result (Stops (state S.Store conn.old) (state S.Store conn.new)) }
-    ensures mode { conn.old.in_transaction ≡ false → conn.new.in_transaction ≡ false }
-    ensures survives { Survives (state S.Store conn.old) (state S.Store conn.new) (λ _. ⊥) }
-{
-    let rows = kept_rows(conn)?;
-    records_of(alloc, &rows)
-}
-
-fn one_edition_rows<S: Alter>(conn: &mut Connection<S>, number: u32) -> Result<Vec<Row>, Error>
+fn one_edition_rows<S: Alter>(conn: &mut Connection<S>, number: i64) -> Result<Vec<Row>, Error>
     requires { HasCleanDisk (state S.Store conn.old) → Has edition_table (state S.Store conn.old).now }
     ensures selected { HasCleanDisk (state S.Store conn.new) → IfOk result (λ rows. IsSelection (codes "edition") (equals_number 1 number) (1 ∷ []) (state S.Store conn.old).now rows.items × IsUnchanged (state S.Store conn.old) (state S.Store conn.new)) }
-    ensures failed { HasCleanDisk (state S.Store conn.new) → IfErr result (Stops (state S.Store conn.old) (state S.Store conn.new)) }
+    ensures failed { HasCleanDisk (state S.Store conn.new) → IfErr result (FailsToRead (state S.Store conn.old) (state S.Store conn.new)) }
     ensures mode { conn.old.in_transaction ≡ false → conn.new.in_transaction ≡ false }
     ensures survives { Survives (state S.Store conn.old) (state S.Store conn.new) (λ _. ⊥) }
 {
@@ -172,11 +108,11 @@ fn one_edition_rows<S: Alter>(conn: &mut Connection<S>, number: u32) -> Result<V
 pub fn editions_numbered<S: Alter>(
     alloc: Global,
     conn: &mut Connection<S>,
-    number: u32,
+    number: i64,
 ) -> Result<Vec<Edition>, Error>
     requires { HasCleanDisk (state S.Store conn.old) → Has edition_table (state S.Store conn.old).now }
     ensures selected { HasCleanDisk (state S.Store conn.new) → IfOk result (λ all. IsSelection (codes "edition") (equals_number 1 number) (1 ∷ []) (state S.Store conn.old).now (map stored_edition all.items) × IsUnchanged (state S.Store conn.old) (state S.Store conn.new)) }
-    ensures failed { HasCleanDisk (state S.Store conn.new) → IfErr result (Stops (state S.Store conn.old) (state S.Store conn.new)) }
+    ensures failed { HasCleanDisk (state S.Store conn.new) → IfErr result (FailsToList edition_columns (filter (equals_number 1 number) (rows_of (codes "edition") (state S.Store conn.old).now)) (state S.Store conn.old) (state S.Store conn.new)) }
     ensures mode { conn.old.in_transaction ≡ false → conn.new.in_transaction ≡ false }
     ensures survives { Survives (state S.Store conn.old) (state S.Store conn.new) (λ _. ⊥) }
 {
@@ -184,39 +120,10 @@ pub fn editions_numbered<S: Alter>(
     records_of(alloc, &rows)
 }
 
-fn some_entries_rows<S: Alter>(conn: &mut Connection<S>, edition: u32) -> Result<Vec<Row>, Error>
-    requires { HasCleanDisk (state S.Store conn.old) → Has entry (state S.Store conn.old).now }
-    ensures selected { HasCleanDisk (state S.Store conn.new) → IfOk result (λ rows. IsSelection (codes "entry") (equals_number 1 edition) (2 ∷ []) (state S.Store conn.old).now rows.items × IsUnchanged (state S.Store conn.old) (state S.Store conn.new)) }
-    ensures failed { HasCleanDisk (state S.Store conn.new) → IfErr result (Stops (state S.Store conn.old) (state S.Store conn.new)) }
-    ensures mode { conn.old.in_transaction ≡ false → conn.new.in_transaction ≡ false }
-    ensures survives { Survives (state S.Store conn.old) (state S.Store conn.new) (λ _. ⊥) }
-{
-    conn.query_all(
-        "SELECT rowid, * FROM entry WHERE edition = ?1 ORDER BY 3",
-        params![edition],
-    )
-}
-
-/// The entries of this edition, in their order.
-pub fn entries_of<S: Alter>(
-    alloc: Global,
-    conn: &mut Connection<S>,
-    edition: u32,
-) -> Result<Vec<Entry>, Error>
-    requires { HasCleanDisk (state S.Store conn.old) → Has entry (state S.Store conn.old).now }
-    ensures selected { HasCleanDisk (state S.Store conn.new) → IfOk result (λ all. IsSelection (codes "entry") (equals_number 1 edition) (2 ∷ []) (state S.Store conn.old).now (map stored_entry all.items) × IsUnchanged (state S.Store conn.old) (state S.Store conn.new)) }
-    ensures failed { HasCleanDisk (state S.Store conn.new) → IfErr result (Stops (state S.Store conn.old) (state S.Store conn.new)) }
-    ensures mode { conn.old.in_transaction ≡ false → conn.new.in_transaction ≡ false }
-    ensures survives { Survives (state S.Store conn.old) (state S.Store conn.new) (λ _. ⊥) }
-{
-    let rows = some_entries_rows(conn, edition)?;
-    records_of(alloc, &rows)
-}
-
 fn one_kept_rows<S: Alter>(conn: &mut Connection<S>, id: &str) -> Result<Vec<Row>, Error>
     requires { HasCleanDisk (state S.Store conn.old) → Has kept (state S.Store conn.old).now }
     ensures selected { HasCleanDisk (state S.Store conn.new) → IfOk result (λ rows. IsSelection (codes "kept") (equals_text 1 id.now) (2 ∷ []) (state S.Store conn.old).now rows.items × IsUnchanged (state S.Store conn.old) (state S.Store conn.new)) }
-    ensures failed { HasCleanDisk (state S.Store conn.new) → IfErr result (Stops (state S.Store conn.old) (state S.Store conn.new)) }
+    ensures failed { HasCleanDisk (state S.Store conn.new) → IfErr result (FailsToRead (state S.Store conn.old) (state S.Store conn.new)) }
     ensures mode { conn.old.in_transaction ≡ false → conn.new.in_transaction ≡ false }
     ensures survives { Survives (state S.Store conn.old) (state S.Store conn.new) (λ _. ⊥) }
 {
@@ -234,7 +141,7 @@ pub fn kept_replies_of<S: Alter>(
 ) -> Result<Vec<Kept>, Error>
     requires { HasCleanDisk (state S.Store conn.old) → Has kept (state S.Store conn.old).now }
     ensures selected { HasCleanDisk (state S.Store conn.new) → IfOk result (λ all. IsSelection (codes "kept") (equals_text 1 id.now) (2 ∷ []) (state S.Store conn.old).now (map stored_kept all.items) × IsUnchanged (state S.Store conn.old) (state S.Store conn.new)) }
-    ensures failed { HasCleanDisk (state S.Store conn.new) → IfErr result (Stops (state S.Store conn.old) (state S.Store conn.new)) }
+    ensures failed { HasCleanDisk (state S.Store conn.new) → IfErr result (FailsToList kept_columns (filter (equals_text 1 id.now) (rows_of (codes "kept") (state S.Store conn.old).now)) (state S.Store conn.old) (state S.Store conn.new)) }
     ensures mode { conn.old.in_transaction ≡ false → conn.new.in_transaction ≡ false }
     ensures survives { Survives (state S.Store conn.old) (state S.Store conn.new) (λ _. ⊥) }
 {

@@ -1,32 +1,40 @@
 //! The records of the tables, as they are read.
 
-ghost use Rattle.std.specs.Prelude.{◌≡◌, List, IfOk};
+ghost use Rattle.std.specs.Prelude.{◌≡◌, ◌≢◌, List, IfOk, IfErr, OnOk};
+ghost use Rattle.sqlite.specs.declared.error.ErrorCode.TheVariants.{OutOfMemory};
 ghost use Rattle.sqlite.specs.declared.types.Value.{Value as SqlValue};
-ghost use Rattle.dict_sql.specs.Stored.{stored_mark, stored_item, stored_member, stored_edition, stored_entry, stored_kept};
+ghost use Rattle.dict_sql.specs.Stored.{Content, HasColumns, stored_mark, stored_item, stored_member, stored_edition, stored_entry, stored_kept, mark_columns, item_columns, member_columns, edition_columns, entry_columns, kept_columns};
 
 use sqlite::{Error, Row};
 
 /// A record that is read from a row: the rowid, and then the columns in their order.
 pub trait Record: Sized {
+    // The row that it stands in, and what each column of such a row holds.
     ghost stored: { Self → List SqlValue };
+
+    ghost columns: { List Content };
 
     /// The record, or the error of the first column that doesn't hold what the record has there. A row of another width is refused as a column that isn't there.
     fn from_row(row: &Row) -> Result<Self, Error>
-        ensures { IfOk result (λ r. row.now ≡ stored r) };
+        ensures read { IfOk result (λ r. row.now ≡ stored r) }
+        ensures lawful { OnOk result (HasColumns columns row.now) }
+        ensures refused { IfErr result (λ e. e ≢ Error.SqliteFailure OutOfMemory → ¬ HasColumns columns row.now) };
 }
 
 /// The mark, with the rowid of its row.
 #[derive(Drop)]
 pub struct Mark {
     pub rowid: i64,
-    pub id: u32,
+    pub id: i64,
     pub magic: String,
-    pub version: u32,
-    pub installs: u32,
+    pub version: i64,
+    pub installs: i64,
 }
 
 impl Record for Mark {
     ghost stored = { stored_mark };
+
+    ghost columns = { mark_columns };
 
     fn from_row(row: &Row) -> Result<Mark, Error> {
         if row.column_count() != 5 {
@@ -46,16 +54,18 @@ impl Record for Mark {
 #[derive(Drop)]
 pub struct Item {
     pub rowid: i64,
-    pub place: u32,
+    pub place: i64,
     pub name: String,
-    pub kind: u32,
+    pub kind: i64,
     pub title: Option<String>,
-    pub current: Option<u32>,
-    pub former: Option<u32>,
+    pub current: Option<i64>,
+    pub former: Option<i64>,
 }
 
 impl Record for Item {
     ghost stored = { stored_item };
+
+    ghost columns = { item_columns };
 
     fn from_row(row: &Row) -> Result<Item, Error> {
         if row.column_count() != 7 {
@@ -78,12 +88,14 @@ impl Record for Item {
 pub struct Member {
     pub rowid: i64,
     pub owner: String,
-    pub ord: u32,
+    pub ord: i64,
     pub name: String,
 }
 
 impl Record for Member {
     ghost stored = { stored_member };
+
+    ghost columns = { member_columns };
 
     fn from_row(row: &Row) -> Result<Member, Error> {
         if row.column_count() != 4 {
@@ -102,7 +114,7 @@ impl Record for Member {
 #[derive(Drop)]
 pub struct Edition {
     pub rowid: i64,
-    pub number: u32,
+    pub number: i64,
     pub owner: String,
     pub title: String,
     pub info: String,
@@ -111,6 +123,8 @@ pub struct Edition {
 
 impl Record for Edition {
     ghost stored = { stored_edition };
+
+    ghost columns = { edition_columns };
 
     fn from_row(row: &Row) -> Result<Edition, Error> {
         if row.column_count() != 6 {
@@ -131,15 +145,17 @@ impl Record for Edition {
 #[derive(Drop)]
 pub struct Entry {
     pub rowid: i64,
-    pub edition: u32,
-    pub ord: u32,
+    pub edition: i64,
+    pub ord: i64,
     pub headword: String,
-    pub start: u32,
-    pub length: u32,
+    pub start: i64,
+    pub length: i64,
 }
 
 impl Record for Entry {
     ghost stored = { stored_entry };
+
+    ghost columns = { entry_columns };
 
     fn from_row(row: &Row) -> Result<Entry, Error> {
         if row.column_count() != 6 {
@@ -161,14 +177,16 @@ impl Record for Entry {
 pub struct Kept {
     pub rowid: i64,
     pub id: String,
-    pub number: u32,
+    pub number: i64,
     pub verb: String,
     pub name: String,
-    pub edition: Option<u32>,
+    pub edition: Option<i64>,
 }
 
 impl Record for Kept {
     ghost stored = { stored_kept };
+
+    ghost columns = { kept_columns };
 
     fn from_row(row: &Row) -> Result<Kept, Error> {
         if row.column_count() != 6 {

@@ -2,6 +2,7 @@ use Rattle.sqlite.specs.Held.{state}
 use Rattle.std.proofs.Common.{ap, arith}
 use Rattle.dict_sql.specs.Inserts.{insert_entry}
 use Rattle.dict_sql.specs.Records.{Entry, entry_row}
+use Rattle.dict_sql.proofs.NumberLemmas.{bound_int}
 use Rattle.dict_sql.proofs.StateLemmas.{inside, fails_in}
 use Rattle.dict_sql.proofs.AddLemmas.{adds_entry}
 use Rattle.dict_sql.proofs.insert.insert_entry.Goals as goal
@@ -12,7 +13,7 @@ returns-clause-added g c clean =
     let new = state g.S.Store c.execute.new.self.conn.now in
     let given : Entry = record { edition = c.args.edition; ord = c.args.ord; headword = c.args.headword.now; start = c.args.start; length = c.args.length } in
     inside insert_entry (entry_row given) old new c.execute.result (λ count. adds_entry old new given count (c.requires (omega (arith, c.execute.ensures.survives.clean)))) (λ outside. (c.execute.ensures.ended outside).0)
-    (λ within. rw (c.params-to_sql.ensures, c.params-to_sql-2.ensures, c.params-to_sql-3.ensures, c.params-to_sql-4.ensures, c.params-to_sql-5.ensures) at (c.execute.ensures.runs clean within))
+    (λ within. rw ((bound_int _ c.args.edition c.ranges.edition c.params-to_sql.ensures), (bound_int _ c.args.ord c.ranges.ord c.params-to_sql-2.ensures), c.params-to_sql-3.ensures, (bound_int _ c.args.start c.ranges.start c.params-to_sql-4.ensures), (bound_int _ c.args.length c.ranges.length c.params-to_sql-5.ensures)) at (c.execute.ensures.runs clean within))
 
 pub returns-clause-failed : goal.returns-clause-failed
 returns-clause-failed g c clean =

@@ -2,6 +2,7 @@ use Rattle.sqlite.specs.Held.{state}
 use Rattle.std.proofs.Common.{ap, arith}
 use Rattle.dict_sql.specs.Inserts.{insert_kept}
 use Rattle.dict_sql.specs.Records.{Kept, kept_row}
+use Rattle.dict_sql.proofs.NumberLemmas.{bound_int}
 use Rattle.dict_sql.proofs.StateLemmas.{inside, fails_in}
 use Rattle.dict_sql.proofs.AddLemmas.{adds_kept, bound_number}
 use Rattle.dict_sql.proofs.insert.insert_kept.Goals as goal
@@ -12,7 +13,7 @@ returns-clause-added g c clean =
     let new = state g.S.Store c.execute.new.self.conn.now in
     let given : Kept = record { id = c.args.id.now; number = c.args.number; verb = c.args.verb.now; name = c.args.name.now; edition = c.args.edition } in
     inside insert_kept (kept_row given) old new c.execute.result (λ count. adds_kept old new given count (c.requires (omega (arith, c.execute.ensures.survives.clean)))) (λ outside. (c.execute.ensures.ended outside).0)
-    (λ within. rw (c.params-to_sql.ensures, c.params-to_sql-2.ensures, c.params-to_sql-3.ensures, c.params-to_sql-4.ensures, c.params-to_sql-5.ensures, bound_number c.args.edition) at (c.execute.ensures.runs clean within))
+    (λ within. rw (c.params-to_sql.ensures, (bound_int _ c.args.number c.ranges.number c.params-to_sql-2.ensures), c.params-to_sql-3.ensures, c.params-to_sql-4.ensures, c.params-to_sql-5.ensures, bound_number c.args.edition) at (c.execute.ensures.runs clean within))
 
 pub returns-clause-failed : goal.returns-clause-failed
 returns-clause-failed g c clean =

@@ -2,6 +2,7 @@ use Rattle.sqlite.specs.Held.{state}
 use Rattle.std.proofs.Common.{ap, arith}
 use Rattle.dict_sql.specs.Inserts.{insert_mark}
 use Rattle.dict_sql.specs.Records.{Mark, mark_row}
+use Rattle.dict_sql.proofs.NumberLemmas.{bound_int}
 use Rattle.dict_sql.proofs.StateLemmas.{inside, fails_in}
 use Rattle.dict_sql.proofs.AddLemmas.{adds_mark}
 use Rattle.dict_sql.proofs.insert.insert_mark.Goals as goal
@@ -12,7 +13,7 @@ returns-clause-added g c clean =
     let new = state g.S.Store c.execute.new.self.conn.now in
     let given : Mark = record { magic = c.args.magic.now; version = c.args.version; installs = c.args.installs } in
     inside insert_mark (mark_row given) old new c.execute.result (λ count. adds_mark old new given count (c.requires (omega (arith, c.execute.ensures.survives.clean)))) (λ outside. (c.execute.ensures.ended outside).0)
-    (λ within. rw (c.params-to_sql.ensures, c.params-to_sql-2.ensures, c.params-to_sql-3.ensures, c.params-to_sql-4.ensures) at (c.execute.ensures.runs clean within))
+    (λ within. rw (c.params-to_sql.ensures, c.params-to_sql-2.ensures, (bound_int _ c.args.version c.ranges.version c.params-to_sql-3.ensures), (bound_int _ c.args.installs c.ranges.installs c.params-to_sql-4.ensures)) at (c.execute.ensures.runs clean within))
 
 pub returns-clause-failed : goal.returns-clause-failed
 returns-clause-failed g c clean =

@@ -3,7 +3,8 @@ use Rattle.sqlite.specs.Held.{state}
 use Rattle.dict_tables.specs.Tables.{mark}
 use Rattle.dict_sql.specs.Reads.{select_mark}
 use Rattle.dict_sql.proofs.ReadTexts.{read_mark, reads_mark}
-use Rattle.dict_sql.proofs.ListingLemmas.{lists_whole, selects, fails_to_list, reads_nothing_else}
+use Rattle.dict_sql.proofs.ListingLemmas.{lists_whole, selects, reads_nothing_else}
+use Rattle.dict_sql.proofs.ReadFaults.{nothing, takes_mark, fails_to_list}
 use Rattle.dict_sql.proofs.read.mark_rows.Goals as goal
 
 pub returns-clause-listed : goal.returns-clause-listed
@@ -13,7 +14,7 @@ returns-clause-listed g c clean =
 
 pub returns-clause-failed : goal.returns-clause-failed
 returns-clause-failed g c clean =
-    fails_to_list select_mark read_mark mark _ _ _ _ _ _ _ _ reads_mark (λ tree. refl) [] (λ _. true) (λ tree row. refl) (state g.S.Store c.args.conn.now) (state g.S.Store c.query_all.new.self) c.query_all.result (c.requires (omega (arith, c.query_all.ensures.survives.clean))) (c.query_all.ensures.err clean)
+    fails_to_list select_mark read_mark mark _ _ _ _ _ _ _ _ reads_mark nothing takes_mark tt (state g.S.Store c.args.conn.now) (state g.S.Store c.query_all.new.self) (c.requires (omega (arith, c.query_all.ensures.survives.clean))) c.query_all.result (c.query_all.ensures.err clean)
 
 pub returns-clause-survives : goal.returns-clause-survives
 returns-clause-survives g c =

@@ -1,10 +1,18 @@
-use Rattle.std.proofs.Common.{◌≡◌, ◌∙◌, refl, arith, length, rules}
-use Rattle.sqlite.specs.Order.{column}
+use Rattle.std.proofs.Common.{◌≡◌, ◌∙◌, sym, subst, arith, length, rules}
+use Rattle.std.proofs.lemmas.Str.{IsUtf8-string_bytes}
+use Rattle.dict_sql.specs.Stored.{HasColumns, member_columns}
 use Rattle.dict_sql.proofs.RowLemmas.{cells}
 use Rattle.dict_sql.proofs.records.MemberRecord.from_row.Goals as goal
 
-pub returns : goal.returns
-returns c =
+pub returns-clause-read : goal.returns-clause-read
+returns-clause-read c =
     let row = c.args.row.now in
     let wide : length row ≡ 4 = omega (arith, c.column_count.ensures) in
     cells row 4 wide ∙ rw (c.in_ok-get-2.ensures.ok.1, c.in_ok-get-3.ensures.ok.1, c.in_ok-get-4.ensures.ok.1) (rw c.in_ok-get.ensures.ok.1 (search rules))
+
+pub returns-clause-lawful : goal.returns-clause-lawful
+returns-clause-lawful c =
+    let row = c.args.row.now in
+    let wide : length row ≡ 4 = omega (arith, c.column_count.ensures) in
+    subst (HasColumns member_columns) (sym (cells row 4 wide))
+    ((_, c.in_ok-get.ensures.ok.1), ((_, c.in_ok-get-2.ensures.ok.1, IsUtf8-string_bytes c.in_ok-get-2.field-0), ((_, c.in_ok-get-3.ensures.ok.1), ((_, c.in_ok-get-4.ensures.ok.1, IsUtf8-string_bytes c.in_ok-get-4.field-0), tt))))

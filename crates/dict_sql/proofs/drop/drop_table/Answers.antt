@@ -1,0 +1,18 @@
+use Rattle.std.proofs.Common.{[], ap, arith}
+use Rattle.sqlite.specs.Held.{state}
+use Rattle.dict_sql.specs.Drops.{drop_text}
+use Rattle.dict_sql.proofs.StateLemmas.{inside, fails_in}
+use Rattle.dict_sql.proofs.DropLemmas.{drops_table}
+use Rattle.dict_sql.proofs.drop.drop_table.Goals as goal
+
+pub returns-clause-dropped : goal.returns-clause-dropped
+returns-clause-dropped g c clean =
+    let old = state g.S.Store c.args.tx.now.conn.now in
+    let new = state g.S.Store c.execute.new.self.conn.now in
+    inside (drop_text c.args.table) [] old new c.execute.result
+    (λ count. drops_table c.args.table old new count (c.requires (omega (arith, c.execute.ensures.survives.clean))))
+    (λ outside. (c.execute.ensures.ended outside).0) (rw c.text_of.ensures at (c.execute.ensures.runs clean))
+
+pub returns-clause-failed : goal.returns-clause-failed
+returns-clause-failed g c clean =
+    fails_in (state g.S.Store c.args.tx.now.conn.now) (state g.S.Store c.execute.new.self.conn.now) _ _ c.execute.result (λ outside. ap (state g.S.Store) (c.execute.ensures.ended outside).1) (c.execute.ensures.runs clean)

@@ -1,0 +1,34 @@
+-- The texts that drop the tables, and what DROP TABLE does to a database.
+use Rattle.std.specs.Prelude.{◌≡◌, ℕ, List, codes, Some, None}
+use Rattle.std.specs.List.{AllByRecursion}
+use Rattle.sqlite.specs.Effect.{Database, IsDatabase}
+use Rattle.sqlite.specs.Table.{Table}
+use Rattle.sqlite.specs.Change.{without_table}
+use Rattle.sqlite_schema.specs.Names.{table_named}
+use Rattle.dict_tables.specs.Tables as tables
+use Rattle.dict_sql.specs.declared.drop.StoreTable.{StoreTable}
+use Rattle.dict_sql.specs.declared.drop.StoreTable.TheVariants.{Mark, Item, Member, Edition, Entry, Kept}
+use Rattle.dict_sql.specs.Effects.{table_in}
+
+abbrev pub table_of : StoreTable → ℕ → Table
+table_of Mark = tables.mark
+table_of Item = tables.item
+table_of Member = tables.member
+table_of Edition = tables.edition
+table_of Entry = tables.entry
+table_of Kept = tables.kept
+
+abbrev pub drop_text : StoreTable → List ℕ
+drop_text Mark = codes "DROP TABLE mark"
+drop_text Item = codes "DROP TABLE item"
+drop_text Member = codes "DROP TABLE member"
+drop_text Edition = codes "DROP TABLE edition"
+drop_text Entry = codes "DROP TABLE entry"
+drop_text Kept = codes "DROP TABLE kept"
+
+-- The table is gone with the indexes of its keys, and no other of its name is there. Each other table stays in its tree, with its rows.
+pub record IsDropped (name : List ℕ) (old new : Database) : Type 0 where
+  pub schema : (table : Table) → table_in name old ≡ Some table → new.schema ≡ without_table old.schema table.tree
+  pub gone : IsDatabase old → table_named new.schema name ≡ None
+  pub others : AllByRecursion (λ t. new.trees t.tree ≡ old.trees t.tree) new.schema.tables
+  pub sound : IsDatabase new
