@@ -1,5 +1,6 @@
 pub mod LineLemmas
 pub mod KeyedLemmas
+pub mod DistinctLemmas
 pub mod HeadwordLemmas
 pub mod SeenLemmas
 pub mod StrategyLemmas

@@ -1,5 +1,5 @@
 // Sessions over a database in memory.
-use crate::{End, Plain, Session, Step, one_cut, run, spoken_answers};
+use crate::{End, Plain, Session, Step, headword_laws, one_cut, run, spoken_answers};
 use dict_index::read_edition;
 use dict_proto::{LimitedSink, OverRead};
 use std::alloc::Global;
@@ -64,6 +64,7 @@ fn runs_whole_sessions(rt: HostRuntime) -> Result<(), Fail> {
         assert_eq!(rt; writer.taken(), want.as_bytes(), "{input}");
     }
     one_cut();
+    headword_laws();
     spoken_answers();
     Ok(())
 }

@@ -7,17 +7,31 @@ use dict_proto::{LimitedSink, OverRead};
 use std::alloc::Global;
 use std::test::Fail;
 
-// What a session over gem writes, and how it ends: the input comes by a first piece of one size and then pieces of
-// another, and the sink has room for so many octets.
+// A database's name, its index and its text.
+type Files<'a> = (&'a str, &'a [u8], &'a [u8]);
+
+// What a session over these files writes, and how it ends: the input comes by a first piece of one size and then
+// pieces of another, and the sink has room for so many octets.
+fn session_over(
+    alloc: Global,
+    files: Files<'_>,
+    pieces: Pieces<'_>,
+    room: usize,
+) -> Result<(Result<(), Fault<'static>>, String), Fail> {
+    let (name, index, text) = files;
+    let mut reader = OverRead::new(pieces);
+    let mut writer = LimitedSink::new(alloc, room)?;
+    let end = run_plain(alloc, name, index, text, &mut reader, &mut writer);
+    Ok((end, taken(alloc, &writer)?))
+}
+
+// The same over gem.
 fn session(
     alloc: Global,
     pieces: Pieces<'_>,
     room: usize,
 ) -> Result<(Result<(), Fault<'static>>, String), Fail> {
-    let mut reader = OverRead::new(pieces);
-    let mut writer = LimitedSink::new(alloc, room)?;
-    let end = run_plain(alloc, "gem", GEM_INDEX, GEM_TEXT, &mut reader, &mut writer);
-    Ok((end, taken(alloc, &writer)?))
+    session_over(alloc, ("gem", GEM_INDEX, GEM_TEXT), pieces, room)
 }
 
 fn pieces(octets: &[u8], size: usize, next_size: usize) -> Pieces<'_> {
@@ -62,7 +76,7 @@ fn answers_in_any_pieces(rt: HostRuntime) -> Result<(), Fail> {
     Ok(())
 }
 
-// A line, and the headwords that it finds in the order of the answer.
+// The answer to MATCH in a database where these headwords are found.
 fn matches(alloc: Global, name: &str, headwords: &[&str]) -> Result<String, Fail> {
     let mut answer = format!(in alloc; "152 {} matches found\r\n", headwords.len())?;
     for headword in headwords {
@@ -72,31 +86,11 @@ fn matches(alloc: Global, name: &str, headwords: &[&str]) -> Result<String, Fail
     Ok(answer)
 }
 
-// What a session over these files writes after its greeting, in one piece and octet by octet.
-fn answers_over(
-    rt: &HostRuntime,
-    files: (&str, &[u8], &[u8]),
-    input: &str,
-    answer: &str,
-) -> Result<(), Fail> {
-    let alloc = rt.alloc();
-    let (name, index, text) = files;
-    let want = format!(in alloc; "{BANNER}{answer}")?;
-    for size in [1, 1000] {
-        let mut reader = OverRead::new(pieces(input.as_bytes(), size, size));
-        let mut writer = LimitedSink::new(alloc, 1000)?;
-        let end = run_plain(alloc, name, index, text, &mut reader, &mut writer);
-        assert_eq!(*rt; end, Ok(()), "{input}");
-        assert_eq!(*rt; taken(alloc, &writer)?.as_str(), want.as_str(), "{input}");
-    }
-    Ok(())
-}
-
 #[test]
 fn matches_by_each_strategy(rt: HostRuntime) -> Result<(), Fail> {
-    let gem = ("gem", GEM_INDEX, GEM_TEXT);
-    let edge = ("edge", EDGE_INDEX, EDGE_TEXT);
-    let rows: [(_, &str, &[&str]); 12] = [
+    let gem: Files = ("gem", GEM_INDEX, GEM_TEXT);
+    let edge: Files = ("edge", EDGE_INDEX, EDGE_TEXT);
+    let rows: [(Files, &str, &[&str]); 12] = [
         (gem, "MATCH gem suffix opal", &["opal", "Fire Opal"]),
         (gem, "match gem substring OPAL", &["opal", "Fire Opal"]),
         (gem, "MATCH gem . fire", &["Fire Opal"]),
@@ -110,18 +104,25 @@ fn matches_by_each_strategy(rt: HostRuntime) -> Result<(), Fail> {
         (edge, "MATCH edge suffix \u{10FFFF}", &["a\u{10FFFF}"]),
         (edge, "MATCH edge . b", &["b"]),
     ];
+    let alloc = rt.alloc();
     for (files, line, headwords) in rows {
-        let input = format!(in rt.alloc(); "{line}\r\n")?;
-        let answer = matches(rt.alloc(), files.0, headwords)?;
-        answers_over(&rt, files, input.as_str(), answer.as_str())?;
+        let input = format!(in alloc; "{line}\r\n")?;
+        let answer = matches(alloc, files.0, headwords)?;
+        let want = format!(in alloc; "{BANNER}{answer}")?;
+        for size in [1, 1000] {
+            let input = pieces(input.as_bytes(), size, size);
+            let (end, octets) = session_over(alloc, files, input, 1000)?;
+            assert_eq!(rt; end, Ok(()), "{line}");
+            assert_eq!(rt; octets.as_str(), want.as_str(), "{line}");
+        }
     }
     Ok(())
 }
 
 #[test]
 fn answers_what_is_not_found(rt: HostRuntime) -> Result<(), Fail> {
-    let gem = ("gem", GEM_INDEX, GEM_TEXT);
-    let plus = ("gem2", PLUS_INDEX, PLUS_TEXT);
+    let gem: Files = ("gem", GEM_INDEX, GEM_TEXT);
+    let plus: Files = ("gem2", PLUS_INDEX, PLUS_TEXT);
     let rows = [
         (gem, "MATCH nosuch nosuch x\r\n", "550 invalid database\r\n"),
         (gem, "MATCH gem nosuch x\r\n", "551 invalid strategy\r\n"),
@@ -135,8 +136,19 @@ fn answers_what_is_not_found(rt: HostRuntime) -> Result<(), Fail> {
         ),
         (plus, "DEFINE gem2 -\r\n", "552 no match\r\n"),
     ];
+    let alloc = rt.alloc();
     for (files, input, answer) in rows {
-        answers_over(&rt, files, input, answer)?;
+        let want = format!(in alloc; "{BANNER}{answer}")?;
+        for size in [1, 1000] {
+            let (end, octets) = session_over(
+                alloc,
+                files,
+                pieces(input.as_bytes(), size, size),
+                1000,
+            )?;
+            assert_eq!(rt; end, Ok(()), "{input}");
+            assert_eq!(rt; octets.as_str(), want.as_str(), "{input}");
+        }
     }
     Ok(())
 }
