@@ -1,0 +1,16 @@
+use Rattle.std.proofs.Common.{◌≡◌, codes, arith, rules, subst, OnOk}
+use Rattle.sqlite.specs.State.{HasCleanDisk}
+use Rattle.sqlite.specs.Held.{state}
+use Rattle.dict_tables.specs.Tables.{member}
+use Rattle.dict_sql.specs.Effects.{HasApartRowids, rows_of}
+use Rattle.dict_sql_tests.proofs.ApartLemmas.{after_commit, apart_made}
+use Rattle.dict_sql_tests.proofs.tests.members.make.Goals as goal
+
+pub returns : goal.returns
+returns g c clean =
+    let end = c.commit.new.tx.0 in
+    let same : end ≡ c.conn-2-1.given.0 = search rules in
+    let done : HasCleanDisk (state g.S.Store end) = search rules in
+    let late : HasCleanDisk (state g.S.Store c.create_member.new.tx.conn.now) = omega (arith, c.commit.ensures.survives.clean, done) in
+    subst (λ h. OnOk c.commit.result (HasApartRowids (rows_of (codes "member") (state g.S.Store h).now))) same
+    (after_commit (codes "member") c.commit.result _ _ (c.commit.ensures.committed done) (apart_made (member 0) _ _ (c.in_ok-create_member.ensures.made late).0))
