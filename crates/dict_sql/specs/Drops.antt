@@ -26,7 +26,7 @@ drop_text Edition = codes "DROP TABLE edition"
 drop_text Entry = codes "DROP TABLE entry"
 drop_text Kept = codes "DROP TABLE kept"
 
--- The table is gone with the indexes of its keys, and no other of its name is there. Each other table stays in its tree, with its rows.
+-- The table is gone with its indexes, and no other of its name is there. Each other table stays in its tree, with its rows.
 pub record IsDropped (name : List ℕ) (old new : Database) : Type 0 where
   pub schema : (table : Table) → table_in name old ≡ Some table → new.schema ≡ without_table old.schema table.tree
   pub gone : IsDatabase old → table_named new.schema name ≡ None

@@ -32,7 +32,7 @@ fn text_of(table: StoreTable) -> &'static str
     }
 }
 
-/// Drops the table with its rows and the indexes of its keys. It answers the count that `sqlite` reports.
+/// Drops the table with its rows and its indexes. It answers the count that `sqlite` reports.
 pub fn drop_table<S: Alter>(tx: &mut Transaction<'_, S>, table: StoreTable) -> Result<usize, Error>
     requires { HasCleanDisk (state S.Store tx.old.conn.now) → Has (table_of table) (state S.Store tx.old.conn.now).now }
     ensures same_reference { tx.new.conn.ghost_name ≡ tx.old.conn.ghost_name }
