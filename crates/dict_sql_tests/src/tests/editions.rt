@@ -80,7 +80,11 @@ fn all<S: Alter>(alloc: Global, conn: &mut Connection<S>) -> Result<Vec<Edition>
 }
 
 /// Taking one edition out leaves the others. Texts may be empty, and have quote signs and control characters.
-pub fn run<S: Alter>(rt: &impl Abort, alloc: Global, conn: &mut Connection<S>) -> Result<(), Fail> {
+pub(crate) fn run<S: Alter>(
+    rt: &impl Abort,
+    alloc: Global,
+    conn: &mut Connection<S>,
+) -> Result<(), Fail> {
     make(conn)?;
     put(conn, 1, "gone", b"gone")?;
     put(conn, 3, "", b"")?;

@@ -87,7 +87,11 @@ fn of<S: Alter>(
 }
 
 /// Entries come by edition and then in their order, and taking out those of one edition leaves those of another.
-pub fn run<S: Alter>(rt: &impl Abort, alloc: Global, conn: &mut Connection<S>) -> Result<(), Fail> {
+pub(crate) fn run<S: Alter>(
+    rt: &impl Abort,
+    alloc: Global,
+    conn: &mut Connection<S>,
+) -> Result<(), Fail> {
     make(conn)?;
     put(conn, 1, 0, "gone")?;
     put(conn, 2, 0, "'ore'")?;

@@ -75,7 +75,11 @@ fn list<S: Alter>(alloc: Global, conn: &mut Connection<S>) -> Result<Vec<Item>, 
 }
 
 /// Items come in the order of their places, with a title or an edition or none.
-pub fn run<S: Alter>(rt: &impl Abort, alloc: Global, conn: &mut Connection<S>) -> Result<(), Fail> {
+pub(crate) fn run<S: Alter>(
+    rt: &impl Abort,
+    alloc: Global,
+    conn: &mut Connection<S>,
+) -> Result<(), Fail> {
     make(conn)?;
     put(conn, 0, "old", None, Some(9))?;
     remove(conn)?;

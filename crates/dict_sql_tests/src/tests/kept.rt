@@ -67,7 +67,11 @@ fn past_a_fault<S: Alter>(alloc: Global, conn: &mut Connection<S>) -> Result<(bo
 }
 
 /// Kept replies come in the order of their numbers, and are found by their ids. A row that is asked for as another record is refused, and those behind it are read.
-pub fn run<S: Alter>(rt: &impl Abort, alloc: Global, conn: &mut Connection<S>) -> Result<(), Fail> {
+pub(crate) fn run<S: Alter>(
+    rt: &impl Abort,
+    alloc: Global,
+    conn: &mut Connection<S>,
+) -> Result<(), Fail> {
     make(conn)?;
     put(conn, "r2", 2, Some(9_223_372_036_854_775_807))?;
     put(conn, "it's", 1, None)?;

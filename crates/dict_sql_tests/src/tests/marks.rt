@@ -62,7 +62,11 @@ fn list<S: Alter>(alloc: Global, conn: &mut Connection<S>) -> Result<Vec<Mark>, 
 }
 
 /// One mark is put in and taken out, and another put in. Every number of 64 bits is read.
-pub fn run<S: Alter>(rt: &impl Abort, alloc: Global, conn: &mut Connection<S>) -> Result<(), Fail> {
+pub(crate) fn run<S: Alter>(
+    rt: &impl Abort,
+    alloc: Global,
+    conn: &mut Connection<S>,
+) -> Result<(), Fail> {
     make(conn)?;
     put(conn, 1, 7)?;
     remove(conn)?;

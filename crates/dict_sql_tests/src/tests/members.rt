@@ -61,7 +61,11 @@ fn list<S: Alter>(alloc: Global, conn: &mut Connection<S>) -> Result<Vec<Member>
 }
 
 /// Members come by owner and then in their order.
-pub fn run<S: Alter>(rt: &impl Abort, alloc: Global, conn: &mut Connection<S>) -> Result<(), Fail> {
+pub(crate) fn run<S: Alter>(
+    rt: &impl Abort,
+    alloc: Global,
+    conn: &mut Connection<S>,
+) -> Result<(), Fail> {
     make(conn)?;
     put(conn, "old", 0, "gem")?;
     remove(conn)?;
