@@ -17,11 +17,11 @@ use Rattle.dict_sql.proofs.InsertLemmas.{adds_chosen, adds_given, cast_int, cast
 use Rattle.dict_sql.proofs.TextLemmas.{insert_command, insert_plain}
 use Rattle.dict_sql.proofs.InsertTexts.{mark_terms, read_mark, reads_mark, item_terms, read_item, reads_item, member_terms, read_member, reads_member, edition_terms, read_edition, reads_edition, entry_terms, read_entry, reads_entry, kept_terms, read_kept, reads_kept}
 
-cast_number : (o : Option ℤ) → cast Integer (number_or_null o) ≡ number_or_null o
+pub cast_number : (o : Option ℤ) → cast Integer (number_or_null o) ≡ number_or_null o
 cast_number None = cast_null
 cast_number (Some n) = cast_int n
 
-cast_text : (o : Option (List ℕ)) → cast OfText (text_or_null o) ≡ text_or_null o
+pub cast_text : (o : Option (List ℕ)) → cast OfText (text_or_null o) ≡ text_or_null o
 cast_text None = refl
 cast_text (Some t) = refl
 

@@ -89,7 +89,7 @@ module _ (text : List ℕ) (p : Parsed) (table : Table) (r : ReadsCreate text p 
     unfolding planned meaning command returning timed
     planned_is = rw (r.statement, r.formats, creates_is) refl
 
-    compiles : understood schema text ≡ Ok (with_command p ([], (CreateTable, None)))
+    pub compiles : understood schema text ≡ Ok (with_command p ([], (CreateTable, None)))
     unfolding compiled understood
     compiles = rw (r.read, planned_is) refl
 
@@ -99,7 +99,7 @@ module _ (text : List ℕ) (p : Parsed) (table : Table) (r : ReadsCreate text p 
     create_plain : IsPlain (understood schema text)
     create_plain = rw compiles (refl, refl)
 
-    create_text : statement_of text (understood schema text) ≡ text
+    pub create_text : statement_of text (understood schema text) ≡ text
     create_text = rw compiles (r.whole ([], (CreateTable, None)))
 
   module _ (old new : State) (count : ℕ) (free : IsFree old.now.schema table.name) where
@@ -125,7 +125,7 @@ module _ (text : List ℕ) (p : Parsed) (table : Table) (r : ReadsCreate text p 
     unfolding is_sequence
     lacks_by_name s = ap (λ (o : Option Table). list_any (λ (t : Table). t.is_counted) s.tables && not (is_some o)) (found is_sequence s.tables)
 
-    lacks_none : lacks_sequence after ≡ false
+    pub lacks_none : lacks_sequence after ≡ false
     lacks_none = lacks_by_name after ∙ lacks_no_more (λ (t : Table). t.is_counted) is_sequence schema.tables made_table r.uncounted (sym (lacks_by_name schema) ∙ free.counted)
 
     no_rows_yet : (db : Database) → db.schema ≡ after → db.trees (next_tree schema) ≡ [] → rows_of table.name db ≡ []
@@ -149,6 +149,7 @@ module _ (text : List ℕ) (p : Parsed) (table : Table) (r : ReadsCreate text p 
           counted = ap (λ (d : Database). lacks_sequence d.schema) now ∙ plain;
           empty = no_rows_yet new.now (ap (λ (d : Database). d.schema) now ∙ is) (ap (λ (d : Database). d.trees (next_tree schema)) now ∙ made.empty);
           others = subst (λ (d : Database). AllByRecursion (λ t. d.trees t.tree ≡ old.now.trees t.tree) schema.tables) (sym now) made.others;
+          unread = w.frozen;
           sound = w.sound;
         }
 

@@ -1,5 +1,5 @@
 -- What a DELETE does to the rows of a table.
-use Rattle.std.proofs.Common.{◌≡◌, ◌≢◌, ◌==◌, ℕ, ℤ, List, [], ◌∷◌, map, filter, find, Bool, true, false, not, Option, Some, None, option_and_then, option_map, inl, inr, refl, sym, ap, subst, ◌∙◌}
+use Rattle.std.proofs.Common.{◌≡◌, ◌≢◌, ◌==◌, ℕ, ℤ, List, [], ◌∷◌, map, filter, find, Bool, true, false, not, Option, Some, None, Ok, option_and_then, option_map, inl, inr, refl, sym, ap, subst, ◌∙◌}
 use Rattle.std.proofs.lemmas.Bool.{cases_Bool}
 use Rattle.std.proofs.lemmas.List.Sorted.{IsPermutation-map}
 use Rattle.std.specs.List.{AllByRecursion, IsDistinct, flat_map, filter_map}
@@ -14,8 +14,8 @@ use Rattle.sqlite.specs.Command.TheVariants.{Delete}
 use Rattle.sqlite.specs.Edit.{Edit, edit_of}
 use Rattle.sqlite.specs.Rowids.TheVariants.{Given}
 use Rattle.sqlite.specs.Does.{Tally}
-use Rattle.sqlite.specs.Rows.{Written}
-use Rattle.sqlite.specs.Effect.{Database, IsDatabase, Answers}
+use Rattle.sqlite.specs.Rows.{Written, Task, Deletes}
+use Rattle.sqlite.specs.Effect.{Database, IsDatabase, SparesFrozen, Answers}
 use Rattle.sqlite.specs.State.{State, Writes}
 use Rattle.sqlite.proofs.Callers.{one_step}
 use Rattle.sqlite_rules.specs.Edit.{Applies, id_in, without_all, taken_by}
@@ -93,28 +93,37 @@ module _ (old new : State) (at : ℕ) (table : Table) (has : HasTable old.now.sc
   abbrev db : Trees
   db = old.now.trees
 
-  abbrev program : Program
+  abbrev pub program : Program
   program = record { lets = []; body = doomed table tests }
 
-  abbrev edit : List Row → Edit
+  abbrev pub edit : List Row → Edit
   edit rows = edit_of db table (ids_of rows) Given 0 []
 
   abbrev with : Trees → Database
   with next = record { schema = old.now.schema; trees = next }
 
-  no_works : (rows : List Row) → works old.now.schema Enforced 0 table.tree (taken_by db (edit rows)) (edit rows).news ≡ []
+  pub no_works : (rows : List Row) → works old.now.schema Enforced 0 table.tree (taken_by db (edit rows)) (edit rows).news ≡ []
   no_works rows = works_among old.now.schema Enforced table.tree (taken_by db (edit rows)) old.now.schema.tables has.unreferred
+
+  abbrev pub task : Task
+  task = record { limit = old.step_limit; keys = Enforced; schema = old.now.schema; table = table; params = params }
+
+  -- what was taken out is one step
+  pub took : (it : Written) → Deletes task program db (Ok it) → (rows : List Row) × (next : Trees) × Answers old.now program params rows × Applies old.now.schema Enforced db (edit rows) next × (it.trees ≡ next)
+  took it h =
+      let given = went h in
+      let written = went given.2 in
+      let trees : it.trees ≡ written.0 = ap (λ (it : Written). it.trees) (same_ok written.2) in
+      let step = one_step old.now.schema Enforced db written.0 (edit given.0) (no_works given.0) written.1 in
+      (given.0, written.0, given.1, step, trees)
 
   deleted : Writes old new None (Delete at program) text params count → (rows : List Row) × (next : Trees) × Answers old.now program params rows × Applies old.now.schema Enforced db (edit rows) next × (new.now ≡ with next)
   deleted w =
       let is = has.is in
       let done = went (rw is at w.changed) in
       let now = ap (λ (p : Tally × Database). p.1) (same_ok (went (went done.2).2).2) in
-      let given = went done.1 in
-      let written = went given.2 in
-      let trees : done.0.trees ≡ written.0 = ap (λ (it : Written). it.trees) (same_ok written.2) in
-      let step = one_step old.now.schema Enforced db written.0 (edit given.0) (no_works given.0) written.1 in
-      (given.0, written.0, given.1, step, now ∙ ap (λ t. record { schema = old.now.schema; trees = t }) trees)
+      let gone = took done.0 done.1 in
+      (gone.0, gone.1, gone.2, gone.3, now ∙ ap (λ t. record { schema = old.now.schema; trees = t }) gone.4)
 
   rows_in : (trees : Trees) → rows_of table.name (with trees) ≡ map (shown table) (trees table.tree)
   rows_in trees = let named = has.named in let is = has.is in rw (named, is) refl
@@ -129,7 +138,7 @@ module _ (old new : State) (at : ℕ) (table : Table) (has : HasTable old.now.sc
   same_others next all other is_other = subst (λ (o : Table). AllByRecursion (λ t. t.tree ≢ o.tree → next t.tree ≡ db t.tree) old.now.schema.tables) (same_table (sym table_is ∙ is_other)) all
 
   module _ (apart : HasApartRowids (rows_of table.name old.now)) (test : Row → Bool) (tested : (r : Row) → passes params tests r ≡ test (shown table r)) where
-    left_rows : (rows : List Row) → Answers old.now program params rows → without_all (db table.tree) (ids_of rows) ≡ filter (λ r. not (passes params tests r)) (db table.tree)
+    pub left_rows : (rows : List Row) → Answers old.now program params rows → without_all (db table.tree) (ids_of rows) ≡ filter (λ r. not (passes params tests r)) (db table.tree)
     left_rows rows answers =
         let chosen = lists table.tree tests (col 1 0 ∷ []) [] params (λ r. column r 0 ∷ []) (λ _. []) (λ r. refl) (λ r. refl) db rows (answers.answer Null) in
         let ids = IsPermutation-map (λ r. id_in (rowid r)) _ _ chosen in
@@ -144,6 +153,7 @@ module _ (old new : State) (at : ℕ) (table : Table) (has : HasTable old.now.sc
           schema = refl;
           rows = rows_in next ∙ ap (map (shown table)) left ∙ filter_shown table (passes params tests) test tested (db table.tree) ∙ sym (ap (filter (λ r. not (test r))) (rows_in db));
           others = same_others next done.3.tables;
+          unread = subst (SparesFrozen old.now) done.4 w.frozen;
           sound = subst IsDatabase done.4 w.sound;
         } in
         subst (IsRemoved table.name test old.now) (sym done.4) made

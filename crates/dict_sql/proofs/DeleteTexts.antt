@@ -116,10 +116,10 @@ entry_goes tree n row = and_true _ ∙ equals_is (column row 1) n
 
 module _ (text : List ℕ) (p : Parsed) (table : ℕ → Table) (condition : Option Expr) (filter : List Term) (left : ℕ) (r : ReadsDelete text p table condition filter left) where
   module _ (schema : Schema) (at tree : ℕ) (has : HasTable schema at (table tree)) where
-    abbrev command : Command
+    abbrev pub command : Command
     command = Delete at (record { lets = []; body = doomed (table tree) filter })
 
-    compiles : understood schema text ≡ Ok (with_command p ([], (command, None)))
+    pub compiles : understood schema text ≡ Ok (with_command p ([], (command, None)))
     compiles = delete_text_is schema at (table tree) has condition filter left (r.tests schema at tree has.is) (r.accepted schema tree has.alone (lt-leb (2 ^ 31) (table tree).tree has.stored)) text p r.read (r.statement tree) r.formats
 
     delete_command : command_of (understood schema text) ≡ command

@@ -46,11 +46,11 @@ itself n = from_T (n == n) (eqb_refl n)
     from_T true h = refl
     from_T false h = absurd h
 
-not_taken : (b : Bool) (P Q : Type 0) → b ≡ false → MatchBool b P Q → Q
+pub not_taken : (b : Bool) (P Q : Type 0) → b ≡ false → MatchBool b P Q → Q
 not_taken true P Q e h = absurd (let both = e in cc)
 not_taken false P Q e h = h
 
-not_counted : (task : Task) (db next : Trees) (b : Bool) (o : Option Table) → b ≡ false → UncountsIn task db (if b then o else None) (Ok next) → next ≡ db
+pub not_counted : (task : Task) (db next : Trees) (b : Bool) (o : Option Table) → b ≡ false → UncountsIn task db (if b then o else None) (Ok next) → next ≡ db
 not_counted task db next true o e h = absurd (let both = e in cc)
 not_counted task db next false o e h = same_value h
 
@@ -109,7 +109,7 @@ module _ (schema : Schema) (at : ℕ) (table : Table) (has : HasTable schema at 
   found_is : find (λ t. same_name t.name table.name) schema.tables ≡ Some table
   found_is = let named = has.named in let is = has.is in sym (found (λ t. same_name t.name table.name) schema.tables) ∙ rw (named, is) refl
 
-  not_parent : (ref : Reference) → is_in table.tree (find (λ t. same_name t.name ref.parent) schema.tables) ≡ false → same_name table.name ref.parent ≡ false
+  pub not_parent : (ref : Reference) → is_in table.tree (find (λ t. same_name t.name ref.parent) schema.tables) ≡ false → same_name table.name ref.parent ≡ false
   not_parent ref out = elim (cases_Bool (same_name table.name ref.parent)) [
     | inl hit ↦ absurd (let parent = sym (find_same (λ t. same_name t.name table.name) (λ t. same_name t.name ref.parent) (λ t. same_as table.name ref.parent t.name hit) schema.tables) ∙ found_is in let both : true ≡ false = sym (itself table.tree) ∙ rw parent at out in cc)
     | inr miss ↦ miss
@@ -124,7 +124,7 @@ module _ (schema : Schema) (at : ℕ) (table : Table) (has : HasTable schema at 
   acts_among keys [] h = refl
   acts_among keys (t ∷ ts) h = rw (acts_by keys t.references h.0) (acts_among keys ts h.1)
 
-  unacted : (keys : Keys) → is_acted_on schema keys table ≡ false
+  pub unacted : (keys : Keys) → is_acted_on schema keys table ≡ false
   unacted keys = acts_among keys schema.tables has.unreferred
 
 -- ---- the text
@@ -146,11 +146,11 @@ module _ (text : List ℕ) (p : Parsed) (table : ℕ → Table) (r : ReadsDrop t
   unfolding drop_table
   drops_is none = let named = has.named in rw (r.unreserved tree, none, named) refl
 
-  compiles : no_view → understood schema text ≡ Ok (with_command p ([], (DropTable at, None)))
+  pub compiles : no_view → understood schema text ≡ Ok (with_command p ([], (DropTable at, None)))
   unfolding compiled understood planned meaning command returning timed
   compiles none = rw (r.read, r.statement tree, r.formats, drops_is none) refl
 
-  refuses : is_some (view_named schema (table tree).name) ≡ true → (c : Compiled) → ¬ (understood schema text ≡ Ok c)
+  pub refuses : is_some (view_named schema (table tree).name) ≡ true → (c : Compiled) → ¬ (understood schema text ≡ Ok c)
   unfolding compiled understood planned meaning command returning timed drop_table
   refuses view c is = let e = rw (r.read, r.statement tree, r.formats, r.unreserved tree, view) at is in cc
 
@@ -187,6 +187,7 @@ module _ (text : List ℕ) (p : Parsed) (table : ℕ → Table) (r : ReadsDrop t
         schema = λ t is_it. schema ∙ ap (λ (u : Table). without_table old.now.schema u.tree) (some (sym there ∙ is_it));
         gone = λ sound. subst (λ (s : Schema). table_named s (table tree).name ≡ None) (sym schema) (no_place (λ t. same_name t.name (table tree).name) _ (none_left (table tree).name (λ t. not (t.tree == (table tree).tree)) old.now.schema.tables (table tree) (found_is old.now.schema at (table tree) it) (ap not (itself (table tree).tree)) sound.lists.listed.named) 0);
         others = subst (λ (d : Database). AllByRecursion (λ t. d.trees t.tree ≡ old.now.trees t.tree) d.schema.tables) (sym now) (subst (λ (s : Schema). AllByRecursion (λ t. fourth.0.trees t.tree ≡ old.now.trees t.tree) s.tables) (sym fourth.1.0) (subst (λ trees. AllByRecursion (λ t. fourth.0.trees t.tree ≡ trees t.tree) (without_table old.now.schema (table tree).tree).tables) (still ∙ same) fourth.1.1));
+        unread = w.frozen;
         sound = w.sound;
       })
     where
@@ -197,7 +198,7 @@ unfoldable pub read_mark : Parsed
 unfolding everything
 read_mark = parsed_or (first (codes "DROP TABLE mark"))
 
-reads_mark : ReadsDrop (codes "DROP TABLE mark") read_mark mark
+pub reads_mark : ReadsDrop (codes "DROP TABLE mark") read_mark mark
 unfolding everything read_mark
 reads_mark = record { read = refl; statement = λ tree. refl; formats = refl; unreserved = λ tree. refl; uncounted = λ tree. refl; named = λ tree. refl }
 
@@ -205,7 +206,7 @@ unfoldable pub read_item : Parsed
 unfolding everything
 read_item = parsed_or (first (codes "DROP TABLE item"))
 
-reads_item : ReadsDrop (codes "DROP TABLE item") read_item item
+pub reads_item : ReadsDrop (codes "DROP TABLE item") read_item item
 unfolding everything read_item
 reads_item = record { read = refl; statement = λ tree. refl; formats = refl; unreserved = λ tree. refl; uncounted = λ tree. refl; named = λ tree. refl }
 
@@ -213,7 +214,7 @@ unfoldable pub read_member : Parsed
 unfolding everything
 read_member = parsed_or (first (codes "DROP TABLE member"))
 
-reads_member : ReadsDrop (codes "DROP TABLE member") read_member member
+pub reads_member : ReadsDrop (codes "DROP TABLE member") read_member member
 unfolding everything read_member
 reads_member = record { read = refl; statement = λ tree. refl; formats = refl; unreserved = λ tree. refl; uncounted = λ tree. refl; named = λ tree. refl }
 
@@ -221,7 +222,7 @@ unfoldable pub read_edition : Parsed
 unfolding everything
 read_edition = parsed_or (first (codes "DROP TABLE edition"))
 
-reads_edition : ReadsDrop (codes "DROP TABLE edition") read_edition edition
+pub reads_edition : ReadsDrop (codes "DROP TABLE edition") read_edition edition
 unfolding everything read_edition
 reads_edition = record { read = refl; statement = λ tree. refl; formats = refl; unreserved = λ tree. refl; uncounted = λ tree. refl; named = λ tree. refl }
 
@@ -229,7 +230,7 @@ unfoldable pub read_entry : Parsed
 unfolding everything
 read_entry = parsed_or (first (codes "DROP TABLE entry"))
 
-reads_entry : ReadsDrop (codes "DROP TABLE entry") read_entry entry
+pub reads_entry : ReadsDrop (codes "DROP TABLE entry") read_entry entry
 unfolding everything read_entry
 reads_entry = record { read = refl; statement = λ tree. refl; formats = refl; unreserved = λ tree. refl; uncounted = λ tree. refl; named = λ tree. refl }
 
@@ -237,7 +238,7 @@ unfoldable pub read_kept : Parsed
 unfolding everything
 read_kept = parsed_or (first (codes "DROP TABLE kept"))
 
-reads_kept : ReadsDrop (codes "DROP TABLE kept") read_kept kept
+pub reads_kept : ReadsDrop (codes "DROP TABLE kept") read_kept kept
 unfolding everything read_kept
 reads_kept = record { read = refl; statement = λ tree. refl; formats = refl; unreserved = λ tree. refl; uncounted = λ tree. refl; named = λ tree. refl }
 

@@ -28,8 +28,8 @@ use Rattle.dict_tables.specs.Tables.{simple}
 use Rattle.dict_sql.specs.Effects.{IsAdded, rows_of, table_in, shown, SameOthers}
 use Rattle.sqlite_rules.specs.Edit.{are_fresh, put_all}
 use Rattle.sqlite.specs.Does.{Tally}
-use Rattle.sqlite.specs.Rows.{Written}
-use Rattle.sqlite.specs.Effect.{Database, IsDatabase, value_rows}
+use Rattle.sqlite.specs.Rows.{Written, Task, Inserts}
+use Rattle.sqlite.specs.Effect.{Database, IsDatabase, SparesFrozen, value_rows}
 use Rattle.std.specs.List.{AllByRecursion}
 use Rattle.sqlite.specs.State.{State, Writes}
 use Rattle.sqlite.proofs.Callers.{one_step}
@@ -126,17 +126,26 @@ module _ (old new : State) (at : ℕ) (name : List ℕ) (tree : ℕ) (columns : 
     abbrev with : Trees → Database
     with next = record { schema = old.now.schema; trees = next }
 
+    abbrev pub task : Task
+    task = record { limit = old.step_limit; keys = Enforced; schema = old.now.schema; table = table; params = params }
+
+    -- what was written is one step
+    pub wrote : (it : Written) → Inserts task (Values terms width) db (Ok it) → (next : Trees) × Applies old.now.schema Enforced db edit next × (it.trees ≡ next)
+    wrote it h =
+        let given = went h in
+        let written = went (went given.2).2 in
+        let counted = went written.2 in
+        let trees : it.trees ≡ written.0 = ap (λ (it : Written). it.trees) (same_value counted.2) ∙ same_value counted.1 in
+        let rows : given.0 ≡ row ∷ [] = given.1.1 ∙ ap (λ p. value_rows p width (length terms / width) terms) (append-nil params) ∙ one in
+        let step = one_step old.now.schema Enforced db written.0 (edit_of db table [] Chosen 0 given.0) (no_works old.now.schema Enforced tree (edit_of db table [] Chosen 0 given.0).news) written.1 in
+        (written.0, subst (λ all. Applies old.now.schema Enforced db (edit_of db table [] Chosen 0 all) written.0) rows step, trees)
+
     inserted : Writes old new None (Insert at (Values terms width)) text params count → (next : Trees) × Applies old.now.schema Enforced db edit next × (new.now ≡ with next)
     inserted w =
         let done = went (rw is at w.changed) in
         let now = ap (λ (p : Tally × Database). p.1) (same_value (went (went done.2).2).2) in
-        let given = went done.1 in
-        let written = went (went given.2).2 in
-        let counted = went written.2 in
-        let trees : done.0.trees ≡ written.0 = ap (λ (it : Written). it.trees) (same_value counted.2) ∙ same_value counted.1 in
-        let rows : given.0 ≡ row ∷ [] = given.1.1 ∙ ap (λ p. value_rows p width (length terms / width) terms) (append-nil params) ∙ one in
-        let step = one_step old.now.schema Enforced db written.0 (edit_of db table [] Chosen 0 given.0) (no_works old.now.schema Enforced tree (edit_of db table [] Chosen 0 given.0).news) written.1 in
-        (written.0, subst (λ all. Applies old.now.schema Enforced db (edit_of db table [] Chosen 0 all) written.0) rows step, now ∙ ap (λ t. record { schema = old.now.schema; trees = t }) trees)
+        let put = wrote done.0 done.1 in
+        (put.0, put.1, now ∙ ap (λ t. record { schema = old.now.schema; trees = t }) put.2)
 
     not_taken : (r : Row) (rows : List Row) → are_fresh rows (r ∷ []) ≡ true → is_taken rows r ≡ false
     not_taken r rows h = elim (cases_Bool (is_taken rows r)) [
@@ -171,13 +180,14 @@ module _ (old new : State) (at : ℕ) (name : List ℕ) (tree : ℕ) (columns : 
       shown_rows : (next : Trees) → IsPermutation (shown table (Int id ∷ rest) ∷ map (shown table) (db tree)) (map (shown table) (next tree)) → IsPermutation ((Int id ∷ cells) ∷ rows_of name old.now) (rows_of name (with next))
       shown_rows next all = subst₂ (λ a b. IsPermutation ((Int id ∷ cells) ∷ a) b) (sym rows_before) (sym (rows_after next)) (subst (λ (r : Row). IsPermutation (r ∷ map (shown table) (db tree)) (map (shown table) (next tree))) shows all)
 
-      added_by : (next : Trees) → Applies old.now.schema Enforced db edit next → IsDatabase (with next) → IsAdded name cells old.now (with next)
-      added_by next applied sound = record {
+      added_by : (next : Trees) → Applies old.now.schema Enforced db edit next → SparesFrozen old.now (with next) → IsDatabase (with next) → IsAdded name cells old.now (with next)
+      added_by next applied unread sound = record {
         schema = refl;
         id = id;
         free = subst (AllByRecursion (λ r. column r 0 ≢ Int id)) (sym rows_before) (free_in table id rest (db tree) (free next applied));
         rows = shown_rows next (IsPermutation-map (shown table) _ _ (put_in next applied));
         others = same_others next applied.tables;
+        unread = unread;
         sound = sound;
       }
 
@@ -185,7 +195,7 @@ module _ (old new : State) (at : ℕ) (name : List ℕ) (tree : ℕ) (columns : 
       pub adds : Writes old new None (Insert at (Values terms width)) text params count → IsAdded name cells old.now new.now
       adds w =
           let done = inserted w in
-          subst (IsAdded name cells old.now) (sym done.2) (added_by done.0 done.1 (subst IsDatabase done.2 w.sound))
+          subst (IsAdded name cells old.now) (sym done.2) (added_by done.0 done.1 (subst (SparesFrozen old.now) done.2 w.frozen) (subst IsDatabase done.2 w.sound))
 
     -- where the table has no key of its own, the rowid is chosen
     pub adds_chosen : (values cells : Row) → row ≡ Null ∷ values → ((id : ℤ) → shown table (Int id ∷ cast_all columns values) ≡ Int id ∷ cells) → Writes old new None (Insert at (Values terms width)) text params count → IsAdded name cells old.now new.now

@@ -18,5 +18,12 @@ pub mod CompareLemmas
 pub mod FindLemmas
 pub mod CreateLemmas
 pub mod DropLemmas
+pub mod FaultLemmas
+pub mod AddFaults
+pub mod AddRefusals
+pub mod DeleteFaults
+pub mod DeleteRefusals
+pub mod CreateFaults
+pub mod DropFaults
 pub mod Callers
 pub mod NumberLemmas

@@ -57,7 +57,7 @@ pub record ReadsInsert (text : List ℕ) (p : Parsed) (table : ℕ → Table) (s
   pub rows : (schema : Schema) (tree : ℕ) → new_rows schema (table tree) (small p.names + small []) (cols_in p.statement) (rows_in p.statement) ≡ Ok s
 
 module _ (text : List ℕ) (p : Parsed) (table : ℕ → Table) (s : Source) (r : ReadsInsert text p table s) (schema : Schema) (at tree : ℕ) (has : HasTable schema at (table tree)) where
-  insert_is : understood schema text ≡ Ok (with_command p ([], (Insert at s, None)))
+  pub insert_is : understood schema text ≡ Ok (with_command p ([], (Insert at s, None)))
   insert_is = insert_text_is schema at (table tree) has.named has.is (r.timeless tree) (cols_in p.statement) (rows_in p.statement) s text p r.read (r.statement tree) r.formats (r.rows schema tree)
 
   -- what a caller asks of the text

@@ -1,7 +1,7 @@
 -- The texts that make the tables, and what CREATE TABLE does to a database.
 use Rattle.std.specs.Prelude.{◌≡◌, ℕ, false, List, [], codes}
 use Rattle.std.specs.List.{AllByRecursion}
-use Rattle.sqlite.specs.Effect.{Database, IsDatabase}
+use Rattle.sqlite.specs.Effect.{Database, IsDatabase, SparesFrozen}
 use Rattle.sqlite.specs.Table.{Table}
 use Rattle.sqlite.specs.Schema.{Schema}
 use Rattle.sqlite.specs.Change.{created, is_used}
@@ -31,10 +31,11 @@ pub record IsFree (schema : Schema) (name : List ℕ) : Type 0 where
   pub unused : is_used schema name ≡ false
   pub counted : lacks_sequence schema ≡ false
 
--- The table is there with the indexes of its keys, in trees of their own, and has no rows. Each other table is as before.
+-- The table is there with the indexes of its keys, in trees of their own, and has no rows. Each other table is as before, and what `sqlite` keeps and doesn't read.
 pub record IsMade (table : Table) (old new : Database) : Type 0 where
   pub schema : new.schema ≡ created old.schema table
   pub counted : lacks_sequence new.schema ≡ false
   pub empty : rows_of table.name new ≡ []
   pub others : AllByRecursion (λ t. new.trees t.tree ≡ old.trees t.tree) old.schema.tables
+  pub unread : SparesFrozen old new
   pub sound : IsDatabase new

@@ -1,7 +1,7 @@
 -- The texts that drop the tables, and what DROP TABLE does to a database.
 use Rattle.std.specs.Prelude.{◌≡◌, ℕ, List, codes, Some, None}
 use Rattle.std.specs.List.{AllByRecursion}
-use Rattle.sqlite.specs.Effect.{Database, IsDatabase}
+use Rattle.sqlite.specs.Effect.{Database, IsDatabase, SparesFrozen}
 use Rattle.sqlite.specs.Table.{Table}
 use Rattle.sqlite.specs.Change.{without_table}
 use Rattle.sqlite_schema.specs.Names.{table_named}
@@ -26,9 +26,10 @@ drop_text Edition = codes "DROP TABLE edition"
 drop_text Entry = codes "DROP TABLE entry"
 drop_text Kept = codes "DROP TABLE kept"
 
--- The table is gone with its indexes, and no other of its name is there. Each other table stays in its tree, with its rows.
+-- The table is gone with its indexes, and no other of its name is there. Each other table stays in its tree, with its rows, and so does what `sqlite` keeps and doesn't read.
 pub record IsDropped (name : List ℕ) (old new : Database) : Type 0 where
   pub schema : (table : Table) → table_in name old ≡ Some table → new.schema ≡ without_table old.schema table.tree
   pub gone : IsDatabase old → table_named new.schema name ≡ None
   pub others : AllByRecursion (λ t. new.trees t.tree ≡ old.trees t.tree) new.schema.tables
+  pub unread : SparesFrozen old new
   pub sound : IsDatabase new

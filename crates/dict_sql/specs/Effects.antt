@@ -1,14 +1,15 @@
 -- What a statement does to the rows of a table.
-use Rattle.std.specs.Prelude.{Bool, true, not, filter, ◌≡◌, ◌≢◌, ◌⊎◌, ⊤, IsTrue, ℕ, ℤ, List, [], ◌∷◌, map, Option, Some, slice_get, option_map, option_and_then, unwrap_or, IsPermutation, length}
+use Rattle.std.specs.Prelude.{Bool, true, false, not, filter, ◌≡◌, ◌≢◌, ◌⊎◌, IsTrue, ℕ, ℤ, List, [], ◌∷◌, map, Option, Some, slice_get, option_map, option_and_then, unwrap_or, IsPermutation, length}
 use Rattle.std.specs.List.{AllByRecursion, IsDistinct, range_with_len}
 use Rattle.std.specs.Ordering.{is_eq}
 use Rattle.sqlite.specs.declared.types.Value.{Value}
-use Rattle.sqlite.specs.Effect.{Database, IsDatabase}
+use Rattle.sqlite.specs.Effect.{Database, IsDatabase, SparesFrozen}
 use Rattle.sqlite.specs.declared.types.Value.TheVariants.{Int, Text as Words}
 use Rattle.sqlite.specs.Order.{Row, column, value_cmp}
-use Rattle.sqlite.specs.State.{State, Shows, KeepsCommit, IsUnchanged, IsRolledBack, HasCause, store_error}
+use Rattle.sqlite.specs.State.{State, Shows, KeepsCommit, IsUnchanged, Fails}
 use Rattle.sqlite.specs.declared.error.Error.{Error}
-use Rattle.sqlite_trees.specs.declared.error.StoreError.{StoreError}
+use Rattle.sqlite.specs.declared.error.Error.TheVariants.{SqliteFailure}
+use Rattle.sqlite.specs.declared.error.ErrorCode.TheVariants as code
 use Rattle.sqlite.specs.Table.{Table}
 use Rattle.sqlite_schema.specs.Names.{table_named, place_of}
 use Rattle.dict_tables.specs.Found.{HasTable}
@@ -40,20 +41,22 @@ pub record HasApartRowids (rows : List Row) : Type 0 where
   pub integers : AllByRecursion (λ r. (n : ℤ) × (column r 0 ≡ Int n)) rows
   pub apart : IsDistinct same_value (map (λ r. column r 0) rows)
 
--- one row more in one table, under a rowid that was free, and nothing else has changed
+-- one row more in one table, under a rowid that was free, and nothing else has changed, nor what `sqlite` keeps and doesn't read
 pub record IsAdded (name : List ℕ) (row : Row) (old new : Database) : Type 0 where
   pub schema : new.schema ≡ old.schema
   pub id : ℤ
   pub free : AllByRecursion (λ r. column r 0 ≢ Int id) (rows_of name old)
   pub rows : IsPermutation ((Int id ∷ row) ∷ rows_of name old) (rows_of name new)
   pub others : SameOthers name old new
+  pub unread : SparesFrozen old new
   pub sound : IsDatabase new
 
--- the rows of one table that pass a test are gone, and nothing else has changed
+-- the rows of one table that pass a test are gone, and nothing else has changed, nor what `sqlite` keeps and doesn't read
 pub record IsRemoved (name : List ℕ) (test : Row → Bool) (old new : Database) : Type 0 where
   pub schema : new.schema ≡ old.schema
   pub rows : rows_of name new ≡ filter (λ r. not (test r)) (rows_of name old)
   pub others : SameOthers name old new
+  pub unread : SparesFrozen old new
   pub sound : IsDatabase new
 
 -- the rows that have this number in a column, as SQL compares values
@@ -63,14 +66,11 @@ equals_number at n r = same_value (column r at) (Int n)
 abbrev pub equals_text : ℕ → List ℕ → Row → Bool
 equals_text at t r = same_value (column r at) (Words t)
 
--- A statement changed nothing, or its transaction was undone, for want of memory or by a fault of the store.
-abbrev pub Stops : State → State → Error → Type 0
-Stops old new e = IsUnchanged old new ⊎ ((why : StoreError) × (e ≡ store_error why) × HasCause old new ⊤ why × IsRolledBack old new)
-
--- A statement of a transaction failed: nothing was committed.
-pub record FailsIn (old new : State) (e : Error) : Type 0 where
+-- A statement of a transaction failed: nothing was committed. It was refused and nothing has changed, or the store failed and the transaction is undone. Outside of a transaction nothing is run.
+pub record FailsIn (Refuses : Error → Type 0) (TooBig : Type 0) (old new : State) (e : Error) : Type 0 where
   pub keeps : KeepsCommit old new
-  pub cause : IsTrue old.in_transaction → Stops old new e
+  pub cause : IsTrue old.in_transaction → (Refuses e × IsUnchanged old new) ⊎ Fails old new TooBig e
+  pub outside : old.in_transaction ≡ false → (e ≡ SqliteFailure code.TransactionState) × (new.now ≡ old.now)
 
 -- A statement of a transaction succeeded: it sees what it wrote, and nothing was committed.
 abbrev pub GoesOn : State → State → Type 0

@@ -1,6 +1,7 @@
 pub mod Inserts
 pub mod Records
 pub mod Effects
+pub mod Refusals
 pub mod Reads
 pub mod Streams
 pub mod Stored

@@ -5,6 +5,7 @@ ghost use Rattle.sqlite.specs.State.{HasCleanDisk, Survives};
 ghost use Rattle.sqlite.specs.Held.{state};
 ghost use Rattle.dict_tables.specs.Tables.{mark, item, member, edition, entry, kept};
 ghost use Rattle.dict_sql.specs.Effects.{FailsIn, GoesOn};
+ghost use Rattle.dict_sql.specs.Refusals.{RefusesToMake};
 ghost use Rattle.dict_sql.specs.Creates.{IsFree, IsMade};
 
 use sqlite::{Alter, Error, Transaction};
@@ -15,7 +16,7 @@ pub fn create_mark<S: Alter>(tx: &mut Transaction<'_, S>) -> Result<usize, Error
     ensures same_reference { tx.new.conn.ghost_name ≡ tx.old.conn.ghost_name }
     ensures made { HasCleanDisk (state S.Store tx.new.conn.now) → OnOk result
         (IsMade (mark 0) (state S.Store tx.old.conn.now).now (state S.Store tx.new.conn.now).now × GoesOn (state S.Store tx.old.conn.now) (state S.Store tx.new.conn.now)) }
-    ensures failed { HasCleanDisk (state S.Store tx.new.conn.now) → IfErr result (FailsIn (state S.Store tx.old.conn.now) (state S.Store tx.new.conn.now)) }
+    ensures failed { HasCleanDisk (state S.Store tx.new.conn.now) → IfErr result (FailsIn (RefusesToMake (mark 0) (state S.Store tx.old.conn.now)) ⊥ (state S.Store tx.old.conn.now) (state S.Store tx.new.conn.now)) }
     ensures survives { Survives (state S.Store tx.old.conn.now) (state S.Store tx.new.conn.now) (λ _. ⊥) }
 {
     tx.execute(
@@ -30,7 +31,7 @@ pub fn create_item<S: Alter>(tx: &mut Transaction<'_, S>) -> Result<usize, Error
     ensures same_reference { tx.new.conn.ghost_name ≡ tx.old.conn.ghost_name }
     ensures made { HasCleanDisk (state S.Store tx.new.conn.now) → OnOk result
         (IsMade (item 0) (state S.Store tx.old.conn.now).now (state S.Store tx.new.conn.now).now × GoesOn (state S.Store tx.old.conn.now) (state S.Store tx.new.conn.now)) }
-    ensures failed { HasCleanDisk (state S.Store tx.new.conn.now) → IfErr result (FailsIn (state S.Store tx.old.conn.now) (state S.Store tx.new.conn.now)) }
+    ensures failed { HasCleanDisk (state S.Store tx.new.conn.now) → IfErr result (FailsIn (RefusesToMake (item 0) (state S.Store tx.old.conn.now)) ⊥ (state S.Store tx.old.conn.now) (state S.Store tx.new.conn.now)) }
     ensures survives { Survives (state S.Store tx.old.conn.now) (state S.Store tx.new.conn.now) (λ _. ⊥) }
 {
     tx.execute(
@@ -45,7 +46,7 @@ pub fn create_member<S: Alter>(tx: &mut Transaction<'_, S>) -> Result<usize, Err
     ensures same_reference { tx.new.conn.ghost_name ≡ tx.old.conn.ghost_name }
     ensures made { HasCleanDisk (state S.Store tx.new.conn.now) → OnOk result
         (IsMade (member 0) (state S.Store tx.old.conn.now).now (state S.Store tx.new.conn.now).now × GoesOn (state S.Store tx.old.conn.now) (state S.Store tx.new.conn.now)) }
-    ensures failed { HasCleanDisk (state S.Store tx.new.conn.now) → IfErr result (FailsIn (state S.Store tx.old.conn.now) (state S.Store tx.new.conn.now)) }
+    ensures failed { HasCleanDisk (state S.Store tx.new.conn.now) → IfErr result (FailsIn (RefusesToMake (member 0) (state S.Store tx.old.conn.now)) ⊥ (state S.Store tx.old.conn.now) (state S.Store tx.new.conn.now)) }
     ensures survives { Survives (state S.Store tx.old.conn.now) (state S.Store tx.new.conn.now) (λ _. ⊥) }
 {
     tx.execute(
@@ -60,7 +61,7 @@ pub fn create_edition<S: Alter>(tx: &mut Transaction<'_, S>) -> Result<usize, Er
     ensures same_reference { tx.new.conn.ghost_name ≡ tx.old.conn.ghost_name }
     ensures made { HasCleanDisk (state S.Store tx.new.conn.now) → OnOk result
         (IsMade (edition 0) (state S.Store tx.old.conn.now).now (state S.Store tx.new.conn.now).now × GoesOn (state S.Store tx.old.conn.now) (state S.Store tx.new.conn.now)) }
-    ensures failed { HasCleanDisk (state S.Store tx.new.conn.now) → IfErr result (FailsIn (state S.Store tx.old.conn.now) (state S.Store tx.new.conn.now)) }
+    ensures failed { HasCleanDisk (state S.Store tx.new.conn.now) → IfErr result (FailsIn (RefusesToMake (edition 0) (state S.Store tx.old.conn.now)) ⊥ (state S.Store tx.old.conn.now) (state S.Store tx.new.conn.now)) }
     ensures survives { Survives (state S.Store tx.old.conn.now) (state S.Store tx.new.conn.now) (λ _. ⊥) }
 {
     tx.execute(
@@ -75,7 +76,7 @@ pub fn create_entry<S: Alter>(tx: &mut Transaction<'_, S>) -> Result<usize, Erro
     ensures same_reference { tx.new.conn.ghost_name ≡ tx.old.conn.ghost_name }
     ensures made { HasCleanDisk (state S.Store tx.new.conn.now) → OnOk result
         (IsMade (entry 0) (state S.Store tx.old.conn.now).now (state S.Store tx.new.conn.now).now × GoesOn (state S.Store tx.old.conn.now) (state S.Store tx.new.conn.now)) }
-    ensures failed { HasCleanDisk (state S.Store tx.new.conn.now) → IfErr result (FailsIn (state S.Store tx.old.conn.now) (state S.Store tx.new.conn.now)) }
+    ensures failed { HasCleanDisk (state S.Store tx.new.conn.now) → IfErr result (FailsIn (RefusesToMake (entry 0) (state S.Store tx.old.conn.now)) ⊥ (state S.Store tx.old.conn.now) (state S.Store tx.new.conn.now)) }
     ensures survives { Survives (state S.Store tx.old.conn.now) (state S.Store tx.new.conn.now) (λ _. ⊥) }
 {
     tx.execute(
@@ -90,7 +91,7 @@ pub fn create_kept<S: Alter>(tx: &mut Transaction<'_, S>) -> Result<usize, Error
     ensures same_reference { tx.new.conn.ghost_name ≡ tx.old.conn.ghost_name }
     ensures made { HasCleanDisk (state S.Store tx.new.conn.now) → OnOk result
         (IsMade (kept 0) (state S.Store tx.old.conn.now).now (state S.Store tx.new.conn.now).now × GoesOn (state S.Store tx.old.conn.now) (state S.Store tx.new.conn.now)) }
-    ensures failed { HasCleanDisk (state S.Store tx.new.conn.now) → IfErr result (FailsIn (state S.Store tx.old.conn.now) (state S.Store tx.new.conn.now)) }
+    ensures failed { HasCleanDisk (state S.Store tx.new.conn.now) → IfErr result (FailsIn (RefusesToMake (kept 0) (state S.Store tx.old.conn.now)) ⊥ (state S.Store tx.old.conn.now) (state S.Store tx.new.conn.now)) }
     ensures survives { Survives (state S.Store tx.old.conn.now) (state S.Store tx.new.conn.now) (λ _. ⊥) }
 {
     tx.execute(

@@ -5,6 +5,7 @@ ghost use Rattle.sqlite.specs.State.{HasCleanDisk, Survives};
 ghost use Rattle.sqlite.specs.Held.{state};
 ghost use Rattle.dict_tables.specs.Tables.{mark, item, member, edition as edition_table, entry};
 ghost use Rattle.dict_sql.specs.Effects.{Has, HasApartRowids, IsRemoved, FailsIn, GoesOn, equals_number, rows_of};
+ghost use Rattle.dict_sql.specs.Refusals.{RefusesToRemove};
 
 use sqlite::{Alter, Error, Transaction, params};
 
@@ -15,7 +16,8 @@ pub fn clear_mark<S: Alter>(tx: &mut Transaction<'_, S>) -> Result<usize, Error>
     ensures same_reference { tx.new.conn.ghost_name ≡ tx.old.conn.ghost_name }
     ensures removed { HasCleanDisk (state S.Store tx.new.conn.now) → OnOk result
         (IsRemoved (codes "mark") (λ _. true) (state S.Store tx.old.conn.now).now (state S.Store tx.new.conn.now).now × GoesOn (state S.Store tx.old.conn.now) (state S.Store tx.new.conn.now)) }
-    ensures failed { HasCleanDisk (state S.Store tx.new.conn.now) → IfErr result (FailsIn (state S.Store tx.old.conn.now) (state S.Store tx.new.conn.now)) }
+    ensures failed { HasCleanDisk (state S.Store tx.new.conn.now) → IfErr result
+        (FailsIn (RefusesToRemove (codes "mark") (λ _. true) (state S.Store tx.old.conn.now)) ⊥ (state S.Store tx.old.conn.now) (state S.Store tx.new.conn.now)) }
     ensures survives { Survives (state S.Store tx.old.conn.now) (state S.Store tx.new.conn.now) (λ _. ⊥) }
 {
     tx.execute("DELETE FROM mark", &[])
@@ -28,7 +30,8 @@ pub fn clear_items<S: Alter>(tx: &mut Transaction<'_, S>) -> Result<usize, Error
     ensures same_reference { tx.new.conn.ghost_name ≡ tx.old.conn.ghost_name }
     ensures removed { HasCleanDisk (state S.Store tx.new.conn.now) → OnOk result
         (IsRemoved (codes "item") (λ _. true) (state S.Store tx.old.conn.now).now (state S.Store tx.new.conn.now).now × GoesOn (state S.Store tx.old.conn.now) (state S.Store tx.new.conn.now)) }
-    ensures failed { HasCleanDisk (state S.Store tx.new.conn.now) → IfErr result (FailsIn (state S.Store tx.old.conn.now) (state S.Store tx.new.conn.now)) }
+    ensures failed { HasCleanDisk (state S.Store tx.new.conn.now) → IfErr result
+        (FailsIn (RefusesToRemove (codes "item") (λ _. true) (state S.Store tx.old.conn.now)) ⊥ (state S.Store tx.old.conn.now) (state S.Store tx.new.conn.now)) }
     ensures survives { Survives (state S.Store tx.old.conn.now) (state S.Store tx.new.conn.now) (λ _. ⊥) }
 {
     tx.execute("DELETE FROM item", &[])
@@ -41,7 +44,8 @@ pub fn clear_members<S: Alter>(tx: &mut Transaction<'_, S>) -> Result<usize, Err
     ensures same_reference { tx.new.conn.ghost_name ≡ tx.old.conn.ghost_name }
     ensures removed { HasCleanDisk (state S.Store tx.new.conn.now) → OnOk result
         (IsRemoved (codes "member") (λ _. true) (state S.Store tx.old.conn.now).now (state S.Store tx.new.conn.now).now × GoesOn (state S.Store tx.old.conn.now) (state S.Store tx.new.conn.now)) }
-    ensures failed { HasCleanDisk (state S.Store tx.new.conn.now) → IfErr result (FailsIn (state S.Store tx.old.conn.now) (state S.Store tx.new.conn.now)) }
+    ensures failed { HasCleanDisk (state S.Store tx.new.conn.now) → IfErr result
+        (FailsIn (RefusesToRemove (codes "member") (λ _. true) (state S.Store tx.old.conn.now)) ⊥ (state S.Store tx.old.conn.now) (state S.Store tx.new.conn.now)) }
     ensures survives { Survives (state S.Store tx.old.conn.now) (state S.Store tx.new.conn.now) (λ _. ⊥) }
 {
     tx.execute("DELETE FROM member", &[])
@@ -54,7 +58,8 @@ pub fn delete_edition<S: Alter>(tx: &mut Transaction<'_, S>, number: i64) -> Res
     ensures same_reference { tx.new.conn.ghost_name ≡ tx.old.conn.ghost_name }
     ensures removed { HasCleanDisk (state S.Store tx.new.conn.now) → OnOk result
         (IsRemoved (codes "edition") (equals_number 1 number) (state S.Store tx.old.conn.now).now (state S.Store tx.new.conn.now).now × GoesOn (state S.Store tx.old.conn.now) (state S.Store tx.new.conn.now)) }
-    ensures failed { HasCleanDisk (state S.Store tx.new.conn.now) → IfErr result (FailsIn (state S.Store tx.old.conn.now) (state S.Store tx.new.conn.now)) }
+    ensures failed { HasCleanDisk (state S.Store tx.new.conn.now) → IfErr result
+        (FailsIn (RefusesToRemove (codes "edition") (equals_number 1 number) (state S.Store tx.old.conn.now)) ⊥ (state S.Store tx.old.conn.now) (state S.Store tx.new.conn.now)) }
     ensures survives { Survives (state S.Store tx.old.conn.now) (state S.Store tx.new.conn.now) (λ _. ⊥) }
 {
     tx.execute("DELETE FROM edition WHERE number = ?1", params![number])
@@ -67,7 +72,8 @@ pub fn delete_entries<S: Alter>(tx: &mut Transaction<'_, S>, edition: i64) -> Re
     ensures same_reference { tx.new.conn.ghost_name ≡ tx.old.conn.ghost_name }
     ensures removed { HasCleanDisk (state S.Store tx.new.conn.now) → OnOk result
         (IsRemoved (codes "entry") (equals_number 1 edition) (state S.Store tx.old.conn.now).now (state S.Store tx.new.conn.now).now × GoesOn (state S.Store tx.old.conn.now) (state S.Store tx.new.conn.now)) }
-    ensures failed { HasCleanDisk (state S.Store tx.new.conn.now) → IfErr result (FailsIn (state S.Store tx.old.conn.now) (state S.Store tx.new.conn.now)) }
+    ensures failed { HasCleanDisk (state S.Store tx.new.conn.now) → IfErr result
+        (FailsIn (RefusesToRemove (codes "entry") (equals_number 1 edition) (state S.Store tx.old.conn.now)) ⊥ (state S.Store tx.old.conn.now) (state S.Store tx.new.conn.now)) }
     ensures survives { Survives (state S.Store tx.old.conn.now) (state S.Store tx.new.conn.now) (λ _. ⊥) }
 {
     tx.execute("DELETE FROM entry WHERE edition = ?1", params![edition])

@@ -4,6 +4,7 @@ ghost use Rattle.std.specs.Prelude.{◌≡◌, IfErr, OnOk};
 ghost use Rattle.sqlite.specs.State.{HasCleanDisk, Survives};
 ghost use Rattle.sqlite.specs.Held.{state};
 ghost use Rattle.dict_sql.specs.Effects.{Has, FailsIn, GoesOn};
+ghost use Rattle.dict_sql.specs.Refusals.{RefusesToDrop};
 ghost use Rattle.dict_sql.specs.Drops.{IsDropped, drop_text, table_of};
 
 use sqlite::{Alter, Error, Transaction};
@@ -38,7 +39,7 @@ pub fn drop_table<S: Alter>(tx: &mut Transaction<'_, S>, table: StoreTable) -> R
     ensures same_reference { tx.new.conn.ghost_name ≡ tx.old.conn.ghost_name }
     ensures dropped { HasCleanDisk (state S.Store tx.new.conn.now) → OnOk result
         (IsDropped (table_of table 0).name (state S.Store tx.old.conn.now).now (state S.Store tx.new.conn.now).now × GoesOn (state S.Store tx.old.conn.now) (state S.Store tx.new.conn.now)) }
-    ensures failed { HasCleanDisk (state S.Store tx.new.conn.now) → IfErr result (FailsIn (state S.Store tx.old.conn.now) (state S.Store tx.new.conn.now)) }
+    ensures failed { HasCleanDisk (state S.Store tx.new.conn.now) → IfErr result (FailsIn (RefusesToDrop (table_of table 0).name (state S.Store tx.old.conn.now)) ⊥ (state S.Store tx.old.conn.now) (state S.Store tx.new.conn.now)) }
     ensures survives { Survives (state S.Store tx.old.conn.now) (state S.Store tx.new.conn.now) (λ _. ⊥) }
 {
     tx.execute(text_of(table), &[])

@@ -6,6 +6,7 @@ ghost use Rattle.sqlite.specs.Held.{state};
 ghost use Rattle.dict_tables.specs.Tables.{mark, item, member, edition as edition_table, entry, kept};
 ghost use Rattle.dict_sql.specs.Records.{mark_row, item_row, member_row, edition_row, entry_row, kept_row};
 ghost use Rattle.dict_sql.specs.Effects.{Has, IsAdded, FailsIn, GoesOn};
+ghost use Rattle.dict_sql.specs.Refusals.{RefusesToAdd, IsTooBig};
 
 use sqlite::{Alter, Error, Transaction, params};
 
@@ -21,7 +22,8 @@ pub fn insert_mark<S: Alter>(
     ensures added { HasCleanDisk (state S.Store tx.new.conn.now) → OnOk result
         (IsAdded (codes "mark") (mark_row (record { magic = magic.now; version = version; installs = installs })) (state S.Store tx.old.conn.now).now (state S.Store tx.new.conn.now).now
         × GoesOn (state S.Store tx.old.conn.now) (state S.Store tx.new.conn.now)) }
-    ensures failed { HasCleanDisk (state S.Store tx.new.conn.now) → IfErr result (FailsIn (state S.Store tx.old.conn.now) (state S.Store tx.new.conn.now)) }
+    ensures failed { HasCleanDisk (state S.Store tx.new.conn.now) → IfErr result
+        (FailsIn (RefusesToAdd (codes "mark") (mark_row (record { magic = magic.now; version = version; installs = installs })) (state S.Store tx.old.conn.now)) (IsTooBig (codes "mark") (mark_row (record { magic = magic.now; version = version; installs = installs })) (state S.Store tx.old.conn.now).now) (state S.Store tx.old.conn.now) (state S.Store tx.new.conn.now)) }
     ensures survives { Survives (state S.Store tx.old.conn.now) (state S.Store tx.new.conn.now) (λ _. ⊥) }
 {
     tx.execute(
@@ -45,7 +47,8 @@ pub fn insert_item<S: Alter>(
     ensures added { HasCleanDisk (state S.Store tx.new.conn.now) → OnOk result
         (IsAdded (codes "item") (item_row (record { place = place; name = name.now; kind = kind; title = option_map (λ t. t.now) title.entry; current = current; former = former })) (state S.Store tx.old.conn.now).now (state S.Store tx.new.conn.now).now
         × GoesOn (state S.Store tx.old.conn.now) (state S.Store tx.new.conn.now)) }
-    ensures failed { HasCleanDisk (state S.Store tx.new.conn.now) → IfErr result (FailsIn (state S.Store tx.old.conn.now) (state S.Store tx.new.conn.now)) }
+    ensures failed { HasCleanDisk (state S.Store tx.new.conn.now) → IfErr result
+        (FailsIn (RefusesToAdd (codes "item") (item_row (record { place = place; name = name.now; kind = kind; title = option_map (λ t. t.now) title.entry; current = current; former = former })) (state S.Store tx.old.conn.now)) (IsTooBig (codes "item") (item_row (record { place = place; name = name.now; kind = kind; title = option_map (λ t. t.now) title.entry; current = current; former = former })) (state S.Store tx.old.conn.now).now) (state S.Store tx.old.conn.now) (state S.Store tx.new.conn.now)) }
     ensures survives { Survives (state S.Store tx.old.conn.now) (state S.Store tx.new.conn.now) (λ _. ⊥) }
 {
     tx.execute(
@@ -66,7 +69,8 @@ pub fn insert_member<S: Alter>(
     ensures added { HasCleanDisk (state S.Store tx.new.conn.now) → OnOk result
         (IsAdded (codes "member") (member_row (record { owner = owner.now; ord = ord; name = name.now })) (state S.Store tx.old.conn.now).now (state S.Store tx.new.conn.now).now
         × GoesOn (state S.Store tx.old.conn.now) (state S.Store tx.new.conn.now)) }
-    ensures failed { HasCleanDisk (state S.Store tx.new.conn.now) → IfErr result (FailsIn (state S.Store tx.old.conn.now) (state S.Store tx.new.conn.now)) }
+    ensures failed { HasCleanDisk (state S.Store tx.new.conn.now) → IfErr result
+        (FailsIn (RefusesToAdd (codes "member") (member_row (record { owner = owner.now; ord = ord; name = name.now })) (state S.Store tx.old.conn.now)) (IsTooBig (codes "member") (member_row (record { owner = owner.now; ord = ord; name = name.now })) (state S.Store tx.old.conn.now).now) (state S.Store tx.old.conn.now) (state S.Store tx.new.conn.now)) }
     ensures survives { Survives (state S.Store tx.old.conn.now) (state S.Store tx.new.conn.now) (λ _. ⊥) }
 {
     tx.execute(
@@ -89,7 +93,8 @@ pub fn insert_edition<S: Alter>(
     ensures added { HasCleanDisk (state S.Store tx.new.conn.now) → OnOk result
         (IsAdded (codes "edition") (edition_row (record { number = number; owner = owner.now; title = title.now; info = info.now; body = body.now })) (state S.Store tx.old.conn.now).now (state S.Store tx.new.conn.now).now
         × GoesOn (state S.Store tx.old.conn.now) (state S.Store tx.new.conn.now)) }
-    ensures failed { HasCleanDisk (state S.Store tx.new.conn.now) → IfErr result (FailsIn (state S.Store tx.old.conn.now) (state S.Store tx.new.conn.now)) }
+    ensures failed { HasCleanDisk (state S.Store tx.new.conn.now) → IfErr result
+        (FailsIn (RefusesToAdd (codes "edition") (edition_row (record { number = number; owner = owner.now; title = title.now; info = info.now; body = body.now })) (state S.Store tx.old.conn.now)) (IsTooBig (codes "edition") (edition_row (record { number = number; owner = owner.now; title = title.now; info = info.now; body = body.now })) (state S.Store tx.old.conn.now).now) (state S.Store tx.old.conn.now) (state S.Store tx.new.conn.now)) }
     ensures survives { Survives (state S.Store tx.old.conn.now) (state S.Store tx.new.conn.now) (λ _. ⊥) }
 {
     tx.execute(
@@ -112,7 +117,8 @@ pub fn insert_entry<S: Alter>(
     ensures added { HasCleanDisk (state S.Store tx.new.conn.now) → OnOk result
         (IsAdded (codes "entry") (entry_row (record { edition = edition; ord = ord; headword = headword.now; start = start; length = length })) (state S.Store tx.old.conn.now).now (state S.Store tx.new.conn.now).now
         × GoesOn (state S.Store tx.old.conn.now) (state S.Store tx.new.conn.now)) }
-    ensures failed { HasCleanDisk (state S.Store tx.new.conn.now) → IfErr result (FailsIn (state S.Store tx.old.conn.now) (state S.Store tx.new.conn.now)) }
+    ensures failed { HasCleanDisk (state S.Store tx.new.conn.now) → IfErr result
+        (FailsIn (RefusesToAdd (codes "entry") (entry_row (record { edition = edition; ord = ord; headword = headword.now; start = start; length = length })) (state S.Store tx.old.conn.now)) (IsTooBig (codes "entry") (entry_row (record { edition = edition; ord = ord; headword = headword.now; start = start; length = length })) (state S.Store tx.old.conn.now).now) (state S.Store tx.old.conn.now) (state S.Store tx.new.conn.now)) }
     ensures survives { Survives (state S.Store tx.old.conn.now) (state S.Store tx.new.conn.now) (λ _. ⊥) }
 {
     tx.execute(
@@ -135,7 +141,8 @@ pub fn insert_kept<S: Alter>(
     ensures added { HasCleanDisk (state S.Store tx.new.conn.now) → OnOk result
         (IsAdded (codes "kept") (kept_row (record { id = id.now; number = number; verb = verb.now; name = name.now; edition = edition })) (state S.Store tx.old.conn.now).now (state S.Store tx.new.conn.now).now
         × GoesOn (state S.Store tx.old.conn.now) (state S.Store tx.new.conn.now)) }
-    ensures failed { HasCleanDisk (state S.Store tx.new.conn.now) → IfErr result (FailsIn (state S.Store tx.old.conn.now) (state S.Store tx.new.conn.now)) }
+    ensures failed { HasCleanDisk (state S.Store tx.new.conn.now) → IfErr result
+        (FailsIn (RefusesToAdd (codes "kept") (kept_row (record { id = id.now; number = number; verb = verb.now; name = name.now; edition = edition })) (state S.Store tx.old.conn.now)) (IsTooBig (codes "kept") (kept_row (record { id = id.now; number = number; verb = verb.now; name = name.now; edition = edition })) (state S.Store tx.old.conn.now).now) (state S.Store tx.old.conn.now) (state S.Store tx.new.conn.now)) }
     ensures survives { Survives (state S.Store tx.old.conn.now) (state S.Store tx.new.conn.now) (λ _. ⊥) }
 {
     tx.execute(

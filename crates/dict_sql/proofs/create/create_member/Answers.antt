@@ -3,6 +3,7 @@ use Rattle.sqlite.specs.Held.{state}
 use Rattle.dict_tables.specs.Tables.{member}
 use Rattle.dict_sql.specs.Creates.{create_member}
 use Rattle.dict_sql.proofs.StateLemmas.{inside, fails_in}
+use Rattle.dict_sql.proofs.CreateFaults.{make_fails, member_stands}
 use Rattle.dict_sql.proofs.CreateLemmas.{read_member, reads_member, makes}
 use Rattle.dict_sql.proofs.create.create_member.Goals as goal
 
@@ -16,4 +17,7 @@ returns-clause-made g c clean =
 
 pub returns-clause-failed : goal.returns-clause-failed
 returns-clause-failed g c clean =
-    fails_in (state g.S.Store c.args.tx.now.conn.now) (state g.S.Store c.execute.new.self.conn.now) _ _ c.execute.result (λ outside. ap (state g.S.Store) (c.execute.ensures.ended outside).1) (c.execute.ensures.runs clean)
+    let old = state g.S.Store c.args.tx.now.conn.now in
+    let new = state g.S.Store c.execute.new.self.conn.now in
+    fails_in _ ⊥ old new create_member [] c.execute.result (λ outside. ((c.execute.ensures.ended outside).0, ap (state g.S.Store) (c.execute.ensures.ended outside).1)) (c.execute.ensures.runs clean)
+    (make_fails create_member read_member (member 0) reads_member member_stands old new (c.requires (omega (arith, c.execute.ensures.survives.clean))))

@@ -3,6 +3,7 @@ use Rattle.sqlite.specs.Held.{state}
 use Rattle.dict_tables.specs.Tables.{member}
 use Rattle.dict_sql.specs.Deletes.{delete_member}
 use Rattle.dict_sql.proofs.StateLemmas.{inside, fails_in}
+use Rattle.dict_sql.proofs.DeleteRefusals.{takes_member, remove_fails}
 use Rattle.dict_sql.proofs.DeleteTexts.{read_member, reads_member, removes_rows}
 use Rattle.dict_sql.proofs.delete.clear_members.Goals as goal
 
@@ -16,4 +17,8 @@ returns-clause-removed g c clean =
 
 pub returns-clause-failed : goal.returns-clause-failed
 returns-clause-failed g c clean =
-    fails_in (state g.S.Store c.args.tx.now.conn.now) (state g.S.Store c.execute.new.self.conn.now) _ _ c.execute.result (λ outside. ap (state g.S.Store) (c.execute.ensures.ended outside).1) (c.execute.ensures.runs clean)
+    let old = state g.S.Store c.args.tx.now.conn.now in
+    let new = state g.S.Store c.execute.new.self.conn.now in
+    fails_in _ ⊥ old new delete_member [] c.execute.result (λ outside. ((c.execute.ensures.ended outside).0, ap (state g.S.Store) (c.execute.ensures.ended outside).1))
+    (λ within. (c.execute.ensures.runs clean within))
+    (λ e. remove_fails delete_member read_member member _ _ _ reads_member (λ tree. refl) [] takes_member (λ _. true) (λ tree row. refl) old new e (c.requires.has (omega (arith, c.execute.ensures.survives.clean))) (c.requires.apart (omega (arith, c.execute.ensures.survives.clean))))

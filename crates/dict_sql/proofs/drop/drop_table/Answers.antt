@@ -2,6 +2,7 @@ use Rattle.std.proofs.Common.{[], ap, arith}
 use Rattle.sqlite.specs.Held.{state}
 use Rattle.dict_sql.specs.Drops.{drop_text}
 use Rattle.dict_sql.proofs.StateLemmas.{inside, fails_in}
+use Rattle.dict_sql.proofs.DropFaults.{drop_fails_in}
 use Rattle.dict_sql.proofs.DropLemmas.{drops_table}
 use Rattle.dict_sql.proofs.drop.drop_table.Goals as goal
 
@@ -15,4 +16,7 @@ returns-clause-dropped g c clean =
 
 pub returns-clause-failed : goal.returns-clause-failed
 returns-clause-failed g c clean =
-    fails_in (state g.S.Store c.args.tx.now.conn.now) (state g.S.Store c.execute.new.self.conn.now) _ _ c.execute.result (λ outside. ap (state g.S.Store) (c.execute.ensures.ended outside).1) (c.execute.ensures.runs clean)
+    let old = state g.S.Store c.args.tx.now.conn.now in
+    let new = state g.S.Store c.execute.new.self.conn.now in
+    fails_in _ ⊥ old new (drop_text c.args.table) [] c.execute.result (λ outside. ((c.execute.ensures.ended outside).0, ap (state g.S.Store) (c.execute.ensures.ended outside).1)) (rw c.text_of.ensures at (c.execute.ensures.runs clean))
+    (λ e. drop_fails_in c.args.table old new e (c.requires (omega (arith, c.execute.ensures.survives.clean))))

@@ -1,0 +1,67 @@
+-- Why the DELETE statements of the store are refused.
+use Rattle.std.proofs.Common.{◌≡◌, ◌⊎◌, ◌≤◌, ◌==◌, ◌^◌, ℕ, ℤ, List, [], ◌∷◌, codes, length, find, nat_le, Bool, true, false, Some, None, Option, Ok, Err, inl, inr, refl, sym, subst, lit≤}
+use Rattle.std.proofs.lemmas.Bool.{lt-leb}
+use Rattle.sqlite.specs.declared.types.Value.TheVariants.{Int}
+use Rattle.sqlite.specs.Order.{Row}
+use Rattle.sqlite.specs.Table.{Table}
+use Rattle.sqlite.specs.Term.{Term}
+use Rattle.sqlite.specs.Schema.{Schema}
+use Rattle.sqlite.specs.State.{State, ExecutesInside, Fails, IsUnchanged}
+use Rattle.sqlite.specs.declared.error.Error.{Error}
+use Rattle.sqlite_typing.specs.Types.{accepts_program}
+use Rattle.sqlite_sql.specs.Program.{ProgramOverflows}
+use Rattle.sqlite_ast.specs.declared.Expr.{Expr}
+use Rattle.sqlite_tied.specs.Compute.{everything}
+use Rattle.sqlite_syntax.specs.declared.statement.Parsed.{Parsed}
+use Rattle.dict_tables.specs.Tables.{mark, item, member, edition, entry}
+use Rattle.dict_sql.specs.Deletes.{delete_mark, delete_item, delete_member, delete_edition, delete_entry}
+use Rattle.dict_sql.specs.Effects.{Has, HasApartRowids, rows_of, shown}
+use Rattle.dict_sql.specs.Refusals.{RefusesToRemove}
+use Rattle.dict_sql.proofs.ListLemmas.{passes}
+use Rattle.dict_sql.proofs.DeleteLemmas.{doomed}
+use Rattle.dict_sql.proofs.DeleteTexts.{ReadsDelete, command, compiles, read_mark, read_item, read_member, read_edition, read_entry, test_edition, test_entry}
+use Rattle.dict_sql.proofs.DeleteFaults.{cause}
+use Rattle.dict_sql.proofs.FaultLemmas.{faults_inside}
+
+-- the text is one statement, and takes these values
+pub record Takes (text : List ℕ) (p : Parsed) (table : ℕ → Table) (filter : List Term) (params : Row) : Type 0 where
+  pub whole : length text ≤ p.tail
+  pub names : length params ≡ length p.names
+  pub typed : (schema : Schema) (tree : ℕ) → find (λ t. t.tree == (table tree).tree) schema.tables ≡ Some (table tree) → nat_le (2 ^ 31) (table tree).tree ≡ false → accepts_program schema [] (doomed (table tree) filter) params ≡ true
+
+pub takes_mark : Takes delete_mark read_mark mark [] []
+unfolding everything read_mark
+takes_mark = record { whole = lit≤ tt; names = refl; typed = λ schema tree alone low. rw (low, alone) refl }
+
+pub takes_item : Takes delete_item read_item item [] []
+unfolding everything read_item
+takes_item = record { whole = lit≤ tt; names = refl; typed = λ schema tree alone low. rw (low, alone) refl }
+
+pub takes_member : Takes delete_member read_member member [] []
+unfolding everything read_member
+takes_member = record { whole = lit≤ tt; names = refl; typed = λ schema tree alone low. rw (low, alone) refl }
+
+pub takes_edition : (n : ℤ) → Takes delete_edition read_edition edition test_edition (Int n ∷ [])
+unfolding everything read_edition
+takes_edition n = record { whole = lit≤ tt; names = refl; typed = λ schema tree alone low. rw (low, alone) refl }
+
+pub takes_entry : (n : ℤ) → Takes delete_entry read_entry entry test_entry (Int n ∷ [])
+unfolding everything read_entry
+takes_entry n = record { whole = lit≤ tt; names = refl; typed = λ schema tree alone low. rw (low, alone) refl }
+
+module _ (text : List ℕ) (p : Parsed) (table : ℕ → Table) (condition : Option Expr) (filter : List Term) (left : ℕ) (r : ReadsDelete text p table condition filter left) (named : (tree : ℕ) → (table tree).name ≡ (table 0).name)
+    (params : Row) (takes : Takes text p table filter params) (test : Row → Bool) (tested : (tree : ℕ) (row : Row) → passes params filter row ≡ test (shown (table tree) row)) (old new : State) (e : Error)
+  where
+    no_overflow : (tree : ℕ) → ¬ ProgramOverflows old.now.trees params [] [] (doomed (table tree) filter)
+    no_overflow tree (inl h) = h
+    no_overflow tree (inr h) = h.4
+
+    pub remove_fails : Has table old.now → HasApartRowids (rows_of (table 0).name old.now) → ExecutesInside 0 text params old new (Err e)
+        → (RefusesToRemove (table 0).name test old e × IsUnchanged old new) ⊎ Fails old new ⊥ e
+    remove_fails has apart h =
+        let at = has.0 in
+        let tree = has.1 in
+        let s = old.now.schema in
+        subst (λ n. (RefusesToRemove n test old e × IsUnchanged old new) ⊎ Fails old new ⊥ e) (named tree)
+        (cause old new at (table tree) has.2 filter text params (subst (λ n. HasApartRowids (rows_of n old.now)) (sym (named tree)) apart) test (tested tree) (takes.typed s tree has.2.alone (lt-leb (2 ^ 31) (table tree).tree has.2.stored)) (no_overflow tree) e
+        (faults_inside text p (command text p table condition filter left r s at tree has.2) params old new e (compiles text p table condition filter left r s at tree has.2) takes.whole takes.names refl refl h))
