@@ -1,5 +1,5 @@
 -- Why an INSERT of one row is refused, over any schema that has its table.
-use Rattle.std.proofs.Common.{◌≡◌, ◌≢◌, ◌⊎◌, ◌==◌, ◌/◌, ◌||◌, ℕ, ℤ, List, [], ◌∷◌, ◌++◌, map, length, slice_get, nat_lt, Bool, true, false, Option, Some, None, Ok, Err, Result, inl, inr, refl, sym, ap, subst, ◌∙◌, append-nil, option_map}
+use Rattle.std.proofs.Common.{◌≡◌, ◌≢◌, ◌⊎◌, ◌==◌, ◌/◌, ◌||◌, ℕ, ℤ, List, [], ◌∷◌, ◌++◌, length, slice_get, nat_lt, true, false, Option, Some, None, Ok, Err, inl, inr, refl, sym, ap, subst, ◌∙◌, append-nil, option_map}
 use Rattle.std.proofs.lemmas.Bool.{cases_Bool, eqb-true, eqb-false}
 use Rattle.std.specs.List.{AllByRecursion, list_all}
 use Rattle.sqlite.specs.Order.{Row}
@@ -12,14 +12,14 @@ use Rattle.sqlite.specs.Source.TheVariants.{Values}
 use Rattle.sqlite.specs.Command.TheVariants.{Insert}
 use Rattle.sqlite.specs.Does.{Does, Concludes}
 use Rattle.sqlite.specs.Rows.{Task, Written, Inserts, Sourced}
-use Rattle.sqlite.specs.Effect.{Database, edit_error, value_rows}
+use Rattle.sqlite.specs.Effect.{edit_error, value_rows}
 use Rattle.sqlite.specs.State.{State, Fails, IsUnchanged, mode_of}
 use Rattle.sqlite.specs.declared.types.Value.TheVariants.{Int}
 use Rattle.sqlite.specs.declared.error.Error.{Error}
 use Rattle.sqlite_typing.specs.Types.{accepts_terms}
 use Rattle.sqlite_trees.specs.Tree.{with_tree}
 use Rattle.sqlite_rules.specs.Action.{Writes}
-use Rattle.sqlite_rules.specs.Edit.{IsRefused, IsOversized, Applies, edited, have_rowids, is_off}
+use Rattle.sqlite_rules.specs.Edit.{IsRefused, IsOversized, edited, have_rowids, is_off}
 use Rattle.sqlite_rules.specs.Lists.{Has as In}
 use Rattle.sqlite_rules.specs.declared.error.Refusal.{Refusal}
 use Rattle.sqlite_rules.specs.declared.error.Refusal.TheVariants.{Violates, Mismatch, NoRowid, BadReference, TooDeep}

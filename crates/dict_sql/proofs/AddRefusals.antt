@@ -1,11 +1,10 @@
 -- Why the INSERT of one record of each table is refused.
-use Rattle.std.proofs.Common.{◌≡◌, ◌⊎◌, ◌≤◌, ℕ, ℤ, pos, List, [], ◌∷◌, codes, length, Bool, true, Option, Some, None, Ok, Err, inl, inr, refl, ap, ◌∙◌, lit≤}
+use Rattle.std.proofs.Common.{◌≡◌, ◌⊎◌, ◌≤◌, ℕ, ℤ, pos, List, [], ◌∷◌, codes, length, true, Option, Some, None, Err, refl, lit≤}
 use Rattle.std.proofs.lemmas.Bool.{and_from}
 use Rattle.sqlite.specs.declared.types.Value.TheVariants.{Null, Int, Text, Blob}
 use Rattle.sqlite.specs.Kind.TheVariants.{Integer, Text as OfText}
 use Rattle.sqlite.specs.Cast.{cast_all}
-use Rattle.sqlite.specs.Edit.{edit_of, next_rowid}
-use Rattle.sqlite.specs.Rowids.TheVariants.{Chosen}
+use Rattle.sqlite.specs.Edit.{next_rowid}
 use Rattle.sqlite.specs.Source.TheVariants.{Values}
 use Rattle.sqlite.specs.Command.TheVariants.{Insert}
 use Rattle.sqlite.specs.State.{State, ExecutesInside, Fails, IsUnchanged}
@@ -17,7 +16,7 @@ use Rattle.dict_tables.specs.Tables.{mark, item, member, edition, entry, kept}
 use Rattle.dict_sql.specs.Inserts.{insert_mark, insert_item, insert_member, insert_edition, insert_entry, insert_kept}
 use Rattle.dict_sql.specs.Records.{number_or_null, text_or_null, Mark, mark_row, Item, item_row, Member, member_row, Edition, edition_row, Entry, entry_row, Kept, kept_row}
 use Rattle.dict_sql.specs.Effects.{Has}
-use Rattle.dict_sql.specs.Refusals.{RefusesToAdd, IsTooBig, source_by}
+use Rattle.dict_sql.specs.Refusals.{RefusesToAdd, IsTooBig}
 use Rattle.dict_sql.proofs.InsertLemmas.{cast_int, cast_null}
 use Rattle.dict_sql.proofs.AddLemmas.{cast_number, cast_text}
 use Rattle.dict_sql.proofs.AddFaults.{cause}

@@ -1,19 +1,18 @@
 -- Why the CREATE TABLE of a table is refused, over any schema in which its name is free.
-use Rattle.std.proofs.Common.{◌≡◌, ◌⊎◌, ◌≤◌, ◌<◌, ◌+◌, ◌*◌, ◌^◌, ◌%◌, ◌/◌, ℕ, zero, suc, List, [], ◌∷◌, codes, length, nat_lt, Bool, true, false, Some, None, Option, Ok, Err, Result, inl, inr, refl, sym, ap, subst, ◌∙◌, lit≤, arith}
+use Rattle.std.proofs.Common.{◌≡◌, ◌⊎◌, ◌≤◌, ◌<◌, ◌+◌, ◌*◌, ◌^◌, ℕ, List, [], ◌∷◌, codes, length, nat_lt, true, false, Some, None, Option, Ok, Err, inl, inr, refl, sym, ap, subst, ◌∙◌, lit≤, arith}
 use Rattle.std.proofs.lemmas.Bool.{cases_Bool, ltb-true}
 use Rattle.std.proofs.lemmas.Str.{IsUtf8-from_ascii}
 use Rattle.std.proofs.lemmas.Str.Ascii.{IsAscii-nil, IsAscii-cons}
 use Rattle.std.specs.List.{list_all}
 use Rattle.std.specs.Str.{IsAscii, IsUtf8}
 use Rattle.sqlite.specs.Table.{Table}
-use Rattle.sqlite.specs.Schema.{Schema}
 use Rattle.sqlite.specs.Change.{created}
 use Rattle.sqlite.specs.Does.{Does, MakesTable, MakesSequence, lacks_sequence}
 use Rattle.sqlite.specs.Rows.{Then}
 use Rattle.sqlite.specs.Effect.{Database, alter_error}
 use Rattle.sqlite.specs.State.{State, ExecutesInside, Fails, IsUnchanged, mode_of}
 use Rattle.sqlite.specs.Command.TheVariants.{CreateTable}
-use Rattle.sqlite.specs.Compile.{table_defined_by, with_command}
+use Rattle.sqlite.specs.Compile.{table_defined_by}
 use Rattle.sqlite.specs.declared.types.Value.TheVariants.{Text}
 use Rattle.sqlite.specs.declared.error.Error.{Error}
 use Rattle.sqlite_catalog.specs.Calls.{RefusesTable}
@@ -30,7 +29,7 @@ use Rattle.sqlite_syntax.specs.declared.statement.Parsed.{Parsed}
 use Rattle.dict_tables.specs.Tables.{mark, item, member, edition, entry, kept}
 use Rattle.dict_sql.specs.Creates.{IsFree, create_mark, create_item, create_member, create_edition, create_entry, create_kept}
 use Rattle.dict_sql.specs.Refusals.{RefusesToMake}
-use Rattle.dict_sql.proofs.CreateLemmas.{ReadsCreate, compiles, create_text, lacks_none, read_mark, read_item, read_member, read_edition, read_entry, read_kept}
+use Rattle.dict_sql.proofs.CreateLemmas.{ReadsCreate, compiles, lacks_none, read_mark, read_item, read_member, read_edition, read_entry, read_kept}
 use Rattle.dict_sql.proofs.FaultLemmas.{faults_inside, fails_for, same_stop, no_stop}
 use Rattle.dict_sql.proofs.InsertLemmas.{same_value}
 

@@ -1,5 +1,5 @@
 -- Why a DELETE is refused, over any schema that has its table.
-use Rattle.std.proofs.Common.{◌≡◌, ◌≢◌, ◌⊎◌, ◌==◌, ◌||◌, ◌&&◌, ℕ, List, [], ◌∷◌, length, filter, find, nat_lt, Bool, true, false, not, Option, Some, None, Ok, Err, Result, inl, inr, refl, sym, ap, subst, ◌∙◌, option_map}
+use Rattle.std.proofs.Common.{◌≡◌, ◌⊎◌, ◌||◌, ℕ, List, [], ◌∷◌, length, filter, find, nat_lt, Bool, true, false, not, Option, Some, None, Ok, Err, inl, inr, refl, sym, ap, subst, ◌∙◌, option_map}
 use Rattle.std.proofs.lemmas.Bool.{cases_Bool}
 use Rattle.std.specs.List.{AllByRecursion, list_all}
 use Rattle.sqlite.specs.Order.{Row}
@@ -9,7 +9,7 @@ use Rattle.sqlite.specs.Tree.{Trees}
 use Rattle.sqlite.specs.Command.TheVariants.{Delete}
 use Rattle.sqlite.specs.Does.{Does, Concludes}
 use Rattle.sqlite.specs.Rows.{Written, Deletes, Queried}
-use Rattle.sqlite.specs.Effect.{Database, Answers, edit_error}
+use Rattle.sqlite.specs.Effect.{Answers, edit_error}
 use Rattle.sqlite.specs.State.{State, Fails, IsUnchanged, mode_of}
 use Rattle.sqlite.specs.declared.error.Error.{Error}
 use Rattle.sqlite_sql.specs.Program.{ProgramOverflows}

@@ -1,5 +1,5 @@
 -- Why the DELETE statements of the store are refused.
-use Rattle.std.proofs.Common.{◌≡◌, ◌⊎◌, ◌≤◌, ◌==◌, ◌^◌, ℕ, ℤ, List, [], ◌∷◌, codes, length, find, nat_le, Bool, true, false, Some, None, Option, Ok, Err, inl, inr, refl, sym, subst, lit≤}
+use Rattle.std.proofs.Common.{◌≡◌, ◌⊎◌, ◌≤◌, ◌==◌, ◌^◌, ℕ, ℤ, List, [], ◌∷◌, length, find, nat_le, Bool, true, false, Some, Option, Err, inl, inr, refl, sym, subst, lit≤}
 use Rattle.std.proofs.lemmas.Bool.{lt-leb}
 use Rattle.sqlite.specs.declared.types.Value.TheVariants.{Int}
 use Rattle.sqlite.specs.Order.{Row}

@@ -1,23 +1,17 @@
 -- Why the DROP TABLE of a table is refused, over any schema that has it.
-use Rattle.std.proofs.Common.{◌≡◌, ◌⊎◌, ◌≤◌, ℕ, List, [], ◌∷◌, codes, length, Bool, true, false, is_some, MatchBool, if◌then◌else◌, Some, None, Option, Ok, Err, Result, inl, inr, refl, sym, ap, subst, subst₂, ◌∙◌, lit≤}
+use Rattle.std.proofs.Common.{◌≡◌, ◌⊎◌, ◌≤◌, ℕ, List, [], length, Bool, true, false, is_some, if◌then◌else◌, Some, None, Option, Ok, Err, inl, inr, refl, sym, subst, ◌∙◌, lit≤}
 use Rattle.std.proofs.lemmas.Bool.{cases_Bool}
 use Rattle.sqlite.specs.Table.{Table}
-use Rattle.sqlite.specs.Schema.{Schema}
 use Rattle.sqlite.specs.Tree.{Trees}
 use Rattle.sqlite.specs.Change.{without_table}
 use Rattle.sqlite.specs.Does.{Does, Drops, Empties, Leaves, UncountsIn, is_acted_on}
 use Rattle.sqlite.specs.Rows.{Task, sequence}
 use Rattle.sqlite.specs.State.{State, Executes, ExecutesIn, ExecutesInside, EndsScope, IsNoStatement, IsNotRun, Fails, IsUnchanged, mode_of}
 use Rattle.sqlite.specs.Command.TheVariants.{DropTable}
-use Rattle.sqlite.specs.Compile.{compiled, planned, meaning, command, drop_table, with_command, returning, timed}
 use Rattle.sqlite.specs.Listing.{understood}
 use Rattle.sqlite.specs.declared.error.Error.{Error}
-use Rattle.sqlite.specs.declared.error.Error.TheVariants.{SqlInputError}
 use Rattle.sqlite_resolve.specs.declared.compiled.Compiled.{Compiled}
-use Rattle.sqlite_resolve.specs.declared.error.CompileError.{CompileError}
 use Rattle.sqlite_schema.specs.Names.{view_named}
-use Rattle.sqlite_schema.specs.Rules.{Refers}
-use Rattle.sqlite_schema.specs.declared.schema.Among.TheVariants.{All}
 use Rattle.sqlite_schema.specs.declared.schema.Keys.TheVariants.{Enforced}
 use Rattle.sqlite_tied.specs.Compute.{everything}
 use Rattle.sqlite_syntax.specs.declared.statement.Parsed.{Parsed}

@@ -1,5 +1,5 @@
 -- Why a text that writes is refused, whatever it writes.
-use Rattle.std.proofs.Common.{◌≡◌, ◌≢◌, ◌⊎◌, ◌≤◌, ℕ, zero, suc, List, [], ◌∷◌, ◌++◌, length, Bool, true, false, not, ◌==◌, ◌||◌, Option, Some, None, Ok, Err, Result, IsTrue, inl, inr, refl, sym, ap, subst, subst₂, ◌∙◌, append-nil, length-append, arith, find, option_map, option_and_then}
+use Rattle.std.proofs.Common.{◌≡◌, ◌≢◌, ◌⊎◌, ◌≤◌, ℕ, zero, suc, List, [], ◌∷◌, length, Bool, true, false, not, ◌||◌, Option, Some, None, Ok, Err, Result, inl, inr, refl, sym, ap, subst, ◌∙◌, append-nil, length-append, arith, find, option_map, option_and_then}
 use Rattle.std.proofs.lemmas.Bool.{cases_Bool}
 use Rattle.std.specs.List.{AllByRecursion, list_any, list_all}
 use Rattle.sqlite.specs.Order.{Row}
@@ -18,13 +18,12 @@ use Rattle.sqlite.specs.declared.error.Error.{Error}
 use Rattle.sqlite.specs.declared.error.Error.TheVariants.{SqliteFailure, MultipleStatement, InvalidParameterCount}
 use Rattle.sqlite.specs.declared.error.ErrorCode.TheVariants.{NoClock}
 use Rattle.sqlite_resolve.specs.declared.compiled.Compiled.{Compiled}
-use Rattle.sqlite_resolve.specs.declared.error.CompileError.{CompileError}
-use Rattle.sqlite_rules.specs.Action.{works, Leads, Settles, Writes}
+use Rattle.sqlite_rules.specs.Action.{works, Leads, Writes}
 use Rattle.sqlite_rules.specs.Edit.{IsRefused, IsOversized, taken_by}
 use Rattle.sqlite_rules.specs.Lists.{Has as In}
 use Rattle.sqlite_rules.specs.declared.error.Refusal.{Refusal}
 use Rattle.sqlite_schema.specs.Names.{same_name}
-use Rattle.sqlite_schema.specs.Rules.{Refers, ParentKey, key_in, key_places, declared_order, parent_key, has_parent, is_held, has_null, is_among, agree}
+use Rattle.sqlite_schema.specs.Rules.{Refers, key_in, key_places, declared_order, has_parent, is_held, has_null, is_among, agree}
 use Rattle.sqlite_schema.specs.declared.schema.Among.TheVariants.{All}
 use Rattle.sqlite_schema.specs.declared.schema.Keys.{Keys}
 use Rattle.sqlite_schema.specs.declared.schema.Reference.{Reference}

@@ -1,5 +1,5 @@
 -- A row from its columns.
-use Rattle.std.proofs.Common.{◌≡◌, inl, inr, ℕ, suc, ◌+◌, ◌<◌, ◌^◌, [], ◌∷◌, map, length, refl, sym, ap, subst, ◌∙◌, arith, add-zero, Option, Some, None, MatchOption, IfSome, ◌≢◌, String, string_bytes, ℤ}
+use Rattle.std.proofs.Common.{◌≡◌, inl, inr, ℕ, suc, ◌+◌, [], ◌∷◌, map, length, refl, sym, ap, subst, ◌∙◌, arith, add-zero, Option, Some, None, MatchOption, ◌≢◌, String, string_bytes, ℤ}
 use Rattle.std.proofs.lemmas.Str.{IsUtf8-string_bytes}
 use Rattle.sqlite.specs.declared.types.Value.{Value}
 use Rattle.sqlite.specs.declared.types.Value.TheVariants.{Null, Int, Text}

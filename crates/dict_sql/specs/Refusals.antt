@@ -1,5 +1,5 @@
 -- Why `sqlite` refuses a statement that writes, so that nothing is changed, and when a row is too big for it.
-use Rattle.std.specs.Prelude.{◌≡◌, ◌⊎◌, ◌≤◌, ◌+◌, ℕ, ℤ, Bool, true, false, not, IsTrue, IsSome, List, [], ◌∷◌, codes, filter, drop, length, Option, Some, None, is_some}
+use Rattle.std.specs.Prelude.{◌≡◌, ◌⊎◌, ◌≤◌, ◌+◌, ℕ, Bool, true, false, not, IsSome, List, [], ◌∷◌, filter, drop, length, Option, Some, None, is_some}
 use Rattle.sqlite.specs.declared.types.Value.TheVariants.{Null}
 use Rattle.sqlite.specs.Order.{Row, column}
 use Rattle.sqlite.specs.Table.{Table}
