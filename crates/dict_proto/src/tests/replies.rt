@@ -28,13 +28,17 @@ fn block_of(alloc: Global, body: &[u8]) -> Result<Vec<u8>, Fail> {
 }
 
 #[test]
-fn lines_with_a_number(rt: HostRuntime) -> Result<(), Fail> {
+fn replies_with_a_number(rt: HostRuntime) -> Result<(), Fail> {
     let alloc = rt.alloc();
     let banner = Reply::Banner {
         host: "localhost",
         connection: 1,
     };
-    let lines = [
+    let server = Reply::ServerInformation {
+        host: "localhost",
+        count: 2,
+    };
+    let replies = [
         (
             banner,
             b"220 localhost dictcat ready <1@localhost>\r\n".as_slice(),
@@ -66,17 +70,21 @@ fn lines_with_a_number(rt: HostRuntime) -> Result<(), Fail> {
         ),
         (Reply::Status(0), b"210 0 databases\r\n".as_slice()),
         (Reply::Status(64), b"210 64 databases\r\n".as_slice()),
+        (
+            server,
+            b"114 server information\r\ndictcat on localhost\r\ndatabases 2\r\n.\r\n".as_slice(),
+        ),
     ];
-    for (reply, want) in &lines {
+    for (reply, want) in &replies {
         assert_eq!(rt; octets_of(alloc, reply)?.as_slice(), *want);
     }
     Ok(())
 }
 
 #[test]
-fn fixed_lines(rt: HostRuntime) -> Result<(), Fail> {
+fn fixed_replies(rt: HostRuntime) -> Result<(), Fail> {
     let alloc = rt.alloc();
-    let lines = [
+    let replies = [
         (Reply::Done, b"250 ok\r\n".as_slice()),
         (Reply::Closing, b"221 closing connection\r\n".as_slice()),
         (
@@ -105,8 +113,12 @@ fn fixed_lines(rt: HostRuntime) -> Result<(), Fail> {
             Reply::InfoHeading,
             b"112 database information\r\n".as_slice(),
         ),
+        (
+            Reply::Help,
+            b"113 help text\r\nDEFINE database word\r\nMATCH database strategy word\r\nSHOW DB\r\nSHOW STRAT\r\nSHOW INFO database\r\nSHOW SERVER\r\nCLIENT text\r\nSTATUS\r\nHELP\r\nQUIT\r\n.\r\n".as_slice(),
+        ),
     ];
-    for (reply, want) in &lines {
+    for (reply, want) in &replies {
         assert_eq!(rt; octets_of(alloc, reply)?.as_slice(), *want);
     }
     Ok(())
@@ -133,32 +145,33 @@ fn lines_of_a_list(rt: HostRuntime) -> Result<(), Fail> {
 }
 
 #[test]
-fn one_definition(rt: HostRuntime) -> Result<(), Fail> {
-    let definition = Reply::Definition {
+fn definitions(rt: HostRuntime) -> Result<(), Fail> {
+    let alloc = rt.alloc();
+    let plain = Reply::Definition {
         headword: "Fire Opal",
         name: "gem",
         title: "Gems",
         body: b"opal\n  a stone\n",
     };
-    assert_eq!(rt;
-        octets_of(rt.alloc(), &definition)?.as_slice(),
-        b"151 \"Fire Opal\" gem \"Gems\"\r\nopal\r\n  a stone\r\n.\r\n".as_slice()
-    );
-    Ok(())
-}
-
-#[test]
-fn quoted_headword_and_title(rt: HostRuntime) -> Result<(), Fail> {
-    let definition = Reply::Definition {
+    let quoted = Reply::Definition {
         headword: "a\"b\\c",
         name: "x",
         title: "\"",
         body: b"",
     };
-    assert_eq!(rt;
-        octets_of(rt.alloc(), &definition)?.as_slice(),
-        b"151 \"a\\\"b\\\\c\" x \"\\\"\"\r\n.\r\n".as_slice()
-    );
+    let rows = [
+        (
+            plain,
+            b"151 \"Fire Opal\" gem \"Gems\"\r\nopal\r\n  a stone\r\n.\r\n".as_slice(),
+        ),
+        (
+            quoted,
+            b"151 \"a\\\"b\\\\c\" x \"\\\"\"\r\n.\r\n".as_slice(),
+        ),
+    ];
+    for (reply, want) in &rows {
+        assert_eq!(rt; octets_of(alloc, reply)?.as_slice(), *want);
+    }
     Ok(())
 }
 
@@ -213,24 +226,6 @@ fn info_of_a_database(rt: HostRuntime) -> Result<(), Fail> {
     for (text, want) in &texts {
         assert_eq!(rt; octets_of(alloc, &Reply::InfoText(text))?.as_slice(), *want);
     }
-    Ok(())
-}
-
-#[test]
-fn help_and_server(rt: HostRuntime) -> Result<(), Fail> {
-    let alloc = rt.alloc();
-    assert_eq!(rt;
-        octets_of(alloc, &Reply::Help)?.as_slice(),
-        b"113 help text\r\nDEFINE database word\r\nMATCH database strategy word\r\nSHOW DB\r\nSHOW STRAT\r\nSHOW INFO database\r\nSHOW SERVER\r\nCLIENT text\r\nSTATUS\r\nHELP\r\nQUIT\r\n.\r\n".as_slice()
-    );
-    let server = Reply::ServerInformation {
-        host: "localhost",
-        count: 2,
-    };
-    assert_eq!(rt;
-        octets_of(alloc, &server)?.as_slice(),
-        b"114 server information\r\ndictcat on localhost\r\ndatabases 2\r\n.\r\n".as_slice()
-    );
     Ok(())
 }
 
