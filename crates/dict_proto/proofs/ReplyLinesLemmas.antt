@@ -1,15 +1,16 @@
 -- No line of a reply is too long.
-use Rattle.std.proofs.Common.{◌≢◌, ◌%◌, not, eq-eqb, ◌≡◌, ℕ, ◌+◌, ◌*◌, ◌^◌, ◌<◌, ◌≤◌, List, [], ◌∷◌, ◌++◌, Bool, true, false, map, length, refl, sym, ap, ◌∙◌, arith, append_assoc, append-nil, length-append, codes}
-use Rattle.std.specs.Prelude.{decimal, ◌==◌, slice_index}
+use Rattle.std.proofs.Common.{◌≢◌, ◌%◌, not, eq-eqb, subst, ◌≡◌, ℕ, ◌+◌, ◌*◌, ◌^◌, ◌<◌, ◌≤◌, List, [], ◌∷◌, ◌++◌, Bool, true, false, map, length, refl, sym, ap, ◌∙◌, arith, append_assoc, append-nil, length-append, codes}
+use Rattle.std.specs.Prelude.{decimal, ◌==◌, ◌&&◌, nat_le, slice_index}
 use Rattle.std.specs.List.{flat_map, list_all, AllByRecursion}
+use Rattle.std.proofs.lemmas.Bool.{leb-true}
 use Rattle.std.proofs.lemmas.Fmt.{length-decimal-le, decimal_by_steps}
 use Rattle.dict_proto.proofs.ReadingLemmas.{both_true}
 use Rattle.dict_text.specs.Lines.{text_lines}
 use Rattle.dict_proto.specs.Text.{crlf, needs_backslash, escaped, quoted, stuffed, sent_line, block}
-use Rattle.dict_proto.specs.Replies.{banner_octets, definition_count_octets, definition_line, definition_octets, match_count_octets, list_row, list_line_octets, list_end_octets, done_octets, closing_octets, unavailable_octets, not_recognized_octets, invalid_database_octets, invalid_strategy_octets, no_match_octets, reply_octets}
+use Rattle.dict_proto.specs.Replies.{banner_octets, definition_count_octets, definition_line, definition_octets, match_count_octets, database_count_octets, strategy_count_octets, list_row, list_line_octets, list_end_octets, info_heading_octets, info_text_octets, help_lines, help_octets, server_lines, server_information_octets, status_octets, done_octets, closing_octets, unavailable_octets, not_recognized_octets, invalid_database_octets, invalid_strategy_octets, no_match_octets, no_databases_octets, reply_octets}
 use Rattle.dict_proto.specs.ReplyLines.{AreShortLines, HasNoReturn, IsShort, IsWithinLimits}
 use Rattle.dict_proto.specs.declared.reply.Reply.{Reply}
-use Rattle.dict_proto.specs.declared.reply.Reply.TheVariants.{Banner, DefinitionCount, Definition, MatchCount, ListLine, ListEnd, Done, Closing, Unavailable, NotRecognized, InvalidDatabase, InvalidStrategy, NoMatch}
+use Rattle.dict_proto.specs.declared.reply.Reply.TheVariants.{Banner, DefinitionCount, Definition, MatchCount, DatabaseCount, StrategyCount, ListLine, ListEnd, InfoHeading, InfoText, Help, ServerInformation, Status, Done, Closing, Unavailable, NotRecognized, InvalidDatabase, InvalidStrategy, NoMatch, NoDatabases}
 
 -- ---- no CR
 
@@ -81,43 +82,12 @@ banner_whole host n h lt =
     (return-append host _ h (return-append (codes " dictcat ready <") _ (return-written (codes " dictcat ready <") refl)
     (return-append (decimal n) _ (return-decimal n lt) (return-append (codes "@") _ (return-written (codes "@") refl) (return-append host _ h (return-written (codes ">") refl))))))
 
--- how many definitions there are
-count_content : ℕ → List ℕ
-count_content n = codes "150 " ++ (decimal n ++ codes " definitions retrieved")
-
-count_is : (n : ℕ) → definition_count_octets n ≡ count_content n ++ crlf
-unfolding definition_count_octets count_content
-count_is n = simp append_assoc
-
-count_short : (n : ℕ) → n < 2 ^ 64 → length (count_content n) + 2 ≤ 1024
-unfolding count_content
-count_short n lt =
+-- a line that tells a number
+numbered_line : (front back : List ℕ) (n : ℕ) → length front + length back + 22 ≤ 1024 → list_all is_other front ≡ true → list_all is_other back ≡ true → n < 2 ^ 64 → AreShortLines (front ++ (decimal n ++ (back ++ crlf)))
+numbered_line front back n short h k lt =
     let digits : length (decimal n) ≤ 20 = length-decimal-le 20 n (omega arith) (omega arith) lt in
-    simp length-append (omega arith)
-
-count_whole : (n : ℕ) → n < 2 ^ 64 → HasNoReturn (count_content n)
-unfolding count_content is_other
-count_whole n lt =
-    return-append (codes "150 ") _ (return-written (codes "150 ") refl) (return-append (decimal n) _ (return-decimal n lt) (return-written (codes " definitions retrieved") refl))
-
--- how many matches there are
-matches_content : ℕ → List ℕ
-matches_content n = codes "152 " ++ (decimal n ++ codes " matches found")
-
-matches_is : (n : ℕ) → match_count_octets n ≡ matches_content n ++ crlf
-unfolding match_count_octets matches_content
-matches_is n = simp append_assoc
-
-matches_short : (n : ℕ) → n < 2 ^ 64 → length (matches_content n) + 2 ≤ 1024
-unfolding matches_content
-matches_short n lt =
-    let digits : length (decimal n) ≤ 20 = length-decimal-le 20 n (omega arith) (omega arith) lt in
-    simp length-append (omega arith)
-
-matches_whole : (n : ℕ) → n < 2 ^ 64 → HasNoReturn (matches_content n)
-unfolding matches_content is_other
-matches_whole n lt =
-    return-append (codes "152 ") _ (return-written (codes "152 ") refl) (return-append (decimal n) _ (return-decimal n lt) (return-written (codes " matches found") refl))
+    one_line _ (front ++ (decimal n ++ back)) (simp append_assoc) (omega (arith, digits, short, length-append front (decimal n ++ back), length-append (decimal n) back))
+    (return-append front (decimal n ++ back) (return-written front h) (return-append (decimal n) back (return-decimal n lt) (return-written back k)))
 
 -- the line before a definition
 definition_content : List ℕ → List ℕ → List ℕ → List ℕ
@@ -174,24 +144,68 @@ unfolding sent_line
 block_is [] = refl
 block_is (line ∷ lines) = append_assoc (stuffed line ++ crlf) (flat_map sent_line lines) (46 ∷ crlf) ∙ ap (λ l. (stuffed line ++ crlf) ++ l) (block_is lines)
 
+-- a text
+text-lines : (lines : List (List ℕ)) → AllByRecursion (IsShort 1021) lines → AreShortLines (block lines)
+text-lines lines each = (map stuffed lines ++ ((46 ∷ []) ∷ []), block_is lines, all_stuffed lines each)
+
+-- a line, and then a text
+headed-lines : (heading : List ℕ) (lines : List (List ℕ)) → length heading + 2 ≤ 1024 → HasNoReturn heading → AllByRecursion (IsShort 1021) lines → AreShortLines ((heading ++ crlf) ++ block lines)
+headed-lines heading lines short whole each = (
+  heading ∷ (map stuffed lines ++ ((46 ∷ []) ∷ [])),
+  ap (λ x. (heading ++ crlf) ++ x) (block_is lines),
+  ((short, whole), all_stuffed lines each),
+)
+
 definition-lines : (headword name title body : List ℕ) → IsShort 255 headword → IsShort 32 name → IsShort 200 title
     → AllByRecursion (IsShort 1021) (text_lines body) → AreShortLines (definition_octets headword name title body)
 unfolding definition_octets
-definition-lines headword name title body h k l m = (
-  definition_content headword name title ∷ (map stuffed (text_lines body) ++ ((46 ∷ []) ∷ [])),
-  ap (λ x. x ++ block (text_lines body)) (definition_is headword name title) ∙ ap (λ x. (definition_content headword name title ++ crlf) ++ x) (block_is (text_lines body)),
-  ((definition_short headword name title h.0 k.0 l.0, definition_whole headword name title h.1 k.1 l.1), all_stuffed (text_lines body) m),
-)
+definition-lines headword name title body h k l m =
+    subst AreShortLines (sym (ap (λ x. x ++ block (text_lines body)) (definition_is headword name title)))
+    (headed-lines (definition_content headword name title) (text_lines body) (definition_short headword name title h.0 k.0 l.0) (definition_whole headword name title h.1 k.1 l.1) m)
+
+-- lines that are written out
+all_written : (lines : List (List ℕ)) → list_all (λ line. nat_le (length line) 1021 && list_all is_other line) lines ≡ true → AllByRecursion (IsShort 1021) lines
+all_written [] e = tt
+all_written (line ∷ lines) e =
+    let here : (nat_le (length line) 1021 ≡ true) × (list_all is_other line ≡ true) = both_true _ _ (both_true _ _ e).0 in
+    ((leb-true (length line) 1021 here.0, return-written line here.1), all_written lines (both_true _ _ e).1)
+
+help-short : AreShortLines help_octets
+unfolding is_other help_lines help_octets
+help-short = headed-lines (codes "113 help text") help_lines (omega arith) (return-written (codes "113 help text") refl) (all_written help_lines refl)
+
+-- what is told of the server
+host-short : (host : List ℕ) → IsShort 253 host → IsShort 1021 (codes "dictcat on " ++ host)
+unfolding is_other
+host-short host h = (omega (arith, h.0), return-append (codes "dictcat on ") host (return-written (codes "dictcat on ") refl) h.1)
+
+count-short : (n : ℕ) → n < 2 ^ 64 → IsShort 1021 (codes "databases " ++ decimal n)
+unfolding is_other
+count-short n lt =
+    let digits : length (decimal n) ≤ 20 = length-decimal-le 20 n (omega arith) (omega arith) lt in
+    (omega (arith, digits), return-append (codes "databases ") (decimal n) (return-written (codes "databases ") refl) (return-decimal n lt))
+
+server-short : (host : List ℕ) (n : ℕ) → IsShort 253 host → n < 2 ^ 64 → AreShortLines (server_information_octets host n)
+unfolding is_other server_lines server_information_octets
+server-short host n h lt =
+    headed-lines (codes "114 server information") (server_lines host n) (omega arith) (return-written (codes "114 server information") refl) (host-short host h, (count-short n lt, tt))
 
 -- every line of a reply within the limits is short
 pub reply_octets-short : (reply : Reply) → IsWithinLimits reply → AreShortLines (reply_octets reply)
-unfolding is_other list_end_octets done_octets closing_octets unavailable_octets not_recognized_octets invalid_database_octets invalid_strategy_octets no_match_octets
+unfolding is_other definition_count_octets match_count_octets database_count_octets strategy_count_octets list_end_octets info_heading_octets info_text_octets status_octets done_octets closing_octets unavailable_octets not_recognized_octets invalid_database_octets invalid_strategy_octets no_match_octets no_databases_octets
 reply_octets-short (Banner host connection) (h, k) = one_line _ _ (banner_is host.now connection) (banner_short host.now connection h.0 k) (banner_whole host.now connection h.1 k)
-reply_octets-short (DefinitionCount count) h = one_line _ _ (count_is count) (count_short count h) (count_whole count h)
+reply_octets-short (DefinitionCount count) h = numbered_line (codes "150 ") (codes " definitions retrieved") count (omega arith) refl refl h
 reply_octets-short (Definition headword name title body) (h, k, l, m) = definition-lines headword.now name.now title.now body.now h k l m
-reply_octets-short (MatchCount count) h = one_line _ _ (matches_is count) (matches_short count h) (matches_whole count h)
+reply_octets-short (MatchCount count) h = numbered_line (codes "152 ") (codes " matches found") count (omega arith) refl refl h
+reply_octets-short (DatabaseCount count) h = numbered_line (codes "110 ") (codes " databases present") count (omega arith) refl refl h
+reply_octets-short (StrategyCount count) h = numbered_line (codes "111 ") (codes " strategies available") count (omega arith) refl refl h
 reply_octets-short (ListLine name text) (h, k) = list_line-short name.now text.now h k
 reply_octets-short ListEnd h = one_line _ (codes ".") refl (omega arith) (return-written (codes ".") refl)
+reply_octets-short InfoHeading h = one_line _ (codes "112 database information") refl (omega arith) (return-written (codes "112 database information") refl)
+reply_octets-short (InfoText text) h = text-lines (text_lines text.now) h
+reply_octets-short Help h = help-short
+reply_octets-short (ServerInformation host count) (h, k) = server-short host.now count h k
+reply_octets-short (Status count) h = numbered_line (codes "210 ") (codes " databases") count (omega arith) refl refl h
 reply_octets-short Done h = one_line _ (codes "250 ok") refl (omega arith) (return-written (codes "250 ok") refl)
 reply_octets-short Closing h = one_line _ (codes "221 closing connection") refl (omega arith) (return-written (codes "221 closing connection") refl)
 reply_octets-short Unavailable h = one_line _ (codes "420 server temporarily unavailable") refl (omega arith) (return-written (codes "420 server temporarily unavailable") refl)
@@ -199,3 +213,4 @@ reply_octets-short NotRecognized h = one_line _ (codes "500 command not recogniz
 reply_octets-short InvalidDatabase h = one_line _ (codes "550 invalid database") refl (omega arith) (return-written (codes "550 invalid database") refl)
 reply_octets-short InvalidStrategy h = one_line _ (codes "551 invalid strategy") refl (omega arith) (return-written (codes "551 invalid strategy") refl)
 reply_octets-short NoMatch h = one_line _ (codes "552 no match") refl (omega arith) (return-written (codes "552 no match") refl)
+reply_octets-short NoDatabases h = one_line _ (codes "554 no databases present") refl (omega arith) (return-written (codes "554 no databases present") refl)

@@ -4,7 +4,7 @@ use Rattle.std.specs.List.{flat_map, AllByRecursion}
 use Rattle.dict_text.specs.Lines.{text_lines}
 use Rattle.dict_proto.specs.Text.{crlf}
 use Rattle.dict_proto.specs.declared.reply.Reply.{Reply}
-use Rattle.dict_proto.specs.declared.reply.Reply.TheVariants.{Banner, DefinitionCount, Definition, MatchCount, ListLine, ListEnd, Done, Closing, Unavailable, NotRecognized, InvalidDatabase, InvalidStrategy, NoMatch}
+use Rattle.dict_proto.specs.declared.reply.Reply.TheVariants.{Banner, DefinitionCount, Definition, MatchCount, DatabaseCount, StrategyCount, ListLine, ListEnd, InfoHeading, InfoText, Help, ServerInformation, Status, Done, Closing, Unavailable, NotRecognized, InvalidDatabase, InvalidStrategy, NoMatch, NoDatabases}
 
 -- no octet is a CR
 abbrev pub HasNoReturn : List ℕ → Type 0
@@ -27,8 +27,15 @@ IsWithinLimits (DefinitionCount count) = count < 2 ^ 64
 IsWithinLimits (Definition headword name title body) = IsShort 255 headword.now × IsShort 32 name.now × IsShort 200 title.now
     × AllByRecursion (IsShort 1021) (text_lines body.now)
 IsWithinLimits (MatchCount count) = count < 2 ^ 64
+IsWithinLimits (DatabaseCount count) = count < 2 ^ 64
+IsWithinLimits (StrategyCount count) = count < 2 ^ 64
 IsWithinLimits (ListLine name text) = IsShort 32 name.now × IsShort 255 text.now
 IsWithinLimits ListEnd = ⊤
+IsWithinLimits InfoHeading = ⊤
+IsWithinLimits (InfoText text) = AllByRecursion (IsShort 1021) (text_lines text.now)
+IsWithinLimits Help = ⊤
+IsWithinLimits (ServerInformation host count) = IsShort 253 host.now × (count < 2 ^ 64)
+IsWithinLimits (Status count) = count < 2 ^ 64
 IsWithinLimits Done = ⊤
 IsWithinLimits Closing = ⊤
 IsWithinLimits Unavailable = ⊤
@@ -36,3 +43,4 @@ IsWithinLimits NotRecognized = ⊤
 IsWithinLimits InvalidDatabase = ⊤
 IsWithinLimits InvalidStrategy = ⊤
 IsWithinLimits NoMatch = ⊤
+IsWithinLimits NoDatabases = ⊤

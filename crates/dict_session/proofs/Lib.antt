@@ -4,6 +4,7 @@ pub mod DistinctLemmas
 pub mod HeadwordLemmas
 pub mod SeenLemmas
 pub mod StrategyLemmas
+pub mod ShowLemmas
 pub mod SpokenLemmas
 pub mod SessionLemmas
 pub mod AnswerLemmas

@@ -7,3 +7,4 @@ pub mod Spoken
 pub mod Ending
 pub mod Session
 pub mod Run
+pub mod Shows

@@ -13,6 +13,7 @@ mod keyed;
 mod pieces;
 mod plain;
 mod running;
+mod show;
 mod step;
 
 pub use pieces::Session;

@@ -62,6 +62,24 @@ impl<'a> Plain<'a> {
         name == self.name
     }
 
+    pub(crate) fn name(&self) -> &str
+        ensures { result.now ≡ self.now.name }
+    {
+        self.name
+    }
+
+    pub(crate) fn title(&self) -> &str
+        ensures { result.now ≡ self.now.edition.title }
+    {
+        self.title
+    }
+
+    pub(crate) fn info(&self) -> &str
+        ensures { result.now ≡ self.now.edition.info }
+    {
+        self.info
+    }
+
     // How many entries a query finds.
     pub(crate) fn count(&self, strategy: Strategy, query: &[u8]) -> u64
         ensures { result ≡ length (found strategy query.now self.now.edition) }

@@ -28,31 +28,63 @@ fn block_of(alloc: Global, body: &[u8]) -> Result<Vec<u8>, Fail> {
 }
 
 #[test]
-fn lines_of_a_session(rt: HostRuntime) -> Result<(), Fail> {
+fn replies_with_a_number(rt: HostRuntime) -> Result<(), Fail> {
     let alloc = rt.alloc();
     let banner = Reply::Banner {
         host: "localhost",
         connection: 1,
     };
-    assert_eq!(rt;
-        octets_of(alloc, &banner)?.as_slice(),
-        b"220 localhost dictcat ready <1@localhost>\r\n".as_slice()
-    );
-    assert_eq!(rt;
-        octets_of(alloc, &Reply::DefinitionCount(18_446_744_073_709_551_615))?.as_slice(),
-        b"150 18446744073709551615 definitions retrieved\r\n".as_slice()
-    );
-    assert_eq!(rt;
-        octets_of(alloc, &Reply::DefinitionCount(1))?.as_slice(),
-        b"150 1 definitions retrieved\r\n".as_slice()
-    );
+    let server = Reply::ServerInformation {
+        host: "localhost",
+        count: 2,
+    };
+    let replies = [
+        (
+            banner,
+            b"220 localhost dictcat ready <1@localhost>\r\n".as_slice(),
+        ),
+        (
+            Reply::DefinitionCount(1),
+            b"150 1 definitions retrieved\r\n".as_slice(),
+        ),
+        (
+            Reply::DefinitionCount(18_446_744_073_709_551_615),
+            b"150 18446744073709551615 definitions retrieved\r\n".as_slice(),
+        ),
+        (Reply::MatchCount(1), b"152 1 matches found\r\n".as_slice()),
+        (
+            Reply::MatchCount(18_446_744_073_709_551_615),
+            b"152 18446744073709551615 matches found\r\n".as_slice(),
+        ),
+        (
+            Reply::DatabaseCount(2),
+            b"110 2 databases present\r\n".as_slice(),
+        ),
+        (
+            Reply::DatabaseCount(1),
+            b"110 1 databases present\r\n".as_slice(),
+        ),
+        (
+            Reply::StrategyCount(7),
+            b"111 7 strategies available\r\n".as_slice(),
+        ),
+        (Reply::Status(0), b"210 0 databases\r\n".as_slice()),
+        (Reply::Status(64), b"210 64 databases\r\n".as_slice()),
+        (
+            server,
+            b"114 server information\r\ndictcat on localhost\r\ndatabases 2\r\n.\r\n".as_slice(),
+        ),
+    ];
+    for (reply, want) in &replies {
+        assert_eq!(rt; octets_of(alloc, reply)?.as_slice(), *want);
+    }
     Ok(())
 }
 
 #[test]
-fn fixed_lines(rt: HostRuntime) -> Result<(), Fail> {
+fn fixed_replies(rt: HostRuntime) -> Result<(), Fail> {
     let alloc = rt.alloc();
-    let lines = [
+    let replies = [
         (Reply::Done, b"250 ok\r\n".as_slice()),
         (Reply::Closing, b"221 closing connection\r\n".as_slice()),
         (
@@ -73,24 +105,22 @@ fn fixed_lines(rt: HostRuntime) -> Result<(), Fail> {
         ),
         (Reply::ListEnd, b".\r\n".as_slice()),
         (Reply::NoMatch, b"552 no match\r\n".as_slice()),
+        (
+            Reply::NoDatabases,
+            b"554 no databases present\r\n".as_slice(),
+        ),
+        (
+            Reply::InfoHeading,
+            b"112 database information\r\n".as_slice(),
+        ),
+        (
+            Reply::Help,
+            b"113 help text\r\nDEFINE database word\r\nMATCH database strategy word\r\nSHOW DB\r\nSHOW STRAT\r\nSHOW INFO database\r\nSHOW SERVER\r\nCLIENT text\r\nSTATUS\r\nHELP\r\nQUIT\r\n.\r\n".as_slice(),
+        ),
     ];
-    for (reply, want) in &lines {
+    for (reply, want) in &replies {
         assert_eq!(rt; octets_of(alloc, reply)?.as_slice(), *want);
     }
-    Ok(())
-}
-
-#[test]
-fn counts_of_matches(rt: HostRuntime) -> Result<(), Fail> {
-    let alloc = rt.alloc();
-    assert_eq!(rt;
-        octets_of(alloc, &Reply::MatchCount(1))?.as_slice(),
-        b"152 1 matches found\r\n".as_slice()
-    );
-    assert_eq!(rt;
-        octets_of(alloc, &Reply::MatchCount(18_446_744_073_709_551_615))?.as_slice(),
-        b"152 18446744073709551615 matches found\r\n".as_slice()
-    );
     Ok(())
 }
 
@@ -115,32 +145,33 @@ fn lines_of_a_list(rt: HostRuntime) -> Result<(), Fail> {
 }
 
 #[test]
-fn one_definition(rt: HostRuntime) -> Result<(), Fail> {
-    let definition = Reply::Definition {
+fn definitions(rt: HostRuntime) -> Result<(), Fail> {
+    let alloc = rt.alloc();
+    let plain = Reply::Definition {
         headword: "Fire Opal",
         name: "gem",
         title: "Gems",
         body: b"opal\n  a stone\n",
     };
-    assert_eq!(rt;
-        octets_of(rt.alloc(), &definition)?.as_slice(),
-        b"151 \"Fire Opal\" gem \"Gems\"\r\nopal\r\n  a stone\r\n.\r\n".as_slice()
-    );
-    Ok(())
-}
-
-#[test]
-fn quoted_headword_and_title(rt: HostRuntime) -> Result<(), Fail> {
-    let definition = Reply::Definition {
+    let quoted = Reply::Definition {
         headword: "a\"b\\c",
         name: "x",
         title: "\"",
         body: b"",
     };
-    assert_eq!(rt;
-        octets_of(rt.alloc(), &definition)?.as_slice(),
-        b"151 \"a\\\"b\\\\c\" x \"\\\"\"\r\n.\r\n".as_slice()
-    );
+    let rows = [
+        (
+            plain,
+            b"151 \"Fire Opal\" gem \"Gems\"\r\nopal\r\n  a stone\r\n.\r\n".as_slice(),
+        ),
+        (
+            quoted,
+            b"151 \"a\\\"b\\\\c\" x \"\\\"\"\r\n.\r\n".as_slice(),
+        ),
+    ];
+    for (reply, want) in &rows {
+        assert_eq!(rt; octets_of(alloc, reply)?.as_slice(), *want);
+    }
     Ok(())
 }
 
@@ -182,6 +213,23 @@ fn long_texts(rt: HostRuntime) -> Result<(), Fail> {
 }
 
 #[test]
+fn info_of_a_database(rt: HostRuntime) -> Result<(), Fail> {
+    let alloc = rt.alloc();
+    let texts = [
+        ("", b".\r\n".as_slice()),
+        ("Gems\n", b"Gems\r\n.\r\n".as_slice()),
+        (
+            ".one\n\n..\nétés",
+            b"..one\r\n\r\n...\r\n\xc3\xa9t\xc3\xa9s\r\n.\r\n".as_slice(),
+        ),
+    ];
+    for (text, want) in &texts {
+        assert_eq!(rt; octets_of(alloc, &Reply::InfoText(text))?.as_slice(), *want);
+    }
+    Ok(())
+}
+
+#[test]
 fn quotes(rt: HostRuntime) -> Result<(), Fail> {
     let mut sink = OverWrite::new(Vec::new(rt.alloc()));
     put_quoted(&mut sink, "Gems")?;
@@ -210,7 +258,19 @@ fn a_sink_with_little_room(rt: HostRuntime) -> Result<(), Fail> {
         title: "Gems",
         body: b"x\n.y\n",
     };
-    for (reply, want) in &[(row, line), (definition, want)] {
+    let info = Reply::InfoText(".gem\nx");
+    let text = b"..gem\r\nx\r\n.\r\n".as_slice();
+    let server = Reply::ServerInformation {
+        host: "a",
+        count: 10,
+    };
+    let told = b"114 server information\r\ndictcat on a\r\ndatabases 10\r\n.\r\n".as_slice();
+    for (reply, want) in &[
+        (row, line),
+        (definition, want),
+        (info, text),
+        (server, told),
+    ] {
         for room in 0..want.len() + 2 {
             let mut sink = LimitedSink::new(rt.alloc(), room)?;
             let written = write_reply(&mut sink, reply);
