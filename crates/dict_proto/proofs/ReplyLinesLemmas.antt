@@ -1,15 +1,18 @@
 -- No line of a reply is too long.
-use Rattle.std.proofs.Common.{◌≢◌, ◌%◌, not, eq-eqb, ◌≡◌, ℕ, ◌+◌, ◌*◌, ◌^◌, ◌<◌, ◌≤◌, List, [], ◌∷◌, ◌++◌, Bool, true, false, map, length, refl, sym, ap, ◌∙◌, arith, append_assoc, append-nil, length-append, codes}
+use Rattle.std.proofs.Common.{◌≢◌, ◌%◌, not, eq-eqb, ◌≡◌, ℕ, ◌+◌, ◌*◌, ◌^◌, ◌<◌, ◌≤◌, List, [], ◌∷◌, ◌++◌, Bool, true, false, map, length, refl, sym, ap, ◌∙◌, ◌&&◌, arith, append_assoc, append-nil, length-append, codes}
 use Rattle.std.specs.Prelude.{decimal, ◌==◌, slice_index}
 use Rattle.std.specs.List.{flat_map, list_all, AllByRecursion}
 use Rattle.std.proofs.lemmas.Fmt.{length-decimal-le, decimal_by_steps}
-use Rattle.dict_proto.proofs.ReadingLemmas.{both_true}
 use Rattle.dict_text.specs.Lines.{text_lines}
 use Rattle.dict_proto.specs.Text.{crlf, needs_backslash, escaped, quoted, stuffed, sent_line, block}
 use Rattle.dict_proto.specs.Replies.{banner_octets, definition_count_octets, definition_line, definition_octets, match_count_octets, list_row, list_line_octets, list_end_octets, done_octets, closing_octets, unavailable_octets, not_recognized_octets, invalid_database_octets, invalid_strategy_octets, no_match_octets, reply_octets}
 use Rattle.dict_proto.specs.ReplyLines.{AreShortLines, HasNoReturn, IsShort, IsWithinLimits}
 use Rattle.dict_proto.specs.declared.reply.Reply.{Reply}
 use Rattle.dict_proto.specs.declared.reply.Reply.TheVariants.{Banner, DefinitionCount, Definition, MatchCount, ListLine, ListEnd, Done, Closing, Unavailable, NotRecognized, InvalidDatabase, InvalidStrategy, NoMatch}
+
+both_true : (a b : Bool) → (a && b) ≡ true → (a ≡ true) × (b ≡ true)
+both_true true b e = (refl, e)
+both_true false b e = cc
 
 -- ---- no CR
 

@@ -6,7 +6,7 @@ use Rattle.dict_match.specs.Key.{key_of}
 use Rattle.dict_match.specs.declared.strategy.Strategy.{Strategy}
 use Rattle.dict_match.specs.declared.strategy.Strategy.TheVariants.{Exact}
 use Rattle.dict_index.specs.Edition.{Entry}
-use Rattle.dict_proto.specs.Meaning.{Meaning, meaning, define, matching, quit, not_recognized}
+use Rattle.dict_line.specs.Meaning.{Meaning, meaning, define, matching, quit, not_recognized}
 use Rattle.dict_proto.specs.Replies.{definition_count_octets, definition_octets, match_count_octets, list_line_octets, list_end_octets, done_octets, closing_octets, not_recognized_octets, invalid_database_octets, invalid_strategy_octets, no_match_octets}
 use Rattle.dict_session.specs.Database.{Database, found, is_found, headwords, strategy_of}
 

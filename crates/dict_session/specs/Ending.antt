@@ -2,7 +2,7 @@
 use Rattle.std.specs.Prelude.{◌≡◌, ℕ, ◌⊎◌, List, Bool, true, false, Option}
 use Rattle.std.specs.Io.KnownBytes.{Appends}
 use Rattle.dict_proto.specs.Octets.{AppendsFront, HasFailed}
-use Rattle.dict_proto.specs.Meaning.{Meaning}
+use Rattle.dict_line.specs.Meaning.{Meaning}
 use Rattle.dict_proto.specs.Replies.{unavailable_octets}
 use Rattle.dict_session.specs.Database.{Database}
 use Rattle.dict_session.specs.Answers.{answer_to, ends_session}

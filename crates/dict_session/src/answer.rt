@@ -1,7 +1,7 @@
 // The answer to one line.
 ghost use Rattle.std.specs.Prelude.{◌≡◌, ℕ, List};
 ghost use Rattle.dict_proto.specs.Octets.{Puts, Counts};
-ghost use Rattle.dict_proto.specs.Meaning.{told};
+ghost use Rattle.dict_line.specs.Meaning.{told};
 ghost use Rattle.dict_session.specs.Answers.{answer_to, define_answer, found_answer, match_answer, matched_answer, ends_session};
 ghost use Rattle.dict_proto.specs.Replies.{reply_octets, done_octets};
 ghost use Rattle.dict_session.specs.Database.{found, headwords, strategy_of};
@@ -11,8 +11,9 @@ ghost use Rattle.dict_session.specs.Ending.{Finishes, Tallies};
 
 use crate::plain::Plain;
 use crate::step::Step;
+use dict_line::{LineFault, Request};
 use dict_match::{Strategy, key_of};
-use dict_proto::{LineFault, Reply, Request, Sink, SinkFault, write_reply};
+use dict_proto::{Reply, Sink, SinkFault, write_reply};
 use std::alloc::Global;
 
 // Whether a line got its answer, or the 420 line in its place.

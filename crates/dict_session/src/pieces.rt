@@ -1,11 +1,12 @@
 // One session in pieces.
 ghost use Rattle.std.specs.Prelude.{◌≡◌, ℕ, ◌≤◌, ◌-◌, List, [], ◌∷◌, ◌++◌, IfOk, vec_len, vec_capacity, length, take};
-ghost use Rattle.dict_proto.specs.Meaning.{told, meaning};
+ghost use Rattle.dict_line.specs.Meaning.{told, meaning};
 
 use crate::answer::answer_request;
 use crate::plain::Plain;
 use crate::step::Step;
-use dict_proto::{LineFault, MAX_LINE_OCTETS, Request, Sink, parse_line};
+use dict_line::{LineFault, MAX_LINE_OCTETS, Request, parse_line};
+use dict_proto::Sink;
 use std::alloc::{AllocError, Global};
 
 /// The unfinished line that a session has read.

@@ -3,13 +3,13 @@ use Rattle.std.specs.Prelude.{if◌then◌else◌}
 use Rattle.std.specs.List.{list_all, list_any}
 use Rattle.std.specs.Str.{IsUtf8, chars, is_utf8}
 use Rattle.std.proofs.lemmas.Str.{IsUtf8-from_is_utf8}
-use Rattle.dict_proto.specs.Words.{is_plain, is_quoting}
-use Rattle.dict_proto.specs.Reading.{words_of}
-use Rattle.dict_proto.specs.Meaning.{Meaning, meaning, asked, is_readable, not_recognized}
-use Rattle.dict_proto.proofs.ReadingLemmas.{both_true}
-use Rattle.dict_proto.proofs.EncodingLemmas.{words_of-octets, words_of-utf8, plain-octets}
-use Rattle.dict_proto.proofs.line.parse_line.Goals as goal
-use Rattle.dict_proto.proofs.line.parse_line.Goals.{in_default-via-in-Some+else-not-has_quoting, in_default-via-in_default}
+use Rattle.dict_line.specs.Words.{is_plain, is_quoting}
+use Rattle.dict_line.specs.Reading.{words_of}
+use Rattle.dict_line.specs.Meaning.{Meaning, meaning, asked, is_readable, not_recognized}
+use Rattle.dict_line.proofs.ReadingLemmas.{both_true}
+use Rattle.dict_line.proofs.EncodingLemmas.{words_of-octets, words_of-utf8, plain-octets}
+use Rattle.dict_line.proofs.line.parse_line.Goals as goal
+use Rattle.dict_line.proofs.line.parse_line.Goals.{in_default-via-in-Some+else-not-has_quoting, in_default-via-in_default}
 
 readable_utf8 : (line : List ℕ) → is_readable line ≡ true → IsUtf8 line
 readable_utf8 line h = IsUtf8-from_is_utf8 line (both_true (is_utf8 line) _ (both_true _ _ h).1).0

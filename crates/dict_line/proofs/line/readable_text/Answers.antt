@@ -3,7 +3,7 @@ use Rattle.std.proofs.lemmas.Bool.Decides.{nat_tests}
 use Rattle.std.proofs.lemmas.Str.{IsUtf8-from_is_utf8, is_utf8-from_IsUtf8}
 use Rattle.std.specs.Str.{IsUtf8, is_utf8, chars}
 use Rattle.std.specs.List.{list_all}
-use Rattle.dict_proto.proofs.line.readable_text.Goals as goal
+use Rattle.dict_line.proofs.line.readable_text.Goals as goal
 
 second_fails : (a b c : Bool) → b ≡ false → (a && (b && c)) ≡ false
 second_fails true b c e = rw e refl

@@ -4,12 +4,12 @@ use Rattle.std.specs.List.{list_all, list_any}
 use Rattle.std.specs.Option.{option_map}
 use Rattle.std.specs.Str.{chars, is_utf8, encode_utf8_all, str_eq_ignore_ascii_case}
 use Rattle.dict_text.specs.Characters.{is_control}
-use Rattle.dict_proto.specs.Words.{is_quoting}
-use Rattle.dict_proto.specs.Reading.{words_of}
-use Rattle.dict_proto.specs.declared.request.Request.{Request}
-use Rattle.dict_proto.specs.declared.request.Request.TheVariants.{Define, Match, Quit}
-use Rattle.dict_proto.specs.declared.request.LineFault.{LineFault}
-use Rattle.dict_proto.specs.declared.request.LineFault.TheVariants.{NotRecognized}
+use Rattle.dict_line.specs.Words.{is_quoting}
+use Rattle.dict_line.specs.Reading.{words_of}
+use Rattle.dict_line.specs.declared.request.Request.{Request}
+use Rattle.dict_line.specs.declared.request.Request.TheVariants.{Define, Match, Quit}
+use Rattle.dict_line.specs.declared.request.LineFault.{LineFault}
+use Rattle.dict_line.specs.declared.request.LineFault.TheVariants.{NotRecognized}
 
 -- what a line asks for: the definitions of a word in a database, the headwords in a database that a strategy finds by
 -- a word, the end of the session, or nothing known

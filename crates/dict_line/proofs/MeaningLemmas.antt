@@ -4,8 +4,8 @@ use Rattle.std.specs.Prelude.{if◌then◌else◌}
 use Rattle.std.specs.List.{list_any}
 use Rattle.std.specs.Str.{chars}
 use Rattle.std.proofs.lemmas.Bool.Decides.{nat_tests}
-use Rattle.dict_proto.specs.Words.{is_quoting}
-use Rattle.dict_proto.specs.Meaning.{Meaning, meaning, not_recognized}
+use Rattle.dict_line.specs.Words.{is_quoting}
+use Rattle.dict_line.specs.Meaning.{Meaning, meaning, not_recognized}
 
 all_fail : (a b c : Bool) (x y : Meaning) → a ≡ false → (if (a && b) && c then x else y) ≡ y
 all_fail a b c x y e = rw e refl

@@ -3,9 +3,9 @@ use Rattle.std.proofs.Common.{◌≡◌, ◌≢◌, ℕ, inl, inr, List, [], ◌
 use Rattle.std.specs.Prelude.{Option, None, Some, if◌then◌else◌, ◌==◌, ⊤}
 use Rattle.std.specs.List.{flat_map, AllByRecursion}
 use Rattle.dict_text.specs.Characters.{is_blank, is_control}
-use Rattle.dict_proto.specs.Words.{is_atom_character, is_quoting, is_quote_sign, StandsFor, IsPart, EndsWord, AreWords}
-use Rattle.dict_proto.specs.Reading.{Place, words_of, words_from, place_after, between, within, in_string, escaped, escaped_in, stuck, onto_first, end_before, with_character}
-use Rattle.dict_proto.proofs.ReadingLemmas.{words_of-blank, within-blank, within-atom}
+use Rattle.dict_line.specs.Words.{is_atom_character, is_quoting, is_quote_sign, StandsFor, IsPart, EndsWord, AreWords}
+use Rattle.dict_line.specs.Reading.{Place, words_of, words_from, place_after, between, within, in_string, escaped, escaped_in, stuck, onto_first, end_before, with_character}
+use Rattle.dict_line.proofs.ReadingLemmas.{words_of-blank, within-blank, within-atom}
 
 -- ---- what is left of a line at each place
 

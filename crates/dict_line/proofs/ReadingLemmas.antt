@@ -7,8 +7,8 @@ use Rattle.std.proofs.lemmas.Bool.Decides.{nat_tests}
 use Rattle.std.proofs.lemmas.List.Sums.{prefix_len-le-length, passes_at_first}
 use Rattle.std.proofs.Math.Seq.{drop-cons}
 use Rattle.dict_text.specs.Characters.{is_blank, is_control}
-use Rattle.dict_proto.specs.Words.{is_plain, is_atom_character, is_quoting, is_quote_sign}
-use Rattle.dict_proto.specs.Reading.{words_of, words_from, place_after, within, onto_first, end_before}
+use Rattle.dict_line.specs.Words.{is_plain, is_atom_character, is_quoting, is_quote_sign}
+use Rattle.dict_line.specs.Reading.{words_of, words_from, place_after, within, onto_first, end_before}
 
 -- ---- the first element that passes a test
 

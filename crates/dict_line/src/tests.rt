@@ -1,7 +1,4 @@
-use crate::{
-    LineFault, Request, list_is_a_block, one_reading, parse_line, reply_lines_are_short,
-    worked_lines,
-};
+use crate::{LineFault, Request, one_reading, parse_line, worked_lines};
 use std::alloc::Global;
 use std::test::Fail;
 
@@ -37,8 +34,6 @@ fn followed_by(alloc: Global, command: &[u8], octet: u8, count: usize) -> Result
 fn commands(rt: HostRuntime) -> Result<(), Fail> {
     one_reading();
     worked_lines();
-    reply_lines_are_short();
-    list_is_a_block();
     assert!(rt; defines(b"DEFINE gem opal", "gem", "opal"));
     assert!(rt; defines(b"define gem OPAL", "gem", "OPAL"));
     assert!(rt; defines(b" dEfInE\tGEM  opal \t", "GEM", "opal"));

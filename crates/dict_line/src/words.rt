@@ -1,7 +1,7 @@
 // The law of the words of a line.
 ghost use Rattle.std.specs.Prelude.{◌≡◌, ℕ, List, [], ◌∷◌, Some, None, codes};
-ghost use Rattle.dict_proto.specs.Words.{AreWords};
-ghost use Rattle.dict_proto.specs.Reading.{words_of};
+ghost use Rattle.dict_line.specs.Words.{AreWords};
+ghost use Rattle.dict_line.specs.Reading.{words_of};
 
 /// A law of lines of characters: each line can be cut into words in at most one way; where it can, `words_of`
 /// computes those words, and what it computes are the line's words.

@@ -4,9 +4,9 @@ use Rattle.std.specs.Prelude.{Option, Some, ◌==◌}
 use Rattle.std.specs.List.{flat_map, AllByRecursion}
 use Rattle.std.proofs.lemmas.Bool.Decides.{nat_tests}
 use Rattle.dict_text.specs.Characters.{is_blank, is_control}
-use Rattle.dict_proto.specs.Words.{is_atom_character, is_quote_sign, StandsFor, IsPart, IsWord, AreBlanks, EndsWord, AreWords}
-use Rattle.dict_proto.specs.Reading.{words_of, words_from, within, in_string, onto_first, end_before}
-use Rattle.dict_proto.proofs.ReadingLemmas.{words_of-blank, within-blank, within-atom, atom_parts, onto_all, onto_all-word}
+use Rattle.dict_line.specs.Words.{is_atom_character, is_quote_sign, StandsFor, IsPart, IsWord, AreBlanks, EndsWord, AreWords}
+use Rattle.dict_line.specs.Reading.{words_of, words_from, within, in_string, onto_first, end_before}
+use Rattle.dict_line.proofs.ReadingLemmas.{words_of-blank, within-blank, within-atom, atom_parts, onto_all, onto_all-word}
 
 onto_all-append : (a b : List ℕ) (r : Option (List (List ℕ))) → onto_all (a ++ b) r ≡ onto_all a (onto_all b r)
 onto_all-append [] b r = refl

@@ -3,8 +3,8 @@ use Rattle.std.specs.Prelude.{unwrap_or}
 use Rattle.std.specs.List.{position}
 use Rattle.std.proofs.lemmas.List.{take_rest}
 use Rattle.dict_text.specs.Characters.{is_blank}
-use Rattle.dict_proto.proofs.ReadingLemmas.{words_of-cut, words_of-none, words_of-given}
-use Rattle.dict_proto.proofs.line.next_word.Goals as goal
+use Rattle.dict_line.proofs.ReadingLemmas.{words_of-cut, words_of-none, words_of-given}
+use Rattle.dict_line.proofs.line.next_word.Goals as goal
 
 pub returns-in_err-text : goal.returns-in_err-text
 returns-in_err-text c = rw c.from_residual.ensures (words_of-none c.args.line.now (sym c.first_word_octet.ensures ∙ c.in_err-text.was))

@@ -8,9 +8,9 @@ use Rattle.std.specs.Str.{IsUtf8, all_scalars, encode_utf8_all, chars}
 use Rattle.std.proofs.lemmas.Bool.Decides.{nat_tests}
 use Rattle.std.proofs.lemmas.Str.{encode_ascii, inside_one, length-encode, len_utf8_bounds, encodes-chars, scalars-chars}
 use Rattle.dict_text.specs.Characters.{is_blank, is_control}
-use Rattle.dict_proto.specs.Words.{is_plain, is_atom_character, is_quoting, is_quote_sign}
-use Rattle.dict_proto.specs.Reading.{Place, words_of, words_from, with_character, next_place, at_end, between, within, in_string, escaped, escaped_in, stuck, onto_first, end_before}
-use Rattle.dict_proto.proofs.ReadingLemmas.{within-atom, between-atom, both_true, onto_all, onto_all-word}
+use Rattle.dict_line.specs.Words.{is_plain, is_atom_character, is_quoting, is_quote_sign}
+use Rattle.dict_line.specs.Reading.{Place, words_of, words_from, with_character, next_place, at_end, between, within, in_string, escaped, escaped_in, stuck, onto_first, end_before}
+use Rattle.dict_line.proofs.ReadingLemmas.{within-atom, between-atom, both_true, onto_all, onto_all-word}
 
 -- ---- octets past ASCII
 

@@ -1,7 +1,7 @@
 -- The words of a line, computed: one character after the other, from the front.
 use Rattle.std.specs.Prelude.{ℕ, List, [], ◌∷◌, ◌||◌, ◌==◌, if◌then◌else◌, Option, None, Some}
 use Rattle.dict_text.specs.Characters.{is_blank, is_control}
-use Rattle.dict_proto.specs.Words.{is_quote_sign, is_quoting}
+use Rattle.dict_line.specs.Words.{is_quote_sign, is_quoting}
 
 -- where in a line a character stands: between two words; in a word, outside of strings; in a string that ends at
 -- this quote sign; after a backslash outside of strings, or in such a string; or after what no word can have

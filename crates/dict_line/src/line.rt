@@ -4,9 +4,9 @@ ghost use Rattle.std.specs.List.{list_all, list_any, position, AllByRecursion};
 ghost use Rattle.std.specs.Option.{option_map, ForSome};
 ghost use Rattle.std.specs.Str.{chars, IsUtf8};
 ghost use Rattle.dict_text.specs.Characters.{is_blank, is_control};
-ghost use Rattle.dict_proto.specs.Words.{is_quoting, is_plain};
-ghost use Rattle.dict_proto.specs.Reading.{words_of};
-ghost use Rattle.dict_proto.specs.Meaning.{meaning, told, asked, asked_by, is_readable};
+ghost use Rattle.dict_line.specs.Words.{is_quoting, is_plain};
+ghost use Rattle.dict_line.specs.Reading.{words_of};
+ghost use Rattle.dict_line.specs.Meaning.{meaning, told, asked, asked_by, is_readable};
 
 use crate::request::{LineFault, Request};
 use dict_text::is_control;

@@ -1,8 +1,8 @@
 use Rattle.std.proofs.Common.{◌≡◌, ℕ, List, [], ◌∷◌, ap, ◌∙◌}
 use Rattle.std.specs.Prelude.{Some}
 use Rattle.std.specs.Option.{option_map}
-use Rattle.dict_proto.specs.Reading.{words_of}
-use Rattle.dict_proto.proofs.line.parse_plain.Goals as goal
+use Rattle.dict_line.specs.Reading.{words_of}
+use Rattle.dict_line.proofs.line.parse_plain.Goals as goal
 
 -- three words, from the first to the last
 three : (line a b c r s t : List ℕ) → words_of line ≡ option_map (λ words. a ∷ words) (words_of r) → words_of r ≡ option_map (λ words. b ∷ words) (words_of s)

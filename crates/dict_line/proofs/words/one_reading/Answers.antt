@@ -1,6 +1,6 @@
-use Rattle.dict_proto.proofs.WordsLemmas.{words_of-AreWords, AreWords-unique}
-use Rattle.dict_proto.proofs.CutLemmas.{AreWords-words_of}
-use Rattle.dict_proto.proofs.words.one_reading.Goals as goal
+use Rattle.dict_line.proofs.WordsLemmas.{words_of-AreWords, AreWords-unique}
+use Rattle.dict_line.proofs.CutLemmas.{AreWords-words_of}
+use Rattle.dict_line.proofs.words.one_reading.Goals as goal
 
 pub returns-clause-computed : goal.returns-clause-computed
 returns-clause-computed c line words h = words_of-AreWords words line h

@@ -1,0 +1,5 @@
+pub mod CutLemmas
+pub mod EncodingLemmas
+pub mod MeaningLemmas
+pub mod ReadingLemmas
+pub mod WordsLemmas
