@@ -5,10 +5,10 @@ use Rattle.std.specs.List.{flat_map, list_all, AllByRecursion}
 use Rattle.std.proofs.lemmas.Fmt.{length-decimal-le, decimal_by_steps}
 use Rattle.dict_text.specs.Lines.{text_lines}
 use Rattle.dict_proto.specs.Text.{crlf, needs_backslash, escaped, quoted, stuffed, sent_line, block}
-use Rattle.dict_proto.specs.Replies.{banner_octets, definition_count_octets, definition_line, definition_octets, match_count_octets, list_row, list_line_octets, list_end_octets, done_octets, closing_octets, unavailable_octets, not_recognized_octets, invalid_database_octets, invalid_strategy_octets, no_match_octets, reply_octets}
+use Rattle.dict_proto.specs.Replies.{banner_octets, definition_count_octets, definition_line, definition_octets, match_count_octets, list_row, list_line_octets, list_end_octets, done_octets, closing_octets, unavailable_octets, not_recognized_octets, illegal_parameters_octets, not_implemented_octets, invalid_database_octets, invalid_strategy_octets, no_match_octets, reply_octets}
 use Rattle.dict_proto.specs.ReplyLines.{AreShortLines, HasNoReturn, IsShort, IsWithinLimits}
 use Rattle.dict_proto.specs.declared.reply.Reply.{Reply}
-use Rattle.dict_proto.specs.declared.reply.Reply.TheVariants.{Banner, DefinitionCount, Definition, MatchCount, ListLine, ListEnd, Done, Closing, Unavailable, NotRecognized, InvalidDatabase, InvalidStrategy, NoMatch}
+use Rattle.dict_proto.specs.declared.reply.Reply.TheVariants.{Banner, DefinitionCount, Definition, MatchCount, ListLine, ListEnd, Done, Closing, Unavailable, NotRecognized, IllegalParameters, NotImplemented, InvalidDatabase, InvalidStrategy, NoMatch}
 
 both_true : (a b : Bool) → (a && b) ≡ true → (a ≡ true) × (b ≡ true)
 both_true true b e = (refl, e)
@@ -188,7 +188,7 @@ definition-lines headword name title body h k l m = (
 
 -- every line of a reply within the limits is short
 pub reply_octets-short : (reply : Reply) → IsWithinLimits reply → AreShortLines (reply_octets reply)
-unfolding is_other list_end_octets done_octets closing_octets unavailable_octets not_recognized_octets invalid_database_octets invalid_strategy_octets no_match_octets
+unfolding is_other list_end_octets done_octets closing_octets unavailable_octets not_recognized_octets illegal_parameters_octets not_implemented_octets invalid_database_octets invalid_strategy_octets no_match_octets
 reply_octets-short (Banner host connection) (h, k) = one_line _ _ (banner_is host.now connection) (banner_short host.now connection h.0 k) (banner_whole host.now connection h.1 k)
 reply_octets-short (DefinitionCount count) h = one_line _ _ (count_is count) (count_short count h) (count_whole count h)
 reply_octets-short (Definition headword name title body) (h, k, l, m) = definition-lines headword.now name.now title.now body.now h k l m
@@ -199,6 +199,8 @@ reply_octets-short Done h = one_line _ (codes "250 ok") refl (omega arith) (retu
 reply_octets-short Closing h = one_line _ (codes "221 closing connection") refl (omega arith) (return-written (codes "221 closing connection") refl)
 reply_octets-short Unavailable h = one_line _ (codes "420 server temporarily unavailable") refl (omega arith) (return-written (codes "420 server temporarily unavailable") refl)
 reply_octets-short NotRecognized h = one_line _ (codes "500 command not recognized") refl (omega arith) (return-written (codes "500 command not recognized") refl)
+reply_octets-short IllegalParameters h = one_line _ (codes "501 illegal parameters") refl (omega arith) (return-written (codes "501 illegal parameters") refl)
+reply_octets-short NotImplemented h = one_line _ (codes "502 command not implemented") refl (omega arith) (return-written (codes "502 command not implemented") refl)
 reply_octets-short InvalidDatabase h = one_line _ (codes "550 invalid database") refl (omega arith) (return-written (codes "550 invalid database") refl)
 reply_octets-short InvalidStrategy h = one_line _ (codes "551 invalid strategy") refl (omega arith) (return-written (codes "551 invalid strategy") refl)
 reply_octets-short NoMatch h = one_line _ (codes "552 no match") refl (omega arith) (return-written (codes "552 no match") refl)

@@ -69,6 +69,14 @@ fn fixed_lines(rt: HostRuntime) -> Result<(), Fail> {
             b"500 command not recognized\r\n".as_slice(),
         ),
         (
+            Reply::IllegalParameters,
+            b"501 illegal parameters\r\n".as_slice(),
+        ),
+        (
+            Reply::NotImplemented,
+            b"502 command not implemented\r\n".as_slice(),
+        ),
+        (
             Reply::InvalidDatabase,
             b"550 invalid database\r\n".as_slice(),
         ),
