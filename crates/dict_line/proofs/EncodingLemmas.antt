@@ -1,14 +1,14 @@
 -- The words of a text are the same whether it is read by characters or by octets.
-use Rattle.std.proofs.Common.{◌≡◌, ℕ, suc, ◌<◌, ◌≤◌, List, [], ◌∷◌, ◌++◌, Bool, true, false, not, ◌&&◌, ◌||◌, arith, length, map, get_or, refl, sym, ap, ◌∙◌, subst, append-nil}
+use Rattle.std.proofs.Common.{◌≡◌, ℕ, suc, ◌<◌, ◌≤◌, List, [], ◌∷◌, ◌++◌, Bool, true, false, ◌&&◌, ◌||◌, arith, length, map, get_or, refl, sym, ap, ◌∙◌, subst, append-nil}
 use Rattle.std.specs.Prelude.{Option, None, Some, nat_lt, if◌then◌else◌, ◌==◌, ⊤}
 use Rattle.std.specs.Option.{option_map}
-use Rattle.std.specs.List.{list_all, list_any, AllByRecursion}
+use Rattle.std.specs.List.{AllByRecursion}
 use Rattle.std.specs.Char.{encode_utf8}
 use Rattle.std.specs.Str.{IsUtf8, all_scalars, encode_utf8_all, chars}
 use Rattle.std.proofs.lemmas.Bool.Decides.{nat_tests}
 use Rattle.std.proofs.lemmas.Str.{encode_ascii, inside_one, length-encode, len_utf8_bounds, encodes-chars, scalars-chars}
 use Rattle.dict_text.specs.Characters.{is_blank, is_control}
-use Rattle.dict_line.specs.Words.{is_plain, is_atom_character, is_quoting, is_quote_sign}
+use Rattle.dict_line.specs.Words.{is_atom_character, is_quoting, is_quote_sign}
 use Rattle.dict_line.specs.Reading.{Place, words_of, words_from, with_character, next_place, at_end, between, within, in_string, escaped, escaped_in, stuck, onto_first, end_before}
 use Rattle.dict_line.proofs.ReadingLemmas.{within-atom, between-atom, both_true, onto_all, onto_all-word}
 
@@ -78,7 +78,7 @@ goes_on-twice escaped = refl
 goes_on-twice (escaped_in quote) = refl
 goes_on-twice stuck = refl
 
-words_from-stuck : (cs : List ℕ) → words_from stuck cs ≡ None
+pub words_from-stuck : (cs : List ℕ) → words_from stuck cs ≡ None
 words_from-stuck [] = refl
 words_from-stuck (c ∷ cs) = refl
 
@@ -125,7 +125,7 @@ next_place-low stuck c h = tt
 
 -- ---- a character's octets, one after the other
 
-onto_all-none : (bs : List ℕ) → onto_all bs None ≡ None
+pub onto_all-none : (bs : List ℕ) → onto_all bs None ≡ None
 onto_all-none [] = refl
 onto_all-none (b ∷ bs) = ap (onto_first b) (onto_all-none bs)
 
@@ -282,47 +282,3 @@ some_utf8 (Some known) words h e = let same : map encode_utf8_all known ≡ word
 
 pub words_of-utf8 : (line : List ℕ) → IsUtf8 line → (words : List (List ℕ)) → words_of line ≡ Some words → AllByRecursion IsUtf8 words
 words_of-utf8 line utf8 words e = some_utf8 (words_of (chars line)) words (words_from-scalar (chars line) between (scalars-chars line utf8)) (sym (words_of-octets line utf8) ∙ e)
-
--- ---- a line without quoting
-
-plain_test : (space tab control quoting : Bool) → (tab || not control) ≡ true → quoting ≡ false → ((space || tab) || not ((space || tab) || (control || quoting))) ≡ true
-plain_test true tab control quoting e f = refl
-plain_test false true control quoting e f = refl
-plain_test false false true quoting e f = cc
-plain_test false false false quoting e f = rw f refl
-
-none_of : (a b : Bool) → (a || b) ≡ false → (a ≡ false) × (b ≡ false)
-none_of true b e = cc
-none_of false b e = (refl, e)
-
-plain_characters : (cs : List ℕ) → list_all (λ c. (c == 9) || not (is_control c)) cs ≡ true → list_any is_quoting cs ≡ false → list_all is_plain cs ≡ true
-plain_characters [] h k = refl
-plain_characters (c ∷ cs) h k =
-    let (here, later) = both_true ((c == 9) || not (is_control c)) _ h in
-    let (unquoted, others) = none_of (is_quoting c) _ k in
-    scalar_both _ _ (plain_test (c == 32) (c == 9) (is_control c) (is_quoting c) here unquoted) (plain_characters cs later others)
-
-list_all-append : (p : ℕ → Bool) (xs ys : List ℕ) → list_all p xs ≡ true → list_all p ys ≡ true → list_all p (xs ++ ys) ≡ true
-list_all-append p [] ys h k = k
-list_all-append p (x ∷ xs) ys h k = scalar_both _ _ (both_true (p x) _ h).0 (list_all-append p xs ys (both_true (p x) _ h).1 k)
-
-or_other : (a b : Bool) → b ≡ true → (a || b) ≡ true
-or_other true b e = refl
-or_other false b e = e
-
-past-plain : (bs : List ℕ) → ArePast bs → list_all is_plain bs ≡ true
-unfolding ArePast
-past-plain [] h = refl
-past-plain (b ∷ bs) h = scalar_both (is_plain b) _ (or_other (is_blank b) _ (past-atom b h.0)) (past-plain bs h.1)
-
-plain_encoded : (c : ℕ) (test : Bool) → nat_lt c 128 ≡ test → is_plain c ≡ true → list_all is_plain (encode_utf8 c) ≡ true
-plain_encoded c true e h = let lt : c < 128 = grind (arith, nat_tests, e) in ap (list_all is_plain) (encode_ascii c lt) ∙ scalar_both (is_plain c) true h refl
-plain_encoded c false e h = let past : 128 ≤ c = grind (arith, nat_tests, e) in past-plain (encode_utf8 c) (encode-past c past)
-
-plain_octets : (cs : List ℕ) → list_all is_plain cs ≡ true → list_all is_plain (encode_utf8_all cs) ≡ true
-plain_octets [] h = refl
-plain_octets (c ∷ cs) h = list_all-append is_plain (encode_utf8 c) (encode_utf8_all cs) (plain_encoded c _ refl (both_true (is_plain c) _ h).0) (plain_octets cs (both_true (is_plain c) _ h).1)
-
--- a text without control characters other than tabs, quote signs and backslashes has no other octets either
-pub plain-octets : (line : List ℕ) → IsUtf8 line → list_all (λ c. (c == 9) || not (is_control c)) (chars line) ≡ true → list_any is_quoting (chars line) ≡ false → list_all is_plain line ≡ true
-plain-octets line utf8 h k = subst (λ l. list_all is_plain l ≡ true) (encodes-chars line utf8) (plain_octets (chars line) (plain_characters (chars line) h k))

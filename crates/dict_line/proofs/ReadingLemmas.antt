@@ -1,13 +1,12 @@
 -- How the computed words of a line of atoms begin.
-use Rattle.std.proofs.Common.{◌≡◌, ℕ, zero, suc, ◌+◌, ◌<◌, ◌≤◌, List, [], ◌∷◌, ◌++◌, Bool, true, false, not, ◌&&◌, ◌||◌, arith, length, take, drop, get_or, refl, sym, ap, ◌∙◌, subst}
-use Rattle.std.specs.Prelude.{Option, None, Some, nat_lt, if◌then◌else◌, ◌==◌, unwrap_or}
-use Rattle.std.specs.Option.{option_map}
-use Rattle.std.specs.List.{list_all, position, position_or_len}
+use Rattle.std.proofs.Common.{◌≡◌, ℕ, zero, suc, ◌+◌, ◌<◌, ◌≤◌, List, [], ◌∷◌, ◌++◌, Bool, true, false, not, ◌&&◌, ◌||◌, arith, length, drop, get_or, refl, sym, ap, ◌∙◌, subst}
+use Rattle.std.specs.Prelude.{Option, None, Some, nat_lt, if◌then◌else◌, ◌==◌}
+use Rattle.std.specs.List.{position, position_or_len}
 use Rattle.std.proofs.lemmas.Bool.Decides.{nat_tests}
-use Rattle.std.proofs.lemmas.List.Sums.{prefix_len-le-length, passes_at_first}
+use Rattle.std.proofs.lemmas.List.Sums.{passes_at_first}
 use Rattle.std.proofs.Math.Seq.{drop-cons}
 use Rattle.dict_text.specs.Characters.{is_blank, is_control}
-use Rattle.dict_line.specs.Words.{is_plain, is_atom_character, is_quoting, is_quote_sign}
+use Rattle.dict_line.specs.Words.{is_atom_character, is_quoting, is_quote_sign}
 use Rattle.dict_line.specs.Reading.{words_of, words_from, place_after, within, onto_first, end_before}
 
 -- ---- the first element that passes a test
@@ -76,6 +75,10 @@ within-atom c cs e =
     let (blank, control, quoting) = atom_parts c e in
     pick_three _ _ _ _ _ blank quoting ∙ ap (λ place. onto_first c (words_from place cs)) (place_after-atom c e)
 
+-- where no blank stands, a word begins
+pub between-within : (c : ℕ) (cs : List ℕ) → is_blank c ≡ false → words_of (c ∷ cs) ≡ words_from within (c ∷ cs)
+between-within c cs e = rw e refl
+
 pub between-atom : (c : ℕ) (cs : List ℕ) → is_atom_character c ≡ true → words_of (c ∷ cs) ≡ words_from within (c ∷ cs)
 between-atom c cs e =
     let (blank, control, quoting) = atom_parts c e in
@@ -97,73 +100,25 @@ pub both_true : (a b : Bool) → (a && b) ≡ true → (a ≡ true) × (b ≡ tr
 both_true true b e = (refl, e)
 both_true false b e = cc
 
-other_true : (a b : Bool) → (a || b) ≡ true → a ≡ false → b ≡ true
-other_true true b e f = cc
-other_true false b e f = e
-
 not_true : (a : Bool) → not a ≡ true → a ≡ false
 not_true true e = cc
 not_true false e = refl
 
-pub list_all-drop : (p : ℕ → Bool) (n : ℕ) (xs : List ℕ) → list_all p xs ≡ true → list_all p (drop n xs) ≡ true
-list_all-drop p zero xs e = e
-list_all-drop p (suc n) [] e = refl
-list_all-drop p (suc n) (x ∷ xs) e = list_all-drop p n xs (both_true _ _ e).1
-
-ended : (r : Option (List (List ℕ))) → end_before r ≡ option_map (λ words. [] ∷ words) r
-ended None = refl
-ended (Some words) = refl
-
-longer : (c : ℕ) (word : List ℕ) (r : Option (List (List ℕ))) → onto_first c (option_map (λ words. word ∷ words) r) ≡ option_map (λ words. (c ∷ word) ∷ words) r
-longer c word None = refl
-longer c word (Some words) = refl
-
--- the first n octets, as the first of the words
-first_of : List ℕ → ℕ → Option (List (List ℕ))
-first_of text n = option_map (λ words. take n text ∷ words) (words_of (drop n text))
-
--- a word goes to the first blank
-within-cut : (text : List ℕ) → list_all is_plain text ≡ true → words_from within text ≡ first_of text (position_or_len is_blank text)
-unfolding first_of
-within-cut [] h = refl
-within-cut (c ∷ cs) h = by_test (within-cut cs (both_true _ _ h).1) (is_blank c) refl
-  where
-    by_test : words_from within cs ≡ first_of cs (position_or_len is_blank cs) → (test : Bool) → is_blank c ≡ test → words_from within (c ∷ cs) ≡ first_of (c ∷ cs) (position_or_len is_blank (c ∷ cs))
-    by_test more true e =
-        within-blank c cs e ∙ (ended (words_of cs) ∙ (ap (option_map (λ words. [] ∷ words)) (sym (words_of-blank c cs e)) ∙ ap (first_of (c ∷ cs)) (sym (here is_blank c cs e))))
-    by_test more false e =
-        let atom : is_atom_character c ≡ true = other_true _ _ (both_true _ _ h).0 e in
-        within-atom c cs atom ∙ (ap (onto_first c) more ∙ (longer c _ _ ∙ ap (first_of (c ∷ cs)) (sym (later is_blank c cs e))))
-
 -- where the first blanks end, a word begins
-words_of-starts : (line : List ℕ) → list_all is_plain line ≡ true → position_or_len (λ octet. not (is_blank octet)) line < length line
+starts : (line : List ℕ) → position_or_len (λ octet. not (is_blank octet)) line < length line
     → words_of (drop (position_or_len (λ octet. not (is_blank octet)) line) line) ≡ words_from within (drop (position_or_len (λ octet. not (is_blank octet)) line) line)
-words_of-starts line h lt =
+starts line lt =
     let n = position_or_len (λ octet. not (is_blank octet)) line in
     let e : drop n line ≡ get_or line n 0 ∷ drop (suc n) line = drop-cons line n 0 lt in
-    let plain : list_all is_plain (get_or line n 0 ∷ drop (suc n) line) ≡ true = subst (λ l. list_all is_plain l ≡ true) e (list_all-drop is_plain n line h) in
-    let atom : is_atom_character (get_or line n 0) ≡ true = other_true _ _ (both_true _ _ plain).0 (not_true _ (passes_at_first (λ octet. not (is_blank octet)) line 0 lt)) in
-    subst (λ l. words_of l ≡ words_from within l) (sym e) (between-atom (get_or line n 0) (drop (suc n) line) atom)
+    subst (λ l. words_of l ≡ words_from within l) (sym e) (between-within (get_or line n 0) (drop (suc n) line) (not_true _ (passes_at_first (λ octet. not (is_blank octet)) line 0 lt)))
 
-or_end : (m n : ℕ) (test : Bool) → nat_lt m n ≡ test → m ≤ n → unwrap_or (if test then Some m else None) n ≡ m
-or_end m n true e h = refl
-or_end m n false e h = grind (arith, nat_tests, e, h)
-
--- the first word of a line, and what follows it
-pub words_of-cut : (line : List ℕ) (i end : ℕ) → list_all is_plain line ≡ true → position (λ octet. not (is_blank octet)) line ≡ Some i
-    → end ≡ unwrap_or (position is_blank (drop i line)) (length (drop i line))
-    → (words_of line ≡ option_map (λ words. take end (drop i line) ∷ words) (words_of (drop end (drop i line)))) × (list_all is_plain (drop end (drop i line)) ≡ true)
-unfolding first_of
-words_of-cut line i end h e f =
+-- the words of a line are those from its first word on
+pub words_of-found : (line : List ℕ) (i : ℕ) → position (λ octet. not (is_blank octet)) line ≡ Some i → words_of line ≡ words_from within (drop i line)
+words_of-found line i e =
     let (begins, lt) = position_is (λ octet. not (is_blank octet)) line i e in
-    let text = drop i line in
-    let plain : list_all is_plain text ≡ true = list_all-drop is_plain i line h in
-    let same : position_or_len is_blank text ≡ end = sym (f ∙ or_end _ _ _ refl (prefix_len-le-length _ text)) in
-    let starts : words_of text ≡ words_from within text = subst (λ n. words_of (drop n line) ≡ words_from within (drop n line)) (sym begins) (words_of-starts line h lt) in
-    let skipped : words_of line ≡ words_of text = words_of-drop_blanks line ∙ ap (λ n. words_of (drop n line)) (sym begins) in
-    (skipped ∙ (starts ∙ (within-cut text plain ∙ ap (first_of text) same)), list_all-drop is_plain end text plain)
+    words_of-drop_blanks line ∙ (starts line lt ∙ ap (λ n. words_from within (drop n line)) (sym begins))
 
-drop_past : (n : ℕ) (xs : List ℕ) → length xs ≤ n → drop n xs ≡ []
+pub drop_past : (n : ℕ) (xs : List ℕ) → length xs ≤ n → drop n xs ≡ []
 drop_past zero [] h = refl
 drop_past zero (x ∷ xs) h = absurd (omega arith)
 drop_past (suc n) [] h = refl
@@ -172,13 +127,6 @@ drop_past (suc n) (x ∷ xs) h = drop_past n xs (omega arith)
 -- a line of blanks has no words
 pub words_of-none : (line : List ℕ) → position (λ octet. not (is_blank octet)) line ≡ None → words_of line ≡ Some []
 words_of-none line e = words_of-drop_blanks line ∙ ap words_of (drop_past _ line (position_none (λ octet. not (is_blank octet)) line e))
-
--- the same, where the two parts are given by other names
-pub words_of-given : (line word rest word' rest' : List ℕ) → word ≡ word' → rest ≡ rest'
-    → (words_of line ≡ option_map (λ words. word' ∷ words) (words_of rest')) × (list_all is_plain rest' ≡ true)
-    → (words_of line ≡ option_map (λ words. word ∷ words) (words_of rest)) × (list_all is_plain rest ≡ true)
-words_of-given line word rest word' rest' e f (cut, plain) =
-    (cut ∙ (ap (λ w. option_map (λ words. w ∷ words) (words_of rest')) (sym e) ∙ ap (λ r. option_map (λ words. word ∷ words) (words_of r)) (sym f)), ap (list_all is_plain) f ∙ plain)
 
 -- ---- characters at the front of the first word
 

@@ -8,7 +8,7 @@ use Rattle.dict_line.specs.Words.{is_atom_character, is_quote_sign, StandsFor, I
 use Rattle.dict_line.specs.Reading.{words_of, words_from, within, in_string, onto_first, end_before}
 use Rattle.dict_line.proofs.ReadingLemmas.{words_of-blank, within-blank, within-atom, atom_parts, onto_all, onto_all-word}
 
-onto_all-append : (a b : List ℕ) (r : Option (List (List ℕ))) → onto_all (a ++ b) r ≡ onto_all a (onto_all b r)
+pub onto_all-append : (a b : List ℕ) (r : Option (List (List ℕ))) → onto_all (a ++ b) r ≡ onto_all a (onto_all b r)
 onto_all-append [] b r = refl
 onto_all-append (x ∷ a) b r = ap (onto_first x) (onto_all-append a b r)
 

@@ -16,10 +16,6 @@ is_quoting c = is_quote_sign c || (c == 92)
 abbrev pub is_atom_character : ℕ → Bool
 is_atom_character c = not (is_blank c || (is_control c || is_quoting c))
 
--- what a line without quoting is made of
-abbrev pub is_plain : ℕ → Bool
-is_plain c = is_blank c || is_atom_character c
-
 -- within a string that ends at the quote sign, text stands for the character c: the character itself, if it is
 -- neither the quote sign nor a backslash, or a backslash and then the character
 abbrev pub StandsFor : ℕ → List ℕ → ℕ → Type 0

@@ -16,6 +16,12 @@ Finishes database More old new asked = (Appends old new (answer_to database aske
 Finishes database Quit old new asked = Appends old new (answer_to database asked) × (ends_session asked ≡ true)
 Finishes database Broken old new asked = AppendsFront old new (answer_to database asked) ⊎ AppendsFront old new unavailable_octets
 
+-- the call put these octets, and the session goes on
+abbrev pub GoesOn : Step → Option (List ℕ) → Option (List ℕ) → List ℕ → Type 0
+GoesOn More old new octets = Appends old new octets
+GoesOn Quit old new octets = ⊥
+GoesOn Broken old new octets = AppendsFront old new octets
+
 -- the call wrote what answers these lines, or where it broke off a front of that, and tells whether a QUIT was answered
 abbrev pub Wrote : Database → Step → Option (List ℕ) → Option (List ℕ) → List (List ℕ) → Type 0
 Wrote database More old new ls = (o : List ℕ) × Speaks database ls o false × Appends old new o
