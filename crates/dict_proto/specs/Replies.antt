@@ -3,7 +3,7 @@ use Rattle.std.specs.Prelude.{ℕ, List, ◌∷◌, [], ◌++◌, codes, decimal
 use Rattle.dict_text.specs.Lines.{text_lines}
 use Rattle.dict_proto.specs.Text.{crlf, sent_line, block, quoted}
 use Rattle.dict_proto.specs.declared.reply.Reply.{Reply}
-use Rattle.dict_proto.specs.declared.reply.Reply.TheVariants.{Banner, DefinitionCount, Definition, MatchCount, DatabaseCount, StrategyCount, ListLine, ListEnd, InfoHeading, InfoText, Help, ServerInformation, Status, Done, Closing, Unavailable, NotRecognized, InvalidDatabase, InvalidStrategy, NoMatch, NoDatabases}
+use Rattle.dict_proto.specs.declared.reply.Reply.TheVariants.{Banner, DefinitionCount, Definition, MatchCount, DatabaseCount, StrategyCount, ListLine, ListEnd, InfoHeading, InfoText, Help, ServerInformation, Status, Done, Closing, Unavailable, NotRecognized, InvalidDatabase, InvalidStrategy, NoMatch, NoDatabases, IllegalParameters, NotImplemented}
 
 -- the greeting of a connection: 220, the host and the connection's number
 unfoldable pub banner_octets : List ℕ → ℕ → List ℕ
@@ -99,6 +99,14 @@ unavailable_octets = codes "420 server temporarily unavailable" ++ crlf
 unfoldable pub not_recognized_octets : List ℕ
 not_recognized_octets = codes "500 command not recognized" ++ crlf
 
+-- the answer to a line that can't be cut into words, or to a command that doesn't go with its parameters
+unfoldable pub illegal_parameters_octets : List ℕ
+illegal_parameters_octets = codes "501 illegal parameters" ++ crlf
+
+-- the answer to a command that is left out
+unfoldable pub not_implemented_octets : List ℕ
+not_implemented_octets = codes "502 command not implemented" ++ crlf
+
 -- the database asked is not there
 unfoldable pub invalid_database_octets : List ℕ
 invalid_database_octets = codes "550 invalid database" ++ crlf
@@ -133,6 +141,8 @@ reply_octets Done = done_octets
 reply_octets Closing = closing_octets
 reply_octets Unavailable = unavailable_octets
 reply_octets NotRecognized = not_recognized_octets
+reply_octets IllegalParameters = illegal_parameters_octets
+reply_octets NotImplemented = not_implemented_octets
 reply_octets InvalidDatabase = invalid_database_octets
 reply_octets InvalidStrategy = invalid_strategy_octets
 reply_octets NoMatch = no_match_octets

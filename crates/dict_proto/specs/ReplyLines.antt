@@ -4,7 +4,7 @@ use Rattle.std.specs.List.{flat_map, AllByRecursion}
 use Rattle.dict_text.specs.Lines.{text_lines}
 use Rattle.dict_proto.specs.Text.{crlf}
 use Rattle.dict_proto.specs.declared.reply.Reply.{Reply}
-use Rattle.dict_proto.specs.declared.reply.Reply.TheVariants.{Banner, DefinitionCount, Definition, MatchCount, DatabaseCount, StrategyCount, ListLine, ListEnd, InfoHeading, InfoText, Help, ServerInformation, Status, Done, Closing, Unavailable, NotRecognized, InvalidDatabase, InvalidStrategy, NoMatch, NoDatabases}
+use Rattle.dict_proto.specs.declared.reply.Reply.TheVariants.{Banner, DefinitionCount, Definition, MatchCount, DatabaseCount, StrategyCount, ListLine, ListEnd, InfoHeading, InfoText, Help, ServerInformation, Status, Done, Closing, Unavailable, NotRecognized, InvalidDatabase, InvalidStrategy, NoMatch, NoDatabases, IllegalParameters, NotImplemented}
 
 -- no octet is a CR
 abbrev pub HasNoReturn : List ℕ → Type 0
@@ -40,6 +40,8 @@ IsWithinLimits Done = ⊤
 IsWithinLimits Closing = ⊤
 IsWithinLimits Unavailable = ⊤
 IsWithinLimits NotRecognized = ⊤
+IsWithinLimits IllegalParameters = ⊤
+IsWithinLimits NotImplemented = ⊤
 IsWithinLimits InvalidDatabase = ⊤
 IsWithinLimits InvalidStrategy = ⊤
 IsWithinLimits NoMatch = ⊤

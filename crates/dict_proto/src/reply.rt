@@ -69,6 +69,10 @@ pub enum Reply<'a> {
     Unavailable,
     /// 500: the line is no command.
     NotRecognized,
+    /// 501: the line can't be cut into words, or the command doesn't go with its parameters.
+    IllegalParameters,
+    /// 502: the command is left out.
+    NotImplemented,
     /// 550: no such database.
     InvalidDatabase,
     /// 551: no such strategy.
@@ -108,6 +112,8 @@ pub fn write_reply<K: Sink>(sink: &mut K, reply: &Reply) -> Result<(), SinkFault
         Reply::Closing => sink.put(b"221 closing connection\r\n"),
         Reply::Unavailable => sink.put(b"420 server temporarily unavailable\r\n"),
         Reply::NotRecognized => sink.put(b"500 command not recognized\r\n"),
+        Reply::IllegalParameters => sink.put(b"501 illegal parameters\r\n"),
+        Reply::NotImplemented => sink.put(b"502 command not implemented\r\n"),
         Reply::InvalidDatabase => sink.put(b"550 invalid database\r\n"),
         Reply::InvalidStrategy => sink.put(b"551 invalid strategy\r\n"),
         Reply::NoMatch => sink.put(b"552 no match\r\n"),

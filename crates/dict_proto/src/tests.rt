@@ -1,3 +1,2 @@
-mod lines;
 mod replies;
 mod sinks;

@@ -2,7 +2,7 @@
 use Rattle.std.proofs.Common.{◌≡◌, ℕ, List, [], ◌∷◌, ◌++◌, refl, true, false, inl, inr}
 use Rattle.std.specs.Prelude.{Option}
 use Rattle.std.proofs.KnownBytes.{Appends-nil, Appends-trans}
-use Rattle.dict_proto.specs.Meaning.{meaning}
+use Rattle.dict_line.specs.Meaning.{meaning}
 use Rattle.dict_proto.proofs.PutLemmas.{front_longer, front_after}
 use Rattle.dict_session.specs.Lines.{cut, HasNoLineEnd}
 use Rattle.dict_session.specs.Database.{Database}

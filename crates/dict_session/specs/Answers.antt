@@ -1,4 +1,4 @@
--- The answer to each line. RFC 2229, sections 3.2, 3.3 and 3.9.
+-- The answer to each line. RFC 2229, sections 3.2, 3.3, 3.6 and 3.9.
 use Rattle.std.specs.Prelude.{ℕ, Bool, true, false, ◌==◌, List, [], ◌++◌, length, if◌then◌else◌, Option, Some, None}
 use Rattle.std.specs.List.{flat_map}
 use Rattle.std.specs.Str.{bytes_eq}
@@ -6,8 +6,8 @@ use Rattle.dict_match.specs.Key.{key_of}
 use Rattle.dict_match.specs.declared.strategy.Strategy.{Strategy}
 use Rattle.dict_match.specs.declared.strategy.Strategy.TheVariants.{Exact}
 use Rattle.dict_index.specs.Edition.{Entry}
-use Rattle.dict_proto.specs.Meaning.{Meaning, meaning, define, matching, quit, not_recognized}
-use Rattle.dict_proto.specs.Replies.{definition_count_octets, definition_octets, match_count_octets, list_line_octets, list_end_octets, done_octets, closing_octets, not_recognized_octets, invalid_database_octets, invalid_strategy_octets, no_match_octets}
+use Rattle.dict_line.specs.Meaning.{Meaning, meaning, define, matching, show_databases, show_strategies, show_server, show_info, client, status, help, quit, not_recognized, illegal_parameters, not_implemented}
+use Rattle.dict_proto.specs.Replies.{definition_count_octets, definition_octets, match_count_octets, list_line_octets, list_end_octets, done_octets, closing_octets, not_recognized_octets, illegal_parameters_octets, not_implemented_octets, invalid_database_octets, invalid_strategy_octets, no_match_octets}
 use Rattle.dict_session.specs.Database.{Database, found, is_found, headwords, strategy_of}
 
 -- an entry as a definition of the database with this name and title
@@ -51,17 +51,36 @@ strategy_answer database (Some strategy) word = matched_answer database (headwor
 unfoldable pub match_answer : Database → List ℕ → List ℕ → List ℕ → List ℕ
 match_answer database name strategy word = if bytes_eq name database.name then strategy_answer database (strategy_of strategy) word else invalid_database_octets
 
+-- the answer to what a line asks; SHOW, STATUS and HELP are answered as if they were no commands, for now
 abbrev pub answer_to : Database → Meaning → List ℕ
 answer_to database (define name word) = define_answer database name word
 answer_to database (matching name strategy word) = match_answer database name strategy word
+answer_to database show_databases = not_recognized_octets
+answer_to database show_strategies = not_recognized_octets
+answer_to database show_server = not_recognized_octets
+answer_to database (show_info name) = not_recognized_octets
+answer_to database client = done_octets
+answer_to database status = not_recognized_octets
+answer_to database help = not_recognized_octets
 answer_to database quit = closing_octets
 answer_to database not_recognized = not_recognized_octets
+answer_to database illegal_parameters = illegal_parameters_octets
+answer_to database not_implemented = not_implemented_octets
 
 abbrev pub ends_session : Meaning → Bool
 ends_session (define name word) = false
 ends_session (matching name strategy word) = false
+ends_session show_databases = false
+ends_session show_strategies = false
+ends_session show_server = false
+ends_session (show_info name) = false
+ends_session client = false
+ends_session status = false
+ends_session help = false
 ends_session quit = true
 ends_session not_recognized = false
+ends_session illegal_parameters = false
+ends_session not_implemented = false
 
 -- the answer to a line, without its CR LF
 abbrev pub answer : Database → List ℕ → List ℕ

@@ -2,7 +2,7 @@
 use Rattle.std.specs.Prelude.{◌≡◌, ℕ, ◌⊎◌, List, Bool, true, false, Option}
 use Rattle.std.specs.Io.KnownBytes.{Appends}
 use Rattle.dict_proto.specs.Octets.{AppendsFront, HasFailed}
-use Rattle.dict_proto.specs.Meaning.{Meaning}
+use Rattle.dict_line.specs.Meaning.{Meaning}
 use Rattle.dict_proto.specs.Replies.{unavailable_octets}
 use Rattle.dict_session.specs.Database.{Database}
 use Rattle.dict_session.specs.Answers.{answer_to, ends_session}
@@ -15,6 +15,12 @@ abbrev pub Finishes : Database → Step → Option (List ℕ) → Option (List �
 Finishes database More old new asked = (Appends old new (answer_to database asked) × (ends_session asked ≡ false)) ⊎ Appends old new unavailable_octets
 Finishes database Quit old new asked = Appends old new (answer_to database asked) × (ends_session asked ≡ true)
 Finishes database Broken old new asked = AppendsFront old new (answer_to database asked) ⊎ AppendsFront old new unavailable_octets
+
+-- the call put these octets, and the session goes on
+abbrev pub GoesOn : Step → Option (List ℕ) → Option (List ℕ) → List ℕ → Type 0
+GoesOn More old new octets = Appends old new octets
+GoesOn Quit old new octets = ⊥
+GoesOn Broken old new octets = AppendsFront old new octets
 
 -- the call wrote what answers these lines, or where it broke off a front of that, and tells whether a QUIT was answered
 abbrev pub Wrote : Database → Step → Option (List ℕ) → Option (List ℕ) → List (List ℕ) → Type 0

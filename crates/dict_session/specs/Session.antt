@@ -2,7 +2,7 @@
 use Rattle.std.specs.Prelude.{◌≡◌, ℕ, ◌<◌, List, [], length, MatchBool, Option, ◌-◌, slice_index, ◌==◌}
 use Rattle.dict_session.specs.Lines.{HasNoLineEnd, cut}
 use Rattle.dict_session.specs.Database.{Database}
-use Rattle.dict_proto.specs.Meaning.{meaning}
+use Rattle.dict_line.specs.Meaning.{meaning}
 use Rattle.dict_session.specs.Ending.{Finishes, Wrote}
 use Rattle.dict_session.specs.declared.pieces.Session.{Session}
 use Rattle.dict_session.specs.declared.step.Step.{Step}

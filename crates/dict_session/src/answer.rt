@@ -1,18 +1,20 @@
 // The answer to one line.
-ghost use Rattle.std.specs.Prelude.{◌≡◌, ℕ, List};
+ghost use Rattle.std.specs.Prelude.{◌≡◌, ℕ, List, Err};
 ghost use Rattle.dict_proto.specs.Octets.{Puts, Counts};
-ghost use Rattle.dict_proto.specs.Meaning.{told};
+ghost use Rattle.dict_line.specs.Meaning.{Meaning};
+ghost use Rattle.dict_line.specs.Told.{Tells, requested};
 ghost use Rattle.dict_session.specs.Answers.{answer_to, define_answer, found_answer, match_answer, matched_answer, ends_session};
 ghost use Rattle.dict_proto.specs.Replies.{reply_octets, done_octets};
-ghost use Rattle.dict_session.specs.Database.{found, headwords, strategy_of};
+ghost use Rattle.dict_session.specs.Database.{Database, found, headwords, strategy_of};
 ghost use Rattle.dict_match.specs.declared.strategy.Strategy.TheVariants.{Exact};
 ghost use Rattle.dict_session.specs.Answered.{Answers};
-ghost use Rattle.dict_session.specs.Ending.{Finishes, Tallies};
+ghost use Rattle.dict_session.specs.Ending.{Finishes, GoesOn, Tallies};
 
 use crate::plain::Plain;
 use crate::step::Step;
+use dict_line::{LineFault, Request};
 use dict_match::{Strategy, key_of};
-use dict_proto::{LineFault, Reply, Request, Sink, SinkFault, write_reply};
+use dict_proto::{Reply, Sink, SinkFault, write_reply};
 use std::alloc::Global;
 
 // Whether a line got its answer, or the 420 line in its place.
@@ -22,27 +24,105 @@ pub(crate) enum Answered {
     Unavailable,
 }
 
-// Puts the answer to what a line asks, or 420 where memory for it is refused before the answer's first octet.
-pub(crate) fn put_answer<K: Sink>(
+// Puts the answer to what a line asks, and tells whether the session goes on. Where memory was refused, 420 is put
+// in its place.
+pub(crate) fn answer_line<K: Sink>(
     alloc: Global,
     plain: &Plain,
     asked: Result<Request, LineFault>,
     sink: &mut K,
-) -> Result<Answered, SinkFault>
-    ensures octets { Answers result (K.octets sink.old) (K.octets sink.new) (answer_to plain.now (told asked.entry)) }
-    ensures failures { Counts result (K.failures sink.old) (K.failures sink.new) }
+) -> Step
+    ensures octets { (meaning : Meaning) → Tells asked meaning → Finishes plain.now result (K.octets sink.old) (K.octets sink.new) meaning }
+    ensures failures { Tallies result (K.failures sink.old) (K.failures sink.new) }
 {
     match asked {
-        Ok(Request::Define { database, word }) => put_define(alloc, plain, database, word, sink),
-        Ok(
-            Request::Match {
-                database,
-                strategy,
-                word,
-            },
-        ) => put_match(alloc, plain, database, strategy, word, sink),
-        Ok(Request::Quit) => put_whole(&Reply::Closing, sink),
-        Err(LineFault::NotRecognized) => put_whole(&Reply::NotRecognized, sink),
+        Ok(request) => answer_request(alloc, plain, request, sink),
+        Err(fault) => answer_fault(fault, sink),
+    }
+}
+
+// Puts the answer to a line that is no command.
+fn answer_fault<K: Sink>(fault: LineFault, sink: &mut K) -> Step
+    ensures octets { (database : Database) (meaning : Meaning) → Tells (Err fault) meaning → Finishes database result (K.octets sink.old) (K.octets sink.new) meaning }
+    ensures failures { Tallies result (K.failures sink.old) (K.failures sink.new) }
+{
+    match fault {
+        LineFault::NotRecognized => put_line(&Reply::NotRecognized, sink),
+        LineFault::IllegalParameters => put_line(&Reply::IllegalParameters, sink),
+        LineFault::NotImplemented => put_line(&Reply::NotImplemented, sink),
+        LineFault::Memory => put_line(&Reply::Unavailable, sink),
+    }
+}
+
+// Puts a reply after which the session goes on.
+fn put_line<K: Sink>(reply: &Reply, sink: &mut K) -> Step
+    ensures octets { GoesOn result (K.octets sink.old) (K.octets sink.new) (reply_octets reply.now) }
+    ensures failures { Tallies result (K.failures sink.old) (K.failures sink.new) }
+{
+    match write_reply(sink, reply) {
+        Ok(()) => Step::More,
+        Err(_) => Step::Broken,
+    }
+}
+
+// Puts the answer to a request, and tells whether the session goes on.
+fn answer_request<K: Sink>(alloc: Global, plain: &Plain, request: Request, sink: &mut K) -> Step
+    ensures octets { Finishes plain.now result (K.octets sink.old) (K.octets sink.new) (requested request) }
+    ensures failures { Tallies result (K.failures sink.old) (K.failures sink.new) }
+{
+    let ends = is_quit(&request);
+    match put_answer(alloc, plain, &request, sink) {
+        Err(_) => Step::Broken,
+        Ok(Answered::Whole) if ends => Step::Quit,
+        Ok(_) => Step::More,
+    }
+}
+
+// Whether a QUIT is asked.
+fn is_quit(request: &Request) -> bool
+    ensures { result ≡ ends_session (requested request.now) }
+{
+    matches!(request, Request::Quit)
+}
+
+// Puts the answer to a request, or 420 where memory for it is refused before the answer's first octet.
+fn put_answer<K: Sink>(
+    alloc: Global,
+    plain: &Plain,
+    request: &Request,
+    sink: &mut K,
+) -> Result<Answered, SinkFault>
+    ensures octets { Answers result (K.octets sink.old) (K.octets sink.new) (answer_to plain.now (requested request.now)) }
+    ensures failures { Counts result (K.failures sink.old) (K.failures sink.new) }
+{
+    match request {
+        Request::Define { database, word } => put_define(
+            alloc,
+            plain,
+            database.as_str(),
+            word.as_str(),
+            sink,
+        ),
+        Request::Match {
+            database,
+            strategy,
+            word,
+        } => put_match(
+            alloc,
+            plain,
+            database.as_str(),
+            strategy.as_str(),
+            word.as_str(),
+            sink,
+        ),
+        Request::Client => put_whole(&Reply::Done, sink),
+        Request::Quit => put_whole(&Reply::Closing, sink),
+        Request::ShowDatabases => put_whole(&Reply::NotRecognized, sink),
+        Request::ShowStrategies => put_whole(&Reply::NotRecognized, sink),
+        Request::ShowServer => put_whole(&Reply::NotRecognized, sink),
+        Request::ShowInfo { .. } => put_whole(&Reply::NotRecognized, sink),
+        Request::Status => put_whole(&Reply::NotRecognized, sink),
+        Request::Help => put_whole(&Reply::NotRecognized, sink),
     }
 }
 
@@ -167,29 +247,4 @@ fn put_matched<K: Sink>(
     plain.put_headwords(strategy, query, sink)?;
     write_reply(sink, &Reply::ListEnd)?;
     put_done(sink)
-}
-
-// Puts the answer to what a line asks, and tells whether the session goes on.
-pub(crate) fn answer_request<K: Sink>(
-    alloc: Global,
-    plain: &Plain,
-    asked: Result<Request, LineFault>,
-    sink: &mut K,
-) -> Step
-    ensures octets { Finishes plain.now result (K.octets sink.old) (K.octets sink.new) (told asked.entry) }
-    ensures failures { Tallies result (K.failures sink.old) (K.failures sink.new) }
-{
-    let ends = is_quit(&asked);
-    match put_answer(alloc, plain, asked, sink) {
-        Err(_) => Step::Broken,
-        Ok(Answered::Whole) if ends => Step::Quit,
-        Ok(_) => Step::More,
-    }
-}
-
-// Whether a QUIT is asked.
-fn is_quit(asked: &Result<Request, LineFault>) -> bool
-    ensures { result ≡ ends_session (told asked.now) }
-{
-    matches!(asked, Ok(Request::Quit))
 }

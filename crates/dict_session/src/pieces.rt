@@ -1,11 +1,13 @@
 // One session in pieces.
 ghost use Rattle.std.specs.Prelude.{◌≡◌, ℕ, ◌≤◌, ◌-◌, List, [], ◌∷◌, ◌++◌, IfOk, vec_len, vec_capacity, length, take};
-ghost use Rattle.dict_proto.specs.Meaning.{told, meaning};
+ghost use Rattle.dict_line.specs.Meaning.{meaning};
+ghost use Rattle.dict_line.specs.Told.{Tells};
 
-use crate::answer::answer_request;
+use crate::answer::answer_line;
 use crate::plain::Plain;
 use crate::step::Step;
-use dict_proto::{LineFault, MAX_LINE_OCTETS, Request, Sink, parse_line};
+use dict_line::{LineFault, MAX_LINE_OCTETS, Request, parse_line};
+use dict_proto::Sink;
 use std::alloc::{AllocError, Global};
 
 /// The unfinished line that a session has read.
@@ -90,13 +92,13 @@ impl Session {
     }
 
     // What the line asks whose CR was read last.
-    fn request(&self) -> Result<Request<'_>, LineFault>
-        ensures { (rest : List ℕ) → Holds self.now rest → told result ≡ meaning (take (length rest - 1) rest) }
+    fn request(&self, alloc: Global) -> Result<Request, LineFault>
+        ensures { (rest : List ℕ) → Holds self.now rest → Tells result (meaning (take (length rest - 1) rest)) }
     {
         if self.is_overlong {
             Err(LineFault::NotRecognized)
         } else {
-            parse_line(self.line())
+            parse_line(alloc, self.line())
         }
     }
 
@@ -105,7 +107,7 @@ impl Session {
         ensures octets { (rest : List ℕ) → Holds self.old rest → EndsLine plain.now result self.new (K.octets sink.old) (K.octets sink.new) (take (length rest - 1) rest) }
         ensures failures { Tallies result (K.failures sink.old) (K.failures sink.new) }
     {
-        let step = answer_request(alloc, plain, self.request(), sink);
+        let step = answer_line(alloc, plain, self.request(alloc), sink);
         if step == Step::More {
             self.clear();
         }

@@ -20,7 +20,7 @@ const ALL_STONES: &str =
     "152 3 matches found\r\nstones \"pearl\"\r\nstones \"opal\"\r\nstones \"agate\"\r\n.\r\n250 ok\r\n";
 
 // What a client sends, whether a QUIT in it is answered, and the answers.
-static ROWS: [(&str, bool, &str); 10] = [
+static ROWS: [(&str, bool, &str); 19] = [
     ("", false, ""),
     ("DEFINE stones Pearl\r\n", false, PEARLS),
     ("MATCH stones exact Pearl\r\n", false, ONE_PEARL),
@@ -37,11 +37,28 @@ static ROWS: [(&str, bool, &str); 10] = [
         "551 invalid strategy\r\n",
     ),
     ("MATCH stones word p\r\n", false, "552 no match\r\n"),
+    ("MATCH stones word\r\n", false, "501 illegal parameters\r\n"),
+    ("\"DEFINE\" 'stones' \"Pe\"ar\\l\r\n", false, PEARLS),
+    ("match \"stones\" 'exact' 'Pearl'\r\n", false, ONE_PEARL),
+    ("CLIENT \"a b\" c\r\n", false, "250 ok\r\n"),
     (
-        "MATCH stones word\r\n",
+        "DEFINE stones \"Pearl\r\n",
         false,
-        "500 command not recognized\r\n",
+        "501 illegal parameters\r\n",
     ),
+    ("OPTION MIME\r\n", false, "502 command not implemented\r\n"),
+    ("NOSUCH\r\n", false, "500 command not recognized\r\n"),
+    (
+        "SHOW DB\r\nHELP\r\n",
+        false,
+        "500 command not recognized\r\n500 command not recognized\r\n",
+    ),
+    (
+        "QUIT now\r\nCLIENT\r\n",
+        false,
+        "501 illegal parameters\r\n250 ok\r\n",
+    ),
+    ("'quit'\r\nCLIENT\r\n", true, "221 closing connection\r\n"),
     (
         "QUIT\r\nMATCH stones exact pearl\r\n",
         true,

@@ -1,4 +1,7 @@
-use crate::{LimitedSink, OverWrite, Reply, Sink, put_all, put_quoted, write_reply};
+use crate::{
+    LimitedSink, OverWrite, Reply, Sink, list_is_a_block, put_all, put_quoted,
+    reply_lines_are_short, write_reply,
+};
 use std::alloc::Global;
 use std::test::Fail;
 
@@ -29,6 +32,8 @@ fn block_of(alloc: Global, body: &[u8]) -> Result<Vec<u8>, Fail> {
 
 #[test]
 fn replies_with_a_number(rt: HostRuntime) -> Result<(), Fail> {
+    reply_lines_are_short();
+    list_is_a_block();
     let alloc = rt.alloc();
     let banner = Reply::Banner {
         host: "localhost",
@@ -94,6 +99,14 @@ fn fixed_replies(rt: HostRuntime) -> Result<(), Fail> {
         (
             Reply::NotRecognized,
             b"500 command not recognized\r\n".as_slice(),
+        ),
+        (
+            Reply::IllegalParameters,
+            b"501 illegal parameters\r\n".as_slice(),
+        ),
+        (
+            Reply::NotImplemented,
+            b"502 command not implemented\r\n".as_slice(),
         ),
         (
             Reply::InvalidDatabase,

@@ -47,6 +47,7 @@ fn pieces(octets: &[u8], size: usize, next_size: usize) -> Pieces<'_> {
 fn answers_in_any_pieces(rt: HostRuntime) -> Result<(), Fail> {
     let alloc = rt.alloc();
     let not_recognized = "500 command not recognized\r\n";
+    let illegal_parameters = "501 illegal parameters\r\n";
     let rows = [
         ("", ""),
         ("DEFINE gem opal", ""),
@@ -55,8 +56,13 @@ fn answers_in_any_pieces(rt: HostRuntime) -> Result<(), Fail> {
         ("DEFINE nosuch opal\r\n", "550 invalid database\r\n"),
         ("DEFINE gem ruby\r\n", "552 no match\r\n"),
         ("STATUS\r\n", not_recognized),
-        ("DEFINE gem\r\n", not_recognized),
-        ("DEFINE gem \"opal\"\r\n", not_recognized),
+        ("SASLRESP x\r\n", not_recognized),
+        ("DEFINE gem\r\n", illegal_parameters),
+        ("DEFINE gem \"opal\r\n", illegal_parameters),
+        ("DEFINE gem \"opal\"\r\n", OPAL),
+        ("\"define\" 'gem' o\\pal\r\n", OPAL),
+        ("CLIENT \"curl 7.88\"\r\n", "250 ok\r\n"),
+        ("option mime\r\n", "502 command not implemented\r\n"),
         ("QUIT\r\nDEFINE gem opal\r\n", CLOSING),
     ];
     for (input, answer) in rows {

@@ -1,4 +1,4 @@
-use Rattle.dict_proto.specs.Replies.{definition_count_octets, match_count_octets, database_count_octets, strategy_count_octets, list_end_octets, info_heading_octets, info_text_octets, status_octets, done_octets, closing_octets, unavailable_octets, not_recognized_octets, invalid_database_octets, invalid_strategy_octets, no_match_octets, no_databases_octets}
+use Rattle.dict_proto.specs.Replies.{definition_count_octets, match_count_octets, database_count_octets, strategy_count_octets, list_end_octets, info_heading_octets, info_text_octets, status_octets, done_octets, closing_octets, unavailable_octets, not_recognized_octets, invalid_database_octets, invalid_strategy_octets, no_match_octets, no_databases_octets, illegal_parameters_octets, not_implemented_octets}
 use Rattle.dict_proto.proofs.reply.write_reply.Goals as goal
 
 pub returns-in-DefinitionCount-clause-octets : goal.returns-in-DefinitionCount-clause-octets
@@ -48,6 +48,14 @@ returns-in-Unavailable-clause-octets g c = rw c.in-Unavailable.is c.put-in-Unava
 pub returns-in-NotRecognized-clause-octets : goal.returns-in-NotRecognized-clause-octets
 unfolding not_recognized_octets
 returns-in-NotRecognized-clause-octets g c = rw c.in-NotRecognized.is c.put-in-NotRecognized.ensures.octets
+
+pub returns-in-IllegalParameters-clause-octets : goal.returns-in-IllegalParameters-clause-octets
+unfolding illegal_parameters_octets
+returns-in-IllegalParameters-clause-octets g c = rw c.in-IllegalParameters.is c.put-in-IllegalParameters.ensures.octets
+
+pub returns-in-NotImplemented-clause-octets : goal.returns-in-NotImplemented-clause-octets
+unfolding not_implemented_octets
+returns-in-NotImplemented-clause-octets g c = rw c.in-NotImplemented.is c.put-in-NotImplemented.ensures.octets
 
 pub returns-in-InvalidDatabase-clause-octets : goal.returns-in-InvalidDatabase-clause-octets
 unfolding invalid_database_octets
