@@ -1,4 +1,4 @@
--- The answer to each line. RFC 2229, sections 3.2, 3.3, 3.6 and 3.9.
+-- The answer to each line. RFC 2229, sections 3.2, 3.3 and 3.5 to 3.9.
 use Rattle.std.specs.Prelude.{ℕ, Bool, true, false, ◌==◌, List, [], ◌++◌, length, if◌then◌else◌, Option, Some, None}
 use Rattle.std.specs.List.{flat_map}
 use Rattle.std.specs.Str.{bytes_eq}
@@ -9,6 +9,7 @@ use Rattle.dict_index.specs.Edition.{Entry}
 use Rattle.dict_line.specs.Meaning.{Meaning, meaning, define, matching, show_databases, show_strategies, show_server, show_info, client, status, help, quit, not_recognized, illegal_parameters, not_implemented}
 use Rattle.dict_proto.specs.Replies.{definition_count_octets, definition_octets, match_count_octets, list_line_octets, list_end_octets, done_octets, closing_octets, not_recognized_octets, illegal_parameters_octets, not_implemented_octets, invalid_database_octets, invalid_strategy_octets, no_match_octets}
 use Rattle.dict_session.specs.Database.{Database, found, is_found, headwords, strategy_of}
+use Rattle.dict_session.specs.Shows.{databases_answer, strategies_answer, info_answer, status_answer, help_answer}
 
 -- an entry as a definition of the database with this name and title
 abbrev pub shown : List ℕ → List ℕ → Entry → List ℕ
@@ -51,17 +52,17 @@ strategy_answer database (Some strategy) word = matched_answer database (headwor
 unfoldable pub match_answer : Database → List ℕ → List ℕ → List ℕ → List ℕ
 match_answer database name strategy word = if bytes_eq name database.name then strategy_answer database (strategy_of strategy) word else invalid_database_octets
 
--- the answer to what a line asks; SHOW, STATUS and HELP are answered as if they were no commands, for now
+-- the answer to what a line asks; SHOW SERVER is answered as if it were no command, for now
 abbrev pub answer_to : Database → Meaning → List ℕ
 answer_to database (define name word) = define_answer database name word
 answer_to database (matching name strategy word) = match_answer database name strategy word
-answer_to database show_databases = not_recognized_octets
-answer_to database show_strategies = not_recognized_octets
+answer_to database show_databases = databases_answer database
+answer_to database show_strategies = strategies_answer
 answer_to database show_server = not_recognized_octets
-answer_to database (show_info name) = not_recognized_octets
+answer_to database (show_info name) = info_answer database name
 answer_to database client = done_octets
-answer_to database status = not_recognized_octets
-answer_to database help = not_recognized_octets
+answer_to database status = status_answer
+answer_to database help = help_answer
 answer_to database quit = closing_octets
 answer_to database not_recognized = not_recognized_octets
 answer_to database illegal_parameters = illegal_parameters_octets

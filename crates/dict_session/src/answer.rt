@@ -1,5 +1,5 @@
 // The answer to one line.
-ghost use Rattle.std.specs.Prelude.{◌≡◌, ℕ, List, Err};
+ghost use Rattle.std.specs.Prelude.{◌≡◌, ℕ, List, Option, Err};
 ghost use Rattle.dict_proto.specs.Octets.{Puts, Counts};
 ghost use Rattle.dict_line.specs.Meaning.{Meaning};
 ghost use Rattle.dict_line.specs.Told.{Tells, requested};
@@ -11,6 +11,7 @@ ghost use Rattle.dict_session.specs.Answered.{Answers};
 ghost use Rattle.dict_session.specs.Ending.{Finishes, GoesOn, Tallies};
 
 use crate::plain::Plain;
+use crate::show::{put_databases, put_help, put_info, put_status, put_strategies};
 use crate::step::Step;
 use dict_line::{LineFault, Request};
 use dict_match::{Strategy, key_of};
@@ -117,12 +118,23 @@ fn put_answer<K: Sink>(
         ),
         Request::Client => put_whole(&Reply::Done, sink),
         Request::Quit => put_whole(&Reply::Closing, sink),
-        Request::ShowDatabases => put_whole(&Reply::NotRecognized, sink),
-        Request::ShowStrategies => put_whole(&Reply::NotRecognized, sink),
+        Request::ShowDatabases => whole(put_databases(plain, sink)),
+        Request::ShowStrategies => whole(put_strategies(sink)),
         Request::ShowServer => put_whole(&Reply::NotRecognized, sink),
-        Request::ShowInfo { .. } => put_whole(&Reply::NotRecognized, sink),
-        Request::Status => put_whole(&Reply::NotRecognized, sink),
-        Request::Help => put_whole(&Reply::NotRecognized, sink),
+        Request::ShowInfo { database } => whole(put_info(plain, database.as_str(), sink)),
+        Request::Status => whole(put_status(sink)),
+        Request::Help => whole(put_help(sink)),
+    }
+}
+
+// An answer that was put whole, or that the sink broke off.
+fn whole(put: Result<(), SinkFault>) -> Result<Answered, SinkFault>
+    ensures octets { (old new : Option (List ℕ)) (answer : List ℕ) → Puts put old new answer → Answers result old new answer }
+    ensures failures { (old new : ℕ) → Counts put old new → Counts result old new }
+{
+    match put {
+        Ok(()) => Ok(Answered::Whole),
+        Err(fault) => Err(fault),
     }
 }
 
