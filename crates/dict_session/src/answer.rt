@@ -117,12 +117,12 @@ fn put_answer<K: Sink>(
         ),
         Request::Client => put_whole(&Reply::Done, sink),
         Request::Quit => put_whole(&Reply::Closing, sink),
-        Request::ShowDatabases => put_whole(&Reply::NotRecognized, sink),
-        Request::ShowStrategies => put_whole(&Reply::NotRecognized, sink),
-        Request::ShowServer => put_whole(&Reply::NotRecognized, sink),
-        Request::ShowInfo { .. } => put_whole(&Reply::NotRecognized, sink),
-        Request::Status => put_whole(&Reply::NotRecognized, sink),
-        Request::Help => put_whole(&Reply::NotRecognized, sink),
+        Request::ShowDatabases
+        | Request::ShowStrategies
+        | Request::ShowServer
+        | Request::ShowInfo { .. }
+        | Request::Status
+        | Request::Help => put_whole(&Reply::NotRecognized, sink),
     }
 }
 
