@@ -94,7 +94,7 @@ abbrev pub asked_by : List (List ℕ) → Meaning
 asked_by [] = not_recognized
 asked_by (name ∷ parameters) = command_of name parameters
 
--- the same, where the line can be cut into words
+-- the same, where the line can be cut into words; else it is 501
 abbrev pub asked : Option (List (List ℕ)) → Meaning
 asked None = illegal_parameters
 asked (Some words) = asked_by words

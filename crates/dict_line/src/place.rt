@@ -28,8 +28,7 @@ impl Place {
         ensures { place_of result ≡ next_place (place_of self) octet }
     {
         match self {
-            Place::Between => Place::after_unquoted(octet),
-            Place::Within => Place::after_unquoted(octet),
+            Place::Between | Place::Within => Place::after_unquoted(octet),
             Place::InString(quote) => Place::after_in_string(quote, octet),
             Place::Escaped => Place::after_pair(octet, Place::Within),
             Place::EscapedIn(quote) => Place::after_pair(octet, Place::InString(quote)),
@@ -93,11 +92,9 @@ impl Place {
         ensures { result ≡ is_content (place_of self) octet }
     {
         match self {
-            Place::Between => !is_quoting(octet),
-            Place::Within => !is_quoting(octet),
+            Place::Between | Place::Within => !is_quoting(octet),
             Place::InString(quote) => octet != quote && octet != b'\\',
-            Place::Escaped => true,
-            Place::EscapedIn(_) => true,
+            Place::Escaped | Place::EscapedIn(_) => true,
             Place::Stuck => false,
         }
     }
