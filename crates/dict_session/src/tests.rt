@@ -7,9 +7,9 @@ use std::test::Fail;
 
 // Entries in another order than their headwords', with one headword twice.
 const INDEX: &[u8] =
-    b"00-database-short\tA\tb\npearl\tb\tC\nopal\tb\tC\npearl\td\tC\nagate\tb\tC\n";
+    b"00-database-short\tA\tb\n00-database-info\tf\tF\npearl\tb\tC\nopal\tb\tC\npearl\td\tC\nagate\tb\tC\n";
 
-const TEXT: &[u8] = b"00-database-short\n  Stones\nx\ny\n";
+const TEXT: &[u8] = b"00-database-short\n  Stones\nx\ny\n.x\ny\n";
 
 const PEARLS: &str =
     "150 2 definitions retrieved\r\n151 \"pearl\" stones \"Stones\"\r\nx\r\n.\r\n151 \"pearl\" stones \"Stones\"\r\ny\r\n.\r\n250 ok\r\n";
@@ -19,8 +19,14 @@ const ONE_PEARL: &str = "152 1 matches found\r\nstones \"pearl\"\r\n.\r\n250 ok\
 const ALL_STONES: &str =
     "152 3 matches found\r\nstones \"pearl\"\r\nstones \"opal\"\r\nstones \"agate\"\r\n.\r\n250 ok\r\n";
 
+const STRATEGIES: &str =
+    "111 7 strategies available\r\nexact \"Equal keys\"\r\nprefix \"Key begins with the query\"\r\nsuffix \"Key ends with the query\"\r\nsubstring \"Key contains the query\"\r\nword \"Words of the query stand together in the key\"\r\nfirst \"Key begins with the words of the query\"\r\nlast \"Key ends with the words of the query\"\r\n.\r\n250 ok\r\n";
+
+const HELP: &str =
+    "113 help text\r\nDEFINE database word\r\nMATCH database strategy word\r\nSHOW DB\r\nSHOW STRAT\r\nSHOW INFO database\r\nSHOW SERVER\r\nCLIENT text\r\nSTATUS\r\nHELP\r\nQUIT\r\n.\r\n250 ok\r\n";
+
 // What a client sends, whether a QUIT in it is answered, and the answers.
-static ROWS: [(&str, bool, &str); 19] = [
+static ROWS: [(&str, bool, &str); 24] = [
     ("", false, ""),
     ("DEFINE stones Pearl\r\n", false, PEARLS),
     ("MATCH stones exact Pearl\r\n", false, ONE_PEARL),
@@ -49,10 +55,23 @@ static ROWS: [(&str, bool, &str); 19] = [
     ("OPTION MIME\r\n", false, "502 command not implemented\r\n"),
     ("NOSUCH\r\n", false, "500 command not recognized\r\n"),
     (
-        "SHOW DB\r\nHELP\r\n",
+        "SHOW DB\r\nshow databases\r\n",
         false,
-        "500 command not recognized\r\n500 command not recognized\r\n",
+        "110 1 databases present\r\nstones \"Stones\"\r\n.\r\n250 ok\r\n110 1 databases present\r\nstones \"Stones\"\r\n.\r\n250 ok\r\n",
     ),
+    ("SHOW 'strat'\r\n", false, STRATEGIES),
+    (
+        "SHOW INFO stones\r\n",
+        false,
+        "112 database information\r\n..x\r\ny\r\n.\r\n250 ok\r\n",
+    ),
+    ("SHOW INFO *\r\n", false, "550 invalid database\r\n"),
+    (
+        "STATUS\r\nSHOW SERVER\r\n",
+        false,
+        "210 1 databases\r\n500 command not recognized\r\n",
+    ),
+    ("HELP\r\n", false, HELP),
     (
         "QUIT now\r\nCLIENT\r\n",
         false,
