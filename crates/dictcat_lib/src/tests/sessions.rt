@@ -55,7 +55,12 @@ fn answers_in_any_pieces(rt: HostRuntime) -> Result<(), Fail> {
         ("DEFINE gem dot\r\n", DOT),
         ("DEFINE nosuch opal\r\n", "550 invalid database\r\n"),
         ("DEFINE gem ruby\r\n", "552 no match\r\n"),
-        ("STATUS\r\n", not_recognized),
+        ("STATUS\r\n", "210 1 databases\r\n"),
+        (
+            "show db\r\n",
+            "110 1 databases present\r\ngem \"Gems\"\r\n.\r\n250 ok\r\n",
+        ),
+        ("SHOW SERVER\r\n", not_recognized),
         ("SASLRESP x\r\n", not_recognized),
         ("DEFINE gem\r\n", illegal_parameters),
         ("DEFINE gem \"opal\r\n", illegal_parameters),
