@@ -1,5 +1,5 @@
 -- What a command line means. RFC 2229, sections 2.2, 2.3, 3.2, 3.3 and 3.5 to 3.12.
-use Rattle.std.specs.Prelude.{ℕ, ◌+◌, List, [], ◌∷◌, Bool, not, nat_le, ◌&&◌, ◌||◌, ◌==◌, if◌then◌else◌, length, map, codes, Option, None, Some}
+use Rattle.std.specs.Prelude.{ℕ, ◌+◌, List, [], ◌∷◌, Bool, true, false, not, nat_le, ◌&&◌, ◌||◌, ◌==◌, if◌then◌else◌, length, map, codes, Option, None, Some}
 use Rattle.std.specs.List.{list_all}
 use Rattle.std.specs.Option.{option_map}
 use Rattle.std.specs.Str.{chars, is_utf8, encode_utf8_all, str_eq_ignore_ascii_case}
@@ -98,6 +98,16 @@ asked_by (name ∷ parameters) = command_of name parameters
 abbrev pub asked : Option (List (List ℕ)) → Meaning
 asked None = illegal_parameters
 asked (Some words) = asked_by words
+
+-- there is a first word
+abbrev pub has_first : Option (List (List ℕ)) → Bool
+has_first None = false
+has_first (Some []) = false
+has_first (Some (word ∷ words)) = true
+
+-- a line passes the tests, can be cut into words, and has a word
+unfoldable pub has_word : List ℕ → Bool
+has_word line = is_readable line && has_first (words_of (chars line))
 
 -- the meaning of a line, without its CR LF; each word is told in octets
 unfoldable pub meaning : List ℕ → Meaning

@@ -1,10 +1,11 @@
 // What a command asks for with its parameters.
-ghost use Rattle.std.specs.Prelude.{◌≡◌, Some};
+ghost use Rattle.std.specs.Prelude.{◌≡◌, ◌≢◌, Some, [], Err};
 ghost use Rattle.std.specs.Option.{ForSome};
 ghost use Rattle.dict_line.specs.Reading.{words_of};
 ghost use Rattle.dict_line.specs.Meaning.{asked, define_of, match_of, show_of, info_of, without_more};
 ghost use Rattle.dict_line.specs.Places.{AreTexts, asked_with, shown_with};
 ghost use Rattle.dict_line.specs.Told.{Tells, requested};
+ghost use Rattle.dict_line.specs.declared.request.LineFault.TheVariants.{Memory};
 
 use crate::command::{Command, Shown};
 use crate::reading::{has_word, next_word};
@@ -14,7 +15,8 @@ use std::alloc::Global;
 // What a line asks for that can be cut into words.
 pub(crate) fn parse_words(alloc: Global, line: &[u8]) -> Result<Request, LineFault>
     requires texts { AreTexts (words_of line.now) }
-    ensures { Tells result (asked (words_of line.now)) }
+    ensures meaning { Tells result (asked (words_of line.now)) }
+    ensures memory { result ≡ Err Memory → words_of line.now ≢ Some [] }
 {
     let Some((name, rest)) = next_word(alloc, line)? else {
         return Err(LineFault::NotRecognized);

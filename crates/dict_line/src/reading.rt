@@ -1,5 +1,5 @@
 // How the words of a line are read.
-ghost use Rattle.std.specs.Prelude.{◌≡◌, ◌≢◌, ◌∷◌, [], Some, true, false, not, is_some, IfOk, MatchOption, List, ℕ};
+ghost use Rattle.std.specs.Prelude.{◌≡◌, ◌≢◌, ◌∷◌, [], Some, true, false, not, is_some, IfOk, OnErr, MatchOption, List, ℕ};
 ghost use Rattle.std.specs.List.{position};
 ghost use Rattle.std.specs.Option.{option_map, ForSome};
 ghost use Rattle.std.specs.String.{string_bytes};
@@ -32,8 +32,9 @@ pub(crate) fn has_word(line: &[u8]) -> bool
 // The first word of a line that can be cut into words, and what follows it. The word's room is taken once.
 pub(crate) fn next_word(alloc: Global, line: &[u8]) -> Result<Option<(String, &[u8])>, AllocError>
     requires texts { AreTexts (words_of line.now) }
-    ensures { IfOk result (λ found. MatchOption found (words_of line.now ≡ Some [])
+    ensures found { IfOk result (λ found. MatchOption found (words_of line.now ≡ Some [])
         (λ x. (words_of line.now ≡ option_map (λ words. string_bytes x.0 ∷ words) (words_of x.1.now)) × AreTexts (words_of x.1.now))) }
+    ensures memory { OnErr result (words_of line.now ≢ Some []) }
 {
     let Some(start) = first_word_octet(line) else {
         return Ok(None);

@@ -9,7 +9,7 @@ use Rattle.dict_line.proofs.parameters.parse_show.Goals as goal
 
 pub returns-in-Some-by_name : goal.returns-in-Some-by_name
 returns-in-Some-by_name c words e =
-    let read = rw c.in-Some.is at c.in_ok-name.ensures in
+    let read = rw c.in-Some.is at c.in_ok-name.ensures.found in
     let (more, rest, same) = after-word _ _ (string_bytes c.in-Some.name) words read.0 e in
     let is : shown_with (Some c.in-Some-by_name.shown) more ≡ shown_of (string_bytes c.in-Some.name) more =
     ap (λ shown. shown_with shown more) (sym c.in-Some-by_name.is) ∙ (c.by_name.ensures more ∙ ap (λ name. shown_of name more) c.as_str.ensures.value) in
@@ -17,7 +17,7 @@ returns-in-Some-by_name c words e =
 
 pub returns : goal.returns
 returns c words e =
-    let read = rw c.in-Some.is at c.in_ok-name.ensures in
+    let read = rw c.in-Some.is at c.in_ok-name.ensures.found in
     let (more, rest, same) = after-word _ _ (string_bytes c.in-Some.name) words read.0 e in
     let is : illegal_parameters ≡ shown_of (string_bytes c.in-Some.name) more =
     ap (λ shown. shown_with shown more) (sym c.in-None.is) ∙ (c.by_name.ensures more ∙ ap (λ name. shown_of name more) c.as_str.ensures.value) in
