@@ -64,6 +64,7 @@ fn definitions(rt: HostRuntime) -> Result<(), Fail> {
         ("DEFINE x été", "x", "été"),
         ("DEFINE \u{a0} \u{2028}", "\u{a0}", "\u{2028}"),
         ("DEFINE a \u{10ffff}", "a", "\u{10ffff}"),
+        ("DEFINE \u{80} \u{9f}", "\u{80}", "\u{9f}"),
         ("DEFINE * .", "*", "."),
         ("DEFINE define define", "define", "define"),
         ("DEFINE gem \"fire opal\"", "gem", "fire opal"),
@@ -182,6 +183,9 @@ fn lines_that_are_no_command(rt: HostRuntime) -> Result<(), Fail> {
         b"DEFINE gem op\x7fal".as_slice(),
         b"DEFINE gem op\xff".as_slice(),
         b"DEFINE gem op\xc3".as_slice(),
+        b"DEFINE gem \xed\xa0\x80".as_slice(),
+        b"DEFINE gem \xc0\x80".as_slice(),
+        b"DEFINE gem \xf4\x90\x80\x80".as_slice(),
     ];
     for line in &lines {
         assert_eq!(rt;
