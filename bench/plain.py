@@ -83,8 +83,7 @@ def measure(program, name, index, text, requests):
 
 def main():
     megabytes = float(sys.argv[1]) if len(sys.argv) > 1 else 20
-    subprocess.run([TOP / "dictcat", "--version"], check=True, stdout=subprocess.DEVNULL)
-    program = TOP / "crates/dictcat/out/dictcat"
+    program = subprocess.run([TOP / "tools/program"], check=True, stdout=subprocess.PIPE, text=True).stdout.strip()
     with tempfile.TemporaryDirectory() as folder:
         folder = pathlib.Path(folder)
         thousand = make_thousand(folder)

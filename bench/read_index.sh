@@ -3,10 +3,10 @@
 #
 #     bench/read_index.sh [PROGRAM]
 #
-# PROGRAM is the built program, ./dictcat where none is named. Each size is read seven times, and the quickest is told.
+# PROGRAM is the built program, that of tools/program where none is named. Each size is read seven times, and the quickest is told.
 set -euo pipefail
-program=${1:-./dictcat}
 here=$(dirname "$0")
+program=${1:-$("$here/../tools/program")}
 folder=$(mktemp -d)
 trap 'rm -rf "$folder"' EXIT
 

@@ -9,7 +9,7 @@ work=$(mktemp -d)
 trap 'rm -rf "$work"' EXIT
 
 mkdir -p "$work/crates/store_entries/src" "$work/crates/store_entries/specs"
-cp -r "$top/crates/dict_tables" "$top/crates/dict_sql" "$work/crates/"
+cp -r "$top/crates/dict_records" "$top/crates/dict_tables" "$top/crates/dict_sql" "$work/crates/"
 cp "$here/program.txt" "$work/crates/store_entries/src/main.rt"
 (cd "$work/crates/store_entries" && python3 - "$here/proofs.txt" <<'FILES'
 import os, sys
@@ -21,8 +21,8 @@ for part in open(sys.argv[1]).read().split("==== ")[1:]:
     open(path, "w").write(text)
 FILES
 )
-grep -e '^dict_tables:' -e '^dict_sql:' "$top/crates.txt" > "$work/crates.txt"
-echo 'store_entries: dict_sql dict_tables sqlite' >> "$work/crates.txt"
+grep -e '^dict_records:' -e '^dict_tables:' -e '^dict_sql:' "$top/crates.txt" > "$work/crates.txt"
+echo 'store_entries: dict_sql dict_records dict_tables sqlite' >> "$work/crates.txt"
 cp "$top/HANDLES" "$work/"
 (cd "$work/crates/store_entries" && rt run -- "$work/first.db") > "$work/built" 2>&1 || { cat "$work/built"; exit 1; }
 

@@ -11,7 +11,8 @@ use Rattle.dict_catalogue.specs.Items.{Stored, Item, regular, virtual, name_of, 
 use Rattle.dict_catalogue.specs.Commands.{Command, install, rollback, retire, put_virtual, place, target}
 use Rattle.dict_catalogue.specs.Effects.{installed, swapped, put_anew, changed, changed_in_place, others_than, moved, items_after}
 use Rattle.dict_catalogue.specs.WellFormed.{total, how_many}
-use Rattle.dict_catalogue.proofs.ListLemmas.{all_weaker, all_append, all_filter, all_take, all_drop, all_map, sum_append, sum_same, any_same, by_test}
+use Rattle.dict_text.proofs.AllLemmas.{all_weaker, all_append, all_filter, all_take, all_drop, all_map}
+use Rattle.dict_catalogue.proofs.ListLemmas.{sum_append, sum_same, any_same, by_test}
 
 -- equal texts
 

@@ -7,16 +7,17 @@ use Rattle.std.proofs.lemmas.Bool.{false≢true, and_parts, and_from, not-true, 
 use Rattle.std.proofs.lemmas.Bool.Decides.{nat_tests}
 use Rattle.std.proofs.lemmas.List.Folds.{list_any-append}
 use Rattle.dict_index.specs.Edition.{Edition}
-use Rattle.dict_index.specs.Meaning.{IsLawful}
+use Rattle.dict_index.specs.WellFormed.{IsWellFormedEdition}
 use Rattle.dict_name.specs.Names.{is_name, is_title, is_request_id}
 use Rattle.dict_catalogue.specs.Items.{Stored, Item, regular, virtual, name_of, is_regular, is_virtual, members_of, editions_of, is_named, lists, is_among, is_known, names_regular, names_virtual, is_listed, current_number, numbers_of, edition_numbers}
 use Rattle.dict_catalogue.specs.Commands.{Command, install, rollback, retire, put_virtual, place, target, verb_of}
 use Rattle.dict_catalogue.specs.Tests.{Test, Holdings, tests_of, has_room, has_turn}
 use Rattle.dict_catalogue.specs.Effects.{installed, swapped, put_anew, changed, changed_in_place, others_than, moved, items_after, installs_after, effect, reply_to, edition_told}
 use Rattle.dict_catalogue.specs.Steps.{KeptFor, Catalogue, Outcome, holdings, kept_under, with_effect, step, AllHold, IsStep, id_unlawful, id_kept, test_failed, none_failed}
-use Rattle.dict_catalogue.specs.WellFormed.{total, how_many, IsEachOnce, IsEachNumberOnce, IsLawfulItem, HasLawfulEditions, HasKnownMembers, IsLawfulCommand, tells_edition, IsLawfulReply, IsNumberedFrom, is_install, IsWellFormed}
+use Rattle.dict_catalogue.specs.WellFormed.{total, how_many, IsEachOnce, IsEachNumberOnce, IsLawfulItem, HasWellFormedEditions, HasKnownMembers, IsLawfulCommand, tells_edition, IsLawfulReply, IsNumberedFrom, is_install, IsWellFormed}
 use Rattle.dict_catalogue.specs.declared.reply.Verb.{Verb}
-use Rattle.dict_catalogue.proofs.ListLemmas.{all_weaker, all_append, all_filter, all_flat_map, all_flat_map_parts, sum_append, any_moved, any_same, any_append_left, any_append_right, any_filter, none_passes, by_test}
+use Rattle.dict_text.proofs.AllLemmas.{all_weaker, all_append, all_filter, all_flat_map, all_flat_map_parts}
+use Rattle.dict_catalogue.proofs.ListLemmas.{sum_append, any_moved, any_same, any_append_left, any_append_right, any_filter, none_passes, by_test}
 use Rattle.dict_catalogue.proofs.ItemLemmas.{same_text, text_itself, known_turned, regular_named_turned, virtual_named_turned, current_there, all_after}
 use Rattle.dict_catalogue.proofs.CountLemmas.{once_added, tested_once, tested_regular, tested_later, names_after, limit_after, numbers_after}
 use Rattle.dict_catalogue.proofs.StepLemmas.{step_is}
@@ -59,7 +60,7 @@ items_lawful number (place name at) before tests h =
 
 -- lawful editions, and numbers in their range: what holds of each edition
 
-abbrev EachEdition : {A : Type 0} → (Stored A → Type 0) → Item A → Type 0
+abbrev pub EachEdition : {A : Type 0} → (Stored A → Type 0) → Item A → Type 0
 EachEdition P item = AllByRecursion P (editions_of item)
 
 each_installed : {A : Type 0} (P Q : Stored A → Type 0) → ((one : Stored A) → P one → Q one) → (edition : Stored A) → Q edition → (item : Item A) → EachEdition P item → EachEdition Q (installed edition item)
@@ -77,14 +78,14 @@ each_put P name title members (regular n current former) h = h
 each_put P name title members (virtual n t ms) h = tt
 
 -- of each edition there, and of an installed one
-IfInstalled : {A : Type 0} → (Stored A → Type 0) → ℕ → Command A → Type 0
+unfoldable pub IfInstalled : {A : Type 0} → (Stored A → Type 0) → ℕ → Command A → Type 0
 IfInstalled P number (install name content) = P (record { number = number; content = content })
 IfInstalled P number (rollback name) = Unit {0}
 IfInstalled P number (retire name) = Unit {0}
 IfInstalled P number (put_virtual name title members) = Unit {0}
 IfInstalled P number (place name at) = Unit {0}
 
-each_after : {A : Type 0} (P Q : Stored A → Type 0) (number : ℕ) (command : Command A) (items : List (Item A)) → ((one : Stored A) → P one → Q one) → IfInstalled Q number command →
+pub each_after : {A : Type 0} (P Q : Stored A → Type 0) (number : ℕ) (command : Command A) (items : List (Item A)) → ((one : Stored A) → P one → Q one) → IfInstalled Q number command →
     AllByRecursion (EachEdition P) items → AllByRecursion (EachEdition Q) (items_after number command items)
 unfolding IfInstalled
 each_after P Q number (install name content) items w new h =
@@ -98,13 +99,13 @@ each_after P Q number (put_virtual name title members) items w new h =
 each_after P Q number (place name at) items w new h =
     all_after (EachEdition P) (EachEdition Q) number (place name at) items (λ item p. all_weaker P Q w (editions_of item) p) (λ item p. all_weaker P Q w (editions_of item) p) tt h
 
-editions_lawful : (number : ℕ) (command : Command Edition) (items : List (Item Edition)) → IsLawfulCommand command → AllByRecursion HasLawfulEditions items → AllByRecursion HasLawfulEditions (items_after number command items)
+editions_lawful : (number : ℕ) (command : Command Edition) (items : List (Item Edition)) → IsLawfulCommand command → AllByRecursion HasWellFormedEditions items → AllByRecursion HasWellFormedEditions (items_after number command items)
 unfolding IfInstalled
-editions_lawful number (install name content) items l h = each_after (λ one. IsLawful one.content) (λ one. IsLawful one.content) number (install name content) items (λ one p. p) l h
-editions_lawful number (rollback name) items l h = each_after (λ one. IsLawful one.content) (λ one. IsLawful one.content) number (rollback name) items (λ one p. p) tt h
-editions_lawful number (retire name) items l h = each_after (λ one. IsLawful one.content) (λ one. IsLawful one.content) number (retire name) items (λ one p. p) tt h
-editions_lawful number (put_virtual name title members) items l h = each_after (λ one. IsLawful one.content) (λ one. IsLawful one.content) number (put_virtual name title members) items (λ one p. p) tt h
-editions_lawful number (place name at) items l h = each_after (λ one. IsLawful one.content) (λ one. IsLawful one.content) number (place name at) items (λ one p. p) tt h
+editions_lawful number (install name content) items l h = each_after (λ one. IsWellFormedEdition one.content) (λ one. IsWellFormedEdition one.content) number (install name content) items (λ one p. p) l h
+editions_lawful number (rollback name) items l h = each_after (λ one. IsWellFormedEdition one.content) (λ one. IsWellFormedEdition one.content) number (rollback name) items (λ one p. p) tt h
+editions_lawful number (retire name) items l h = each_after (λ one. IsWellFormedEdition one.content) (λ one. IsWellFormedEdition one.content) number (retire name) items (λ one p. p) tt h
+editions_lawful number (put_virtual name title members) items l h = each_after (λ one. IsWellFormedEdition one.content) (λ one. IsWellFormedEdition one.content) number (put_virtual name title members) items (λ one p. p) tt h
+editions_lawful number (place name at) items l h = each_after (λ one. IsWellFormedEdition one.content) (λ one. IsWellFormedEdition one.content) number (place name at) items (λ one p. p) tt h
 
 abbrev InRange : {A : Type 0} → ℕ → Stored A → Type 0
 InRange most one = (1 ≤ one.number) × (one.number ≤ most)

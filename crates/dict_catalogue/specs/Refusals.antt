@@ -3,32 +3,27 @@ use Rattle.std.specs.Prelude.{ℕ, List, codes}
 use Rattle.dict_catalogue.specs.declared.fault.Refusal.{Refusal}
 use Rattle.dict_catalogue.specs.declared.fault.Refusal.TheVariants.{BadName, Unknown, IsVirtual, NoFormer, Listed, CatalogueFull, BadMember, MemberTwice, MemberCount, BadTitle, BadPlace, BadRequestId, IsRegular}
 
+pub record RefusalText : Type 0 where
+  pub number : ℕ
+  pub name : List ℕ
+
+abbrev pub text_of : Refusal → RefusalText
+text_of BadName = record { number = 20; name = codes "BadName" }
+text_of Unknown = record { number = 21; name = codes "Unknown" }
+text_of IsVirtual = record { number = 22; name = codes "IsVirtual" }
+text_of NoFormer = record { number = 23; name = codes "NoFormer" }
+text_of Listed = record { number = 24; name = codes "Listed" }
+text_of CatalogueFull = record { number = 25; name = codes "CatalogueFull" }
+text_of BadMember = record { number = 26; name = codes "BadMember" }
+text_of MemberTwice = record { number = 27; name = codes "MemberTwice" }
+text_of MemberCount = record { number = 28; name = codes "MemberCount" }
+text_of BadTitle = record { number = 29; name = codes "BadTitle" }
+text_of BadPlace = record { number = 30; name = codes "BadPlace" }
+text_of BadRequestId = record { number = 31; name = codes "BadRequestId" }
+text_of IsRegular = record { number = 32; name = codes "IsRegular" }
+
 abbrev pub refusal_number : Refusal → ℕ
-refusal_number BadName = 20
-refusal_number Unknown = 21
-refusal_number IsVirtual = 22
-refusal_number NoFormer = 23
-refusal_number Listed = 24
-refusal_number CatalogueFull = 25
-refusal_number BadMember = 26
-refusal_number MemberTwice = 27
-refusal_number MemberCount = 28
-refusal_number BadTitle = 29
-refusal_number BadPlace = 30
-refusal_number BadRequestId = 31
-refusal_number IsRegular = 32
+refusal_number refusal = (text_of refusal).number
 
 abbrev pub refusal_name : Refusal → List ℕ
-refusal_name BadName = codes "BadName"
-refusal_name Unknown = codes "Unknown"
-refusal_name IsVirtual = codes "IsVirtual"
-refusal_name NoFormer = codes "NoFormer"
-refusal_name Listed = codes "Listed"
-refusal_name CatalogueFull = codes "CatalogueFull"
-refusal_name BadMember = codes "BadMember"
-refusal_name MemberTwice = codes "MemberTwice"
-refusal_name MemberCount = codes "MemberCount"
-refusal_name BadTitle = codes "BadTitle"
-refusal_name BadPlace = codes "BadPlace"
-refusal_name BadRequestId = codes "BadRequestId"
-refusal_name IsRegular = codes "IsRegular"
+refusal_name refusal = (text_of refusal).name

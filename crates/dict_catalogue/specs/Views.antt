@@ -7,10 +7,10 @@ use Rattle.dict_catalogue.specs.Commands.{Command as ACommand, install, rollback
 use Rattle.dict_catalogue.specs.Tests.{Holdings, refusal_of}
 use Rattle.dict_catalogue.specs.Effects.{KeptReply, effect, reply_to, editions_gone}
 use Rattle.dict_catalogue.specs.Steps.{Catalogue, Outcome, accepted, refused, summary_of}
-use Rattle.dict_catalogue.specs.declared.listing.StoredTitle.{StoredTitle}
-use Rattle.dict_catalogue.specs.declared.listing.Item.{Item}
-use Rattle.dict_catalogue.specs.declared.listing.Item.TheVariants.{Regular, Virtual}
-use Rattle.dict_catalogue.specs.declared.listing.Summary.{Summary}
+use Rattle.dict_catalogue.specs.declared.summary.StoredTitle.{StoredTitle}
+use Rattle.dict_catalogue.specs.declared.summary.Item.{Item}
+use Rattle.dict_catalogue.specs.declared.summary.Item.TheVariants.{Regular, Virtual}
+use Rattle.dict_catalogue.specs.declared.summary.Summary.{Summary}
 use Rattle.dict_catalogue.specs.declared.commands.Command.{Command}
 use Rattle.dict_catalogue.specs.declared.commands.Command.TheVariants.{Install, Rollback, Retire, PutVirtual, Place}
 use Rattle.dict_catalogue.specs.declared.reply.Kept.{Kept}

@@ -2,7 +2,7 @@
 use Rattle.std.specs.Prelude.{◌≡◌, ℕ, ◌+◌, ◌<◌, ◌≤◌, Bool, true, false, IsTrue, ◌==◌, List, [], ◌∷◌, length, map, if◌then◌else◌, is_some, bytes_eq}
 use Rattle.std.specs.List.{AllByRecursion}
 use Rattle.dict_index.specs.Edition.{Edition}
-use Rattle.dict_index.specs.Meaning.{IsLawful}
+use Rattle.dict_index.specs.WellFormed.{IsWellFormedEdition}
 use Rattle.dict_name.specs.Names.{is_name, is_title, is_request_id}
 use Rattle.dict_catalogue.specs.Items.{Stored, Item, regular, virtual, name_of, is_named, members_of, editions_of, names_regular, edition_numbers}
 use Rattle.dict_catalogue.specs.Commands.{Command, install, rollback, retire, put_virtual, place}
@@ -31,9 +31,9 @@ abbrev pub IsLawfulItem : Item Edition → Type 0
 IsLawfulItem (regular name current former) = IsTrue (is_name name)
 IsLawfulItem (virtual name title members) = IsTrue (is_name name) × IsTrue (is_title title) × (1 ≤ length members) × (length members ≤ 64) × IsEachOnce members
 
--- each edition is one that some index and some text say
-abbrev pub HasLawfulEditions : Item Edition → Type 0
-HasLawfulEditions item = AllByRecursion (λ stored. IsLawful stored.content) (editions_of item)
+-- each edition keeps the limits of editions
+abbrev pub HasWellFormedEditions : Item Edition → Type 0
+HasWellFormedEditions item = AllByRecursion (λ stored. IsWellFormedEdition stored.content) (editions_of item)
 
 -- each member is the name of a regular item
 abbrev pub HasKnownMembers : List (Item Edition) → Item Edition → Type 0
@@ -66,7 +66,7 @@ is_install Place = false
 pub record IsWellFormed (catalogue : Catalogue) : Type 0 where
   pub item_limit : length catalogue.items ≤ 64
   pub items : AllByRecursion IsLawfulItem catalogue.items
-  pub editions : AllByRecursion HasLawfulEditions catalogue.items
+  pub editions : AllByRecursion HasWellFormedEditions catalogue.items
   pub names : IsEachOnce (map name_of catalogue.items)
   pub members : AllByRecursion (HasKnownMembers catalogue.items) catalogue.items
   pub accepted_limit : length catalogue.kept ≤ 9223372036854775807
@@ -77,9 +77,9 @@ pub record IsWellFormed (catalogue : Catalogue) : Type 0 where
   pub edition_range : AllByRecursion (λ number. (1 ≤ number) × (number ≤ catalogue.installs)) (edition_numbers catalogue.items)
   pub edition_once : IsEachNumberOnce (edition_numbers catalogue.items)
 
--- an installed edition is one that some index and some text say
+-- an installed edition keeps the limits of editions
 abbrev pub IsLawfulCommand : Command Edition → Type 0
-IsLawfulCommand (install name edition) = IsLawful edition
+IsLawfulCommand (install name edition) = IsWellFormedEdition edition
 IsLawfulCommand (rollback name) = Unit {0}
 IsLawfulCommand (retire name) = Unit {0}
 IsLawfulCommand (put_virtual name title members) = Unit {0}

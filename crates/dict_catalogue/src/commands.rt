@@ -63,14 +63,14 @@ impl<'a> Command<'a> {
             Command::Place { .. } => Verb::Place,
         }
     }
-    /// An installed edition is one that some index and some text say, so a well formed catalogue stays so.
+    /// An installed edition is well formed, so a well formed catalogue stays so.
     ///
     /// It does nothing. Its clause is what holds of every command.
     pub fn is_lawful(&self)
         ensures { IsLawfulCommand (command_meant self.now) }
     {
         if let Command::Install { edition, .. } = self {
-            edition.is_said();
+            edition.is_well_formed();
         }
     }
 }

@@ -2,7 +2,7 @@
 ghost use Rattle.std.specs.Prelude.{◌≡◌, IfOk, string_bytes, map, option_map};
 ghost use Rattle.dict_catalogue.specs.Views.{item_shown, stored_shown, texts_shown, names_shown};
 
-use crate::listing::{Item, StoredTitle};
+use crate::summary::{Item, StoredTitle};
 use std::alloc::{AllocError, Global};
 
 /// Texts of the summary's own.

@@ -7,8 +7,8 @@ ghost use Rattle.dict_catalogue.specs.Views.{item_shown, names_shown, command_sh
 
 use crate::commands::Command;
 use crate::copies::{copied_item, copied_items, copied_stored, owned_texts};
-use crate::listing::{Item, StoredTitle};
 use crate::lookups::{is_known, is_named};
+use crate::summary::{Item, StoredTitle};
 use std::alloc::{AllocError, Global};
 
 /// The items after the command. The number is that of an installed edition.

@@ -1,6 +1,6 @@
 // Why a command is refused.
 ghost use Rattle.std.specs.Prelude.{◌≡◌};
-ghost use Rattle.dict_catalogue.specs.Refusals.{refusal_number, refusal_name};
+ghost use Rattle.dict_catalogue.specs.Refusals.{refusal_number, refusal_name, text_of};
 
 use std::alloc::{AllocError, AllocFailed};
 use thiserror::Error;
@@ -37,46 +37,40 @@ pub enum Refusal {
 }
 
 impl Refusal {
+    // What users see of the refusal: its number, 20 to 32, and its name.
+    fn text(self) -> (u8, &'static str)
+        ensures number { result.0 ≡ (text_of self).number }
+        ensures name { result.1.now ≡ (text_of self).name }
+    {
+        match self {
+            Refusal::BadName => (20, "BadName"),
+            Refusal::Unknown => (21, "Unknown"),
+            Refusal::IsVirtual => (22, "IsVirtual"),
+            Refusal::NoFormer => (23, "NoFormer"),
+            Refusal::Listed => (24, "Listed"),
+            Refusal::CatalogueFull => (25, "CatalogueFull"),
+            Refusal::BadMember => (26, "BadMember"),
+            Refusal::MemberTwice => (27, "MemberTwice"),
+            Refusal::MemberCount => (28, "MemberCount"),
+            Refusal::BadTitle => (29, "BadTitle"),
+            Refusal::BadPlace => (30, "BadPlace"),
+            Refusal::BadRequestId => (31, "BadRequestId"),
+            Refusal::IsRegular => (32, "IsRegular"),
+        }
+    }
+
     /// The refusal's number, as users see it: 20 to 32.
     pub fn number(self) -> u8
         ensures { result ≡ refusal_number self }
     {
-        match self {
-            Refusal::BadName => 20,
-            Refusal::Unknown => 21,
-            Refusal::IsVirtual => 22,
-            Refusal::NoFormer => 23,
-            Refusal::Listed => 24,
-            Refusal::CatalogueFull => 25,
-            Refusal::BadMember => 26,
-            Refusal::MemberTwice => 27,
-            Refusal::MemberCount => 28,
-            Refusal::BadTitle => 29,
-            Refusal::BadPlace => 30,
-            Refusal::BadRequestId => 31,
-            Refusal::IsRegular => 32,
-        }
+        self.text().0
     }
 
     /// The refusal's name, as users see it.
     pub fn name(self) -> &'static str
         ensures { result.now ≡ refusal_name self }
     {
-        match self {
-            Refusal::BadName => "BadName",
-            Refusal::Unknown => "Unknown",
-            Refusal::IsVirtual => "IsVirtual",
-            Refusal::NoFormer => "NoFormer",
-            Refusal::Listed => "Listed",
-            Refusal::CatalogueFull => "CatalogueFull",
-            Refusal::BadMember => "BadMember",
-            Refusal::MemberTwice => "MemberTwice",
-            Refusal::MemberCount => "MemberCount",
-            Refusal::BadTitle => "BadTitle",
-            Refusal::BadPlace => "BadPlace",
-            Refusal::BadRequestId => "BadRequestId",
-            Refusal::IsRegular => "IsRegular",
-        }
+        self.text().1
     }
 }
 

@@ -31,7 +31,7 @@ pub fn after_laws()
 {}
 
 /// The empty catalogue is well formed, and a well formed catalogue stays so under every command whose edition, where
-/// it has one, is that of some index and some text.
+/// it has one, is well formed.
 pub fn well_formed_laws()
     ensures empty { IsWellFormed empty_catalogue }
     ensures step { (M : Catalogue) (id : List ℕ) (command : Command Edition) → IsLawfulCommand command → IsWellFormed M → IsWellFormed (step M id command).catalogue }

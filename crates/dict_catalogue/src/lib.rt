@@ -10,18 +10,19 @@ mod copies;
 mod effects;
 mod fault;
 mod laws;
-mod listing;
 mod lookups;
 mod planning;
 mod refusing;
 mod reply;
+mod summary;
 
 pub use commands::Command;
 pub use fault::{PlanFault, Refusal};
 pub use laws::{after_laws, step_law, summary_laws, well_formed_laws};
-pub use listing::{Item, StoredTitle, Summary};
-pub use planning::{Change, plan};
+pub use lookups::{is_among, is_known, names_regular};
+pub use planning::{Change, edition_numbers, plan};
 pub use reply::{Kept, Verb};
+pub use summary::{Item, StoredTitle, Summary};
 
 #[cfg(test)]
 mod tests;

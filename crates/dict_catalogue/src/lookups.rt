@@ -3,7 +3,7 @@ ghost use Rattle.std.specs.Prelude.{◌≡◌, map, length};
 ghost use Rattle.dict_catalogue.specs.Items.{is_regular, is_virtual, has_former, members_of, is_named, is_among, lists, is_known, names_regular, names_virtual, names_former, is_listed, current_of, current_number};
 ghost use Rattle.dict_catalogue.specs.Views.{item_shown, texts_shown};
 
-use crate::listing::Item;
+use crate::summary::Item;
 
 /// Whether the item has this name.
 pub fn is_named(item: &Item, name: &str) -> bool
@@ -44,7 +44,7 @@ fn lists(item: &Item, name: &str) -> bool
 }
 
 /// Whether the name is one of the names.
-fn is_among(names: &[String], name: &str) -> bool
+pub fn is_among(names: &[String], name: &str) -> bool
     ensures { result ≡ is_among (texts_shown names.now) name.now }
 {
     for one in names {

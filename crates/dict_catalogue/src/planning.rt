@@ -10,10 +10,10 @@ ghost use Rattle.dict_catalogue.specs.Views.{item_shown, summary_shown, command_
 use crate::commands::Command;
 use crate::effects::items_after;
 use crate::fault::PlanFault;
-use crate::listing::{Item, Summary};
 use crate::lookups::current_number;
 use crate::refusing::refusal_of;
 use crate::reply::Kept;
+use crate::summary::{Item, Summary};
 use std::alloc::{AllocError, Global};
 
 /// What an accepted command does.
@@ -123,7 +123,7 @@ fn numbers_not_in(alloc: Global, before: &[u64], after: &[u64]) -> Result<Vec<u6
 }
 
 /// The numbers of all editions, in the order of the items.
-fn edition_numbers(alloc: Global, items: &[Item]) -> Result<Vec<u64>, AllocError>
+pub fn edition_numbers(alloc: Global, items: &[Item]) -> Result<Vec<u64>, AllocError>
     ensures { IfOk result (λ numbers. numbers.items ≡ edition_numbers (map item_shown items.now)) }
 {
     let mut numbers = Vec::new(alloc);

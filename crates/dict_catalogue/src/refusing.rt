@@ -6,8 +6,8 @@ ghost use Rattle.dict_catalogue.specs.Views.{item_shown, summary_shown, names_sh
 
 use crate::commands::Command;
 use crate::fault::Refusal;
-use crate::listing::{Item, Summary};
 use crate::lookups::{is_known, is_listed, names_former, names_regular, names_virtual};
+use crate::summary::{Item, Summary};
 use dict_name::{is_name, is_title};
 
 /// The most items of a catalogue.

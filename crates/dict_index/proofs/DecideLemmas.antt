@@ -8,13 +8,13 @@ use Rattle.std.specs.List.{AllByRecursion, AllZip}
 use Rattle.std.specs.Str.{IsUtf8, is_utf8, bytes_eq}
 use Rattle.dict_b64.specs.Number.{Spells, IsDigit, alphabet, number_of}
 use Rattle.dict_b64.specs.Faults.{IsSomeDigit}
-use Rattle.dict_text.specs.Characters.{is_control}
+use Rattle.dict_text.specs.Characters.{is_control, has_control}
 use Rattle.dict_text.specs.Lines.{text_lines}
 use Rattle.dict_match.specs.Key.{key_of}
 use Rattle.dict_index.specs.Cuts.{AreColumns}
 use Rattle.dict_index.specs.Line.{Line, IsLine, body_in}
 use Rattle.dict_index.specs.Reserved.{is_reserved, is_known}
-use Rattle.dict_index.specs.Tests.{PassesLine, IfSays, HasNoControl, IsHeadword, IsTextOctet, IsText, HasShortLines, NoneHasKey, IsTitle, EndsByLineFeed}
+use Rattle.dict_index.specs.Tests.{PassesLine, IfSays, IsHeadword, IsTextOctet, IsText, HasShortLines, NoneHasKey, IsTitle, EndsByLineFeed}
 use Rattle.dict_index.specs.declared.fault.Refusal.{Refusal}
 use Rattle.dict_index.specs.declared.fault.Refusal.TheVariants.{Columns, Number, Interval, Headword, BodyText, BodyLine, Reserved, ReservedTwice}
 use Rattle.dict_index.proofs.CutLemmas.{count_none, count_cut, count_columns}
@@ -55,6 +55,10 @@ all P d (x ∷ xs) = both (P x) (AllByRecursion P xs) (d x) (all P d xs)
 is_true : (b : Bool) → Decided (IsTrue b)
 is_true true = inl refl
 is_true false = inr (λ e. let bad : false ≡ true = e in cc)
+
+is_false : (b : Bool) → Decided (b ≡ false)
+is_false true = inr (λ e. let bad : true ≡ false = e in cc)
+is_false false = inl refl
 
 pub at_most : (a b : ℕ) → Decided (a ≤ b)
 at_most a b = elim (cases_lt b a) [ inl more ↦ inr (λ le. omega arith) | inr few ↦ inl few ]
@@ -172,20 +176,20 @@ if_it_says line P d = elim (says line) [
   | inr silent ↦ inl (λ said l. absurd (silent (said, l)))
 ]
 
-no_control : (octets : List ℕ) → Decided (HasNoControl octets)
-no_control octets = all (λ octet. ¬ IsTrue (is_control octet)) (λ octet. opposite (IsTrue (is_control octet)) (is_true (is_control octet))) octets
+no_control : (octets : List ℕ) → Decided (has_control octets ≡ false)
+no_control octets = is_false (has_control octets)
 
 is_headword : (h : List ℕ) → Decided (IsHeadword h)
-is_headword h = same_as ((1 ≤ length h) × ((length h ≤ 255) × (HasNoControl h × (key_of h ≢ [])))) (IsHeadword h)
+is_headword h = same_as ((1 ≤ length h) × ((length h ≤ 255) × ((has_control h ≡ false) × (key_of h ≢ [])))) (IsHeadword h)
     (λ p. (p.0, p.1.0, p.1.1.0, p.1.1.1)) (λ p. (p.0, (p.1, (p.2, p.3))))
-    (both (1 ≤ length h) ((length h ≤ 255) × (HasNoControl h × (key_of h ≢ []))) (at_most 1 (length h))
-    (both (length h ≤ 255) (HasNoControl h × (key_of h ≢ [])) (at_most (length h) 255)
-    (both (HasNoControl h) (key_of h ≢ []) (no_control h) (opposite (key_of h ≡ []) (same_list (key_of h) [])))))
+    (both (1 ≤ length h) ((length h ≤ 255) × ((has_control h ≡ false) × (key_of h ≢ []))) (at_most 1 (length h))
+    (both (length h ≤ 255) ((has_control h ≡ false) × (key_of h ≢ [])) (at_most (length h) 255)
+    (both ((has_control h ≡ false)) (key_of h ≢ []) (no_control h) (opposite (key_of h ≡ []) (same_list (key_of h) [])))))
 
 pub is_title : (t : List ℕ) → Decided (IsTitle t)
-is_title t = same_as ((1 ≤ length t) × ((length t ≤ 200) × HasNoControl t)) (IsTitle t)
+is_title t = same_as ((1 ≤ length t) × ((length t ≤ 200) × (has_control t ≡ false))) (IsTitle t)
     (λ p. (p.0, p.1.0, p.1.1)) (λ p. (p.0, (p.1, p.2)))
-    (both (1 ≤ length t) ((length t ≤ 200) × HasNoControl t) (at_most 1 (length t)) (both (length t ≤ 200) (HasNoControl t) (at_most (length t) 200) (no_control t)))
+    (both (1 ≤ length t) ((length t ≤ 200) × (has_control t ≡ false)) (at_most 1 (length t)) (both (length t ≤ 200) ((has_control t ≡ false)) (at_most (length t) 200) (no_control t)))
 
 is_text_octet : (x : ℕ) → Decided (IsTextOctet x)
 is_text_octet x = same_as ((x ≡ 10) ⊎ ((x ≡ 9) ⊎ ¬ IsTrue (is_control x))) (IsTextOctet x) (λ h. h) (λ h. h)

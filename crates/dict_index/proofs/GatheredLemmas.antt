@@ -11,23 +11,24 @@ use Rattle.dict_match.specs.Key.{key_of}
 use Rattle.dict_index.specs.Line.{IsLine}
 use Rattle.dict_index.specs.Reserved.{is_reserved, is_known, text_under}
 use Rattle.dict_index.specs.Tests.{NoneHasKey, PassesLine}
-use Rattle.dict_index.specs.Views.{line_of, HasBodyIn}
-use Rattle.dict_index.specs.Gathered.{Gathers}
+use Rattle.dict_index.specs.Views.{line_of, HasBodyIn, HasItsKey}
+use Rattle.dict_index.specs.Gathered.{HasGathered}
 use Rattle.dict_index.specs.declared.entry.Entry.{Entry}
 use Rattle.dict_index.specs.declared.gather.Gathered.{Gathered}
 use Rattle.dict_index.specs.declared.fault.Refusal.TheVariants.{Reserved, ReservedTwice}
-use Rattle.dict_index.proofs.AllLemmas.{all_push}
+use Rattle.dict_text.proofs.AllLemmas.{all_push}
 use Rattle.dict_index.proofs.LineLemmas.{if_says}
 use Rattle.dict_index.proofs.GatherLemmas.{said_push, map_push, entry_lines_push, under_push, under_first, none_has_key, some_has_key, known_is_reserved}
 
 module _ (text : List ℕ) (lines : List (List ℕ)) (line : List ℕ) (g h : Gathered) (e : Entry) (l : IsLine line (line_of e)) where
   -- a line that isn't reserved adds its entry
-  pub gathers_entry : is_reserved (key_of e.headword.now) ≡ false → h.entries.items ≡ g.entries.items ++ e ∷ [] → h.reserved ≡ g.reserved → HasBodyIn text e → Gathers text lines g → Gathers text (lines ++ line ∷ []) h
-  gathers_entry plain entries same body s = record {
+  pub gathers_entry : is_reserved (key_of e.headword.now) ≡ false → h.entries.items ≡ g.entries.items ++ e ∷ [] → h.reserved ≡ g.reserved → HasBodyIn text e → HasItsKey e → HasGathered text lines g → HasGathered text (lines ++ line ∷ []) h
+  gathers_entry plain entries same body key s = record {
     said = s.said ++ line_of e ∷ [];
     are = said_push lines s.said line (line_of e) s.are l;
     entries = ap (map line_of) entries ∙ (map_push line_of g.entries.items e ∙ (ap (λ ls. ls ++ line_of e ∷ []) s.entries ∙ sym (entry_lines_push s.said (line_of e) false plain)));
     bodies = subst (AllByRecursion (HasBodyIn text)) (sym entries) (all_push (HasBodyIn text) g.entries.items e s.bodies body);
+    keys = subst (AllByRecursion HasItsKey) (sym entries) (all_push HasItsKey g.entries.items e s.keys key);
     reserved = λ key known. ap (λ r. option_map (λ found. found.now) (get_by_text r key)) same ∙ (s.reserved key known ∙ sym (under_push key text s.said (line_of e) (other key known (bytes_eq (key_of e.headword.now) key) refl)));
   }
     where
@@ -53,32 +54,33 @@ module _ (text : List ℕ) (lines : List (List ℕ)) (line : List ℕ) (g h : Ga
   known_passes known = if_says line (line_of e) (λ said. IsTrue (is_reserved (key_of said.headword)) → IsTrue (is_known (key_of said.headword))) l (λ _. known)
 
   -- a known line whose key an earlier one has
-  pub twice_fails : is_known (key_of e.headword.now) ≡ true → is_some (get_by_text g.reserved (key_of e.headword.now)) ≡ true → Gathers text lines g → ¬ PassesLine ReservedTwice text lines line
+  pub twice_fails : is_known (key_of e.headword.now) ≡ true → is_some (get_by_text g.reserved (key_of e.headword.now)) ≡ true → HasGathered text lines g → ¬ PassesLine ReservedTwice text lines line
   twice_fails known found s passes = there (get_by_text g.reserved (key_of e.headword.now)) found (s.reserved (key_of e.headword.now) known ∙ some_has_key (key_of e.headword.now) text lines s.said s.are (passes (line_of e) l known))
     where
       there : {X : Type 0} (o : Option (Bor X)) → is_some o ≡ true → option_map (λ found. found.now) o ≡ None → ⊥
       there (Some x) is_there none = cc
       there None is_there none = let bad : false ≡ true = is_there in cc
 
-  under_none : is_known (key_of e.headword.now) ≡ true → is_some (get_by_text g.reserved (key_of e.headword.now)) ≡ false → (s : Gathers text lines g) → text_under (key_of e.headword.now) text s.said ≡ None
+  under_none : is_known (key_of e.headword.now) ≡ true → is_some (get_by_text g.reserved (key_of e.headword.now)) ≡ false → (s : HasGathered text lines g) → text_under (key_of e.headword.now) text s.said ≡ None
   under_none known missing s = sym (s.reserved (key_of e.headword.now) known) ∙ none_of (get_by_text g.reserved (key_of e.headword.now)) missing
     where
       none_of : {X : Type 0} (o : Option (Bor X)) → is_some o ≡ false → option_map (λ found. found.now) o ≡ None
       none_of (Some x) gone = absurd (let bad : true ≡ false = gone in cc)
       none_of None gone = refl
 
-  pub once_passes : is_known (key_of e.headword.now) ≡ true → is_some (get_by_text g.reserved (key_of e.headword.now)) ≡ false → Gathers text lines g → PassesLine ReservedTwice text lines line
+  pub once_passes : is_known (key_of e.headword.now) ≡ true → is_some (get_by_text g.reserved (key_of e.headword.now)) ≡ false → HasGathered text lines g → PassesLine ReservedTwice text lines line
   once_passes known missing s = if_says line (line_of e) (λ said. IsTrue (is_known (key_of said.headword)) → NoneHasKey lines (key_of said.headword)) l (λ k. none_has_key (key_of e.headword.now) text lines s.said s.are (under_none known missing s))
 
   -- a known line adds its text
   pub gathers_reserved : is_known (key_of e.headword.now) ≡ true → is_some (get_by_text g.reserved (key_of e.headword.now)) ≡ false → h.entries ≡ g.entries →
       ((key : List ℕ) → get_by_text h.reserved key ≡ update bytes_eq (get_by_text g.reserved) (key_of e.headword.now) (Some e.body) key) →
-      HasBodyIn text e → Gathers text lines g → Gathers text (lines ++ line ∷ []) h
+      HasBodyIn text e → HasGathered text lines g → HasGathered text (lines ++ line ∷ []) h
   gathers_reserved known missing same updates body s = record {
     said = s.said ++ line_of e ∷ [];
     are = said_push lines s.said line (line_of e) s.are l;
     entries = ap (λ v. map line_of v.items) same ∙ (s.entries ∙ sym (entry_lines_push s.said (line_of e) true (known_is_reserved (key_of e.headword.now) known)));
     bodies = subst (λ v. AllByRecursion (HasBodyIn text) v.items) (sym same) s.bodies;
+    keys = subst (λ v. AllByRecursion HasItsKey v.items) (sym same) s.keys;
     reserved = λ key k. ap (option_map (λ found. found.now)) (updates key) ∙ by_key key k (bytes_eq (key_of e.headword.now) key) refl;
   }
     where

@@ -1,22 +1,23 @@
 -- An index and a text mean one thing at most.
-use Rattle.std.proofs.Common.{◌≡◌, ℕ, ◌+◌, ◌⊎◌, inl, inr, List, sym, ap, ◌∙◌, subst, arith}
+use Rattle.std.proofs.Common.{◌≡◌, ℕ, ◌+◌, ◌⊎◌, inl, inr, List, length, sym, ap, ◌∙◌, subst, arith}
 use Rattle.std.proofs.lemmas.Bool.{cases_lt, cases_order}
 use Rattle.std.specs.Prelude.{Option, Some}
 use Rattle.dict_text.specs.Lines.{text_lines}
 use Rattle.dict_index.specs.Line.{Line}
-use Rattle.dict_index.specs.Edition.{Reading}
+use Rattle.dict_index.specs.Edition.{ReadEdition}
 use Rattle.dict_index.specs.Reserved.{title_in, info_in}
-use Rattle.dict_index.specs.Tests.{IsOfLine, Precedes, rank}
-use Rattle.dict_index.specs.Meaning.{IsReading, IsFault, Tells, entry_lines}
+use Rattle.dict_index.specs.Refusals.{whole_tests, line_tests}
+use Rattle.dict_index.specs.Order.{rank, IsOfLine, Precedes}
+use Rattle.dict_index.specs.Meaning.{IsReadEdition, IsFault, Tells, entry_lines}
 use Rattle.dict_index.specs.declared.fault.Refusal.{Refusal}
 use Rattle.dict_index.proofs.OrderLemmas.{one_rank}
 use Rattle.dict_index.proofs.MeaningLemmas.{all_said_one}
 
 -- a test is one of a line, or it isn't
 of_line_or_not : (f : Refusal) → IsOfLine f ⊎ ¬ IsOfLine f
-of_line_or_not f = elim (cases_lt (rank f) 4) [
+of_line_or_not f = elim (cases_lt (rank f) (length whole_tests)) [
   | inl low ↦ inr (λ o. let least = o.0 in omega arith)
-  | inr high ↦ (elim (cases_lt (rank f) 12) [ inl within ↦ inl (high, omega arith) | inr above ↦ inr (λ o. let most = o.1 in omega arith) ])
+  | inr high ↦ (elim (cases_lt (rank f) (length whole_tests + length line_tests)) [ inl within ↦ inl (high, omega arith) | inr above ↦ inr (λ o. let most = o.1 in omega arith) ])
 ]
 
 -- of two tests one is made before the other, or they are one
@@ -63,20 +64,20 @@ one_fault index text f g k l h i = elim (in_order_or_one f h.at g i.at) [
   ])
 ]
 
-pub not_both : (index text : List ℕ) (reading : Reading) (refusal : Refusal) (line : Option ℕ) → IsReading index text reading → IsFault index text refusal line → ⊥
+pub not_both : (index text : List ℕ) (reading : ReadEdition) (refusal : Refusal) (line : Option ℕ) → IsReadEdition index text reading → IsFault index text refusal line → ⊥
 not_both index text reading refusal line h i = i.fails (h.passes refusal i.at i.made)
 
-same_reading : (a b : Reading) → a.title ≡ b.title → a.info ≡ b.info → a.text ≡ b.text → a.lines ≡ b.lines → a ≡ b
+same_reading : (a b : ReadEdition) → a.title ≡ b.title → a.info ≡ b.info → a.text ≡ b.text → a.lines ≡ b.lines → a ≡ b
 same_reading a b title info text lines =
-    ap (λ (x : List ℕ). let made : Reading = record { title = x; info = a.info; text = a.text; lines = a.lines } in made) title
-    ∙ (ap (λ (x : List ℕ). let made : Reading = record { title = b.title; info = x; text = a.text; lines = a.lines } in made) info
-    ∙ (ap (λ (x : List ℕ). let made : Reading = record { title = b.title; info = b.info; text = x; lines = a.lines } in made) text
-    ∙ ap (λ (x : List Line). let made : Reading = record { title = b.title; info = b.info; text = b.text; lines = x } in made) lines))
+    ap (λ (x : List ℕ). let made : ReadEdition = record { title = x; info = a.info; text = a.text; lines = a.lines } in made) title
+    ∙ (ap (λ (x : List ℕ). let made : ReadEdition = record { title = b.title; info = x; text = a.text; lines = a.lines } in made) info
+    ∙ (ap (λ (x : List ℕ). let made : ReadEdition = record { title = b.title; info = b.info; text = x; lines = a.lines } in made) text
+    ∙ ap (λ (x : List Line). let made : ReadEdition = record { title = b.title; info = b.info; text = b.text; lines = x } in made) lines))
 
 same_some : (x y : List ℕ) (o : Option (List ℕ)) → o ≡ Some x → o ≡ Some y → x ≡ y
 same_some x y o p q = cc
 
-pub one_reading : (index text : List ℕ) (a b : Reading) → IsReading index text a → IsReading index text b → a ≡ b
+pub one_reading : (index text : List ℕ) (a b : ReadEdition) → IsReadEdition index text a → IsReadEdition index text b → a ≡ b
 one_reading index text a b h i =
     let one : h.lines ≡ i.lines = all_said_one (text_lines index) h.lines i.lines h.said i.said in
     same_reading a b

@@ -1,5 +1,4 @@
 pub mod CutLemmas
-pub mod AllLemmas
 pub mod OrderLemmas
 pub mod LineLemmas
 pub mod ReadLemmas
@@ -8,9 +7,9 @@ pub mod GatheredLemmas
 pub mod TextLemmas
 pub mod TrimLemmas
 pub mod PassLemmas
-pub mod WholeLemmas
 pub mod MeaningLemmas
 pub mod LawLemmas
+pub mod WellFormedLemmas
 pub mod DecideLemmas
 pub mod ChoiceLemmas
 pub mod WorkedLemmas

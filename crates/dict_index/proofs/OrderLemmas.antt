@@ -1,44 +1,97 @@
--- The tests of a line, one after the other.
-use Rattle.std.proofs.Common.{◌≡◌, ℕ, ◌+◌, inl, inr, List, [], ◌∷◌, refl, sym, ap, ◌∙◌, subst, arith}
-use Rattle.std.proofs.lemmas.Bool.{cases_lt}
-use Rattle.std.specs.Prelude.{slice_index_or}
-use Rattle.dict_index.specs.Tests.{PassesLine, rank}
-use Rattle.dict_index.specs.Order.{PassesBefore}
+-- The order of the tests, and what is made first.
+use Rattle.std.proofs.Common.{◌≡◌, ℕ, ◌+◌, ◌<◌, ◌≤◌, ◌⊎◌, inl, inr, Bool, true, List, [], ◌∷◌, ◌++◌, length, refl, sym, ap, ◌∙◌, subst, arith, eqb-true}
+use Rattle.std.proofs.lemmas.Bool.{and_parts, cases_eq}
+use Rattle.std.specs.Prelude.{◌==◌, ◌&&◌, slice_index_or}
+use Rattle.std.specs.List.{AllByRecursion}
+use Rattle.dict_index.specs.Refusals.{whole_tests, line_tests, tests_in_order}
+use Rattle.dict_index.specs.Order.{rank, IsFirstFailing}
 use Rattle.dict_index.specs.declared.fault.Refusal.{Refusal}
-use Rattle.dict_index.specs.declared.fault.Refusal.TheVariants.{IndexNotUtf8, Columns, Number, Interval, Headword, BodyText, BodyLine, Reserved, ReservedTwice, NoTitle, BadTitle, TooManyEntries, TextTooLong, LastLine}
+use Rattle.dict_index.specs.declared.fault.Refusal.TheVariants.{Columns, TextTooLong}
 
--- the tests in their order
-in_order : List Refusal
-in_order = TextTooLong ∷ IndexNotUtf8 ∷ LastLine ∷ TooManyEntries ∷ Columns ∷ Number ∷ Interval ∷ Headword ∷ BodyText ∷ BodyLine ∷ Reserved ∷ ReservedTwice ∷ NoTitle ∷ BadTitle ∷ []
-
-at_rank : (f : Refusal) → slice_index_or in_order (rank f) Columns ≡ f
-unfolding in_order
+-- each test stands at its place
+at_rank : (f : Refusal) → slice_index_or tests_in_order (rank f) Columns ≡ f
+unfolding rank
 at_rank TextTooLong = refl
-at_rank IndexNotUtf8 = refl
-at_rank LastLine = refl
-at_rank TooManyEntries = refl
-at_rank Columns = refl
-at_rank Number = refl
-at_rank Interval = refl
-at_rank Headword = refl
-at_rank BodyText = refl
-at_rank BodyLine = refl
-at_rank Reserved = refl
-at_rank ReservedTwice = refl
-at_rank NoTitle = refl
-at_rank BadTitle = refl
+at_rank _ = refl
 
--- two tests have different ranks
+-- two tests have different places
 pub one_rank : (f g : Refusal) → rank f ≡ rank g → f ≡ g
-one_rank f g e = sym (at_rank f) ∙ (ap (λ n. slice_index_or in_order n Columns) e ∙ at_rank g)
+one_rank f g e = sym (at_rank f) ∙ (ap (λ n. slice_index_or tests_in_order n Columns) e ∙ at_rank g)
 
--- no test of a line is made before that of the columns
-pub before_columns : (text : List ℕ) (before : List (List ℕ)) (line : List ℕ) → PassesBefore Columns text before line
-before_columns text before line f of_line lt = absurd (let low = of_line.0 in omega arith)
+-- these tests stand at the places from n on
+abbrev ranks_from : ℕ → List Refusal → Bool
+ranks_from n [] = true
+ranks_from n (f ∷ fs) = (rank f == n) && ranks_from (n + 1) fs
 
--- one test more
-pub before_next : (f g : Refusal) (text : List ℕ) (before : List (List ℕ)) (line : List ℕ) → rank g ≡ rank f + 1 → PassesBefore f text before line → PassesLine f text before line → PassesBefore g text before line
-before_next f g text before line e earlier passes h of_line lt = elim (cases_lt (rank h) (rank f)) [
-  | inl below ↦ earlier h of_line below
-  | inr not_below ↦ let same : rank f ≡ rank h = omega arith in subst (λ r. PassesLine r text before line) (one_rank f h same) passes
-]
+pub whole_ranks : ranks_from 0 whole_tests ≡ true
+unfolding rank
+whole_ranks = refl
+
+pub line_ranks : ranks_from (length whole_tests) line_tests ≡ true
+unfolding rank
+line_ranks = refl
+
+-- this test fails, its place is from n up to m, and those from n up to it hold
+pub record IsFirstInOrder (Holds : Refusal → Type 0) (n m : ℕ) (f : Refusal) : Type 0 where
+  pub low : n ≤ rank f
+  pub high : rank f < m
+  pub fails : ¬ Holds f
+  pub earlier : (g : Refusal) → n ≤ rank g → rank g < rank f → Holds g
+
+module _ (Holds : Refusal → Type 0) where
+  -- what holds of each test of a list holds of each that stands at its places
+  pub all_in_order : (n : ℕ) (fs : List Refusal) → ranks_from n fs ≡ true → AllByRecursion Holds fs → (f : Refusal) → n ≤ rank f → rank f < n + length fs → Holds f
+  all_in_order n [] ranks h f low high = absurd (omega arith)
+  all_in_order n (g ∷ fs) ranks h f low high =
+      let parts = and_parts (rank g == n) (ranks_from (n + 1) fs) ranks in
+      let at : rank g ≡ n = eqb-true (rank g) n parts.0 in
+      elim (cases_eq (rank f) n) [
+        | inl here ↦ subst Holds (one_rank g f (at ∙ sym here)) h.0
+        | inr other ↦ all_in_order (n + 1) fs parts.1 h.1 f (omega arith) (omega arith)
+      ]
+
+  -- the first of a list that fails is the first in order from the list's first place on
+  pub first_in_order : (n : ℕ) (fs : List Refusal) (f : Refusal) → ranks_from n fs ≡ true → IsFirstFailing Holds fs f → IsFirstInOrder Holds n (n + length fs) f
+  first_in_order n [] f ranks h = absurd h
+  first_in_order n (g ∷ fs) f ranks (inl h) =
+      let parts = and_parts (rank g == n) (ranks_from (n + 1) fs) ranks in
+      let at : rank f ≡ n = ap rank h.0 ∙ eqb-true (rank g) n parts.0 in
+      record {
+        low = omega arith;
+        high = omega arith;
+        fails = λ p. h.1 (subst Holds h.0 p);
+        earlier = λ e low lt. absurd (omega arith);
+      }
+  first_in_order n (g ∷ fs) f ranks (inr h) =
+      let parts = and_parts (rank g == n) (ranks_from (n + 1) fs) ranks in
+      let at : rank g ≡ n = eqb-true (rank g) n parts.0 in
+      let rest = first_in_order (n + 1) fs f parts.1 h.1 in
+      record {
+        low = (let l = rest.low in omega arith);
+        high = (let m = rest.high in omega arith);
+        fails = rest.fails;
+        earlier = λ e low lt. elim (cases_eq (rank e) n) [
+          | inl here ↦ subst Holds (one_rank g e (at ∙ sym here)) h.0
+          | inr other ↦ rest.earlier e (omega arith) lt
+        ];
+      }
+
+  -- the first of a list that fails is so of a longer one
+  pub first_of_more : (fs gs : List Refusal) (f : Refusal) → IsFirstFailing Holds fs f → IsFirstFailing Holds (fs ++ gs) f
+  first_of_more [] gs f h = absurd h
+  first_of_more (g ∷ fs) gs f (inl h) = inl h
+  first_of_more (g ∷ fs) gs f (inr h) = inr (h.0, first_of_more fs gs f h.1)
+
+  pub first_behind : (fs gs : List Refusal) (f : Refusal) → AllByRecursion Holds fs → IsFirstFailing Holds gs f → IsFirstFailing Holds (fs ++ gs) f
+  first_behind [] gs f all h = h
+  first_behind (g ∷ fs) gs f all h = inr (all.0, first_behind fs gs f all.1 h)
+
+  -- tests that can be decided all hold, or one is the first that fails
+  pub try_each : (fs : List Refusal) → AllByRecursion (λ f. Holds f ⊎ ¬ Holds f) fs → ((f : Refusal) × IsFirstFailing Holds fs f) ⊎ AllByRecursion Holds fs
+  try_each [] d = inr tt
+  try_each (g ∷ fs) d = by_first d.0 (try_each fs d.1)
+    where
+      by_first : Holds g ⊎ ¬ Holds g → ((f : Refusal) × IsFirstFailing Holds fs f) ⊎ AllByRecursion Holds fs → ((f : Refusal) × IsFirstFailing Holds (g ∷ fs) f) ⊎ AllByRecursion Holds (g ∷ fs)
+      by_first (inr bad) rest = inl (g, inl (refl, bad))
+      by_first (inl p) (inl failing) = inl (failing.0, inr (p, failing.1))
+      by_first (inl p) (inr all) = inr (p, all)

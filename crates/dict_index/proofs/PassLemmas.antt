@@ -4,16 +4,16 @@ use Rattle.std.proofs.lemmas.Bool.{cases_lt}
 use Rattle.std.proofs.lemmas.List.{length-drop}
 use Rattle.std.specs.Prelude.{slice_index_or, Result, Ok, Err, OnOk, IfErr}
 use Rattle.dict_text.specs.Lines.{text_lines}
-use Rattle.dict_index.specs.Tests.{PassesLine, IsOfLine, rank, line_at}
-use Rattle.dict_index.specs.Order.{PassesBefore, FailsFirst, IsLineFault}
+use Rattle.dict_index.specs.Tests.{PassesLine, line_at}
+use Rattle.dict_index.specs.Refusals.{said_tests, reserved_tests, line_tests}
 use Rattle.dict_index.specs.Gathered.{IsGatherFault}
-use Rattle.dict_index.specs.Refused.{PassLines, IsFaultBehind, IsLinesFault, told_at}
+use Rattle.dict_index.specs.Refused.{PassesEach, FailsFirst, IsLineFault, PassLines, IsFaultBehind, IsLinesFault, told_at}
 use Rattle.dict_index.specs.declared.fault.IndexFault.{IndexFault}
-use Rattle.dict_index.specs.declared.fault.Refusal.{Refusal}
 use Rattle.dict_index.specs.declared.fault.Refusal.TheVariants.{Reserved, ReservedTwice}
 use Rattle.dict_index.specs.declared.line.LineFault.{LineFault}
 use Rattle.dict_index.specs.declared.line.LineFault.TheVariants.{Refused, Memory}
-use Rattle.dict_index.proofs.OrderLemmas.{before_next, one_rank}
+use Rattle.dict_text.proofs.AllLemmas.{all_append}
+use Rattle.dict_index.proofs.OrderLemmas.{first_of_more, first_behind}
 
 -- the next of the lines that are left
 pub record IsNext (lines : List (List ℕ)) (n : ℕ) (line : List ℕ) (rest : List (List ℕ)) : Type 0 where
@@ -39,31 +39,26 @@ next_of (x ∷ lines) (suc n) line rest e =
       front = ap (λ m. take m (x ∷ lines)) more ∙ ap (λ l. x ∷ l) h.front;
     }
 
--- a line that passes the tests up to the reserved ones, and these two, passes all
-pub passes_all : (text : List ℕ) (lines : List (List ℕ)) (line : List ℕ) → PassesBefore Reserved text lines line → PassesLine Reserved text lines line → PassesLine ReservedTwice text lines line → (f : Refusal) → IsOfLine f → PassesLine f text lines line
-passes_all text lines line before reserved twice f of_line =
-    let upto = before_next Reserved ReservedTwice text lines line refl before reserved in
-    elim (cases_lt (rank f) (rank ReservedTwice)) [
-      | inl below ↦ upto f of_line below
-      | inr not_below ↦ (let most = of_line.1 in let same : rank ReservedTwice ≡ rank f = omega arith in subst (λ r. PassesLine r text lines line) (one_rank ReservedTwice f same) twice)
-    ]
+-- a line that passes the tests of what it says, and the two of its reserved key, passes all
+pub passes_all : (text : List ℕ) (lines : List (List ℕ)) (line : List ℕ) → PassesEach said_tests text lines line → PassesLine Reserved text lines line → PassesLine ReservedTwice text lines line → PassesEach line_tests text lines line
+passes_all text lines line said reserved twice = all_append (λ f. PassesLine f text lines line) said_tests reserved_tests said (reserved, (twice, tt))
 
 -- a fault of the reserved tests, behind the tests before them
-pub gather_fault : (fault : LineFault) (text : List ℕ) (lines : List (List ℕ)) (line : List ℕ) → PassesBefore Reserved text lines line → IsGatherFault fault text lines line → IsFaultBehind fault text lines line
-gather_fault (Refused Reserved) text lines line before h = record { of_line = (omega arith, omega arith); fails = h; earlier = before }
-gather_fault (Refused ReservedTwice) text lines line before h = record { of_line = (omega arith, omega arith); fails = h.1; earlier = before_next Reserved ReservedTwice text lines line refl before h.0 }
-gather_fault (Refused _) text lines line before h = absurd h
-gather_fault Memory text lines line before h = tt
+pub gather_fault : (fault : LineFault) (text : List ℕ) (lines : List (List ℕ)) (line : List ℕ) → PassesEach said_tests text lines line → IsGatherFault fault text lines line → IsFaultBehind fault text lines line
+gather_fault (Refused Reserved) text lines line said h = first_behind (λ f. PassesLine f text lines line) said_tests reserved_tests Reserved said (inl (refl, h))
+gather_fault (Refused ReservedTwice) text lines line said h = first_behind (λ f. PassesLine f text lines line) said_tests reserved_tests ReservedTwice said (inr (h.0, inl (refl, h.1)))
+gather_fault (Refused _) text lines line said h = absurd h
+gather_fault Memory text lines line said h = tt
 
 pub line_fault : (fault : LineFault) (text : List ℕ) (lines : List (List ℕ)) (line : List ℕ) → IsLineFault fault text line → IsFaultBehind fault text lines line
-line_fault (Refused refusal) text lines line h = h lines
+line_fault (Refused refusal) text lines line h = first_of_more (λ f. PassesLine f text lines line) said_tests reserved_tests refusal (h lines)
 line_fault Memory text lines line h = tt
 
 -- one line more passes
-pub pass_more : (index text : List ℕ) (n : ℕ) (line : List ℕ) → PassLines index text n → line_at index n ≡ line → ((f : Refusal) → IsOfLine f → PassesLine f text (take n (text_lines index)) line) → PassLines index text (n + 1)
-pass_more index text n line earlier at here k lt f of_line = elim (cases_lt k n) [
-  | inl below ↦ earlier k below f of_line
-  | inr not_below ↦ (let same : n ≡ k = omega arith in subst (λ j. PassesLine f text (take j (text_lines index)) (line_at index j)) same (subst (λ l. PassesLine f text (take n (text_lines index)) l) (sym at) (here f of_line)))
+pub pass_more : (index text : List ℕ) (n : ℕ) (line : List ℕ) → PassLines index text n → line_at index n ≡ line → PassesEach line_tests text (take n (text_lines index)) line → PassLines index text (n + 1)
+pass_more index text n line earlier at here k lt = elim (cases_lt k n) [
+  | inl below ↦ earlier k below
+  | inr not_below ↦ (let same : n ≡ k = omega arith in subst (λ j. PassesEach line_tests text (take j (text_lines index)) (line_at index j)) same (subst (λ l. PassesEach line_tests text (take n (text_lines index)) l) (sym at) here))
 ]
 
 -- no line is left where all are taken
@@ -81,5 +76,5 @@ if_err_map (Err e) f p = f e p
 
 -- what is told where a line is not gathered
 pub lines_fault : (fault : LineFault) (told : IndexFault) (index text : List ℕ) (n : ℕ) (line : List ℕ) → told ≡ told_at fault (n + 1) → n < length (text_lines index) → line_at index n ≡ line → PassLines index text n → IsFaultBehind fault text (take n (text_lines index)) line → IsLinesFault told index text
-lines_fault (Refused refusal) told index text n line e there at before h = subst (λ t. IsLinesFault t index text) (sym e) (n, refl, record { there = there; before = before; first = subst (FailsFirst refusal text (take n (text_lines index))) (sym at) h })
+lines_fault (Refused refusal) told index text n line e there at before h = subst (λ t. IsLinesFault t index text) (sym e) (n, refl, record { there = there; before = before; first = subst (FailsFirst line_tests refusal text (take n (text_lines index))) (sym at) h })
 lines_fault Memory told index text n line e there at before h = subst (λ t. IsLinesFault t index text) (sym e) tt

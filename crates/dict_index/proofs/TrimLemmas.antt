@@ -1,10 +1,11 @@
 -- A text without the blanks at its ends is text.
-use Rattle.std.proofs.Common.{◌≡◌, ℕ, suc, ◌<◌, ◌≤◌, List, [], ◌∷◌, length, take, get_or, refl, sym, ap, subst, arith, cond, Bool, true, false, eqb-true}
+use Rattle.std.proofs.Common.{◌≡◌, ℕ, suc, ◌-◌, ◌<◌, ◌≤◌, List, [], ◌∷◌, length, take, get_or, refl, sym, ap, ◌∙◌, subst, arith, cond, Bool, true, false, eqb-true}
 use Rattle.std.proofs.lemmas.Str.{IsUtf8-take}
-use Rattle.std.specs.Prelude.{◌==◌, ◌&&◌, ◌||◌}
+use Rattle.std.specs.Prelude.{◌==◌, ◌&&◌, ◌||◌, slice_get}
 use Rattle.std.specs.Str.{IsUtf8}
 use Rattle.dict_text.specs.Characters.{is_blank}
-use Rattle.dict_match.specs.Key.{without_leading_blanks, without_trailing_blanks, without_blanks_at_ends}
+use Rattle.dict_text.specs.Blanks.{without_leading_blanks, without_trailing_blanks, without_blanks_at_ends}
+use Rattle.dict_name.specs.Names.{passes, first_passes, last_passes}
 use Rattle.dict_index.proofs.CutLemmas.{utf8_parts}
 
 blank_small : (c : ℕ) → is_blank c ≡ true → c < 128
@@ -44,3 +45,41 @@ trimmed_utf8 bs u =
     let v = leading_utf8 bs u in
     let h = trailing_front (without_leading_blanks bs) in
     subst IsUtf8 (sym h.whole) (IsUtf8-take (without_leading_blanks bs) h.place v (h.within, λ lt high. absurd (let small = h.next lt in omega arith)))
+
+-- no blank is left at an end
+leading_first : (bs : List ℕ) → first_passes is_blank (without_leading_blanks bs) ≡ false
+leading_first [] = refl
+leading_first (c ∷ cs) = by_first (is_blank c) refl (leading_first cs)
+  where
+    by_first : (b : Bool) → is_blank c ≡ b → first_passes is_blank (without_leading_blanks cs) ≡ false → first_passes is_blank (cond b (without_leading_blanks cs) (c ∷ cs)) ≡ false
+    by_first true e later = later
+    by_first false e later = e
+
+trailing_first : (bs : List ℕ) → first_passes is_blank bs ≡ false → first_passes is_blank (without_trailing_blanks bs) ≡ false
+trailing_first [] e = refl
+trailing_first (c ∷ cs) e = by_test (is_blank c && length (without_trailing_blanks cs) == 0)
+  where
+    by_test : (b : Bool) → first_passes is_blank (cond b [] (c ∷ without_trailing_blanks cs)) ≡ false
+    by_test true = refl
+    by_test false = e
+
+pub trimmed_first : (bs : List ℕ) → first_passes is_blank (without_blanks_at_ends bs) ≡ false
+trimmed_first bs = trailing_first (without_leading_blanks bs) (leading_first bs)
+
+last_of_more : (c d : ℕ) (ds : List ℕ) → last_passes is_blank (d ∷ ds) ≡ false → last_passes is_blank (c ∷ d ∷ ds) ≡ false
+last_of_more c d ds e =
+    let far : length (c ∷ d ∷ ds) - 1 ≡ suc (length (d ∷ ds) - 1) = omega arith in
+    ap (λ n. passes is_blank (slice_get (c ∷ d ∷ ds) n)) far ∙ e
+
+trailing_last : (bs : List ℕ) → last_passes is_blank (without_trailing_blanks bs) ≡ false
+trailing_last [] = refl
+trailing_last (c ∷ cs) = by_rest (without_trailing_blanks cs) (is_blank c) refl (is_blank c && length (without_trailing_blanks cs) == 0) refl (trailing_last cs)
+  where
+    by_rest : (rest : List ℕ) (b : Bool) → is_blank c ≡ b → (t : Bool) → (b && length rest == 0) ≡ t → last_passes is_blank rest ≡ false → last_passes is_blank (cond t [] (c ∷ rest)) ≡ false
+    by_rest rest b e true k later = refl
+    by_rest [] true e false k later = absurd (let bad : true ≡ false = k in cc)
+    by_rest [] false e false k later = e
+    by_rest (d ∷ ds) b e false k later = last_of_more c d ds later
+
+pub trimmed_last : (bs : List ℕ) → last_passes is_blank (without_blanks_at_ends bs) ≡ false
+trimmed_last bs = trailing_last (without_leading_blanks bs)

@@ -7,21 +7,22 @@ use Rattle.std.specs.List.{AllByRecursion, AllZip, list_all}
 use Rattle.std.specs.Str.{is_utf8, chars}
 use lib.Utf8.{encode}
 use Rattle.dict_b64.specs.Number.{Spells, alphabet}
-use Rattle.dict_text.specs.Characters.{is_control}
+use Rattle.dict_text.specs.Characters.{is_control, has_control}
 use Rattle.dict_text.specs.Lines.{text_lines}
 use Rattle.dict_match.specs.Key.{key_of}
 use Rattle.dict_index.specs.Cuts.{HasNo}
 use Rattle.dict_index.specs.Line.{Line, IsLine, body_in}
 use Rattle.dict_index.specs.Reserved.{is_reserved, is_known, title_in}
-use Rattle.dict_index.specs.Tests.{PassesLine, IsOfLine, IsHeadword, IsText, IsTextOctet, HasNoControl, HasShortLines, IsTitle, NoneHasKey}
-use Rattle.dict_index.specs.Meaning.{IsReading}
-use Rattle.dict_index.specs.Refused.{PassLines, PassWholes}
+use Rattle.dict_index.specs.Tests.{PassesLine, IsHeadword, IsText, IsTextOctet, HasShortLines, IsTitle, NoneHasKey}
+use Rattle.dict_index.specs.Meaning.{IsReadEdition}
+use Rattle.dict_index.specs.Refused.{PassesEach, PassLines, PassWholes}
+use Rattle.dict_index.specs.Refusals.{line_tests}
 use Rattle.dict_index.specs.Worked.{worked_index, worked_text, worked_reading, opal, fire_opal, dot}
 use Rattle.dict_index.specs.declared.fault.Refusal.{Refusal}
-use Rattle.dict_index.specs.declared.fault.Refusal.TheVariants.{IndexNotUtf8, Columns, Number, Interval, Headword, BodyText, BodyLine, Reserved, ReservedTwice, TooManyEntries, TextTooLong, LastLine}
+use Rattle.dict_index.specs.declared.fault.Refusal.TheVariants.{Columns, Number, Interval, Headword, BodyText, BodyLine, Reserved, ReservedTwice}
+use Rattle.dict_text.proofs.AllLemmas.{all_of}
 use Rattle.dict_index.proofs.GatherLemmas.{known_is_reserved}
 use Rattle.dict_index.proofs.LineLemmas.{if_says}
-use Rattle.dict_index.proofs.WholeLemmas.{wholes_none, wholes_next}
 use Rattle.dict_index.proofs.MeaningLemmas.{all_pass}
 
 -- what a test computes of each element
@@ -49,18 +50,14 @@ text_octet octet e = elim (or_cases (octet == 10) ((octet == 9) || not (is_contr
   ])
 ]
 
-no_control : (octets : List ℕ) → list_all is_plain octets ≡ true → HasNoControl octets
-unfolding is_plain
-no_control octets e = all_from (λ octet. ¬ IsTrue (is_control octet)) is_plain (λ octet. not_true (is_control octet)) octets e
-
 -- the tests of a line that say nothing of its key
 is_good : List ℕ → List ℕ → List ℕ → Bool
-is_good headword body text = nat_le 1 (length headword) && (nat_le (length headword) 255 && (list_all is_plain headword && (is_utf8 body && (list_all is_text_octet body && list_all (λ line. nat_le (length line) 1021) (text_lines body)))))
+is_good headword body text = nat_le 1 (length headword) && (nat_le (length headword) 255 && (not (has_control headword) && (is_utf8 body && (list_all is_text_octet body && list_all (λ line. nat_le (length line) 1021) (text_lines body)))))
 
 record Good (headword body : List ℕ) : Type 0 where
   some : 1 ≤ length headword
   few : length headword ≤ 255
-  plain : HasNoControl headword
+  plain : has_control headword ≡ false
   is_text : IsText body
   short : HasShortLines body
 
@@ -75,7 +72,7 @@ good headword body text e =
     record {
       some = leb-true _ _ a.0;
       few = leb-true _ _ b.0;
-      plain = no_control headword c.0;
+      plain = not-true (has_control headword) c.0;
       is_text = (IsUtf8-from_is_utf8 body d.0, all_from IsTextOctet is_text_octet text_octet body f.0);
       short = all_from (λ line. length line ≤ 1021) (λ line. nat_le (length line) 1021) (λ line. leb-true (length line) 1021) (text_lines body) f.1;
     }
@@ -161,27 +158,25 @@ pass_dot : (before : List (List ℕ)) (f : Refusal) → PassesLine f worked_text
 unfolding key_of chars encode is_utf8 is_good is_plain is_text_octet
 pass_dot before = entry_passes worked_text before (codes "dot\to\tF") dot dot_line refl refl refl (λ e. cc) refl
 
-pass_each : (k : ℕ) → k < length worked_lines → (f : Refusal) → IsOfLine f → PassesLine f worked_text (take k worked_lines) (slice_index_or worked_lines k [])
+pass_each : (k : ℕ) → k < length worked_lines → (f : Refusal) → PassesLine f worked_text (take k worked_lines) (slice_index_or worked_lines k [])
 unfolding worked_lines
-pass_each zero lt f o = pass_short f
-pass_each (suc zero) lt f o = pass_opal _ f
-pass_each (suc (suc zero)) lt f o = pass_fire _ f
-pass_each (suc (suc (suc zero))) lt f o = pass_dot _ f
-pass_each (suc (suc (suc (suc k)))) lt f o = absurd (omega arith)
+pass_each zero lt f = pass_short f
+pass_each (suc zero) lt f = pass_opal _ f
+pass_each (suc (suc zero)) lt f = pass_fire _ f
+pass_each (suc (suc (suc zero))) lt f = pass_dot _ f
+pass_each (suc (suc (suc (suc k)))) lt f = absurd (omega arith)
 
-pass_lines : (index text : List ℕ) (lines : List (List ℕ)) → lines ≡ text_lines index → ((k : ℕ) → k < length lines → (f : Refusal) → IsOfLine f → PassesLine f text (take k lines) (slice_index_or lines k [])) → PassLines index text (length (text_lines index))
-pass_lines index text lines e h = subst (λ (ls : List (List ℕ)). (k : ℕ) → k < length ls → (f : Refusal) → IsOfLine f → PassesLine f text (take k ls) (slice_index_or ls k [])) e h
+pass_lines : (index text : List ℕ) (lines : List (List ℕ)) → lines ≡ text_lines index → ((k : ℕ) → k < length lines → (f : Refusal) → PassesLine f text (take k lines) (slice_index_or lines k [])) → PassLines index text (length (text_lines index))
+pass_lines index text lines e h =
+    subst (λ (ls : List (List ℕ)). (k : ℕ) → k < length ls → PassesEach line_tests text (take k ls) (slice_index_or ls k [])) e
+    (λ k lt. all_of (λ f. PassesLine f text (take k lines) (slice_index_or lines k [])) (h k lt) line_tests)
 
-wholes : PassWholes Columns worked_index worked_text
+wholes : PassWholes worked_index worked_text
 unfolding is_utf8 chars encode
-wholes =
-    wholes_next TooManyEntries Columns worked_index worked_text refl
-    (wholes_next LastLine TooManyEntries worked_index worked_text refl
-    (wholes_next IndexNotUtf8 LastLine worked_index worked_text refl
-    (wholes_next TextTooLong IndexNotUtf8 worked_index worked_text refl (wholes_none worked_index worked_text) (λ k. leb-true (length worked_text) 16777216 refl))
-    (λ k. IsUtf8-from_is_utf8 worked_index refl))
-    (λ k. inr (take 52 worked_index, refl)))
-    (λ k. leb-true (length (text_lines worked_index)) 65536 refl)
+wholes = (
+  leb-true (length worked_text) 16777216 refl,
+  (IsUtf8-from_is_utf8 worked_index refl, (inr (take 52 worked_index, refl), (leb-true (length (text_lines worked_index)) 65536 refl, tt))),
+)
 
 worked_said : List Line
 worked_said = short ∷ opal ∷ fire_opal ∷ dot ∷ []
@@ -195,10 +190,9 @@ unfolding worked_said short key_of chars encode
 title_is = refl
 
 good_title : IsTitle (codes "Gems")
-unfolding is_plain
-good_title = (omega arith, omega arith, no_control (codes "Gems") refl)
+good_title = (omega arith, omega arith, refl)
 
-pub worked : IsReading worked_index worked_text worked_reading
+pub worked : IsReadEdition worked_index worked_text worked_reading
 unfolding worked_said short key_of chars encode
 worked = record {
   passes = all_pass worked_index worked_text wholes (pass_lines worked_index worked_text worked_lines (sym lines_are) pass_each) worked_said said_is (codes "Gems") title_is good_title;

@@ -13,7 +13,7 @@ pub record Edition : Type 0 where
   pub entries : List Entry
 
 -- an edition as it was read: its text, and the lines that make its entries
-pub record Reading : Type 0 where
+pub record ReadEdition : Type 0 where
   pub title : List ℕ
   pub info : List ℕ
   pub text : List ℕ
@@ -24,5 +24,5 @@ abbrev pub entry_in : List ℕ → Line → Entry
 entry_in text said = record { headword = said.headword; body = body_in text said }
 
 -- the edition without its intervals
-abbrev pub edition_of : Reading → Edition
+abbrev pub edition_of : ReadEdition → Edition
 edition_of reading = record { title = reading.title; info = reading.info; entries = map (entry_in reading.text) reading.lines }

@@ -7,18 +7,19 @@ use Rattle.dict_index.specs.Line.{Line, IsLine}
 use Rattle.dict_index.specs.Reserved.{is_known, text_under}
 use Rattle.dict_index.specs.Tests.{PassesLine}
 use Rattle.dict_index.specs.Meaning.{entry_lines}
-use Rattle.dict_index.specs.Views.{line_of, HasBodyIn}
+use Rattle.dict_index.specs.Views.{line_of, HasBodyIn, HasItsKey}
 use Rattle.dict_index.specs.declared.gather.Gathered.{Gathered}
 use Rattle.dict_index.specs.declared.fault.Refusal.TheVariants.{Reserved, ReservedTwice}
 use Rattle.dict_index.specs.declared.line.LineFault.{LineFault}
 use Rattle.dict_index.specs.declared.line.LineFault.TheVariants.{Refused, Memory}
 
--- the entries of these lines, and the texts of the known reserved keys among them
-pub record Gathers (text : List ℕ) (lines : List (List ℕ)) (gathered : Gathered) : Type 0 where
+-- the entries of these lines with their keys, and the texts of the known reserved keys among them
+pub record HasGathered (text : List ℕ) (lines : List (List ℕ)) (gathered : Gathered) : Type 0 where
   pub said : List Line
   pub are : AllZip IsLine lines said
   pub entries : map line_of gathered.entries.items ≡ entry_lines said
   pub bodies : AllByRecursion (HasBodyIn text) gathered.entries.items
+  pub keys : AllByRecursion HasItsKey gathered.entries.items
   pub reserved : (key : List ℕ) → IsTrue (is_known key) → option_map (λ found. found.now) (get_by_text gathered.reserved key) ≡ text_under key text said
 
 -- what a line that is not gathered is refused for, behind these lines

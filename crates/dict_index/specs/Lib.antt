@@ -1,12 +1,13 @@
 pub mod Line
 pub mod Reserved
 pub mod Edition
+pub mod Refusals
+pub mod Order
 pub mod Tests
 pub mod Meaning
-pub mod Refusals
+pub mod WellFormed
 pub mod Views
 pub mod Cuts
-pub mod Order
 pub mod Gathered
 pub mod Refused
 pub mod Worked

@@ -5,8 +5,9 @@ use Rattle.dict_text.specs.Lines.{text_lines}
 use Rattle.dict_match.specs.Key.{key_of}
 use Rattle.dict_index.specs.Line.{Line, IsLine}
 use Rattle.dict_index.specs.Reserved.{is_reserved, title_in, info_in}
-use Rattle.dict_index.specs.Edition.{Edition, Reading, edition_of}
-use Rattle.dict_index.specs.Tests.{Passes, IsOfLine, Precedes}
+use Rattle.dict_index.specs.Edition.{Edition, ReadEdition, edition_of}
+use Rattle.dict_index.specs.Tests.{Passes}
+use Rattle.dict_index.specs.Order.{IsOfLine, Precedes}
 use Rattle.dict_index.specs.declared.fault.Refusal.{Refusal}
 
 -- line k is there, from 0, where the test is one of a line
@@ -23,7 +24,7 @@ entry_lines lines = filter (λ said. not (is_reserved (key_of said.headword))) l
 
 -- no test fails, and the reading is what the lines say: its lines are those of the index in order, without the
 -- reserved ones
-pub record IsReading (index text : List ℕ) (reading : Reading) : Type 0 where
+pub record IsReadEdition (index text : List ℕ) (reading : ReadEdition) : Type 0 where
   pub passes : (refusal : Refusal) (k : ℕ) → IsMade refusal index k → Passes refusal index text k
   pub lines : List Line
   pub said : AllZip IsLine (text_lines index) lines
@@ -34,15 +35,11 @@ pub record IsReading (index text : List ℕ) (reading : Reading) : Type 0 where
 
 -- the edition that the index and the text say
 abbrev pub IsEdition : List ℕ → List ℕ → Edition → Type 0
-IsEdition index text edition = (reading : Reading) × IsReading index text reading × (edition ≡ edition_of reading)
+IsEdition index text edition = (reading : ReadEdition) × IsReadEdition index text reading × (edition ≡ edition_of reading)
 
 -- what some index says of the text that the reading has
-abbrev pub IsRead : Reading → Type 0
-IsRead reading = (index : List ℕ) × IsReading index reading.text reading
-
--- an edition that some index and some text say
-abbrev pub IsLawful : Edition → Type 0
-IsLawful edition = (index : List ℕ) × (text : List ℕ) × IsEdition index text edition
+abbrev pub IsRead : ReadEdition → Type 0
+IsRead reading = (index : List ℕ) × IsReadEdition index reading.text reading
 
 -- the test fails, at this line where it is one of a line, and each test before it passes
 pub record IsFault (index text : List ℕ) (refusal : Refusal) (line : Option ℕ) : Type 0 where

@@ -1,21 +1,24 @@
--- The tests of one line in their order.
-use Rattle.std.specs.Prelude.{ℕ, ◌<◌, List}
-use Rattle.dict_index.specs.Tests.{PassesLine, IsOfLine, rank}
+-- Which test is made before which.
+use Rattle.std.specs.Prelude.{◌≡◌, ℕ, ◌+◌, ◌<◌, ◌≤◌, ◌==◌, ◌⊎◌, List, [], ◌∷◌, length}
+use Rattle.std.specs.List.{position_or_len}
+use Rattle.dict_index.specs.Refusals.{refusal_number, whole_tests, line_tests, tests_in_order}
 use Rattle.dict_index.specs.declared.fault.Refusal.{Refusal}
-use Rattle.dict_index.specs.declared.line.LineFault.{LineFault}
-use Rattle.dict_index.specs.declared.line.LineFault.TheVariants.{Refused, Memory}
 
--- the line passes each test of a line that is made before this one
-abbrev pub PassesBefore : Refusal → List ℕ → List (List ℕ) → List ℕ → Type 0
-PassesBefore refusal text before line = (f : Refusal) → IsOfLine f → rank f < rank refusal → PassesLine f text before line
+-- the place of a test in this order, from 0
+unfoldable pub rank : Refusal → ℕ
+rank refusal = position_or_len (λ test. refusal_number test == refusal_number refusal) tests_in_order
 
--- this test is the first of a line's that the line doesn't pass
-pub record FailsFirst (refusal : Refusal) (text : List ℕ) (before : List (List ℕ)) (line : List ℕ) : Type 0 where
-  pub of_line : IsOfLine refusal
-  pub fails : ¬ PassesLine refusal text before line
-  pub earlier : PassesBefore refusal text before line
+-- the test is one of a line
+abbrev pub IsOfLine : Refusal → Type 0
+IsOfLine refusal = (length whole_tests ≤ rank refusal) × (rank refusal < length whole_tests + length line_tests)
 
--- a fault of a line comes for memory, or because of the first test that it doesn't pass, whatever lines stand before it
-abbrev pub IsLineFault : LineFault → List ℕ → List ℕ → Type 0
-IsLineFault (Refused refusal) text line = (before : List (List ℕ)) → FailsFirst refusal text before line
-IsLineFault Memory text line = Unit {0}
+-- test f at line j is made before test g at line k
+abbrev pub Precedes : Refusal → ℕ → Refusal → ℕ → Type 0
+Precedes f j g k =
+    ((rank f < rank g) × ¬ (IsOfLine f × IsOfLine g))
+    ⊎ (IsOfLine f × IsOfLine g × ((j < k) ⊎ ((j ≡ k) × (rank f < rank g))))
+
+-- of these tests, made in order, this one is the first that fails
+abbrev pub IsFirstFailing : (Refusal → Type 0) → List Refusal → Refusal → Type 0
+IsFirstFailing Holds [] refusal = ⊥
+IsFirstFailing Holds (test ∷ tests) refusal = ((refusal ≡ test) × ¬ Holds test) ⊎ (Holds test × IsFirstFailing Holds tests refusal)

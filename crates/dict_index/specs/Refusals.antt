@@ -1,36 +1,51 @@
--- The number and the name of each refusal, as users see them.
-use Rattle.std.specs.Prelude.{ℕ, List, codes}
+-- The refusals of an edition: the number and the name of each, as users see them, and the order of their tests.
+use Rattle.std.specs.Prelude.{ℕ, List, [], ◌∷◌, ◌++◌, codes}
 use Rattle.dict_index.specs.declared.fault.Refusal.{Refusal}
 use Rattle.dict_index.specs.declared.fault.Refusal.TheVariants.{IndexNotUtf8, Columns, Number, Interval, Headword, BodyText, BodyLine, Reserved, ReservedTwice, NoTitle, BadTitle, TooManyEntries, TextTooLong, LastLine}
 
+pub record RefusalText : Type 0 where
+  pub number : ℕ
+  pub name : List ℕ
+
+abbrev pub text_of : Refusal → RefusalText
+text_of IndexNotUtf8 = record { number = 1; name = codes "IndexNotUtf8" }
+text_of Columns = record { number = 2; name = codes "Columns" }
+text_of Number = record { number = 3; name = codes "Number" }
+text_of Interval = record { number = 4; name = codes "Interval" }
+text_of Headword = record { number = 5; name = codes "Headword" }
+text_of BodyText = record { number = 6; name = codes "BodyText" }
+text_of BodyLine = record { number = 7; name = codes "BodyLine" }
+text_of Reserved = record { number = 8; name = codes "Reserved" }
+text_of ReservedTwice = record { number = 9; name = codes "ReservedTwice" }
+text_of NoTitle = record { number = 10; name = codes "NoTitle" }
+text_of BadTitle = record { number = 11; name = codes "BadTitle" }
+text_of TooManyEntries = record { number = 12; name = codes "TooManyEntries" }
+text_of TextTooLong = record { number = 13; name = codes "TextTooLong" }
+text_of LastLine = record { number = 14; name = codes "LastLine" }
+
 abbrev pub refusal_number : Refusal → ℕ
-refusal_number IndexNotUtf8 = 1
-refusal_number Columns = 2
-refusal_number Number = 3
-refusal_number Interval = 4
-refusal_number Headword = 5
-refusal_number BodyText = 6
-refusal_number BodyLine = 7
-refusal_number Reserved = 8
-refusal_number ReservedTwice = 9
-refusal_number NoTitle = 10
-refusal_number BadTitle = 11
-refusal_number TooManyEntries = 12
-refusal_number TextTooLong = 13
-refusal_number LastLine = 14
+refusal_number refusal = (text_of refusal).number
 
 abbrev pub refusal_name : Refusal → List ℕ
-refusal_name IndexNotUtf8 = codes "IndexNotUtf8"
-refusal_name Columns = codes "Columns"
-refusal_name Number = codes "Number"
-refusal_name Interval = codes "Interval"
-refusal_name Headword = codes "Headword"
-refusal_name BodyText = codes "BodyText"
-refusal_name BodyLine = codes "BodyLine"
-refusal_name Reserved = codes "Reserved"
-refusal_name ReservedTwice = codes "ReservedTwice"
-refusal_name NoTitle = codes "NoTitle"
-refusal_name BadTitle = codes "BadTitle"
-refusal_name TooManyEntries = codes "TooManyEntries"
-refusal_name TextTooLong = codes "TextTooLong"
-refusal_name LastLine = codes "LastLine"
+refusal_name refusal = (text_of refusal).name
+
+-- the tests in order: first those of the whole files
+abbrev pub whole_tests : List Refusal
+whole_tests = TextTooLong ∷ IndexNotUtf8 ∷ LastLine ∷ TooManyEntries ∷ []
+
+-- then for each line those of what it says, and of its reserved key
+abbrev pub said_tests : List Refusal
+said_tests = Columns ∷ Number ∷ Interval ∷ Headword ∷ BodyText ∷ BodyLine ∷ []
+
+abbrev pub reserved_tests : List Refusal
+reserved_tests = Reserved ∷ ReservedTwice ∷ []
+
+abbrev pub line_tests : List Refusal
+line_tests = said_tests ++ reserved_tests
+
+-- then those of the title
+abbrev pub title_tests : List Refusal
+title_tests = NoTitle ∷ BadTitle ∷ []
+
+abbrev pub tests_in_order : List Refusal
+tests_in_order = whole_tests ++ (line_tests ++ title_tests)

@@ -4,7 +4,8 @@ use Rattle.std.specs.List.{starts_with, list_any}
 use Rattle.std.specs.Option.{option_map, option_map_or}
 use Rattle.std.specs.Str.{bytes_eq}
 use Rattle.dict_text.specs.Lines.{text_lines}
-use Rattle.dict_match.specs.Key.{key_of, without_blanks_at_ends}
+use Rattle.dict_text.specs.Blanks.{without_blanks_at_ends}
+use Rattle.dict_match.specs.Key.{key_of}
 use Rattle.dict_index.specs.Line.{Line, body_in}
 
 abbrev pub short_key : List ℕ

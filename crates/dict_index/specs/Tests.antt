@@ -1,8 +1,8 @@
 -- The tests that an index and a text have to pass, and the order in which they are made.
-use Rattle.std.specs.Prelude.{◌≡◌, ◌≢◌, ℕ, ◌+◌, ◌<◌, ◌≤◌, ◌==◌, ◌⊎◌, List, [], ◌∷◌, ◌++◌, length, take, count_by, IsTrue, IsSome, IfSome, slice_index_or}
+use Rattle.std.specs.Prelude.{◌≡◌, ◌≢◌, ℕ, ◌+◌, ◌<◌, ◌≤◌, ◌==◌, ◌⊎◌, List, [], ◌∷◌, ◌++◌, length, take, count_by, false, IsTrue, IsSome, IfSome, slice_index_or}
 use Rattle.std.specs.List.{AllByRecursion, AllZip}
 use Rattle.std.specs.Str.{IsUtf8}
-use Rattle.dict_text.specs.Characters.{is_control}
+use Rattle.dict_text.specs.Characters.{is_control, has_control}
 use Rattle.dict_text.specs.Lines.{text_lines}
 use Rattle.dict_match.specs.Key.{key_of}
 use Rattle.dict_index.specs.Line.{Line, IsLine, body_in, tab}
@@ -18,13 +18,9 @@ IfSays line P = (said : Line) → IsLine line said → P said
 abbrev pub IfAllSay : List (List ℕ) → (List Line → Type 0) → Type 0
 IfAllSay lines P = (all_said : List Line) → AllZip IsLine lines all_said → P all_said
 
--- no control character stands in it
-abbrev pub HasNoControl : List ℕ → Type 0
-HasNoControl octets = AllByRecursion (λ octet. ¬ IsTrue (is_control octet)) octets
-
 -- 1 to 255 octets, no control character, and a key that isn't empty
 abbrev pub IsHeadword : List ℕ → Type 0
-IsHeadword headword = (1 ≤ length headword) × (length headword ≤ 255) × HasNoControl headword × (key_of headword ≢ [])
+IsHeadword headword = (1 ≤ length headword) × (length headword ≤ 255) × (has_control headword ≡ false) × (key_of headword ≢ [])
 
 -- LF, tab, or no control character
 abbrev pub IsTextOctet : ℕ → Type 0
@@ -44,9 +40,27 @@ NoneHasKey lines key = AllByRecursion (λ line. IfSays line (λ said. key_of sai
 
 -- 1 to 200 octets, no control character
 abbrev pub IsTitle : List ℕ → Type 0
-IsTitle title = (1 ≤ length title) × (length title ≤ 200) × HasNoControl title
+IsTitle title = (1 ≤ length title) × (length title ≤ 200) × (has_control title ≡ false)
 
--- the line passes the test, over this text and behind these lines; a test of the whole passes
+-- an index that isn't empty ends by LF
+abbrev pub EndsByLineFeed : List ℕ → Type 0
+EndsByLineFeed index = (index ≡ []) ⊎ ((front : List ℕ) × (index ≡ front ++ 10 ∷ []))
+
+-- the line of the index with this number, from 0
+abbrev pub line_at : List ℕ → ℕ → List ℕ
+line_at index k = slice_index_or (text_lines index) k []
+
+-- what a test asks of the files as a whole; a test of a line asks nothing of them
+abbrev pub PassesWhole : Refusal → List ℕ → List ℕ → Type 0
+PassesWhole TextTooLong index text = length text ≤ 16777216
+PassesWhole IndexNotUtf8 index text = IsUtf8 index
+PassesWhole LastLine index text = EndsByLineFeed index
+PassesWhole TooManyEntries index text = length (text_lines index) ≤ 65536
+PassesWhole NoTitle index text = IfAllSay (text_lines index) (λ all_said. IsSome (title_in text all_said))
+PassesWhole BadTitle index text = IfAllSay (text_lines index) (λ all_said. IfSome (title_in text all_said) IsTitle)
+PassesWhole _ index text = Unit {0}
+
+-- what a test asks of a line, over this text and behind these lines; a test of the whole asks nothing of it
 abbrev pub PassesLine : Refusal → List ℕ → List (List ℕ) → List ℕ → Type 0
 PassesLine Columns text before line = count_by (λ octet. octet == tab) line ≡ 2
 PassesLine Number text before line = (said : Line) × IsLine line said
@@ -58,47 +72,6 @@ PassesLine Reserved text before line = IfSays line (λ said. IsTrue (is_reserved
 PassesLine ReservedTwice text before line = IfSays line (λ said. IsTrue (is_known (key_of said.headword)) → NoneHasKey before (key_of said.headword))
 PassesLine _ text before line = Unit {0}
 
--- an index that isn't empty ends by LF
-abbrev pub EndsByLineFeed : List ℕ → Type 0
-EndsByLineFeed index = (index ≡ []) ⊎ ((front : List ℕ) × (index ≡ front ++ 10 ∷ []))
-
--- the line of the index with this number, from 0
-abbrev pub line_at : List ℕ → ℕ → List ℕ
-line_at index k = slice_index_or (text_lines index) k []
-
 -- the index and the text pass the test; a test of a line is made at the line with this number, from 0
 abbrev pub Passes : Refusal → List ℕ → List ℕ → ℕ → Type 0
-Passes TextTooLong index text k = length text ≤ 16777216
-Passes IndexNotUtf8 index text k = IsUtf8 index
-Passes LastLine index text k = EndsByLineFeed index
-Passes TooManyEntries index text k = length (text_lines index) ≤ 65536
-Passes NoTitle index text k = IfAllSay (text_lines index) (λ all_said. IsSome (title_in text all_said))
-Passes BadTitle index text k = IfAllSay (text_lines index) (λ all_said. IfSome (title_in text all_said) IsTitle)
-Passes refusal index text k = PassesLine refusal text (take k (text_lines index)) (line_at index k)
-
--- the tests in order: first those of the whole files, then for each line these eight, then those of the title
-abbrev pub rank : Refusal → ℕ
-rank TextTooLong = 0
-rank IndexNotUtf8 = 1
-rank LastLine = 2
-rank TooManyEntries = 3
-rank Columns = 4
-rank Number = 5
-rank Interval = 6
-rank Headword = 7
-rank BodyText = 8
-rank BodyLine = 9
-rank Reserved = 10
-rank ReservedTwice = 11
-rank NoTitle = 12
-rank BadTitle = 13
-
--- the test is one of a line
-abbrev pub IsOfLine : Refusal → Type 0
-IsOfLine refusal = (rank Columns ≤ rank refusal) × (rank refusal ≤ rank ReservedTwice)
-
--- test f at line j is made before test g at line k
-abbrev pub Precedes : Refusal → ℕ → Refusal → ℕ → Type 0
-Precedes f j g k =
-    ((rank f < rank g) × ¬ (IsOfLine f × IsOfLine g))
-    ⊎ (IsOfLine f × IsOfLine g × ((j < k) ⊎ ((j ≡ k) × (rank f < rank g))))
+Passes refusal index text k = PassesWhole refusal index text × PassesLine refusal text (take k (text_lines index)) (line_at index k)

@@ -1,7 +1,7 @@
 -- A small database, worked by hand: its two files, and what they say.
 use Rattle.std.specs.Prelude.{ℕ, List, [], ◌∷◌, codes}
 use Rattle.dict_index.specs.Line.{Line}
-use Rattle.dict_index.specs.Edition.{Reading}
+use Rattle.dict_index.specs.Edition.{ReadEdition}
 
 abbrev pub worked_index : List ℕ
 worked_index = codes "00-database-short\tA\tZ\nopal\tZ\tP\nFire Opal\tZ\tP\ndot\to\tF\n"
@@ -18,5 +18,5 @@ fire_opal = record { headword = codes "Fire Opal"; offset = 25; size = 15 }
 abbrev pub dot : Line
 dot = record { headword = codes "dot"; offset = 40; size = 5 }
 
-abbrev pub worked_reading : Reading
+abbrev pub worked_reading : ReadEdition
 worked_reading = record { title = codes "Gems"; info = []; text = worked_text; lines = opal ∷ fire_opal ∷ dot ∷ [] }

@@ -1,9 +1,9 @@
 // An edition as it was read.
-ghost use Rattle.std.specs.Prelude.{◌≡◌, map};
+ghost use Rattle.std.specs.Prelude.{◌≡◌, ◌≤◌, length, map};
 ghost use Rattle.std.specs.List.{AllByRecursion};
 ghost use Rattle.dict_index.specs.Edition.{edition_of};
-ghost use Rattle.dict_index.specs.Meaning.{IsLawful};
-ghost use Rattle.dict_index.specs.Views.{line_of, HasBodyIn};
+ghost use Rattle.dict_index.specs.WellFormed.{IsWellFormedEdition};
+ghost use Rattle.dict_index.specs.Views.{line_of, HasBodyIn, HasItsKey, LiesIn};
 
 use crate::entry::Entry;
 use std::marker::Model;
@@ -21,15 +21,15 @@ pub struct Edition<'a> {
 impl<'a> Model for Edition<'a> {
     ghost use Rattle.std.specs.Prelude.{map};
     ghost use Rattle.std.specs.List.{AllByRecursion};
-    ghost use Rattle.dict_index.specs.Edition.{Reading};
+    ghost use Rattle.dict_index.specs.Edition.{ReadEdition};
     ghost use Rattle.dict_index.specs.Meaning.{IsRead};
-    ghost use Rattle.dict_index.specs.Views.{line_of, HasBodyIn};
+    ghost use Rattle.dict_index.specs.Views.{line_of, HasBodyIn, HasItsKey};
 
-    ghost Value = { Reading };
+    ghost Value = { ReadEdition };
 
     ghost view = { λ e. record { title = e.title.now; info = e.info.now; text = e.text.now; lines = map line_of e.entries.items } };
 
-    ghost invariant = { λ e. AllByRecursion (HasBodyIn e.text.now) e.entries.items
+    ghost invariant = { λ e. AllByRecursion (HasBodyIn e.text.now) e.entries.items × AllByRecursion HasItsKey e.entries.items
         × IsRead (record { title = e.title.now; info = e.info.now; text = e.text.now; lines = map line_of e.entries.items }) };
 }
 
@@ -48,26 +48,29 @@ impl<'a> Edition<'a> {
         self.info
     }
 
-    /// The whole file that the texts were cut out of.
+    /// The whole file that the texts were cut out of, of at most 16,777,216 octets.
     pub fn text(&self) -> &'a [u8]
-        ensures { result.now ≡ self.now.text }
+        ensures value { result.now ≡ self.now.text }
+        ensures few { length result.now ≤ 16777216 }
     {
         self.text
     }
 
-    /// The entries, in the order of the index.
+    /// The entries, in the order of the index, each with the key of its headword and with its interval in the text.
     pub fn entries(&self) -> &[Entry<'a>]
         ensures lines { map line_of result.now ≡ self.now.lines }
         ensures bodies { AllByRecursion (HasBodyIn self.now.text) result.now }
+        ensures keys { AllByRecursion HasItsKey result.now }
+        ensures within { AllByRecursion (LiesIn self.now.text) result.now }
     {
         self.entries.as_slice()
     }
 
-    /// Some index and some text say this edition.
+    /// The edition keeps the limits of editions.
     ///
     /// It does nothing. Its clause is what holds of every edition, for the layers that keep editions.
-    pub fn is_said(&self)
-        ensures { IsLawful (edition_of self.now) }
+    pub fn is_well_formed(&self)
+        ensures { IsWellFormedEdition (edition_of self.now) }
     {
         let _ = &self.entries;
     }

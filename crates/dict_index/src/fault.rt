@@ -1,6 +1,6 @@
 // Why a pair of files is no edition.
 ghost use Rattle.std.specs.Prelude.{◌≡◌};
-ghost use Rattle.dict_index.specs.Refusals.{refusal_number, refusal_name};
+ghost use Rattle.dict_index.specs.Refusals.{refusal_number, refusal_name, text_of};
 
 use std::alloc::{AllocError, AllocFailed};
 use thiserror::Error;
@@ -39,48 +39,41 @@ pub enum Refusal {
 }
 
 impl Refusal {
+    // What users see of the refusal: its number, 1 to 14, and its name.
+    fn text(self) -> (u8, &'static str)
+        ensures number { result.0 ≡ (text_of self).number }
+        ensures name { result.1.now ≡ (text_of self).name }
+    {
+        match self {
+            Refusal::IndexNotUtf8 => (1, "IndexNotUtf8"),
+            Refusal::Columns => (2, "Columns"),
+            Refusal::Number => (3, "Number"),
+            Refusal::Interval => (4, "Interval"),
+            Refusal::Headword => (5, "Headword"),
+            Refusal::BodyText => (6, "BodyText"),
+            Refusal::BodyLine => (7, "BodyLine"),
+            Refusal::Reserved => (8, "Reserved"),
+            Refusal::ReservedTwice => (9, "ReservedTwice"),
+            Refusal::NoTitle => (10, "NoTitle"),
+            Refusal::BadTitle => (11, "BadTitle"),
+            Refusal::TooManyEntries => (12, "TooManyEntries"),
+            Refusal::TextTooLong => (13, "TextTooLong"),
+            Refusal::LastLine => (14, "LastLine"),
+        }
+    }
+
     /// The refusal's number, as users see it: 1 to 14.
     pub fn number(self) -> u8
         ensures { result ≡ refusal_number self }
     {
-        match self {
-            Refusal::IndexNotUtf8 => 1,
-            Refusal::Columns => 2,
-            Refusal::Number => 3,
-            Refusal::Interval => 4,
-            Refusal::Headword => 5,
-            Refusal::BodyText => 6,
-            Refusal::BodyLine => 7,
-            Refusal::Reserved => 8,
-            Refusal::ReservedTwice => 9,
-            Refusal::NoTitle => 10,
-            Refusal::BadTitle => 11,
-            Refusal::TooManyEntries => 12,
-            Refusal::TextTooLong => 13,
-            Refusal::LastLine => 14,
-        }
+        self.text().0
     }
 
     /// The refusal's name, as users see it.
     pub fn name(self) -> &'static str
         ensures { result.now ≡ refusal_name self }
     {
-        match self {
-            Refusal::IndexNotUtf8 => "IndexNotUtf8",
-            Refusal::Columns => "Columns",
-            Refusal::Number => "Number",
-            Refusal::Interval => "Interval",
-            Refusal::Headword => "Headword",
-            Refusal::BodyText => "BodyText",
-            Refusal::BodyLine => "BodyLine",
-            Refusal::Reserved => "Reserved",
-            Refusal::ReservedTwice => "ReservedTwice",
-            Refusal::NoTitle => "NoTitle",
-            Refusal::BadTitle => "BadTitle",
-            Refusal::TooManyEntries => "TooManyEntries",
-            Refusal::TextTooLong => "TextTooLong",
-            Refusal::LastLine => "LastLine",
-        }
+        self.text().1
     }
 }
 

@@ -1,17 +1,15 @@
 // The entries and the reserved texts of the lines of an index.
 ghost use Rattle.std.specs.Prelude.{◌≡◌, ℕ, List, [], ◌∷◌, ◌++◌, IfErr, OnOk, OnErr};
 ghost use Rattle.std.specs.Str.{IsUtf8};
-ghost use Rattle.dict_match.specs.Key.{key_of};
 ghost use Rattle.dict_index.specs.Reserved.{is_reserved, is_known};
 ghost use Rattle.dict_index.specs.Line.{IsLine};
-ghost use Rattle.dict_index.specs.Views.{line_of, HasBodyIn};
+ghost use Rattle.dict_index.specs.Views.{line_of, HasBodyIn, HasItsKey};
 ghost use Rattle.dict_index.specs.Tests.{PassesLine};
 ghost use Rattle.dict_index.specs.declared.fault.Refusal.TheVariants.{Reserved, ReservedTwice};
 
 use crate::entry::Entry;
 use crate::fault::Refusal;
 use crate::line::{LineFault, as_text};
-use dict_match::Key;
 use std::alloc::Global;
 use std::collections::BTreeMap;
 
@@ -23,7 +21,7 @@ pub(crate) struct Gathered<'a> {
 }
 
 // Whether a key is reserved.
-fn is_reserved_key(key: &[u8]) -> bool
+pub(crate) fn is_reserved_key(key: &[u8]) -> bool
     ensures { result ≡ is_reserved key.now }
 {
     key.starts_with(b"00database".as_slice())
@@ -42,11 +40,11 @@ fn is_known_key(key: &[u8]) -> bool
 }
 
 impl<'a> Gathered<'a> {
-    ghost use Rattle.dict_index.specs.Gathered.{Gathers, IsGatherFault};
+    ghost use Rattle.dict_index.specs.Gathered.{HasGathered, IsGatherFault};
 
     /// Nothing yet.
     pub(crate) fn new(alloc: Global) -> Self
-        ensures { (text : List ℕ) → Gathers text [] result }
+        ensures { (text : List ℕ) → HasGathered text [] result }
     {
         Gathered {
             entries: Vec::new(alloc),
@@ -55,26 +53,26 @@ impl<'a> Gathered<'a> {
     }
 
     // Adds a line's entry, or its text where its key is reserved.
-    pub(crate) fn add(&mut self, alloc: Global, read: Entry<'a>, key: &Key) -> Result<(), LineFault>
-        requires key { key.now ≡ key_of read.headword.now }
+    pub(crate) fn add(&mut self, alloc: Global, read: Entry<'a>) -> Result<(), LineFault>
+        requires key { HasItsKey read }
         requires text { IsUtf8 read.headword.now }
         ensures added { OnOk result ((text : List ℕ) (lines : List (List ℕ)) (line : List ℕ) →
-            IsLine line (line_of read.entry) → HasBodyIn text read.entry → Gathers text lines self.old → Gathers text (lines ++ line ∷ []) self.new) }
+            IsLine line (line_of read.entry) → HasBodyIn text read.entry → HasGathered text lines self.old → HasGathered text (lines ++ line ∷ []) self.new) }
         ensures passes { OnOk result ((text : List ℕ) (lines : List (List ℕ)) (line : List ℕ) →
-            IsLine line (line_of read.entry) → Gathers text lines self.old → PassesLine Reserved text lines line × PassesLine ReservedTwice text lines line) }
+            IsLine line (line_of read.entry) → HasGathered text lines self.old → PassesLine Reserved text lines line × PassesLine ReservedTwice text lines line) }
         ensures refused { IfErr result (λ fault. (text : List ℕ) (lines : List (List ℕ)) (line : List ℕ) →
-            IsLine line (line_of read.entry) → Gathers text lines self.old → IsGatherFault fault text lines line) }
+            IsLine line (line_of read.entry) → HasGathered text lines self.old → IsGatherFault fault text lines line) }
     {
-        if !is_reserved_key(key.as_bytes()) {
-            return match self.entries.push(read) {
-                Ok(()) => Ok(()),
-                Err(_) => Err(LineFault::Memory),
+        if !is_reserved_key(read.key.as_bytes()) {
+            let Ok(()) = self.entries.push(read) else {
+                return Err(LineFault::Memory);
             };
+            return Ok(());
         }
-        if !is_known_key(key.as_bytes()) {
+        if !is_known_key(read.key.as_bytes()) {
             return Err(LineFault::Refused(Refusal::Reserved));
         }
-        let name = as_text(key.as_bytes());
+        let name = as_text(read.key.as_bytes());
         if self.reserved.contains_key(name) {
             return Err(LineFault::Refused(Refusal::ReservedTwice));
         }

@@ -7,8 +7,9 @@ mod edition;
 mod entry;
 mod fault;
 mod gather;
+mod laws;
+mod limits;
 mod line;
-mod meaning;
 mod reading;
 mod title;
 mod whole;
@@ -16,7 +17,8 @@ mod whole;
 pub use edition::Edition;
 pub use entry::Entry;
 pub use fault::{IndexFault, Refusal};
-pub use meaning::{one_meaning, worked_edition};
+pub use laws::{one_meaning, well_formed_editions, worked_edition};
+pub use limits::{MAX_ENTRIES, entry_key, is_edition_text};
 pub use reading::read_edition;
 
 #[cfg(test)]

@@ -5,10 +5,10 @@ ghost use Rattle.dict_b64.specs.Number.{Spells};
 ghost use Rattle.dict_match.specs.Key.{key_of};
 ghost use Rattle.dict_index.specs.Cuts.{AreColumns};
 ghost use Rattle.dict_index.specs.Line.{IsLine};
-ghost use Rattle.dict_index.specs.Views.{line_of, HasBodyIn};
-ghost use Rattle.dict_index.specs.Order.{PassesBefore, IsLineFault};
-ghost use Rattle.dict_index.specs.declared.fault.Refusal.TheVariants.{Reserved};
-ghost use Rattle.dict_index.specs.Tests.{IsHeadword, IsText, IsTextOctet, HasNoControl, HasShortLines};
+ghost use Rattle.dict_index.specs.Views.{line_of, HasBodyIn, HasItsKey};
+ghost use Rattle.dict_index.specs.Refusals.{said_tests};
+ghost use Rattle.dict_index.specs.Refused.{PassesEach, IsLineFault};
+ghost use Rattle.dict_index.specs.Tests.{IsHeadword, IsText, IsTextOctet, HasShortLines};
 
 use crate::columns::{Columns, columns_of};
 use crate::entry::Entry;
@@ -16,7 +16,7 @@ use crate::fault::Refusal;
 use bstr::ByteSlice;
 use dict_b64::read_number;
 use dict_match::{Key, key_of};
-use dict_text::{is_control, text_lines};
+use dict_text::{has_control, is_control_octet, text_lines};
 use std::alloc::{AllocError, Global};
 
 const MAX_HEADWORD: usize = 255;
@@ -52,18 +52,6 @@ pub(crate) fn cut_out(text: &[u8], offset: u64, size: u64) -> Option<&[u8]>
     Some(&text[offset as usize..end as usize])
 }
 
-// Whether a control character stands among the octets.
-pub(crate) fn has_control(octets: &[u8]) -> bool
-    ensures { MatchBool result (¬ HasNoControl octets.now) (HasNoControl octets.now) }
-{
-    for octet in octets {
-        if is_control(char::from(*octet)) {
-            return true;
-        }
-    }
-    false
-}
-
 // The key of a headword, if it may be one.
 pub(crate) fn headword_key(alloc: Global, headword: &str) -> Result<Option<Key>, AllocError>
     ensures { IfOk result (λ found. MatchOption found (¬ IsHeadword headword.now) (λ key. IsHeadword headword.now × (key ≡ key_of headword.now))) }
@@ -82,7 +70,7 @@ pub(crate) fn headword_key(alloc: Global, headword: &str) -> Result<Option<Key>,
 fn is_text_octet(octet: u8) -> bool
     ensures { MatchBool result (IsTextOctet octet) (¬ IsTextOctet octet) }
 {
-    octet == b'\n' || octet == b'\t' || !is_control(char::from(octet))
+    octet == b'\n' || octet == b'\t' || !is_control_octet(octet)
 }
 
 // The octets as text, if they are text with no control character but LF and tab.
@@ -131,19 +119,18 @@ pub(crate) enum LineFault {
     Memory,
 }
 
-// What a line says, where it passes the tests up to that of its body's lines: its entry, and the key of its
-// headword.
+// What a line says, where it passes the tests up to that of its body's lines.
 pub(crate) fn read_line<'a>(
     alloc: Global,
     line: &'a [u8],
     text: &'a [u8],
-) -> Result<(Entry<'a>, Key), LineFault>
+) -> Result<Entry<'a>, LineFault>
     requires { IsUtf8 line.now }
-    ensures said { IfOk result (λ found. IsLine line.now (line_of found.0)) }
-    ensures body { IfOk result (λ found. HasBodyIn text.now found.0) }
-    ensures key { IfOk result (λ found. found.1 ≡ key_of found.0.headword.now) }
-    ensures text { IfOk result (λ found. IsUtf8 found.0.headword.now) }
-    ensures passes { OnOk result ((before : List (List ℕ)) → PassesBefore Reserved text.now before line.now) }
+    ensures said { IfOk result (λ entry. IsLine line.now (line_of entry)) }
+    ensures body { IfOk result (HasBodyIn text.now) }
+    ensures key { IfOk result HasItsKey }
+    ensures text { IfOk result (λ entry. IsUtf8 entry.headword.now) }
+    ensures passes { OnOk result ((before : List (List ℕ)) → PassesEach said_tests text.now before line.now) }
     ensures refused { IfErr result (λ fault. IsLineFault fault text.now line.now) }
 {
     let Some(columns) = columns_of(line) else {
@@ -167,11 +154,11 @@ pub(crate) fn read_line<'a>(
     if !has_short_lines(body.as_bytes()) {
         return Err(LineFault::Refused(Refusal::BodyLine));
     }
-    let entry = Entry {
+    Ok(Entry {
         headword,
+        key,
         body,
         offset: offset as usize,
         size: size as usize,
-    };
-    Ok((entry, key))
+    })
 }

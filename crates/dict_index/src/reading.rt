@@ -2,11 +2,10 @@
 ghost use Rattle.std.specs.Prelude.{◌≡◌, ℕ, ◌≤◌, ◌++◌, ◌∷◌, [], List, IfOk, IfErr, OnOk, length};
 ghost use Rattle.std.specs.Str.{IsUtf8};
 ghost use Rattle.dict_text.specs.Lines.{text_lines};
-ghost use Rattle.dict_index.specs.Tests.{PassesLine, IsOfLine};
-ghost use Rattle.dict_index.specs.Gathered.{Gathers};
-ghost use Rattle.dict_index.specs.Meaning.{IsReading};
-ghost use Rattle.dict_index.specs.Refused.{PassLines, IsLinesFault, IsFaultBehind, IsIndexFault, told_at};
-ghost use Rattle.dict_index.specs.declared.fault.Refusal.{Refusal};
+ghost use Rattle.dict_index.specs.Refusals.{line_tests};
+ghost use Rattle.dict_index.specs.Gathered.{HasGathered};
+ghost use Rattle.dict_index.specs.Meaning.{IsReadEdition};
+ghost use Rattle.dict_index.specs.Refused.{PassesEach, PassLines, IsLinesFault, IsFaultBehind, IsIndexFault, told_at};
 
 use crate::edition::Edition;
 use crate::fault::IndexFault;
@@ -25,12 +24,12 @@ fn read_and_add<'a>(
     text: &'a [u8],
 ) -> Result<(), LineFault>
     requires { IsUtf8 line.now }
-    ensures added { OnOk result ((lines : List (List ℕ)) → Gathers text.now lines gathered.old → Gathers text.now (lines ++ line.now ∷ []) gathered.new) }
-    ensures passes { OnOk result ((lines : List (List ℕ)) → Gathers text.now lines gathered.old → (f : Refusal) → IsOfLine f → PassesLine f text.now lines line.now) }
-    ensures refused { IfErr result (λ fault. (lines : List (List ℕ)) → Gathers text.now lines gathered.old → IsFaultBehind fault text.now lines line.now) }
+    ensures added { OnOk result ((lines : List (List ℕ)) → HasGathered text.now lines gathered.old → HasGathered text.now (lines ++ line.now ∷ []) gathered.new) }
+    ensures passes { OnOk result ((lines : List (List ℕ)) → HasGathered text.now lines gathered.old → PassesEach line_tests text.now lines line.now) }
+    ensures refused { IfErr result (λ fault. (lines : List (List ℕ)) → HasGathered text.now lines gathered.old → IsFaultBehind fault text.now lines line.now) }
 {
     match read_line(alloc, line, text) {
-        Ok((entry, key)) => gathered.add(alloc, entry, &key),
+        Ok(entry) => gathered.add(alloc, entry),
         Err(fault) => Err(fault),
     }
 }
@@ -48,7 +47,7 @@ fn at_line(fault: LineFault, number: usize) -> IndexFault
     }
 }
 
-// Gathers the lines of an index in order, up to the first that a test refuses.
+// HasGathered the lines of an index in order, up to the first that a test refuses.
 fn gather_lines<'a>(
     alloc: Global,
     index: &'a [u8],
@@ -56,7 +55,7 @@ fn gather_lines<'a>(
 ) -> Result<Gathered<'a>, IndexFault>
     requires text { IsUtf8 index.now }
     requires few { length (text_lines index.now) ≤ 65536 }
-    ensures gathered { IfOk result (Gathers text.now (text_lines index.now)) }
+    ensures gathered { IfOk result (HasGathered text.now (text_lines index.now)) }
     ensures passes { OnOk result (PassLines index.now text.now (length (text_lines index.now))) }
     ensures refused { IfErr result (λ fault. IsLinesFault fault index.now text.now) }
 {
@@ -83,7 +82,7 @@ pub fn read_edition<'a>(
     index: &'a [u8],
     text: &'a [u8],
 ) -> Result<Edition<'a>, IndexFault>
-    ensures edition { IfOk result (IsReading index.now text.now) }
+    ensures edition { IfOk result (IsReadEdition index.now text.now) }
     ensures refused { IfErr result (λ fault. IsIndexFault fault index.now text.now) }
 {
     if let Some(refusal) = whole_refusal(index, text) {

@@ -1,4 +1,5 @@
-use crate::{Entry, IndexFault, Refusal, read_edition};
+use crate::{Entry, IndexFault, Refusal, entry_key, is_edition_text, read_edition};
+use bstr::ByteSlice;
 use std::alloc::{AllocError, Global};
 use std::test::Fail;
 
@@ -35,11 +36,18 @@ fn repeated(
     Ok(octets)
 }
 
-// The entries of an edition, each as its headword, offset, size and text.
+// The octets as text, or the empty text where they are none.
+fn as_text(octets: &[u8]) -> &str {
+    octets.to_str().unwrap_or("")
+}
+
+// The entries of an edition, each as its headword, key, offset, size and text.
 fn entries_in(alloc: Global, entries: &[Entry<'_>]) -> Result<String, AllocError> {
     let mut text = String::new(alloc);
     for entry in entries {
         text.push_str(entry.headword)?;
+        text.push_str("=")?;
+        text.push_str(as_text(entry.key.as_bytes()))?;
         text.push_str(&format!(in alloc; " {} {} ", entry.offset, entry.size)?)?;
         text.push_str(entry.body)?;
     }
@@ -54,28 +62,28 @@ fn reads_editions(rt: HostRuntime) -> Result<(), Fail> {
             GEM_TEXT,
             "Gems",
             "",
-            "opal 25 15 opal\n  a stone\nFire Opal 25 15 opal\n  a stone\ndot 40 5 .dot\n",
+            "opal=opal 25 15 opal\n  a stone\nFire Opal=fire opal 25 15 opal\n  a stone\ndot=dot 40 5 .dot\n",
         ),
         (
             b"00-database-short\tA\tX\niron\tX\tL\n",
             b"00-database-short\nOres\niron\n  ore\n",
             "Ores",
             "",
-            "iron 23 11 iron\n  ore\n",
+            "iron=iron 23 11 iron\n  ore\n",
         ),
         (
             b"00-database-short\tA\tZ\n+\tZ\tF\n",
             b"00-database-short\n  Gems\nplus\n",
             "Gems",
             "",
-            "+ 25 5 plus\n",
+            "+=+ 25 5 plus\n",
         ),
         (
             b"00-database-short\tA\tZ\na\tZ\tC\na\xf4\x8f\xbf\xbf\tZ\tC\nb\tZ\tC\n",
             b"00-database-short\n  Gems\nx\n",
             "Gems",
             "",
-            "a 25 2 x\na\u{10ffff} 25 2 x\nb 25 2 x\n",
+            "a=a 25 2 x\na\u{10ffff}=a\u{10ffff} 25 2 x\nb=b 25 2 x\n",
         ),
         (
             b"00-database-short\tA\tX\n00-database-info\tX\tX\n",
@@ -96,7 +104,7 @@ fn reads_editions(rt: HostRuntime) -> Result<(), Fail> {
     ];
     for (index, text, title, info, entries) in &cases {
         let edition = read_edition(rt.alloc(), index, text)?;
-        edition.is_said();
+        edition.is_well_formed();
         assert_eq!(rt; edition.title(), *title);
         assert_eq!(rt; edition.info(), *info, "of {title}");
         assert!(rt; edition.text() == *text, "text of {title}");
@@ -128,6 +136,49 @@ fn numbers_and_names(rt: HostRuntime) {
         assert_eq!(rt; refusal.number(), *number);
         assert_eq!(rt; refusal.name(), *name);
     }
+}
+
+#[test]
+fn parts_keep_their_limits(rt: HostRuntime) -> Result<(), Fail> {
+    let headwords = [
+        ("Fire Opal", Some("fire opal")),
+        ("+", Some("+")),
+        ("00-data", Some("00data")),
+        ("", None),
+        (" \u{a0}", Some("\u{a0}")),
+        (" ", None),
+        ("a\tb", None),
+        ("00-database-short", None),
+        ("00 Database", Some("00 database")),
+        ("00databaseurl", None),
+    ];
+    for (headword, key) in &headwords {
+        match entry_key(rt.alloc(), headword)? {
+            Some(found) => assert_eq!(rt; Some(as_text(found.as_bytes())), *key, "of {headword}"),
+            None => assert_eq!(rt; *key, None, "of {headword}"),
+        }
+    }
+    let longest = repeated(rt.alloc(), b"", b"a", 255, b"")?;
+    assert!(rt; entry_key(rt.alloc(), as_text(&longest))?.is_some());
+    let longer = repeated(rt.alloc(), b"", b"a", 256, b"")?;
+    assert!(rt; entry_key(rt.alloc(), as_text(&longer))?.is_none());
+
+    let texts: [(&[u8], bool); 6] = [
+        (b"", true),
+        (b"\n\ta\n\n", true),
+        ("\u{80}\u{10ffff}".as_bytes(), true),
+        (b"a\rb", false),
+        (b"a\x7f", false),
+        (b"a\x80", false),
+    ];
+    for (text, is_lawful) in &texts {
+        assert_eq!(rt; is_edition_text(text), *is_lawful);
+    }
+    let long_line = repeated(rt.alloc(), b"x\n", b"a", 1021, b"\ny")?;
+    assert!(rt; is_edition_text(&long_line));
+    let longer_line = repeated(rt.alloc(), b"x\n", b"a", 1022, b"\ny")?;
+    assert!(rt; !is_edition_text(&longer_line));
+    Ok(())
 }
 
 #[test]

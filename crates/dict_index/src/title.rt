@@ -6,14 +6,16 @@ ghost use Rattle.dict_index.specs.Views.{octets_of};
 ghost use Rattle.std.specs.Option.{option_map};
 ghost use Rattle.std.specs.Str.{bytes_eq};
 ghost use Rattle.dict_text.specs.Lines.{text_lines};
-ghost use Rattle.dict_match.specs.Key.{without_blanks_at_ends, key_of};
+ghost use Rattle.dict_text.specs.Blanks.{without_blanks_at_ends};
+ghost use Rattle.dict_match.specs.Key.{key_of};
 ghost use Rattle.dict_index.specs.Reserved.{without_key_line, short_key, info_key, title_from, info_from};
 ghost use Rattle.dict_index.specs.Tests.{IsTitle};
 
 use crate::columns::cut_at;
 use crate::fault::{IndexFault, Refusal};
-use crate::line::{as_text, has_control};
-use dict_match::{key_of, without_blanks_at_ends};
+use crate::line::as_text;
+use dict_match::key_of;
+use dict_text::{has_control, without_blanks_at_ends};
 use std::alloc::{AllocError, Global};
 use std::collections::BTreeMap;
 

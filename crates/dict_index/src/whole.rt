@@ -3,7 +3,6 @@ ghost use Rattle.std.specs.Prelude.{◌≡◌, ◌≤◌, MatchOption, MatchBool
 ghost use Rattle.dict_text.specs.Lines.{text_lines};
 ghost use Rattle.dict_index.specs.Tests.{EndsByLineFeed};
 ghost use Rattle.dict_index.specs.Refused.{FailsWhole, PassWholes};
-ghost use Rattle.dict_index.specs.declared.fault.Refusal.TheVariants.{Columns};
 
 use crate::fault::Refusal;
 use bstr::ByteSlice;
@@ -15,7 +14,7 @@ const MAX_LINES: usize = 65_536;
 
 // The first test of the whole files that fails.
 pub(crate) fn whole_refusal(index: &[u8], text: &[u8]) -> Option<Refusal>
-    ensures { MatchOption result (PassWholes Columns index.now text.now) (λ refusal. FailsWhole refusal index.now text.now) }
+    ensures { MatchOption result (PassWholes index.now text.now) (λ refusal. FailsWhole refusal index.now text.now) }
 {
     if text.len() > MAX_TEXT {
         return Some(Refusal::TextTooLong);

@@ -4,8 +4,8 @@ use Rattle.std.specs.Prelude.{Option, None, Some, if◌then◌else◌, ◌==◌,
 use Rattle.std.specs.List.{flat_map, AllByRecursion}
 use Rattle.dict_text.specs.Characters.{is_blank, is_control}
 use Rattle.dict_line.specs.Words.{is_atom_character, is_quoting, is_quote_sign, StandsFor, IsPart, EndsWord, AreWords}
-use Rattle.dict_line.specs.Reading.{Place, words_of, words_from, place_after, between, within, in_string, escaped, escaped_in, stuck, onto_first, end_before, with_character}
-use Rattle.dict_line.proofs.ReadingLemmas.{words_of-blank, within-blank, within-atom}
+use Rattle.dict_line.specs.LineWords.{Place, line_words, words_from, place_after, between, within, in_string, escaped, escaped_in, stuck, onto_first, end_before, with_character}
+use Rattle.dict_line.proofs.LineWordsLemmas.{line_words-blank, within-blank, within-atom}
 
 -- ---- what is left of a line at each place
 
@@ -140,7 +140,7 @@ paired c cs (word ∷ words) e (d, more, others, whole, control, goes, means) =
 within_by : (c : ℕ) (cs : List ℕ) → Known cs → (ws : List (List ℕ)) → (a b d f : Bool) → is_blank c ≡ a → is_control c ≡ b → is_quote_sign c ≡ d → (c == 92) ≡ f
     → words_from within (c ∷ cs) ≡ Some ws → OfFirst (GoesOn (c ∷ cs)) ws
 within_by c cs known ws true b d f ea eb ed ef e =
-    let (words, is, same) = end_inverse (words_of cs) ws (sym (within-blank c cs ea) ∙ e) in
+    let (words, is, same) = end_inverse (line_words cs) ws (sym (within-blank c cs ea) ∙ e) in
     subst (OfFirst (GoesOn (c ∷ cs))) same ([], c ∷ cs, refl, ([], tt, refl, refl), ea, more_blank c cs words ea (known between tt words is))
 within_by c cs known ws false true d f ea eb ed ef e = none_after within c cs (place_after c) ws (rw (ea, eb) refl) e
 within_by c cs known ws false false true f ea eb ed ef e =
@@ -154,10 +154,10 @@ within_by c cs known ws false false false false ea eb ed ef e =
     let (word, words, is, same) = onto_inverse c (words_from within cs) ws (sym (within-atom c cs atom) ∙ e) in
     subst (OfFirst (GoesOn (c ∷ cs))) same (more_part (c ∷ []) (c ∷ []) cs word words (inl (refl, (λ empty. cc), (atom, tt))) (known within tt (word ∷ words) is))
 
-between_by : (c : ℕ) (cs : List ℕ) → Known cs → (ws : List (List ℕ)) → (a : Bool) → is_blank c ≡ a → words_of (c ∷ cs) ≡ Some ws → AreWords (c ∷ cs) ws
-between_by c cs known ws true ea e = more_blank c cs ws ea (known between tt ws (sym (words_of-blank c cs ea) ∙ e))
+between_by : (c : ℕ) (cs : List ℕ) → Known cs → (ws : List (List ℕ)) → (a : Bool) → is_blank c ≡ a → line_words (c ∷ cs) ≡ Some ws → AreWords (c ∷ cs) ws
+between_by c cs known ws true ea e = more_blank c cs ws ea (known between tt ws (sym (line_words-blank c cs ea) ∙ e))
 between_by c cs known ws false ea e =
-    let same : words_of (c ∷ cs) ≡ words_from within (c ∷ cs) = rw ea refl in
+    let same : line_words (c ∷ cs) ≡ words_from within (c ∷ cs) = rw ea refl in
     from_within c cs ws ea (within_by c cs known ws (is_blank c) (is_control c) (is_quote_sign c) (c == 92) refl refl refl refl (sym same ∙ e))
 
 closed : (quote c : ℕ) (cs : List ℕ) (ws : List (List ℕ)) → (c == quote) ≡ true → OfFirst (GoesOn cs) ws → OfFirst (GoesOnIn quote (c ∷ cs)) ws
@@ -220,5 +220,5 @@ all_known [] = no_character
 all_known (c ∷ cs) = one_character c cs (all_known cs)
 
 -- what is computed are the words
-pub AreWords-words_of : (line : List ℕ) (words : List (List ℕ)) → words_of line ≡ Some words → AreWords line words
-AreWords-words_of line words e = all_known line between tt words e
+pub AreWords-line_words : (line : List ℕ) (words : List (List ℕ)) → line_words line ≡ Some words → AreWords line words
+AreWords-line_words line words e = all_known line between tt words e

@@ -9,8 +9,8 @@ use Rattle.std.proofs.lemmas.Bool.Decides.{nat_tests}
 use Rattle.std.proofs.lemmas.Str.{encode_ascii, inside_one, length-encode, len_utf8_bounds, encodes-chars, scalars-chars}
 use Rattle.dict_text.specs.Characters.{is_blank, is_control}
 use Rattle.dict_line.specs.Words.{is_atom_character, is_quoting, is_quote_sign}
-use Rattle.dict_line.specs.Reading.{Place, words_of, words_from, with_character, next_place, at_end, between, within, in_string, escaped, escaped_in, stuck, onto_first, end_before}
-use Rattle.dict_line.proofs.ReadingLemmas.{within-atom, between-atom, both_true, onto_all, onto_all-word}
+use Rattle.dict_line.specs.LineWords.{Place, line_words, words_from, with_character, next_place, at_end, between, within, in_string, escaped, escaped_in, stuck, onto_first, end_before}
+use Rattle.dict_line.proofs.LineWordsLemmas.{within-atom, between-atom, both_true, onto_all, onto_all-word}
 
 -- ---- octets past ASCII
 
@@ -218,9 +218,9 @@ words_from-octets (c ∷ cs) place low = by_test (words_from-octets cs (next_pla
         past-character (encode_utf8 c) (encode_utf8_all cs) place low (encode-some c) (encode-past c past)
         ∙ (ap (onto_all (encode_utf8 c)) on ∙ (as_octets-onto c (words_from (goes_on place) cs) ∙ ap as_octets (sym (words_from-past place c cs low past))))
 
-pub words_of-octets : (line : List ℕ) → IsUtf8 line → words_of line ≡ option_map (map encode_utf8_all) (words_of (chars line))
+pub line_words-octets : (line : List ℕ) → IsUtf8 line → line_words line ≡ option_map (map encode_utf8_all) (line_words (chars line))
 unfolding IsLow as_octets
-words_of-octets line utf8 = ap words_of (sym (encodes-chars line utf8)) ∙ words_from-octets (chars line) between tt
+line_words-octets line utf8 = ap line_words (sym (encodes-chars line utf8)) ∙ words_from-octets (chars line) between tt
 
 -- ---- words of texts are texts
 
@@ -280,5 +280,5 @@ unfolding AreScalar
 some_utf8 None words h e = cc
 some_utf8 (Some known) words h e = let same : map encode_utf8_all known ≡ words = cc in subst (AllByRecursion IsUtf8) same (all_utf8 known h)
 
-pub words_of-utf8 : (line : List ℕ) → IsUtf8 line → (words : List (List ℕ)) → words_of line ≡ Some words → AllByRecursion IsUtf8 words
-words_of-utf8 line utf8 words e = some_utf8 (words_of (chars line)) words (words_from-scalar (chars line) between (scalars-chars line utf8)) (sym (words_of-octets line utf8) ∙ e)
+pub line_words-utf8 : (line : List ℕ) → IsUtf8 line → (words : List (List ℕ)) → line_words line ≡ Some words → AllByRecursion IsUtf8 words
+line_words-utf8 line utf8 words e = some_utf8 (line_words (chars line)) words (words_from-scalar (chars line) between (scalars-chars line utf8)) (sym (line_words-octets line utf8) ∙ e)

@@ -1,6 +1,7 @@
 pub mod CutLemmas
+pub mod ContentLemmas
 pub mod EncodingLemmas
 pub mod MeaningLemmas
 pub mod PlaceLemmas
-pub mod ReadingLemmas
+pub mod LineWordsLemmas
 pub mod WordsLemmas

@@ -7,9 +7,9 @@ use Rattle.std.specs.Str.{IsUtf8}
 use Rattle.std.proofs.lemmas.List.{take_rest}
 use Rattle.dict_text.specs.Characters.{is_blank, is_control}
 use Rattle.dict_line.specs.Words.{is_quoting, is_quote_sign}
-use Rattle.dict_line.specs.Reading.{Place, words_of, words_from, next_place, place_after, at_end, between, within, in_string, escaped, escaped_in, stuck, onto_first, end_before}
+use Rattle.dict_line.specs.LineWords.{Place, line_words, words_from, next_place, place_after, at_end, between, within, in_string, escaped, escaped_in, stuck, onto_first, end_before}
 use Rattle.dict_line.specs.Places.{is_content, ends_word, AreTexts}
-use Rattle.dict_line.proofs.ReadingLemmas.{words_of-blank, words_of-found, words_of-none, within-blank, drop_past, onto_all, onto_all-word}
+use Rattle.dict_line.proofs.LineWordsLemmas.{line_words-blank, line_words-found, line_words-none, within-blank, drop_past, onto_all, onto_all-word}
 use Rattle.dict_line.proofs.EncodingLemmas.{words_from-stuck, onto_all-none}
 use Rattle.dict_line.proofs.WordsLemmas.{onto_all-append}
 
@@ -156,23 +156,23 @@ onto_all-end : (content : List ℕ) (r : Option (List (List ℕ))) → onto_all 
 onto_all-end content None = onto_all-none content
 onto_all-end content (Some words) = onto_all-word content [] words ∙ ap (λ word. Some (word ∷ words)) (append-nil content)
 
-blank_ends : (place : Place) (c : ℕ) (cs : List ℕ) → ends_word place c ≡ true → words_from place (c ∷ cs) ≡ end_before (words_of (c ∷ cs))
+blank_ends : (place : Place) (c : ℕ) (cs : List ℕ) → ends_word place c ≡ true → words_from place (c ∷ cs) ≡ end_before (line_words (c ∷ cs))
 blank_ends between c cs e = cc
-blank_ends within c cs e = within-blank c cs e ∙ ap end_before (sym (words_of-blank c cs e))
+blank_ends within c cs e = within-blank c cs e ∙ ap end_before (sym (line_words-blank c cs e))
 blank_ends (in_string quote) c cs e = cc
 blank_ends escaped c cs e = cc
 blank_ends (escaped_in quote) c cs e = cc
 blank_ends stuck c cs e = cc
 
 -- a blank ends a word with this content
-pub word-blank : (place : Place) (c : ℕ) (cs content : List ℕ) → ends_word place c ≡ true → onto_all content (words_from place (c ∷ cs)) ≡ option_map (λ words. content ∷ words) (words_of (c ∷ cs))
-word-blank place c cs content e = ap (onto_all content) (blank_ends place c cs e) ∙ onto_all-end content (words_of (c ∷ cs))
+pub word-blank : (place : Place) (c : ℕ) (cs content : List ℕ) → ends_word place c ≡ true → onto_all content (words_from place (c ∷ cs)) ≡ option_map (λ words. content ∷ words) (line_words (c ∷ cs))
+word-blank place c cs content e = ap (onto_all content) (blank_ends place c cs e) ∙ onto_all-end content (line_words (c ∷ cs))
 
 none-some : {X : Type 0} (content : List ℕ) → is_some (onto_all content None) ≡ true → X
 none-some content e = let none : is_some (onto_all content None) ≡ false = ap is_some (onto_all-none content) in cc
 
 -- the line's end ends a word, where the line can be cut
-pub word-end : (place : Place) (content : List ℕ) → IsInside place → is_some (onto_all content (at_end place)) ≡ true → onto_all content (at_end place) ≡ option_map (λ words. content ∷ words) (words_of [])
+pub word-end : (place : Place) (content : List ℕ) → IsInside place → is_some (onto_all content (at_end place)) ≡ true → onto_all content (at_end place) ≡ option_map (λ words. content ∷ words) (line_words [])
 word-end between content h e = absurd h
 word-end within content h e = onto_all-end content (Some [])
 word-end (in_string quote) content h e = none-some content e
@@ -213,17 +213,17 @@ pub inside-at : (text : List ℕ) (i : ℕ) (place next : Place) → IsInside pl
 inside-at text i place next inside ends e = subst IsInside (sym e) (next_place-inside place (get_or text i 0) inside ends)
 
 pub blank-at : (text : List ℕ) (i : ℕ) (place : Place) (content : List ℕ) → i < length text → ends_word place (get_or text i 0) ≡ true
-    → onto_all content (words_from place (drop i text)) ≡ option_map (λ words. content ∷ words) (words_of (take (length text - i) (drop i text)))
+    → onto_all content (words_from place (drop i text)) ≡ option_map (λ words. content ∷ words) (line_words (take (length text - i) (drop i text)))
 blank-at text i place content lt ends =
     ap (λ l. onto_all content (words_from place l)) (at_index text i lt)
     ∙ (word-blank place (get_or text i 0) (drop (i + 1) text) content ends
-    ∙ ap (λ l. option_map (λ words. content ∷ words) (words_of l)) (sym (at_index text i lt) ∙ sym (take_rest text i)))
+    ∙ ap (λ l. option_map (λ words. content ∷ words) (line_words l)) (sym (at_index text i lt) ∙ sym (take_rest text i)))
 
 past_end : (text : List ℕ) (i : ℕ) → length text ≤ i → drop i text ≡ []
 past_end text i h = drop_past i text h
 
 pub end-at : (text : List ℕ) (i : ℕ) (place : Place) (content : List ℕ) → length text ≤ i → IsInside place → words_from within text ≡ onto_all content (words_from place (drop i text))
-    → is_some (words_from within text) ≡ true → words_from within text ≡ option_map (λ words. content ∷ words) (words_of [])
+    → is_some (words_from within text) ≡ true → words_from within text ≡ option_map (λ words. content ∷ words) (line_words [])
 end-at text i place content h inside read some =
     let at : words_from within text ≡ onto_all content (at_end place) = read ∙ ap (λ l. onto_all content (words_from place l)) (past_end text i h) in
     at ∙ word-end place content inside (ap is_some (sym at) ∙ some)
@@ -238,13 +238,13 @@ no_index : (o : Option ℕ) → is_some o ≡ false → o ≡ None
 no_index None e = refl
 no_index (Some i) e = cc
 
-pub no-word : (line : List ℕ) → is_some (position (λ octet. not (is_blank octet)) line) ≡ false → words_of line ≡ Some []
-no-word line e = words_of-none line (no_index _ e)
+pub no-word : (line : List ℕ) → is_some (position (λ octet. not (is_blank octet)) line) ≡ false → line_words line ≡ Some []
+no-word line e = line_words-none line (no_index _ e)
 
-pub some-word : (line : List ℕ) → is_some (position (λ octet. not (is_blank octet)) line) ≡ true → (words : List (List ℕ)) → words_of line ≡ Some words → words ≢ []
+pub some-word : (line : List ℕ) → is_some (position (λ octet. not (is_blank octet)) line) ≡ true → (words : List (List ℕ)) → line_words line ≡ Some words → words ≢ []
 some-word line e words f none =
     let (i, at) = some_index _ e in
-    subst HasFirst (sym (words_of-found line i at) ∙ (f ∙ ap Some none)) (inside-first (drop i line) within tt)
+    subst HasFirst (sym (line_words-found line i at) ∙ (f ∙ ap Some none)) (inside-first (drop i line) within tt)
 
 -- ---- words that are texts
 
@@ -258,13 +258,13 @@ texts-first word (Some words) h = (h.0, h.1)
 
 -- ---- the first word of a line
 
-pub found-at : (line : List ℕ) (i : ℕ) → position (λ octet. not (is_blank octet)) line ≡ Some i → words_of line ≡ words_from within (take (length line - i) (drop i line))
-found-at line i e = words_of-found line i e ∙ ap (words_from within) (sym (take_rest line i))
+pub found-at : (line : List ℕ) (i : ℕ) → position (λ octet. not (is_blank octet)) line ≡ Some i → line_words line ≡ words_from within (take (length line - i) (drop i line))
+found-at line i e = line_words-found line i e ∙ ap (words_from within) (sym (take_rest line i))
 
 -- it is a text, and the others are texts
-pub first-text : (line word rest : List ℕ) (i : ℕ) → position (λ octet. not (is_blank octet)) line ≡ Some i → AreTexts (words_of line)
-    → words_from within (take (length line - i) (drop i line)) ≡ option_map (λ words. word ∷ words) (words_of rest) → IsUtf8 word × AreTexts (words_of rest)
-first-text line word rest i e texts is = texts-first word (words_of rest) (subst AreTexts (found-at line i e ∙ is) texts)
+pub first-text : (line word rest : List ℕ) (i : ℕ) → position (λ octet. not (is_blank octet)) line ≡ Some i → AreTexts (line_words line)
+    → words_from within (take (length line - i) (drop i line)) ≡ option_map (λ words. word ∷ words) (line_words rest) → IsUtf8 word × AreTexts (line_words rest)
+first-text line word rest i e texts is = texts-first word (line_words rest) (subst AreTexts (found-at line i e ∙ is) texts)
 
 -- ---- a first word, and the others
 

@@ -5,8 +5,8 @@ use Rattle.std.specs.List.{flat_map, AllByRecursion}
 use Rattle.std.proofs.lemmas.Bool.Decides.{nat_tests}
 use Rattle.dict_text.specs.Characters.{is_blank, is_control}
 use Rattle.dict_line.specs.Words.{is_atom_character, is_quote_sign, StandsFor, IsPart, IsWord, AreBlanks, EndsWord, AreWords}
-use Rattle.dict_line.specs.Reading.{words_of, words_from, within, in_string, onto_first, end_before}
-use Rattle.dict_line.proofs.ReadingLemmas.{words_of-blank, within-blank, within-atom, atom_parts, onto_all, onto_all-word}
+use Rattle.dict_line.specs.LineWords.{line_words, words_from, within, in_string, onto_first, end_before}
+use Rattle.dict_line.proofs.LineWordsLemmas.{line_words-blank, within-blank, within-atom, atom_parts, onto_all, onto_all-word}
 
 pub onto_all-append : (a b : List ℕ) (r : Option (List (List ℕ))) → onto_all (a ++ b) r ≡ onto_all a (onto_all b r)
 onto_all-append [] b r = refl
@@ -103,38 +103,38 @@ part_starts text content (inl (same, some, atoms)) = subst StartsWord (sym same)
 part_starts text content (inr (inl (quote, pieces, sign, stand, spelled, means))) = (quote, _, spelled, (sign_facts quote sign).0)
 part_starts text content (inr (inr (c, control, spelled, means))) = (92, _, spelled, refl)
 
-between-word : (text rest : List ℕ) → StartsWord text → words_of (text ++ rest) ≡ words_from within (text ++ rest)
+between-word : (text rest : List ℕ) → StartsWord text → line_words (text ++ rest) ≡ words_from within (text ++ rest)
 unfolding StartsWord
-between-word text rest (c, cs, is, blank) = subst (λ t. words_of (t ++ rest) ≡ words_from within (t ++ rest)) (sym is) (rw blank refl)
+between-word text rest (c, cs, is, blank) = subst (λ t. line_words (t ++ rest) ≡ words_from within (t ++ rest)) (sym is) (rw blank refl)
 
 word_starts : (parts : List (List ℕ × List ℕ)) (rest : List ℕ) → parts ≢ [] → AllByRecursion (λ p. IsPart p.0 p.1) parts
-    → words_of (flat_map (λ p. p.0) parts ++ rest) ≡ words_from within (flat_map (λ p. p.0) parts ++ rest)
+    → line_words (flat_map (λ p. p.0) parts ++ rest) ≡ words_from within (flat_map (λ p. p.0) parts ++ rest)
 word_starts [] rest some h = absurd (some refl)
 word_starts ((text, content) ∷ parts) rest some h =
-    ap words_of (append_assoc text (flat_map (λ p. p.0) parts) rest) ∙ (between-word text (flat_map (λ p. p.0) parts ++ rest) (part_starts text content h.0) ∙ ap (words_from within) (sym (append_assoc text (flat_map (λ p. p.0) parts) rest)))
+    ap line_words (append_assoc text (flat_map (λ p. p.0) parts) rest) ∙ (between-word text (flat_map (λ p. p.0) parts ++ rest) (part_starts text content h.0) ∙ ap (words_from within) (sym (append_assoc text (flat_map (λ p. p.0) parts) rest)))
 
-word-reads : (text content rest : List ℕ) → IsWord text content → words_of (text ++ rest) ≡ onto_all content (words_from within rest)
+word-reads : (text content rest : List ℕ) → IsWord text content → line_words (text ++ rest) ≡ onto_all content (words_from within rest)
 word-reads text content rest (parts, some, each, spelled, means) =
-    ap (λ t. words_of (t ++ rest)) spelled ∙ (word_starts parts rest some each ∙ (parts-read parts rest each ∙ ap (λ t. onto_all t (words_from within rest)) (sym means)))
+    ap (λ t. line_words (t ++ rest)) spelled ∙ (word_starts parts rest some each ∙ (parts-read parts rest each ∙ ap (λ t. onto_all t (words_from within rest)) (sym means)))
 
-word-ends : (rest : List ℕ) → EndsWord rest → words_from within rest ≡ end_before (words_of rest)
+word-ends : (rest : List ℕ) → EndsWord rest → words_from within rest ≡ end_before (line_words rest)
 word-ends [] h = refl
-word-ends (c ∷ cs) h = within-blank c cs h ∙ ap end_before (sym (words_of-blank c cs h))
+word-ends (c ∷ cs) h = within-blank c cs h ∙ ap end_before (sym (line_words-blank c cs h))
 
-blanks-read : (before rest : List ℕ) → AreBlanks before → words_of (before ++ rest) ≡ words_of rest
+blanks-read : (before rest : List ℕ) → AreBlanks before → line_words (before ++ rest) ≡ line_words rest
 blanks-read [] rest h = refl
-blanks-read (c ∷ before) rest h = words_of-blank c (before ++ rest) h.0 ∙ blanks-read before rest h.1
+blanks-read (c ∷ before) rest h = line_words-blank c (before ++ rest) h.0 ∙ blanks-read before rest h.1
 
-only-blanks : (line : List ℕ) → AreBlanks line → words_of line ≡ Some []
+only-blanks : (line : List ℕ) → AreBlanks line → line_words line ≡ Some []
 only-blanks [] h = refl
-only-blanks (c ∷ line) h = words_of-blank c line h.0 ∙ only-blanks line h.1
+only-blanks (c ∷ line) h = line_words-blank c line h.0 ∙ only-blanks line h.1
 
 -- the words of a line are computed
-pub words_of-AreWords : (words : List (List ℕ)) (line : List ℕ) → AreWords line words → words_of line ≡ Some words
-words_of-AreWords [] line h = only-blanks line h
-words_of-AreWords (word ∷ words) line (before, text, rest, whole, blanks, is, ends, more) =
-    ap words_of whole ∙ (blanks-read before (text ++ rest) blanks ∙ (word-reads text word rest is ∙ (ap (onto_all word) (word-ends rest ends ∙ ap end_before (words_of-AreWords words rest more))
+pub line_words-AreWords : (words : List (List ℕ)) (line : List ℕ) → AreWords line words → line_words line ≡ Some words
+line_words-AreWords [] line h = only-blanks line h
+line_words-AreWords (word ∷ words) line (before, text, rest, whole, blanks, is, ends, more) =
+    ap line_words whole ∙ (blanks-read before (text ++ rest) blanks ∙ (word-reads text word rest is ∙ (ap (onto_all word) (word-ends rest ends ∙ ap end_before (line_words-AreWords words rest more))
     ∙ (onto_all-word word [] words ∙ ap (λ w. Some (w ∷ words)) (append-nil word)))))
 
 pub AreWords-unique : (line : List ℕ) (words others : List (List ℕ)) → AreWords line words → AreWords line others → words ≡ others
-AreWords-unique line words others h g = let same : Some words ≡ Some others = sym (words_of-AreWords words line h) ∙ words_of-AreWords others line g in cc
+AreWords-unique line words others h g = let same : Some words ≡ Some others = sym (line_words-AreWords words line h) ∙ line_words-AreWords others line g in cc

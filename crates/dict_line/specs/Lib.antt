@@ -1,5 +1,6 @@
 pub mod Meaning
 pub mod Places
-pub mod Reading
+pub mod LineWords
+pub mod Content
 pub mod Told
 pub mod Words

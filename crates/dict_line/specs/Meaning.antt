@@ -1,10 +1,10 @@
 -- What a command line means. RFC 2229, sections 2.2, 2.3, 3.2, 3.3 and 3.5 to 3.12.
-use Rattle.std.specs.Prelude.{ℕ, ◌+◌, List, [], ◌∷◌, Bool, true, false, not, nat_le, ◌&&◌, ◌||◌, ◌==◌, if◌then◌else◌, length, map, codes, Option, None, Some}
+use Rattle.std.specs.Prelude.{ℕ, ◌+◌, List, [], ◌∷◌, Bool, not, nat_le, ◌&&◌, ◌||◌, ◌==◌, if◌then◌else◌, length, map, codes, Option, None, Some}
 use Rattle.std.specs.List.{list_all}
 use Rattle.std.specs.Option.{option_map}
 use Rattle.std.specs.Str.{chars, is_utf8, encode_utf8_all, str_eq_ignore_ascii_case}
 use Rattle.dict_text.specs.Characters.{is_control}
-use Rattle.dict_line.specs.Reading.{words_of}
+use Rattle.dict_line.specs.LineWords.{line_words}
 
 -- what a line asks for
 pub data Meaning : Type 0 where
@@ -99,16 +99,6 @@ abbrev pub asked : Option (List (List ℕ)) → Meaning
 asked None = illegal_parameters
 asked (Some words) = asked_by words
 
--- there is a first word
-abbrev pub has_first : Option (List (List ℕ)) → Bool
-has_first None = false
-has_first (Some []) = false
-has_first (Some (word ∷ words)) = true
-
--- a line passes the tests, can be cut into words, and has a word
-unfoldable pub has_word : List ℕ → Bool
-has_word line = is_readable line && has_first (words_of (chars line))
-
 -- the meaning of a line, without its CR LF; each word is told in octets
 unfoldable pub meaning : List ℕ → Meaning
-meaning line = if is_readable line then asked (option_map (map encode_utf8_all) (words_of (chars line))) else not_recognized
+meaning line = if is_readable line then asked (option_map (map encode_utf8_all) (line_words (chars line))) else not_recognized

@@ -5,7 +5,7 @@ use Rattle.std.specs.List.{AllByRecursion}
 use Rattle.std.specs.Str.{IsUtf8}
 use Rattle.dict_text.specs.Characters.{is_blank}
 use Rattle.dict_line.specs.Words.{is_quoting}
-use Rattle.dict_line.specs.Reading.{Place, between, within, in_string, escaped, escaped_in, stuck}
+use Rattle.dict_line.specs.LineWords.{Place, between, within, in_string, escaped, escaped_in, stuck}
 use Rattle.dict_line.specs.Meaning.{Meaning, define_of, match_of, show_of, info_of, without_more, show_databases, show_strategies, show_server, client, status, help, quit, not_recognized, illegal_parameters, not_implemented}
 use Rattle.dict_line.specs.declared.place.Place as kept
 use Rattle.dict_line.specs.declared.place.Place.TheVariants.{Between, Within, InString, Escaped, EscapedIn, Stuck}

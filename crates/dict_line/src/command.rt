@@ -1,7 +1,10 @@
 // The names of commands, and of what SHOW shows.
 ghost use Rattle.std.specs.Prelude.{◌≡◌, ◌||◌, ℕ, List, codes};
 ghost use Rattle.dict_line.specs.Meaning.{is_named, command_of, shown_of};
+ghost use Rattle.dict_line.specs.Content.{content_of};
 ghost use Rattle.dict_line.specs.Places.{asked_with, shown_with};
+
+use crate::word::Word;
 
 // A command by its name.
 #[derive(Clone, Copy, Debug, PartialEq, Eq)]
@@ -18,22 +21,22 @@ pub(crate) enum Command {
 }
 
 impl Command {
-    pub(crate) fn by_name(name: &str) -> Option<Command>
-        ensures { (parameters : List (List ℕ)) → asked_with result parameters ≡ command_of name.now parameters }
+    pub(crate) fn by_name(name: &Word) -> Option<Command>
+        ensures { (parameters : List (List ℕ)) → asked_with result parameters ≡ command_of (content_of name.now) parameters }
     {
-        if is_named(name, "DEFINE") {
+        if name.is_named("DEFINE") {
             Some(Command::Define)
-        } else if is_named(name, "MATCH") {
+        } else if name.is_named("MATCH") {
             Some(Command::Match)
-        } else if is_named(name, "SHOW") {
+        } else if name.is_named("SHOW") {
             Some(Command::Show)
-        } else if is_named(name, "CLIENT") {
+        } else if name.is_named("CLIENT") {
             Some(Command::Client)
-        } else if is_named(name, "STATUS") {
+        } else if name.is_named("STATUS") {
             Some(Command::Status)
-        } else if is_named(name, "HELP") {
+        } else if name.is_named("HELP") {
             Some(Command::Help)
-        } else if is_named(name, "QUIT") {
+        } else if name.is_named("QUIT") {
             Some(Command::Quit)
         } else if is_left_out(name) {
             Some(Command::LeftOut)
@@ -53,16 +56,16 @@ pub(crate) enum Shown {
 }
 
 impl Shown {
-    pub(crate) fn by_name(name: &str) -> Option<Shown>
-        ensures { (parameters : List (List ℕ)) → shown_with result parameters ≡ shown_of name.now parameters }
+    pub(crate) fn by_name(name: &Word) -> Option<Shown>
+        ensures { (parameters : List (List ℕ)) → shown_with result parameters ≡ shown_of (content_of name.now) parameters }
     {
-        if is_named(name, "DB") || is_named(name, "DATABASES") {
+        if name.is_named("DB") || name.is_named("DATABASES") {
             Some(Shown::Databases)
-        } else if is_named(name, "STRAT") || is_named(name, "STRATEGIES") {
+        } else if name.is_named("STRAT") || name.is_named("STRATEGIES") {
             Some(Shown::Strategies)
-        } else if is_named(name, "SERVER") {
+        } else if name.is_named("SERVER") {
             Some(Shown::Server)
-        } else if is_named(name, "INFO") {
+        } else if name.is_named("INFO") {
             Some(Shown::Info)
         } else {
             None
@@ -71,15 +74,8 @@ impl Shown {
 }
 
 // Whether the command is one that this server leaves out.
-fn is_left_out(name: &str) -> bool
-    ensures { result ≡ is_named name.now (codes "OPTION") || (is_named name.now (codes "AUTH") || is_named name.now (codes "SASLAUTH")) }
+fn is_left_out(name: &Word) -> bool
+    ensures { result ≡ is_named (content_of name.now) (codes "OPTION") || (is_named (content_of name.now) (codes "AUTH") || is_named (content_of name.now) (codes "SASLAUTH")) }
 {
-    is_named(name, "OPTION") || is_named(name, "AUTH") || is_named(name, "SASLAUTH")
-}
-
-// Whether a word is this name, without regard to ASCII case.
-fn is_named(word: &str, name: &str) -> bool
-    ensures { result ≡ is_named word.now name.now }
-{
-    word.eq_ignore_ascii_case(name)
+    name.is_named("OPTION") || name.is_named("AUTH") || name.is_named("SASLAUTH")
 }

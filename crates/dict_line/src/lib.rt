@@ -2,16 +2,17 @@
 #![tactic(auto)]
 
 mod command;
+mod laws;
 mod line;
 mod parameters;
 mod place;
-mod reading;
 mod request;
+mod word;
 mod words;
 
+pub use laws::{one_reading, worked_lines, worked_meanings};
 pub use line::{MAX_LINE_CHARACTERS, MAX_LINE_OCTETS, parse_line};
 pub use request::{LineFault, Request};
-pub use words::{one_reading, worked_lines, worked_meanings};
 
 #[cfg(test)]
 mod tests;

@@ -1,15 +1,14 @@
 // How a line is read.
-ghost use Rattle.std.specs.Prelude.{◌≡◌, Err, ◌||◌, true, false, not, MatchOption, length, ◌==◌};
+ghost use Rattle.std.specs.Prelude.{◌≡◌, ◌||◌, true, false, not, MatchOption, length, ◌==◌};
 ghost use Rattle.std.specs.List.{list_all};
 ghost use Rattle.std.specs.Str.{chars};
 ghost use Rattle.dict_text.specs.Characters.{is_control};
-ghost use Rattle.dict_line.specs.Meaning.{meaning, has_word, is_readable};
+ghost use Rattle.dict_line.specs.Meaning.{meaning, is_readable};
 ghost use Rattle.dict_line.specs.Told.{Tells};
-ghost use Rattle.dict_line.specs.declared.request.LineFault.TheVariants.{Memory};
 
 use crate::parameters::parse_words;
-use crate::reading::can_be_cut;
 use crate::request::{LineFault, Request};
+use crate::words::can_be_cut;
 use dict_text::is_control;
 use std::alloc::Global;
 
@@ -25,10 +24,9 @@ pub const MAX_LINE_CHARACTERS: usize = 1024;
 /// character other than the tab; `IllegalParameters` where it can't be cut into words; `NotRecognized` for no word or
 /// an unknown command; `NotImplemented` for OPTION, AUTH and SASLAUTH; `IllegalParameters` for another number of
 /// parameters, or an unknown second word of SHOW. `Memory` comes where room for a word was refused, and for no
-/// other reason; so it never comes for a line that no word is read of.
+/// other reason, and only for a DEFINE, a MATCH or a SHOW INFO with the right number of words.
 pub fn parse_line(alloc: Global, line: &[u8]) -> Result<Request, LineFault>
-    ensures meaning { Tells result (meaning line.now) }
-    ensures memory { result ≡ Err Memory → has_word line.now ≡ true }
+    ensures { Tells result (meaning line.now) }
 {
     let Some(text) = readable_text(line) else {
         return Err(LineFault::NotRecognized);

@@ -1,35 +1,34 @@
 // What a command asks for with its parameters.
-ghost use Rattle.std.specs.Prelude.{◌≡◌, ◌≢◌, Some, [], Err};
+ghost use Rattle.std.specs.Prelude.{◌≡◌, ◌≢◌, Some, [], OnOk, OnErr, IfErr};
 ghost use Rattle.std.specs.Option.{ForSome};
-ghost use Rattle.dict_line.specs.Reading.{words_of};
+ghost use Rattle.dict_line.specs.LineWords.{line_words};
 ghost use Rattle.dict_line.specs.Meaning.{asked, define_of, match_of, show_of, info_of, without_more};
 ghost use Rattle.dict_line.specs.Places.{AreTexts, asked_with, shown_with};
 ghost use Rattle.dict_line.specs.Told.{Tells, requested};
-ghost use Rattle.dict_line.specs.declared.request.LineFault.TheVariants.{Memory};
+ghost use Rattle.dict_line.specs.declared.request.LineFault.TheVariants.{IllegalParameters};
 
 use crate::command::{Command, Shown};
-use crate::reading::{has_word, next_word};
 use crate::request::{LineFault, Request};
+use crate::words::{has_word, next_word};
 use std::alloc::Global;
 
 // What a line asks for that can be cut into words.
 pub(crate) fn parse_words(alloc: Global, line: &[u8]) -> Result<Request, LineFault>
-    requires texts { AreTexts (words_of line.now) }
-    ensures meaning { Tells result (asked (words_of line.now)) }
-    ensures memory { result ≡ Err Memory → words_of line.now ≢ Some [] }
+    requires texts { AreTexts (line_words line.now) }
+    ensures { Tells result (asked (line_words line.now)) }
 {
-    let Some((name, rest)) = next_word(alloc, line)? else {
+    let Some((name, rest)) = next_word(line) else {
         return Err(LineFault::NotRecognized);
     };
-    match Command::by_name(name.as_str()) {
+    match Command::by_name(&name) {
         Some(command) => parse_command(alloc, command, rest),
         None => Err(LineFault::NotRecognized),
     }
 }
 
 fn parse_command(alloc: Global, command: Command, rest: &[u8]) -> Result<Request, LineFault>
-    requires texts { AreTexts (words_of rest.now) }
-    ensures { ForSome (words_of rest.now) (λ words. Tells result (asked_with (Some command) words)) }
+    requires texts { AreTexts (line_words rest.now) }
+    ensures { ForSome (line_words rest.now) (λ words. Tells result (asked_with (Some command) words)) }
 {
     match command {
         Command::Define => parse_define(alloc, rest),
@@ -44,55 +43,59 @@ fn parse_command(alloc: Global, command: Command, rest: &[u8]) -> Result<Request
 }
 
 fn parse_define(alloc: Global, rest: &[u8]) -> Result<Request, LineFault>
-    requires texts { AreTexts (words_of rest.now) }
-    ensures { ForSome (words_of rest.now) (λ words. Tells result (define_of words)) }
+    requires texts { AreTexts (line_words rest.now) }
+    ensures { ForSome (line_words rest.now) (λ words. Tells result (define_of words)) }
 {
-    let Some((database, rest)) = next_word(alloc, rest)? else {
+    let Some((database, rest)) = next_word(rest) else {
         return Err(LineFault::IllegalParameters);
     };
-    let Some((word, rest)) = next_word(alloc, rest)? else {
+    let Some((word, rest)) = next_word(rest) else {
         return Err(LineFault::IllegalParameters);
     };
-    without_more(Request::Define { database, word }, rest)
+    no_more(rest)?;
+    Ok(Request::Define {
+        database: database.content(alloc)?,
+        word: word.content(alloc)?,
+    })
 }
 
 fn parse_match(alloc: Global, rest: &[u8]) -> Result<Request, LineFault>
-    requires texts { AreTexts (words_of rest.now) }
-    ensures { ForSome (words_of rest.now) (λ words. Tells result (match_of words)) }
+    requires texts { AreTexts (line_words rest.now) }
+    ensures { ForSome (line_words rest.now) (λ words. Tells result (match_of words)) }
 {
-    let Some((database, rest)) = next_word(alloc, rest)? else {
+    let Some((database, rest)) = next_word(rest) else {
         return Err(LineFault::IllegalParameters);
     };
-    let Some((strategy, rest)) = next_word(alloc, rest)? else {
+    let Some((strategy, rest)) = next_word(rest) else {
         return Err(LineFault::IllegalParameters);
     };
-    let Some((word, rest)) = next_word(alloc, rest)? else {
+    let Some((word, rest)) = next_word(rest) else {
         return Err(LineFault::IllegalParameters);
     };
-    let request = Request::Match {
-        database,
-        strategy,
-        word,
-    };
-    without_more(request, rest)
+    no_more(rest)?;
+    Ok(Request::Match {
+        database: database.content(alloc)?,
+        strategy: strategy.content(alloc)?,
+        word: word.content(alloc)?,
+    })
 }
 
 fn parse_show(alloc: Global, rest: &[u8]) -> Result<Request, LineFault>
-    requires texts { AreTexts (words_of rest.now) }
-    ensures { ForSome (words_of rest.now) (λ words. Tells result (show_of words)) }
+    requires texts { AreTexts (line_words rest.now) }
+    ensures { ForSome (line_words rest.now) (λ words. Tells result (show_of words)) }
 {
-    let Some((name, rest)) = next_word(alloc, rest)? else {
+    let Some((name, rest)) = next_word(rest) else {
         return Err(LineFault::IllegalParameters);
     };
-    match Shown::by_name(name.as_str()) {
+    match Shown::by_name(&name) {
         Some(shown) => parse_shown(alloc, shown, rest),
         None => Err(LineFault::IllegalParameters),
     }
 }
 
 fn parse_shown(alloc: Global, shown: Shown, rest: &[u8]) -> Result<Request, LineFault>
-    requires texts { AreTexts (words_of rest.now) }
-    ensures { ForSome (words_of rest.now) (λ words. Tells result (shown_with (Some shown) words)) }
+    requires texts { AreTexts (line_words rest.now) }
+    ensures { ForSome (line_words rest.now) (λ words. Tells result (shown_with (Some shown) words)) }
 {
     match shown {
         Shown::Databases => without_more(Request::ShowDatabases, rest),
@@ -103,22 +106,35 @@ fn parse_shown(alloc: Global, shown: Shown, rest: &[u8]) -> Result<Request, Line
 }
 
 fn parse_info(alloc: Global, rest: &[u8]) -> Result<Request, LineFault>
-    requires texts { AreTexts (words_of rest.now) }
-    ensures { ForSome (words_of rest.now) (λ words. Tells result (info_of words)) }
+    requires texts { AreTexts (line_words rest.now) }
+    ensures { ForSome (line_words rest.now) (λ words. Tells result (info_of words)) }
 {
-    let Some((database, rest)) = next_word(alloc, rest)? else {
+    let Some((database, rest)) = next_word(rest) else {
         return Err(LineFault::IllegalParameters);
     };
-    without_more(Request::ShowInfo { database }, rest)
+    no_more(rest)?;
+    Ok(Request::ShowInfo {
+        database: database.content(alloc)?,
+    })
 }
 
-// The request, if no words are left.
-fn without_more(request: Request, rest: &[u8]) -> Result<Request, LineFault>
-    ensures { ForSome (words_of rest.now) (λ words. Tells result (without_more (requested request) words)) }
+// Whether no words are left.
+fn no_more(rest: &[u8]) -> Result<(), LineFault>
+    ensures none { OnOk result (line_words rest.now ≡ Some []) }
+    ensures some { OnErr result (ForSome (line_words rest.now) (λ words. words ≢ [])) }
+    ensures fault { IfErr result (λ fault. fault ≡ IllegalParameters) }
 {
     if has_word(rest) {
         Err(LineFault::IllegalParameters)
     } else {
-        Ok(request)
+        Ok(())
     }
+}
+
+// The request, if no words are left.
+fn without_more(request: Request, rest: &[u8]) -> Result<Request, LineFault>
+    ensures { ForSome (line_words rest.now) (λ words. Tells result (without_more (requested request) words)) }
+{
+    no_more(rest)?;
+    Ok(request)
 }

@@ -2,8 +2,10 @@
 ghost use Rattle.std.specs.Prelude.{◌≡◌, if◌then◌else◌};
 ghost use Rattle.dict_text.specs.Characters.{is_blank, is_control};
 ghost use Rattle.dict_line.specs.Words.{is_quoting, is_quote_sign};
-ghost use Rattle.dict_line.specs.Reading.{next_place, place_after, in_string, stuck};
+ghost use Rattle.dict_line.specs.LineWords.{next_place, place_after, in_string, stuck};
 ghost use Rattle.dict_line.specs.Places.{place_of, is_content, ends_word};
+
+use dict_text::{is_blank_octet, is_control_octet};
 
 // Where in a line an octet stands.
 #[derive(Clone, Copy, Debug, PartialEq, Eq)]
@@ -98,18 +100,6 @@ impl Place {
             Place::Stuck => false,
         }
     }
-}
-
-pub(crate) fn is_blank_octet(octet: u8) -> bool
-    ensures { result ≡ is_blank octet }
-{
-    octet == b' ' || octet == b'\t'
-}
-
-fn is_control_octet(octet: u8) -> bool
-    ensures { result ≡ is_control octet }
-{
-    octet < b' ' || octet == 127
 }
 
 fn is_quote_sign(octet: u8) -> bool

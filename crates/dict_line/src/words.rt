@@ -1,52 +1,66 @@
-// The laws of the words of a line, and worked lines.
-ghost use Rattle.std.specs.Prelude.{◌≡◌, ℕ, List, [], ◌∷◌, Some, None, codes};
-ghost use Rattle.dict_line.specs.Words.{AreWords};
-ghost use Rattle.dict_line.specs.Reading.{words_of};
-ghost use Rattle.dict_line.specs.Meaning.{meaning, define, matching, show_server, show_info, client, quit, not_recognized, illegal_parameters, not_implemented};
+// How the words of a line are found.
+ghost use Rattle.std.specs.Prelude.{◌≡◌, ◌≢◌, ◌∷◌, [], Some, true, false, not, is_some, MatchOption};
+ghost use Rattle.std.specs.List.{position};
+ghost use Rattle.std.specs.Option.{option_map, ForSome};
+ghost use Rattle.std.specs.Str.{IsUtf8};
+ghost use Rattle.dict_text.specs.Characters.{is_blank};
+ghost use Rattle.dict_line.specs.LineWords.{line_words, words_from, within};
+ghost use Rattle.dict_line.specs.Content.{content_of};
+ghost use Rattle.dict_line.specs.Places.{AreTexts};
 
-/// A law of lines of characters: each line can be cut into words in at most one way; where it can, `words_of`
-/// computes those words, and what it computes are the line's words.
-pub fn one_reading()
-    ensures computed { (line : List ℕ) (words : List (List ℕ)) → AreWords line words
-        → words_of line ≡ Some words }
-    ensures found { (line : List ℕ) (words : List (List ℕ)) → words_of line ≡ Some words → AreWords line words }
-    ensures only { (line : List ℕ) (words others : List (List ℕ)) → AreWords line words
-        → AreWords line others → words ≡ others }
-{}
+use crate::place::Place;
+use crate::word::Word;
+use dict_text::is_blank_octet;
 
-/// Worked lines: both kinds of string, parts that touch, quoted pairs, the empty word, and lines that can't be cut.
-pub fn worked_lines()
-    ensures strings { words_of (codes "define \"gem\" 'fire  op'al")
-        ≡ Some (codes "define" ∷ codes "gem" ∷ codes "fire  opal" ∷ []) }
-    ensures pairs { words_of (codes "a\\ b\t\\\" \"\\\"\\x'\"") ≡ Some (codes "a b" ∷ codes "\"" ∷ codes "\"x'" ∷ []) }
-    ensures empty_word { words_of (codes "x \"\" ") ≡ Some (codes "x" ∷ [] ∷ []) }
-    ensures no_word { words_of (codes " \t ") ≡ Some [] }
-    ensures open_string { words_of (codes "DEFINE gem \"opal") ≡ None }
-    ensures other_sign { words_of (codes "DEFINE gem 'opal\"") ≡ None }
-    ensures last_backslash { words_of (codes "opal\\") ≡ None }
-    ensures tab_in_string { words_of (codes "\"a\tb\"") ≡ None }
-    ensures tab_after_backslash { words_of (codes "a\\\tb") ≡ None }
-{}
+// Whether the line can be cut into words.
+pub(crate) fn can_be_cut(line: &[u8]) -> bool
+    ensures { result ≡ is_some (line_words line.now) }
+{
+    let mut place = Place::Between;
+    for octet in line {
+        place = place.after(*octet);
+    }
+    matches!(place, Place::Between | Place::Within)
+}
 
-/// What worked lines mean: quoting of each kind, case, parameters that are too few, too many or unknown, and commands
-/// that are left out.
-pub fn worked_meanings()
-    ensures parts { meaning (codes "DEFINE gem o\"pa\"'l'") ≡ define (codes "gem") (codes "opal") }
-    ensures pair { meaning (codes "DEFINE gem \\opal") ≡ define (codes "gem") (codes "opal") }
-    ensures three { meaning (codes "match * . 'fire opal'") ≡ matching (codes "*") (codes ".") (codes "fire opal") }
-    ensures touching { meaning (codes "DEFINE gem\"opal\"") ≡ illegal_parameters }
-    ensures last_backslash { meaning (codes "DEFINE gem opal\\") ≡ illegal_parameters }
-    ensures open_string { meaning (codes "nothing \"a") ≡ illegal_parameters }
-    ensures tab_in_string { meaning (codes "DEFINE gem \"a\tb\"") ≡ illegal_parameters }
-    ensures show { meaning (codes "show  server") ≡ show_server }
-    ensures info { meaning (codes "SHOW INFO gem") ≡ show_info (codes "gem") }
-    ensures unknown_show { meaning (codes "SHOW X") ≡ illegal_parameters }
-    ensures no_show { meaning (codes "SHOW") ≡ illegal_parameters }
-    ensures no_words { meaning (codes "CLIENT") ≡ client }
-    ensures quoted_command { meaning (codes "qu'IT'") ≡ quit }
-    ensures more { meaning (codes "QUIT x") ≡ illegal_parameters }
-    ensures left_out { meaning (codes "option mime") ≡ not_implemented }
-    ensures unknown { meaning (codes "SASLRESP x") ≡ not_recognized }
-    ensures empty_line { meaning [] ≡ not_recognized }
-    ensures empty_word { meaning (codes "\"\"") ≡ not_recognized }
-{}
+// Whether the line has a word.
+pub(crate) fn has_word(line: &[u8]) -> bool
+    ensures none { result ≡ false → line_words line.now ≡ Some [] }
+    ensures some { result ≡ true → ForSome (line_words line.now) (λ words. words ≢ []) }
+{
+    first_word_octet(line).is_some()
+}
+
+// The first word of a line that can be cut into words, and what follows it.
+pub(crate) fn next_word(line: &[u8]) -> Option<(Word, &[u8])>
+    requires texts { AreTexts (line_words line.now) }
+    ensures { MatchOption result (line_words line.now ≡ Some [])
+        (λ x. (line_words line.now ≡ option_map (λ words. content_of x.0 ∷ words) (line_words x.1.now))
+        × IsUtf8 (content_of x.0) × AreTexts (line_words x.1.now)) }
+{
+    let start = first_word_octet(line)?;
+    Some(first_word(&line[start..]))
+}
+
+// The word at the front of a text, and what follows the word.
+fn first_word(text: &[u8]) -> (Word, &[u8])
+    requires cut { is_some (words_from within text.now) ≡ true }
+    ensures { words_from within text.now ≡ option_map (λ words. content_of result.0 ∷ words) (line_words result.1.now) }
+{
+    let mut place = Place::Within;
+    for i in 0..text.len() {
+        let octet = text[i];
+        if place.ends_word(octet) {
+            return (Word::new(&text[..i]), &text[i..]);
+        }
+        place = place.after(octet);
+    }
+    (Word::new(text), &[])
+}
+
+// Where the first word begins.
+fn first_word_octet(line: &[u8]) -> Option<usize>
+    ensures { result ≡ position (λ octet. not (is_blank octet)) line.now }
+{
+    line.iter().position(|octet| !is_blank_octet(*octet))
+}

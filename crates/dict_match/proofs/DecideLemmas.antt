@@ -5,7 +5,7 @@ use Rattle.std.specs.List.{starts_with, ends_with}
 use Rattle.std.proofs.lemmas.Bool.{or_cases, or_left, or_right, and_parts, and_from, ne_eqb, not_from_false}
 use Rattle.std.proofs.lemmas.Bool.Decides.{Decides-eqb, same_from_decides}
 use Rattle.std.proofs.lemmas.Slice.Eq.{starts_is, ends_is, bytes_eq-Decides}
-use Rattle.dict_match.specs.Words.{words_of}
+use Rattle.dict_match.specs.Words.{words_between_blanks}
 use Rattle.dict_match.specs.declared.strategy.Strategy.{Strategy}
 use Rattle.dict_match.specs.declared.strategy.Strategy.TheVariants.{Exact, Prefix, Suffix, Substring, Word, First, Last}
 use Rattle.dict_match.specs.Matching.{Fits, Hits, has_run, is_fit, is_hit}
@@ -40,9 +40,9 @@ fit_law Exact q k = bytes_eq-Decides k q
 fit_law Prefix q k = starts_law eqb Decides-eqb k q
 fit_law Suffix q k = ends_law eqb Decides-eqb k q
 fit_law Substring q k = run_law eqb Decides-eqb k q
-fit_law Word q k = run_law bytes_eq bytes_eq-Decides (words_of k) (words_of q)
-fit_law First q k = starts_law bytes_eq bytes_eq-Decides (words_of k) (words_of q)
-fit_law Last q k = ends_law bytes_eq bytes_eq-Decides (words_of k) (words_of q)
+fit_law Word q k = run_law bytes_eq bytes_eq-Decides (words_between_blanks k) (words_between_blanks q)
+fit_law First q k = starts_law bytes_eq bytes_eq-Decides (words_between_blanks k) (words_between_blanks q)
+fit_law Last q k = ends_law bytes_eq bytes_eq-Decides (words_between_blanks k) (words_between_blanks q)
 
 some_query : (q : List ℕ) → Decides (not (eqb (length q) 0)) (q ≢ [])
 some_query [] = ((λ h. cc), (λ h. absurd (h refl)))

@@ -8,10 +8,11 @@ use Rattle.std.proofs.lemmas.List.Splits.{slice_split-cons_yes}
 use Rattle.std.proofs.lemmas.List.Elements.{All-nil, All-cons, All-head, All-tail, All-append, All-map, All-filter, All-weaker}
 use Rattle.std.proofs.lemmas.Str.{length-le-encodes, scalars-chars}
 use Rattle.dict_text.specs.Characters.{is_blank}
-use Rattle.dict_match.specs.Words.{words_of}
-use Rattle.dict_match.specs.Key.{is_kept, kept_in_lower_case, ascii_folded, without_leading_blanks, without_trailing_blanks, without_blanks_at_ends, key_chars, key_of}
+use Rattle.dict_match.specs.Words.{words_between_blanks}
+use Rattle.dict_text.specs.Blanks.{without_leading_blanks, without_trailing_blanks, without_blanks_at_ends}
+use Rattle.dict_match.specs.Key.{is_kept, kept_in_lower_case, ascii_folded, key_chars, key_of}
 use Rattle.dict_match.proofs.FoldLemmas.{is_word, is_blank-lower}
-use Rattle.dict_match.proofs.TrimLemmas.{All-ends}
+use Rattle.dict_text.proofs.BlankLemmas.{All-ends}
 use Rattle.dict_match.proofs.KeyLemmas.{IsBlank}
 
 -- what holds of each element of a list holds of each element of each piece, and of the pieces joined
@@ -41,7 +42,7 @@ module _ (P : ℕ → Type 0) where
   folded-All space lower cs h =
       let kept : All P (kept_in_lower_case cs) =
       All-map P to_ascii_lowercase (filter is_kept cs) (All-weaker P (λ c. P (to_ascii_lowercase c)) lower (filter is_kept cs) (All-filter is_kept P cs h)) in
-      join-All 32 space (words_of (kept_in_lower_case cs))
+      join-All 32 space (words_between_blanks (kept_in_lower_case cs))
       (All-filter is_word (All P) (slice_split is_blank (kept_in_lower_case cs)) (pieces-All is_blank (kept_in_lower_case cs) kept))
 
   pub key_chars-All : P 32 → ((c : ℕ) → P c → P (to_ascii_lowercase c)) → (cs : List ℕ) → All P cs → All P (key_chars cs)
@@ -78,7 +79,7 @@ empty-list [] e = refl
 empty-list (x ∷ xs) e = absurd (omega arith)
 
 -- blanks alone have no words
-pub no_words-from_blanks : (cs : List ℕ) → All IsBlank cs → words_of cs ≡ []
+pub no_words-from_blanks : (cs : List ℕ) → All IsBlank cs → words_between_blanks cs ≡ []
 no_words-from_blanks [] h = refl
 no_words-from_blanks (c ∷ cs) h =
     ap (filter is_word) (slice_split-cons_yes is_blank c cs (All-head IsBlank c cs h)) ∙ no_words-from_blanks cs (All-tail IsBlank c cs h)

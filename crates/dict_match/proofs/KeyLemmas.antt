@@ -9,17 +9,18 @@ use Rattle.std.proofs.lemmas.List.Elements.{All-nil, All-cons, All-head, All-tai
 use Rattle.std.proofs.lemmas.Str.{encodes-chars, encodes-IsAscii, length-le-encodes}
 use Rattle.std.proofs.lemmas.Str.Ascii.{IsAscii-from_all}
 use Rattle.dict_text.specs.Characters.{is_blank}
-use Rattle.dict_match.specs.Words.{words_of}
-use Rattle.dict_match.specs.Key.{is_kept, kept_in_lower_case, ascii_folded, without_blanks_at_ends, key_of}
+use Rattle.dict_match.specs.Words.{words_between_blanks}
+use Rattle.dict_text.specs.Blanks.{without_blanks_at_ends}
+use Rattle.dict_match.specs.Key.{is_kept, kept_in_lower_case, ascii_folded, key_of}
 use Rattle.dict_match.proofs.SplitLemmas.{some_piece}
 use Rattle.dict_match.proofs.FoldLemmas.{is_word, no_words, is_blank-lower}
-use Rattle.dict_match.proofs.TrimLemmas.{All-ends}
+use Rattle.dict_text.proofs.BlankLemmas.{All-ends}
 
 abbrev pub IsBlank : ℕ → Type 0
 IsBlank c = is_blank c ≡ true
 
 -- where there are no words, all is blank
-pub blanks-from_no_words : (cs : List ℕ) → words_of cs ≡ [] → All IsBlank cs
+pub blanks-from_no_words : (cs : List ℕ) → words_between_blanks cs ≡ [] → All IsBlank cs
 blanks-from_no_words [] none = All-nil IsBlank
 blanks-from_no_words (c ∷ cs) none =
     let some = some_piece is_blank cs in

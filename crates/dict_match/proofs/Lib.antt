@@ -1,7 +1,6 @@
 pub mod SplitLemmas
 pub mod JoinLemmas
 pub mod FoldLemmas
-pub mod TrimLemmas
 pub mod KeyLemmas
 pub mod KeyLaws
 pub mod StrategyLemmas

@@ -1,42 +1,69 @@
--- No two strategies have one name.
-use Rattle.std.proofs.Common.{◌≡◌, ◌↔◌, ℕ, List, Some, None, codes, bytes_eq, if◌then◌else◌, refl, ap, sym, ◌∙◌}
+-- The list of the strategies, and their names.
+use Rattle.std.proofs.Common.{◌≡◌, ◌↔◌, ℕ, zero, suc, List, [], ◌∷◌, refl, ap, sym, ◌∙◌, subst, cond, bytes_eq, Bool, true, false}
+use Rattle.std.proofs.lemmas.Slice.Eq.{bytes_eq-Decides}
+use Rattle.std.specs.Prelude.{Option, Some, None, find, slice_get}
 use Rattle.dict_match.specs.declared.strategy.Strategy.{Strategy}
 use Rattle.dict_match.specs.declared.strategy.Strategy.TheVariants.{Exact, Prefix, Suffix, Substring, Word, First, Last}
-use Rattle.dict_match.specs.StrategyText.{name_of}
+use Rattle.dict_match.specs.StrategyText.{strategies, name_of, strategy_named, AreEachOnce}
 
--- the strategy back from its name
-abbrev named : List ℕ → Strategy
-named name =
-    if bytes_eq name (codes "exact") then Exact else (if bytes_eq name (codes "prefix") then Prefix else (if bytes_eq name (codes "suffix") then Suffix
-    else (if bytes_eq name (codes "substring") then Substring else (if bytes_eq name (codes "word") then Word else (if bytes_eq name (codes "first") then First else Last)))))
+-- the place of a strategy in the list
+place_of : Strategy → ℕ
+place_of Exact = 0
+place_of Prefix = 1
+place_of Suffix = 2
+place_of Substring = 3
+place_of Word = 4
+place_of First = 5
+place_of Last = 6
 
-named-name_of : (s : Strategy) → named (name_of s) ≡ s
+at_place : (s : Strategy) → slice_get strategies (place_of s) ≡ Some s
+unfolding place_of
+at_place Exact = refl
+at_place Prefix = refl
+at_place Suffix = refl
+at_place Substring = refl
+at_place Word = refl
+at_place First = refl
+at_place Last = refl
+
+one_place : (n : ℕ) (s : Strategy) → slice_get strategies n ≡ Some s → n ≡ place_of s
+unfolding place_of
+one_place zero s e = ap place_of (let same : Exact ≡ s = cc in same)
+one_place (suc zero) s e = ap place_of (let same : Prefix ≡ s = cc in same)
+one_place (suc (suc zero)) s e = ap place_of (let same : Suffix ≡ s = cc in same)
+one_place (suc (suc (suc zero))) s e = ap place_of (let same : Substring ≡ s = cc in same)
+one_place (suc (suc (suc (suc zero)))) s e = ap place_of (let same : Word ≡ s = cc in same)
+one_place (suc (suc (suc (suc (suc zero))))) s e = ap place_of (let same : First ≡ s = cc in same)
+one_place (suc (suc (suc (suc (suc (suc zero)))))) s e = ap place_of (let same : Last ≡ s = cc in same)
+one_place (suc (suc (suc (suc (suc (suc (suc n))))))) s e = absurd (let none : let o : Option Strategy = None in o ≡ Some s = e in cc)
+
+pub each_once : AreEachOnce strategies
+each_once s = (place_of s, λ n. (one_place n s, λ e. subst (λ m. slice_get strategies m ≡ Some s) (sym e) (at_place s)))
+
+-- each strategy has its own name
+pub named_itself : (s : Strategy) → strategy_named (name_of s) ≡ Some s
 unfolding name_of
-named-name_of Exact = refl
-named-name_of Prefix = refl
-named-name_of Suffix = refl
-named-name_of Substring = refl
-named-name_of Word = refl
-named-name_of First = refl
-named-name_of Last = refl
+named_itself Exact = refl
+named_itself Prefix = refl
+named_itself Suffix = refl
+named_itself Substring = refl
+named_itself Word = refl
+named_itself First = refl
+named_itself Last = refl
 
--- what `by_name` says of a name that is one
-pub one_name : (name : List ℕ) (s t : Strategy) → name ≡ name_of s → (Some s ≡ Some t) ↔ (name ≡ name_of t)
-one_name name s t is = (
-  (λ e. let same : s ≡ t = cc in is ∙ ap name_of same),
-  (λ e. ap Some (sym (named-name_of s) ∙ ap named (sym is ∙ e) ∙ named-name_of t)),
-)
-
--- and of one that is none
-pub no_name : (name : List ℕ) → (name ≡ name_of Exact → ⊥) → (name ≡ name_of Prefix → ⊥) → (name ≡ name_of Suffix → ⊥) → (name ≡ name_of Substring → ⊥)
-    → (name ≡ name_of Word → ⊥) → (name ≡ name_of First → ⊥) → (name ≡ name_of Last → ⊥) → (t : Strategy) → (None ≡ Some t) ↔ (name ≡ name_of t)
-no_name name exact prefix suffix substring word first last t = ((λ e. cc), (λ e. absurd (apart t e)))
+-- what is found by its name has it
+found_has_name : (name : List ℕ) (ss : List Strategy) (s : Strategy) → find (λ t. bytes_eq name (name_of t)) ss ≡ Some s → name ≡ name_of s
+found_has_name name [] s e = absurd (cc)
+found_has_name name (t ∷ ss) s e = by_first (bytes_eq name (name_of t)) refl e (found_has_name name ss s)
   where
-    apart : (s : Strategy) → name ≡ name_of s → ⊥
-    apart Exact e = exact e
-    apart Prefix e = prefix e
-    apart Suffix e = suffix e
-    apart Substring e = substring e
-    apart Word e = word e
-    apart First e = first e
-    apart Last e = last e
+    by_first : (b : Bool) → bytes_eq name (name_of t) ≡ b → cond b (Some t) (find (λ u. bytes_eq name (name_of u)) ss) ≡ Some s → (find (λ u. bytes_eq name (name_of u)) ss ≡ Some s → name ≡ name_of s) → name ≡ name_of s
+    by_first true h k later = let same : t ≡ s = cc in (bytes_eq-Decides name (name_of t)).0 h ∙ ap name_of same
+    by_first false h k later = later k
+
+-- what is found by a name is the strategy that has it
+pub named_only : (name : List ℕ) (r : Option Strategy) → r ≡ strategy_named name → (s : Strategy) → (r ≡ Some s) ↔ (name ≡ name_of s)
+named_only name r is s = ((λ e. found_has_name name strategies s (sym is ∙ e)), (λ e. is ∙ (ap strategy_named e ∙ named_itself s)))
+
+-- a name that is one strategy's is no other's
+pub one_name : (name : List ℕ) (s t : Strategy) → name ≡ name_of s → (Some s ≡ Some t) ↔ (name ≡ name_of t)
+one_name name s t is = ((λ e. let same : s ≡ t = cc in is ∙ ap name_of same), (λ e. sym (named_itself s) ∙ (ap strategy_named (sym is ∙ e) ∙ named_itself t)))

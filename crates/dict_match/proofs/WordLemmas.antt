@@ -9,8 +9,8 @@ use Rattle.std.proofs.lemmas.List.Splits.{slice_split-cons_yes, slice_split-cons
 use Rattle.std.proofs.Math.Seq.{drop-cons}
 use Rattle.memchr.specs.Find.{IsFirstByte, is_byte2}
 use Rattle.dict_text.specs.Characters.{is_blank}
-use Rattle.dict_match.specs.Words.{words_of}
-use Rattle.dict_match.specs.Key.{without_leading_blanks}
+use Rattle.dict_match.specs.Words.{words_between_blanks}
+use Rattle.dict_text.specs.Blanks.{without_leading_blanks}
 use Rattle.dict_match.proofs.FoldLemmas.{is_word}
 use Rattle.dict_match.proofs.SplitLemmas.{some_piece}
 
@@ -18,14 +18,14 @@ abbrev IsSolid : ℕ → Type 0
 IsSolid c = is_blank c ≡ false
 
 -- blanks at the front make no words
-pub words_of-leading : (bs : List ℕ) → words_of (without_leading_blanks bs) ≡ words_of bs
-words_of-leading [] = refl
-words_of-leading (b ∷ bs) =
+pub words_between_blanks-leading : (bs : List ℕ) → words_between_blanks (without_leading_blanks bs) ≡ words_between_blanks bs
+words_between_blanks-leading [] = refl
+words_between_blanks-leading (b ∷ bs) =
     elim (cases_Bool (is_blank b)) [
       | inl blank ↦
-          ap words_of (cond-true (is_blank b) (without_leading_blanks bs) (b ∷ bs) blank) ∙ words_of-leading bs
+          ap words_between_blanks (cond-true (is_blank b) (without_leading_blanks bs) (b ∷ bs) blank) ∙ words_between_blanks-leading bs
           ∙ sym (ap (filter is_word) (slice_split-cons_yes is_blank b bs blank))
-      | inr solid ↦ ap words_of (cond-false (is_blank b) (without_leading_blanks bs) (b ∷ bs) solid)
+      | inr solid ↦ ap words_between_blanks (cond-false (is_blank b) (without_leading_blanks bs) (b ∷ bs) solid)
     ]
 
 -- what is left of a list without blanks at its front begins with no blank
@@ -40,20 +40,20 @@ leading_solid (b ∷ bs) some =
     ]
 
 -- a run without blanks, up to a blank or the end, is the first word
-pub words_of-run : (run rest : List ℕ) → All IsSolid run → 0 < length run → (0 < length rest → is_blank (get_or rest 0 0) ≡ true)
-    → words_of (run ++ rest) ≡ run ∷ words_of rest
-words_of-run run [] solid some ends =
-    ap words_of (append-nil run) ∙ ap (filter is_word) (slice_split_none is_blank run solid)
+pub words_between_blanks-run : (run rest : List ℕ) → All IsSolid run → 0 < length run → (0 < length rest → is_blank (get_or rest 0 0) ≡ true)
+    → words_between_blanks (run ++ rest) ≡ run ∷ words_between_blanks rest
+words_between_blanks-run run [] solid some ends =
+    ap words_between_blanks (append-nil run) ∙ ap (filter is_word) (slice_split_none is_blank run solid)
     ∙ cond-true (is_word run) (run ∷ []) [] (ap not (ne_eqb (length run) 0 (λ none. absurd (omega arith))))
-words_of-run run (b ∷ rest) solid some ends =
+words_between_blanks-run run (b ∷ rest) solid some ends =
     let blank : is_blank b ≡ true = ends (omega arith) in
     ap (filter is_word) (slice_split_at is_blank run b rest solid blank)
-    ∙ cond-true (is_word run) (run ∷ words_of rest) (words_of rest) (ap not (ne_eqb (length run) 0 (λ none. absurd (omega arith))))
+    ∙ cond-true (is_word run) (run ∷ words_between_blanks rest) (words_between_blanks rest) (ap not (ne_eqb (length run) 0 (λ none. absurd (omega arith))))
     ∙ ap (λ ws. run ∷ ws) (sym (ap (filter is_word) (slice_split-cons_yes is_blank b rest blank)))
 
 -- the same by places
 pub first_word_at : (bs : List ℕ) (n : ℕ) → 0 < n → n ≤ length bs → ((k : ℕ) → k < n → is_blank (get_or bs k 0) ≡ false)
-    → (n < length bs → is_blank (get_or bs n 0) ≡ true) → words_of bs ≡ take n bs ∷ words_of (drop n bs)
+    → (n < length bs → is_blank (get_or bs n 0) ≡ true) → words_between_blanks bs ≡ take n bs ∷ words_between_blanks (drop n bs)
 first_word_at bs n some within solid ends =
     let size : length (take n bs) ≡ n = length-take-le n bs within in
     let run : All IsSolid (take n bs) =
@@ -63,11 +63,11 @@ first_word_at bs n some within solid ends =
     let size_left : length (drop n bs) ≡ length bs - n = length-drop n bs in
     let lt : n < length bs = omega arith in
     ap (λ cs. is_blank (get_or cs 0 0)) (drop-cons bs n 0 lt) ∙ ends lt in
-    sym (ap words_of (take-append-drop n bs)) ∙ words_of-run (take n bs) (drop n bs) run (omega arith) next
+    sym (ap words_between_blanks (take-append-drop n bs)) ∙ words_between_blanks-run (take n bs) (drop n bs) run (omega arith) next
 
 -- by what a search for the first blank answers
 pub first_word : (bs : List ℕ) (r : Option ℕ) → 0 < length bs → is_blank (get_or bs 0 0) ≡ false → IsFirstByte (is_byte2 32 9) bs r
-    → words_of bs ≡ take (unwrap_or r (length bs)) bs ∷ words_of (drop (unwrap_or r (length bs)) bs)
+    → words_between_blanks bs ≡ take (unwrap_or r (length bs)) bs ∷ words_between_blanks (drop (unwrap_or r (length bs)) bs)
 first_word bs None some solid none =
     first_word_at bs (length bs) some (omega arith) (λ k lt. false_from_ne_true _ (none k (omega arith) lt)) (λ lt. absurd (omega arith))
 first_word bs (Some n) some solid found =
@@ -88,21 +88,21 @@ positive [] some = absurd (some refl)
 positive (b ∷ bs) some = omega arith
 
 -- each word takes an element at least
-pub length-words_of : (bs : List ℕ) → length (words_of bs) ≤ length bs
-length-words_of [] = omega arith
-length-words_of (b ∷ bs) =
+pub length-words_between_blanks : (bs : List ℕ) → length (words_between_blanks bs) ≤ length bs
+length-words_between_blanks [] = omega arith
+length-words_between_blanks (b ∷ bs) =
     let some = some_piece is_blank bs in
-    let fewer : length (words_of bs) ≤ length bs = length-words_of bs in
+    let fewer : length (words_between_blanks bs) ≤ length bs = length-words_between_blanks bs in
     elim (cases_Bool (is_blank b)) [
       | inl blank ↦
-          let same : length (words_of (b ∷ bs)) ≡ length (words_of bs) = ap (λ ps. length (filter is_word ps)) (slice_split-cons_yes is_blank b bs blank) in
+          let same : length (words_between_blanks (b ∷ bs)) ≡ length (words_between_blanks bs) = ap (λ ps. length (filter is_word ps)) (slice_split-cons_yes is_blank b bs blank) in
           omega arith
       | inr solid ↦
           let pieces : slice_split is_blank (b ∷ bs) ≡ (b ∷ some.0) ∷ some.1 = slice_split-cons_no is_blank b bs solid ∙ ap (onto_first b) some.2 in
           let word : is_word (b ∷ some.0) ≡ true = ap not (ne_eqb (length (b ∷ some.0)) 0 (λ none. absurd (omega arith))) in
-          let here : length (words_of (b ∷ bs)) ≡ length (filter is_word some.1) + 1 =
+          let here : length (words_between_blanks (b ∷ bs)) ≡ length (filter is_word some.1) + 1 =
           ap (λ ps. length (filter is_word ps)) pieces ∙ ap length (cond-true (is_word (b ∷ some.0)) _ (filter is_word some.1) word) ∙ add-suc-one (length (filter is_word some.1)) in
-          let before : length (words_of bs) ≡ length (filter is_word (some.0 ∷ some.1)) = ap (λ ps. length (filter is_word ps)) some.2 in
+          let before : length (words_between_blanks bs) ≡ length (filter is_word (some.0 ∷ some.1)) = ap (λ ps. length (filter is_word ps)) some.2 in
           let more : length (filter is_word some.1) ≤ length (filter is_word (some.0 ∷ some.1)) = filter-cons-le some.0 some.1 in
           omega arith
     ]

@@ -1,11 +1,12 @@
 -- The key under which a headword is filed and a query is looked up, by the first version of folding: it knows
 -- the letters of ASCII alone.
-use Rattle.std.specs.Prelude.{ℕ, Bool, List, [], ◌∷◌, length, map, filter, nat_le, ◌==◌, ◌&&◌, ◌||◌, if◌then◌else◌}
+use Rattle.std.specs.Prelude.{ℕ, Bool, List, [], ◌∷◌, length, map, filter, nat_le, ◌==◌, ◌||◌, if◌then◌else◌}
 use Rattle.std.specs.Char.{to_ascii_lowercase, is_ascii_alphanumeric}
 use Rattle.std.specs.List.{join_with_byte}
 use Rattle.std.specs.Str.{chars, encode_utf8_all}
 use Rattle.dict_text.specs.Characters.{is_blank}
-use Rattle.dict_match.specs.Words.{words_of}
+use Rattle.dict_text.specs.Blanks.{without_blanks_at_ends}
+use Rattle.dict_match.specs.Words.{words_between_blanks}
 
 -- a letter or a digit of ASCII, a blank, or a character past ASCII
 abbrev pub is_kept : ℕ → Bool
@@ -17,21 +18,7 @@ kept_in_lower_case cs = map to_ascii_lowercase (filter is_kept cs)
 
 -- the words of these, joined by one space
 abbrev pub ascii_folded : List ℕ → List ℕ
-ascii_folded cs = join_with_byte 32 (words_of (kept_in_lower_case cs))
-
--- without the blanks at the front
-abbrev pub without_leading_blanks : List ℕ → List ℕ
-without_leading_blanks [] = []
-without_leading_blanks (c ∷ cs) = if is_blank c then without_leading_blanks cs else c ∷ cs
-
--- without the blanks at the end
-abbrev pub without_trailing_blanks : List ℕ → List ℕ
-without_trailing_blanks [] = []
-without_trailing_blanks (c ∷ cs) =
-    if is_blank c && length (without_trailing_blanks cs) == 0 then [] else c ∷ without_trailing_blanks cs
-
-abbrev pub without_blanks_at_ends : List ℕ → List ℕ
-without_blanks_at_ends cs = without_trailing_blanks (without_leading_blanks cs)
+ascii_folded cs = join_with_byte 32 (words_between_blanks (kept_in_lower_case cs))
 
 -- the characters of the key of a text of these characters: what is folded, or, where that is nothing, the text
 -- without blanks at its ends

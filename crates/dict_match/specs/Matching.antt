@@ -2,7 +2,7 @@
 use Rattle.std.specs.Prelude.{◌≡◌, ◌≢◌, ℕ, Bool, List, [], ◌∷◌, ◌++◌, length, not, ◌&&◌, ◌||◌, ◌==◌, nat_eq}
 use Rattle.std.specs.List.{starts_with, ends_with}
 use Rattle.std.specs.Str.{bytes_eq}
-use Rattle.dict_match.specs.Words.{words_of}
+use Rattle.dict_match.specs.Words.{words_between_blanks}
 use Rattle.dict_match.specs.declared.strategy.Strategy.{Strategy}
 use Rattle.dict_match.specs.declared.strategy.Strategy.TheVariants.{Exact, Prefix, Suffix, Substring, Word, First, Last}
 
@@ -26,9 +26,9 @@ Fits Exact q k = k ≡ q
 Fits Prefix q k = (b : List ℕ) × (k ≡ q ++ b)
 Fits Suffix q k = (a : List ℕ) × (k ≡ a ++ q)
 Fits Substring q k = StandsIn q k
-Fits Word q k = HasWords (words_of k) (words_of q)
-Fits First q k = BeginsWithWords (words_of k) (words_of q)
-Fits Last q k = EndsWithWords (words_of k) (words_of q)
+Fits Word q k = HasWords (words_between_blanks k) (words_between_blanks q)
+Fits First q k = BeginsWithWords (words_between_blanks k) (words_between_blanks q)
+Fits Last q k = EndsWithWords (words_between_blanks k) (words_between_blanks q)
 
 -- an empty query finds nothing
 abbrev pub Hits : Strategy → List ℕ → List ℕ → Type 0
@@ -44,9 +44,9 @@ is_fit Exact q k = bytes_eq k q
 is_fit Prefix q k = starts_with nat_eq k q
 is_fit Suffix q k = ends_with nat_eq k q
 is_fit Substring q k = has_run nat_eq k q
-is_fit Word q k = has_run bytes_eq (words_of k) (words_of q)
-is_fit First q k = starts_with bytes_eq (words_of k) (words_of q)
-is_fit Last q k = ends_with bytes_eq (words_of k) (words_of q)
+is_fit Word q k = has_run bytes_eq (words_between_blanks k) (words_between_blanks q)
+is_fit First q k = starts_with bytes_eq (words_between_blanks k) (words_between_blanks q)
+is_fit Last q k = ends_with bytes_eq (words_between_blanks k) (words_between_blanks q)
 
 unfoldable pub is_hit : Strategy → List ℕ → List ℕ → Bool
 is_hit strategy q k = not (length q == 0) && is_fit strategy q k

@@ -4,8 +4,8 @@ use Rattle.std.specs.List.{slice_split}
 use Rattle.dict_text.specs.Characters.{is_blank}
 
 -- the longest runs without blanks, in order: what is left of the pieces between blanks once empty ones are left out
-abbrev pub words_of : List ℕ → List (List ℕ)
-words_of cs = filter (λ piece. not (length piece == 0)) (slice_split is_blank cs)
+abbrev pub words_between_blanks : List ℕ → List (List ℕ)
+words_between_blanks cs = filter (λ piece. not (length piece == 0)) (slice_split is_blank cs)
 
 -- it is empty, or a blank comes first
 abbrev pub EndsOrGoesOnBlank : List ℕ → Type 0

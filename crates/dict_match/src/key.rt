@@ -1,13 +1,11 @@
 //! The key under which a headword is filed and a query is looked up, by the first version of folding.
 
-ghost use Rattle.std.specs.Prelude.{◌≡◌, ◌↔◌, [], ◌∷◌, All, IfOk, IsTrue, List, codes, ℕ};
-ghost use Rattle.std.specs.Str.{IsUtf8, chars, encode_utf8_all};
-ghost use Rattle.dict_text.specs.Characters.{is_blank};
+ghost use Rattle.std.specs.Prelude.{◌≡◌, IfOk};
+ghost use Rattle.std.specs.Str.{chars, encode_utf8_all};
 ghost use Rattle.std.specs.String.{string_bytes};
-ghost use Rattle.dict_match.specs.Key.{key_of, is_kept, ascii_folded, without_trailing_blanks, without_blanks_at_ends};
+ghost use Rattle.dict_match.specs.Key.{key_of, is_kept, ascii_folded};
 
-use crate::word::without_leading_blanks;
-use dict_text::is_blank;
+use dict_text::{is_blank, without_blanks_at_ends};
 use std::alloc::{AllocError, Global};
 use std::marker::Model;
 
@@ -34,6 +32,17 @@ impl Key {
     }
 }
 
+impl Clone for Key {
+    ghost use Rattle.std.specs.Prelude.{◌≡◌};
+
+    ghost is_clone = { λ key copy. copy ≡ key };
+
+    fn clone(&self) -> Result<Self, AllocError> {
+        let bytes = Vec::from_slice(self.bytes.allocator().clone()?, self.as_bytes())?;
+        Ok(Key { bytes })
+    }
+}
+
 /// The key of `text`, read once, character by character: ASCII letters and digits, blanks and characters past
 /// ASCII are kept, `A-Z` become `a-z`, a run of blanks becomes one space, and a space at either end is left out.
 /// If nothing is left, the key is the text without blanks at its ends. The only error is want of memory.
@@ -47,13 +56,6 @@ pub fn key_of(alloc: Global, text: &str) -> Result<Key, AllocError>
         folded.into_bytes()
     };
     Ok(Key { bytes })
-}
-
-/// The text without the blanks at its ends, borrowed from it.
-pub fn without_blanks_at_ends(text: &[u8]) -> &[u8]
-    ensures { result.now ≡ without_blanks_at_ends text.now }
-{
-    without_trailing_blanks(without_leading_blanks(text))
 }
 
 /// Whether folding keeps a character: a letter or a digit of ASCII, a blank, or a character past ASCII.
@@ -83,42 +85,10 @@ fn fold(alloc: Global, text: &str) -> Result<String, AllocError>
     Ok(folded)
 }
 
-/// The text without the blanks at its end.
-fn without_trailing_blanks(text: &[u8]) -> &[u8]
-    ensures { result.now ≡ without_trailing_blanks text.now }
-{
-    let mut rest = text;
-    while let Some((last, others)) = rest.split_last() {
-        if *last != b' ' && *last != b'\t' {
-            break;
-        }
-        rest = others;
-    }
-    rest
-}
-
-/// Worked keys: what `key_of` makes of each kind of character.
-pub fn worked_keys()
-    ensures two_words { key_of (codes "Fire Opal") ≡ codes "fire opal" }
-    ensures signs_alone { key_of (codes " a - \tB ") ≡ codes "a b" }
-    ensures signs_within { key_of (codes "00-database-short") ≡ codes "00databaseshort" }
-    ensures apostrophe { key_of (codes "o'clock") ≡ codes "oclock" }
-    ensures nothing_left { key_of (codes "+ +") ≡ codes "+ +" }
-    ensures sign_in_front { key_of (codes "+a") ≡ codes "a" }
-    ensures blanks_alone { key_of (codes "\t ") ≡ [] }
-    // capital E with an acute accent, which is past ASCII (C3 89), then T, then that E again
-    ensures past_ascii { key_of (195 ∷ 137 ∷ 84 ∷ 195 ∷ 137 ∷ []) ≡ 195 ∷ 137 ∷ 116 ∷ 195 ∷ 137 ∷ [] }
-{}
-
-/// A key is text where the text is, and it is empty only where the text is blanks alone.
-pub fn key_laws()
-    ensures utf8 { (text : List ℕ) → IsUtf8 text → IsUtf8 (key_of text) }
-    ensures empty { (text : List ℕ) → (key_of text ≡ []) ↔ All (λ c. IsTrue (is_blank c)) (chars text) }
-{}
-
 #[cfg(test)]
 mod tests {
     use super::*;
+    use crate::{key_laws, worked_keys};
     use std::test::Fail;
 
     #[test]

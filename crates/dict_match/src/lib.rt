@@ -2,11 +2,13 @@
 #![tactic(auto)]
 
 mod key;
+mod laws;
 mod matching;
 mod strategy;
 mod word;
 
-pub use key::{Key, key_laws, key_of, without_blanks_at_ends, worked_keys};
-pub use matching::{hit_laws, matches};
+pub use key::{Key, key_of};
+pub use laws::{hit_laws, key_laws, strategy_laws, word_laws, worked_keys};
+pub use matching::matches;
 pub use strategy::Strategy;
-pub use word::{WordIterator, word_laws, words};
+pub use word::{WordIterator, words};

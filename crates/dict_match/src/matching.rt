@@ -1,7 +1,7 @@
 //! Which keys a query finds.
 
-ghost use Rattle.std.specs.Prelude.{◌≡◌, ◌↔◌, ◌++◌, ◌<◌, ℕ, List, length, drop, IsTrue};
-ghost use Rattle.dict_match.specs.Words.{words_of};
+ghost use Rattle.std.specs.Prelude.{◌≡◌, ◌↔◌, ◌<◌, length, drop, IsTrue};
+ghost use Rattle.dict_match.specs.Words.{words_between_blanks};
 ghost use Rattle.dict_match.specs.Matching.{Hits, Fits, is_hit, StandsIn, HasWords, BeginsWithWords, EndsWithWords};
 
 use crate::strategy::Strategy;
@@ -16,11 +16,6 @@ pub fn matches(strategy: Strategy, query: &[u8], key: &[u8]) -> bool
 {
     !query.is_empty() && fits(strategy, query, key)
 }
-
-/// What makes a hit is decided by a test of both keys.
-pub fn hit_laws()
-    ensures { (strategy : Strategy) (q k : List ℕ) → IsTrue (is_hit strategy q k) ↔ Hits strategy q k }
-{}
 
 /// Whether a key is as the strategy wants it, for a query that isn't empty.
 fn fits(strategy: Strategy, query: &[u8], key: &[u8]) -> bool
@@ -53,7 +48,7 @@ fn contains(key: &[u8], query: &[u8]) -> bool
 
 /// Whether the words of `query` are the first words of `key`.
 fn begins_with_words(key: &[u8], query: &[u8]) -> bool
-    ensures { IsTrue result ↔ BeginsWithWords (words_of key.now) (words_of query.now) }
+    ensures { IsTrue result ↔ BeginsWithWords (words_between_blanks key.now) (words_between_blanks query.now) }
 {
     let mut rest = words(key);
     for word in words(query) {
@@ -69,7 +64,7 @@ fn begins_with_words(key: &[u8], query: &[u8]) -> bool
 
 /// Whether the words of `query` are a run among the words of `key`.
 fn has_words(key: &[u8], query: &[u8]) -> bool
-    ensures { IsTrue result ↔ HasWords (words_of key.now) (words_of query.now) }
+    ensures { IsTrue result ↔ HasWords (words_between_blanks key.now) (words_between_blanks query.now) }
 {
     let mut rest = key;
     while !begins_with_words(rest, query) {
@@ -83,7 +78,7 @@ fn has_words(key: &[u8], query: &[u8]) -> bool
 
 /// Whether the words of `query` are the last words of `key`.
 fn ends_with_words(key: &[u8], query: &[u8]) -> bool
-    ensures { IsTrue result ↔ EndsWithWords (words_of key.now) (words_of query.now) }
+    ensures { IsTrue result ↔ EndsWithWords (words_between_blanks key.now) (words_between_blanks query.now) }
 {
     let here = count_words(key);
     let wanted = count_words(query);
@@ -92,14 +87,14 @@ fn ends_with_words(key: &[u8], query: &[u8]) -> bool
 
 /// How many words `bytes` has.
 fn count_words(bytes: &[u8]) -> usize
-    ensures { result ≡ length (words_of bytes.now) }
+    ensures { result ≡ length (words_between_blanks bytes.now) }
 {
     words(bytes).count()
 }
 
 /// What stands after the first `count` words of `key`.
 fn without_words(key: &[u8], count: usize) -> &[u8]
-    ensures { words_of result.now ≡ drop count (words_of key.now) }
+    ensures { words_between_blanks result.now ≡ drop count (words_between_blanks key.now) }
 {
     let mut rest = key;
     for _ in 0..count {
@@ -114,6 +109,7 @@ fn without_words(key: &[u8], count: usize) -> &[u8]
 #[cfg(test)]
 mod tests {
     use super::*;
+    use crate::hit_laws;
     use std::test::Fail;
 
     const ALL_SEVEN: &str = "exact prefix suffix substring word first last";

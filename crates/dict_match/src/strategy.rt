@@ -22,7 +22,7 @@ pub enum Strategy {
 }
 
 impl Strategy {
-    ghost use Rattle.dict_match.specs.StrategyText.{name_of, title_of};
+    ghost use Rattle.dict_match.specs.StrategyText.{name_of, title_of, text_of, strategy_named};
 
     /// All strategies, in the order in which SHOW STRAT lists them.
     pub const ALL: [Strategy; 7] = [
@@ -35,20 +35,33 @@ impl Strategy {
         Strategy::Last,
     ];
 
+    // What clients see of the strategy: its name, and the description that SHOW STRAT gives of it.
+    fn text(self) -> (&'static str, &'static str)
+        ensures name { result.0.now ≡ (text_of self).name }
+        ensures title { result.1.now ≡ (text_of self).title }
+    {
+        match self {
+            Strategy::Exact => ("exact", "Equal keys"),
+            Strategy::Prefix => ("prefix", "Key begins with the query"),
+            Strategy::Suffix => ("suffix", "Key ends with the query"),
+            Strategy::Substring => ("substring", "Key contains the query"),
+            Strategy::Word => ("word", "Words of the query stand together in the key"),
+            Strategy::First => ("first", "Key begins with the words of the query"),
+            Strategy::Last => ("last", "Key ends with the words of the query"),
+        }
+    }
+
     /// The strategy of this name, compared byte for byte. The server's own choice, `.`, is no name here.
     pub fn by_name(name: &str) -> Option<Strategy>
-        ensures { (strategy : Strategy) → (result ≡ Some strategy) ↔ (name.now ≡ name_of strategy) }
+        ensures named { result ≡ strategy_named name.now }
+        ensures only { (strategy : Strategy) → (result ≡ Some strategy) ↔ (name.now ≡ name_of strategy) }
     {
-        match name {
-            "exact" => Some(Strategy::Exact),
-            "prefix" => Some(Strategy::Prefix),
-            "suffix" => Some(Strategy::Suffix),
-            "substring" => Some(Strategy::Substring),
-            "word" => Some(Strategy::Word),
-            "first" => Some(Strategy::First),
-            "last" => Some(Strategy::Last),
-            _ => None,
+        for strategy in Strategy::ALL {
+            if strategy.name() == name {
+                return Some(strategy);
+            }
         }
+        None
     }
 
     /// The strategy's name.
@@ -56,15 +69,7 @@ impl Strategy {
     pub fn name(self) -> &'static str
         ensures { result.now ≡ name_of self }
     {
-        match self {
-            Strategy::Exact => "exact",
-            Strategy::Prefix => "prefix",
-            Strategy::Suffix => "suffix",
-            Strategy::Substring => "substring",
-            Strategy::Word => "word",
-            Strategy::First => "first",
-            Strategy::Last => "last",
-        }
+        self.text().0
     }
 
     /// The description that SHOW STRAT gives of the strategy.
@@ -72,21 +77,14 @@ impl Strategy {
     pub fn title(self) -> &'static str
         ensures { result.now ≡ title_of self }
     {
-        match self {
-            Strategy::Exact => "Equal keys",
-            Strategy::Prefix => "Key begins with the query",
-            Strategy::Suffix => "Key ends with the query",
-            Strategy::Substring => "Key contains the query",
-            Strategy::Word => "Words of the query stand together in the key",
-            Strategy::First => "Key begins with the words of the query",
-            Strategy::Last => "Key ends with the words of the query",
-        }
+        self.text().1
     }
 }
 
 #[cfg(test)]
 mod tests {
     use super::*;
+    use crate::strategy_laws;
     use std::test::Fail;
 
     #[test]
@@ -118,6 +116,7 @@ mod tests {
             assert_eq!(rt; strategy.name(), name);
             assert_eq!(rt; strategy.title(), title);
         }
+        strategy_laws();
         Ok(())
     }
 

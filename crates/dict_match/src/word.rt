@@ -1,10 +1,10 @@
 //! The words of a key: its longest runs of bytes other than space and tab.
 
-ghost use Rattle.std.specs.Prelude.{◌≡◌, ◌↔◌, ◌∷◌, ◌≤◌, [], length, MatchOption, List, ℕ};
+ghost use Rattle.std.specs.Prelude.{◌≡◌, ◌∷◌, ◌≤◌, [], length, MatchOption, List, ℕ};
 ghost use Rattle.std.specs.Iterator.{YieldsFirstRef, item_count};
-ghost use Rattle.dict_match.specs.Words.{AreLongestRuns, words_of};
-ghost use Rattle.dict_match.specs.Key.{without_leading_blanks};
+ghost use Rattle.dict_match.specs.Words.{words_between_blanks};
 
+use dict_text::without_leading_blanks;
 use memchr::memchr2;
 use std::marker::Model;
 
@@ -17,13 +17,13 @@ pub struct WordIterator<'a> {
 impl<'a> Model for WordIterator<'a> {
     ghost Value = { List (List ℕ) };
 
-    ghost view = { λ words. words_of words.rest.now };
+    ghost view = { λ words. words_between_blanks words.rest.now };
 }
 
 /// The words of `bytes`, each a part of it, in order: the longest runs of bytes other than space and tab.
 /// No memory is taken.
 pub fn words(bytes: &[u8]) -> WordIterator<'_>
-    ensures value { result ≡ words_of bytes.now }
+    ensures value { result ≡ words_between_blanks bytes.now }
     ensures len { length result ≤ length bytes.now }
 {
     WordIterator { rest: bytes }
@@ -43,14 +43,9 @@ impl<'a> Iterator for WordIterator<'a> {
     }
 }
 
-/// The words of a list are its longest runs without blanks, all of them, in order.
-pub fn word_laws()
-    ensures { (cs : List ℕ) (words : List (List ℕ)) → (words_of cs ≡ words) ↔ AreLongestRuns cs words }
-{}
-
 /// The first word of `bytes`, and what stands after it; nothing where there is no word.
 pub(crate) fn split_word(bytes: &[u8]) -> Option<(&[u8], &[u8])>
-    ensures { MatchOption result (words_of bytes.now ≡ []) (λ parts. words_of bytes.now ≡ parts.0.now ∷ words_of parts.1.now) }
+    ensures { MatchOption result (words_between_blanks bytes.now ≡ []) (λ parts. words_between_blanks bytes.now ≡ parts.0.now ∷ words_between_blanks parts.1.now) }
 {
     let start = without_leading_blanks(bytes);
     if start.is_empty() {
@@ -60,20 +55,10 @@ pub(crate) fn split_word(bytes: &[u8]) -> Option<(&[u8], &[u8])>
     Some(start.split_at(end))
 }
 
-/// `bytes` without the blanks at its front.
-pub(crate) fn without_leading_blanks(bytes: &[u8]) -> &[u8]
-    ensures { result.now ≡ without_leading_blanks bytes.now }
-{
-    let mut rest = bytes;
-    while let Some((b' ' | b'\t', others)) = rest.split_first() {
-        rest = others;
-    }
-    rest
-}
-
 #[cfg(test)]
 mod tests {
     use super::*;
+    use crate::word_laws;
     use std::test::Fail;
 
     #[test]

@@ -1,7 +1,7 @@
 -- What a name, a title and a request id may be.
 use Rattle.std.specs.Prelude.{ℕ, ◌-◌, Bool, false, not, ◌&&◌, ◌||◌, ◌==◌, nat_le, List, length, slice_get, Option, Some, None}
 use Rattle.std.specs.List.{list_all}
-use Rattle.dict_text.specs.Characters.{is_blank, is_control}
+use Rattle.dict_text.specs.Characters.{is_blank, has_control}
 
 -- from one octet to another
 abbrev pub is_from : ℕ → ℕ → ℕ → Bool
@@ -51,6 +51,6 @@ is_name text = has_size 32 text && list_all is_name_octet text && first_passes i
 unfoldable pub is_request_id : List ℕ → Bool
 is_request_id text = has_size 64 text && list_all is_request_octet text
 
--- the title of a virtual database: 1 to 200 octets, no control character, no blank at an end
+-- the title of a database, an edition's or a virtual one's: 1 to 200 octets, no control character, no blank at an end
 unfoldable pub is_title : List ℕ → Bool
-is_title text = has_size 200 text && list_all (λ octet. not (is_control octet)) text && not (first_passes is_blank text) && not (last_passes is_blank text)
+is_title text = has_size 200 text && not (has_control text) && not (first_passes is_blank text) && not (last_passes is_blank text)

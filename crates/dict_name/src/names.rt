@@ -1,8 +1,10 @@
 // What a name, a title and a request id may be.
-ghost use Rattle.std.specs.Prelude.{◌≡◌, not};
+ghost use Rattle.std.specs.Prelude.{◌≡◌};
 ghost use Rattle.std.specs.List.{list_all};
-ghost use Rattle.dict_text.specs.Characters.{is_blank, is_control};
+ghost use Rattle.dict_text.specs.Characters.{is_blank};
 ghost use Rattle.dict_name.specs.Names.{is_name, is_request_id, is_title, is_small_letter, is_capital_letter, is_digit, is_name_octet, is_request_octet, has_size, first_passes, last_passes};
+
+use dict_text::{has_control, is_blank_octet};
 
 /// The most characters of a name.
 const MAX_NAME: usize = 32;
@@ -31,7 +33,7 @@ pub fn is_request_id(text: &str) -> bool
     has_size(octets, MAX_REQUEST_ID) && are_request_octets(octets)
 }
 
-/// Whether the text may be the title of a virtual database: 1 to 200 octets, no control character, and no blank at
+/// Whether the text may be the title of a database, an edition's or a virtual one's: 1 to 200 octets, no control character, and no blank at
 /// an end.
 #[tactic(auto, unfolding(crate::specs::Names::is_title))]
 pub fn is_title(text: &str) -> bool
@@ -39,7 +41,7 @@ pub fn is_title(text: &str) -> bool
 {
     let octets = text.as_bytes();
     has_size(octets, MAX_TITLE)
-        && has_no_control(octets)
+        && !has_control(octets)
         && !begins_with_blank(octets)
         && !ends_with_blank(octets)
 }
@@ -80,12 +82,6 @@ fn is_request_octet(octet: u8) -> bool
     is_capital_letter(octet) || is_small_letter(octet) || is_digit(octet) || octet == b'-'
 }
 
-fn is_control(octet: u8) -> bool
-    ensures { result ≡ is_control octet }
-{
-    octet < 32 || octet == 127
-}
-
 fn are_name_octets(octets: &[u8]) -> bool
     ensures { result ≡ list_all is_name_octet octets.now }
 {
@@ -96,12 +92,6 @@ fn are_request_octets(octets: &[u8]) -> bool
     ensures { result ≡ list_all is_request_octet octets.now }
 {
     octets.iter().all(|octet| is_request_octet(*octet))
-}
-
-fn has_no_control(octets: &[u8]) -> bool
-    ensures { result ≡ list_all (λ octet. not (is_control octet)) octets.now }
-{
-    octets.iter().all(|octet| !is_control(*octet))
 }
 
 fn begins_with_small_letter(octets: &[u8]) -> bool
@@ -117,7 +107,7 @@ fn begins_with_blank(octets: &[u8]) -> bool
     ensures { result ≡ first_passes is_blank octets.now }
 {
     match octets.first() {
-        Some(octet) => *octet == b' ' || *octet == b'\t',
+        Some(octet) => is_blank_octet(*octet),
         None => false,
     }
 }
@@ -126,7 +116,7 @@ fn ends_with_blank(octets: &[u8]) -> bool
     ensures { result ≡ last_passes is_blank octets.now }
 {
     match octets.last() {
-        Some(octet) => *octet == b' ' || *octet == b'\t',
+        Some(octet) => is_blank_octet(*octet),
         None => false,
     }
 }

@@ -3,7 +3,7 @@ use Rattle.std.proofs.Common.{◌≡◌, ℕ, suc, ◌<◌, ◌≤◌, List, [],
 use Rattle.std.specs.Prelude.{Some, None}
 use Rattle.std.specs.List.{flat_map, position, position_or_len}
 use Rattle.dict_proto.specs.Text.{escaped, needs_backslash}
-use Rattle.dict_proto.proofs.PositionLemmas.{here, later, position_is, position_none}
+use Rattle.dict_text.proofs.PositionLemmas.{here, later, position_is, position_none}
 
 -- the text up to n, the octet there with a backslash, and what follows
 split_at : List ℕ → ℕ → List ℕ

@@ -1,11 +1,11 @@
 // Octets that are gathered before they are put.
 ghost use Rattle.std.specs.Prelude.{◌≡◌, [], OnOk};
 ghost use Rattle.std.specs.List.{flat_map};
-ghost use Rattle.dict_proto.specs.Octets.{Puts, Counts};
+ghost use Rattle.dict_io.specs.Streams.{Puts};
 ghost use Rattle.dict_proto.specs.Gathering.{Gathers};
 
-use crate::sink::{Sink, SinkFault};
 use arrayvec::ArrayVec;
+use dict_io::{Sink, SinkFault};
 
 /// The most octets that are gathered before they are put.
 const ROOM: usize = 1024;
@@ -28,9 +28,8 @@ impl Gathered {
     /// Adds these octets. Where there is no room for them, those that are held are put, and so are these where they
     /// still find none. After a fault what is held is of no use.
     pub fn add<K: Sink>(&mut self, sink: &mut K, octets: &[u8]) -> Result<(), SinkFault>
-        ensures octets { Gathers result (K.octets sink.old) (K.octets sink.new) self.old.octets.items
+        ensures { Gathers result (K.stream sink.old) (K.stream sink.new) self.old.octets.items
             self.new.octets.items octets.now }
-        ensures failures { Counts result (K.failures sink.old) (K.failures sink.new) }
     {
         if self.octets.try_extend_from_slice(octets).is_ok() {
             return Ok(());
@@ -44,9 +43,8 @@ impl Gathered {
 
     /// Puts what is held.
     pub fn put<K: Sink>(&mut self, sink: &mut K) -> Result<(), SinkFault>
-        ensures octets { Puts result (K.octets sink.old) (K.octets sink.new) self.old.octets.items }
+        ensures put { Puts result (K.stream sink.old) (K.stream sink.new) self.old.octets.items }
         ensures none_left { OnOk result (self.new.octets.items ≡ []) }
-        ensures failures { Counts result (K.failures sink.old) (K.failures sink.new) }
     {
         sink.put(self.octets.as_slice())?;
         self.octets.clear();
@@ -55,9 +53,8 @@ impl Gathered {
 
     /// Adds the parts, one after the other.
     pub fn add_all<K: Sink>(&mut self, sink: &mut K, parts: &[&[u8]]) -> Result<(), SinkFault>
-        ensures octets { Gathers result (K.octets sink.old) (K.octets sink.new) self.old.octets.items
+        ensures { Gathers result (K.stream sink.old) (K.stream sink.new) self.old.octets.items
             self.new.octets.items (flat_map (λ part. part.now) parts.now) }
-        ensures failures { Counts result (K.failures sink.old) (K.failures sink.new) }
     {
         for part in parts {
             self.add(sink, part)?;

@@ -1,12 +1,12 @@
 // The parts of a reply line.
 ghost use Rattle.std.specs.List.{flat_map};
-ghost use Rattle.dict_proto.specs.Octets.{Puts, Counts};
+ghost use Rattle.dict_io.specs.Streams.{Puts};
 ghost use Rattle.dict_proto.specs.Gathering.{Gathers};
 ghost use Rattle.dict_proto.specs.Parts.{part_octets};
 
 use crate::gathered::Gathered;
 use crate::quoted::add_quoted;
-use crate::sink::{Sink, SinkFault};
+use dict_io::{Sink, SinkFault};
 use itoa::Buffer;
 
 /// A part of a reply line.
@@ -22,8 +22,7 @@ pub enum Part<'a> {
 
 /// Puts the parts, one after the other.
 pub fn put_parts<K: Sink>(sink: &mut K, parts: &[Part]) -> Result<(), SinkFault>
-    ensures octets { Puts result (K.octets sink.old) (K.octets sink.new) (flat_map part_octets parts.now) }
-    ensures failures { Counts result (K.failures sink.old) (K.failures sink.new) }
+    ensures { Puts result (K.stream sink.old) (K.stream sink.new) (flat_map part_octets parts.now) }
 {
     let mut gathered = Gathered::new();
     add_parts(&mut gathered, sink, parts)?;
@@ -35,9 +34,8 @@ fn add_parts<K: Sink>(
     sink: &mut K,
     parts: &[Part],
 ) -> Result<(), SinkFault>
-    ensures octets { Gathers result (K.octets sink.old) (K.octets sink.new) gathered.old.octets.items
+    ensures { Gathers result (K.stream sink.old) (K.stream sink.new) gathered.old.octets.items
         gathered.new.octets.items (flat_map part_octets parts.now) }
-    ensures failures { Counts result (K.failures sink.old) (K.failures sink.new) }
 {
     for part in parts {
         add_part(gathered, sink, *part)?;
@@ -46,9 +44,8 @@ fn add_parts<K: Sink>(
 }
 
 fn add_part<K: Sink>(gathered: &mut Gathered, sink: &mut K, part: Part) -> Result<(), SinkFault>
-    ensures octets { Gathers result (K.octets sink.old) (K.octets sink.new) gathered.old.octets.items
+    ensures { Gathers result (K.stream sink.old) (K.stream sink.new) gathered.old.octets.items
         gathered.new.octets.items (part_octets part.entry) }
-    ensures failures { Counts result (K.failures sink.old) (K.failures sink.new) }
 {
     match part {
         Part::Octets(octets) => gathered.add(sink, octets),

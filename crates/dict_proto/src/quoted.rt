@@ -1,12 +1,12 @@
 // Texts between quote signs.
 ghost use Rattle.std.specs.Prelude.{◌≡◌, ◌<◌, ◌∷◌, ◌++◌, length, MatchOption, IfSome};
 ghost use Rattle.std.specs.List.{flat_map, position};
-ghost use Rattle.dict_proto.specs.Octets.{Puts, Counts};
+ghost use Rattle.dict_io.specs.Streams.{Puts};
 ghost use Rattle.dict_proto.specs.Gathering.{Gathers};
 ghost use Rattle.dict_proto.specs.Text.{escaped, needs_backslash, quoted};
 
 use crate::gathered::Gathered;
-use crate::sink::{Sink, SinkFault};
+use dict_io::{Sink, SinkFault};
 
 const QUOTE: &[u8] = b"\"";
 
@@ -16,8 +16,7 @@ const BACKSLASH: &[u8] = b"\\";
 /// section 2.2). It takes no memory, and is Ok wherever the sink did not fail; where it failed, a front of this was
 /// put.
 pub fn put_quoted<K: Sink>(sink: &mut K, text: &str) -> Result<(), SinkFault>
-    ensures octets { Puts result (K.octets sink.old) (K.octets sink.new) (quoted text.now) }
-    ensures failures { Counts result (K.failures sink.old) (K.failures sink.new) }
+    ensures { Puts result (K.stream sink.old) (K.stream sink.new) (quoted text.now) }
 {
     let mut gathered = Gathered::new();
     add_quoted(&mut gathered, sink, text)?;
@@ -30,9 +29,8 @@ pub fn add_quoted<K: Sink>(
     sink: &mut K,
     text: &str,
 ) -> Result<(), SinkFault>
-    ensures octets { Gathers result (K.octets sink.old) (K.octets sink.new) gathered.old.octets.items
+    ensures { Gathers result (K.stream sink.old) (K.stream sink.new) gathered.old.octets.items
         gathered.new.octets.items (quoted text.now) }
-    ensures failures { Counts result (K.failures sink.old) (K.failures sink.new) }
 {
     gathered.add(sink, QUOTE)?;
     let mut rest = text.as_bytes();

@@ -2,14 +2,14 @@
 ghost use Rattle.std.specs.Prelude.{◌≡◌, ℕ, List, ◌++◌, codes, decimal, map};
 ghost use Rattle.std.specs.List.{flat_map};
 ghost use Rattle.dict_proto.specs.declared.reply.Reply.{Reply};
-ghost use Rattle.dict_proto.specs.Octets.{Puts, Counts};
+ghost use Rattle.dict_io.specs.Streams.{Puts};
 ghost use Rattle.dict_proto.specs.Text.{block, crlf};
 ghost use Rattle.dict_proto.specs.ReplyLines.{AreShortLines, IsWithinLimits};
 ghost use Rattle.dict_proto.specs.Replies.{reply_octets, banner_octets, definition_octets, definition_line, list_row, list_line_octets, list_end_octets, help_octets, server_information_octets};
 
 use crate::part::{Part, put_parts};
-use crate::sink::{Sink, SinkFault};
 use crate::text::{put_text, stuffing};
+use dict_io::{Sink, SinkFault};
 
 /// A reply, or a part of one (RFC 2229, sections 3.1 to 3.9). A long answer is put part by part:
 ///
@@ -86,8 +86,7 @@ pub enum Reply<'a> {
 /// Puts the reply. It takes no memory, and is Ok wherever the sink did not fail; where it failed, a front of the
 /// reply's octets was put.
 pub fn write_reply<K: Sink>(sink: &mut K, reply: &Reply) -> Result<(), SinkFault>
-    ensures octets { Puts result (K.octets sink.old) (K.octets sink.new) (reply_octets reply.now) }
-    ensures failures { Counts result (K.failures sink.old) (K.failures sink.new) }
+    ensures { Puts result (K.stream sink.old) (K.stream sink.new) (reply_octets reply.now) }
 {
     match *reply {
         Reply::Banner { host, connection } => put_banner(sink, host, connection),
@@ -122,9 +121,8 @@ pub fn write_reply<K: Sink>(sink: &mut K, reply: &Reply) -> Result<(), SinkFault
 }
 
 fn put_banner<K: Sink>(sink: &mut K, host: &str, connection: u64) -> Result<(), SinkFault>
-    ensures octets { Puts result (K.octets sink.old) (K.octets sink.new)
+    ensures { Puts result (K.stream sink.old) (K.stream sink.new)
         (banner_octets host.now connection) }
-    ensures failures { Counts result (K.failures sink.old) (K.failures sink.new) }
 {
     put_parts(
         sink,
@@ -147,9 +145,8 @@ fn put_count<'a, K: Sink>(
     count: u64,
     what: &'a [u8],
 ) -> Result<(), SinkFault>
-    ensures octets { Puts result (K.octets sink.old) (K.octets sink.new)
+    ensures { Puts result (K.stream sink.old) (K.stream sink.new)
         (code.now ++ (codes " " ++ (decimal count ++ (codes " " ++ (what.now ++ crlf))))) }
-    ensures failures { Counts result (K.failures sink.old) (K.failures sink.new) }
 {
     put_parts(
         sink,
@@ -171,9 +168,8 @@ fn put_definition<'a, K: Sink>(
     title: &'a str,
     body: &'a [u8],
 ) -> Result<(), SinkFault>
-    ensures octets { Puts result (K.octets sink.old) (K.octets sink.new)
+    ensures { Puts result (K.stream sink.old) (K.stream sink.new)
         (definition_octets headword.now name.now title.now body.now) }
-    ensures failures { Counts result (K.failures sink.old) (K.failures sink.new) }
 {
     put_definition_line(sink, headword, name, title)?;
     put_text(sink, body)
@@ -185,9 +181,8 @@ fn put_definition_line<'a, K: Sink>(
     name: &'a str,
     title: &'a str,
 ) -> Result<(), SinkFault>
-    ensures octets { Puts result (K.octets sink.old) (K.octets sink.new)
+    ensures { Puts result (K.stream sink.old) (K.stream sink.new)
         (definition_line headword.now name.now title.now) }
-    ensures failures { Counts result (K.failures sink.old) (K.failures sink.new) }
 {
     put_parts(
         sink,
@@ -204,9 +199,8 @@ fn put_definition_line<'a, K: Sink>(
 }
 
 fn put_list_line<'a, K: Sink>(sink: &mut K, name: &'a str, text: &'a str) -> Result<(), SinkFault>
-    ensures octets { Puts result (K.octets sink.old) (K.octets sink.new)
+    ensures { Puts result (K.stream sink.old) (K.stream sink.new)
         (list_line_octets name.now text.now) }
-    ensures failures { Counts result (K.failures sink.old) (K.failures sink.new) }
 {
     put_parts(
         sink,
@@ -221,8 +215,7 @@ fn put_list_line<'a, K: Sink>(sink: &mut K, name: &'a str, text: &'a str) -> Res
 }
 
 fn put_help<K: Sink>(sink: &mut K) -> Result<(), SinkFault>
-    ensures octets { Puts result (K.octets sink.old) (K.octets sink.new) help_octets }
-    ensures failures { Counts result (K.failures sink.old) (K.failures sink.new) }
+    ensures { Puts result (K.stream sink.old) (K.stream sink.new) help_octets }
 {
     put_parts(
         sink,
@@ -248,9 +241,8 @@ fn put_server_information<K: Sink>(
     host: &str,
     databases: u64,
 ) -> Result<(), SinkFault>
-    ensures octets { Puts result (K.octets sink.old) (K.octets sink.new)
+    ensures { Puts result (K.stream sink.old) (K.stream sink.new)
         (server_information_octets host.now databases) }
-    ensures failures { Counts result (K.failures sink.old) (K.failures sink.new) }
 {
     put_parts(
         sink,

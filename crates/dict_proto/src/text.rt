@@ -2,12 +2,12 @@
 ghost use Rattle.std.specs.Prelude.{◌≡◌, ◌∷◌, [], slice_index, ◌==◌, if◌then◌else◌};
 ghost use Rattle.std.specs.List.{flat_map};
 ghost use Rattle.dict_text.specs.Lines.{text_lines};
-ghost use Rattle.dict_proto.specs.Octets.{Puts, Counts};
+ghost use Rattle.dict_io.specs.Streams.{Puts};
 ghost use Rattle.dict_proto.specs.Gathering.{Gathers};
 ghost use Rattle.dict_proto.specs.Text.{block, sent_line};
 
 use crate::gathered::Gathered;
-use crate::sink::{Sink, SinkFault};
+use dict_io::{Sink, SinkFault};
 use dict_text::text_lines;
 
 const PERIOD: &[u8] = b".";
@@ -27,8 +27,7 @@ pub fn stuffing(line: &[u8]) -> &[u8]
 
 /// Puts a text: each of its lines, and then a line of one period.
 pub fn put_text<K: Sink>(sink: &mut K, text: &[u8]) -> Result<(), SinkFault>
-    ensures octets { Puts result (K.octets sink.old) (K.octets sink.new) (block (text_lines text.now)) }
-    ensures failures { Counts result (K.failures sink.old) (K.failures sink.new) }
+    ensures { Puts result (K.stream sink.old) (K.stream sink.new) (block (text_lines text.now)) }
 {
     let mut gathered = Gathered::new();
     add_text(&mut gathered, sink, text)?;
@@ -37,9 +36,8 @@ pub fn put_text<K: Sink>(sink: &mut K, text: &[u8]) -> Result<(), SinkFault>
 
 // Adds a text.
 fn add_text<K: Sink>(gathered: &mut Gathered, sink: &mut K, text: &[u8]) -> Result<(), SinkFault>
-    ensures octets { Gathers result (K.octets sink.old) (K.octets sink.new) gathered.old.octets.items
+    ensures { Gathers result (K.stream sink.old) (K.stream sink.new) gathered.old.octets.items
         gathered.new.octets.items (block (text_lines text.now)) }
-    ensures failures { Counts result (K.failures sink.old) (K.failures sink.new) }
 {
     add_lines(gathered, sink, text)?;
     gathered.add(sink, b".\r\n")
@@ -47,9 +45,8 @@ fn add_text<K: Sink>(gathered: &mut Gathered, sink: &mut K, text: &[u8]) -> Resu
 
 // Adds the lines of a text.
 fn add_lines<K: Sink>(gathered: &mut Gathered, sink: &mut K, text: &[u8]) -> Result<(), SinkFault>
-    ensures octets { Gathers result (K.octets sink.old) (K.octets sink.new) gathered.old.octets.items
+    ensures { Gathers result (K.stream sink.old) (K.stream sink.new) gathered.old.octets.items
         gathered.new.octets.items (flat_map sent_line (text_lines text.now)) }
-    ensures failures { Counts result (K.failures sink.old) (K.failures sink.new) }
 {
     for line in text_lines(text) {
         add_line(gathered, sink, line)?;
@@ -59,9 +56,8 @@ fn add_lines<K: Sink>(gathered: &mut Gathered, sink: &mut K, text: &[u8]) -> Res
 
 // Adds one line of a text, its front period doubled.
 fn add_line<K: Sink>(gathered: &mut Gathered, sink: &mut K, line: &[u8]) -> Result<(), SinkFault>
-    ensures octets { Gathers result (K.octets sink.old) (K.octets sink.new) gathered.old.octets.items
+    ensures { Gathers result (K.stream sink.old) (K.stream sink.new) gathered.old.octets.items
         gathered.new.octets.items (sent_line line.now) }
-    ensures failures { Counts result (K.failures sink.old) (K.failures sink.new) }
 {
     gathered.add_all(sink, &[stuffing(line), line, LINE_END])
 }

@@ -3,8 +3,8 @@ pub mod KeyedLemmas
 pub mod DistinctLemmas
 pub mod HeadwordLemmas
 pub mod SeenLemmas
-pub mod StrategyLemmas
 pub mod ShowLemmas
+pub mod ShortLemmas
 pub mod SpokenLemmas
 pub mod SessionLemmas
 pub mod AnswerLemmas

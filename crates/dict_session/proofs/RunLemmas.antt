@@ -1,27 +1,42 @@
 -- What a run has written, from the greeting on.
-use Rattle.std.proofs.Common.{ℕ, List, [], ◌++◌, refl, Bool, true, false}
-use Rattle.std.specs.Prelude.{Option}
-use Rattle.std.specs.Io.KnownBytes.{Appends}
-use Rattle.std.proofs.KnownBytes.{Appends-trans}
-use Rattle.dict_proto.specs.Octets.{AppendsFront}
-use Rattle.dict_proto.specs.Replies.{banner_octets}
-use Rattle.dict_proto.proofs.PutLemmas.{front_after, front_longer}
+use Rattle.std.proofs.Common.{◌≡◌, ℕ, ◌≤◌, List, [], ◌++◌, length, refl, sym, subst, Bool, true, false, append_assoc}
+use Rattle.dict_io.specs.Streams.{Stream, PutsAll, PutsFront}
+use Rattle.dict_io.proofs.PutLemmas.{all_after}
+use Rattle.dict_line.specs.Meaning.{Meaning}
 use Rattle.dict_session.specs.Lines.{cut}
-use Rattle.dict_session.specs.Database.{Database}
+use Rattle.dict_session.specs.Spoken.{Speaks}
 use Rattle.dict_session.specs.Ending.{Wrote}
-use Rattle.dict_session.specs.Run.{IsSession}
+use Rattle.dict_session.specs.Run.{HasAnswered, EndsInPiece}
 use Rattle.dict_session.specs.declared.step.Step.TheVariants.{More, Quit, Broken}
+use Rattle.dict_session.proofs.LineLemmas.{cut_append}
+use Rattle.dict_session.proofs.SpokenLemmas.{speaks_append}
 
-module _ (d : Database) (host : List ℕ) (connection : ℕ) (a m b : Option (List ℕ)) (bs : List ℕ) (hello : Appends a m (banner_octets host connection)) where
-  pub more_session : Wrote d More m b (cut bs).lines → (octets : List ℕ) × IsSession d host connection bs octets false × Appends a b octets
-  more_session (o, spoken, h) = (banner_octets host connection ++ o, (o, spoken, refl), Appends-trans a m b (banner_octets host connection) o hello h)
+module _ (d : Meaning → List ℕ) (greeting : List ℕ) (a m : Stream) (hello : PutsAll a m greeting) where
+  -- the lines so far were answered
+  pub answered : (b : Stream) (bs : List ℕ) → Wrote d More m b (cut bs).lines → HasAnswered d greeting (record { old = a; new = b }) bs
+  answered b bs (o, spoken, h) = (o, spoken, all_after a m b greeting o hello h)
 
-  pub quit_session : Wrote d Quit m b (cut bs).lines → (octets : List ℕ) × IsSession d host connection bs octets true × Appends a b octets
-  quit_session (o, spoken, h) = (banner_octets host connection ++ o, (o, spoken, refl), Appends-trans a m b (banner_octets host connection) o hello h)
+  -- and then the last piece ended it
+  ended_in : (b c : Stream) (bs piece : List ℕ) (ended : Bool) (Written : Stream → Stream → List ℕ → Type 0) → length piece ≤ 4096 → Wrote d More m b (cut bs).lines
+      → (more : List ℕ) → Speaks d (cut ((cut bs).rest ++ piece)).lines more ended → Written b c more → EndsInPiece d greeting (record { old = a; new = c }) (bs ++ piece) ended Written
+  ended_in b c bs piece ended Written few (o, spoken, h) more later put = (
+    bs,
+    piece,
+    b,
+    o,
+    more,
+    refl,
+    few,
+    spoken,
+    all_after a m b greeting o hello h,
+    rw (cut_append bs piece) (speaks_append d (cut bs).lines (cut ((cut bs).rest ++ piece)).lines o more ended spoken later),
+    put,
+  )
 
-  pub broken_session : Wrote d Broken m b (cut bs).lines → (octets : List ℕ) × (ended : Bool) × IsSession d host connection bs octets ended × AppendsFront a b octets
-  broken_session (o, ended, spoken, h) = (banner_octets host connection ++ o, ended, (o, spoken, refl), front_after a m b (banner_octets host connection) o hello h)
+  pub quit_in : (b c : Stream) (bs piece : List ℕ) → length piece ≤ 4096 → Wrote d More m b (cut bs).lines → Wrote d Quit b c (cut ((cut bs).rest ++ piece)).lines
+      → EndsInPiece d greeting (record { old = a; new = c }) (bs ++ piece) true PutsAll
+  quit_in b c bs piece few before (more, spoken, h) = ended_in b c bs piece true PutsAll few before more spoken h
 
--- a greeting that broke off
-pub broken_greeting : (d : Database) (host : List ℕ) (connection : ℕ) (a b : Option (List ℕ)) → AppendsFront a b (banner_octets host connection) → (octets : List ℕ) × (ended : Bool) × IsSession d host connection [] octets ended × AppendsFront a b octets
-broken_greeting d host connection a b h = (banner_octets host connection ++ [], false, ([], (refl, refl), refl), front_longer a b (banner_octets host connection) [] h)
+  pub broken_in : (b c : Stream) (bs piece : List ℕ) → length piece ≤ 4096 → Wrote d More m b (cut bs).lines → Wrote d Broken b c (cut ((cut bs).rest ++ piece)).lines
+      → (ended : Bool) × EndsInPiece d greeting (record { old = a; new = c }) (bs ++ piece) ended PutsFront
+  broken_in b c bs piece few before (more, ended, spoken, h) = (ended, ended_in b c bs piece ended PutsFront few before more spoken h)

@@ -7,9 +7,10 @@ use Rattle.dict_match.specs.declared.strategy.Strategy.{Strategy}
 use Rattle.dict_match.specs.declared.strategy.Strategy.TheVariants.{Exact}
 use Rattle.dict_index.specs.Edition.{Entry}
 use Rattle.dict_line.specs.Meaning.{Meaning, meaning, define, matching, show_databases, show_strategies, show_server, show_info, client, status, help, quit, not_recognized, illegal_parameters, not_implemented}
+use Rattle.dict_line.specs.Told.{keeps_words}
 use Rattle.dict_proto.specs.Replies.{definition_count_octets, definition_octets, match_count_octets, list_line_octets, list_end_octets, done_octets, closing_octets, not_recognized_octets, illegal_parameters_octets, not_implemented_octets, invalid_database_octets, invalid_strategy_octets, no_match_octets}
 use Rattle.dict_session.specs.Database.{Database, found, is_found, headwords, strategy_of}
-use Rattle.dict_session.specs.Shows.{databases_answer, strategies_answer, info_answer, status_answer, help_answer}
+use Rattle.dict_session.specs.Shows.{databases_answer, strategies_answer, server_answer, info_answer, status_answer, help_answer}
 
 -- an entry as a definition of the database with this name and title
 abbrev pub shown : List ℕ → List ℕ → Entry → List ℕ
@@ -52,21 +53,25 @@ strategy_answer database (Some strategy) word = matched_answer database (headwor
 unfoldable pub match_answer : Database → List ℕ → List ℕ → List ℕ → List ℕ
 match_answer database name strategy word = if bytes_eq name database.name then strategy_answer database (strategy_of strategy) word else invalid_database_octets
 
--- the answer to what a line asks; SHOW SERVER is answered as if it were no command, for now
-abbrev pub answer_to : Database → Meaning → List ℕ
-answer_to database (define name word) = define_answer database name word
-answer_to database (matching name strategy word) = match_answer database name strategy word
-answer_to database show_databases = databases_answer database
-answer_to database show_strategies = strategies_answer
-answer_to database show_server = not_recognized_octets
-answer_to database (show_info name) = info_answer database name
-answer_to database client = done_octets
-answer_to database status = status_answer
-answer_to database help = help_answer
-answer_to database quit = closing_octets
-answer_to database not_recognized = not_recognized_octets
-answer_to database illegal_parameters = illegal_parameters_octets
-answer_to database not_implemented = not_implemented_octets
+-- the answer to what a line asks of a database, at a host
+abbrev pub answer_to : Database → List ℕ → Meaning → List ℕ
+answer_to database host (define name word) = define_answer database name word
+answer_to database host (matching name strategy word) = match_answer database name strategy word
+answer_to database host show_databases = databases_answer database
+answer_to database host show_strategies = strategies_answer
+answer_to database host show_server = server_answer host
+answer_to database host (show_info name) = info_answer database name
+answer_to database host client = done_octets
+answer_to database host status = status_answer
+answer_to database host help = help_answer
+answer_to database host quit = closing_octets
+answer_to database host not_recognized = not_recognized_octets
+answer_to database host illegal_parameters = illegal_parameters_octets
+answer_to database host not_implemented = not_implemented_octets
+
+-- the answer needs memory, for words of the line or the key of one, and the 420 line may stand in its place
+abbrev pub may_be_unavailable : Meaning → Bool
+may_be_unavailable asked = keeps_words asked
 
 abbrev pub ends_session : Meaning → Bool
 ends_session (define name word) = false
@@ -82,10 +87,6 @@ ends_session quit = true
 ends_session not_recognized = false
 ends_session illegal_parameters = false
 ends_session not_implemented = false
-
--- the answer to a line, without its CR LF
-abbrev pub answer : Database → List ℕ → List ℕ
-answer database line = answer_to database (meaning line)
 
 -- the line is a QUIT
 abbrev pub is_quit : List ℕ → Bool

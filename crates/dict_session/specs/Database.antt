@@ -1,11 +1,11 @@
 -- A database that is asked, and what a query finds in it. RFC 2229, sections 3.2 and 3.3.
-use Rattle.std.specs.Prelude.{ℕ, Bool, not, List, [], ◌∷◌, map, filter, codes, if◌then◌else◌, Option, Some, None}
+use Rattle.std.specs.Prelude.{ℕ, Bool, not, List, [], ◌∷◌, map, filter, codes, if◌then◌else◌, Option, Some}
 use Rattle.std.specs.Str.{bytes_eq}
 use Rattle.dict_match.specs.Key.{key_of}
 use Rattle.dict_match.specs.Matching.{is_hit}
-use Rattle.dict_match.specs.StrategyText.{name_of}
+use Rattle.dict_match.specs.StrategyText.{strategy_named}
 use Rattle.dict_match.specs.declared.strategy.Strategy.{Strategy}
-use Rattle.dict_match.specs.declared.strategy.Strategy.TheVariants.{Exact, Prefix, Suffix, Substring, Word, First, Last}
+use Rattle.dict_match.specs.declared.strategy.Strategy.TheVariants.{Prefix}
 use Rattle.dict_index.specs.Edition.{Edition, Entry}
 
 -- a name and the edition that stands under it
@@ -33,11 +33,6 @@ distinct (text ∷ texts) = text ∷ filter (λ other. not (bytes_eq other text)
 abbrev pub headwords : List Entry → List (List ℕ)
 headwords entries = distinct (map (λ entry. entry.headword) entries)
 
--- the first of these strategies that has this name
-abbrev pub named : List ℕ → List Strategy → Option Strategy
-named name [] = None
-named name (strategy ∷ strategies) = if bytes_eq name (name_of strategy) then Some strategy else named name strategies
-
 -- the strategy that MATCH asks for by this name: a period is the server's choice, which is prefix
 unfoldable pub strategy_of : List ℕ → Option Strategy
-strategy_of name = if bytes_eq name (codes ".") then Some Prefix else named name (Exact ∷ Prefix ∷ Suffix ∷ Substring ∷ Word ∷ First ∷ Last ∷ [])
+strategy_of name = if bytes_eq name (codes ".") then Some Prefix else strategy_named name

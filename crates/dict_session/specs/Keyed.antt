@@ -19,7 +19,7 @@ read_entry entry = record { headword = entry.headword.now; body = entry.body.now
 
 -- the key is the headword's
 abbrev pub HasItsKey : KeyedEntry → Type 0
-HasItsKey keyed = keyed.key ≡ key_of keyed.headword.now
+HasItsKey keyed = keyed.key.now ≡ key_of keyed.headword.now
 
 abbrev pub headword_of : KeyedEntry → List ℕ
 headword_of keyed = keyed.headword.now

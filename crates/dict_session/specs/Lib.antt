@@ -2,9 +2,9 @@ pub mod Lines
 pub mod Database
 pub mod Keyed
 pub mod Answers
-pub mod Answered
 pub mod Spoken
 pub mod Ending
 pub mod Session
 pub mod Run
 pub mod Shows
+pub mod Limits

@@ -1,40 +1,49 @@
--- What a run leaves of its reader's and its writer's octets.
-use Rattle.std.specs.Prelude.{◌≡◌, ℕ, ◌-◌, ◌^◌, ◌≤◌, ◌⊎◌, List, [], ◌++◌, length, Bool, true, false, Option, Result, Ok, Err}
-use Rattle.std.specs.Io.KnownBytes.{Appends, Consumes, IsAtEnd}
-use Rattle.dict_proto.specs.Octets.{AppendsFront, HasFailed}
+-- What a run leaves of its reader and its writer.
+use Rattle.std.specs.Prelude.{◌≡◌, ℕ, ◌-◌, ◌^◌, ◌≤◌, ◌⊎◌, List, [], ◌++◌, length, Bool, true, false, Result, Ok, Err}
+use Rattle.std.specs.Io.KnownBytes.{Consumes, IsAtEnd}
+use Rattle.dict_io.specs.Streams.{Stream, Change, HasFailed, PutsAll, PutsFront, GivesAll}
+use Rattle.dict_line.specs.Meaning.{Meaning}
 use Rattle.dict_proto.specs.Replies.{banner_octets}
 use Rattle.dict_session.specs.Lines.{cut}
 use Rattle.dict_session.specs.Database.{Database}
+use Rattle.dict_session.specs.Answers.{answer_to}
 use Rattle.dict_session.specs.Spoken.{Speaks}
-use Rattle.dict_session.specs.declared.running.End.{End}
-use Rattle.dict_session.specs.declared.running.End.TheVariants.{Quit, InputEnd}
-use Rattle.dict_session.specs.declared.running.SessionFault.{SessionFault}
-use Rattle.dict_session.specs.declared.running.SessionFault.TheVariants.{Read, Write, Memory}
+use Rattle.dict_session.specs.declared.session.run.End.{End}
+use Rattle.dict_session.specs.declared.session.run.End.TheVariants.{Quit, InputEnd}
+use Rattle.dict_session.specs.declared.session.run.SessionFault.{SessionFault}
+use Rattle.dict_session.specs.declared.session.run.SessionFault.TheVariants.{Read, Write, Memory}
 
--- the octets and the number of failures of a reader or a writer, before and after
-pub record Change : Type 0 where
-  pub old : Option (List ℕ)
-  pub new : Option (List ℕ)
-  pub old_failures : ℕ
-  pub new_failures : ℕ
+-- the octets b were read, and what was written is the greeting and what answers the lines of b, of which no QUIT was
+-- answered
+abbrev pub HasAnswered : (Meaning → List ℕ) → List ℕ → Change → List ℕ → Type 0
+HasAnswered answer greeting writer b =
+    (o : List ℕ) × Speaks answer (cut b).lines o false × PutsAll writer.old writer.new (greeting ++ o)
 
--- the octets are the greeting, and then what answers the lines of b
-abbrev pub IsSession : Database → List ℕ → ℕ → List ℕ → List ℕ → Bool → Type 0
-IsSession database host connection b octets ended = (o : List ℕ) × Speaks database (cut b).lines o ended × (octets ≡ banner_octets host connection ++ o)
+-- the octets b were read, at last a piece of at most 4,096 of them: the lines of those before it were answered, and no
+-- QUIT of them; then more was written, so, and with it the lines of b are answered
+abbrev pub EndsInPiece : (Meaning → List ℕ) → List ℕ → Change → List ℕ → Bool → (Stream → Stream → List ℕ → Type 0) → Type 0
+EndsInPiece answer greeting writer b ended Written =
+    (front : List ℕ) × (piece : List ℕ) × (between : Stream) × (o : List ℕ) × (more : List ℕ)
+    × (b ≡ front ++ piece) × (length piece ≤ 4096)
+    × Speaks answer (cut front).lines o false × PutsAll writer.old between (greeting ++ o)
+    × Speaks answer (cut b).lines (o ++ more) ended × Written between writer.new more
 
 -- the octets b were read: what was written, and why the run ended
-abbrev pub EndsAt : Database → List ℕ → ℕ → Result End SessionFault → Change → Change → List ℕ → Type 0
-EndsAt database host connection (Ok Quit) reader writer b =
-    (octets : List ℕ) × IsSession database host connection b octets true × Appends writer.old writer.new octets
-EndsAt database host connection (Ok InputEnd) reader writer b =
-    (octets : List ℕ) × IsSession database host connection b octets false × Appends writer.old writer.new octets × IsAtEnd reader.new
-EndsAt database host connection (Err Read) reader writer b =
-    (octets : List ℕ) × IsSession database host connection b octets false × Appends writer.old writer.new octets
-    × (HasFailed reader.old_failures reader.new_failures ⊎ (2 ^ 64 - 1 ≤ length b))
-EndsAt database host connection (Err Write) reader writer b =
-    (octets : List ℕ) × (ended : Bool) × IsSession database host connection b octets ended × AppendsFront writer.old writer.new octets
-    × HasFailed writer.old_failures writer.new_failures
-EndsAt database host connection (Err Memory) reader writer b = Appends writer.old writer.new [] × (b ≡ [])
+abbrev pub EndsAt : (Meaning → List ℕ) → List ℕ → Result End SessionFault → Change → Change → List ℕ → Type 0
+EndsAt answer greeting (Ok Quit) reader writer b =
+    GivesAll reader.old reader.new b × EndsInPiece answer greeting writer b true PutsAll
+EndsAt answer greeting (Ok InputEnd) reader writer b =
+    GivesAll reader.old reader.new b × IsAtEnd reader.new.octets × HasAnswered answer greeting writer b
+EndsAt answer greeting (Err Read) reader writer b =
+    Consumes reader.old.octets reader.new.octets b × (HasFailed reader.old.failures reader.new.failures ⊎ (2 ^ 64 - 1 ≤ length b))
+    × HasAnswered answer greeting writer b
+EndsAt answer greeting (Err Write) reader writer b =
+    GivesAll reader.old reader.new b
+    × (((b ≡ []) × PutsFront writer.old writer.new greeting)
+    ⊎ ((ended : Bool) × EndsInPiece answer greeting writer b ended PutsFront))
+EndsAt answer greeting (Err Memory) reader writer b = (reader.new ≡ reader.old) × (writer.new ≡ writer.old)
 
+-- a session over the database ended so, greeted under this host and number
 abbrev pub Ends : Database → List ℕ → ℕ → Result End SessionFault → Change → Change → Type 0
-Ends database host connection end reader writer = (b : List ℕ) × Consumes reader.old reader.new b × EndsAt database host connection end reader writer b
+Ends database host connection end reader writer =
+    (b : List ℕ) × EndsAt (answer_to database host) (banner_octets host connection) end reader writer b

@@ -1,29 +1,46 @@
--- What a session holds between two pieces, and what a call leaves.
-use Rattle.std.specs.Prelude.{◌≡◌, ℕ, ◌<◌, List, [], length, MatchBool, Option, ◌-◌, slice_index, ◌==◌}
+-- What a session keeps between two pieces, and what a call leaves.
+use Rattle.std.specs.Prelude.{◌≡◌, ℕ, ◌<◌, List, [], length, MatchBool, ◌-◌, slice_index, ◌==◌, vec_capacity}
+use Rattle.dict_io.specs.Streams.{Stream}
+use Rattle.dict_line.specs.Meaning.{Meaning, meaning}
 use Rattle.dict_session.specs.Lines.{HasNoLineEnd, cut}
-use Rattle.dict_session.specs.Database.{Database}
-use Rattle.dict_line.specs.Meaning.{meaning}
 use Rattle.dict_session.specs.Ending.{Finishes, Wrote}
-use Rattle.dict_session.specs.declared.pieces.Session.{Session}
+use Rattle.dict_session.specs.declared.session.Session.{Session}
 use Rattle.dict_session.specs.declared.step.Step.{Step}
 use Rattle.dict_session.specs.declared.step.Step.TheVariants.{More, Quit, Broken}
 
 -- the session has read this unfinished line: all of it, or of more than 6,144 octets that they are too many
-pub record Holds (s : Session) (rest : List ℕ) : Type 0 where
+pub record HasUnfinished (s : Session) (rest : List ℕ) : Type 0 where
   pub unfinished : HasNoLineEnd rest
   pub octets : MatchBool s.is_overlong (6144 < length rest) (s.held.items ≡ rest)
   pub last : s.after_cr ≡ (slice_index rest (length rest - 1) == 13)
 
--- a session that goes on holds this
+-- how the last call of the session ended
+abbrev pub step_of : Session → Step
+step_of s = s.last
+
+-- the host that the session tells, and its connection's number
+abbrev pub host_of : Session → List ℕ
+host_of s = s.host.now
+
+abbrev pub connection_of : Session → ℕ
+connection_of s = s.connection
+
+-- a call keeps the session's host and number, and the room of its line
+pub record IsSameSession (old new : Session) : Type 0 where
+  pub host : new.host.now ≡ old.host.now
+  pub connection : new.connection ≡ old.connection
+  pub room : vec_capacity new.held ≡ vec_capacity old.held
+
+-- a session that goes on has read this
 abbrev pub Keeps : Step → Session → List ℕ → Type 0
-Keeps More s rest = Holds s rest
+Keeps More s rest = HasUnfinished s rest
 Keeps Quit s rest = Unit {0}
 Keeps Broken s rest = Unit {0}
 
--- the call answered the lines that end in b, and holds the rest of b
-abbrev pub Leaves : Database → Step → Session → Option (List ℕ) → Option (List ℕ) → List ℕ → Type 0
-Leaves database step s old new b = Wrote database step old new (cut b).lines × Keeps step s (cut b).rest
+-- the call answered the lines that end in b, and keeps the rest of b
+abbrev pub Leaves : (Meaning → List ℕ) → Step → Session → Stream → Stream → List ℕ → Type 0
+Leaves answer step s old new b = Wrote answer step old new (cut b).lines × Keeps step s (cut b).rest
 
--- the call answered this line, and holds nothing
-abbrev pub EndsLine : Database → Step → Session → Option (List ℕ) → Option (List ℕ) → List ℕ → Type 0
-EndsLine database step s old new line = Finishes database step old new (meaning line) × Keeps step s []
+-- the call answered this line, and keeps nothing
+abbrev pub EndsLine : (Meaning → List ℕ) → Step → Session → Stream → Stream → List ℕ → Type 0
+EndsLine answer step s old new line = Finishes answer step old new (meaning line) × Keeps step s []

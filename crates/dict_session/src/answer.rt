@@ -1,21 +1,21 @@
 // The answer to one line.
-ghost use Rattle.std.specs.Prelude.{◌≡◌, ℕ, List, Option, Err};
-ghost use Rattle.dict_proto.specs.Octets.{Puts, Counts};
+ghost use Rattle.std.specs.Prelude.{◌≡◌, ℕ, List, Bool, true, Err};
+ghost use Rattle.dict_io.specs.Streams.{Stream, Puts};
 ghost use Rattle.dict_line.specs.Meaning.{Meaning};
 ghost use Rattle.dict_line.specs.Told.{Tells, requested};
-ghost use Rattle.dict_session.specs.Answers.{answer_to, define_answer, found_answer, match_answer, matched_answer, ends_session};
+ghost use Rattle.dict_session.specs.Answers.{answer_to, define_answer, found_answer, match_answer, matched_answer, ends_session, may_be_unavailable};
 ghost use Rattle.dict_proto.specs.Replies.{reply_octets, done_octets};
 ghost use Rattle.dict_session.specs.Database.{Database, found, headwords, strategy_of};
 ghost use Rattle.dict_match.specs.declared.strategy.Strategy.TheVariants.{Exact};
-ghost use Rattle.dict_session.specs.Answered.{Answers};
-ghost use Rattle.dict_session.specs.Ending.{Finishes, GoesOn, Tallies};
+ghost use Rattle.dict_session.specs.Ending.{Finishes, PutsAnswer, PutsLine};
 
 use crate::plain::Plain;
-use crate::show::{put_databases, put_help, put_info, put_status, put_strategies};
+use crate::show::{put_databases, put_help, put_info, put_server, put_status, put_strategies};
 use crate::step::Step;
+use dict_io::{Sink, SinkFault};
 use dict_line::{LineFault, Request};
 use dict_match::{Strategy, key_of};
-use dict_proto::{Reply, Sink, SinkFault, write_reply};
+use dict_proto::{Reply, write_reply};
 use std::alloc::Global;
 
 // Whether a line got its answer, or the 420 line in its place.
@@ -30,22 +30,21 @@ pub(crate) enum Answered {
 pub(crate) fn answer_line<K: Sink>(
     alloc: Global,
     plain: &Plain,
+    host: &str,
     asked: Result<Request, LineFault>,
     sink: &mut K,
 ) -> Step
-    ensures octets { (meaning : Meaning) → Tells asked meaning → Finishes plain.now result (K.octets sink.old) (K.octets sink.new) meaning }
-    ensures failures { Tallies result (K.failures sink.old) (K.failures sink.new) }
+    ensures { (meaning : Meaning) → Tells asked meaning → Finishes (answer_to plain.now host.now) result (K.stream sink.old) (K.stream sink.new) meaning }
 {
     match asked {
-        Ok(request) => answer_request(alloc, plain, request, sink),
+        Ok(request) => answer_request(alloc, plain, host, request, sink),
         Err(fault) => answer_fault(fault, sink),
     }
 }
 
 // Puts the answer to a line that is no command.
 fn answer_fault<K: Sink>(fault: LineFault, sink: &mut K) -> Step
-    ensures octets { (database : Database) (meaning : Meaning) → Tells (Err fault) meaning → Finishes database result (K.octets sink.old) (K.octets sink.new) meaning }
-    ensures failures { Tallies result (K.failures sink.old) (K.failures sink.new) }
+    ensures { (database : Database) (host : List ℕ) (meaning : Meaning) → Tells (Err fault) meaning → Finishes (answer_to database host) result (K.stream sink.old) (K.stream sink.new) meaning }
 {
     match fault {
         LineFault::NotRecognized => put_line(&Reply::NotRecognized, sink),
@@ -56,9 +55,8 @@ fn answer_fault<K: Sink>(fault: LineFault, sink: &mut K) -> Step
 }
 
 // Puts a reply after which the session goes on.
-fn put_line<K: Sink>(reply: &Reply, sink: &mut K) -> Step
-    ensures octets { GoesOn result (K.octets sink.old) (K.octets sink.new) (reply_octets reply.now) }
-    ensures failures { Tallies result (K.failures sink.old) (K.failures sink.new) }
+pub(crate) fn put_line<K: Sink>(reply: &Reply, sink: &mut K) -> Step
+    ensures { PutsLine result (K.stream sink.old) (K.stream sink.new) (reply_octets reply.now) }
 {
     match write_reply(sink, reply) {
         Ok(()) => Step::More,
@@ -67,12 +65,17 @@ fn put_line<K: Sink>(reply: &Reply, sink: &mut K) -> Step
 }
 
 // Puts the answer to a request, and tells whether the session goes on.
-fn answer_request<K: Sink>(alloc: Global, plain: &Plain, request: Request, sink: &mut K) -> Step
-    ensures octets { Finishes plain.now result (K.octets sink.old) (K.octets sink.new) (requested request) }
-    ensures failures { Tallies result (K.failures sink.old) (K.failures sink.new) }
+fn answer_request<K: Sink>(
+    alloc: Global,
+    plain: &Plain,
+    host: &str,
+    request: Request,
+    sink: &mut K,
+) -> Step
+    ensures { Finishes (answer_to plain.now host.now) result (K.stream sink.old) (K.stream sink.new) (requested request) }
 {
     let ends = is_quit(&request);
-    match put_answer(alloc, plain, &request, sink) {
+    match put_answer(alloc, plain, host, &request, sink) {
         Err(_) => Step::Broken,
         Ok(Answered::Whole) if ends => Step::Quit,
         Ok(_) => Step::More,
@@ -90,11 +93,11 @@ fn is_quit(request: &Request) -> bool
 fn put_answer<K: Sink>(
     alloc: Global,
     plain: &Plain,
+    host: &str,
     request: &Request,
     sink: &mut K,
 ) -> Result<Answered, SinkFault>
-    ensures octets { Answers result (K.octets sink.old) (K.octets sink.new) (answer_to plain.now (requested request.now)) }
-    ensures failures { Counts result (K.failures sink.old) (K.failures sink.new) }
+    ensures { PutsAnswer result (K.stream sink.old) (K.stream sink.new) (answer_to plain.now host.now (requested request.now)) (may_be_unavailable (requested request.now)) }
 {
     match request {
         Request::Define { database, word } => put_define(
@@ -120,7 +123,7 @@ fn put_answer<K: Sink>(
         Request::Quit => put_whole(&Reply::Closing, sink),
         Request::ShowDatabases => whole(put_databases(plain, sink)),
         Request::ShowStrategies => whole(put_strategies(sink)),
-        Request::ShowServer => put_whole(&Reply::NotRecognized, sink),
+        Request::ShowServer => whole(put_server(host, sink)),
         Request::ShowInfo { database } => whole(put_info(plain, database.as_str(), sink)),
         Request::Status => whole(put_status(sink)),
         Request::Help => whole(put_help(sink)),
@@ -129,8 +132,7 @@ fn put_answer<K: Sink>(
 
 // An answer that was put whole, or that the sink broke off.
 fn whole(put: Result<(), SinkFault>) -> Result<Answered, SinkFault>
-    ensures octets { (old new : Option (List ℕ)) (answer : List ℕ) → Puts put old new answer → Answers result old new answer }
-    ensures failures { (old new : ℕ) → Counts put old new → Counts result old new }
+    ensures { (old new : Stream) (answer : List ℕ) (may : Bool) → Puts put old new answer → PutsAnswer result old new answer may }
 {
     match put {
         Ok(()) => Ok(Answered::Whole),
@@ -139,8 +141,7 @@ fn whole(put: Result<(), SinkFault>) -> Result<Answered, SinkFault>
 }
 
 fn put_whole<K: Sink>(reply: &Reply, sink: &mut K) -> Result<Answered, SinkFault>
-    ensures octets { Answers result (K.octets sink.old) (K.octets sink.new) (reply_octets reply.now) }
-    ensures failures { Counts result (K.failures sink.old) (K.failures sink.new) }
+    ensures { (may : Bool) → PutsAnswer result (K.stream sink.old) (K.stream sink.new) (reply_octets reply.now) may }
 {
     match write_reply(sink, reply) {
         Ok(()) => Ok(Answered::Whole),
@@ -156,8 +157,7 @@ fn put_define<K: Sink>(
     word: &str,
     sink: &mut K,
 ) -> Result<Answered, SinkFault>
-    ensures octets { Answers result (K.octets sink.old) (K.octets sink.new) (define_answer plain.now database.now word.now) }
-    ensures failures { Counts result (K.failures sink.old) (K.failures sink.new) }
+    ensures { PutsAnswer result (K.stream sink.old) (K.stream sink.new) (define_answer plain.now database.now word.now) true }
 {
     if !plain.has_name(database) {
         return put_whole(&Reply::InvalidDatabase, sink);
@@ -172,8 +172,7 @@ fn put_define<K: Sink>(
 }
 
 fn put_unavailable<K: Sink>(sink: &mut K) -> Result<Answered, SinkFault>
-    ensures octets { (answer : List ℕ) → Answers result (K.octets sink.old) (K.octets sink.new) answer }
-    ensures failures { Counts result (K.failures sink.old) (K.failures sink.new) }
+    ensures { (answer : List ℕ) → PutsAnswer result (K.stream sink.old) (K.stream sink.new) answer true }
 {
     match write_reply(sink, &Reply::Unavailable) {
         Ok(()) => Ok(Answered::Unavailable),
@@ -183,8 +182,7 @@ fn put_unavailable<K: Sink>(sink: &mut K) -> Result<Answered, SinkFault>
 
 // Puts the definitions that a query finds.
 fn put_found<K: Sink>(plain: &Plain, query: &[u8], sink: &mut K) -> Result<(), SinkFault>
-    ensures octets { Puts result (K.octets sink.old) (K.octets sink.new) (found_answer plain.now (found Exact query.now plain.now.edition)) }
-    ensures failures { Counts result (K.failures sink.old) (K.failures sink.new) }
+    ensures { Puts result (K.stream sink.old) (K.stream sink.new) (found_answer plain.now (found Exact query.now plain.now.edition)) }
 {
     let count = plain.count(Strategy::Exact, query);
     if count == 0 {
@@ -197,8 +195,7 @@ fn put_found<K: Sink>(plain: &Plain, query: &[u8], sink: &mut K) -> Result<(), S
 
 // Puts the line that ends an answer of several replies.
 fn put_done<K: Sink>(sink: &mut K) -> Result<(), SinkFault>
-    ensures octets { Puts result (K.octets sink.old) (K.octets sink.new) done_octets }
-    ensures failures { Counts result (K.failures sink.old) (K.failures sink.new) }
+    ensures { Puts result (K.stream sink.old) (K.stream sink.new) done_octets }
 {
     write_reply(sink, &Reply::Done)
 }
@@ -223,8 +220,7 @@ fn put_match<K: Sink>(
     word: &str,
     sink: &mut K,
 ) -> Result<Answered, SinkFault>
-    ensures octets { Answers result (K.octets sink.old) (K.octets sink.new) (match_answer plain.now name.now strategy.now word.now) }
-    ensures failures { Counts result (K.failures sink.old) (K.failures sink.new) }
+    ensures { PutsAnswer result (K.stream sink.old) (K.stream sink.new) (match_answer plain.now name.now strategy.now word.now) true }
 {
     if !plain.has_name(name) {
         return put_whole(&Reply::InvalidDatabase, sink);
@@ -248,8 +244,7 @@ fn put_matched<K: Sink>(
     query: &[u8],
     sink: &mut K,
 ) -> Result<(), SinkFault>
-    ensures octets { Puts result (K.octets sink.old) (K.octets sink.new) (matched_answer plain.now (headwords (found strategy query.now plain.now.edition))) }
-    ensures failures { Counts result (K.failures sink.old) (K.failures sink.new) }
+    ensures { Puts result (K.stream sink.old) (K.stream sink.new) (matched_answer plain.now (headwords (found strategy query.now plain.now.edition))) }
 {
     let count = plain.count_headwords(strategy, query);
     if count == 0 {

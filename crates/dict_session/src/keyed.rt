@@ -1,15 +1,17 @@
 // Entries with the keys of their headwords.
 ghost use Rattle.std.specs.Prelude.{◌≡◌, ℕ, [], List, IfOk, length, map, filter};
 ghost use Rattle.std.specs.List.{AllByRecursion, flat_map};
-ghost use Rattle.dict_proto.specs.Octets.{Puts, Counts};
+ghost use Rattle.dict_io.specs.Streams.{Puts};
 ghost use Rattle.dict_proto.specs.Replies.{list_line_octets};
+ghost use Rattle.dict_index.specs.Views.{HasItsKey as HasReadKey};
 ghost use Rattle.dict_session.specs.Keyed.{entry_of, read_entry, HasItsKey, AreMarked, is_listed, line_if_listed};
 ghost use Rattle.dict_session.specs.Database.{is_found, headwords};
 ghost use Rattle.dict_session.specs.Answers.{shown, shown_if_found};
 
 use dict_index::Entry;
-use dict_match::{Key, Strategy, key_of, matches};
-use dict_proto::{Reply, Sink, SinkFault, write_reply};
+use dict_io::{Sink, SinkFault};
+use dict_match::{Key, Strategy, matches};
+use dict_proto::{Reply, write_reply};
 use std::alloc::{AllocError, Global};
 use std::collections::BTreeSet;
 
@@ -18,15 +20,16 @@ use std::collections::BTreeSet;
 pub(crate) struct KeyedEntry<'a> {
     pub headword: &'a str,
     pub body: &'a str,
-    pub key: Key,
+    pub key: &'a Key,
     pub is_first: bool,
 }
 
-// The entries with their keys. Earlier headwords are looked up in a set in order.
+// The entries with their marks. Earlier headwords are looked up in a set in order.
 pub(crate) fn keyed_entries<'a>(
     alloc: Global,
-    entries: &[Entry<'a>],
+    entries: &'a [Entry<'_>],
 ) -> Result<Vec<KeyedEntry<'a>>, AllocError>
+    requires { AllByRecursion HasReadKey entries.now }
     ensures entries { IfOk result (λ keyed. map entry_of keyed.items ≡ map read_entry entries.now) }
     ensures keys { IfOk result (λ keyed. AllByRecursion HasItsKey keyed.items) }
     ensures marks { IfOk result (λ keyed. AreMarked [] keyed.items) }
@@ -34,12 +37,11 @@ pub(crate) fn keyed_entries<'a>(
     let mut keyed = Vec::with_capacity(alloc, entries.len())?;
     let mut seen = BTreeSet::new(alloc);
     for entry in entries {
-        let key = key_of(alloc, entry.headword)?;
         let is_first = seen.insert(entry.headword)?;
         keyed.push(KeyedEntry {
             headword: entry.headword,
             body: entry.body,
-            key,
+            key: &entry.key,
             is_first,
         })?;
     }
@@ -101,8 +103,7 @@ pub(crate) fn put_definitions<K: Sink>(
     sink: &mut K,
 ) -> Result<(), SinkFault>
     requires { AllByRecursion HasItsKey entries.now }
-    ensures octets { Puts result (K.octets sink.old) (K.octets sink.new) (flat_map (shown name.now title.now) (filter (is_found strategy query.now) (map entry_of entries.now))) }
-    ensures failures { Counts result (K.failures sink.old) (K.failures sink.new) }
+    ensures { Puts result (K.stream sink.old) (K.stream sink.new) (flat_map (shown name.now title.now) (filter (is_found strategy query.now) (map entry_of entries.now))) }
 {
     for entry in entries {
         put_if_found(entry, name, title, strategy, query, sink)?;
@@ -120,8 +121,7 @@ fn put_if_found<K: Sink>(
     sink: &mut K,
 ) -> Result<(), SinkFault>
     requires { HasItsKey entry.now }
-    ensures octets { Puts result (K.octets sink.old) (K.octets sink.new) (shown_if_found name.now title.now strategy query.now (entry_of entry.now)) }
-    ensures failures { Counts result (K.failures sink.old) (K.failures sink.new) }
+    ensures { Puts result (K.stream sink.old) (K.stream sink.new) (shown_if_found name.now title.now strategy query.now (entry_of entry.now)) }
 {
     if finds(strategy, query, entry) {
         let reply = Reply::Definition {
@@ -146,8 +146,7 @@ pub(crate) fn put_headwords<K: Sink>(
 ) -> Result<(), SinkFault>
     requires keys { AllByRecursion HasItsKey entries.now }
     requires marks { AreMarked [] entries.now }
-    ensures octets { Puts result (K.octets sink.old) (K.octets sink.new) (flat_map (list_line_octets name.now) (headwords (filter (is_found strategy query.now) (map entry_of entries.now)))) }
-    ensures failures { Counts result (K.failures sink.old) (K.failures sink.new) }
+    ensures { Puts result (K.stream sink.old) (K.stream sink.new) (flat_map (list_line_octets name.now) (headwords (filter (is_found strategy query.now) (map entry_of entries.now)))) }
 {
     for entry in entries {
         put_if_listed(entry, name, strategy, query, sink)?;
@@ -164,8 +163,7 @@ fn put_if_listed<K: Sink>(
     sink: &mut K,
 ) -> Result<(), SinkFault>
     requires { HasItsKey entry.now }
-    ensures octets { Puts result (K.octets sink.old) (K.octets sink.new) (line_if_listed name.now strategy query.now entry.now) }
-    ensures failures { Counts result (K.failures sink.old) (K.failures sink.new) }
+    ensures { Puts result (K.stream sink.old) (K.stream sink.new) (line_if_listed name.now strategy query.now entry.now) }
 {
     if lists(strategy, query, entry) {
         let reply = Reply::ListLine {

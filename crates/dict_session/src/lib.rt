@@ -1,24 +1,30 @@
 //! One DICT session: from the octets that a client sends to the octets that it is sent.
 #![tactic(auto)]
 
-ghost use Rattle.std.specs.Prelude.{◌≡◌, ℕ, List, [], ◌∷◌, ◌++◌, if◌then◌else◌};
+ghost use Rattle.std.specs.Prelude.{◌≡◌, ℕ, ◌<◌, ◌^◌, List, [], ◌∷◌, ◌++◌, Bool, IsTrue, if◌then◌else◌};
 ghost use Rattle.std.specs.List.{list_any};
 ghost use Rattle.std.specs.Str.{bytes_eq};
+ghost use Rattle.dict_line.specs.Meaning.{Meaning};
 ghost use Rattle.dict_session.specs.Lines.{AreLines, cut};
 ghost use Rattle.dict_session.specs.Database.{Database, distinct};
+ghost use Rattle.dict_proto.specs.Replies.{banner_octets};
+ghost use Rattle.dict_proto.specs.ReplyLines.{AreShortLines};
+ghost use Rattle.dict_session.specs.Answers.{answer_to};
+ghost use Rattle.dict_session.specs.Limits.{IsWithinLimits, is_host};
 ghost use Rattle.dict_session.specs.Spoken.{Speaks, answers, has_quit};
 
 mod answer;
+mod host;
 mod keyed;
-mod pieces;
 mod plain;
-mod running;
+mod session;
 mod show;
 mod step;
 
-pub use pieces::Session;
+pub use host::is_host;
 pub use plain::Plain;
-pub use running::{End, SessionFault, run};
+pub use session::Session;
+pub use session::run::{End, SessionFault, run};
 pub use step::Step;
 
 #[cfg(test)]
@@ -37,5 +43,13 @@ pub fn headword_laws()
 
 /// Where no answer gives way to the 420 line, what a session writes is the answers to its lines.
 pub fn spoken_answers()
-    ensures { (database : Database) (ls : List (List ℕ)) → Speaks database ls (answers database ls) (has_quit ls) }
+    ensures { (answer : Meaning → List ℕ) (ls : List (List ℕ)) → Speaks answer ls (answers answer ls) (has_quit ls) }
+{}
+
+/// Where the database's name and edition, and the host, keep their limits, no line of a session has more than 1,024 octets,
+/// its CR LF counted, also where the 420 line stands in place of answers.
+pub fn session_lines_are_short()
+    ensures { (database : Database) (host : List ℕ) (connection : ℕ) (ls : List (List ℕ)) (o : List ℕ) (ended : Bool)
+        → IsWithinLimits database → IsTrue (is_host host) → connection < 2 ^ 64 → Speaks (answer_to database host) ls o ended
+        → AreShortLines (banner_octets host connection ++ o) }
 {}

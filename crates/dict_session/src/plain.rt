@@ -2,7 +2,7 @@
 ghost use Rattle.std.specs.Prelude.{◌≡◌, IfOk, length};
 ghost use Rattle.std.specs.List.{flat_map};
 ghost use Rattle.std.specs.Str.{bytes_eq};
-ghost use Rattle.dict_proto.specs.Octets.{Puts, Counts};
+ghost use Rattle.dict_io.specs.Streams.{Puts};
 ghost use Rattle.dict_index.specs.Edition.{edition_of};
 ghost use Rattle.dict_proto.specs.Replies.{list_line_octets};
 ghost use Rattle.dict_session.specs.Database.{found, headwords};
@@ -12,8 +12,8 @@ use crate::keyed::{
     KeyedEntry, count_found, count_headwords, keyed_entries, put_definitions, put_headwords,
 };
 use dict_index::Edition;
+use dict_io::{Sink, SinkFault};
 use dict_match::Strategy;
-use dict_proto::{Sink, SinkFault};
 use std::alloc::{AllocError, Global};
 use std::marker::Model;
 
@@ -41,9 +41,9 @@ impl<'a> Model for Plain<'a> {
 }
 
 impl<'a> Plain<'a> {
-    /// The edition under a name. Its entries' keys take memory, and so does finding which entries are the first of their
-    /// headwords; the only error is want of it.
-    pub fn new(alloc: Global, name: &'a str, edition: &Edition<'a>) -> Result<Self, AllocError>
+    /// The edition under a name, with the keys that it has. Finding which entries are the first of their headwords takes
+    /// memory; the only error is want of it.
+    pub fn new(alloc: Global, name: &'a str, edition: &'a Edition<'_>) -> Result<Self, AllocError>
         ensures { IfOk result (λ plain. plain ≡ record { name = name.now; edition = edition_of edition.now }) }
     {
         let entries = keyed_entries(alloc, edition.entries())?;
@@ -94,8 +94,7 @@ impl<'a> Plain<'a> {
         query: &[u8],
         sink: &mut K,
     ) -> Result<(), SinkFault>
-        ensures octets { Puts result (K.octets sink.old) (K.octets sink.new) (flat_map (definition_of self.now) (found strategy query.now self.now.edition)) }
-        ensures failures { Counts result (K.failures sink.old) (K.failures sink.new) }
+        ensures { Puts result (K.stream sink.old) (K.stream sink.new) (flat_map (definition_of self.now) (found strategy query.now self.now.edition)) }
     {
         put_definitions(&self.entries, self.name, self.title, strategy, query, sink)
     }
@@ -114,8 +113,7 @@ impl<'a> Plain<'a> {
         query: &[u8],
         sink: &mut K,
     ) -> Result<(), SinkFault>
-        ensures octets { Puts result (K.octets sink.old) (K.octets sink.new) (flat_map (list_line_octets self.now.name) (headwords (found strategy query.now self.now.edition))) }
-        ensures failures { Counts result (K.failures sink.old) (K.failures sink.new) }
+        ensures { Puts result (K.stream sink.old) (K.stream sink.new) (flat_map (list_line_octets self.now.name) (headwords (found strategy query.now self.now.edition))) }
     {
         put_headwords(&self.entries, self.name, strategy, query, sink)
     }

@@ -1,7 +1,10 @@
 // Sessions over a database in memory.
-use crate::{End, Plain, Session, Step, headword_laws, one_cut, run, spoken_answers};
+use crate::{
+    End, Plain, Session, Step, headword_laws, is_host, one_cut, run, session_lines_are_short,
+    spoken_answers,
+};
 use dict_index::read_edition;
-use dict_proto::{LimitedSink, OverRead};
+use dict_io::{LimitedSink, OverRead};
 use std::alloc::Global;
 use std::test::Fail;
 
@@ -69,7 +72,7 @@ static ROWS: [(&str, bool, &str); 24] = [
     (
         "STATUS\r\nSHOW SERVER\r\n",
         false,
-        "210 1 databases\r\n500 command not recognized\r\n",
+        "210 1 databases\r\n114 server information\r\ndictcat on gems.test\r\ndatabases 1\r\n.\r\n250 ok\r\n",
     ),
     ("HELP\r\n", false, HELP),
     (
@@ -102,10 +105,12 @@ fn runs_whole_sessions(rt: HostRuntime) -> Result<(), Fail> {
     one_cut();
     headword_laws();
     spoken_answers();
+    session_lines_are_short();
     Ok(())
 }
 
-// What comes of a first piece, and then of the other octets one by one, up to a QUIT or a fault of the sink.
+// What comes of a first piece, and then of the other octets one by one; after a QUIT or a fault of the sink they
+// come to the same.
 fn fed(
     alloc: Global,
     plain: &Plain,
@@ -113,13 +118,11 @@ fn fed(
     others: &[u8],
     room: usize,
 ) -> Result<(Step, LimitedSink), Fail> {
-    let mut session = Session::new(alloc)?;
+    let mut session = Session::new(alloc, "gems.test", 7)?;
     let mut writer = LimitedSink::new(alloc, room)?;
     let mut step = session.feed(alloc, first, plain, &mut writer);
     for octet in others {
-        if step == Step::More {
-            step = session.feed(alloc, &[*octet], plain, &mut writer);
-        }
+        step = session.feed(alloc, &[*octet], plain, &mut writer);
     }
     Ok((step, writer))
 }
@@ -151,5 +154,32 @@ fn a_full_sink_breaks_a_list_off(rt: HostRuntime) -> Result<(), Fail> {
         assert_eq!(rt; step, Step::Broken, "room for {room}");
         assert_eq!(rt; Some(writer.taken()), ALL_STONES.as_bytes().get(..room));
     }
+    Ok(())
+}
+
+#[test]
+fn a_full_sink_breaks_the_greeting_off(rt: HostRuntime) -> Result<(), Fail> {
+    let alloc = rt.alloc();
+    let edition = read_edition(alloc, INDEX, TEXT)?;
+    let plain = Plain::new(alloc, "stones", &edition)?;
+    let mut session = Session::new(alloc, "gems.test", 7)?;
+    let mut full = LimitedSink::new(alloc, 3)?;
+    assert_eq!(rt; session.greet(&mut full), Step::Broken);
+    assert_eq!(rt; full.taken(), b"220".as_slice());
+    let mut sink = LimitedSink::new(alloc, 1000)?;
+    assert_eq!(rt; session.greet(&mut sink), Step::Broken);
+    let step = session.feed(alloc, b"STATUS\r\n", &plain, &mut sink);
+    assert_eq!(rt; step, Step::Broken);
+    assert!(rt; sink.taken().is_empty());
+    Ok(())
+}
+
+#[test]
+fn names_of_hosts(rt: HostRuntime) -> Result<(), Fail> {
+    assert!(rt; is_host("localhost"));
+    assert!(rt; is_host("Gems-1.test"));
+    assert!(rt; !is_host(""));
+    assert!(rt; !is_host("gems_1"));
+    assert!(rt; !is_host("gems test"));
     Ok(())
 }

@@ -1,5 +1,5 @@
 -- What the INSERT of one record of each table does.
-use Rattle.std.proofs.Common.{◌≡◌, ℕ, pos, List, [], ◌∷◌, codes, Option, Some, None, Ok, refl, option_map, ℤ}
+use Rattle.std.proofs.Common.{◌≡◌, ℕ, List, [], ◌∷◌, codes, Option, Some, None, Ok, refl, option_map, ℤ}
 use Rattle.sqlite.specs.Values.{or_null, bound_value}
 use Rattle.sqlite.specs.declared.types.Value.TheVariants.{Null, Int, Text, Blob}
 use Rattle.sqlite.specs.Kind.TheVariants.{Integer, Text as OfText}
@@ -11,7 +11,8 @@ use Rattle.sqlite.specs.State.{State, Executes}
 use Rattle.sqlite.proofs.Callers.{statement_of, runs_as}
 use Rattle.dict_tables.specs.Tables.{mark, item, member, edition, entry, kept}
 use Rattle.dict_sql.specs.Inserts.{insert_mark, insert_item, insert_member, insert_edition, insert_entry, insert_kept}
-use Rattle.dict_sql.specs.Records.{number_or_null, text_or_null, Mark, mark_row, Item, item_row, Member, member_row, Edition, edition_row, Entry, entry_row, Kept, kept_row}
+use Rattle.dict_records.specs.Records.{Mark, Item, Member, Edition, Entry, Kept}
+use Rattle.dict_sql.specs.Encodings.{number_or_null, text_or_null, mark_row, item_row, member_row, edition_row, entry_row, kept_row}
 use Rattle.dict_sql.specs.Effects.{Has, IsAdded}
 use Rattle.dict_sql.proofs.InsertLemmas.{adds_chosen, adds_given, cast_int, cast_null}
 use Rattle.dict_sql.proofs.TextLemmas.{insert_command, insert_plain}
@@ -41,7 +42,7 @@ adds_mark old new m count has h =
     let s = old.now.schema in
     let w = runs_as insert_mark (mark_row m) old new s refl (Insert at (Values mark_terms 5)) (insert_command insert_mark read_mark mark (Values mark_terms 5) reads_mark s at tree has.2) (insert_plain insert_mark read_mark mark (Values mark_terms 5) reads_mark s at tree has.2) count h in
     adds_given old new at (codes "mark") tree (mark tree).columns (mark tree).key (mark tree).primary (mark tree).uniques (mark tree).orders has.2.named has.2.is mark_terms 5 (statement_of insert_mark (understood s insert_mark)) (mark_row m)
-    (Int (pos 1) ∷ Null ∷ Text m.magic ∷ Int m.version ∷ Int m.installs ∷ []) count refl (pos 1) (Null ∷ Text m.magic ∷ Int m.version ∷ Int m.installs ∷ []) (mark_row m) refl (rw (cast_int m.version, cast_int m.installs) refl) w
+    (Int m.id ∷ Null ∷ Text m.magic ∷ Int m.version ∷ Int m.installs ∷ []) count refl m.id (Null ∷ Text m.magic ∷ Int m.version ∷ Int m.installs ∷ []) (mark_row m) refl (rw (cast_int m.version, cast_int m.installs) refl) w
 
 pub adds_item : (old new : State) (i : Item) (count : ℕ) → Has item old.now → Executes insert_item (item_row i) old new (Ok count) → IsAdded (codes "item") (item_row i) old.now new.now
 adds_item old new i count has h =

@@ -1,5 +1,5 @@
 -- Why the INSERT of one record of each table is refused.
-use Rattle.std.proofs.Common.{◌≡◌, ◌⊎◌, ◌≤◌, ℕ, ℤ, pos, List, [], ◌∷◌, codes, length, true, Option, Some, None, Err, refl, lit≤}
+use Rattle.std.proofs.Common.{◌≡◌, ◌⊎◌, ◌≤◌, ℕ, ℤ, List, [], ◌∷◌, codes, length, true, Option, Some, None, Err, refl, lit≤}
 use Rattle.std.proofs.lemmas.Bool.{and_from}
 use Rattle.sqlite.specs.declared.types.Value.TheVariants.{Null, Int, Text, Blob}
 use Rattle.sqlite.specs.Kind.TheVariants.{Integer, Text as OfText}
@@ -14,7 +14,8 @@ use Rattle.sqlite_typing.specs.Types.{accepts_terms}
 use Rattle.sqlite_tied.specs.Compute.{everything}
 use Rattle.dict_tables.specs.Tables.{mark, item, member, edition, entry, kept}
 use Rattle.dict_sql.specs.Inserts.{insert_mark, insert_item, insert_member, insert_edition, insert_entry, insert_kept}
-use Rattle.dict_sql.specs.Records.{number_or_null, text_or_null, Mark, mark_row, Item, item_row, Member, member_row, Edition, edition_row, Entry, entry_row, Kept, kept_row}
+use Rattle.dict_records.specs.Records.{Mark, Item, Member, Edition, Entry, Kept}
+use Rattle.dict_sql.specs.Encodings.{number_or_null, text_or_null, mark_row, item_row, member_row, edition_row, entry_row, kept_row}
 use Rattle.dict_sql.specs.Effects.{Has}
 use Rattle.dict_sql.specs.Refusals.{RefusesToAdd, IsTooBig}
 use Rattle.dict_sql.proofs.InsertLemmas.{cast_int, cast_null}
@@ -59,7 +60,7 @@ mark_fails old new m e has h =
     let at = has.0 in
     let tree = has.1 in
     cause old new at (codes "mark") tree (mark tree).columns (mark tree).key (mark tree).primary (mark tree).uniques (mark tree).orders has.2.named has.2.is mark_terms 5 insert_mark (mark_row m) (mark_row m) refl refl
-    (pos 1) (cast_all (mark tree).columns (Null ∷ Text m.magic ∷ Int m.version ∷ Int m.installs ∷ [])) (rw (cast_int (pos 1)) refl)
+    m.id (cast_all (mark tree).columns (Null ∷ Text m.magic ∷ Int m.version ∷ Int m.installs ∷ [])) (rw (cast_int m.id) refl)
     (rw (cast_null, cast_int m.version, cast_int m.installs) (refl)) (rw (cast_int m.version, cast_int m.installs) (refl)) e
     (faults_inside insert_mark read_mark (Insert at (Values mark_terms 5)) (mark_row m) old new e (insert_is insert_mark read_mark mark (Values mark_terms 5) reads_mark old.now.schema at tree has.2) whole_mark.0 whole_mark.1 refl refl h)
 

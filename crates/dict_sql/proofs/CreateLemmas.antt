@@ -18,13 +18,15 @@ use Rattle.sqlite_ast.specs.declared.Statement.{Statement}
 use Rattle.sqlite_ast.specs.declared.Statement.TheVariants as written
 use Rattle.sqlite_ast.specs.declared.CreateTable as ast
 use Rattle.sqlite_syntax.specs.declared.statement.Parsed.{Parsed}
-use Rattle.dict_tables.specs.Tables.{mark, item, member, edition, entry, kept}
-use Rattle.dict_sql.specs.Effects.{rows_of, table_in as table_of}
-use Rattle.dict_sql.specs.Creates.{IsFree, IsMade, create_mark, create_item, create_member, create_edition, create_entry, create_kept}
+use Rattle.dict_tables.specs.Tables.{mark, item, member, edition, entry, kept, table_of}
+use Rattle.dict_tables.specs.declared.tables.StoreTable.{StoreTable}
+use Rattle.dict_sql.specs.Effects.{rows_of, table_in}
+use Rattle.dict_sql.specs.Creates.{IsFree, IsMade, create_text}
 use Rattle.dict_sql.proofs.InsertLemmas.{went, same_value}
 use Rattle.dict_sql.proofs.TextLemmas.{parsed_or}
 use Rattle.dict_tables.proofs.PlaceLemmas.{found}
-use Rattle.dict_sql.proofs.FindLemmas.{find_past, lacks_no_more}
+use Rattle.dict_tables.proofs.FindLemmas.{find_past, lacks_no_more}
+use Rattle.dict_tables.specs.declared.tables.StoreTable.TheVariants as store
 
 abbrev pub nothing_defined : ast.CreateTable
 nothing_defined = record { if_missing = false; name = []; body = record { columns = []; rules = [] }; is_strict = false; resolves = false }
@@ -99,8 +101,8 @@ module _ (text : List ℕ) (p : Parsed) (table : Table) (r : ReadsCreate text p 
     create_plain : IsPlain (understood schema text)
     create_plain = rw compiles (refl, refl)
 
-    pub create_text : statement_of text (understood schema text) ≡ text
-    create_text = rw compiles (r.whole ([], (CreateTable, None)))
+    pub text_stays : statement_of text (understood schema text) ≡ text
+    text_stays = rw compiles (r.whole ([], (CreateTable, None)))
 
   module _ (old new : State) (count : ℕ) (free : IsFree old.now.schema table.name) where
     abbrev schema : Schema
@@ -130,12 +132,12 @@ module _ (text : List ℕ) (p : Parsed) (table : Table) (r : ReadsCreate text p 
 
     no_rows_yet : (db : Database) → db.schema ≡ after → db.trees (next_tree schema) ≡ [] → rows_of table.name db ≡ []
     no_rows_yet db is none =
-        let there : table_of table.name db ≡ Some made_table = found (λ t. same_name t.name table.name) db.schema.tables ∙ ap (λ (s : Schema). find (λ t. same_name t.name table.name) s.tables) is ∙ stands in
+        let there : table_in table.name db ≡ Some made_table = found (λ t. same_name t.name table.name) db.schema.tables ∙ ap (λ (s : Schema). find (λ t. same_name t.name table.name) s.tables) is ∙ stands in
         rw there (rw none refl)
 
     pub makes : Executes text [] old new (Ok count) → IsMade table old.now new.now
     makes h =
-        let w = subst (λ t. Writes old new None CreateTable t [] count) (create_text schema free.unused) (runs_as text [] old new schema refl CreateTable (create_command schema free.unused) (create_plain schema free.unused) count h) in
+        let w = subst (λ t. Writes old new None CreateTable t [] count) (text_stays schema free.unused) (runs_as text [] old new schema refl CreateTable (create_command schema free.unused) (create_plain schema free.unused) count h) in
         let all = went w.changed in
         let first = went all.1 in
         let made = first.1 in
@@ -155,48 +157,56 @@ module _ (text : List ℕ) (p : Parsed) (table : Table) (r : ReadsCreate text p 
 
 unfoldable pub read_mark : Parsed
 unfolding everything
-read_mark = parsed_or (first create_mark)
+read_mark = parsed_or (first (create_text store.Mark))
 
-pub reads_mark : ReadsCreate create_mark read_mark (mark 0)
+pub reads_mark : ReadsCreate (create_text store.Mark) read_mark (mark 0)
 unfolding everything read_mark
 reads_mark = record { read = refl; statement = refl; formats = refl; name = refl; plain = refl; table_is = refl; timeless = refl; defined = refl; unreserved = refl; itself = refl; whole = λ shape. refl; uncounted = refl }
 
 unfoldable pub read_item : Parsed
 unfolding everything
-read_item = parsed_or (first create_item)
+read_item = parsed_or (first (create_text store.Item))
 
-pub reads_item : ReadsCreate create_item read_item (item 0)
+pub reads_item : ReadsCreate (create_text store.Item) read_item (item 0)
 unfolding everything read_item
 reads_item = record { read = refl; statement = refl; formats = refl; name = refl; plain = refl; table_is = refl; timeless = refl; defined = refl; unreserved = refl; itself = refl; whole = λ shape. refl; uncounted = refl }
 
 unfoldable pub read_member : Parsed
 unfolding everything
-read_member = parsed_or (first create_member)
+read_member = parsed_or (first (create_text store.Member))
 
-pub reads_member : ReadsCreate create_member read_member (member 0)
+pub reads_member : ReadsCreate (create_text store.Member) read_member (member 0)
 unfolding everything read_member
 reads_member = record { read = refl; statement = refl; formats = refl; name = refl; plain = refl; table_is = refl; timeless = refl; defined = refl; unreserved = refl; itself = refl; whole = λ shape. refl; uncounted = refl }
 
 unfoldable pub read_edition : Parsed
 unfolding everything
-read_edition = parsed_or (first create_edition)
+read_edition = parsed_or (first (create_text store.Edition))
 
-pub reads_edition : ReadsCreate create_edition read_edition (edition 0)
+pub reads_edition : ReadsCreate (create_text store.Edition) read_edition (edition 0)
 unfolding everything read_edition
 reads_edition = record { read = refl; statement = refl; formats = refl; name = refl; plain = refl; table_is = refl; timeless = refl; defined = refl; unreserved = refl; itself = refl; whole = λ shape. refl; uncounted = refl }
 
 unfoldable pub read_entry : Parsed
 unfolding everything
-read_entry = parsed_or (first create_entry)
+read_entry = parsed_or (first (create_text store.Entry))
 
-pub reads_entry : ReadsCreate create_entry read_entry (entry 0)
+pub reads_entry : ReadsCreate (create_text store.Entry) read_entry (entry 0)
 unfolding everything read_entry
 reads_entry = record { read = refl; statement = refl; formats = refl; name = refl; plain = refl; table_is = refl; timeless = refl; defined = refl; unreserved = refl; itself = refl; whole = λ shape. refl; uncounted = refl }
 
 unfoldable pub read_kept : Parsed
 unfolding everything
-read_kept = parsed_or (first create_kept)
+read_kept = parsed_or (first (create_text store.Kept))
 
-pub reads_kept : ReadsCreate create_kept read_kept (kept 0)
+pub reads_kept : ReadsCreate (create_text store.Kept) read_kept (kept 0)
 unfolding everything read_kept
 reads_kept = record { read = refl; statement = refl; formats = refl; name = refl; plain = refl; table_is = refl; timeless = refl; defined = refl; unreserved = refl; itself = refl; whole = λ shape. refl; uncounted = refl }
+
+pub makes_table : (t : StoreTable) (old new : State) (count : ℕ) → IsFree old.now.schema (table_of t 0).name → Executes (create_text t) [] old new (Ok count) → IsMade (table_of t 0) old.now new.now
+makes_table store.Mark old new count = makes (create_text store.Mark) read_mark (mark 0) reads_mark old new count
+makes_table store.Item old new count = makes (create_text store.Item) read_item (item 0) reads_item old new count
+makes_table store.Member old new count = makes (create_text store.Member) read_member (member 0) reads_member old new count
+makes_table store.Edition old new count = makes (create_text store.Edition) read_edition (edition 0) reads_edition old new count
+makes_table store.Entry old new count = makes (create_text store.Entry) read_entry (entry 0) reads_entry old new count
+makes_table store.Kept old new count = makes (create_text store.Kept) read_kept (kept 0) reads_kept old new count

@@ -19,7 +19,7 @@ use Rattle.sqlite_typing.specs.Types.{accepts_program}
 use Rattle.sqlite_ast.specs.declared.Expr.{Expr}
 use Rattle.sqlite_ast.specs.declared.Statement.TheVariants as written
 use Rattle.sqlite_syntax.specs.declared.statement.Parsed.{Parsed}
-use Rattle.dict_tables.specs.Tables.{needed, mark, item, member, edition, entry}
+use Rattle.dict_tables.specs.Tables.{needed, mark, item, member, edition, entry, table_of, kept}
 use Rattle.dict_tables.specs.Found.{HasTable}
 use Rattle.dict_sql.specs.Effects.{Has, HasApartRowids, IsRemoved, equals_number, rows_of, shown}
 use Rattle.sqlite.specs.State.{State, Executes}
@@ -30,10 +30,12 @@ use Rattle.sqlite.proofs.Callers.{IsPlain, command_of, statement_of, runs_as}
 use Rattle.dict_sql.proofs.ListLemmas.{passes}
 use Rattle.dict_sql.proofs.CompareLemmas.{and_true, equals_is}
 use Rattle.dict_sql.proofs.DeleteEffects.{removes}
-use Rattle.dict_sql.specs.Deletes.{delete_mark, delete_item, delete_member, delete_edition, delete_entry}
+use Rattle.dict_sql.specs.Deletes.{delete_edition, clear_text, delete_entries}
 use Rattle.dict_sql.proofs.TextLemmas.{parsed_or}
 use Rattle.dict_sql.proofs.ReadLemmas.{context_of}
 use Rattle.dict_sql.proofs.DeleteLemmas.{column_expr, parameter_expr, equals_expr, doomed, tests_equals, delete_text_is}
+use Rattle.dict_tables.specs.declared.tables.StoreTable.{StoreTable}
+use Rattle.dict_tables.specs.declared.tables.StoreTable.TheVariants as store
 
 -- ---- the texts
 
@@ -47,25 +49,25 @@ pub record ReadsDelete (text : List ℕ) (p : Parsed) (table : ℕ → Table) (c
 
 unfoldable pub read_mark : Parsed
 unfolding everything
-read_mark = parsed_or (first delete_mark)
+read_mark = parsed_or (first (clear_text store.Mark))
 
-pub reads_mark : ReadsDelete delete_mark read_mark mark None [] 100000
+pub reads_mark : ReadsDelete (clear_text store.Mark) read_mark mark None [] 100000
 unfolding everything read_mark
 reads_mark = record { read = refl; statement = λ tree. refl; formats = refl; tests = λ schema at tree is. refl; accepted = λ schema tree alone low. rw (low, alone) refl }
 
 unfoldable pub read_item : Parsed
 unfolding everything
-read_item = parsed_or (first delete_item)
+read_item = parsed_or (first (clear_text store.Item))
 
-pub reads_item : ReadsDelete delete_item read_item item None [] 100000
+pub reads_item : ReadsDelete (clear_text store.Item) read_item item None [] 100000
 unfolding everything read_item
 reads_item = record { read = refl; statement = λ tree. refl; formats = refl; tests = λ schema at tree is. refl; accepted = λ schema tree alone low. rw (low, alone) refl }
 
 unfoldable pub read_member : Parsed
 unfolding everything
-read_member = parsed_or (first delete_member)
+read_member = parsed_or (first (clear_text store.Member))
 
-pub reads_member : ReadsDelete delete_member read_member member None [] 100000
+pub reads_member : ReadsDelete (clear_text store.Member) read_member member None [] 100000
 unfolding everything read_member
 reads_member = record { read = refl; statement = λ tree. refl; formats = refl; tests = λ schema at tree is. refl; accepted = λ schema tree alone low. rw (low, alone) refl }
 
@@ -88,12 +90,12 @@ reads_edition = record {
 
 unfoldable pub read_entry : Parsed
 unfolding everything
-read_entry = parsed_or (first delete_entry)
+read_entry = parsed_or (first delete_entries)
 
 abbrev pub test_entry : List Term
 test_entry = op2 (by.Compare compare.Eq Binary) (col 1 1) (col 0 0) ∷ []
 
-pub reads_entry : ReadsDelete delete_entry read_entry entry (Some (equals_expr (codes "edition"))) test_entry 99997
+pub reads_entry : ReadsDelete delete_entries read_entry entry (Some (equals_expr (codes "edition"))) test_entry 99997
 unfolding everything read_entry column_expr parameter_expr equals_expr
 reads_entry = record {
   read = refl;
@@ -102,6 +104,30 @@ reads_entry = record {
   tests = λ schema at tree is. tests_equals schema at (entry tree) is (codes "edition") 0 (needed (codes "edition") Integer) refl refl [] refl (rw is refl) max_budget refl refl refl;
   accepted = λ schema tree alone low. rw (low, alone) refl;
 }
+
+unfoldable pub read_every_edition : Parsed
+unfolding everything
+read_every_edition = parsed_or (first (clear_text store.Edition))
+
+pub reads_every_edition : ReadsDelete (clear_text store.Edition) read_every_edition edition None [] 100000
+unfolding everything read_every_edition
+reads_every_edition = record { read = refl; statement = λ tree. refl; formats = refl; tests = λ schema at tree is. refl; accepted = λ schema tree alone low. rw (low, alone) refl }
+
+unfoldable pub read_every_entry : Parsed
+unfolding everything
+read_every_entry = parsed_or (first (clear_text store.Entry))
+
+pub reads_every_entry : ReadsDelete (clear_text store.Entry) read_every_entry entry None [] 100000
+unfolding everything read_every_entry
+reads_every_entry = record { read = refl; statement = λ tree. refl; formats = refl; tests = λ schema at tree is. refl; accepted = λ schema tree alone low. rw (low, alone) refl }
+
+unfoldable pub read_every_kept : Parsed
+unfolding everything
+read_every_kept = parsed_or (first (clear_text store.Kept))
+
+pub reads_every_kept : ReadsDelete (clear_text store.Kept) read_every_kept kept None [] 100000
+unfolding everything read_every_kept
+reads_every_kept = record { read = refl; statement = λ tree. refl; formats = refl; tests = λ schema at tree is. refl; accepted = λ schema tree alone low. rw (low, alone) refl }
 
 -- ---- what they do
 
@@ -137,3 +163,11 @@ module _ (text : List ℕ) (p : Parsed) (table : ℕ → Table) (condition : Opt
         let w = runs_as text params old new s refl (command s at tree has.2) (delete_command s at tree has.2) (delete_plain s at tree has.2) count h in
         subst (λ n. IsRemoved n test old.now new.now) (named tree)
         (removes old new at (table tree) has.2 filter (statement_of text (understood s text)) params count (subst (λ n. HasApartRowids (rows_of n old.now)) (sym (named tree)) apart) test (tested tree) w)
+
+pub clears_rows : (t : StoreTable) (old new : State) (count : ℕ) → Has (table_of t) old.now → HasApartRowids (rows_of (table_of t 0).name old.now) → Executes (clear_text t) [] old new (Ok count) → IsRemoved (table_of t 0).name (λ _. true) old.now new.now
+clears_rows store.Mark old new count = removes_rows (clear_text store.Mark) read_mark mark None [] 100000 reads_mark (λ tree. refl) [] (λ _. true) (λ tree row. refl) old new count
+clears_rows store.Item old new count = removes_rows (clear_text store.Item) read_item item None [] 100000 reads_item (λ tree. refl) [] (λ _. true) (λ tree row. refl) old new count
+clears_rows store.Member old new count = removes_rows (clear_text store.Member) read_member member None [] 100000 reads_member (λ tree. refl) [] (λ _. true) (λ tree row. refl) old new count
+clears_rows store.Edition old new count = removes_rows (clear_text store.Edition) read_every_edition edition None [] 100000 reads_every_edition (λ tree. refl) [] (λ _. true) (λ tree row. refl) old new count
+clears_rows store.Entry old new count = removes_rows (clear_text store.Entry) read_every_entry entry None [] 100000 reads_every_entry (λ tree. refl) [] (λ _. true) (λ tree row. refl) old new count
+clears_rows store.Kept old new count = removes_rows (clear_text store.Kept) read_every_kept kept None [] 100000 reads_every_kept (λ tree. refl) [] (λ _. true) (λ tree row. refl) old new count

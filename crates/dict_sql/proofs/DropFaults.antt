@@ -17,10 +17,11 @@ use Rattle.sqlite_tied.specs.Compute.{everything}
 use Rattle.sqlite_syntax.specs.declared.statement.Parsed.{Parsed}
 use Rattle.dict_tables.specs.Found.{HasTable}
 use Rattle.dict_tables.specs.Tables.{mark, item, member, edition, entry, kept}
-use Rattle.dict_sql.specs.declared.drop.StoreTable.{StoreTable}
-use Rattle.dict_sql.specs.declared.drop.StoreTable.TheVariants as store
+use Rattle.dict_tables.specs.declared.tables.StoreTable.{StoreTable}
+use Rattle.dict_tables.specs.declared.tables.StoreTable.TheVariants as store
 use Rattle.dict_sql.specs.Effects.{Has, table_in}
-use Rattle.dict_sql.specs.Drops.{table_of, drop_text}
+use Rattle.dict_sql.specs.Drops.{drop_text}
+use Rattle.dict_tables.specs.Tables.{table_of}
 use Rattle.dict_sql.specs.Refusals.{RefusesToDrop}
 use Rattle.dict_sql.proofs.InsertLemmas.{same_value}
 use Rattle.dict_sql.proofs.DropLemmas.{ReadsDrop, compiles, refuses, unacted, not_taken, not_counted, read_mark, reads_mark, read_item, reads_item, read_member, reads_member, read_edition, reads_edition, read_entry, reads_entry, read_kept, reads_kept}

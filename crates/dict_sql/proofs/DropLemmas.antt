@@ -32,10 +32,11 @@ use Rattle.sqlite_syntax.specs.declared.statement.Parsed.{Parsed}
 use Rattle.dict_tables.specs.Found.{HasTable, is_in}
 use Rattle.dict_tables.proofs.PlaceLemmas.{found}
 use Rattle.dict_tables.specs.Tables.{mark, item, member, edition, entry, kept}
-use Rattle.dict_sql.specs.declared.drop.StoreTable.{StoreTable}
-use Rattle.dict_sql.specs.declared.drop.StoreTable.TheVariants as store
+use Rattle.dict_tables.specs.declared.tables.StoreTable.{StoreTable}
+use Rattle.dict_tables.specs.declared.tables.StoreTable.TheVariants as store
 use Rattle.dict_sql.specs.Effects.{Has, table_in}
-use Rattle.dict_sql.specs.Drops.{table_of, drop_text, IsDropped}
+use Rattle.dict_sql.specs.Drops.{drop_text, IsDropped}
+use Rattle.dict_tables.specs.Tables.{table_of}
 use Rattle.dict_sql.proofs.InsertLemmas.{went, same_value}
 use Rattle.dict_sql.proofs.TextLemmas.{parsed_or}
 

@@ -8,31 +8,32 @@ use Rattle.sqlite.specs.Listing.{understood}
 use Rattle.sqlite_tied.specs.Compute.{everything}
 use Rattle.sqlite_syntax.specs.declared.statement.Parsed.{Parsed}
 use Rattle.dict_tables.specs.Tables.{mark, item, member, edition, entry, kept}
-use Rattle.dict_sql.specs.Creates.{create_mark, create_item, create_member, create_edition, create_entry, create_kept}
+use Rattle.dict_sql.specs.Creates.{create_text}
 use Rattle.dict_sql.specs.Inserts.{insert_mark, insert_item, insert_member, insert_edition, insert_entry, insert_kept}
 use Rattle.dict_sql.proofs.TextLemmas.{parsed_or, ReadsInsert}
+use Rattle.dict_tables.specs.declared.tables.StoreTable.TheVariants as store
 
-defines_mark : table_defined_by create_mark ≡ Ok (mark 0)
+defines_mark : table_defined_by (create_text store.Mark) ≡ Ok (mark 0)
 unfolding understood everything
 defines_mark = refl
 
-defines_item : table_defined_by create_item ≡ Ok (item 0)
+defines_item : table_defined_by (create_text store.Item) ≡ Ok (item 0)
 unfolding understood everything
 defines_item = refl
 
-defines_member : table_defined_by create_member ≡ Ok (member 0)
+defines_member : table_defined_by (create_text store.Member) ≡ Ok (member 0)
 unfolding understood everything
 defines_member = refl
 
-defines_edition : table_defined_by create_edition ≡ Ok (edition 0)
+defines_edition : table_defined_by (create_text store.Edition) ≡ Ok (edition 0)
 unfolding understood everything
 defines_edition = refl
 
-defines_entry : table_defined_by create_entry ≡ Ok (entry 0)
+defines_entry : table_defined_by (create_text store.Entry) ≡ Ok (entry 0)
 unfolding understood everything
 defines_entry = refl
 
-defines_kept : table_defined_by create_kept ≡ Ok (kept 0)
+defines_kept : table_defined_by (create_text store.Kept) ≡ Ok (kept 0)
 unfolding understood everything
 defines_kept = refl
 

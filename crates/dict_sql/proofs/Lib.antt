@@ -7,6 +7,7 @@ pub mod ReadLemmas
 pub mod ListLemmas
 pub mod ReadTexts
 pub mod ListingLemmas
+pub mod SilentLemmas
 pub mod ReadFaults
 pub mod StreamLemmas
 pub mod DeleteLemmas
@@ -15,15 +16,16 @@ pub mod RemoveLemmas
 pub mod DeleteEffects
 pub mod DeleteTexts
 pub mod CompareLemmas
-pub mod FindLemmas
 pub mod CreateLemmas
 pub mod DropLemmas
 pub mod FaultLemmas
+pub mod RefusalLemmas
 pub mod AddFaults
 pub mod AddRefusals
 pub mod DeleteFaults
 pub mod DeleteRefusals
 pub mod CreateFaults
+pub mod MakeLemmas
 pub mod DropFaults
 pub mod Callers
 pub mod NumberLemmas

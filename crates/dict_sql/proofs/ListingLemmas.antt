@@ -1,5 +1,5 @@
 -- What a text that reads a table whole answers.
-use Rattle.std.proofs.Common.{◌≡◌, ℕ, ◌^◌, ◌+◌, nat_le, get_or, List, [], ◌∷◌, map, filter, Bool, true, false, Ok, Err, None, Result, Option, IfOk, arith, inl, inr, refl, sym, ap, subst, ◌∙◌, ℤ}
+use Rattle.std.proofs.Common.{◌≡◌, ℕ, ◌^◌, ◌+◌, nat_le, get_or, List, [], ◌∷◌, map, filter, Bool, true, false, Ok, Err, None, Result, Option, IfOk, IsTrue, inl, inr, refl, sym, ap, subst, ◌∙◌, ℤ}
 use Rattle.std.proofs.lemmas.Bool.{lt-leb, cases_Bool}
 use Rattle.std.specs.List.Sorted.{IsPermutation, IsSorted}
 use Rattle.std.specs.Ordering.{is_lt}
@@ -16,13 +16,13 @@ use Rattle.sqlite.specs.Program.{overlay}
 use Rattle.sqlite_resolve.specs.declared.scope.Output.{Output}
 use Rattle.sqlite.specs.Compile.{with_command}
 use Rattle.sqlite.specs.Listing.{understood, reads_listing}
-use Rattle.sqlite.specs.State.{State, Shown, ShowsRows, HasCleanDisk, Survives, CommitsShowing, IsUnchanged}
+use Rattle.sqlite.specs.State.{State, Shown, ShowsRows, Survives, CommitsShowing, IsUnchanged}
 use Rattle.sqlite.specs.declared.error.Error.{Error}
 use Rattle.sqlite.proofs.StateLemmas.{survives_weaker}
 use Rattle.std.specs.declared.alloc.Global.{Global}
 use Rattle.std.specs.Prelude.{Vec, ℤ}
 use Rattle.sqlite.specs.Clock.{timed}
-use Rattle.sqlite.proofs.Callers.{IsPlain, command_of, reads_as, never_commits}
+use Rattle.sqlite.proofs.Callers.{IsPlain, command_of, reads_as}
 use Rattle.sqlite_resolve.specs.Lowering.{nothing}
 use Rattle.sqlite_resolve.specs.declared.state.Carried.{Carried}
 use Rattle.sqlite_value.specs.declared.keys.Key.{Key}
@@ -34,7 +34,8 @@ use Rattle.dict_tables.specs.Tables.{edition, entry, kept}
 use Rattle.dict_sql.specs.Reads.{IsListing, IsSelection, by_columns}
 use Rattle.dict_sql.proofs.CompareLemmas.{and_true, equals_is, equals_text_is}
 use Rattle.sqlite_ast.specs.declared.Expr.{Expr}
-use Rattle.dict_sql.proofs.ReadLemmas.{text_is, listing_is, query_over, outputs_of}
+use Rattle.dict_sql.proofs.ReadLemmas.{text_is, listing_is, query_over, outputs_of, select_of}
+use Rattle.dict_sql.proofs.SilentLemmas.{commits_none, shown_open}
 use Rattle.dict_sql.proofs.ReadTexts.{ReadsTable, test_one_edition, test_some_entries, test_one_kept}
 use Rattle.dict_sql.proofs.ListLemmas.{lists, sorts, passes}
 
@@ -108,12 +109,12 @@ module _ (text : List ℕ) (p : Parsed) (table : ℕ → Table) (condition : Opt
         let it = subst (ShowsRows old new text h.0 (timed params h.0.formats h.1.now) rows) bare.0 h.2 in
         (subst (λ n. IsSelection n test columns old.now rows) (named tree) (listed s at tree has.2 params test (tested tree) old.now.trees rows (read.answer Null)), it.3)
 
-    pub selects : (result : Result (Vec Row Global) Error) → Has table old.now → IfOk result (λ rows. Shown text params old new rows.items) → IfOk result (λ rows. SelectsIn rows.items)
+    pub selects : (result : Result (Vec Row Global) Error) → (IsTrue old.is_open → Has table old.now) → IfOk result (λ rows. Shown text params old new rows.items) → IfOk result (λ rows. SelectsIn rows.items)
     selects (Err e) has h = tt
-    selects (Ok rows) has h = shown_selects rows.items has h
+    selects (Ok rows) has h = shown_selects rows.items (has (shown_open text p (select_of (table 0).name condition sorted) r.read (r.statement 0) old new params rows.items h)) h
 
-    pub reads_nothing_else : (HasCleanDisk old → Has table old.now) → Survives old new (CommitsShowing text params old) → Survives old new (λ _. ⊥)
-    reads_nothing_else has s = survives_weaker old new _ _ (λ clean db. let it = has (omega (arith, s.clean, clean)) in never_commits text params old db (reads_plain old.now.schema it.0 it.1 it.2)) s
+    pub reads_nothing_else : Survives old new (CommitsShowing text params old) → Survives old new (λ _. ⊥)
+    reads_nothing_else s = survives_weaker old new _ _ (λ clean db. commits_none text p (select_of (table 0).name condition sorted) r.read (r.statement 0) params old db) s
 
 -- a selection by no test is the whole
 pub lists_whole : (name : List ℕ) (columns : List ℕ) (old new : State) (result : Result (Vec Row Global) Error) → IfOk result (λ rows. IsSelection name (λ _. true) columns old.now rows.items × IsUnchanged old new) → IfOk result (λ rows. IsListing name columns old.now rows.items × IsUnchanged old new)

@@ -1,5 +1,5 @@
 -- Why a text that reads a table is refused: by the store, or at the limit on steps.
-use Rattle.std.proofs.Common.{◌≡◌, ◌≢◌, ◌⊎◌, ◌≤◌, ◌==◌, ◌^◌, ℕ, List, [], ◌∷◌, length, find, nat_le, true, false, Ok, Err, Some, None, Option, Result, IsSome, IfErr, Vec, inl, inr, refl, sym, subst, subst₂, ◌∙◌, append-nil, lit≤, ℤ}
+use Rattle.std.proofs.Common.{◌≡◌, ◌≢◌, ◌⊎◌, ◌≤◌, ◌==◌, ◌^◌, ℕ, List, [], ◌∷◌, length, find, nat_le, true, false, Ok, Err, Some, None, Option, Result, IsSome, IsTrue, IfErr, Vec, inl, inr, refl, sym, subst, subst₂, ◌∙◌, append-nil, lit≤, ℤ}
 use Rattle.std.proofs.lemmas.Bool.{lt-leb}
 use Rattle.std.specs.declared.alloc.Global.{Global}
 use Rattle.sqlite.specs.Order.{Row}
@@ -31,7 +31,9 @@ use Rattle.dict_tables.specs.Found.{HasTable}
 use Rattle.dict_sql.specs.Effects.{Has}
 use Rattle.dict_sql.specs.Reads.{FailsToRead, select_mark, select_item, select_member, select_edition, select_entry, select_kept, select_one_edition, select_some_entries, select_one_kept}
 use Rattle.dict_sql.proofs.InsertLemmas.{same_value}
-use Rattle.dict_sql.proofs.ReadLemmas.{query_over}
+use Rattle.dict_sql.proofs.ReadLemmas.{query_over, select_of}
+use Rattle.dict_sql.proofs.SilentLemmas.{shut_query}
+use Rattle.std.proofs.lemmas.Bool.{cases_Bool}
 use Rattle.dict_sql.proofs.ReadTexts.{ReadsTable, key_at, test_one_edition, test_some_entries, test_one_kept, read_mark, read_item, read_member, read_edition, read_entry, read_kept, read_one_edition, read_some_entries, read_one_kept}
 use Rattle.dict_sql.proofs.ListingLemmas.{compiles, unlisted, reads_plain, command}
 
@@ -138,6 +140,13 @@ module _ (text : List ℕ) (p : Parsed) (table : ℕ → Table) (condition : Opt
         let stop = stopped e (subst₂ (λ (c : Compiled) d. RefusesToRead old.step_limit c.command d (given x) e) same db shown.2) in
         inr (stop.0, stop.1, shown.3)
 
+  module _ {X : Type 0} (given : X → Row) (w : Takes text p table tests' order given) (x : X) (old new : State) (has : IsTrue old.is_open → Has table old.now) where
+    pub fails_read : (e : Error) → FailsToQuery text (given x) old new e → FailsToRead old new e
+    fails_read e h = elim (cases_Bool old.is_open) [
+      | inl open' ↦ fails given w x old new (has open') e h
+      | inr shut ↦ shut_query text p (select_of (table 0).name condition sorted) r.read (r.statement 0) old new (given x) e shut h
+    ]
+
     pub fails_to_list : (result : Result (Vec Row Global) Error) → IfErr result (FailsToQuery text (given x) old new) → IfErr result (FailsToRead old new)
     fails_to_list (Ok rows) h = tt
-    fails_to_list (Err e) h = fails e h
+    fails_to_list (Err e) h = fails_read e h

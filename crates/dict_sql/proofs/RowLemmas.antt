@@ -6,8 +6,8 @@ use Rattle.sqlite.specs.declared.types.Value.TheVariants.{Null, Int, Text}
 use Rattle.sqlite.specs.Values.{or_null}
 use Rattle.std.specs.List.{range_with_len}
 use Rattle.sqlite.specs.Order.{Row, column}
-use Rattle.dict_sql.specs.Stored.{Holds}
-use Rattle.dict_sql.specs.Stored.Content.{NumberOrNull, NameOrNull}
+use Rattle.dict_sql.specs.Columns.{IsOf}
+use Rattle.dict_sql.specs.Columns.Content.{NumberOrNull, NameOrNull}
 
 cells_from : (r : Row) (a : ℕ) (s : Row) → ((k : ℕ) → column s (a + k) ≡ column r k) → map (column s) (range_with_len a (length r)) ≡ r
 cells_from [] a s h = refl
@@ -25,10 +25,10 @@ pub read_or_null : {X : Type 0} (f : X → Value) (v : Value) (o : Option X) →
 read_or_null f v None h = h
 read_or_null f v (Some x) h = h.1
 
-pub number_or_null : (v : Value) (o : Option ℤ) → MatchOption o (v ≡ Null) (λ n. (v ≢ Null) × (v ≡ Int n)) → Holds NumberOrNull v
+pub number_or_null : (v : Value) (o : Option ℤ) → MatchOption o (v ≡ Null) (λ n. (v ≢ Null) × (v ≡ Int n)) → IsOf NumberOrNull v
 number_or_null v None h = inl h
 number_or_null v (Some n) h = inr (n, h.1)
 
-pub text_or_null : {Z : Type 0} (v : Value) (o : Option (String Z)) → MatchOption o (v ≡ Null) (λ s. (v ≢ Null) × (v ≡ Text (string_bytes s))) → Holds NameOrNull v
+pub text_or_null : {Z : Type 0} (v : Value) (o : Option (String Z)) → MatchOption o (v ≡ Null) (λ s. (v ≢ Null) × (v ≡ Text (string_bytes s))) → IsOf NameOrNull v
 text_or_null v None h = inl h
 text_or_null v (Some s) h = inr (string_bytes s, h.1, IsUtf8-string_bytes s)

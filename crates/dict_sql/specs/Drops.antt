@@ -5,18 +5,12 @@ use Rattle.sqlite.specs.Effect.{Database, IsDatabase, SparesFrozen}
 use Rattle.sqlite.specs.Table.{Table}
 use Rattle.sqlite.specs.Change.{without_table}
 use Rattle.sqlite_schema.specs.Names.{table_named}
-use Rattle.dict_tables.specs.Tables as tables
-use Rattle.dict_sql.specs.declared.drop.StoreTable.{StoreTable}
-use Rattle.dict_sql.specs.declared.drop.StoreTable.TheVariants.{Mark, Item, Member, Edition, Entry, Kept}
-use Rattle.dict_sql.specs.Effects.{table_in}
-
-abbrev pub table_of : StoreTable → ℕ → Table
-table_of Mark = tables.mark
-table_of Item = tables.item
-table_of Member = tables.member
-table_of Edition = tables.edition
-table_of Entry = tables.entry
-table_of Kept = tables.kept
+use Rattle.dict_tables.specs.declared.tables.StoreTable.{StoreTable}
+use Rattle.dict_tables.specs.declared.tables.StoreTable.TheVariants.{Mark, Item, Member, Edition, Entry, Kept}
+use Rattle.sqlite.specs.State.{State}
+use Rattle.sqlite.specs.declared.error.Error.{Error}
+use Rattle.dict_sql.specs.Effects.{table_in, FailsIn, GoesOn}
+use Rattle.dict_sql.specs.Refusals.{RefusesToDrop}
 
 abbrev pub drop_text : StoreTable → List ℕ
 drop_text Mark = codes "DROP TABLE mark"
@@ -33,3 +27,9 @@ pub record IsDropped (name : List ℕ) (old new : Database) : Type 0 where
   pub others : AllByRecursion (λ t. new.trees t.tree ≡ old.trees t.tree) new.schema.tables
   pub unread : SparesFrozen old new
   pub sound : IsDatabase new
+
+abbrev pub Drops : List ℕ → State → State → Type 0
+Drops name old new = IsDropped name old.now new.now × GoesOn old new
+
+abbrev pub FailsToDrop : List ℕ → State → State → Error → Type 0
+FailsToDrop name old new = FailsIn (RefusesToDrop name old) ⊥ old new

@@ -6,13 +6,25 @@ use Rattle.sqlite.specs.declared.types.Value.{Value}
 use Rattle.sqlite.specs.Effect.{Database, IsDatabase, SparesFrozen}
 use Rattle.sqlite.specs.declared.types.Value.TheVariants.{Int, Text as Words}
 use Rattle.sqlite.specs.Order.{Row, column, value_cmp}
-use Rattle.sqlite.specs.State.{State, Shows, KeepsCommit, IsUnchanged, Fails}
+use Rattle.sqlite.specs.State.{State, HasCleanDisk, Shows, KeepsCommit, IsUnchanged, Fails, is_disk_error}
+use Rattle.sqlite.specs.Disk.{MoreFaults}
+use Rattle.sqlite.specs.Held.{state}
+use Rattle.sqlite.specs.declared.transaction.Transaction.{Transaction}
+use Rattle.sqlite_trees.specs.declared.store.Store.{Ghosts}
 use Rattle.sqlite.specs.declared.error.Error.{Error}
 use Rattle.sqlite.specs.declared.error.Error.TheVariants.{SqliteFailure}
 use Rattle.sqlite.specs.declared.error.ErrorCode.TheVariants as code
 use Rattle.sqlite.specs.Table.{Table}
 use Rattle.sqlite_schema.specs.Names.{table_named, place_of}
 use Rattle.dict_tables.specs.Found.{HasTable}
+
+-- what the connection of a transaction shows
+abbrev pub seen : {S : Type 0} → Ghosts S → Transaction S → State
+seen g tx = state g tx.conn.now
+
+-- Of a connection that is open, while the disk gives what was written. One that has shut itself beside a refused growth shows no tables.
+abbrev pub WhileOpen : State → (Database → Type 0) → Type 0
+WhileOpen s P = HasCleanDisk s → IsTrue s.is_open → P s.now
 
 -- the database has the table, in some tree
 abbrev pub Has : (ℕ → Table) → Database → Type 0
@@ -66,11 +78,16 @@ equals_number at n r = same_value (column r at) (Int n)
 abbrev pub equals_text : ℕ → List ℕ → Row → Bool
 equals_text at t r = same_value (column r at) (Words t)
 
--- A statement of a transaction failed: nothing was committed. It was refused and nothing has changed, or the store failed and the transaction is undone. Outside of a transaction nothing is run.
+-- An error that names the disk came with a fault of the disk.
+abbrev pub CountsFaults : State → State → Error → Type 0
+CountsFaults old new e = is_disk_error e ≡ true → MoreFaults old.faults new.faults
+
+-- A statement of a transaction failed: nothing was committed. It was refused and nothing has changed, or the store failed and the transaction is undone. Outside of a transaction nothing is run. (Of a connection that was shut before it isn't told how big the row is.)
 pub record FailsIn (Refuses : Error → Type 0) (TooBig : Type 0) (old new : State) (e : Error) : Type 0 where
   pub keeps : KeepsCommit old new
-  pub cause : IsTrue old.in_transaction → (Refuses e × IsUnchanged old new) ⊎ Fails old new TooBig e
+  pub cause : IsTrue old.in_transaction → (Refuses e × IsUnchanged old new) ⊎ Fails old new (IsTrue old.is_open → TooBig) e
   pub outside : old.in_transaction ≡ false → (e ≡ SqliteFailure code.TransactionState) × (new.now ≡ old.now)
+  pub counts : CountsFaults old new e
 
 -- A statement of a transaction succeeded: it sees what it wrote, and nothing was committed.
 abbrev pub GoesOn : State → State → Type 0

@@ -1,10 +1,10 @@
 pub mod Inserts
-pub mod Records
+pub mod Encodings
+pub mod Columns
 pub mod Effects
 pub mod Refusals
 pub mod Reads
 pub mod Streams
-pub mod Stored
 pub mod Deletes
 pub mod Creates
 pub mod Drops

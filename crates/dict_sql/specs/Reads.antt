@@ -1,5 +1,5 @@
 -- The texts that read a table, in which order its rows come, and why it isn't read.
-use Rattle.std.specs.Prelude.{◌≡◌, ◌≢◌, ◌⊎◌, ℕ, List, [], ◌∷◌, codes, Bool, filter, IsSome, IsPermutation, IsSorted}
+use Rattle.std.specs.Prelude.{◌≡◌, ◌⊎◌, ℕ, List, [], ◌∷◌, codes, Bool, filter, IsSome, IsPermutation, IsSorted}
 use Rattle.std.specs.List.{Contains}
 use Rattle.std.specs.declared.cmp.Ordering.{Ordering}
 use Rattle.std.specs.declared.cmp.Ordering.TheVariants.{Equal}
@@ -11,7 +11,9 @@ use Rattle.sqlite.specs.declared.error.Error.{Error}
 use Rattle.sqlite.specs.declared.error.Error.TheVariants.{SqliteFailure}
 use Rattle.sqlite.specs.declared.error.ErrorCode.TheVariants.{OutOfMemory, OperationInterrupted}
 use Rattle.dict_sql.specs.Effects.{rows_of}
-use Rattle.dict_sql.specs.Stored.{Content, HasColumns}
+use Rattle.dict_sql.specs.Columns.{Content, HasColumns}
+use Rattle.dict_sql.specs.declared.records.ReadError.{ReadError}
+use Rattle.dict_sql.specs.declared.records.ReadError.TheVariants.{NoRecord, Store}
 
 abbrev pub select_mark : List ℕ
 select_mark = codes "SELECT rowid, * FROM mark ORDER BY 2"
@@ -55,6 +57,14 @@ pub record IsSelection (name : List ℕ) (test : Row → Bool) (columns : List �
   pub same : IsPermutation (filter test (rows_of name db)) rows
   pub sorted : IsSorted (by_columns columns) rows
 
+-- all rows of the table were read, and nothing has changed
+abbrev pub Lists : List ℕ → List ℕ → State → State → List Row → Type 0
+Lists name columns old new rows = IsListing name columns old.now rows × IsUnchanged old new
+
+-- those that pass the test were, and nothing has changed
+abbrev pub Selects : List ℕ → (Row → Bool) → List ℕ → State → State → List Row → Type 0
+Selects name test columns old new rows = IsSelection name test columns old.now rows × IsUnchanged old new
+
 -- The store failed, and the transaction is undone; or the limit on steps was met, and nothing has changed.
 abbrev pub FailsToRead : State → State → Error → Type 0
 FailsToRead old new e = Fails old new ⊥ e ⊎ ((e ≡ SqliteFailure OperationInterrupted) × IsSome old.step_limit × IsUnchanged old new)
@@ -63,6 +73,17 @@ FailsToRead old new e = Fails old new ⊥ e ⊎ ((e ≡ SqliteFailure OperationI
 abbrev pub HasNoRecord : List Content → List Row → Type 0
 HasNoRecord columns rows = (row : Row) × Contains rows row × ¬ HasColumns columns row
 
--- The rows were not read; or they were, nothing has changed, and memory was refused or one of them is no record.
-abbrev pub FailsToList : List Content → List Row → State → State → Error → Type 0
-FailsToList columns rows old new e = FailsToRead old new e ⊎ (IsUnchanged old new × (e ≢ SqliteFailure OutOfMemory → HasNoRecord columns rows))
+-- A row is no record, or memory was refused.
+abbrev pub FailsToDecode : List Content → Row → ReadError → Type 0
+FailsToDecode columns row NoRecord = ¬ HasColumns columns row
+FailsToDecode columns row (Store e) = e ≡ SqliteFailure OutOfMemory
+
+-- One of the rows is no record, or memory was refused.
+abbrev pub FailsToDecodeAll : List Content → List Row → ReadError → Type 0
+FailsToDecodeAll columns rows NoRecord = HasNoRecord columns rows
+FailsToDecodeAll columns rows (Store e) = e ≡ SqliteFailure OutOfMemory
+
+-- One of the rows is no record, and nothing has changed; or the store failed or the limit was met, or memory was refused for the records.
+abbrev pub FailsToList : List Content → List Row → State → State → ReadError → Type 0
+FailsToList columns rows old new NoRecord = IsUnchanged old new × HasNoRecord columns rows
+FailsToList columns rows old new (Store e) = FailsToRead old new e ⊎ (IsUnchanged old new × (e ≡ SqliteFailure OutOfMemory))

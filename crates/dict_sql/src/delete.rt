@@ -1,80 +1,56 @@
 //! Rows that are taken out of a table, inside an open transaction.
 
-ghost use Rattle.std.specs.Prelude.{◌≡◌, true, false, codes, IsTrue, IfErr, OnOk};
+ghost use Rattle.std.specs.Prelude.{◌≡◌, true, codes, IfErr, OnOk};
 ghost use Rattle.sqlite.specs.State.{HasCleanDisk, Survives};
-ghost use Rattle.sqlite.specs.Held.{state};
-ghost use Rattle.dict_tables.specs.Tables.{mark, item, member, edition as edition_table, entry};
-ghost use Rattle.dict_sql.specs.Effects.{Has, HasApartRowids, IsRemoved, FailsIn, GoesOn, equals_number, rows_of};
-ghost use Rattle.dict_sql.specs.Refusals.{RefusesToRemove};
+ghost use Rattle.dict_tables.specs.Tables.{edition as edition_table, entry, table_of};
+ghost use Rattle.dict_sql.specs.Effects.{WhileOpen, seen, equals_number};
+ghost use Rattle.dict_sql.specs.Deletes.{HasToRemove, Removes, FailsToRemove, clear_text};
 
+use dict_tables::StoreTable;
 use sqlite::{Alter, Error, Transaction, params};
 
-/// Takes out all rows of `mark`. It answers the count of rows that `sqlite` reports.
-pub fn clear_mark<S: Alter>(tx: &mut Transaction<'_, S>) -> Result<usize, Error>
-    requires has { HasCleanDisk (state S.Store tx.old.conn.now) → Has mark (state S.Store tx.old.conn.now).now }
-    requires apart { HasCleanDisk (state S.Store tx.old.conn.now) → HasApartRowids (rows_of (codes "mark") (state S.Store tx.old.conn.now).now) }
-    ensures same_reference { tx.new.conn.ghost_name ≡ tx.old.conn.ghost_name }
-    ensures removed { HasCleanDisk (state S.Store tx.new.conn.now) → OnOk result
-        (IsRemoved (codes "mark") (λ _. true) (state S.Store tx.old.conn.now).now (state S.Store tx.new.conn.now).now × GoesOn (state S.Store tx.old.conn.now) (state S.Store tx.new.conn.now)) }
-    ensures failed { HasCleanDisk (state S.Store tx.new.conn.now) → IfErr result
-        (FailsIn (RefusesToRemove (codes "mark") (λ _. true) (state S.Store tx.old.conn.now)) ⊥ (state S.Store tx.old.conn.now) (state S.Store tx.new.conn.now)) }
-    ensures survives { Survives (state S.Store tx.old.conn.now) (state S.Store tx.new.conn.now) (λ _. ⊥) }
+fn text_of(table: StoreTable) -> &'static str
+    ensures { result.now ≡ clear_text table }
 {
-    tx.execute("DELETE FROM mark", &[])
+    match table {
+        StoreTable::Mark => "DELETE FROM mark",
+        StoreTable::Item => "DELETE FROM item",
+        StoreTable::Member => "DELETE FROM member",
+        StoreTable::Edition => "DELETE FROM edition",
+        StoreTable::Entry => "DELETE FROM entry",
+        StoreTable::Kept => "DELETE FROM kept",
+    }
 }
 
-/// Takes out all items. It answers the count of rows that `sqlite` reports.
-pub fn clear_items<S: Alter>(tx: &mut Transaction<'_, S>) -> Result<usize, Error>
-    requires has { HasCleanDisk (state S.Store tx.old.conn.now) → Has item (state S.Store tx.old.conn.now).now }
-    requires apart { HasCleanDisk (state S.Store tx.old.conn.now) → HasApartRowids (rows_of (codes "item") (state S.Store tx.old.conn.now).now) }
+/// Takes out all rows of the table. It answers the count of rows that `sqlite` reports.
+pub fn clear_table<S: Alter>(tx: &mut Transaction<'_, S>, table: StoreTable) -> Result<usize, Error>
+    requires { WhileOpen (seen S.Store tx.old) (HasToRemove (table_of table)) }
     ensures same_reference { tx.new.conn.ghost_name ≡ tx.old.conn.ghost_name }
-    ensures removed { HasCleanDisk (state S.Store tx.new.conn.now) → OnOk result
-        (IsRemoved (codes "item") (λ _. true) (state S.Store tx.old.conn.now).now (state S.Store tx.new.conn.now).now × GoesOn (state S.Store tx.old.conn.now) (state S.Store tx.new.conn.now)) }
-    ensures failed { HasCleanDisk (state S.Store tx.new.conn.now) → IfErr result
-        (FailsIn (RefusesToRemove (codes "item") (λ _. true) (state S.Store tx.old.conn.now)) ⊥ (state S.Store tx.old.conn.now) (state S.Store tx.new.conn.now)) }
-    ensures survives { Survives (state S.Store tx.old.conn.now) (state S.Store tx.new.conn.now) (λ _. ⊥) }
+    ensures removed { HasCleanDisk (seen S.Store tx.new) → OnOk result (Removes (table_of table 0).name (λ _. true) (seen S.Store tx.old) (seen S.Store tx.new)) }
+    ensures failed { HasCleanDisk (seen S.Store tx.new) → IfErr result (FailsToRemove (table_of table 0).name (λ _. true) (seen S.Store tx.old) (seen S.Store tx.new)) }
+    ensures survives { Survives (seen S.Store tx.old) (seen S.Store tx.new) (λ _. ⊥) }
 {
-    tx.execute("DELETE FROM item", &[])
-}
-
-/// Takes out all members of virtual items. It answers the count of rows that `sqlite` reports.
-pub fn clear_members<S: Alter>(tx: &mut Transaction<'_, S>) -> Result<usize, Error>
-    requires has { HasCleanDisk (state S.Store tx.old.conn.now) → Has member (state S.Store tx.old.conn.now).now }
-    requires apart { HasCleanDisk (state S.Store tx.old.conn.now) → HasApartRowids (rows_of (codes "member") (state S.Store tx.old.conn.now).now) }
-    ensures same_reference { tx.new.conn.ghost_name ≡ tx.old.conn.ghost_name }
-    ensures removed { HasCleanDisk (state S.Store tx.new.conn.now) → OnOk result
-        (IsRemoved (codes "member") (λ _. true) (state S.Store tx.old.conn.now).now (state S.Store tx.new.conn.now).now × GoesOn (state S.Store tx.old.conn.now) (state S.Store tx.new.conn.now)) }
-    ensures failed { HasCleanDisk (state S.Store tx.new.conn.now) → IfErr result
-        (FailsIn (RefusesToRemove (codes "member") (λ _. true) (state S.Store tx.old.conn.now)) ⊥ (state S.Store tx.old.conn.now) (state S.Store tx.new.conn.now)) }
-    ensures survives { Survives (state S.Store tx.old.conn.now) (state S.Store tx.new.conn.now) (λ _. ⊥) }
-{
-    tx.execute("DELETE FROM member", &[])
+    tx.execute(text_of(table), &[])
 }
 
 /// Takes out the edition of this number. It answers the count of rows that `sqlite` reports.
 pub fn delete_edition<S: Alter>(tx: &mut Transaction<'_, S>, number: i64) -> Result<usize, Error>
-    requires has { HasCleanDisk (state S.Store tx.old.conn.now) → Has edition_table (state S.Store tx.old.conn.now).now }
-    requires apart { HasCleanDisk (state S.Store tx.old.conn.now) → HasApartRowids (rows_of (codes "edition") (state S.Store tx.old.conn.now).now) }
+    requires { WhileOpen (seen S.Store tx.old) (HasToRemove edition_table) }
     ensures same_reference { tx.new.conn.ghost_name ≡ tx.old.conn.ghost_name }
-    ensures removed { HasCleanDisk (state S.Store tx.new.conn.now) → OnOk result
-        (IsRemoved (codes "edition") (equals_number 1 number) (state S.Store tx.old.conn.now).now (state S.Store tx.new.conn.now).now × GoesOn (state S.Store tx.old.conn.now) (state S.Store tx.new.conn.now)) }
-    ensures failed { HasCleanDisk (state S.Store tx.new.conn.now) → IfErr result
-        (FailsIn (RefusesToRemove (codes "edition") (equals_number 1 number) (state S.Store tx.old.conn.now)) ⊥ (state S.Store tx.old.conn.now) (state S.Store tx.new.conn.now)) }
-    ensures survives { Survives (state S.Store tx.old.conn.now) (state S.Store tx.new.conn.now) (λ _. ⊥) }
+    ensures removed { HasCleanDisk (seen S.Store tx.new) → OnOk result (Removes (codes "edition") (equals_number 1 number) (seen S.Store tx.old) (seen S.Store tx.new)) }
+    ensures failed { HasCleanDisk (seen S.Store tx.new) → IfErr result (FailsToRemove (codes "edition") (equals_number 1 number) (seen S.Store tx.old) (seen S.Store tx.new)) }
+    ensures survives { Survives (seen S.Store tx.old) (seen S.Store tx.new) (λ _. ⊥) }
 {
     tx.execute("DELETE FROM edition WHERE number = ?1", params![number])
 }
 
 /// Takes out the entries of this edition. It answers the count of rows that `sqlite` reports.
 pub fn delete_entries<S: Alter>(tx: &mut Transaction<'_, S>, edition: i64) -> Result<usize, Error>
-    requires has { HasCleanDisk (state S.Store tx.old.conn.now) → Has entry (state S.Store tx.old.conn.now).now }
-    requires apart { HasCleanDisk (state S.Store tx.old.conn.now) → HasApartRowids (rows_of (codes "entry") (state S.Store tx.old.conn.now).now) }
+    requires { WhileOpen (seen S.Store tx.old) (HasToRemove entry) }
     ensures same_reference { tx.new.conn.ghost_name ≡ tx.old.conn.ghost_name }
-    ensures removed { HasCleanDisk (state S.Store tx.new.conn.now) → OnOk result
-        (IsRemoved (codes "entry") (equals_number 1 edition) (state S.Store tx.old.conn.now).now (state S.Store tx.new.conn.now).now × GoesOn (state S.Store tx.old.conn.now) (state S.Store tx.new.conn.now)) }
-    ensures failed { HasCleanDisk (state S.Store tx.new.conn.now) → IfErr result
-        (FailsIn (RefusesToRemove (codes "entry") (equals_number 1 edition) (state S.Store tx.old.conn.now)) ⊥ (state S.Store tx.old.conn.now) (state S.Store tx.new.conn.now)) }
-    ensures survives { Survives (state S.Store tx.old.conn.now) (state S.Store tx.new.conn.now) (λ _. ⊥) }
+    ensures removed { HasCleanDisk (seen S.Store tx.new) → OnOk result (Removes (codes "entry") (equals_number 1 edition) (seen S.Store tx.old) (seen S.Store tx.new)) }
+    ensures failed { HasCleanDisk (seen S.Store tx.new) → IfErr result (FailsToRemove (codes "entry") (equals_number 1 edition) (seen S.Store tx.old) (seen S.Store tx.new)) }
+    ensures survives { Survives (seen S.Store tx.old) (seen S.Store tx.new) (λ _. ⊥) }
 {
     tx.execute("DELETE FROM entry WHERE edition = ?1", params![edition])
 }

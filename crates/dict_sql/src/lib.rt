@@ -6,6 +6,7 @@ pub mod create;
 pub mod delete;
 pub mod drop;
 pub mod insert;
+pub mod laws;
 pub mod read;
 pub mod records;
 pub mod stream;

@@ -1,33 +1,35 @@
 //! The records of a small table, or those that a condition names, as lists in the order of the key.
 
-ghost use Rattle.std.specs.Prelude.{◌≡◌, ◌≢◌, ℕ, false, [], ◌∷◌, filter, map, codes, IfOk, IfErr};
-ghost use Rattle.sqlite.specs.declared.error.ErrorCode.TheVariants.{OutOfMemory};
-ghost use Rattle.sqlite.specs.State.{HasCleanDisk, Survives, IsUnchanged};
+ghost use Rattle.std.specs.Prelude.{◌≡◌, ℕ, false, [], ◌∷◌, filter, map, codes, IfOk, IfErr};
+ghost use Rattle.sqlite.specs.State.{HasCleanDisk, Survives};
 ghost use Rattle.sqlite.specs.Held.{state};
 ghost use Rattle.dict_tables.specs.Tables.{mark, item, member, edition as edition_table, kept};
-ghost use Rattle.dict_sql.specs.Stored.{stored_mark, stored_item, stored_member, stored_edition, stored_kept, mark_columns, item_columns, member_columns, edition_columns, kept_columns};
-ghost use Rattle.dict_sql.specs.Effects.{Has, equals_number, equals_text, rows_of};
-ghost use Rattle.dict_sql.specs.Reads.{IsListing, IsSelection, FailsToRead, FailsToList, HasNoRecord};
+ghost use Rattle.dict_sql.specs.Encodings.{stored_mark, stored_item, stored_member, stored_edition, stored_kept};
+ghost use Rattle.dict_sql.specs.Columns.{mark_columns, item_columns, member_columns, edition_columns, kept_columns};
+ghost use Rattle.dict_sql.specs.Effects.{Has, WhileOpen, equals_number, equals_text, rows_of};
+ghost use Rattle.dict_sql.specs.Reads.{Lists, Selects, FailsToRead, FailsToList, FailsToDecodeAll};
 
-use crate::records::{Edition, Item, Kept, Mark, Member, Record};
+use crate::records::{ReadError, Record};
+use dict_records::{Edition, Item, Kept, Mark, Member, Stored};
 use sqlite::{Alter, Connection, Error, Row, params};
 use std::alloc::Global;
 
 // The record of each row, in turn.
-fn records_of<R: Record + Drop>(alloc: Global, rows: &[Row]) -> Result<Vec<R>, Error>
+fn records_of<R: Record + Drop>(alloc: Global, rows: &[Row]) -> Result<Vec<R>, ReadError>
     ensures read { IfOk result (λ all. map R.Record.stored all.items ≡ rows.now) }
-    ensures refused { IfErr result (λ e. e ≢ Error.SqliteFailure OutOfMemory → HasNoRecord R.Record.columns rows.now) }
+    ensures refused { IfErr result (FailsToDecodeAll R.Record.columns rows.now) }
 {
     let mut all = Vec::new(alloc);
     for row in rows {
-        all.push(R::from_row(row)?)?;
+        let record = R::from_row(row)?;
+        all.push(record)?;
     }
     Ok(all)
 }
 
 fn mark_rows<S: Alter>(conn: &mut Connection<S>) -> Result<Vec<Row>, Error>
-    requires { HasCleanDisk (state S.Store conn.old) → Has mark (state S.Store conn.old).now }
-    ensures listed { HasCleanDisk (state S.Store conn.new) → IfOk result (λ rows. IsListing (codes "mark") (1 ∷ []) (state S.Store conn.old).now rows.items × IsUnchanged (state S.Store conn.old) (state S.Store conn.new)) }
+    requires { WhileOpen (state S.Store conn.old) (Has mark) }
+    ensures listed { HasCleanDisk (state S.Store conn.new) → IfOk result (λ rows. Lists (codes "mark") (1 ∷ []) (state S.Store conn.old) (state S.Store conn.new) rows.items) }
     ensures failed { HasCleanDisk (state S.Store conn.new) → IfErr result (FailsToRead (state S.Store conn.old) (state S.Store conn.new)) }
     ensures mode { conn.old.in_transaction ≡ false → conn.new.in_transaction ≡ false }
     ensures survives { Survives (state S.Store conn.old) (state S.Store conn.new) (λ _. ⊥) }
@@ -36,9 +38,12 @@ fn mark_rows<S: Alter>(conn: &mut Connection<S>) -> Result<Vec<Row>, Error>
 }
 
 /// The mark. Where the tables are sound there is one.
-pub fn marks<S: Alter>(alloc: Global, conn: &mut Connection<S>) -> Result<Vec<Mark>, Error>
-    requires { HasCleanDisk (state S.Store conn.old) → Has mark (state S.Store conn.old).now }
-    ensures listed { HasCleanDisk (state S.Store conn.new) → IfOk result (λ all. IsListing (codes "mark") (1 ∷ []) (state S.Store conn.old).now (map stored_mark all.items) × IsUnchanged (state S.Store conn.old) (state S.Store conn.new)) }
+pub fn marks<S: Alter>(
+    alloc: Global,
+    conn: &mut Connection<S>,
+) -> Result<Vec<Stored<Mark<String>>>, ReadError>
+    requires { WhileOpen (state S.Store conn.old) (Has mark) }
+    ensures listed { HasCleanDisk (state S.Store conn.new) → IfOk result (λ all. Lists (codes "mark") (1 ∷ []) (state S.Store conn.old) (state S.Store conn.new) (map stored_mark all.items)) }
     ensures failed { HasCleanDisk (state S.Store conn.new) → IfErr result (FailsToList mark_columns (rows_of (codes "mark") (state S.Store conn.old).now) (state S.Store conn.old) (state S.Store conn.new)) }
     ensures mode { conn.old.in_transaction ≡ false → conn.new.in_transaction ≡ false }
     ensures survives { Survives (state S.Store conn.old) (state S.Store conn.new) (λ _. ⊥) }
@@ -48,8 +53,8 @@ pub fn marks<S: Alter>(alloc: Global, conn: &mut Connection<S>) -> Result<Vec<Ma
 }
 
 fn item_rows<S: Alter>(conn: &mut Connection<S>) -> Result<Vec<Row>, Error>
-    requires { HasCleanDisk (state S.Store conn.old) → Has item (state S.Store conn.old).now }
-    ensures listed { HasCleanDisk (state S.Store conn.new) → IfOk result (λ rows. IsListing (codes "item") (1 ∷ []) (state S.Store conn.old).now rows.items × IsUnchanged (state S.Store conn.old) (state S.Store conn.new)) }
+    requires { WhileOpen (state S.Store conn.old) (Has item) }
+    ensures listed { HasCleanDisk (state S.Store conn.new) → IfOk result (λ rows. Lists (codes "item") (1 ∷ []) (state S.Store conn.old) (state S.Store conn.new) rows.items) }
     ensures failed { HasCleanDisk (state S.Store conn.new) → IfErr result (FailsToRead (state S.Store conn.old) (state S.Store conn.new)) }
     ensures mode { conn.old.in_transaction ≡ false → conn.new.in_transaction ≡ false }
     ensures survives { Survives (state S.Store conn.old) (state S.Store conn.new) (λ _. ⊥) }
@@ -58,9 +63,12 @@ fn item_rows<S: Alter>(conn: &mut Connection<S>) -> Result<Vec<Row>, Error>
 }
 
 /// All items of the list of databases, in the order of their places.
-pub fn items<S: Alter>(alloc: Global, conn: &mut Connection<S>) -> Result<Vec<Item>, Error>
-    requires { HasCleanDisk (state S.Store conn.old) → Has item (state S.Store conn.old).now }
-    ensures listed { HasCleanDisk (state S.Store conn.new) → IfOk result (λ all. IsListing (codes "item") (1 ∷ []) (state S.Store conn.old).now (map stored_item all.items) × IsUnchanged (state S.Store conn.old) (state S.Store conn.new)) }
+pub fn items<S: Alter>(
+    alloc: Global,
+    conn: &mut Connection<S>,
+) -> Result<Vec<Stored<Item<String>>>, ReadError>
+    requires { WhileOpen (state S.Store conn.old) (Has item) }
+    ensures listed { HasCleanDisk (state S.Store conn.new) → IfOk result (λ all. Lists (codes "item") (1 ∷ []) (state S.Store conn.old) (state S.Store conn.new) (map stored_item all.items)) }
     ensures failed { HasCleanDisk (state S.Store conn.new) → IfErr result (FailsToList item_columns (rows_of (codes "item") (state S.Store conn.old).now) (state S.Store conn.old) (state S.Store conn.new)) }
     ensures mode { conn.old.in_transaction ≡ false → conn.new.in_transaction ≡ false }
     ensures survives { Survives (state S.Store conn.old) (state S.Store conn.new) (λ _. ⊥) }
@@ -70,8 +78,8 @@ pub fn items<S: Alter>(alloc: Global, conn: &mut Connection<S>) -> Result<Vec<It
 }
 
 fn member_rows<S: Alter>(conn: &mut Connection<S>) -> Result<Vec<Row>, Error>
-    requires { HasCleanDisk (state S.Store conn.old) → Has member (state S.Store conn.old).now }
-    ensures listed { HasCleanDisk (state S.Store conn.new) → IfOk result (λ rows. IsListing (codes "member") (1 ∷ 2 ∷ []) (state S.Store conn.old).now rows.items × IsUnchanged (state S.Store conn.old) (state S.Store conn.new)) }
+    requires { WhileOpen (state S.Store conn.old) (Has member) }
+    ensures listed { HasCleanDisk (state S.Store conn.new) → IfOk result (λ rows. Lists (codes "member") (1 ∷ 2 ∷ []) (state S.Store conn.old) (state S.Store conn.new) rows.items) }
     ensures failed { HasCleanDisk (state S.Store conn.new) → IfErr result (FailsToRead (state S.Store conn.old) (state S.Store conn.new)) }
     ensures mode { conn.old.in_transaction ≡ false → conn.new.in_transaction ≡ false }
     ensures survives { Survives (state S.Store conn.old) (state S.Store conn.new) (λ _. ⊥) }
@@ -80,9 +88,12 @@ fn member_rows<S: Alter>(conn: &mut Connection<S>) -> Result<Vec<Row>, Error>
 }
 
 /// All members of virtual items, by owner and then in their order.
-pub fn members<S: Alter>(alloc: Global, conn: &mut Connection<S>) -> Result<Vec<Member>, Error>
-    requires { HasCleanDisk (state S.Store conn.old) → Has member (state S.Store conn.old).now }
-    ensures listed { HasCleanDisk (state S.Store conn.new) → IfOk result (λ all. IsListing (codes "member") (1 ∷ 2 ∷ []) (state S.Store conn.old).now (map stored_member all.items) × IsUnchanged (state S.Store conn.old) (state S.Store conn.new)) }
+pub fn members<S: Alter>(
+    alloc: Global,
+    conn: &mut Connection<S>,
+) -> Result<Vec<Stored<Member<String>>>, ReadError>
+    requires { WhileOpen (state S.Store conn.old) (Has member) }
+    ensures listed { HasCleanDisk (state S.Store conn.new) → IfOk result (λ all. Lists (codes "member") (1 ∷ 2 ∷ []) (state S.Store conn.old) (state S.Store conn.new) (map stored_member all.items)) }
     ensures failed { HasCleanDisk (state S.Store conn.new) → IfErr result (FailsToList member_columns (rows_of (codes "member") (state S.Store conn.old).now) (state S.Store conn.old) (state S.Store conn.new)) }
     ensures mode { conn.old.in_transaction ≡ false → conn.new.in_transaction ≡ false }
     ensures survives { Survives (state S.Store conn.old) (state S.Store conn.new) (λ _. ⊥) }
@@ -92,8 +103,8 @@ pub fn members<S: Alter>(alloc: Global, conn: &mut Connection<S>) -> Result<Vec<
 }
 
 fn one_edition_rows<S: Alter>(conn: &mut Connection<S>, number: i64) -> Result<Vec<Row>, Error>
-    requires { HasCleanDisk (state S.Store conn.old) → Has edition_table (state S.Store conn.old).now }
-    ensures selected { HasCleanDisk (state S.Store conn.new) → IfOk result (λ rows. IsSelection (codes "edition") (equals_number 1 number) (1 ∷ []) (state S.Store conn.old).now rows.items × IsUnchanged (state S.Store conn.old) (state S.Store conn.new)) }
+    requires { WhileOpen (state S.Store conn.old) (Has edition_table) }
+    ensures selected { HasCleanDisk (state S.Store conn.new) → IfOk result (λ rows. Selects (codes "edition") (equals_number 1 number) (1 ∷ []) (state S.Store conn.old) (state S.Store conn.new) rows.items) }
     ensures failed { HasCleanDisk (state S.Store conn.new) → IfErr result (FailsToRead (state S.Store conn.old) (state S.Store conn.new)) }
     ensures mode { conn.old.in_transaction ≡ false → conn.new.in_transaction ≡ false }
     ensures survives { Survives (state S.Store conn.old) (state S.Store conn.new) (λ _. ⊥) }
@@ -109,9 +120,9 @@ pub fn editions_numbered<S: Alter>(
     alloc: Global,
     conn: &mut Connection<S>,
     number: i64,
-) -> Result<Vec<Edition>, Error>
-    requires { HasCleanDisk (state S.Store conn.old) → Has edition_table (state S.Store conn.old).now }
-    ensures selected { HasCleanDisk (state S.Store conn.new) → IfOk result (λ all. IsSelection (codes "edition") (equals_number 1 number) (1 ∷ []) (state S.Store conn.old).now (map stored_edition all.items) × IsUnchanged (state S.Store conn.old) (state S.Store conn.new)) }
+) -> Result<Vec<Stored<Edition<String, Vec<u8>>>>, ReadError>
+    requires { WhileOpen (state S.Store conn.old) (Has edition_table) }
+    ensures selected { HasCleanDisk (state S.Store conn.new) → IfOk result (λ all. Selects (codes "edition") (equals_number 1 number) (1 ∷ []) (state S.Store conn.old) (state S.Store conn.new) (map stored_edition all.items)) }
     ensures failed { HasCleanDisk (state S.Store conn.new) → IfErr result (FailsToList edition_columns (filter (equals_number 1 number) (rows_of (codes "edition") (state S.Store conn.old).now)) (state S.Store conn.old) (state S.Store conn.new)) }
     ensures mode { conn.old.in_transaction ≡ false → conn.new.in_transaction ≡ false }
     ensures survives { Survives (state S.Store conn.old) (state S.Store conn.new) (λ _. ⊥) }
@@ -121,8 +132,8 @@ pub fn editions_numbered<S: Alter>(
 }
 
 fn one_kept_rows<S: Alter>(conn: &mut Connection<S>, id: &str) -> Result<Vec<Row>, Error>
-    requires { HasCleanDisk (state S.Store conn.old) → Has kept (state S.Store conn.old).now }
-    ensures selected { HasCleanDisk (state S.Store conn.new) → IfOk result (λ rows. IsSelection (codes "kept") (equals_text 1 id.now) (2 ∷ []) (state S.Store conn.old).now rows.items × IsUnchanged (state S.Store conn.old) (state S.Store conn.new)) }
+    requires { WhileOpen (state S.Store conn.old) (Has kept) }
+    ensures selected { HasCleanDisk (state S.Store conn.new) → IfOk result (λ rows. Selects (codes "kept") (equals_text 1 id.now) (2 ∷ []) (state S.Store conn.old) (state S.Store conn.new) rows.items) }
     ensures failed { HasCleanDisk (state S.Store conn.new) → IfErr result (FailsToRead (state S.Store conn.old) (state S.Store conn.new)) }
     ensures mode { conn.old.in_transaction ≡ false → conn.new.in_transaction ≡ false }
     ensures survives { Survives (state S.Store conn.old) (state S.Store conn.new) (λ _. ⊥) }
@@ -138,9 +149,9 @@ pub fn kept_replies_of<S: Alter>(
     alloc: Global,
     conn: &mut Connection<S>,
     id: &str,
-) -> Result<Vec<Kept>, Error>
-    requires { HasCleanDisk (state S.Store conn.old) → Has kept (state S.Store conn.old).now }
-    ensures selected { HasCleanDisk (state S.Store conn.new) → IfOk result (λ all. IsSelection (codes "kept") (equals_text 1 id.now) (2 ∷ []) (state S.Store conn.old).now (map stored_kept all.items) × IsUnchanged (state S.Store conn.old) (state S.Store conn.new)) }
+) -> Result<Vec<Stored<Kept<String>>>, ReadError>
+    requires { WhileOpen (state S.Store conn.old) (Has kept) }
+    ensures selected { HasCleanDisk (state S.Store conn.new) → IfOk result (λ all. Selects (codes "kept") (equals_text 1 id.now) (2 ∷ []) (state S.Store conn.old) (state S.Store conn.new) (map stored_kept all.items)) }
     ensures failed { HasCleanDisk (state S.Store conn.new) → IfErr result (FailsToList kept_columns (filter (equals_text 1 id.now) (rows_of (codes "kept") (state S.Store conn.old).now)) (state S.Store conn.old) (state S.Store conn.new)) }
     ensures mode { conn.old.in_transaction ≡ false → conn.new.in_transaction ≡ false }
     ensures survives { Survives (state S.Store conn.old) (state S.Store conn.new) (λ _. ⊥) }

@@ -1,11 +1,65 @@
-//! The records of the tables, as they are read.
+//! The records of the tables, read from rows.
 
-ghost use Rattle.std.specs.Prelude.{◌≡◌, ◌≢◌, List, IfOk, IfErr, OnOk};
-ghost use Rattle.sqlite.specs.declared.error.ErrorCode.TheVariants.{OutOfMemory};
+ghost use Rattle.std.specs.Prelude.{◌≡◌, ◌≢◌, ◌<◌, ◌↔◌, IsTrue, List, length, IfOk, IfErr, OnOk};
+ghost use Rattle.sqlite.specs.declared.error.ErrorCode.TheVariants.{OutOfMemory as Refused};
 ghost use Rattle.sqlite.specs.declared.types.Value.{Value as SqlValue};
-ghost use Rattle.dict_sql.specs.Stored.{Content, HasColumns, stored_mark, stored_item, stored_member, stored_edition, stored_entry, stored_kept, mark_columns, item_columns, member_columns, edition_columns, entry_columns, kept_columns};
+ghost use Rattle.sqlite.specs.Order.{column};
+ghost use Rattle.dict_sql.specs.Encodings.{stored_mark, stored_item, stored_member, stored_edition, stored_entry, stored_kept};
+ghost use Rattle.dict_sql.specs.Columns.{Content, HasColumns, mark_columns, item_columns, member_columns, edition_columns, entry_columns, kept_columns};
+ghost use Rattle.dict_sql.specs.Reads.{FailsToDecode};
 
-use sqlite::{Error, Row};
+use dict_records::{Edition, Entry, Item, Kept, Mark, Member, Stored};
+use sqlite::types::FromSql;
+use sqlite::{Error, ErrorCode, Row};
+use std::alloc::{AllocError, AllocFailed};
+
+/// Why records were not read.
+#[derive(Debug, Drop, thiserror::Error)]
+pub enum ReadError {
+    /// A row stands for no record of its table: a value is of another kind, or a text isn't UTF-8.
+    #[error("a row stands for no record")]
+    NoRecord,
+    /// The store failed, the limit on steps was met, or memory was refused.
+    #[error("{0}")]
+    Store(Error),
+}
+
+impl From<Error> for ReadError {
+    ghost use Rattle.std.specs.Prelude.{◌≡◌};
+    ghost use Rattle.dict_sql.specs.declared.records.ReadError.TheVariants.{Store};
+
+    ghost from_gives = { λ given e. e ≡ Store given };
+
+    fn from(error: Error) -> ReadError {
+        ReadError::Store(error)
+    }
+}
+
+impl From<AllocError> for ReadError {
+    ghost use Rattle.std.specs.Prelude.{◌≡◌};
+    ghost use Rattle.sqlite.specs.declared.error.Error.TheVariants.{SqliteFailure};
+    ghost use Rattle.sqlite.specs.declared.error.ErrorCode.TheVariants.{OutOfMemory};
+    ghost use Rattle.dict_sql.specs.declared.records.ReadError.TheVariants.{Store};
+
+    ghost from_gives = { λ _ e. e ≡ Store (SqliteFailure OutOfMemory) };
+
+    fn from(_: AllocError) -> ReadError {
+        ReadError::Store(Error::SqliteFailure(ErrorCode::OutOfMemory))
+    }
+}
+
+impl<T: Drop> From<AllocFailed<T>> for ReadError {
+    ghost use Rattle.std.specs.Prelude.{◌≡◌};
+    ghost use Rattle.sqlite.specs.declared.error.Error.TheVariants.{SqliteFailure};
+    ghost use Rattle.sqlite.specs.declared.error.ErrorCode.TheVariants.{OutOfMemory};
+    ghost use Rattle.dict_sql.specs.declared.records.ReadError.TheVariants.{Store};
+
+    ghost from_gives = { λ _ e. e ≡ Store (SqliteFailure OutOfMemory) };
+
+    fn from(_: AllocFailed<T>) -> ReadError {
+        ReadError::Store(Error::SqliteFailure(ErrorCode::OutOfMemory))
+    }
+}
 
 /// A record that is read from a row: the rowid, and then the columns in their order.
 pub trait Record: Sized {
@@ -14,191 +68,164 @@ pub trait Record: Sized {
 
     ghost columns: { List Content };
 
-    /// The record, or the error of the first column that doesn't hold what the record has there. A row of another width is refused as a column that isn't there.
-    fn from_row(row: &Row) -> Result<Self, Error>
+    /// The record, or that the row is none: a column doesn't hold what the record has there, or there are fewer or more of them.
+    fn from_row(row: &Row) -> Result<Self, ReadError>
         ensures read { IfOk result (λ r. row.now ≡ stored r) }
         ensures lawful { OnOk result (HasColumns columns row.now) }
-        ensures refused { IfErr result (λ e. e ≢ Error.SqliteFailure OutOfMemory → ¬ HasColumns columns row.now) };
+        ensures refused { IfErr result (FailsToDecode columns row.now) };
 }
 
-/// The mark, with the rowid of its row.
-#[derive(Drop)]
-pub struct Mark {
-    pub rowid: i64,
-    pub id: i64,
-    pub magic: String,
-    pub version: i64,
-    pub installs: i64,
+// Whether memory was refused.
+fn is_refused(error: &Error) -> bool
+    ensures { IsTrue result ↔ error.now ≡ Error.SqliteFailure Refused }
+{
+    matches!(error, Error::SqliteFailure(ErrorCode::OutOfMemory))
 }
 
-impl Record for Mark {
+// What stands in a column, or that something else does.
+fn cell<T: FromSql>(row: &Row, at: usize) -> Result<T, ReadError>
+    requires { at < length row.now }
+    ensures ok { IfOk result (λ x. T.FromSql.reads_as (column row.now at) x) }
+    ensures other { IfErr result (λ e. e ≡ ReadError.NoRecord → ¬ T.FromSql.is_readable (column row.now at)) }
+    ensures refused { IfErr result (λ e. e ≢ ReadError.NoRecord → e ≡ ReadError.Store (Error.SqliteFailure Refused)) }
+{
+    match row.get(at) {
+        Ok(x) => Ok(x),
+        Err(error) => {
+            if is_refused(&error) {
+                return Err(ReadError::Store(error));
+            }
+            Err(ReadError::NoRecord)
+        }
+    }
+}
+
+impl Record for Stored<Mark<String>> {
     ghost stored = { stored_mark };
 
     ghost columns = { mark_columns };
 
-    fn from_row(row: &Row) -> Result<Mark, Error> {
+    fn from_row(row: &Row) -> Result<Self, ReadError> {
         if row.column_count() != 5 {
-            return Err(Error::InvalidColumnIndex(4));
+            return Err(ReadError::NoRecord);
         }
-        Ok(Mark {
-            rowid: row.get(0)?,
-            id: row.get(1)?,
-            magic: row.get(2)?,
-            version: row.get(3)?,
-            installs: row.get(4)?,
+        Ok(Stored {
+            rowid: cell(row, 0)?,
+            value: Mark {
+                id: cell(row, 1)?,
+                magic: cell(row, 2)?,
+                version: cell(row, 3)?,
+                installs: cell(row, 4)?,
+            },
         })
     }
 }
 
-/// An item of the list of databases, with the rowid of its row.
-#[derive(Drop)]
-pub struct Item {
-    pub rowid: i64,
-    pub place: i64,
-    pub name: String,
-    pub kind: i64,
-    pub title: Option<String>,
-    pub current: Option<i64>,
-    pub former: Option<i64>,
-}
-
-impl Record for Item {
+impl Record for Stored<Item<String>> {
     ghost stored = { stored_item };
 
     ghost columns = { item_columns };
 
-    fn from_row(row: &Row) -> Result<Item, Error> {
+    fn from_row(row: &Row) -> Result<Self, ReadError> {
         if row.column_count() != 7 {
-            return Err(Error::InvalidColumnIndex(6));
+            return Err(ReadError::NoRecord);
         }
-        Ok(Item {
-            rowid: row.get(0)?,
-            place: row.get(1)?,
-            name: row.get(2)?,
-            kind: row.get(3)?,
-            title: row.get(4)?,
-            current: row.get(5)?,
-            former: row.get(6)?,
+        Ok(Stored {
+            rowid: cell(row, 0)?,
+            value: Item {
+                place: cell(row, 1)?,
+                name: cell(row, 2)?,
+                kind: cell(row, 3)?,
+                title: cell(row, 4)?,
+                current: cell(row, 5)?,
+                former: cell(row, 6)?,
+            },
         })
     }
 }
 
-/// A member of a virtual item, with the rowid of its row.
-#[derive(Drop)]
-pub struct Member {
-    pub rowid: i64,
-    pub owner: String,
-    pub ord: i64,
-    pub name: String,
-}
-
-impl Record for Member {
+impl Record for Stored<Member<String>> {
     ghost stored = { stored_member };
 
     ghost columns = { member_columns };
 
-    fn from_row(row: &Row) -> Result<Member, Error> {
+    fn from_row(row: &Row) -> Result<Self, ReadError> {
         if row.column_count() != 4 {
-            return Err(Error::InvalidColumnIndex(3));
+            return Err(ReadError::NoRecord);
         }
-        Ok(Member {
-            rowid: row.get(0)?,
-            owner: row.get(1)?,
-            ord: row.get(2)?,
-            name: row.get(3)?,
+        Ok(Stored {
+            rowid: cell(row, 0)?,
+            value: Member {
+                owner: cell(row, 1)?,
+                ord: cell(row, 2)?,
+                name: cell(row, 3)?,
+            },
         })
     }
 }
 
-/// An edition, with the whole text that its entries are cut from, with the rowid of its row.
-#[derive(Drop)]
-pub struct Edition {
-    pub rowid: i64,
-    pub number: i64,
-    pub owner: String,
-    pub title: String,
-    pub info: String,
-    pub body: Vec<u8>,
-}
-
-impl Record for Edition {
+impl Record for Stored<Edition<String, Vec<u8>>> {
     ghost stored = { stored_edition };
 
     ghost columns = { edition_columns };
 
-    fn from_row(row: &Row) -> Result<Edition, Error> {
+    fn from_row(row: &Row) -> Result<Self, ReadError> {
         if row.column_count() != 6 {
-            return Err(Error::InvalidColumnIndex(5));
+            return Err(ReadError::NoRecord);
         }
-        Ok(Edition {
-            rowid: row.get(0)?,
-            number: row.get(1)?,
-            owner: row.get(2)?,
-            title: row.get(3)?,
-            info: row.get(4)?,
-            body: row.get(5)?,
+        Ok(Stored {
+            rowid: cell(row, 0)?,
+            value: Edition {
+                number: cell(row, 1)?,
+                owner: cell(row, 2)?,
+                title: cell(row, 3)?,
+                info: cell(row, 4)?,
+                body: cell(row, 5)?,
+            },
         })
     }
 }
 
-/// An entry of an edition: its headword, and where its body stands in the edition's text, with the rowid of its row.
-#[derive(Drop)]
-pub struct Entry {
-    pub rowid: i64,
-    pub edition: i64,
-    pub ord: i64,
-    pub headword: String,
-    pub start: i64,
-    pub length: i64,
-}
-
-impl Record for Entry {
+impl Record for Stored<Entry<String>> {
     ghost stored = { stored_entry };
 
     ghost columns = { entry_columns };
 
-    fn from_row(row: &Row) -> Result<Entry, Error> {
+    fn from_row(row: &Row) -> Result<Self, ReadError> {
         if row.column_count() != 6 {
-            return Err(Error::InvalidColumnIndex(5));
+            return Err(ReadError::NoRecord);
         }
-        Ok(Entry {
-            rowid: row.get(0)?,
-            edition: row.get(1)?,
-            ord: row.get(2)?,
-            headword: row.get(3)?,
-            start: row.get(4)?,
-            length: row.get(5)?,
+        Ok(Stored {
+            rowid: cell(row, 0)?,
+            value: Entry {
+                edition: cell(row, 1)?,
+                ord: cell(row, 2)?,
+                headword: cell(row, 3)?,
+                start: cell(row, 4)?,
+                length: cell(row, 5)?,
+            },
         })
     }
 }
 
-/// A reply that is kept for its id, with the rowid of its row.
-#[derive(Drop)]
-pub struct Kept {
-    pub rowid: i64,
-    pub id: String,
-    pub number: i64,
-    pub verb: String,
-    pub name: String,
-    pub edition: Option<i64>,
-}
-
-impl Record for Kept {
+impl Record for Stored<Kept<String>> {
     ghost stored = { stored_kept };
 
     ghost columns = { kept_columns };
 
-    fn from_row(row: &Row) -> Result<Kept, Error> {
+    fn from_row(row: &Row) -> Result<Self, ReadError> {
         if row.column_count() != 6 {
-            return Err(Error::InvalidColumnIndex(5));
+            return Err(ReadError::NoRecord);
         }
-        Ok(Kept {
-            rowid: row.get(0)?,
-            id: row.get(1)?,
-            number: row.get(2)?,
-            verb: row.get(3)?,
-            name: row.get(4)?,
-            edition: row.get(5)?,
+        Ok(Stored {
+            rowid: cell(row, 0)?,
+            value: Kept {
+                id: cell(row, 1)?,
+                number: cell(row, 2)?,
+                verb: cell(row, 3)?,
+                name: cell(row, 4)?,
+                edition: cell(row, 5)?,
+            },
         })
     }
 }

@@ -10,18 +10,18 @@ ghost use Rattle.sqlite.specs.Held.{state};
 ghost use Rattle.sqlite.specs.Given.{IsEnded};
 ghost use Rattle.sqlite.specs.contracts.connection.Connection.{the_row};
 ghost use Rattle.dict_tables.specs.Tables.{edition as edition_table, entry, kept};
-ghost use Rattle.dict_sql.specs.Effects.{Has};
-ghost use Rattle.dict_sql.specs.Streams.{Reading, HasGiven, GivesOn, FailsToGive, IsNotBegun};
-ghost use Rattle.dict_sql.specs.Streams.Reading.{AllEditions, AllEntries, EntriesOf, AllKept};
+ghost use Rattle.dict_sql.specs.Effects.{Has, WhileOpen};
+ghost use Rattle.dict_sql.specs.Streams.{Scan, HasGiven, GivesOn, FailsToGive, IsNotBegun};
+ghost use Rattle.dict_sql.specs.Streams.Scan.{AllEditions, AllEntries, EntriesOf, AllKept};
 
-use crate::records::Record;
+use crate::records::{ReadError, Record};
 use sqlite::{Alter, Connection, Error, Rows, params};
 
 /// Begins to read all editions with their whole texts, in the order of their numbers.
 ///
 /// An error is the store's, or tells that the limit on steps was met.
 pub fn read_editions<S: Alter>(conn: &mut Connection<S>) -> Result<Rows<'_, S>, Error>
-    requires { HasCleanDisk (state S.Store conn.old) → Has edition_table (state S.Store conn.old).now }
+    requires { WhileOpen (state S.Store conn.old) (Has edition_table) }
     ensures* refused { sem 𝓛 (RestsIfErr (the_row S.row S.Store) conn.entry (λ rows. rows.conn.ghost_name) result (IsNotBegun S.Store conn.old result)) }
     ensures same_reference { IfOk result (λ rows. rows.conn.ghost_name ≡ conn.entry.ghost_name) }
     ensures begun { IfOk result (λ rows. HasCleanDisk (state S.Store rows.conn.now) → HasGiven S.Store AllEditions rows.conn.now [] × IsUnchanged (state S.Store conn.old) (state S.Store rows.conn.now)) }
@@ -35,7 +35,7 @@ pub fn read_editions<S: Alter>(conn: &mut Connection<S>) -> Result<Rows<'_, S>, 
 ///
 /// An error is the store's, or tells that the limit on steps was met.
 pub fn read_entries<S: Alter>(conn: &mut Connection<S>) -> Result<Rows<'_, S>, Error>
-    requires { HasCleanDisk (state S.Store conn.old) → Has entry (state S.Store conn.old).now }
+    requires { WhileOpen (state S.Store conn.old) (Has entry) }
     ensures* refused { sem 𝓛 (RestsIfErr (the_row S.row S.Store) conn.entry (λ rows. rows.conn.ghost_name) result (IsNotBegun S.Store conn.old result)) }
     ensures same_reference { IfOk result (λ rows. rows.conn.ghost_name ≡ conn.entry.ghost_name) }
     ensures begun { IfOk result (λ rows. HasCleanDisk (state S.Store rows.conn.now) → HasGiven S.Store AllEntries rows.conn.now [] × IsUnchanged (state S.Store conn.old) (state S.Store rows.conn.now)) }
@@ -52,7 +52,7 @@ pub fn read_entries_of<S: Alter>(
     conn: &mut Connection<S>,
     edition: i64,
 ) -> Result<Rows<'_, S>, Error>
-    requires { HasCleanDisk (state S.Store conn.old) → Has entry (state S.Store conn.old).now }
+    requires { WhileOpen (state S.Store conn.old) (Has entry) }
     ensures* refused { sem 𝓛 (RestsIfErr (the_row S.row S.Store) conn.entry (λ rows. rows.conn.ghost_name) result (IsNotBegun S.Store conn.old result)) }
     ensures same_reference { IfOk result (λ rows. rows.conn.ghost_name ≡ conn.entry.ghost_name) }
     ensures begun { IfOk result (λ rows. HasCleanDisk (state S.Store rows.conn.now) → HasGiven S.Store (EntriesOf edition) rows.conn.now [] × IsUnchanged (state S.Store conn.old) (state S.Store rows.conn.now)) }
@@ -69,7 +69,7 @@ pub fn read_entries_of<S: Alter>(
 ///
 /// An error is the store's, or tells that the limit on steps was met.
 pub fn read_kept_replies<S: Alter>(conn: &mut Connection<S>) -> Result<Rows<'_, S>, Error>
-    requires { HasCleanDisk (state S.Store conn.old) → Has kept (state S.Store conn.old).now }
+    requires { WhileOpen (state S.Store conn.old) (Has kept) }
     ensures* refused { sem 𝓛 (RestsIfErr (the_row S.row S.Store) conn.entry (λ rows. rows.conn.ghost_name) result (IsNotBegun S.Store conn.old result)) }
     ensures same_reference { IfOk result (λ rows. rows.conn.ghost_name ≡ conn.entry.ghost_name) }
     ensures begun { IfOk result (λ rows. HasCleanDisk (state S.Store rows.conn.now) → HasGiven S.Store AllKept rows.conn.now [] × IsUnchanged (state S.Store conn.old) (state S.Store rows.conn.now)) }
@@ -81,12 +81,12 @@ pub fn read_kept_replies<S: Alter>(conn: &mut Connection<S>) -> Result<Rows<'_, 
 
 /// The next record, or none after the last.
 ///
-/// An error is the store's, of memory, or tells that the next row is no such record. After the store's error nothing more is given; after another the reading goes on behind that row.
-pub fn next_record<S: Alter, R: Record>(rows: &mut Rows<'_, S>) -> Result<Option<R>, Error>
+/// `NoRecord` tells that the next row is none; another error is the store's, or memory was refused for the record. After the store's error nothing more is given; after another the reading goes on behind that row.
+pub fn next_record<S: Alter, R: Record>(rows: &mut Rows<'_, S>) -> Result<Option<R>, ReadError>
     ensures same_reference { rows.new.conn.ghost_name ≡ rows.old.conn.ghost_name }
-    ensures given { HasCleanDisk (state S.Store rows.new.conn.now) → IfOk result (λ record'. (what : Reading) (given : List SqlRow) → HasGiven S.Store what rows.old.conn.now given → GivesOn S.Store what rows.new.conn.now given (option_map R.Record.stored record')) }
+    ensures given { HasCleanDisk (state S.Store rows.new.conn.now) → IfOk result (λ record'. (what : Scan) (given : List SqlRow) → HasGiven S.Store what rows.old.conn.now given → GivesOn S.Store what rows.new.conn.now given (option_map R.Record.stored record')) }
     ensures same { HasCleanDisk (state S.Store rows.new.conn.now) → OnOk result (IsUnchanged (state S.Store rows.old.conn.now) (state S.Store rows.new.conn.now)) }
-    ensures failed { HasCleanDisk (state S.Store rows.new.conn.now) → IfErr result (λ e. (what : Reading) (given : List SqlRow) → HasGiven S.Store what rows.old.conn.now given → FailsToGive S.Store R.Record.columns what rows.old.conn.now rows.new.conn.now given e) }
+    ensures failed { HasCleanDisk (state S.Store rows.new.conn.now) → IfErr result (λ e. (what : Scan) (given : List SqlRow) → HasGiven S.Store what rows.old.conn.now given → FailsToGive S.Store R.Record.columns what rows.old.conn.now rows.new.conn.now given e) }
     ensures ends { IfOk result (λ record'. IfNone record' (IsEnded rows.new.conn.now)) }
     ensures ended { IsEnded rows.old.conn.now → IfOk result IsNone }
     ensures mode { rows.old.conn.now.in_transaction ≡ false → rows.new.conn.now.in_transaction ≡ false }

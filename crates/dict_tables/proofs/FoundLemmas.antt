@@ -7,7 +7,7 @@ use Rattle.sqlite.specs.Schema.{Schema}
 use Rattle.sqlite.specs.Table.{Table}
 use Rattle.sqlite_schema.specs.Names.{table_named, same_name}
 use Rattle.sqlite_schema.specs.declared.schema.Reference.{Reference}
-use Rattle.dict_tables.specs.Found.{HasTable, HasOwn, IsAlone, is_further_key, is_in, table_of}
+use Rattle.dict_tables.specs.Found.{HasTable, HasOwn, IsAlone, is_further_key, is_in, found_table}
 use Rattle.dict_tables.proofs.PlaceLemmas.{found}
 
 -- ---- a test that none passes
@@ -16,15 +16,15 @@ neither : (a b : Bool) → (a || b) ≡ false → (a ≡ false) × (b ≡ false)
 neither false b h = (refl, h)
 neither true b h = absurd (let e = h in cc)
 
-none_passes : {X : Type 0} (p : X → Bool) (xs : List X) → list_any p xs ≡ false → AllByRecursion (λ x. p x ≡ false) xs
+pub none_passes : {X : Type 0} (p : X → Bool) (xs : List X) → list_any p xs ≡ false → AllByRecursion (λ x. p x ≡ false) xs
 none_passes p [] h = tt
 none_passes p (x ∷ xs) h = let both = neither (p x) (list_any p xs) h in (both.0, none_passes p xs both.1)
 
-passes_none : {X : Type 0} (p : X → Bool) (xs : List X) → AllByRecursion (λ x. p x ≡ false) xs → list_any p xs ≡ false
+pub passes_none : {X : Type 0} (p : X → Bool) (xs : List X) → AllByRecursion (λ x. p x ≡ false) xs → list_any p xs ≡ false
 passes_none p [] h = refl
 passes_none p (x ∷ xs) h = rw h.0 (passes_none p xs h.1)
 
-weaker : {X : Type 0} (P Q : X → Type 0) → ((x : X) → P x → Q x) → (xs : List X) → AllByRecursion P xs → AllByRecursion Q xs
+pub weaker : {X : Type 0} (P Q : X → Type 0) → ((x : X) → P x → Q x) → (xs : List X) → AllByRecursion P xs → AllByRecursion Q xs
 weaker P Q f [] h = tt
 weaker P Q f (x ∷ xs) h = (f x h.0, weaker P Q f xs h.1)
 
@@ -79,22 +79,22 @@ module _ (schema : Schema) where
   Apart tree = AllByRecursion (λ child. AllByRecursion (λ (ref : Reference). is_in tree (find (λ o. same_name o.name ref.parent) schema.tables) ≡ false) child.references) schema.tables
 
   abbrev leads : ℕ → Table → Bool
-  leads tree child = list_any (λ (ref : Reference). is_in tree (table_of schema ref.parent)) child.references
+  leads tree child = list_any (λ (ref : Reference). is_in tree (found_table schema ref.parent)) child.references
 
-  parent_is : (tree : ℕ) (ref : Reference) → is_in tree (table_of schema ref.parent) ≡ is_in tree (find (λ o. same_name o.name ref.parent) schema.tables)
+  parent_is : (tree : ℕ) (ref : Reference) → is_in tree (found_table schema ref.parent) ≡ is_in tree (find (λ o. same_name o.name ref.parent) schema.tables)
   parent_is tree ref = ap (is_in tree) (found (λ o. same_name o.name ref.parent) schema.tables)
 
   apart : (tree : ℕ) → list_any (leads tree) schema.tables ≡ false → Apart tree
   apart tree h =
-      weaker _ _ (λ child h. weaker _ _ (λ ref e. sym (parent_is tree ref) ∙ e) child.references (none_passes (λ (ref : Reference). is_in tree (table_of schema ref.parent)) child.references h)) schema.tables
+      weaker _ _ (λ child h. weaker _ _ (λ ref e. sym (parent_is tree ref) ∙ e) child.references (none_passes (λ (ref : Reference). is_in tree (found_table schema ref.parent)) child.references h)) schema.tables
       (none_passes (leads tree) schema.tables h)
 
   leads_none : (tree : ℕ) → Apart tree → list_any (leads tree) schema.tables ≡ false
   leads_none tree h =
       passes_none (leads tree) schema.tables
-      (weaker _ _ (λ child h. passes_none (λ (ref : Reference). is_in tree (table_of schema ref.parent)) child.references (weaker _ _ (λ ref e. parent_is tree ref ∙ e) child.references h)) schema.tables h)
+      (weaker _ _ (λ child h. passes_none (λ (ref : Reference). is_in tree (found_table schema ref.parent)) child.references (weaker _ _ (λ ref e. parent_is tree ref ∙ e) child.references h)) schema.tables h)
 
-  module _ (table : ℕ → Table) (name : List ℕ) (names : (n : ℕ) → (table n).name ≡ name) (trees : (n : ℕ) → (table n).tree ≡ n) (t : Table) (there : table_of schema name ≡ Some t) where
+  module _ (table : ℕ → Table) (name : List ℕ) (names : (n : ℕ) → (table n).name ≡ name) (trees : (n : ℕ) → (table n).tree ≡ n) (t : Table) (there : found_table schema name ≡ Some t) where
     pub owns : t ≡ table t.tree → IsAlone schema t → HasOwn schema table
     owns same alone =
         let place = place_of schema.tables (table_named schema name) t there in

@@ -1,2 +1,5 @@
 pub mod PlaceLemmas
+pub mod FindLemmas
+pub mod TableLemmas
 pub mod FoundLemmas
+pub mod MadeLemmas

@@ -34,11 +34,11 @@ pub record HasOwn (schema : Schema) (table : ℕ → Table) : Type 0 where
 
 -- ---- how it is tested
 
-abbrev pub table_of : Schema → List ℕ → Option Table
-table_of schema name = option_and_then (slice_get schema.tables) (table_named schema name)
+abbrev pub found_table : Schema → List ℕ → Option Table
+found_table schema name = option_and_then (slice_get schema.tables) (table_named schema name)
 
 pub record IsAlone (schema : Schema) (table : Table) : Type 0 where
   pub stored : table.tree < 2 ^ 31
   pub single : count_by (λ t. t.tree == table.tree) schema.tables ≡ 1
-  pub unreferred : list_any (λ child. list_any (λ (ref : Reference). is_in table.tree (table_of schema ref.parent)) child.references) schema.tables ≡ false
+  pub unreferred : list_any (λ child. list_any (λ (ref : Reference). is_in table.tree (found_table schema ref.parent)) child.references) schema.tables ≡ false
   pub unkeyed : list_any (is_further_key table) schema.indexes ≡ false

@@ -1,3 +1,4 @@
 pub mod Tables
 pub mod Names
 pub mod Found
+pub mod Room

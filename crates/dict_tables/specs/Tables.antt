@@ -8,6 +8,8 @@ use Rattle.sqlite.specs.Table.{Table}
 use Rattle.sqlite_schema.specs.declared.schema.Column.{Column}
 use Rattle.sqlite_value.specs.declared.keys.Order.{Order}
 use Rattle.sqlite_value.specs.Keys.{plain}
+use Rattle.dict_tables.specs.declared.tables.StoreTable.{StoreTable}
+use Rattle.dict_tables.specs.declared.tables.StoreTable.TheVariants.{Mark, Item, Member, Edition, Entry, Kept}
 
 abbrev pub needed : List ℕ → Kind → Column
 needed name kind = record { name = name; kind = kind; is_strict = true; not_null = true; default = Null; collation = Binary }
@@ -65,3 +67,17 @@ entry tree = simple (codes "entry") tree (needed (codes "edition") Integer ∷ n
 
 abbrev pub kept : ℕ → Table
 kept tree = simple (codes "kept") tree (needed (codes "id") Text ∷ needed (codes "number") Integer ∷ needed (codes "verb") Text ∷ needed (codes "name") Text ∷ optional (codes "edition") Integer ∷ []) None (1 ∷ []) ((1 ∷ []) ∷ (2 ∷ []) ∷ []) (plain ∷ plain ∷ [])
+
+-- ---- by name
+
+abbrev pub table_of : StoreTable → ℕ → Table
+table_of Mark = mark
+table_of Item = item
+table_of Member = member
+table_of Edition = edition
+table_of Entry = entry
+table_of Kept = kept
+
+-- in the order in which they are made
+abbrev pub store_tables : List StoreTable
+store_tables = Mark ∷ Item ∷ Member ∷ Edition ∷ Entry ∷ Kept ∷ []

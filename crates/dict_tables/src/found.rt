@@ -4,11 +4,12 @@ ghost use Rattle.std.specs.Prelude.{true, false, ◌≡◌, ℕ, List, [], ◌�
 ghost use Rattle.std.specs.List.{list_any};
 ghost use Rattle.std.specs.Cmp.Lexicographic.{pointwise};
 ghost use Rattle.sqlite_schema.specs.declared.schema.Reference.{Reference as SqlReference};
-ghost use Rattle.dict_tables.specs.Found.{HasOwn, IsAlone, is_further_key, is_in, table_of};
+ghost use Rattle.dict_tables.specs.Found.{HasOwn, IsAlone, is_further_key, is_in, found_table};
 ghost use Rattle.sqlite_value.specs.Keys.{plain};
 ghost use Rattle.sqlite.specs.Kind.TheVariants.{Integer};
-ghost use Rattle.dict_tables.specs.Tables.{mark, item, member, edition as edition_table, entry, kept, column_of};
+ghost use Rattle.dict_tables.specs.Tables.{mark, item, member, edition as edition_table, entry, kept, column_of, table_of};
 
+use crate::tables::StoreTable;
 use sqlite_items::Items;
 use sqlite_schema::schema::{Column, Index, Kind, Reference, Schema, Table};
 use sqlite_value::keys::{Collation, Order};
@@ -289,31 +290,31 @@ fn is_kept(t: &Table) -> bool
 }
 
 // The table of this name.
-fn table_of<'a>(schema: &'a Schema, name: &[u8]) -> Option<&'a Table>
-    ensures { option_copied result ≡ table_of schema.now name.now }
+fn find_table<'a>(schema: &'a Schema, name: &[u8]) -> Option<&'a Table>
+    ensures { option_copied result ≡ found_table schema.now name.now }
 {
     schema.tables.get(schema.table_named(name)?)
 }
 
 // Whether the table that a foreign key names is in this tree.
 fn leads_into(schema: &Schema, reference: &Reference, tree: u32) -> bool
-    ensures { result ≡ is_in tree (table_of schema.now reference.now.parent) }
+    ensures { result ≡ is_in tree (found_table schema.now reference.now.parent) }
 {
-    match table_of(schema, reference.parent.as_slice()) {
+    match find_table(schema, reference.parent.as_slice()) {
         Some(table) => table.tree == tree,
         None => false,
     }
 }
 
 fn is_child_of(schema: &Schema, child: &Table, tree: u32) -> bool
-    ensures { result ≡ list_any (λ (ref : SqlReference). is_in tree (table_of schema.now ref.parent)) child.now.references }
+    ensures { result ≡ list_any (λ (ref : SqlReference). is_in tree (found_table schema.now ref.parent)) child.now.references }
 {
     let references = child.references.as_slice();
     references.iter().any(|r| leads_into(schema, r, tree))
 }
 
 fn is_parent(schema: &Schema, tree: u32) -> bool
-    ensures { result ≡ list_any (λ child. list_any (λ (ref : SqlReference). is_in tree (table_of schema.now ref.parent)) child.references) schema.now.tables }
+    ensures { result ≡ list_any (λ child. list_any (λ (ref : SqlReference). is_in tree (found_table schema.now ref.parent)) child.references) schema.now.tables }
 {
     let tables = schema.tables.as_slice();
     tables.iter().any(|child| is_child_of(schema, child, tree))
@@ -359,62 +360,26 @@ fn is_alone(schema: &Schema, table: &Table) -> bool
         && !has_further_key(schema, table)
 }
 
-/// Whether the schema has the table `mark` exactly as it is defined here, in a tree that no other table shares, with no foreign key that refers to it and no further unique index.
-pub fn has_mark(schema: &Schema) -> bool
-    ensures { IsTrue result ↔ HasOwn schema.now mark }
+// Whether a table that is found is this one but for its tree.
+fn is_defined_as(found: &Table, table: StoreTable) -> bool
+    ensures { IsTrue result ↔ found.now ≡ table_of table found.now.tree }
 {
-    match table_of(schema, b"mark") {
-        Some(table) => is_mark(table) && is_alone(schema, table),
-        None => false,
+    match table {
+        StoreTable::Mark => is_mark(found),
+        StoreTable::Item => is_item(found),
+        StoreTable::Member => is_member(found),
+        StoreTable::Edition => is_edition(found),
+        StoreTable::Entry => is_entry(found),
+        StoreTable::Kept => is_kept(found),
     }
 }
 
-/// Whether the schema has the table `item` exactly as it is defined here, in a tree that no other table shares, with no foreign key that refers to it and no further unique index.
-pub fn has_item(schema: &Schema) -> bool
-    ensures { IsTrue result ↔ HasOwn schema.now item }
+/// Whether the schema has the table exactly as it is defined here, in a tree that no other table shares, with no foreign key that refers to it and no further unique index.
+pub fn has_table(schema: &Schema, table: StoreTable) -> bool
+    ensures { IsTrue result ↔ HasOwn schema.now (table_of table) }
 {
-    match table_of(schema, b"item") {
-        Some(table) => is_item(table) && is_alone(schema, table),
-        None => false,
-    }
-}
-
-/// Whether the schema has the table `member` exactly as it is defined here, in a tree that no other table shares, with no foreign key that refers to it and no further unique index.
-pub fn has_member(schema: &Schema) -> bool
-    ensures { IsTrue result ↔ HasOwn schema.now member }
-{
-    match table_of(schema, b"member") {
-        Some(table) => is_member(table) && is_alone(schema, table),
-        None => false,
-    }
-}
-
-/// Whether the schema has the table `edition` exactly as it is defined here, in a tree that no other table shares, with no foreign key that refers to it and no further unique index.
-pub fn has_edition(schema: &Schema) -> bool
-    ensures { IsTrue result ↔ HasOwn schema.now edition_table }
-{
-    match table_of(schema, b"edition") {
-        Some(table) => is_edition(table) && is_alone(schema, table),
-        None => false,
-    }
-}
-
-/// Whether the schema has the table `entry` exactly as it is defined here, in a tree that no other table shares, with no foreign key that refers to it and no further unique index.
-pub fn has_entry(schema: &Schema) -> bool
-    ensures { IsTrue result ↔ HasOwn schema.now entry }
-{
-    match table_of(schema, b"entry") {
-        Some(table) => is_entry(table) && is_alone(schema, table),
-        None => false,
-    }
-}
-
-/// Whether the schema has the table `kept` exactly as it is defined here, in a tree that no other table shares, with no foreign key that refers to it and no further unique index.
-pub fn has_kept(schema: &Schema) -> bool
-    ensures { IsTrue result ↔ HasOwn schema.now kept }
-{
-    match table_of(schema, b"kept") {
-        Some(table) => is_kept(table) && is_alone(schema, table),
+    match find_table(schema, table.name().as_bytes()) {
+        Some(found) => is_defined_as(found, table) && is_alone(schema, found),
         None => false,
     }
 }

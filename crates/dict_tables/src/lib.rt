@@ -1,11 +1,16 @@
-//! The tables of the store: what they are, and whether a schema that is found has them or leaves their names free.
+//! The tables of the store: what they are, and whether a schema that is found has them or leaves room for them.
 #![tactic(auto)]
 
 mod found;
+pub mod laws;
 mod names;
+mod room;
+mod tables;
 
-pub use found::{has_edition, has_entry, has_item, has_kept, has_mark, has_member};
+pub use found::has_table;
 pub use names::{is_name_used, is_own_name_used, waits_for_counter};
+pub use room::{has_room, is_name_referred, is_own_index_name_used, is_own_name_referred};
+pub use tables::StoreTable;
 
 #[cfg(test)]
 mod tests;

@@ -53,7 +53,7 @@ fn has_prefixed_name(schema: &Schema) -> bool
     has_prefixed_table(schema) || has_prefixed_index(schema) || has_prefixed_view(schema)
 }
 
-fn is_table_name_used(schema: &Schema) -> bool
+pub(crate) fn is_table_name_used(schema: &Schema) -> bool
     ensures { result ≡ uses_table_name schema.now }
 {
     is_name_used(schema, b"mark")

@@ -1,5 +1,5 @@
 use crate::{
-    has_edition, has_entry, has_item, has_kept, has_mark, has_member, is_name_used,
+    StoreTable, has_room, has_table, is_name_used, is_own_index_name_used, is_own_name_referred,
     is_own_name_used, waits_for_counter,
 };
 use sqlite::{Connection, Error};
@@ -47,11 +47,27 @@ fn finds_the_tables(rt: HostRuntime) -> Result<(), Fail> {
     let alloc = rt.alloc();
     let all = format!(in alloc; "{MARK};{ITEM};{MEMBER};{EDITION};{ENTRY};{KEPT}")?;
     let schema = schema_of(alloc, &all)?;
-    assert!(rt; has_mark(&schema) && has_item(&schema) && has_member(&schema));
-    assert!(rt; has_edition(&schema) && has_entry(&schema) && has_kept(&schema));
+    assert!(rt;
+        has_table(&schema, StoreTable::Mark)
+            && has_table(&schema, StoreTable::Item)
+            && has_table(&schema, StoreTable::Member)
+    );
+    assert!(rt;
+        has_table(&schema, StoreTable::Edition)
+            && has_table(&schema, StoreTable::Entry)
+            && has_table(&schema, StoreTable::Kept)
+    );
     let none = schema_of(alloc, "")?;
-    assert!(rt; !has_mark(&none) && !has_item(&none) && !has_member(&none));
-    assert!(rt; !has_edition(&none) && !has_entry(&none) && !has_kept(&none));
+    assert!(rt;
+        !has_table(&none, StoreTable::Mark)
+            && !has_table(&none, StoreTable::Item)
+            && !has_table(&none, StoreTable::Member)
+    );
+    assert!(rt;
+        !has_table(&none, StoreTable::Edition)
+            && !has_table(&none, StoreTable::Entry)
+            && !has_table(&none, StoreTable::Kept)
+    );
     Ok(())
 }
 
@@ -62,8 +78,16 @@ fn misses_what_else_has_a_name(rt: HostRuntime) -> Result<(), Fail> {
         "CREATE VIEW mark AS SELECT 1; CREATE VIEW item AS SELECT 1; CREATE VIEW member AS SELECT 1; CREATE VIEW edition AS SELECT 1; CREATE VIEW entry AS SELECT 1; CREATE VIEW kept AS SELECT 1",
     ] {
         let schema = schema_of(rt.alloc(), made)?;
-        assert!(rt; !has_mark(&schema) && !has_item(&schema) && !has_member(&schema));
-        assert!(rt; !has_edition(&schema) && !has_entry(&schema) && !has_kept(&schema));
+        assert!(rt;
+            !has_table(&schema, StoreTable::Mark)
+                && !has_table(&schema, StoreTable::Item)
+                && !has_table(&schema, StoreTable::Member)
+        );
+        assert!(rt;
+            !has_table(&schema, StoreTable::Edition)
+                && !has_table(&schema, StoreTable::Entry)
+                && !has_table(&schema, StoreTable::Kept)
+        );
     }
     Ok(())
 }
@@ -79,7 +103,7 @@ fn misses_other_marks(rt: HostRuntime) -> Result<(), Fail> {
         (") STRICT", ")"),
     ] {
         let schema = altered(rt.alloc(), MARK, part, other)?;
-        assert!(rt; !has_mark(&schema), "{other}");
+        assert!(rt; !has_table(&schema, StoreTable::Mark), "{other}");
     }
     Ok(())
 }
@@ -95,7 +119,7 @@ fn misses_other_items(rt: HostRuntime) -> Result<(), Fail> {
         ("name TEXT", "name TEXT COLLATE NOCASE"),
     ] {
         let schema = altered(rt.alloc(), ITEM, part, other)?;
-        assert!(rt; !has_item(&schema), "{other}");
+        assert!(rt; !has_table(&schema, StoreTable::Item), "{other}");
     }
     Ok(())
 }
@@ -110,7 +134,7 @@ fn misses_other_members(rt: HostRuntime) -> Result<(), Fail> {
         (") STRICT", ", CHECK (ord >= 0)) STRICT"),
     ] {
         let schema = altered(rt.alloc(), MEMBER, part, other)?;
-        assert!(rt; !has_member(&schema), "{other}");
+        assert!(rt; !has_table(&schema, StoreTable::Member), "{other}");
     }
     Ok(())
 }
@@ -131,7 +155,7 @@ fn misses_other_editions(rt: HostRuntime) -> Result<(), Fail> {
         ),
     ] {
         let schema = altered(rt.alloc(), EDITION, part, other)?;
-        assert!(rt; !has_edition(&schema), "{other}");
+        assert!(rt; !has_table(&schema, StoreTable::Edition), "{other}");
     }
     Ok(())
 }
@@ -149,7 +173,7 @@ fn misses_other_entries(rt: HostRuntime) -> Result<(), Fail> {
         ),
     ] {
         let schema = altered(rt.alloc(), ENTRY, part, other)?;
-        assert!(rt; !has_entry(&schema), "{other}");
+        assert!(rt; !has_table(&schema, StoreTable::Entry), "{other}");
     }
     Ok(())
 }
@@ -164,7 +188,7 @@ fn misses_other_replies(rt: HostRuntime) -> Result<(), Fail> {
         ("edition INTEGER)", "edition INTEGER, more TEXT)"),
     ] {
         let schema = altered(rt.alloc(), KEPT, part, other)?;
-        assert!(rt; !has_kept(&schema), "{other}");
+        assert!(rt; !has_table(&schema, StoreTable::Kept), "{other}");
     }
     Ok(())
 }
@@ -195,7 +219,7 @@ fn sees_what_stands_on_a_table(rt: HostRuntime) -> Result<(), Fail> {
         ),
     ] {
         let schema = with(rt.alloc(), ITEM, more)?;
-        assert_eq!(rt; has_item(&schema), found, "{more}");
+        assert_eq!(rt; has_table(&schema, StoreTable::Item), found, "{more}");
     }
     Ok(())
 }
@@ -203,13 +227,13 @@ fn sees_what_stands_on_a_table(rt: HostRuntime) -> Result<(), Fail> {
 #[test]
 fn misses_a_table_whose_tree_is_shared(rt: HostRuntime) -> Result<(), Fail> {
     let mut schema = with(rt.alloc(), MARK, "CREATE TABLE ore (a TEXT) STRICT")?;
-    assert!(rt; has_mark(&schema));
+    assert!(rt; has_table(&schema, StoreTable::Mark));
     let mut ore = schema.tables.pop().expect(&rt, "the second table");
     let mark = schema.tables.pop().expect(&rt, "the first table");
     ore.tree = mark.tree;
     schema.tables.push(mark)?;
     schema.tables.push(ore)?;
-    assert!(rt; !has_mark(&schema));
+    assert!(rt; !has_table(&schema, StoreTable::Mark));
     Ok(())
 }
 
@@ -277,5 +301,64 @@ fn sees_a_counter_that_is_missing(rt: HostRuntime) -> Result<(), Fail> {
     assert!(rt; waits_for_counter(&schema));
     let none = schema_of(rt.alloc(), MARK)?;
     assert!(rt; !waits_for_counter(&none));
+    Ok(())
+}
+
+#[test]
+fn sees_whether_there_is_room(rt: HostRuntime) -> Result<(), Fail> {
+    for (made, room) in [
+        ("", true),
+        ("CREATE TABLE ore (a TEXT UNIQUE)", true),
+        (
+            "CREATE TABLE ore (a TEXT UNIQUE, b TEXT REFERENCES ore (a))",
+            true,
+        ),
+        ("CREATE TABLE ore (a TEXT REFERENCES items (name))", true),
+        ("CREATE TABLE ore (a TEXT REFERENCES Item (name))", false),
+        ("CREATE TABLE ore (a INTEGER REFERENCES word)", false),
+        ("CREATE TABLE kept (a TEXT)", false),
+        ("CREATE VIEW gram AS SELECT 1", false),
+        (
+            "CREATE TABLE ore (a INTEGER PRIMARY KEY AUTOINCREMENT)",
+            true,
+        ),
+    ] {
+        let schema = schema_of(rt.alloc(), made)?;
+        assert_eq!(rt; has_room(&schema), room, "{made}");
+    }
+    Ok(())
+}
+
+#[test]
+fn sees_foreign_keys_to_own_names(rt: HostRuntime) -> Result<(), Fail> {
+    for (made, referred) in [
+        ("", false),
+        ("CREATE TABLE item (a TEXT UNIQUE)", false),
+        ("CREATE TABLE ore (item TEXT)", false),
+        ("CREATE TABLE ore (a TEXT REFERENCES mark (magic))", true),
+        ("CREATE TABLE ore (a TEXT REFERENCES MEMBER (name))", true),
+        ("CREATE TABLE ore (a TEXT REFERENCES edition (owner))", true),
+        (
+            "CREATE TABLE ore (a TEXT REFERENCES entry (headword))",
+            true,
+        ),
+        ("CREATE TABLE ore (a TEXT REFERENCES kept (id))", true),
+        ("CREATE TABLE ore (a TEXT REFERENCES gram (a))", true),
+    ] {
+        let schema = schema_of(rt.alloc(), made)?;
+        assert_eq!(rt; is_own_name_referred(&schema), referred, "{made}");
+    }
+    Ok(())
+}
+
+#[test]
+fn sees_names_of_own_indexes(rt: HostRuntime) -> Result<(), Fail> {
+    let mut schema = with(rt.alloc(), ITEM, KEPT)?;
+    assert!(rt; is_own_index_name_used(&schema));
+    let _numbers = schema.indexes.pop();
+    let _ids = schema.indexes.pop();
+    assert!(rt; is_own_index_name_used(&schema));
+    let _names = schema.indexes.pop();
+    assert!(rt; !is_own_index_name_used(&schema));
     Ok(())
 }

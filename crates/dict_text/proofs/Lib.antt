@@ -1,1 +1,4 @@
+pub mod AllLemmas
+pub mod BlankLemmas
 pub mod LineLemmas
+pub mod PositionLemmas

@@ -1,2 +1,3 @@
 pub mod Characters
+pub mod Blanks
 pub mod Lines

@@ -1,4 +1,7 @@
-use crate::{is_blank, is_control, text_lines};
+use crate::{
+    has_control, is_blank, is_blank_octet, is_control, is_control_octet, text_lines,
+    without_blanks_at_ends, without_leading_blanks,
+};
 use std::test::Fail;
 
 #[test]
@@ -7,6 +10,24 @@ fn kinds_of_characters(rt: HostRuntime) {
     assert!(rt; !is_blank('\n') && !is_blank('\u{a0}'));
     assert!(rt; is_control('\0') && is_control('\u{1f}') && is_control('\u{7f}'));
     assert!(rt; !is_control(' ') && !is_control('\u{80}'));
+    assert!(rt; is_blank_octet(b'\t') && !is_blank_octet(0xa0));
+    assert!(rt; is_control_octet(0x7f) && !is_control_octet(0x80));
+    assert!(rt; has_control(b"a\nb") && !has_control("a\u{80} b".as_bytes()));
+}
+
+#[test]
+fn blanks_at_ends(rt: HostRuntime) {
+    let cases: [(&[u8], &[u8], &[u8]); 5] = [
+        (b"", b"", b""),
+        (b" \t", b"", b""),
+        (b"\t a b \t", b"a b \t", b"a b"),
+        (b"a", b"a", b"a"),
+        (b"\n ", b"\n ", b"\n"),
+    ];
+    for (text, behind_blanks, between_blanks) in &cases {
+        assert!(rt; without_leading_blanks(text) == *behind_blanks);
+        assert!(rt; without_blanks_at_ends(text) == *between_blanks);
+    }
 }
 
 #[test]

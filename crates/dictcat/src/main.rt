@@ -1,8 +1,8 @@
 //! dictcat on the command line.
 #![tactic(auto)]
 
-use dict_proto::{OverRead, OverWrite};
-use dictcat_lib::{command, refuse_words};
+use dict_io::{OverRead, OverWrite};
+use dictcat_lib::{OverFiles, command, refuse_words};
 use std::process::ExitCode;
 use std::rt::Env;
 use std::{env, io};
@@ -17,8 +17,15 @@ fn main(rt: HostRuntime) -> ExitCode {
     let mut writer = OverWrite::new(rt.stdout());
     let mut faults = OverWrite::new(rt.stderr());
     let status = match words(&rt) {
-        Ok(words) => command(&rt, words.as_slice(), &mut reader, &mut writer, &mut faults),
-        Err(fault) => refuse_words(rt.alloc(), &fault, &mut faults),
+        Ok(words) => command(
+            rt.alloc(),
+            words.as_slice(),
+            &OverFiles::new(&rt),
+            &mut reader,
+            &mut writer,
+            &mut faults,
+        ),
+        Err(fault) => refuse_words(&fault, &mut faults),
     };
     ExitCode::from(status)
 }

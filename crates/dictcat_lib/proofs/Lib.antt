@@ -1,1 +1,2 @@
-pub mod StatusLemmas
+pub mod EndLemmas
+pub mod LineLemmas

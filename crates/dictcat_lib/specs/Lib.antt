@@ -1,2 +1,5 @@
-pub mod Status
+pub mod Faults
+pub mod Files
 pub mod Plain
+pub mod Program
+pub mod Words

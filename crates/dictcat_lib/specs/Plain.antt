@@ -1,20 +1,22 @@
 -- How a session over one database in lists ends.
-use Rattle.std.specs.Prelude.{◌≡◌, ◌≢◌, ℕ, ◌⊎◌, IsTrue, false, List, [], Some, None, Result, Ok, Err, codes}
-use Rattle.std.specs.Io.KnownBytes.{Appends}
+use Rattle.std.specs.Prelude.{◌≡◌, ◌≢◌, ℕ, ◌⊎◌, IsTrue, false, List, [], Option, Some, None, Result, Ok, Err, codes}
+use Rattle.dict_catalogue.specs.declared.fault.Refusal.TheVariants.{BadName}
 use Rattle.dict_name.specs.Names.{is_name}
 use Rattle.dict_index.specs.Edition.{Edition}
 use Rattle.dict_index.specs.Meaning.{IsEdition, IsFault}
 use Rattle.dict_session.specs.Database.{Database}
-use Rattle.dict_session.specs.Run.{Change, Ends}
-use Rattle.dict_session.specs.declared.running.End.{End}
-use Rattle.dict_session.specs.declared.running.SessionFault.{SessionFault}
-use Rattle.dict_session.specs.declared.running.SessionFault.TheVariants as session_faults
+use Rattle.dict_io.specs.Streams.{Change}
+use Rattle.dict_session.specs.Run.{Ends}
+use Rattle.dict_session.specs.declared.session.run.End.{End}
+use Rattle.dict_session.specs.declared.session.run.SessionFault.{SessionFault}
+use Rattle.dict_session.specs.declared.session.run.SessionFault.TheVariants as session_faults
+use Rattle.dictcat_lib.specs.Files.{IsReadFrom}
 use Rattle.dictcat_lib.specs.declared.fault.Fault.{Fault}
 use Rattle.dictcat_lib.specs.declared.fault.Fault.TheVariants as faults
 
--- nothing was read, and nothing written
-abbrev pub IsUntouched : Change → Change → Type 0
-IsUntouched reader writer = (reader.new ≡ reader.old) × (writer.new ≡ writer.old)
+-- a reader or a writer was left alone
+abbrev pub IsUntouched : Change → Type 0
+IsUntouched change = change.new ≡ change.old
 
 -- the edition that an index and a text say, under a lawful name
 abbrev pub IsDatabase : List ℕ → List ℕ → List ℕ → Database → Type 0
@@ -28,34 +30,24 @@ EndsOver name index text end reader writer =
 -- what comes of an index, a text and a name
 abbrev pub PlainEnds : {A : Type 0} → List ℕ → List ℕ → List ℕ → Result A Fault → Change → Change → Type 0
 PlainEnds name index text (Ok _) reader writer = (end : End) × EndsOver name index text (Ok end) reader writer
-PlainEnds name index text (Err (faults.Line refusal line)) reader writer = IsFault index text refusal (Some line) × IsUntouched reader writer
-PlainEnds name index text (Err (faults.Edition refusal)) reader writer = IsFault index text refusal None × IsUntouched reader writer
-PlainEnds name index text (Err faults.BadName) reader writer =
-    (is_name name ≡ false) × ((edition : Edition) × IsEdition index text edition) × IsUntouched reader writer
+PlainEnds name index text (Err (faults.Line refusal line)) reader writer = IsFault index text refusal (Some line) × IsUntouched reader × IsUntouched writer
+PlainEnds name index text (Err (faults.Edition refusal)) reader writer = IsFault index text refusal None × IsUntouched reader × IsUntouched writer
+PlainEnds name index text (Err (faults.Refused refusal)) reader writer =
+    (refusal ≡ BadName) × (is_name name ≡ false) × ((edition : Edition) × IsEdition index text edition) × IsUntouched reader × IsUntouched writer
 PlainEnds name index text (Err faults.SessionEnded) reader writer =
     (fault : SessionFault) × (fault ≢ session_faults.Memory) × EndsOver name index text (Err fault) reader writer
-PlainEnds name index text (Err faults.Memory) reader writer = Appends writer.old writer.new []
+PlainEnds name index text (Err faults.Memory) reader writer = IsUntouched reader × IsUntouched writer
 PlainEnds name index text (Err (faults.CannotRead path)) reader writer = ⊥
 PlainEnds name index text (Err faults.CannotWrite) reader writer = ⊥
 
--- a file could not be read: it isn't there, or memory ran out
-abbrev pub IsUnread : {A : Type 0} → Result A Fault → Type 0
-IsUnread (Err (faults.CannotRead path)) = Unit {0}
-IsUnread (Err faults.Memory) = Unit {0}
-IsUnread _ = ⊥
+-- neither of two files was read whole: one can't be read, which none can be said of whose octets are known, or memory ran out
+abbrev pub IsUnread : {A : Type 0} → (List ℕ → Option (List ℕ)) → List ℕ → List ℕ → Result A Fault → Type 0
+IsUnread files index text (Err (faults.CannotRead path)) = ((path.now ≡ index) ⊎ (path.now ≡ text)) × (files path.now ≡ None)
+IsUnread files index text (Err faults.Memory) = Unit {0}
+IsUnread files index text _ = ⊥
 
--- the same of two files, whatever is in them
-abbrev pub FilesEnd : {A : Type 0} → List ℕ → Result A Fault → Change → Change → Type 0
-FilesEnd name result reader writer =
-    ((index : List ℕ) × (text : List ℕ) × PlainEnds name index text result reader writer)
-    ⊎ (IsUnread result × IsUntouched reader writer)
-
--- help or the version was asked for, or a session over a lawful database ran to its end
-abbrev pub IsDone : Change → Change → Type 0
-IsDone reader writer = (reader.new ≡ reader.old)
-    ⊎ ((name : List ℕ) × (index : List ℕ) × (text : List ℕ) × (end : End) × EndsOver name index text (Ok end) reader writer)
-
--- nothing was read, or a session over a lawful database ended by a fault of its reader or its writer
-abbrev pub IsFailed : Change → Change → Type 0
-IsFailed reader writer = (reader.new ≡ reader.old)
-    ⊎ ((name : List ℕ) × (index : List ℕ) × (text : List ℕ) × (fault : SessionFault) × (fault ≢ session_faults.Memory) × EndsOver name index text (Err fault) reader writer)
+-- the same of two files, by their paths
+unfoldable pub FilesEnd : {A : Type 0} → (List ℕ → Option (List ℕ)) → List ℕ → List ℕ → List ℕ → Result A Fault → Change → Change → Type 0
+FilesEnd files name index text result reader writer =
+    ((i : List ℕ) × (t : List ℕ) × IsReadFrom (files index) i × IsReadFrom (files text) t × PlainEnds name i t result reader writer)
+    ⊎ (IsUnread files index text result × IsUntouched reader × IsUntouched writer)

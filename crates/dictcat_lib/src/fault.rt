@@ -1,8 +1,12 @@
 // Why the program didn't do what it was asked.
-ghost use Rattle.std.specs.Prelude.{◌≡◌};
-ghost use Rattle.dictcat_lib.specs.Status.{status_of};
+ghost use Rattle.std.specs.Prelude.{◌≡◌, ◌++◌, codes};
+ghost use Rattle.dict_io.specs.Streams.{Puts};
+ghost use Rattle.dictcat_lib.specs.Faults.{line_of, refused, refused_at, status_of};
 
+use dict_catalogue::Refusal as CommandRefusal;
 use dict_index::{IndexFault, Refusal};
+use dict_io::{Sink, SinkFault, put_all};
+use itoa::Buffer;
 use thiserror::Error;
 
 /// Why a command was not done. Its text is the line that standard error gets, without the line's end.
@@ -14,9 +18,9 @@ pub enum Fault<'w> {
     /// An index and a text as a whole don't pass a test of editions.
     #[error("refused {} {}", .0.number(), .0.name())]
     Edition(Refusal),
-    /// The name isn't 1 to 32 of `a-z 0-9 _ -`, beginning with `a-z`.
-    #[error("refused 20 BadName")]
-    BadName,
+    /// A command doesn't pass a test of commands: of these, a name that isn't lawful.
+    #[error("refused {} {}", .0.number(), .0.name())]
+    Refused(CommandRefusal),
     /// The file with this path can't be read.
     #[error("cannot read {0}")]
     CannotRead(&'w str),
@@ -37,15 +41,71 @@ impl Fault<'_> {
         ensures { result ≡ status_of self.now }
     {
         match self {
-            Fault::Line { .. } | Fault::Edition(_) | Fault::BadName => 1,
+            Fault::Line { .. } | Fault::Edition(_) | Fault::Refused(_) => 1,
             Fault::CannotRead(_) | Fault::SessionEnded | Fault::CannotWrite => 3,
             Fault::Memory => 4,
         }
     }
+
+    /// Puts the line that standard error gets, and the line's end. It takes no memory.
+    pub fn put_line<K: Sink>(&self, sink: &mut K) -> Result<(), SinkFault>
+        ensures { Puts result (K.stream sink.old) (K.stream sink.new) (line_of self.now ++ codes "\n") }
+    {
+        match self {
+            Fault::Line { refusal, line } => {
+                put_refusal_at(sink, refusal.number(), refusal.name(), *line)
+            }
+            Fault::Edition(refusal) => put_refusal(sink, refusal.number(), refusal.name()),
+            Fault::Refused(refusal) => put_refusal(sink, refusal.number(), refusal.name()),
+            Fault::CannotRead(path) => put_all(sink, &[b"cannot read ", path.as_bytes(), b"\n"]),
+            Fault::SessionEnded => sink.put(b"session ended by a fault\n"),
+            Fault::CannotWrite => sink.put(b"cannot write output\n"),
+            Fault::Memory => sink.put(b"fault 40 Memory\n"),
+        }
+    }
+}
+
+// Puts the line of a refusal, by its number and its name.
+fn put_refusal<K: Sink>(sink: &mut K, number: u8, name: &str) -> Result<(), SinkFault>
+    ensures { Puts result (K.stream sink.old) (K.stream sink.new) (refused number name.now ++ codes "\n") }
+{
+    let mut buffer = Buffer::new();
+    let number = buffer.format(number);
+    put_all(
+        sink,
+        &[b"refused ", number.as_bytes(), b" ", name.as_bytes(), b"\n"],
+    )
+}
+
+// The same at a line of an index.
+fn put_refusal_at<K: Sink>(
+    sink: &mut K,
+    number: u8,
+    name: &str,
+    line: usize,
+) -> Result<(), SinkFault>
+    ensures { Puts result (K.stream sink.old) (K.stream sink.new) (refused_at number name.now line ++ codes "\n") }
+{
+    let mut number_buffer = Buffer::new();
+    let mut line_buffer = Buffer::new();
+    let number = number_buffer.format(number);
+    let line = line_buffer.format(line);
+    put_all(
+        sink,
+        &[
+            b"refused ",
+            number.as_bytes(),
+            b" ",
+            name.as_bytes(),
+            b" line ",
+            line.as_bytes(),
+            b"\n",
+        ],
+    )
 }
 
 impl From<IndexFault> for Fault<'_> {
-    ghost use Rattle.dictcat_lib.specs.Status.{told};
+    ghost use Rattle.dictcat_lib.specs.Faults.{told};
 
     ghost from_gives = { λ fault gives. gives ≡ told fault };
 

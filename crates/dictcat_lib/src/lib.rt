@@ -3,14 +3,18 @@
 
 mod fault;
 mod files;
+mod laws;
 mod plain;
 mod program;
-mod report;
+mod task;
 mod words;
 
 pub use fault::Fault;
+pub use files::{InputFiles, OverFiles, ReadFault};
+pub use laws::status_laws;
 pub use plain::run_plain;
 pub use program::{command, refuse_words};
+pub use task::{Task, perform};
 
 #[cfg(test)]
 mod tests;

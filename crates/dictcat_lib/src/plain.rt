@@ -1,14 +1,17 @@
 // A session over one database in lists.
-ghost use Rattle.dictcat_lib.specs.Plain.{PlainEnds, FilesEnd};
+ghost use Rattle.dict_io.specs.Streams.{change};
+ghost use Rattle.dictcat_lib.specs.Plain.{PlainEnds, FilesEnd, IsUnread};
+ghost use Rattle.dictcat_lib.specs.Files.{IsReadFrom};
+ghost use Rattle.std.specs.Prelude.{MatchResult};
 
 use crate::fault::Fault;
-use crate::files::read_file;
+use crate::files::{InputFiles, ReadFault};
+use dict_catalogue::Refusal;
 use dict_index::read_edition;
+use dict_io::{Sink, Source};
 use dict_name::is_name;
-use dict_proto::{Sink, Source};
 use dict_session::{Plain, SessionFault, run};
 use std::alloc::Global;
-use std::rt::Files;
 
 const HOST: &str = "localhost";
 
@@ -23,15 +26,14 @@ pub fn run_plain<S: Source, K: Sink>(
     writer: &mut K,
 ) -> Result<(), Fault<'static>>
     ensures { PlainEnds name.now index.now text.now result
-        (record { old = S.remaining reader.old; new = S.remaining reader.new; old_failures = S.failures reader.old; new_failures = S.failures reader.new })
-        (record { old = K.octets writer.old; new = K.octets writer.new; old_failures = K.failures writer.old; new_failures = K.failures writer.new }) }
+        (change S.stream reader.old reader.new) (change K.stream writer.old writer.new) }
 {
     let edition = match read_edition(alloc, index, text) {
         Ok(edition) => edition,
         Err(fault) => return Err(Fault::from(fault)),
     };
     if !is_name(name) {
-        return Err(Fault::BadName);
+        return Err(Fault::Refused(Refusal::BadName));
     }
     let Ok(plain) = Plain::new(alloc, name, &edition) else {
         return Err(Fault::Memory);
@@ -43,27 +45,40 @@ pub fn run_plain<S: Source, K: Sink>(
     }
 }
 
-// The same over two files.
-pub(crate) fn run_files<'w, R: Files + AllocGlobal, S: Source, K: Sink>(
-    rt: &R,
+// The same over two files, by their paths.
+#[tactic(auto, unfolding(crate::specs::Plain::FilesEnd))]
+pub(crate) fn run_files<'w, I: InputFiles, S: Source, K: Sink>(
+    alloc: Global,
     name: &str,
     index: &'w str,
     text: &'w str,
+    files: &I,
     reader: &mut S,
     writer: &mut K,
 ) -> Result<(), Fault<'w>>
-    ensures { FilesEnd name.now result
-        (record { old = S.remaining reader.old; new = S.remaining reader.new; old_failures = S.failures reader.old; new_failures = S.failures reader.new })
-        (record { old = K.octets writer.old; new = K.octets writer.new; old_failures = K.failures writer.old; new_failures = K.failures writer.new }) }
+    ensures { FilesEnd (I.octets files.now) name.now index.entry.now text.entry.now result
+        (change S.stream reader.old reader.new) (change K.stream writer.old writer.new) }
 {
-    let index = read_file(rt, index)?;
-    let text = read_file(rt, text)?;
+    let index = read_file(files, index)?;
+    let text = read_file(files, text)?;
     run_plain(
-        rt.alloc(),
+        alloc,
         name,
         index.as_slice(),
         text.as_slice(),
         reader,
         writer,
     )
+}
+
+// The octets of the file with this path.
+fn read_file<'w, I: InputFiles>(files: &I, path: &'w str) -> Result<Vec<u8>, Fault<'w>>
+    ensures { MatchResult result (λ read. IsReadFrom (I.octets files.now path.entry.now) read.items)
+        (λ _. IsUnread (I.octets files.now) path.entry.now path.entry.now result) }
+{
+    match files.read(path) {
+        Ok(octets) => Ok(octets),
+        Err(ReadFault::Unreadable) => Err(Fault::CannotRead(path)),
+        Err(ReadFault::Memory) => Err(Fault::Memory),
+    }
 }

@@ -1,102 +1,121 @@
 // The program but for its standard streams.
-ghost use Rattle.std.specs.Prelude.{◌≡◌, ◌≤◌, ◌⊎◌};
-ghost use Rattle.dictcat_lib.specs.Status.{status_of};
-ghost use Rattle.dictcat_lib.specs.Plain.{IsUntouched, IsDone, IsFailed};
+ghost use Rattle.std.specs.Prelude.{◌≡◌, ◌≢◌, ℕ, List, Option, map};
+ghost use Rattle.std.specs.IoError.{error_kind};
+ghost use Rattle.std.specs.declared.io.ErrorKind.TheVariants.{OutOfMemory};
+ghost use Rattle.clap.specs.Values.{kind_of};
+ghost use Rattle.dictcat_lib.specs.Program.{CommandEnds, Closes, IsTold, Shows, Tells, TellsMistake};
+ghost use Rattle.dictcat_lib.specs.Plain.{IsUntouched};
+ghost use Rattle.dictcat_lib.specs.Words.{Fails, not_text};
+ghost use Rattle.dict_io.specs.Streams.{Change, change};
 
 use crate::fault::Fault;
-use crate::plain::run_files;
-use crate::report::put_text;
-use crate::words::{Task, command_line, read_words};
+use crate::files::InputFiles;
+use crate::task::perform;
+use crate::words::read_words;
 use clap::Error;
 use clap::error::ErrorKind;
-use dict_proto::{Sink, Source};
-use std::alloc::{AllocError, Global};
+use dict_io::{Sink, Source};
+use std::alloc::Global;
 use std::convert::AsStr;
 use std::io;
-use std::rt::Files;
 
 /// Does what the words ask for, of which the first is the program's name, and answers the status to end with: 0
 /// where it is done, 1 for a refusal, 2 for words that it can't make out, 3 for a file, an output or a session
 /// that failed, and 4 where memory ran out. Nothing goes to `faults` where the status is 0, and else one text.
-pub fn command<R: Files + AllocGlobal, W: AsStr, S: Source, K: Sink, F: Sink>(
-    rt: &R,
+pub fn command<I: InputFiles, W: AsStr, S: Source, K: Sink, F: Sink>(
+    alloc: Global,
     words: &[W],
+    files: &I,
     reader: &mut S,
     writer: &mut K,
     faults: &mut F,
 ) -> u8
-    ensures statuses { result ≤ 4 }
-    ensures done { result ≡ 0 → IsDone
-        (record { old = S.remaining reader.old; new = S.remaining reader.new; old_failures = S.failures reader.old; new_failures = S.failures reader.new })
-        (record { old = K.octets writer.old; new = K.octets writer.new; old_failures = K.failures writer.old; new_failures = K.failures writer.new }) }
-    ensures quiet { result ≡ 0 → F.octets faults.new ≡ F.octets faults.old }
-    ensures refused { (result ≡ 1) ⊎ (result ≡ 2) → IsUntouched
-        (record { old = S.remaining reader.old; new = S.remaining reader.new; old_failures = S.failures reader.old; new_failures = S.failures reader.new })
-        (record { old = K.octets writer.old; new = K.octets writer.new; old_failures = K.failures writer.old; new_failures = K.failures writer.new }) }
-    ensures failed { result ≡ 3 → IsFailed
-        (record { old = S.remaining reader.old; new = S.remaining reader.new; old_failures = S.failures reader.old; new_failures = S.failures reader.new })
-        (record { old = K.octets writer.old; new = K.octets writer.new; old_failures = K.failures writer.old; new_failures = K.failures writer.new }) }
+    ensures { CommandEnds (I.octets files.now) (map W.text words.now) result
+        (change S.stream reader.old reader.new) (change K.stream writer.old writer.new) (change F.stream faults.old faults.new) }
 {
-    match read_words(rt.alloc(), words) {
-        Ok(Task::Plain { name, index, text }) => {
-            match run_files(rt, name, index, text, reader, writer) {
-                Ok(()) => 0,
-                Err(fault) => tell(&fault, faults),
-            }
+    match read_words(alloc, words) {
+        Ok(task) => {
+            let end = perform(alloc, &task, files, reader, writer);
+            close(&end, faults)
         }
-        Err(error) => answer_words(&error, writer, faults),
+        Err(error) => answer_words(alloc, &error, writer, faults),
     }
 }
 
 /// Says why the program's words can't be had: they are no texts, or memory ran out.
-pub fn refuse_words<F: Sink>(alloc: Global, fault: &io::Error, faults: &mut F) -> u8
-    ensures { (result ≡ 2) ⊎ (result ≡ 4) }
+pub fn refuse_words<F: Sink>(fault: &io::Error, faults: &mut F) -> u8
+    ensures memory { error_kind fault.now ≡ OutOfMemory → Tells Fault.Memory result (change F.stream faults.old faults.new) }
+    ensures not_text { error_kind fault.now ≢ OutOfMemory → (result ≡ 2) × IsTold not_text (change F.stream faults.old faults.new) }
 {
     if fault.kind() == io::ErrorKind::OutOfMemory {
         return tell(&Fault::Memory, faults);
     }
-    match not_text(alloc) {
-        Ok(error) => tell_usage(&error, faults),
-        Err(_) => tell(&Fault::Memory, faults),
-    }
+    let _ = faults.put(NOT_TEXT.as_bytes());
+    2
 }
 
-// The fault of a word that is no text.
-fn not_text(alloc: Global) -> Result<Error, AllocError> {
-    let message = "invalid UTF-8 was detected in one or more arguments";
-    command_line(alloc)?.error(ErrorKind::InvalidValue, message)
-}
+// What clap says of words that are no texts.
+pub(crate) const NOT_TEXT: &str =
+    "error: invalid UTF-8 was detected in one or more arguments\n\nUsage: dictcat <COMMAND>\n\nFor more information, try '--help'.\n";
 
 // Answers words that ask for no task: for help or the version, or by mistake.
-fn answer_words<K: Sink, F: Sink>(error: &Error, writer: &mut K, faults: &mut F) -> u8
-    ensures statuses { (result ≡ 0) ⊎ ((result ≡ 2) ⊎ ((result ≡ 3) ⊎ (result ≡ 4))) }
-    ensures quiet { result ≡ 0 → F.octets faults.new ≡ F.octets faults.old }
-    ensures usage { result ≡ 2 → K.octets writer.new ≡ K.octets writer.old }
+fn answer_words<K: Sink, F: Sink>(
+    alloc: Global,
+    error: &Error,
+    writer: &mut K,
+    faults: &mut F,
+) -> u8
+    ensures { (files : List ℕ → Option (List ℕ)) → (words : List (List ℕ)) → Fails words (kind_of error.now) → (reader : Change) → IsUntouched reader
+        → CommandEnds files words result reader (change K.stream writer.old writer.new) (change F.stream faults.old faults.new) }
 {
-    if error.kind() == ErrorKind::OutOfMemory {
-        return tell(&Fault::Memory, faults);
+    match error.kind() {
+        ErrorKind::OutOfMemory => tell(&Fault::Memory, faults),
+        ErrorKind::DisplayHelp | ErrorKind::DisplayVersion => {
+            let end = show(alloc, error, writer);
+            close(&end, faults)
+        }
+        _ => tell_mistake(alloc, error, faults),
     }
-    if error.use_stderr() {
-        return tell_usage(error, faults);
-    }
-    match put_text(writer, error) {
-        Ok(()) => 0,
-        Err(_) => tell(&Fault::CannotWrite, faults),
+}
+
+// Shows help or the version.
+fn show<K: Sink>(alloc: Global, error: &Error, writer: &mut K) -> Result<(), Fault<'static>>
+    ensures { Shows result (change K.stream writer.old writer.new) }
+{
+    let Ok(text) = error.to_string(alloc) else {
+        return Err(Fault::Memory);
+    };
+    match writer.put(text.as_bytes()) {
+        Ok(()) => Ok(()),
+        Err(_) => Err(Fault::CannotWrite),
     }
 }
 
 // Tells what is wrong with the words.
-fn tell_usage<F: Sink>(error: &Error, faults: &mut F) -> u8
-    ensures { result ≡ 2 }
+fn tell_mistake<F: Sink>(alloc: Global, error: &Error, faults: &mut F) -> u8
+    ensures { TellsMistake result (change F.stream faults.old faults.new) }
 {
-    let _ = put_text(faults, error);
+    let Ok(text) = error.to_string(alloc) else {
+        return tell(&Fault::Memory, faults);
+    };
+    let _ = faults.put(text.as_bytes());
     2
+}
+
+// What is done ends with 0, and what is not with the status of its fault, which is told.
+fn close<F: Sink>(end: &Result<(), Fault<'_>>, faults: &mut F) -> u8
+    ensures { Closes end.now result (change F.stream faults.old faults.new) }
+{
+    match end {
+        Ok(()) => 0,
+        Err(fault) => tell(fault, faults),
+    }
 }
 
 // Tells a fault in a line of its own.
 fn tell<F: Sink>(fault: &Fault<'_>, faults: &mut F) -> u8
-    ensures { result ≡ status_of fault.now }
+    ensures { Tells fault.now result (change F.stream faults.old faults.new) }
 {
-    let _ = put_text(faults, format_args!("{fault}\n"));
+    let _ = fault.put_line(faults);
     fault.status()
 }

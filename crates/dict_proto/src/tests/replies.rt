@@ -1,7 +1,5 @@
-use crate::{
-    LimitedSink, OverWrite, Reply, Sink, list_is_a_block, put_all, put_quoted,
-    reply_lines_are_short, write_reply,
-};
+use crate::{Reply, list_is_a_block, put_quoted, reply_lines_are_short, write_reply};
+use dict_io::{LimitedSink, OverWrite, Sink, put_all};
 use std::alloc::Global;
 use std::test::Fail;
 

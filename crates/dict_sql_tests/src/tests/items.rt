@@ -5,29 +5,17 @@ ghost use Rattle.sqlite.specs.State.{HasCleanDisk};
 ghost use Rattle.sqlite.specs.Held.{state};
 ghost use Rattle.dict_sql.specs.Effects.{HasApartRowids, rows_of};
 
+use super::tables::{clear, make};
+use dict_records::{Item, Stored};
 use dict_sql::commit::commit;
-use dict_sql::create::create_item;
-use dict_sql::delete::clear_items;
 use dict_sql::insert::insert_item;
 use dict_sql::read::items;
-use dict_sql::records::Item;
-use dict_tables::{has_item, is_name_used, waits_for_counter};
+use dict_sql::records::ReadError;
+use dict_tables::{StoreTable, has_table};
 use sqlite::{Alter, Connection, Error};
 use std::alloc::Global;
 use std::process::Abort;
 use std::test::Fail;
-
-fn make<S: Alter>(conn: &mut Connection<S>) -> Result<(), Error>
-    ensures { HasCleanDisk (state S.Store conn.new) → OnOk result (HasApartRowids (rows_of (codes "item") (state S.Store conn.new).now)) }
-{
-    let schema = conn.schema();
-    if is_name_used(schema, b"item") || waits_for_counter(schema) || !conn.is_autocommit() {
-        return Err(Error::InvalidQuery);
-    }
-    let mut tx = conn.transaction();
-    create_item(&mut tx)?;
-    commit(tx)
-}
 
 fn put<S: Alter>(
     conn: &mut Connection<S>,
@@ -39,37 +27,28 @@ fn put<S: Alter>(
     requires { HasCleanDisk (state S.Store conn.old) → HasApartRowids (rows_of (codes "item") (state S.Store conn.old).now) }
     ensures { HasCleanDisk (state S.Store conn.new) → OnOk result (HasApartRowids (rows_of (codes "item") (state S.Store conn.new).now)) }
 {
-    if !has_item(conn.schema()) || !conn.is_autocommit() {
+    if !has_table(conn.schema(), StoreTable::Item) || !conn.is_autocommit() {
         return Err(Error::InvalidQuery);
     }
     let mut tx = conn.transaction();
-    insert_item(
-        &mut tx,
+    let item = Item {
         place,
         name,
-        i64::from(title.is_some()),
+        kind: i64::from(title.is_some()),
         title,
         current,
-        None,
-    )?;
+        former: None,
+    };
+    insert_item(&mut tx, &item)?;
     commit(tx)
 }
 
-fn remove<S: Alter>(conn: &mut Connection<S>) -> Result<(), Error>
-    requires { HasCleanDisk (state S.Store conn.old) → HasApartRowids (rows_of (codes "item") (state S.Store conn.old).now) }
-    ensures { HasCleanDisk (state S.Store conn.new) → OnOk result (HasApartRowids (rows_of (codes "item") (state S.Store conn.new).now)) }
-{
-    if !has_item(conn.schema()) || !conn.is_autocommit() {
-        return Err(Error::InvalidQuery);
-    }
-    let mut tx = conn.transaction();
-    clear_items(&mut tx)?;
-    commit(tx)
-}
-
-fn list<S: Alter>(alloc: Global, conn: &mut Connection<S>) -> Result<Vec<Item>, Error> {
-    if !has_item(conn.schema()) {
-        return Err(Error::InvalidQuery);
+fn list<S: Alter>(
+    alloc: Global,
+    conn: &mut Connection<S>,
+) -> Result<Vec<Stored<Item<String>>>, ReadError> {
+    if !has_table(conn.schema(), StoreTable::Item) {
+        return Err(ReadError::Store(Error::InvalidQuery));
     }
     items(alloc, conn)
 }
@@ -80,29 +59,30 @@ pub(crate) fn run<S: Alter>(
     alloc: Global,
     conn: &mut Connection<S>,
 ) -> Result<(), Fail> {
-    make(conn)?;
+    make(conn, StoreTable::Item)?;
     put(conn, 0, "old", None, Some(9))?;
-    remove(conn)?;
+    clear(conn, StoreTable::Item)?;
     put(conn, 1, "all", Some("It's \"all\""), None)?;
     put(conn, 0, "gem", None, Some(9_223_372_036_854_775_807))?;
     let all = list(alloc, conn)?;
     assert_eq!(rt; all.len(), 2);
+    let gem = &all[0].value;
     assert_eq!(rt;
-        (
-            all[0].name.as_str(),
-            all[0].kind,
-            all[0].current,
-            all[0].former
-        ),
+        (gem.name.as_str(), gem.kind, gem.current, gem.former),
         ("gem", 0, Some(9_223_372_036_854_775_807), None)
     );
-    assert!(rt; all[0].title.is_none());
+    assert!(rt; gem.title.is_none());
+    let virtual_item = &all[1].value;
     assert_eq!(rt;
-        (all[1].name.as_str(), all[1].kind, all[1].current),
+        (
+            virtual_item.name.as_str(),
+            virtual_item.kind,
+            virtual_item.current
+        ),
         ("all", 1, None)
     );
     assert_eq!(rt;
-        all[1].title.as_ref().map(|t| t.as_str()),
+        virtual_item.title.as_ref().map(|t| t.as_str()),
         Some("It's \"all\"")
     );
     Ok(())

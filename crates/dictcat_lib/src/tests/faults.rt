@@ -1,6 +1,9 @@
-use super::fixtures::{BANNER, GEM_INDEX, GEM_TEXT, OPAL, outcome};
-use crate::Fault;
+use super::fixtures::{BANNER, FilesInMemory, GEM_INDEX, GEM_TEXT, OPAL, outcome, taken};
+use crate::{Fault, Task, perform};
+use dict_catalogue::Refusal as CommandRefusal;
 use dict_index::Refusal;
+use dict_io::{LimitedSink, OverRead, SinkFault};
+use std::alloc::Global;
 use std::fs;
 use std::test::Fail;
 
@@ -75,17 +78,81 @@ fn each_fault_has_a_line_and_a_status(rt: HostRuntime) -> Result<(), Fail> {
         line: 65536,
     };
     let rows = [
-        (line, "refused 9 ReservedTwice line 65536", 1),
+        (line, "refused 9 ReservedTwice line 65536\n", 1),
         (
             Fault::Edition(Refusal::TextTooLong),
-            "refused 13 TextTooLong",
+            "refused 13 TextTooLong\n",
             1,
         ),
-        (Fault::Memory, "fault 40 Memory", 4),
+        (
+            Fault::Refused(CommandRefusal::BadName),
+            "refused 20 BadName\n",
+            1,
+        ),
+        (Fault::CannotRead("a b"), "cannot read a b\n", 3),
+        (Fault::SessionEnded, "session ended by a fault\n", 3),
+        (Fault::CannotWrite, "cannot write output\n", 3),
+        (Fault::Memory, "fault 40 Memory\n", 4),
     ];
     for (fault, text, status) in rows {
-        assert_eq!(rt; fault.to_string(rt.alloc())?.as_str(), text);
+        let shown = format!(in rt.alloc(); "{fault}\n")?;
+        assert_eq!(rt; shown.as_str(), text);
         assert_eq!(rt; fault.status(), status);
+        let (end, octets) = line_into(rt.alloc(), fault, 100)?;
+        assert_eq!(rt; end, Ok(()));
+        assert_eq!(rt; octets.as_str(), text);
+    }
+    Ok(())
+}
+
+// What a sink with this room has of a fault's line.
+fn line_into(
+    alloc: Global,
+    fault: Fault<'_>,
+    room: usize,
+) -> Result<(Result<(), SinkFault>, String), Fail> {
+    let mut sink = LimitedSink::new(alloc, room)?;
+    let end = fault.put_line(&mut sink);
+    Ok((end, taken(alloc, &sink)?))
+}
+
+#[test]
+fn does_a_task_over_files_in_memory(rt: HostRuntime) -> Result<(), Fail> {
+    let alloc = rt.alloc();
+    let files = FilesInMemory {
+        alloc,
+        index: GEM_INDEX,
+        text: GEM_TEXT,
+    };
+    let rows = [
+        ("i", "t", Ok(()), OPAL),
+        ("i", "x", Err(Fault::CannotRead("x")), ""),
+        ("x", "y", Err(Fault::CannotRead("x")), ""),
+        (
+            "t",
+            "t",
+            Err(Fault::Line {
+                refusal: Refusal::Columns,
+                line: 1,
+            }),
+            "",
+        ),
+    ];
+    for (index, text, end, answer) in rows {
+        let mut reader = OverRead::new(b"DEFINE gem opal\r\n".as_slice());
+        let mut writer = LimitedSink::new(alloc, 1000)?;
+        let task = Task::Plain {
+            name: "gem",
+            index,
+            text,
+        };
+        assert_eq!(rt;
+            perform(alloc, &task, &files, &mut reader, &mut writer),
+            end
+        );
+        let banner = if end.is_ok() { BANNER } else { "" };
+        let want = format!(in alloc; "{banner}{answer}")?;
+        assert_eq!(rt; taken(alloc, &writer)?.as_str(), want.as_str());
     }
     Ok(())
 }

@@ -1,6 +1,9 @@
 // What the tests read from and write to.
-use crate::command;
-use dict_proto::{LimitedSink, OverRead};
+ghost use Rattle.std.specs.Prelude.{None, Some, codes, if◌then◌else◌};
+ghost use Rattle.std.specs.Str.{bytes_eq};
+
+use crate::{InputFiles, OverFiles, ReadFault, command};
+use dict_io::{LimitedSink, OverRead};
 use std::alloc::Global;
 use std::io;
 use std::io::Read;
@@ -55,6 +58,32 @@ impl Read for Pieces<'_> {
     }
 }
 
+/// Two files in memory, with the paths `i` and `t`.
+#[derive(Drop)]
+pub struct FilesInMemory<'a> {
+    pub alloc: Global,
+    pub index: &'a [u8],
+    pub text: &'a [u8],
+}
+
+impl InputFiles for FilesInMemory<'_> {
+    ghost octets = { λ s path. if bytes_eq path (codes "i") then Some s.index.now else (if bytes_eq path (codes "t") then Some s.text.now else None) };
+
+    fn read(&self, path: &str) -> Result<Vec<u8>, ReadFault> {
+        let octets = if path == "i" {
+            self.index
+        } else if path == "t" {
+            self.text
+        } else {
+            return Err(ReadFault::Unreadable);
+        };
+        match Vec::from_slice(self.alloc, octets) {
+            Ok(read) => Ok(read),
+            Err(_) => Err(ReadFault::Memory),
+        }
+    }
+}
+
 /// A status, and what went to standard output and to standard error.
 pub type Outcome = (u8, String, String);
 
@@ -68,7 +97,15 @@ pub fn outcome<R: Files + AllocGlobal>(
     let mut reader = OverRead::new(input);
     let mut writer = LimitedSink::new(rt.alloc(), room)?;
     let mut faults = LimitedSink::new(rt.alloc(), 1000)?;
-    let status = command(rt, words, &mut reader, &mut writer, &mut faults);
+    let files = OverFiles::new(rt);
+    let status = command(
+        rt.alloc(),
+        words,
+        &files,
+        &mut reader,
+        &mut writer,
+        &mut faults,
+    );
     Ok((
         status,
         taken(rt.alloc(), &writer)?,

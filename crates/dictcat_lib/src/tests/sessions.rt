@@ -3,7 +3,7 @@ use super::fixtures::{
     Pieces, taken,
 };
 use crate::{Fault, run_plain};
-use dict_proto::{LimitedSink, OverRead};
+use dict_io::{LimitedSink, OverRead};
 use std::alloc::Global;
 use std::test::Fail;
 
@@ -60,7 +60,10 @@ fn answers_in_any_pieces(rt: HostRuntime) -> Result<(), Fail> {
             "show db\r\n",
             "110 1 databases present\r\ngem \"Gems\"\r\n.\r\n250 ok\r\n",
         ),
-        ("SHOW SERVER\r\n", not_recognized),
+        (
+            "SHOW SERVER\r\n",
+            "114 server information\r\ndictcat on localhost\r\ndatabases 1\r\n.\r\n250 ok\r\n",
+        ),
         ("SASLRESP x\r\n", not_recognized),
         ("DEFINE gem\r\n", illegal_parameters),
         ("DEFINE gem \"opal\r\n", illegal_parameters),

@@ -1,6 +1,9 @@
 use super::fixtures::{outcome, taken};
+use crate::program::NOT_TEXT;
 use crate::refuse_words;
-use dict_proto::LimitedSink;
+use crate::words::command_line;
+use clap::error::ErrorKind;
+use dict_io::LimitedSink;
 use std::io;
 use std::test::Fail;
 
@@ -105,11 +108,17 @@ fn refuses_words_that_are_no_texts(rt: HostRuntime) -> Result<(), Fail> {
     ];
     for (kind, status, text) in rows {
         let mut faults = LimitedSink::new(rt.alloc(), 1000)?;
-        assert_eq!(rt;
-            refuse_words(rt.alloc(), &io::Error::from(kind), &mut faults),
-            status
-        );
+        assert_eq!(rt; refuse_words(&io::Error::from(kind), &mut faults), status);
         assert_eq!(rt; taken(rt.alloc(), &faults)?.as_str(), text);
     }
+    Ok(())
+}
+
+#[test]
+fn says_of_words_that_are_no_texts_what_clap_says(rt: HostRuntime) -> Result<(), Fail> {
+    let message = "invalid UTF-8 was detected in one or more arguments";
+    let mut line = command_line(rt.alloc())?;
+    let error = line.error(ErrorKind::InvalidValue, message)?;
+    assert_eq!(rt; error.to_string(rt.alloc())?.as_str(), NOT_TEXT);
     Ok(())
 }

@@ -2,8 +2,8 @@ use Rattle.std.proofs.Common.{[], take, sym, ◌∙◌, subst, arith}
 use Rattle.std.proofs.lemmas.List.{take_all}
 use Rattle.std.specs.Str.{IsUtf8}
 use Rattle.dict_text.specs.Lines.{text_lines}
-use Rattle.dict_index.specs.Gathered.{Gathers}
-use Rattle.dict_index.proofs.AllLemmas.{all_at}
+use Rattle.dict_index.specs.Gathered.{HasGathered}
+use Rattle.dict_text.proofs.AllLemmas.{all_at}
 use Rattle.dict_index.proofs.TextLemmas.{lines_utf8}
 use Rattle.dict_index.proofs.PassLemmas.{next_of, pass_more, none_left, lines_fault}
 use Rattle.dict_index.proofs.reading.gather_lines.Goals as goal
@@ -19,7 +19,7 @@ loop-line-preserved c =
     let lines = take c.loop-line.number (text_lines c.args.index.now) in
     record {
       rest = next.left;
-      gathers = subst (λ ls. Gathers c.args.text.now ls c.read_and_add.new.gathered) (sym next.front) (c.in-Ok.ensures.added lines c.loop-line.invariant.gathers);
+      gathers = subst (λ ls. HasGathered c.args.text.now ls c.read_and_add.new.gathered) (sym next.front) (c.in-Ok.ensures.added lines c.loop-line.invariant.gathers);
       passes = pass_more c.args.index.now c.args.text.now c.loop-line.number c.in-Some.line.now c.loop-line.invariant.passes next.at (c.in-Ok.ensures.passes lines c.loop-line.invariant.gathers);
     }
 
@@ -32,7 +32,7 @@ returns-in-Err-clause-refused c =
 pub returns-clause-gathered : goal.returns-clause-gathered
 returns-clause-gathered c =
     let all = none_left (text_lines c.args.index.now) c.loop-line.lines c.loop-line.number c.loop-line.invariant.rest c.in_default.ensures.steps.0 in
-    subst (λ ls. Gathers c.args.text.now ls c.loop-line.gathered) (take_all c.loop-line.number (text_lines c.args.index.now) all) c.loop-line.invariant.gathers
+    subst (λ ls. HasGathered c.args.text.now ls c.loop-line.gathered) (take_all c.loop-line.number (text_lines c.args.index.now) all) c.loop-line.invariant.gathers
 
 pub returns-clause-passes : goal.returns-clause-passes
 returns-clause-passes c k lt =

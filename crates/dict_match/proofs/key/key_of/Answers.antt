@@ -1,6 +1,6 @@
 use Rattle.std.proofs.Common.{◌≡◌, length, sym, ap, ◌∙◌, string_bytes}
 use Rattle.std.proofs.lemmas.Bool.{eqb-true, eqb-false}
-use Rattle.dict_match.specs.Key.{without_blanks_at_ends}
+use Rattle.dict_text.specs.Blanks.{without_blanks_at_ends}
 use Rattle.dict_match.proofs.KeyLemmas.{key_of-nothing, key_of-folded}
 use Rattle.dict_match.proofs.key.key_of.Goals as goal
 use Rattle.dict_match.proofs.key.key_of.Goals.{then-is_empty+in_ok-bytes, else-is_empty}

@@ -1,16 +1,16 @@
 use Rattle.std.proofs.Common.{◌≡◌, ◌∷◌, ◌<◌, false, length, take, drop, get_or, sym, ap, ap₂, ◌∙◌, subst}
 use Rattle.std.specs.Option.{unwrap_or}
 use Rattle.dict_text.specs.Characters.{is_blank}
-use Rattle.dict_match.specs.Key.{without_leading_blanks}
+use Rattle.dict_text.specs.Blanks.{without_leading_blanks}
 use Rattle.std.proofs.lemmas.Bool.{eqb-true, eqb-false}
-use Rattle.dict_match.specs.Words.{words_of}
-use Rattle.dict_match.proofs.WordLemmas.{words_of-leading, leading_solid, first_word, empty_list, positive}
+use Rattle.dict_match.specs.Words.{words_between_blanks}
+use Rattle.dict_match.proofs.WordLemmas.{words_between_blanks-leading, leading_solid, first_word, empty_list, positive}
 use Rattle.dict_match.proofs.word.split_word.Goals as goal
 
 pub returns-then-is_empty : goal.returns-then-is_empty
 returns-then-is_empty c =
     let none = empty_list c.without_leading_blanks-start.result.now (eqb-true _ 0 (sym c.is_empty.ensures ∙ c.if-is_empty.true)) in
-    sym (words_of-leading c.args.bytes.now) ∙ ap words_of (sym c.without_leading_blanks-start.ensures ∙ none)
+    sym (words_between_blanks-leading c.args.bytes.now) ∙ ap words_between_blanks (sym c.without_leading_blanks-start.ensures ∙ none)
 
 pub returns : goal.returns
 returns c =
@@ -24,5 +24,5 @@ returns c =
     c.split_at.ensures.front ∙ ap (λ n. take n start) c.unwrap_or-end.ensures in
     let back : c.split_at.result.1.now ≡ drop (unwrap_or c.memchr2.result (length start)) start =
     c.split_at.ensures.back ∙ ap (λ n. drop n start) c.unwrap_or-end.ensures in
-    sym (words_of-leading c.args.bytes.now) ∙ ap words_of (sym c.without_leading_blanks-start.ensures) ∙ cut
-    ∙ ap₂ ◌∷◌ (sym front) (ap words_of (sym back))
+    sym (words_between_blanks-leading c.args.bytes.now) ∙ ap words_between_blanks (sym c.without_leading_blanks-start.ensures) ∙ cut
+    ∙ ap₂ ◌∷◌ (sym front) (ap words_between_blanks (sym back))

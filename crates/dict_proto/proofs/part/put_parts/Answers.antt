@@ -1,9 +1,9 @@
-use Rattle.dict_proto.proofs.PutLemmas.{puts_err}
+use Rattle.dict_io.proofs.PutLemmas.{puts_err}
 use Rattle.dict_proto.proofs.GatheringLemmas.{puts_gathered, front_gathered}
 use Rattle.dict_proto.proofs.part.put_parts.Goals as goal
 
-pub returns-in_err-add_parts-clause-octets : goal.returns-in_err-add_parts-clause-octets
-returns-in_err-add_parts-clause-octets g c = puts_err _ _ _ _ c.from_residual.ensures.0 (front_gathered _ _ _ _ c.new-gathered.ensures c.in_err-add_parts.ensures.octets)
+pub returns-in_err-add_parts : goal.returns-in_err-add_parts
+returns-in_err-add_parts g c = puts_err _ _ _ _ c.from_residual.ensures.0 (front_gathered _ _ _ _ c.new-gathered.ensures c.in_err-add_parts.ensures)
 
-pub returns-clause-octets : goal.returns-clause-octets
-returns-clause-octets g c = puts_gathered _ _ _ _ _ _ _ c.new-gathered.ensures c.in_ok-add_parts.ensures.octets c.put.ensures.octets
+pub returns : goal.returns
+returns g c = puts_gathered _ _ _ _ _ _ _ c.new-gathered.ensures c.in_ok-add_parts.ensures c.put.ensures.put

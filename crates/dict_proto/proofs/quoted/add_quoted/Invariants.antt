@@ -5,10 +5,7 @@ use Rattle.dict_proto.specs.Text.{escaped}
 use Rattle.dict_proto.proofs.quoted.add_quoted.Given as goal
 
 abbrev pub invariant-loop-front : goal.invariant-loop-front
-invariant-loop-front g l = record {
-  added : (done : List ℕ) × (34 ∷ flat_map escaped l.fn.text ≡ done ++ flat_map escaped l.rest) × Joins (g.K.Sink.octets l.fn.sink) (g.K.Sink.octets l.sink) l.fn.gathered.octets.items l.gathered.octets.items done;
-  count : g.K.Sink.failures l.sink ≡ g.K.Sink.failures l.fn.sink;
-}
+invariant-loop-front g l = (done : List ℕ) × (34 ∷ flat_map escaped l.fn.text ≡ done ++ flat_map escaped l.rest) × Joins (g.K.Sink.stream l.fn.sink) (g.K.Sink.stream l.sink) l.fn.gathered.octets.items l.gathered.octets.items done
 
 abbrev pub decreases-loop-front : goal.decreases-loop-front
 decreases-loop-front g l = length l.rest

@@ -1,6 +1,6 @@
 use Rattle.std.proofs.Common.{◌≡◌, ℕ, List, ◌∷◌, [], ◌++◌, codes, ap, subst, append_assoc}
 use Rattle.std.specs.Prelude.{decimal}
-use Rattle.dict_proto.specs.Octets.{Puts}
+use Rattle.dict_io.specs.Streams.{Puts}
 use Rattle.dict_proto.specs.Text.{crlf, sent_line}
 use Rattle.dict_proto.specs.Replies.{server_lines, server_information_octets}
 use Rattle.dict_proto.proofs.reply.put_server_information.Goals as goal
@@ -18,5 +18,5 @@ parts host count = ap (λ l. codes "114 server information" ++ (crlf ++ l)) (joi
 told : (shown host : List ℕ) (count : ℕ) → shown ≡ host → codes "114 server information" ++ (crlf ++ (codes "dictcat on " ++ (shown ++ (crlf ++ (codes "databases " ++ (decimal count ++ (crlf ++ (codes "." ++ crlf)))))))) ≡ server_information_octets host count
 told shown host count e = rw e (parts host count)
 
-pub returns-clause-octets : goal.returns-clause-octets
-returns-clause-octets g c = subst (Puts c.put_parts.result (g.K.Sink.octets c.args.sink.now) (g.K.Sink.octets c.put_parts.new.sink)) (told c.as_bytes.result.now c.args.host.now c.args.databases c.as_bytes.ensures.value) c.put_parts.ensures.octets
+pub returns : goal.returns
+returns g c = subst (Puts c.put_parts.result (g.K.Sink.stream c.args.sink.now) (g.K.Sink.stream c.put_parts.new.sink)) (told c.as_bytes.result.now c.args.host.now c.args.databases c.as_bytes.ensures.value) c.put_parts.ensures

@@ -6,7 +6,4 @@ use Rattle.dict_proto.specs.Text.{sent_line}
 use Rattle.dict_proto.proofs.text.add_lines.Given as goal
 
 abbrev pub invariant-loop-line : goal.invariant-loop-line
-invariant-loop-line g l = record {
-  added : (done : List (List ℕ)) × (text_lines l.fn.text ≡ done ++ l.line-iterator) × Joins (g.K.Sink.octets l.fn.sink) (g.K.Sink.octets l.sink) l.fn.gathered.octets.items l.gathered.octets.items (flat_map sent_line done);
-  count : g.K.Sink.failures l.sink ≡ g.K.Sink.failures l.fn.sink;
-}
+invariant-loop-line g l = (done : List (List ℕ)) × (text_lines l.fn.text ≡ done ++ l.line-iterator) × Joins (g.K.Sink.stream l.fn.sink) (g.K.Sink.stream l.sink) l.fn.gathered.octets.items l.gathered.octets.items (flat_map sent_line done)

@@ -1,6 +1,6 @@
 use Rattle.dict_session.specs.Shows.{status_answer}
 use Rattle.dict_session.proofs.show.put_status.Goals as goal
 
-pub returns-clause-octets : goal.returns-clause-octets
+pub returns : goal.returns
 unfolding status_answer
-returns-clause-octets g c = c.write_reply.ensures.octets
+returns g c = c.write_reply.ensures

@@ -1,9 +1,26 @@
-use Rattle.std.proofs.Common.{subst}
-use Rattle.dict_proto.specs.Octets.{Puts}
-use Rattle.dict_session.proofs.ShowLemmas.{strategies_are}
+use Rattle.std.proofs.Common.{◌++◌, length, subst}
+use Rattle.std.specs.List.{flat_map}
+use Rattle.dict_io.specs.Streams.{Puts}
+use Rattle.dict_io.proofs.PutLemmas.{puts_err, puts_after, front_after, front_longer}
+use Rattle.dict_match.specs.StrategyText.{strategies}
+use Rattle.dict_proto.specs.Replies.{strategy_count_octets, list_end_octets, done_octets}
+use Rattle.dict_session.specs.Shows.{strategy_line, strategies_answer}
+use Rattle.dict_session.proofs.ShowLemmas.{end_is}
 use Rattle.dict_session.proofs.show.put_strategies.Goals as goal
 
-pub returns-clause-octets : goal.returns-clause-octets
-returns-clause-octets g c =
-    subst (Puts c.put_replies.result (g.K.Sink.octets c.args.sink.now) (g.K.Sink.octets c.put_replies.new.sink))
-    (strategies_are _ _ _ _ _ _ _ c.line_of.ensures c.line_of-2.ensures c.line_of-3.ensures c.line_of-4.ensures c.line_of-5.ensures c.line_of-6.ensures c.line_of-7.ensures) c.put_replies.ensures.octets
+pub returns-in_err-write_reply : goal.returns-in_err-write_reply
+unfolding strategies_answer
+returns-in_err-write_reply g c = puts_err _ _ _ _ c.from_residual.ensures.0 (front_longer _ _ (strategy_count_octets (length strategies)) (flat_map strategy_line strategies ++ (list_end_octets ++ done_octets)) c.in_err-write_reply.ensures)
+
+pub returns-in_err-put_strategy_lines : goal.returns-in_err-put_strategy_lines
+unfolding strategies_answer
+returns-in_err-put_strategy_lines g c =
+    puts_err _ _ _ _ c.from_residual-in_err-put_strategy_lines.ensures.0 (front_after _ _ _ (strategy_count_octets (length strategies)) (flat_map strategy_line strategies ++ (list_end_octets ++ done_octets)) c.in_ok-write_reply.ensures
+    (front_longer _ _ (flat_map strategy_line strategies) (list_end_octets ++ done_octets) c.in_err-put_strategy_lines.ensures))
+
+pub returns : goal.returns
+unfolding strategies_answer
+returns g c =
+    puts_after c.put_replies.result _ _ _ (strategy_count_octets (length strategies)) (flat_map strategy_line strategies ++ (list_end_octets ++ done_octets)) c.in_ok-write_reply.ensures
+    (puts_after c.put_replies.result _ _ _ (flat_map strategy_line strategies) (list_end_octets ++ done_octets) c.in_ok-put_strategy_lines.ensures
+    (subst (Puts c.put_replies.result (g.K.Sink.stream c.put_strategy_lines.new.sink) (g.K.Sink.stream c.put_replies.new.sink)) end_is c.put_replies.ensures))

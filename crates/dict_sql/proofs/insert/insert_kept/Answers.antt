@@ -1,26 +1,34 @@
+use Rattle.std.proofs.Common.{codes, rules, ap, arith}
+use mir.Syntax.{w64}
+use mir.Val.{SFits}
 use Rattle.sqlite.specs.Held.{state}
-use Rattle.std.proofs.Common.{ap, arith}
+use Rattle.dict_records.specs.Records.{Kept}
+use Rattle.dict_records.specs.Typed.{lent_kept}
 use Rattle.dict_sql.specs.Inserts.{insert_kept}
-use Rattle.dict_sql.specs.Records.{Kept, kept_row}
+use Rattle.dict_sql.specs.Encodings.{kept_row}
+use Rattle.dict_sql.specs.Effects.{seen}
 use Rattle.dict_sql.proofs.NumberLemmas.{bound_int}
 use Rattle.dict_sql.proofs.StateLemmas.{inside, fails_in}
+use Rattle.dict_sql.proofs.RefusalLemmas.{adds_aside}
 use Rattle.dict_sql.proofs.AddRefusals.{kept_fails}
 use Rattle.dict_sql.proofs.AddLemmas.{adds_kept, bound_number}
 use Rattle.dict_sql.proofs.insert.insert_kept.Goals as goal
 
 pub returns-clause-added : goal.returns-clause-added
 returns-clause-added g c clean =
-    let old = state g.S.Store c.args.tx.now.conn.now in
-    let new = state g.S.Store c.execute.new.self.conn.now in
-    let given : Kept = record { id = c.args.id.now; number = c.args.number; verb = c.args.verb.now; name = c.args.name.now; edition = c.args.edition } in
-    inside insert_kept (kept_row given) old new c.execute.result (λ count. adds_kept old new given count (c.requires (omega (arith, c.execute.ensures.survives.clean)))) (λ outside. (c.execute.ensures.ended outside).0)
-    (λ within. rw (c.params-to_sql.ensures, (bound_int _ c.args.number c.ranges.number c.params-to_sql-2.ensures), c.params-to_sql-3.ensures, c.params-to_sql-4.ensures, c.params-to_sql-5.ensures, bound_number c.args.edition) at (c.execute.ensures.runs clean within))
+    let old = seen g.S.Store c.args.tx.now in
+    let new = seen g.S.Store c.execute.new.self in
+    let given : Kept = lent_kept c.args.given.now in
+    let fits_number : SFits w64 c.args.given.now.number = search rules in
+    inside insert_kept (kept_row given) old new c.execute.result (λ open' count. adds_kept old new given count (c.requires (omega (arith, c.execute.ensures.survives.clean)) open')) (λ outside. (c.execute.ensures.ended outside).0)
+    (λ within. rw (c.params-to_sql.ensures, (bound_int _ c.args.given.now.number fits_number c.params-to_sql-2.ensures), c.params-to_sql-3.ensures, c.params-to_sql-4.ensures, c.params-to_sql-5.ensures, bound_number c.args.given.now.edition) at (c.execute.ensures.runs clean within))
 
 pub returns-clause-failed : goal.returns-clause-failed
 returns-clause-failed g c clean =
-    let old = state g.S.Store c.args.tx.now.conn.now in
-    let new = state g.S.Store c.execute.new.self.conn.now in
-    let given : Kept = record { id = c.args.id.now; number = c.args.number; verb = c.args.verb.now; name = c.args.name.now; edition = c.args.edition } in
-    fails_in _ _ old new insert_kept _ c.execute.result (λ outside. ((c.execute.ensures.ended outside).0, ap (state g.S.Store) (c.execute.ensures.ended outside).1))
-    (λ within. rw (c.params-to_sql.ensures, (bound_int _ c.args.number c.ranges.number c.params-to_sql-2.ensures), c.params-to_sql-3.ensures, c.params-to_sql-4.ensures, c.params-to_sql-5.ensures, bound_number c.args.edition) at (c.execute.ensures.runs clean within))
-    (λ e. kept_fails old new given e (c.requires (omega (arith, c.execute.ensures.survives.clean))))
+    let old = seen g.S.Store c.args.tx.now in
+    let new = seen g.S.Store c.execute.new.self in
+    let given : Kept = lent_kept c.args.given.now in
+    let fits_number : SFits w64 c.args.given.now.number = search rules in
+    fails_in _ _ (adds_aside (codes "kept") (kept_row given) old) old new insert_kept _ c.execute.result (λ outside. ((c.execute.ensures.ended outside).0, ap (state g.S.Store) (c.execute.ensures.ended outside).1))
+    (λ within. rw (c.params-to_sql.ensures, (bound_int _ c.args.given.now.number fits_number c.params-to_sql-2.ensures), c.params-to_sql-3.ensures, c.params-to_sql-4.ensures, c.params-to_sql-5.ensures, bound_number c.args.given.now.edition) at (c.execute.ensures.runs clean within))
+    (λ open' e. kept_fails old new given e (c.requires (omega (arith, c.execute.ensures.survives.clean)) open'))

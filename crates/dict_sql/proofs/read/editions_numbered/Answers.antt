@@ -3,7 +3,7 @@ use Rattle.std.proofs.lemmas.Int.{to_z-of_z}
 use mir.Syntax.{w64}
 use Rattle.sqlite.specs.Held.{state}
 use Rattle.dict_sql.specs.Effects.{equals_number, rows_of}
-use Rattle.dict_sql.specs.Stored.{edition_columns}
+use Rattle.dict_sql.specs.Columns.{edition_columns}
 use Rattle.dict_sql.proofs.StreamLemmas.{fails_to_read_into}
 use Rattle.dict_sql.proofs.read.editions_numbered.Goals as goal
 

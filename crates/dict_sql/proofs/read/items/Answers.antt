@@ -1,7 +1,7 @@
 use Rattle.std.proofs.Common.{codes}
 use Rattle.sqlite.specs.Held.{state}
 use Rattle.dict_sql.specs.Effects.{rows_of}
-use Rattle.dict_sql.specs.Stored.{item_columns}
+use Rattle.dict_sql.specs.Columns.{item_columns}
 use Rattle.dict_sql.proofs.StreamLemmas.{fails_to_read_into}
 use Rattle.dict_sql.proofs.read.items.Goals as goal
 

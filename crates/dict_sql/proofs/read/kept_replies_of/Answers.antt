@@ -1,7 +1,7 @@
 use Rattle.std.proofs.Common.{codes, filter}
 use Rattle.sqlite.specs.Held.{state}
 use Rattle.dict_sql.specs.Effects.{equals_text, rows_of}
-use Rattle.dict_sql.specs.Stored.{kept_columns}
+use Rattle.dict_sql.specs.Columns.{kept_columns}
 use Rattle.dict_sql.proofs.StreamLemmas.{fails_to_read_into}
 use Rattle.dict_sql.proofs.read.kept_replies_of.Goals as goal
 

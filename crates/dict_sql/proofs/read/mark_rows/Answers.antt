@@ -18,4 +18,4 @@ returns-clause-failed g c clean =
 
 pub returns-clause-survives : goal.returns-clause-survives
 returns-clause-survives g c =
-    reads_nothing_else select_mark read_mark mark _ _ _ _ _ _ _ _ reads_mark (λ tree. refl) [] (λ _. true) (λ tree row. refl) (state g.S.Store c.args.conn.now) (state g.S.Store c.query_all.new.self) c.requires c.query_all.ensures.survives
+    reads_nothing_else select_mark read_mark mark _ _ _ _ _ _ _ _ reads_mark (λ tree. refl) [] (λ _. true) (λ tree row. refl) (state g.S.Store c.args.conn.now) (state g.S.Store c.query_all.new.self) c.query_all.ensures.survives

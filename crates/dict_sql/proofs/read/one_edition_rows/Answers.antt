@@ -22,5 +22,5 @@ returns-clause-failed g c clean =
 
 pub returns-clause-survives : goal.returns-clause-survives
 returns-clause-survives g c =
-    reads_nothing_else select_one_edition read_one_edition edition _ _ _ _ _ _ _ _ reads_one_edition (λ tree. refl) (Int c.args.number ∷ []) (equals_number 1 c.args.number) (λ tree row. edition_read tree c.args.number row) (state g.S.Store c.args.conn.now) (state g.S.Store c.query_all.new.self) c.requires
+    reads_nothing_else select_one_edition read_one_edition edition _ _ _ _ _ _ _ _ reads_one_edition (λ tree. refl) (Int c.args.number ∷ []) (equals_number 1 c.args.number) (λ tree row. edition_read tree c.args.number row) (state g.S.Store c.args.conn.now) (state g.S.Store c.query_all.new.self)
     (rw (bound_int _ c.args.number c.ranges.number c.params-to_sql.ensures) at c.query_all.ensures.survives)

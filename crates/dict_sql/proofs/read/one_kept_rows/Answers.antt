@@ -21,5 +21,5 @@ returns-clause-failed g c clean =
 
 pub returns-clause-survives : goal.returns-clause-survives
 returns-clause-survives g c =
-    reads_nothing_else select_one_kept read_one_kept kept _ _ _ _ _ _ _ _ reads_one_kept (λ tree. refl) (Text c.args.id.now ∷ []) (equals_text 1 c.args.id.now) (λ tree row. kept_read tree c.args.id.now row) (state g.S.Store c.args.conn.now) (state g.S.Store c.query_all.new.self) c.requires
+    reads_nothing_else select_one_kept read_one_kept kept _ _ _ _ _ _ _ _ reads_one_kept (λ tree. refl) (Text c.args.id.now ∷ []) (equals_text 1 c.args.id.now) (λ tree row. kept_read tree c.args.id.now row) (state g.S.Store c.args.conn.now) (state g.S.Store c.query_all.new.self)
     (rw c.params-to_sql.ensures at c.query_all.ensures.survives)

@@ -1,8 +1,9 @@
-use Rattle.std.proofs.Common.{List, [], ◌∷◌, ◌++◌, Some, None, inl, inr, sym, subst}
+use Rattle.std.proofs.Common.{List, [], ◌∷◌, ◌++◌, Some, None, inl, sym, subst}
 use Rattle.sqlite.specs.Order.{Row}
 use Rattle.sqlite.specs.Given as kit
-use Rattle.dict_sql.specs.Streams.{Reading, HasGiven, FailsToGive}
-use Rattle.dict_sql.proofs.StreamLemmas.{gives_on, fails_to_advance, passed_on}
+use Rattle.dict_sql.specs.Streams.{Scan, HasGiven, FailsToGive}
+use Rattle.dict_sql.proofs.StreamLemmas.{gives_on, fails_to_advance, fails_to_decode, passed_on}
+use Rattle.dict_sql.specs.declared.records.ReadError.TheVariants.{Store}
 use Rattle.dict_sql.proofs.stream.next_record.Goals as goal
 
 pub returns-in_err-advance-clause-failed : goal.returns-in_err-advance-clause-failed
@@ -11,8 +12,8 @@ returns-in_err-advance-clause-failed g c clean =
     let new = c.advance.new.self.conn.now in
     let e = c.in_err-advance.field-0.0 in
     let why = c.in_err-advance.ensures in
-    let fails : (what : Reading) (given : List Row) → HasGiven g.S.Store what old given → FailsToGive g.S.Store g.R.Record.columns what old new given e = λ what given h. inl (fails_to_advance g.S.Store what old new given e h (why.err clean), why.ends why.failed) in
-    passed_on (λ e. (what : Reading) (given : List Row) → HasGiven g.S.Store what old given → FailsToGive g.S.Store g.R.Record.columns what old new given e) e c.from_residual.result c.from_residual.ensures.1 fails
+    let fails : (what : Scan) (given : List Row) → HasGiven g.S.Store what old given → FailsToGive g.S.Store g.R.Record.columns what old new given (Store e) = λ what given h. inl (fails_to_advance g.S.Store what old new given e h (why.err clean), why.ends why.failed) in
+    passed_on (λ e. (what : Scan) (given : List Row) → HasGiven g.S.Store what old given → FailsToGive g.S.Store g.R.Record.columns what old new given e) (Store e) c.from_residual.result c.from_residual.ensures.1 fails
 
 pub returns-in_err-from_row-in-Some-clause-failed : goal.returns-in_err-from_row-in-Some-clause-failed
 returns-in_err-from_row-in-Some-clause-failed g c clean =
@@ -22,8 +23,9 @@ returns-in_err-from_row-in-Some-clause-failed g c clean =
     let e = c.in_err-from_row-in-Some.field-0.0 in
     let same = c.in_ok-advance.ensures.same clean in
     let moved = subst (kit.Advances g.S.Store old new) (sym c.in-Some.ensures) (c.in_ok-advance.ensures.ok clean) in
-    let fails : (what : Reading) (given : List Row) → HasGiven g.S.Store what old given → FailsToGive g.S.Store g.R.Record.columns what old new given e = λ what given h. inr (same, (row, gives_on g.S.Store what old new given (Some row) same h moved, c.in_err-from_row-in-Some.ensures.refused)) in
-    passed_on (λ e. (what : Reading) (given : List Row) → HasGiven g.S.Store what old given → FailsToGive g.S.Store g.R.Record.columns what old new given e) e c.from_residual-in_err-from_row-in-Some.result c.from_residual-in_err-from_row-in-Some.ensures.1 fails
+    let fails : (what : Scan) (given : List Row) → HasGiven g.S.Store what old given → FailsToGive g.S.Store g.R.Record.columns what old new given e =
+    λ what given h. fails_to_decode g.S.Store what g.R.Record.columns old new given row e (same, gives_on g.S.Store what old new given (Some row) same h moved) c.in_err-from_row-in-Some.ensures.refused in
+    passed_on (λ e. (what : Scan) (given : List Row) → HasGiven g.S.Store what old given → FailsToGive g.S.Store g.R.Record.columns what old new given e) e c.from_residual-in_err-from_row-in-Some.result c.from_residual-in_err-from_row-in-Some.ensures.1 fails
 
 pub returns-in_ok-from_row-in-Some-clause-given : goal.returns-in_ok-from_row-in-Some-clause-given
 returns-in_ok-from_row-in-Some-clause-given g c clean what given h =

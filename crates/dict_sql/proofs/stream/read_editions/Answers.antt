@@ -1,5 +1,5 @@
 use Rattle.std.proofs.Common.{refl}
-use Rattle.dict_sql.specs.Streams.Reading.{AllEditions}
+use Rattle.dict_sql.specs.Streams.Scan.{AllEditions}
 use Rattle.dict_sql.proofs.StreamLemmas.{begins, begins_alone, not_begun}
 use Rattle.dict_sql.proofs.stream.read_editions.Goals as goal
 

@@ -1,5 +1,5 @@
 use Rattle.std.proofs.Common.{refl}
-use Rattle.dict_sql.specs.Streams.Reading.{AllEntries}
+use Rattle.dict_sql.specs.Streams.Scan.{AllEntries}
 use Rattle.dict_sql.proofs.StreamLemmas.{begins, begins_alone, not_begun}
 use Rattle.dict_sql.proofs.stream.read_entries.Goals as goal
 

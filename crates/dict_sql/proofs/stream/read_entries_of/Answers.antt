@@ -1,5 +1,5 @@
 use Rattle.std.proofs.Common.{refl}
-use Rattle.dict_sql.specs.Streams.Reading.{EntriesOf}
+use Rattle.dict_sql.specs.Streams.Scan.{EntriesOf}
 use Rattle.dict_sql.proofs.NumberLemmas.{bound_int}
 use Rattle.dict_sql.proofs.StreamLemmas.{begins, begins_alone, not_begun}
 use Rattle.dict_sql.proofs.stream.read_entries_of.Goals as goal

@@ -1,5 +1,5 @@
 use Rattle.std.proofs.Common.{refl}
-use Rattle.dict_sql.specs.Streams.Reading.{AllKept}
+use Rattle.dict_sql.specs.Streams.Scan.{AllKept}
 use Rattle.dict_sql.proofs.StreamLemmas.{begins, begins_alone, not_begun}
 use Rattle.dict_sql.proofs.stream.read_kept_replies.Goals as goal
 

@@ -11,16 +11,14 @@ use Rattle.dict_index.specs.Reserved.{is_reserved, is_known}
 use Rattle.dict_index.proofs.GatheredLemmas.{gathers_entry, passes_entry, unknown_fails, known_passes, twice_fails, once_passes, gathers_reserved}
 use Rattle.dict_index.proofs.gather.Gathered.add.Goals as goal
 
--- a line that isn't reserved
-plain : (c : goal.In-Ok) → is_reserved (key_of c.args.read.headword.now) ≡ false
-plain c = ap is_reserved (sym (c.as_bytes.ensures ∙ c.requires.key)) ∙ (sym c.is_reserved_key.ensures ∙ c.if-not-is_reserved_key.true)
+pub returns-then-not-is_reserved_key-clause-added : goal.returns-then-not-is_reserved_key-clause-added
+returns-then-not-is_reserved_key-clause-added c text lines line l body g =
+    gathers_entry text lines line c.args.self.now (record { entries = c.push.new.self; reserved = c.args.self.now.reserved }) c.args.read l
+    (ap is_reserved (sym (c.as_bytes.ensures ∙ c.requires.key)) ∙ (sym c.is_reserved_key.ensures ∙ c.if-not-is_reserved_key.true)) c.in-Ok.ensures.items refl body c.requires.key g
 
-pub returns-in-Ok-clause-added : goal.returns-in-Ok-clause-added
-returns-in-Ok-clause-added c text lines line l body g =
-    gathers_entry text lines line c.args.self.now (record { entries = c.push.new.self; reserved = c.args.self.now.reserved }) c.args.read l (plain c) c.in-Ok.ensures.items refl body g
-
-pub returns-in-Ok-clause-passes : goal.returns-in-Ok-clause-passes
-returns-in-Ok-clause-passes c text lines line l g = passes_entry text lines line c.args.self.now c.args.self.now c.args.read l (plain c)
+pub returns-then-not-is_reserved_key-clause-passes : goal.returns-then-not-is_reserved_key-clause-passes
+returns-then-not-is_reserved_key-clause-passes c text lines line l g =
+    passes_entry text lines line c.args.self.now c.args.self.now c.args.read l (ap is_reserved (sym (c.as_bytes.ensures ∙ c.requires.key)) ∙ (sym c.is_reserved_key.ensures ∙ c.if-not-is_reserved_key.true))
 
 pub returns-then-not-is_known_key-clause-refused : goal.returns-then-not-is_known_key-clause-refused
 returns-then-not-is_known_key-clause-refused c text lines line l g = unknown_fails text lines line c.args.self.now c.args.self.now c.args.read l

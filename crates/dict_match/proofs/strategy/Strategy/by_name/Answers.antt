@@ -1,38 +1,13 @@
-use Rattle.dict_match.specs.StrategyText.{name_of}
-use Rattle.dict_match.specs.declared.strategy.Strategy.TheVariants.{Exact, Prefix, Suffix, Substring, Word, First, Last}
-use Rattle.dict_match.proofs.StrategyLemmas.{one_name, no_name}
+use Rattle.std.proofs.Common.{sym, ◌∙◌, arith}
+use Rattle.std.proofs.lemmas.Grind.{common_steps}
+use Rattle.std.proofs.lemmas.Slice.Eq.{bytes_eq-Decides}
+use Rattle.dict_match.proofs.StrategyLemmas.{named_only, one_name}
 use Rattle.dict_match.proofs.strategy.Strategy.by_name.Goals as goal
 
-pub returns-in-exact : goal.returns-in-exact
-unfolding name_of
-returns-in-exact c = λ strategy. one_name c.args.name.now Exact strategy c.in-exact.is
+pub returns-then-eq-clause-only : goal.returns-then-eq-clause-only
+returns-then-eq-clause-only c t =
+    let is_name = (bytes_eq-Decides c.name.result.now c.args.name.now).0 (sym c.eq.ensures ∙ c.if-eq.true) in
+    one_name c.args.name.now _ t (sym is_name ∙ c.name.ensures)
 
-pub returns-in-prefix : goal.returns-in-prefix
-unfolding name_of
-returns-in-prefix c = λ strategy. one_name c.args.name.now Prefix strategy c.in-prefix.is
-
-pub returns-in-suffix : goal.returns-in-suffix
-unfolding name_of
-returns-in-suffix c = λ strategy. one_name c.args.name.now Suffix strategy c.in-suffix.is
-
-pub returns-in-substring : goal.returns-in-substring
-unfolding name_of
-returns-in-substring c = λ strategy. one_name c.args.name.now Substring strategy c.in-substring.is
-
-pub returns-in-word : goal.returns-in-word
-unfolding name_of
-returns-in-word c = λ strategy. one_name c.args.name.now Word strategy c.in-word.is
-
-pub returns-in-first : goal.returns-in-first
-unfolding name_of
-returns-in-first c = λ strategy. one_name c.args.name.now First strategy c.in-first.is
-
-pub returns-in-last : goal.returns-in-last
-unfolding name_of
-returns-in-last c = λ strategy. one_name c.args.name.now Last strategy c.in-last.is
-
-pub returns-in_default : goal.returns-in_default
-unfolding name_of
-returns-in_default c =
-    no_name c.args.name.now c.in_default.not-exact c.in_default.not-prefix c.in_default.not-suffix c.in_default.not-substring c.in_default.not-word
-    c.in_default.not-first c.in_default.not-last
+pub returns-clause-only : goal.returns-clause-only
+returns-clause-only c = named_only c.args.name.now _ (grind (arith, common_steps))

@@ -1,9 +1,8 @@
-use Rattle.std.proofs.Common.{◌≡◌, codes, arith, rules, subst, sym, OnOk}
+use Rattle.std.proofs.Common.{◌≡◌, arith, rules, subst, sym, OnOk, codes}
 use Rattle.sqlite.specs.State.{HasCleanDisk}
 use Rattle.sqlite.specs.Held.{state}
 use Rattle.dict_sql.specs.Effects.{HasApartRowids, rows_of}
-use Rattle.dict_sql.proofs.Callers.{apart_added}
-use Rattle.dict_sql_tests.proofs.ApartLemmas.{after_commit}
+use Rattle.dict_sql.proofs.Callers.{apart_added, after_commit}
 use Rattle.dict_sql_tests.proofs.tests.marks.put.Goals as goal
 
 pub returns : goal.returns

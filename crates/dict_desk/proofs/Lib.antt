@@ -1,0 +1,10 @@
+pub mod LeavesLemmas
+pub mod HandingLemmas
+mod HeadwordLemmas
+mod SeenLemmas
+mod DistinctLemmas
+mod RowLemmas
+mod PlainLemmas
+mod DeskLemmas
+mod ReplyLemmas
+mod AcceptLemmas

@@ -1,0 +1,47 @@
+-- What is found in an edition that is kept in memory.
+use Rattle.std.proofs.Common.{◌≡◌, ℕ, List, [], length, map, sym, ap, ◌∙◌}
+use Rattle.std.specs.Prelude.{filter}
+use Rattle.std.proofs.lemmas.List.{length-map}
+use Rattle.dict_match.specs.declared.strategy.Strategy.{Strategy}
+use Rattle.dict_index.specs.Edition.{Edition, Entry, ReadEdition, entry_in, edition_of}
+use Rattle.dict_index.specs.Line.{Line}
+use Rattle.dict_catalogue.specs.Items.{Stored}
+use Rattle.dict_desk.specs.Found.{is_found, found, headwords}
+use Rattle.dict_desk.specs.Shown.{row, headword_rows}
+use Rattle.dict_desk.specs.PlainEntries.{line_of, entry_of, headword_of, AreMarked, is_hit_of, is_listed, rows_found, rows_listed}
+use Rattle.dict_desk.specs.declared.entries.OwnedEntry.{OwnedEntry}
+use Rattle.dict_desk.proofs.HeadwordLemmas.{headwords_listed}
+use Rattle.dict_desk.proofs.RowLemmas.{chosen_after, mapped_twice}
+
+module _ (title info text : List ℕ) (strategy : Strategy) (query : List ℕ) (entries : List OwnedEntry) where
+  abbrev whole : Edition
+  whole = record { title = title; info = info; entries = map (entry_of text) entries }
+
+  pub rows_are_found : rows_found text strategy query entries ≡ found strategy query whole
+  rows_are_found = sym (chosen_after (entry_of text) (is_found strategy query) entries)
+
+  pub count_is_found : length (filter (is_hit_of strategy query) entries) ≡ length (found strategy query whole)
+  count_is_found = sym (length-map (filter (is_hit_of strategy query) entries) (entry_of text)) ∙ ap length rows_are_found
+
+  pub rows_are_listed : AreMarked [] entries → rows_listed strategy query entries ≡ headword_rows strategy query whole
+  rows_are_listed marks =
+      sym (mapped_twice headword_of (λ (headword : List ℕ). row headword []) (filter (is_listed strategy query) entries))
+      ∙ ap (map (λ (headword : List ℕ). row headword [])) (sym (headwords_listed text strategy query entries marks))
+
+  pub count_is_listed : AreMarked [] entries → length (filter (is_listed strategy query) entries) ≡ length (headwords (found strategy query whole))
+  count_is_listed marks = sym (length-map (filter (is_listed strategy query) entries) headword_of) ∙ ap length (sym (headwords_listed text strategy query entries marks))
+
+abbrev stored : ℕ → Edition → Stored Edition
+stored number edition = record { number = number; content = edition }
+
+-- an edition that was read, kept as its parts
+pub kept_as_read : (number : ℕ) (reading : ReadEdition) (title info text : List ℕ) (entries : List OwnedEntry) (lines : List Line) → title ≡ reading.title → info ≡ reading.info → text ≡ reading.text
+    → map line_of entries ≡ lines → lines ≡ reading.lines
+    → stored number (record { title = title; info = info; entries = map (entry_of text) entries }) ≡ stored number (edition_of reading)
+kept_as_read number reading title info text entries lines t i x e l =
+    same title reading.title info reading.info (map (entry_of text) entries) (map (entry_in reading.text) reading.lines) t i
+    (sym (mapped_twice line_of (entry_in text) entries) ∙ (ap (map (entry_in text)) (e ∙ l) ∙ ap (λ (y : List ℕ). map (entry_in y) reading.lines) x))
+  where
+    same : (t1 t2 i1 i2 : List ℕ) (e1 e2 : List Entry) → t1 ≡ t2 → i1 ≡ i2 → e1 ≡ e2
+        → stored number (record { title = t1; info = i1; entries = e1 }) ≡ stored number (record { title = t2; info = i2; entries = e2 })
+    same t1 t2 i1 i2 e1 e2 p q r = cc

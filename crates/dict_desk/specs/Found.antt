@@ -1,0 +1,27 @@
+-- What a query finds in an edition. RFC 2229, sections 3.2 and 3.3.
+use Rattle.std.specs.Prelude.{ℕ, Bool, not, List, [], ◌∷◌, map, filter}
+use Rattle.std.specs.Str.{bytes_eq}
+use Rattle.dict_match.specs.Key.{key_of}
+use Rattle.dict_match.specs.Matching.{is_hit}
+use Rattle.dict_match.specs.declared.strategy.Strategy.{Strategy}
+use Rattle.dict_index.specs.Edition.{Edition, Entry}
+
+-- a query's key finds the key of this headword
+abbrev pub is_headword_found : Strategy → List ℕ → List ℕ → Bool
+is_headword_found strategy query headword = is_hit strategy query (key_of headword)
+
+abbrev pub is_found : Strategy → List ℕ → Entry → Bool
+is_found strategy query entry = is_headword_found strategy query entry.headword
+
+-- the entries whose keys a query's key finds by a strategy, in the order of the index
+abbrev pub found : Strategy → List ℕ → Edition → List Entry
+found strategy query edition = filter (is_found strategy query) edition.entries
+
+-- each of these texts once, where it stands first: the first text, and then those of the others that differ from it
+abbrev pub distinct : List (List ℕ) → List (List ℕ)
+distinct [] = []
+distinct (text ∷ texts) = text ∷ filter (λ other. not (bytes_eq other text)) (distinct texts)
+
+-- the headwords of these entries, each once, where it stands first
+abbrev pub headwords : List Entry → List (List ℕ)
+headwords entries = distinct (map (λ entry. entry.headword) entries)

@@ -1,0 +1,9 @@
+pub mod Found
+pub mod Asked
+pub mod Faults
+pub mod Shown
+pub mod Handing
+pub mod Applying
+pub mod PlainEntries
+pub mod Plain
+pub mod Worked

@@ -1,0 +1,49 @@
+-- A small catalogue, and what it is asked, worked by hand.
+use Rattle.std.specs.Prelude.{ℕ, List, [], ◌∷◌, codes, Option, Some, None}
+use Rattle.dict_index.specs.Edition.{Edition, Entry}
+use Rattle.dict_catalogue.specs.Items.{regular, virtual}
+use Rattle.dict_catalogue.specs.Steps.{Catalogue}
+use Rattle.dict_desk.specs.Asked.{Definition, Match}
+
+abbrev pub iron : Entry
+iron = record { headword = codes "iron"; body = codes "iron\n  ore\n" }
+
+abbrev pub opal : Entry
+opal = record { headword = codes "opal"; body = codes "opal\n  a stone\n" }
+
+abbrev pub fire_opal : Entry
+fire_opal = record { headword = codes "Fire Opal"; body = codes "opal\n  a stone\n" }
+
+abbrev pub dot : Entry
+dot = record { headword = codes "dot"; body = codes ".dot\n" }
+
+abbrev pub dot_again : Entry
+dot_again = record { headword = codes "dot"; body = codes "a dot\n" }
+
+abbrev pub ores : Edition
+ores = record { title = codes "Ores"; info = []; entries = iron ∷ [] }
+
+abbrev pub gems : Edition
+gems = record { title = codes "Gems"; info = []; entries = opal ∷ fire_opal ∷ dot ∷ [] }
+
+abbrev pub old_gems : Edition
+old_gems = record { title = codes "Old"; info = []; entries = opal ∷ dot ∷ opal ∷ dot_again ∷ [] }
+
+-- `ore`, then `gem` with a former edition, then `all`, which lists both in the other order
+abbrev pub worked_catalogue : Catalogue
+worked_catalogue = record {
+  items = regular (codes "ore") (record { number = 3; content = ores }) None
+      ∷ regular (codes "gem") (record { number = 2; content = gems }) (Some (record { number = 1; content = old_gems }))
+      ∷ virtual (codes "all") (codes "All") (codes "gem" ∷ codes "ore" ∷ []) ∷ [];
+  kept = [];
+  installs = 3;
+}
+
+abbrev pub of_gem : Entry → Definition
+of_gem entry = record { name = codes "gem"; title = codes "Gems"; headword = entry.headword; body = entry.body }
+
+abbrev pub in_gem : List ℕ → Match
+in_gem headword = record { name = codes "gem"; headword = headword }
+
+abbrev pub in_ore : List ℕ → Match
+in_ore headword = record { name = codes "ore"; headword = headword }

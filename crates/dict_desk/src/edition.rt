@@ -1,0 +1,116 @@
+// An edition that is kept in memory.
+ghost use Rattle.std.specs.Prelude.{◌≡◌, ◌≤◌, ◌==◌, not, filter, IfOk, option_map, vec_capacity, vec_len};
+ghost use Rattle.std.specs.List.{list_any};
+ghost use Rattle.dict_desk.specs.Plain.{numbered};
+ghost use Rattle.dict_index.specs.Edition.{edition_of};
+ghost use Rattle.dict_desk.specs.Found.{found};
+ghost use Rattle.dict_desk.specs.Shown.{headword_rows, info_rows, count_of};
+
+use crate::entries::{
+    OwnedEntry, count_found, count_listed, hand_found, hand_listed, owned_entries,
+};
+use crate::lookup::{End, What};
+use crate::sink::{RowSink, Turn};
+use dict_index::Edition;
+use dict_match::Strategy;
+use std::alloc::{AllocError, Global};
+use std::marker::Model;
+
+/// An edition with its number: one text, and the entries with their keys and with marks of which of them are the first
+/// of their headwords.
+#[derive(Drop)]
+pub(crate) struct PlainEdition {
+    number: u64,
+    title: String,
+    info: String,
+    text: Vec<u8>,
+    entries: Vec<OwnedEntry>,
+}
+
+impl Model for PlainEdition {
+    ghost use Rattle.std.specs.Prelude.{[], map, string_bytes};
+    ghost use Rattle.std.specs.List.{AllByRecursion};
+    ghost use Rattle.dict_index.specs.Edition.{Edition};
+    ghost use Rattle.dict_catalogue.specs.Items.{Stored};
+    ghost use Rattle.dict_desk.specs.PlainEntries.{entry_of, HasItsKey, AreMarked};
+
+    ghost Value = { Stored Edition };
+
+    ghost view = { λ e. record { number = e.number; content = record { title = string_bytes e.title; info = string_bytes e.info; entries = map (entry_of e.text.items) e.entries.items } } };
+
+    ghost invariant = { λ e. AllByRecursion HasItsKey e.entries.items × AreMarked [] e.entries.items };
+}
+
+// The edition of this number.
+pub(crate) fn edition_numbered(editions: &[PlainEdition], number: u64) -> Option<&PlainEdition>
+    ensures { option_map (λ edition. edition.now) result ≡ numbered number editions.now }
+{
+    editions.iter().find(|edition| edition.number() == number)
+}
+
+// Takes out the editions of these numbers.
+pub(crate) fn take_out(editions: &mut Vec<PlainEdition>, gone: &[u64])
+    ensures items { editions.new.items ≡ filter (λ stored. not (list_any (λ one. one == stored.number) gone.now)) editions.old.items }
+    ensures capacity { vec_capacity editions.new ≡ vec_capacity editions.old }
+    ensures len { vec_len editions.new ≤ vec_len editions.old }
+{
+    editions.retain(|edition| !gone.contains(&edition.number()));
+}
+
+impl PlainEdition {
+    /// The edition, with memory of its own.
+    pub(crate) fn new(alloc: Global, number: u64, edition: &Edition) -> Result<Self, AllocError>
+        ensures { IfOk result (λ plain. plain ≡ record { number = number; content = edition_of edition.now }) }
+    {
+        Ok(PlainEdition {
+            number,
+            title: String::from_str(alloc, edition.title())?,
+            info: String::from_str(alloc, edition.info())?,
+            text: Vec::from_slice(alloc, edition.text())?,
+            entries: owned_entries(alloc, edition.entries())?,
+        })
+    }
+
+    pub(crate) fn number(&self) -> u64
+        ensures { result ≡ self.now.number }
+    {
+        self.number
+    }
+
+    // How many entries a query finds, or how many headwords they have.
+    pub(crate) fn count(&self, strategy: Strategy, query: &[u8], what: What) -> u64
+        ensures { result ≡ count_of what strategy query.now self.now.content }
+    {
+        match what {
+            What::Entries => count_found(&self.entries, strategy, query),
+            What::Headwords => count_listed(&self.entries, strategy, query),
+        }
+    }
+
+    // Hands out the entries that a query finds.
+    pub(crate) fn find<T: RowSink>(&self, strategy: Strategy, query: &[u8], sink: &mut T) -> End
+        ensures all { result ≡ End.All → T.takes sink.old (found strategy query.now self.now.content) sink.new }
+        ensures stopped { result ≡ End.Stopped → T.stops sink.old (found strategy query.now self.now.content) sink.new }
+    {
+        hand_found(&self.text, &self.entries, strategy, query, sink)
+    }
+
+    // Hands out the headwords of the entries that a query finds.
+    pub(crate) fn heads<T: RowSink>(&self, strategy: Strategy, query: &[u8], sink: &mut T) -> End
+        ensures all { result ≡ End.All → T.takes sink.old (headword_rows strategy query.now self.now.content) sink.new }
+        ensures stopped { result ≡ End.Stopped → T.stops sink.old (headword_rows strategy query.now self.now.content) sink.new }
+    {
+        hand_listed(&self.entries, strategy, query, sink)
+    }
+
+    // Hands out what the database says of itself.
+    pub(crate) fn info<T: RowSink>(&self, sink: &mut T) -> End
+        ensures all { result ≡ End.All → T.takes sink.old (info_rows self.now.content) sink.new }
+        ensures stopped { result ≡ End.Stopped → T.stops sink.old (info_rows self.now.content) sink.new }
+    {
+        match sink.take("", self.info.as_bytes()) {
+            Turn::More => End::All,
+            Turn::Stop => End::Stopped,
+        }
+    }
+}

@@ -1,0 +1,169 @@
+// The entries of an edition that is kept in memory.
+ghost use Rattle.std.specs.Prelude.{◌≡◌, ℕ, [], ◌∷◌, List, IfOk, length, map, filter, take, drop};
+ghost use Rattle.std.specs.List.{AllByRecursion};
+ghost use Rattle.dict_index.specs.Views.{line_of as line_read, HasBodyIn, HasItsKey as HasKeyRead};
+ghost use Rattle.dict_desk.specs.Shown.{row};
+ghost use Rattle.dict_desk.specs.PlainEntries.{line_of, entry_of, headword_of, HasItsKey, AreMarked, is_hit_of, is_listed, rows_found, rows_listed};
+
+use crate::lookup::End;
+use crate::sink::{RowSink, Turn};
+use dict_index::Entry;
+use dict_match::{Key, Strategy, matches};
+use std::alloc::{AllocError, Global};
+use std::collections::BTreeSet;
+
+/// An entry: where its text stands in that of its edition, the key of its headword, and whether it is the first entry
+/// with this headword.
+#[derive(Drop)]
+pub(crate) struct OwnedEntry {
+    pub headword: String,
+    pub key: Key,
+    pub offset: usize,
+    pub size: usize,
+    pub is_first: bool,
+}
+
+// The entries, with memory of their own. Earlier headwords are looked up in a set in order.
+pub(crate) fn owned_entries(alloc: Global, entries: &[Entry]) -> Result<Vec<OwnedEntry>, AllocError>
+    requires { AllByRecursion HasKeyRead entries.now }
+    ensures lines { IfOk result (λ owned. map line_of owned.items ≡ map line_read entries.now) }
+    ensures keys { IfOk result (λ owned. AllByRecursion HasItsKey owned.items) }
+    ensures marks { IfOk result (λ owned. AreMarked [] owned.items) }
+{
+    let mut owned = Vec::with_capacity(alloc, entries.len())?;
+    let mut seen = BTreeSet::new(alloc);
+    for entry in entries {
+        let is_first = seen.insert(entry.headword)?;
+        let kept = owned_entry(alloc, entry, is_first)?;
+        owned.push(kept)?;
+    }
+    Ok(owned)
+}
+
+// The entry, with memory of its own.
+fn owned_entry(alloc: Global, entry: &Entry, is_first: bool) -> Result<OwnedEntry, AllocError>
+    requires { HasKeyRead entry.now }
+    ensures line { IfOk result (λ owned. line_of owned ≡ line_read entry.now) }
+    ensures key { IfOk result HasItsKey }
+    ensures mark { IfOk result (λ owned. owned.is_first ≡ is_first) }
+{
+    Ok(OwnedEntry {
+        headword: String::from_str(alloc, entry.headword)?,
+        key: entry.key.clone()?,
+        offset: entry.offset,
+        size: entry.size,
+        is_first,
+    })
+}
+
+// Whether a query finds the entry.
+fn finds(strategy: Strategy, query: &[u8], entry: &OwnedEntry) -> bool
+    requires { HasItsKey entry.now }
+    ensures { result ≡ is_hit_of strategy query.now entry.now }
+{
+    matches(strategy, query, entry.key.as_bytes())
+}
+
+// Whether a query finds the entry, which is the first of its headword.
+fn lists(strategy: Strategy, query: &[u8], entry: &OwnedEntry) -> bool
+    requires { HasItsKey entry.now }
+    ensures { result ≡ is_listed strategy query.now entry.now }
+{
+    entry.is_first && finds(strategy, query, entry)
+}
+
+// How many entries a query finds.
+pub(crate) fn count_found(entries: &[OwnedEntry], strategy: Strategy, query: &[u8]) -> u64
+    requires { AllByRecursion HasItsKey entries.now }
+    ensures { result ≡ length (filter (is_hit_of strategy query.now) entries.now) }
+{
+    let mut count = 0u64;
+    for entry in entries {
+        if finds(strategy, query, entry) {
+            count += 1;
+        }
+    }
+    count
+}
+
+// How many of the entries that a query finds are the first of their headwords.
+pub(crate) fn count_listed(entries: &[OwnedEntry], strategy: Strategy, query: &[u8]) -> u64
+    requires { AllByRecursion HasItsKey entries.now }
+    ensures { result ≡ length (filter (is_listed strategy query.now) entries.now) }
+{
+    let mut count = 0u64;
+    for entry in entries {
+        if lists(strategy, query, entry) {
+            count += 1;
+        }
+    }
+    count
+}
+
+// Hands out the entries that a query finds, each with its text.
+pub(crate) fn hand_found<T: RowSink>(
+    text: &[u8],
+    entries: &[OwnedEntry],
+    strategy: Strategy,
+    query: &[u8],
+    sink: &mut T,
+) -> End
+    requires { AllByRecursion HasItsKey entries.now }
+    ensures all { result ≡ End.All → T.takes sink.old (rows_found text.now strategy query.now entries.now) sink.new }
+    ensures stopped { result ≡ End.Stopped → T.stops sink.old (rows_found text.now strategy query.now entries.now) sink.new }
+{
+    for entry in entries {
+        if finds(strategy, query, entry) {
+            if let Turn::Stop = hand_entry(text, entry, sink) {
+                return End::Stopped;
+            }
+        }
+    }
+    End::All
+}
+
+// Hands out the entry.
+fn hand_entry<T: RowSink>(text: &[u8], entry: &OwnedEntry, sink: &mut T) -> Turn
+    ensures more { result ≡ Turn.More → T.takes sink.old (entry_of text.now entry.now ∷ []) sink.new }
+    ensures stop { result ≡ Turn.Stop → T.stops sink.old (entry_of text.now entry.now ∷ []) sink.new }
+{
+    let body = cut(text, entry.offset, entry.size);
+    sink.take(entry.headword.as_str(), body)
+}
+
+// What an interval cuts out of a text, as far as the text goes.
+fn cut(text: &[u8], offset: usize, size: usize) -> &[u8]
+    ensures { result.now ≡ take size (drop offset text.now) }
+{
+    let rest = &text[offset.min(text.len())..];
+    &rest[..size.min(rest.len())]
+}
+
+// Hands out the headwords of the entries that a query finds, each once.
+pub(crate) fn hand_listed<T: RowSink>(
+    entries: &[OwnedEntry],
+    strategy: Strategy,
+    query: &[u8],
+    sink: &mut T,
+) -> End
+    requires { AllByRecursion HasItsKey entries.now }
+    ensures all { result ≡ End.All → T.takes sink.old (rows_listed strategy query.now entries.now) sink.new }
+    ensures stopped { result ≡ End.Stopped → T.stops sink.old (rows_listed strategy query.now entries.now) sink.new }
+{
+    for entry in entries {
+        if lists(strategy, query, entry) {
+            if let Turn::Stop = hand_headword(entry, sink) {
+                return End::Stopped;
+            }
+        }
+    }
+    End::All
+}
+
+// Hands out the entry's headword.
+fn hand_headword<T: RowSink>(entry: &OwnedEntry, sink: &mut T) -> Turn
+    ensures more { result ≡ Turn.More → T.takes sink.old (row (headword_of entry.now) [] ∷ []) sink.new }
+    ensures stop { result ≡ Turn.Stop → T.stops sink.old (row (headword_of entry.now) [] ∷ []) sink.new }
+{
+    sink.take(entry.headword.as_str(), b"")
+}

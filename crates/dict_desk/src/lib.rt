@@ -1,0 +1,21 @@
+//! The desk: what a catalogue is asked and told through.
+#![tactic(auto)]
+
+mod edition;
+mod entries;
+mod fault;
+mod keeper;
+mod laws;
+mod lookup;
+mod plain;
+mod replies;
+mod sink;
+#[cfg(test)]
+mod tests;
+
+pub use fault::Fault;
+pub use keeper::Keeper;
+pub use laws::{distinct_law, worked_definitions, worked_matches};
+pub use lookup::{End, Lookup, What};
+pub use plain::PlainDesk;
+pub use sink::{RowSink, Turn};

@@ -1,0 +1,136 @@
+// What finds entries in a catalogue.
+ghost use Rattle.std.specs.Prelude.{◌≡◌, ◌↔◌, Bool, true, false, ◌||◌, List, Option, Contains, IsOk, IfOk, IfErr, Ok, Err};
+ghost use Rattle.dict_index.specs.Edition.{Edition, Entry};
+ghost use Rattle.dict_catalogue.specs.Steps.{Catalogue, summary_of};
+ghost use Rattle.dict_catalogue.specs.Views.{summary_shown};
+ghost use Rattle.dict_catalogue.specs.WellFormed.{IsWellFormed};
+ghost use Rattle.dict_desk.specs.Found.{found};
+ghost use Rattle.dict_desk.specs.Shown.{HasEdition, headword_rows, info_rows, count_of};
+ghost use Rattle.dict_desk.specs.Handing.{Hands};
+ghost use Rattle.dict_desk.specs.Faults.{IsOfLookup, has_failed_by, has_closed_by};
+
+use crate::fault::Fault;
+use crate::sink::RowSink;
+use dict_catalogue::Summary;
+use dict_match::{Key, Strategy};
+
+/// How a lookup that didn't fail ended.
+#[derive(Clone, Copy, Debug, PartialEq, Eq)]
+pub enum End {
+    /// All rows were handed out.
+    All,
+    /// The sink stopped.
+    Stopped,
+}
+
+/// What is counted of the entries that are found.
+#[derive(Clone, Copy, Debug, PartialEq, Eq)]
+pub enum What {
+    /// The entries.
+    Entries,
+    /// Their headwords, each once.
+    Headwords,
+}
+
+/// Finds entries in the editions of a catalogue, and changes nothing of it.
+///
+/// An edition is asked by its number, which the summary names. Of the number of no edition nothing is told.
+pub trait Lookup {
+    // It shows this catalogue.
+    ghost shows: { Self → Catalogue → Type 0 };
+
+    // Whatever a stop now leaves is one of these: a catalogue, which is shown where it is opened again, or a state that
+    // stands for none.
+    ghost leaves_one_of: { Self → List (Option Catalogue) → Type 0 };
+
+    // What it stands on has returned what was written to it.
+    ghost is_trusted: { Self → Type 0 };
+
+    // Its store failed, and it answers no more.
+    ghost is_closed: { Self → Bool };
+
+    // Its last call by `&mut self` answered a fault from 40 on.
+    ghost has_failed: { Self → Bool };
+
+    /// The catalogue without its entries and its kept replies. No memory is taken; the only fault is `Closed`.
+    fn summary(&self) -> Result<&Summary, Fault>
+        ensures value { (M : Catalogue) → shows self.now M → IfOk result (λ summary. summary_shown summary.now ≡ summary_of M) }
+        ensures open { is_closed self.now ≡ false → IsOk result }
+        ensures closed { is_closed self.now ≡ true → result ≡ Err Fault.Closed };
+
+    /// Hands one row to the sink: the empty headword, and what the edition's database says of itself.
+    fn info<T: RowSink>(&mut self, number: u64, sink: &mut T) -> Result<End, Fault>
+        ensures value { is_trusted self.new → (M : Catalogue) (edition : Edition) → shows self.old M → HasEdition M number edition → Hands T.takes T.stops sink.old sink.new (info_rows edition) result }
+        ensures handed { (rows : List Entry) × Hands T.takes T.stops sink.old sink.new rows result }
+        ensures trust { is_trusted self.new → is_trusted self.old }
+        ensures shows { is_trusted self.new → (M : Catalogue) → shows self.old M → shows self.new M }
+        ensures leaves { (ms : List (Option Catalogue)) → leaves_one_of self.old ms → leaves_one_of self.new ms }
+        ensures kinds { IfErr result IsOfLookup }
+        ensures failed { has_failed self.new ≡ has_failed_by result }
+        ensures closes { is_closed self.new ≡ (is_closed self.old || has_closed_by result) }
+        ensures closed { (result ≡ Err Fault.Closed) ↔ (is_closed self.old ≡ true) };
+
+    /// How many entries of the edition the query finds by the strategy, or how many headwords they have.
+    fn count(
+        &mut self,
+        number: u64,
+        strategy: Strategy,
+        query: &Key,
+        what: What,
+    ) -> Result<u64, Fault>
+        ensures value { is_trusted self.new → (M : Catalogue) (edition : Edition) → shows self.old M → HasEdition M number edition → IfOk result (λ count. count ≡ count_of what strategy query.now edition) }
+        ensures trust { is_trusted self.new → is_trusted self.old }
+        ensures shows { is_trusted self.new → (M : Catalogue) → shows self.old M → shows self.new M }
+        ensures leaves { (ms : List (Option Catalogue)) → leaves_one_of self.old ms → leaves_one_of self.new ms }
+        ensures kinds { IfErr result IsOfLookup }
+        ensures failed { has_failed self.new ≡ has_failed_by result }
+        ensures closes { is_closed self.new ≡ (is_closed self.old || has_closed_by result) }
+        ensures closed { (result ≡ Err Fault.Closed) ↔ (is_closed self.old ≡ true) };
+
+    /// Hands the entries of the edition that the query finds by the strategy to the sink, in the order of the index,
+    /// each as a row of its headword and its text.
+    fn find<T: RowSink>(
+        &mut self,
+        number: u64,
+        strategy: Strategy,
+        query: &Key,
+        sink: &mut T,
+    ) -> Result<End, Fault>
+        ensures value { is_trusted self.new → (M : Catalogue) (edition : Edition) → shows self.old M → HasEdition M number edition → Hands T.takes T.stops sink.old sink.new (found strategy query.now edition) result }
+        ensures handed { (rows : List Entry) × Hands T.takes T.stops sink.old sink.new rows result }
+        ensures trust { is_trusted self.new → is_trusted self.old }
+        ensures shows { is_trusted self.new → (M : Catalogue) → shows self.old M → shows self.new M }
+        ensures leaves { (ms : List (Option Catalogue)) → leaves_one_of self.old ms → leaves_one_of self.new ms }
+        ensures kinds { IfErr result IsOfLookup }
+        ensures failed { has_failed self.new ≡ has_failed_by result }
+        ensures closes { is_closed self.new ≡ (is_closed self.old || has_closed_by result) }
+        ensures closed { (result ≡ Err Fault.Closed) ↔ (is_closed self.old ≡ true) };
+
+    /// Hands the headwords of the entries that the query finds by the strategy to the sink, each once, in the order in
+    /// which they first stand among these, as rows with the empty text.
+    fn heads<T: RowSink>(
+        &mut self,
+        number: u64,
+        strategy: Strategy,
+        query: &Key,
+        sink: &mut T,
+    ) -> Result<End, Fault>
+        ensures value { is_trusted self.new → (M : Catalogue) (edition : Edition) → shows self.old M → HasEdition M number edition → Hands T.takes T.stops sink.old sink.new (headword_rows strategy query.now edition) result }
+        ensures handed { (rows : List Entry) × Hands T.takes T.stops sink.old sink.new rows result }
+        ensures trust { is_trusted self.new → is_trusted self.old }
+        ensures shows { is_trusted self.new → (M : Catalogue) → shows self.old M → shows self.new M }
+        ensures leaves { (ms : List (Option Catalogue)) → leaves_one_of self.old ms → leaves_one_of self.new ms }
+        ensures kinds { IfErr result IsOfLookup }
+        ensures failed { has_failed self.new ≡ has_failed_by result }
+        ensures closes { is_closed self.new ≡ (is_closed self.old || has_closed_by result) }
+        ensures closed { (result ≡ Err Fault.Closed) ↔ (is_closed self.old ≡ true) };
+
+    // A catalogue that is shown keeps all limits and rules.
+    ghost well_formed: { (s : Self) (M : Catalogue) → shows s M → IsWellFormed M };
+
+    // What is one of these is one of any that have these among them.
+    ghost wider: { (s : Self) (ms ns : List (Option Catalogue)) → ((m : Option Catalogue) → Contains ms m → Contains ns m) → leaves_one_of s ms → leaves_one_of s ns };
+
+    // Where the last call didn't fail, it is open.
+    ghost still_open: { (s : Self) → has_failed s ≡ false → is_closed s ≡ false };
+}

@@ -1,0 +1,253 @@
+// A catalogue in memory.
+ghost use Rattle.std.specs.Prelude.{◌≡◌, ◌<◌, ◌++◌, [], true, false, None, Some, IfOk, IfErr, OnOk, OnErr, option_map, vec_len, vec_capacity};
+ghost use Rattle.std.specs.List.{cons_option};
+ghost use Rattle.dict_name.specs.Names.{is_request_id};
+ghost use Rattle.dict_index.specs.Edition.{Edition};
+ghost use Rattle.dict_catalogue.specs.Steps.{empty_catalogue, kept_under, step};
+ghost use Rattle.dict_catalogue.specs.Views.{command_meant, kept_shown, IsChangeOf};
+ghost use Rattle.dict_desk.specs.Shown.{HasEdition};
+ghost use Rattle.dict_desk.specs.Applying.{Applies};
+ghost use Rattle.dict_desk.specs.Plain.{newly_installed};
+
+use crate::edition::{PlainEdition, edition_numbered, take_out};
+use crate::fault::Fault;
+use crate::keeper::Keeper;
+use crate::lookup::{End, Lookup, What};
+use crate::replies::{Filed, copied, file_under, note_place};
+use crate::sink::RowSink;
+use dict_catalogue::{Change, Command, Kept, PlanFault, Refusal, Summary, plan};
+use dict_match::{Key, Strategy};
+use dict_name::is_request_id;
+use std::alloc::{AllocError, Global};
+use std::collections::BTreeMap;
+use std::marker::Model;
+
+/// A catalogue in memory: its summary, the editions that the summary names, and the kept replies in order, with their
+/// places by their ids. Contracts see it as the catalogue, and as whether its last call failed. A stop leaves nothing
+/// of it.
+#[derive(Drop)]
+pub struct PlainDesk {
+    alloc: Global,
+    summary: Summary,
+    editions: Vec<PlainEdition>,
+    replies: Vec<Filed>,
+    places: BTreeMap<String, usize>,
+    has_failed: bool,
+}
+
+impl Model for PlainDesk {
+    ghost use Rattle.std.specs.BTreeMap.{get_by_text};
+    ghost use Rattle.dict_catalogue.specs.Views.{summary_shown};
+    ghost use Rattle.dict_desk.specs.Plain.{PlainState, catalogue_from, AreInStep};
+
+    ghost Value = { PlainState };
+
+    ghost view = { λ d. record { catalogue = catalogue_from (summary_shown d.summary) d.editions.items d.replies.items; has_failed = d.has_failed } };
+
+    ghost invariant = { λ d. AreInStep (summary_shown d.summary) d.editions.items d.replies.items (get_by_text d.places) };
+}
+
+impl PlainDesk {
+    /// A desk that keeps the empty catalogue. No memory is taken.
+    pub fn new(alloc: Global) -> Self
+        ensures { result ≡ record { catalogue = empty_catalogue; has_failed = false } }
+    {
+        PlainDesk {
+            alloc,
+            summary: Summary::new(alloc),
+            editions: Vec::new(alloc),
+            replies: Vec::new(alloc),
+            places: BTreeMap::new(alloc),
+            has_failed: false,
+        }
+    }
+
+    // The edition of this number.
+    fn edition(&self, number: u64) -> Option<&PlainEdition>
+        ensures { (edition : Edition) → HasEdition self.now.catalogue number edition → option_map (λ found. found.now) result ≡ Some (record { number = number; content = edition }) }
+    {
+        edition_numbered(&self.editions, number)
+    }
+
+    // A copy of the reply that is kept under the id.
+    fn reply(&self, id: &str) -> Result<Option<Kept>, AllocError>
+        ensures { IfOk result (λ reply. option_map kept_shown reply ≡ kept_under self.now.catalogue.kept id.now) }
+    {
+        match self.places.get(id) {
+            Some(place) => {
+                let filed = &self.replies[*place];
+                Ok(Some(copied(self.alloc, &filed.reply)?))
+            }
+            None => Ok(None),
+        }
+    }
+}
+
+// The edition that a command installs, under this number.
+fn installed(
+    alloc: Global,
+    command: &Command,
+    number: u64,
+) -> Result<Option<PlainEdition>, AllocError>
+    ensures { IfOk result (λ edition. cons_option edition [] ≡ newly_installed number (command_meant command.now)) }
+{
+    match command {
+        Command::Install { edition, .. } => Ok(Some(PlainEdition::new(alloc, number, edition)?)),
+        Command::Rollback { .. }
+        | Command::Retire { .. }
+        | Command::PutVirtual { .. }
+        | Command::Place { .. } => Ok(None),
+    }
+}
+
+// Adds the edition, for which there is room, if there is one.
+fn put(editions: &mut Vec<PlainEdition>, edition: Option<PlainEdition>)
+    requires { vec_len editions.old < vec_capacity editions.old }
+    ensures { editions.new.items ≡ editions.old.items ++ cons_option edition [] }
+{
+    if let Some(edition) = edition {
+        editions.push_reserved(edition);
+    }
+}
+
+impl PlainDesk {
+    ghost use Rattle.dict_desk.specs.Faults.{IsOfLists};
+
+    // Does what the command was planned to do, and keeps its reply. All memory is taken before anything is changed.
+    fn accept(&mut self, id: &str, command: &Command, change: Change) -> Result<Kept, AllocError>
+        requires id { is_request_id id.now ≡ true }
+        requires unused { kept_under self.old.catalogue.kept id.now ≡ None }
+        requires planned { IsChangeOf self.old.catalogue (step self.old.catalogue id.now (command_meant command.now)) change }
+        ensures reply { IfOk result (λ kept. kept_shown kept ≡ kept_shown change.kept) }
+        ensures after { OnOk result (self.new.catalogue ≡ (step self.old.catalogue id.now (command_meant command.now)).catalogue) }
+        ensures same { OnErr result (self.new.catalogue ≡ self.old.catalogue) }
+    {
+        command.is_lawful();
+        let edition = installed(self.alloc, command, change.summary.installs)?;
+        let filed = file_under(self.alloc, id, &change.kept)?;
+        self.editions.reserve(1)?;
+        self.replies.reserve(1)?;
+        let place = self.replies.len();
+        note_place(self.alloc, &mut self.places, id, place)?;
+        self.replies.push_reserved(filed);
+        take_out(&mut self.editions, change.gone.as_slice());
+        put(&mut self.editions, edition);
+        let Change {
+            summary,
+            gone: _,
+            kept,
+        } = change;
+        self.summary = summary;
+        Ok(kept)
+    }
+
+    // Applies a command, or refuses it.
+    fn applied(&mut self, id: &str, command: &Command) -> Result<Kept, Fault>
+        ensures value { Applies (λ M. self.new.catalogue ≡ M) self.old.catalogue (step self.old.catalogue id.now (command_meant command.now)) result }
+        ensures kinds { IfErr result IsOfLists }
+    {
+        if !is_request_id(id) {
+            return Err(Fault::Refused(Refusal::BadRequestId));
+        }
+        if let Some(reply) = self.reply(id)? {
+            return Ok(reply);
+        }
+        match plan(self.alloc, &self.summary, command) {
+            Ok(change) => Ok(self.accept(id, command, change)?),
+            Err(PlanFault::Refused(refusal)) => Err(Fault::Refused(refusal)),
+            Err(PlanFault::Memory) => Err(Fault::Memory),
+        }
+    }
+}
+
+impl Lookup for PlainDesk {
+    ghost use Rattle.std.specs.Prelude.{◌≡◌, true, false, refl};
+    ghost use Rattle.dict_catalogue.specs.WellFormed.{IsWellFormed};
+
+    ghost shows = { λ s M. (M ≡ s.catalogue) × IsWellFormed M };
+
+    ghost leaves_one_of = { λ _ _. Unit {0} };
+
+    ghost is_trusted = { λ _. Unit {0} };
+
+    ghost is_closed = { λ _. false };
+
+    ghost has_failed = { λ s. s.has_failed };
+
+    fn summary(&self) -> Result<&Summary, Fault> {
+        Ok(&self.summary)
+    }
+
+    fn info<T: RowSink>(&mut self, number: u64, sink: &mut T) -> Result<End, Fault> {
+        self.has_failed = false;
+        match self.edition(number) {
+            Some(edition) => Ok(edition.info(sink)),
+            None => Ok(End::All),
+        }
+    }
+
+    fn count(
+        &mut self,
+        number: u64,
+        strategy: Strategy,
+        query: &Key,
+        what: What,
+    ) -> Result<u64, Fault> {
+        self.has_failed = false;
+        match self.edition(number) {
+            Some(edition) => Ok(edition.count(strategy, query.as_bytes(), what)),
+            None => Ok(0),
+        }
+    }
+
+    fn find<T: RowSink>(
+        &mut self,
+        number: u64,
+        strategy: Strategy,
+        query: &Key,
+        sink: &mut T,
+    ) -> Result<End, Fault> {
+        self.has_failed = false;
+        match self.edition(number) {
+            Some(edition) => Ok(edition.find(strategy, query.as_bytes(), sink)),
+            None => Ok(End::All),
+        }
+    }
+
+    fn heads<T: RowSink>(
+        &mut self,
+        number: u64,
+        strategy: Strategy,
+        query: &Key,
+        sink: &mut T,
+    ) -> Result<End, Fault> {
+        self.has_failed = false;
+        match self.edition(number) {
+            Some(edition) => Ok(edition.heads(strategy, query.as_bytes(), sink)),
+            None => Ok(End::All),
+        }
+    }
+
+    ghost well_formed = { λ s M h. h.1 };
+
+    ghost wider = { λ s ms ns h left. left };
+
+    ghost still_open = { λ s h. refl };
+}
+
+impl Keeper for PlainDesk {
+    fn kept(&mut self, id: &str) -> Result<Option<Kept>, Fault> {
+        let reply = self.reply(id);
+        self.has_failed = reply.is_err();
+        Ok(reply?)
+    }
+
+    fn apply(&mut self, id: &str, command: &Command) -> Result<Kept, Fault> {
+        let answer = self.applied(id, command);
+        self.has_failed = match &answer {
+            Ok(_) => false,
+            Err(fault) => fault.is_failure(),
+        };
+        answer
+    }
+}

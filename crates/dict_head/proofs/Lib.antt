@@ -1,0 +1,4 @@
+pub mod ValuesLemmas
+pub mod EndLemmas
+pub mod HeadLemmas
+pub mod LawLemmas

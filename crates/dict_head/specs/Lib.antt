@@ -1,0 +1,4 @@
+pub mod Statuses
+pub mod Fields
+pub mod Heads
+pub mod Requests

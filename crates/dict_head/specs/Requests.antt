@@ -1,0 +1,54 @@
+-- What a whole request says.
+use Rattle.std.specs.Prelude.{◌≡◌, ◌≤◌, ◌+◌, ℕ, List, length, take, drop}
+use Rattle.httparse.specs.Grammar.{RequestHead, print_request}
+use Rattle.dict_head.specs.Fields.{AreValues, framing_of, ids_of}
+use Rattle.dict_head.specs.Heads.{HasHead, headers_of, Needs, NeedsHead}
+use Rattle.dict_head.specs.declared.kinds.Framing.TheVariants.{Body}
+use Rattle.dict_head.specs.declared.kinds.Need.TheVariants.{More as NeedsMore, Whole as NeedsNone, Refused as IsRefused}
+use Rattle.dict_head.specs.declared.kinds.Reading.{Reading}
+use Rattle.dict_head.specs.declared.kinds.Reading.TheVariants.{More, Whole, Refused}
+use Rattle.dict_head.specs.declared.kinds.Request as requests
+
+pub record Request : Type 0 where
+  pub method : List ℕ
+  -- the target of the head, octet by octet
+  pub target : List ℕ
+  -- the values of the headers `Request-Id`
+  pub ids : List (List ℕ)
+  pub body : List ℕ
+
+-- a head, and so many octets of what comes after it
+abbrev pub request_of : List ℕ → RequestHead → ℕ → Request
+request_of octets head size = record {
+  method = head.method;
+  target = head.target;
+  ids = ids_of (headers_of head);
+  body = take size (drop (length (print_request head)) octets);
+}
+
+-- a whole request stands at the front of the octets, and says this
+pub record IsRequest (octets : List ℕ) (request : Request) : Type 0 where
+  pub head : RequestHead
+  pub has : HasHead octets head
+  pub size : ℕ
+  pub framed : framing_of (headers_of head) ≡ Body size
+  pub fits : length (print_request head) + size ≤ length octets
+  pub says : request ≡ request_of octets head size
+
+-- the code's parts of a request are those of the request
+pub record Tells (told : requests.Request) (request : Request) : Type 0 where
+  pub method : told.method.now ≡ request.method
+  pub target : told.target.now ≡ request.target
+  pub ids : AreValues told.ids request.ids
+  pub body : told.body.now ≡ request.body
+
+abbrev pub IsReading : List ℕ → Reading → Type 0
+IsReading octets More = Needs octets NeedsMore
+IsReading octets (Whole told) = Needs octets (NeedsNone told.len) × (request : Request) × IsRequest octets request × Tells told request
+IsReading octets (Refused status) = Needs octets (IsRefused status)
+
+-- while no head is in these octets, the front
+abbrev pub IsHeadReading : List ℕ → Reading → Type 0
+IsHeadReading octets More = NeedsHead octets NeedsMore
+IsHeadReading octets (Whole told) = ⊥
+IsHeadReading octets (Refused status) = NeedsHead octets (IsRefused status)

@@ -1,0 +1,19 @@
+// Laws of the definitions.
+ghost use Rattle.std.specs.Prelude.{◌≡◌, ◌++◌, ℕ, List};
+ghost use Rattle.dict_head.specs.Heads.{Needs};
+ghost use Rattle.dict_head.specs.Requests.{Request, IsRequest};
+ghost use Rattle.dict_head.specs.declared.kinds.Need as needs;
+ghost use Rattle.dict_head.specs.declared.kinds.Need.TheVariants.{Whole as IsWhole, Refused as IsRefused};
+ghost use Rattle.dict_head.specs.declared.statuses.Status as statuses;
+
+/// Octets have one answer. A request that is whole stays so, and is the same one, whatever follows.
+pub fn one_answer()
+    ensures one { (x : List ℕ) (a b : needs.Need) → Needs x a → Needs x b → a ≡ b }
+    ensures stays { (x y : List ℕ) (n : ℕ) → Needs x (IsWhole n) → Needs (x ++ y) (IsWhole n) }
+{}
+
+/// Octets are one whole request at most, and octets after it don't change it.
+pub fn one_request()
+    ensures one { (x : List ℕ) (a b : Request) → IsRequest x a → IsRequest x b → a ≡ b }
+    ensures stays { (x y : List ℕ) (r : Request) → IsRequest x r → IsRequest (x ++ y) r }
+{}

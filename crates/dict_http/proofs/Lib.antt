@@ -1,0 +1,4 @@
+pub mod TextLemmas
+pub mod RespondLemmas
+pub mod PartLemmas
+pub mod ServiceLemmas

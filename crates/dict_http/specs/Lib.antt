@@ -1,0 +1,4 @@
+pub mod Answers
+pub mod Actions
+pub mod Settling
+pub mod Responding

@@ -1,0 +1,112 @@
+// The service of editors' requests.
+ghost use Rattle.std.specs.Prelude.{◌≡◌, ◌⊎◌, List, Option};
+ghost use Rattle.dict_catalogue.specs.Steps.{Catalogue, summary_of};
+ghost use Rattle.dict_head.specs.Fields.{AreValues};
+ghost use Rattle.dict_head.specs.Heads.{Needs};
+ghost use Rattle.dict_head.specs.Requests.{Request as WholeRequest, Tells};
+ghost use Rattle.dict_head.specs.declared.kinds.Need.TheVariants as needs;
+ghost use Rattle.dict_head.specs.declared.statuses.Status.TheVariants as statuses;
+ghost use Rattle.dict_json.specs.Texts.{list_text};
+ghost use Rattle.dict_http.specs.Answers.{octets_of, plain, with_body, response_text};
+ghost use Rattle.dict_http.specs.Settling.{Settles, SettlesRequest, SettlesAction};
+ghost use Rattle.dict_http.specs.Responding.{IsAnswer, Responds};
+
+use crate::actions::{Action, action_of, one_id};
+use crate::answers::{Answer, bad_request, method_not_allowed, not_found, too_large, unavailable};
+use crate::changing::{change, with_text};
+use dict_desk::Keeper;
+use dict_head::{Reading, Request, Status, Values, read_request};
+use dict_json::list_json;
+use dict_route::Routes;
+use std::alloc::{AllocError, Global};
+
+/// Answers editors' requests.
+#[derive(Drop)]
+pub struct Service {
+    routes: Routes,
+}
+
+// The answer to octets that are refused before they are a request.
+fn refused(status: Status) -> Answer
+    requires { (status ≡ statuses.BadRequest) ⊎ (status ≡ statuses.ContentTooLarge) }
+    ensures { octets_of result ≡ response_text (plain status) }
+{
+    if status == Status::ContentTooLarge {
+        too_large()
+    } else {
+        bad_request()
+    }
+}
+
+// The list of the catalogue's items.
+fn list<K: Keeper>(alloc: Global, desk: &K) -> Answer
+    ensures { (M : Catalogue) → K.shows desk.now M → IsAnswer (octets_of result) (with_body statuses.Ok (list_text (summary_of M).items)) }
+{
+    match desk.summary() {
+        Ok(summary) => match list_json(alloc, summary) {
+            Ok(body) => with_text(alloc, Status::Ok, body.as_str()),
+            Err(_) => unavailable(),
+        },
+        Err(_) => unavailable(),
+    }
+}
+
+// Does what a request asks for.
+fn act<K: Keeper>(
+    alloc: Global,
+    desk: &mut K,
+    action: Action,
+    ids: Values<'_>,
+    name: &str,
+    body: &[u8],
+) -> Answer
+    ensures responds { K.is_trusted desk.new → (M : Catalogue) (asked : WholeRequest) → K.shows desk.old M → AreValues ids.entry asked.ids → body.now ≡ asked.body → Responds (K.shows desk.new) (K.leaves_one_of desk.old) (K.leaves_one_of desk.new) M (SettlesAction M asked action name.now) (octets_of result) }
+    ensures trust { K.is_trusted desk.new → K.is_trusted desk.old }
+{
+    if action == Action::List {
+        return list(alloc, desk);
+    }
+    let Some(id) = one_id(ids) else {
+        return bad_request();
+    };
+    change(alloc, desk, action, id, name, body)
+}
+
+impl Service {
+    /// The service, with its routes. Want of memory is the only error.
+    pub fn new(alloc: Global) -> Result<Self, AllocError> {
+        let routes = Routes::new(alloc)?;
+        Ok(Service { routes })
+    }
+
+    // Answers a request.
+    fn respond_to<K: Keeper>(&self, alloc: Global, request: Request<'_>, desk: &mut K) -> Answer
+        ensures responds { K.is_trusted desk.new → (M : Catalogue) (asked : WholeRequest) → K.shows desk.old M → Tells request.entry asked → Responds (K.shows desk.new) (K.leaves_one_of desk.old) (K.leaves_one_of desk.new) M (SettlesRequest M asked) (octets_of result) }
+        ensures trust { K.is_trusted desk.new → K.is_trusted desk.old }
+    {
+        let Some(found) = self.routes.find(request.target) else {
+            return not_found();
+        };
+        let Some(action) = action_of(found.route, request.method) else {
+            return method_not_allowed(found.route);
+        };
+        act(alloc, desk, action, request.ids, found.name, request.body)
+    }
+
+    /// Answers the request that stands whole at the front of the octets, or octets that are refused, and does what
+    /// it asks for. Octets of which more is needed have no answer.
+    ///
+    /// After an answer other than 503 the catalogue is the one that the answer tells of. After 503 it is the one before,
+    /// or the one after the whole command, and the request may be sent again under its id.
+    pub fn respond<K: Keeper>(&self, alloc: Global, octets: &[u8], desk: &mut K) -> Answer
+        requires whole { ¬ Needs octets.now needs.More }
+        ensures responds { K.is_trusted desk.new → (M : Catalogue) → K.shows desk.old M → Responds (K.shows desk.new) (K.leaves_one_of desk.old) (K.leaves_one_of desk.new) M (Settles M octets.now) (octets_of result) }
+        ensures trust { K.is_trusted desk.new → K.is_trusted desk.old }
+    {
+        match read_request(octets) {
+            Reading::More => unreachable!(),
+            Reading::Whole(request) => self.respond_to(alloc, request, desk),
+            Reading::Refused(status) => refused(status),
+        }
+    }
+}

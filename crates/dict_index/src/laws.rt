@@ -1,0 +1,34 @@
+// What every index and every text mean.
+ghost use Rattle.std.specs.Prelude.{◌≡◌, ◌⊎◌, ℕ, List, Option};
+ghost use Rattle.dict_index.specs.Edition.{Edition, ReadEdition};
+ghost use Rattle.dict_index.specs.Meaning.{IsReadEdition, IsEdition, IsFault};
+ghost use Rattle.dict_index.specs.WellFormed.{IsWellFormedEdition};
+ghost use Rattle.dict_index.specs.Worked.{worked_index, worked_text, worked_reading};
+ghost use Rattle.dict_index.specs.declared.fault.Refusal.{Refusal};
+
+/// Each index and each text mean exactly one thing: one edition, or one refusal with its line.
+///
+/// It does nothing. Its clauses are the law, of which `read_edition` finds out the side.
+pub fn one_meaning()
+    ensures some { (index text : List ℕ) → ((reading : ReadEdition) × IsReadEdition index text reading)
+        ⊎ ((refusal : Refusal) × (line : Option ℕ) × IsFault index text refusal line) }
+    ensures not_both { (index text : List ℕ) (reading : ReadEdition) (refusal : Refusal) (line : Option ℕ) →
+        IsReadEdition index text reading → IsFault index text refusal line → ⊥ }
+    ensures one_reading { (index text : List ℕ) (a b : ReadEdition) → IsReadEdition index text a → IsReadEdition index text b → a ≡ b }
+    ensures one_fault { (index text : List ℕ) (f g : Refusal) (k l : Option ℕ) →
+        IsFault index text f k → IsFault index text g l → (f ≡ g) × (k ≡ l) }
+{}
+
+/// Each edition that an index and a text say is well formed.
+///
+/// It does nothing. Its clause is the law, by which a catalogue of editions that were read keeps its limits.
+pub fn well_formed_editions()
+    ensures { (index text : List ℕ) (edition : Edition) → IsEdition index text edition → IsWellFormedEdition edition }
+{}
+
+/// What a small database says that was worked by hand: the title `Gems`, no info, and three entries.
+///
+/// It does nothing. Its clause is the example, from the definitions alone.
+pub fn worked_edition()
+    ensures { IsReadEdition worked_index worked_text worked_reading }
+{}

@@ -1,0 +1,6 @@
+//! The records of the store's tables.
+#![tactic(auto)]
+
+mod records;
+
+pub use records::{Edition, Entry, Item, Kept, Mark, Member, Stored};

@@ -1,0 +1,3 @@
+pub mod SeekLemmas
+pub mod PathLemmas
+pub mod LawLemmas

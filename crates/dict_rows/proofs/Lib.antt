@@ -1,0 +1,15 @@
+pub mod OnceLemmas
+pub mod ListLemmas
+pub mod GivenLemmas
+pub mod ItemLemmas
+pub mod LawfulLemmas
+pub mod TakenLemmas
+pub mod EditionLemmas
+pub mod RecordLemmas
+pub mod BeginLemmas
+pub mod FoundLemmas
+pub mod StepLemmas
+pub mod EntryLemmas
+pub mod KeptLemmas
+pub mod FinishLemmas
+pub mod WholeLemmas

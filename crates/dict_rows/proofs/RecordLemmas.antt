@@ -1,0 +1,47 @@
+-- What one record tells.
+use Rattle.std.proofs.Common.{◌≡◌, ◌≢◌, ℕ, suc, ◌+◌, ◌≤◌, ◌<◌, Bool, true, false, List, [], ◌∷◌, ◌++◌, length, take, drop, get_or, refl, ap, sym, subst, ◌∙◌, arith, Option, Some, None}
+use Rattle.std.specs.Prelude.{ℤ, pos, map, option_map, is_some, string_bytes, String}
+use Rattle.std.specs.declared.alloc.Global.{Global}
+use Rattle.std.specs.List.{AllByRecursion, list_all}
+use Rattle.dict_name.specs.Names.{is_name, is_request_id}
+use Rattle.dict_records.specs.Records as spec
+use Rattle.dict_records.specs.Typed.{owned_mark}
+use Rattle.dict_records.specs.declared.records.Mark.{Mark}
+use Rattle.dict_records.specs.declared.records.Stored.{Stored as Row}
+use Rattle.dict_index.specs.WellFormed.{IsEntryHeadword, IsEditionText}
+use Rattle.dict_catalogue.specs.WellFormed.{tells_edition}
+use Rattle.dict_catalogue.specs.declared.reply.Verb.{Verb}
+use Rattle.dict_rows.specs.Written.{mark_record, verb_name, entry_record, kept_record}
+use Rattle.dict_rows.specs.Given.{marks_given, OnDamage, IsEntry, IsReply}
+use Rattle.dict_rows.specs.declared.fault.RowsFault.{RowsFault}
+use Rattle.dict_rows.specs.declared.fault.RowsFault.TheVariants.{Damaged, Memory}
+use Rattle.dict_rows.proofs.OnceLemmas.{head_same}
+
+pub entry_told : (number ord start size : ℕ) (text body : List ℕ) (row : spec.Entry) → row.edition ≡ pos number → row.ord ≡ pos ord → row.start ≡ pos start → row.length ≡ pos size →
+    start + size ≤ length text → body ≡ take size (drop start text) → IsEditionText body → IsEntryHeadword row.headword → IsEntry number ord text row
+entry_told number ord start size text body row e o s l within cut lawful headword = record {
+  line = record { headword = row.headword; offset = start; size = size };
+  is = λ i. record { edition = e i; ord = o i; headword = row.headword; start = s i; length = l i };
+  within = within;
+  lawful = record { headword = headword; body = subst IsEditionText cut lawful };
+}
+
+pub reply_told : (number : ℕ) (verb : Verb) (edition : Option ℕ) (row : spec.Kept) → row.verb ≡ verb_name verb → row.number ≡ pos number → is_request_id row.id ≡ true → is_name row.name ≡ true →
+    row.edition ≡ option_map pos edition → is_some edition ≡ tells_edition verb → IsReply number verb row
+reply_told number verb edition row v n id name e tells = record {
+  reply = record { id = row.id; reply = record { number = number; verb = verb; name = row.name; edition = edition } };
+  is = λ i. record { id = row.id; number = n i; verb = v i; name = row.name; edition = e i };
+  lawful = (id, name, tells);
+  numbered = refl;
+  did = refl;
+}
+
+pub mark_told : (fault : RowsFault) (version : ℕ) (marks : List spec.Mark) (mark : spec.Mark) → marks ≡ mark ∷ [] → OnDamage fault ((installs : ℕ) → mark ≡ mark_record version installs → ⊥) →
+    OnDamage fault ((installs : ℕ) → marks ≡ mark_record version installs ∷ [] → ⊥)
+mark_told Damaged version marks mark is h = λ installs e. h installs (head_same _ _ _ _ (sym is ∙ e))
+mark_told Memory version marks mark is h = tt
+
+pub one_mark : (marks : List (Row (Mark (String Global)))) (mark : Row (Mark (String Global))) → length marks ≡ 1 → marks_given marks ≡ owned_mark (get_or marks 0 mark).value ∷ []
+one_mark [] mark one = absurd (cc)
+one_mark (first ∷ []) mark one = refl
+one_mark (first ∷ second ∷ rest) mark one = absurd (omega arith)

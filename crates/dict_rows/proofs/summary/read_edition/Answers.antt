@@ -1,0 +1,26 @@
+use Rattle.std.proofs.Common.{◌≡◌, ℕ, subst}
+use Rattle.std.proofs.lemmas.Result.{err_from_is_err_and, IfErr-weaker, on_ok_weaker}
+use Rattle.dict_records.specs.Records as spec
+use Rattle.dict_rows.specs.Tables.{Tables}
+use Rattle.dict_rows.specs.Given.{OnDamage}
+use Rattle.dict_rows.specs.Taken.{HasTaken, with_edition}
+use Rattle.dict_rows.specs.Whole.{edition_in}
+use Rattle.dict_rows.proofs.WholeLemmas.{edition_damage, group_damage}
+use Rattle.dict_rows.proofs.summary.read_edition.Goals as goal
+
+pub returns-in_err-edition-clause-damaged : goal.returns-in_err-edition-clause-damaged
+returns-in_err-edition-clause-damaged c =
+    let p = err_from_is_err_and c.from_residual-in_err-edition.result c.from_residual-in_err-edition.ensures.1 in
+    rw (p.1, p.2) (edition_damage _ c.args.reader.now c.args.rows.now _ c.in_ok-copied_edition.ensures c.in_err-edition.ensures.damaged)
+
+pub returns-clause-taken : goal.returns-clause-taken
+returns-clause-taken c =
+    let same = rw c.deref.ensures.value at c.read_entries.ensures.taken in
+    on_ok_weaker c.read_entries.result (λ later version taken h. later version (with_edition taken (edition_in c.args.rows.now))
+    (subst (λ (row : spec.Edition). HasTaken version c.edition.new.self (with_edition taken row)) c.in_ok-copied_edition.ensures (c.in_ok-edition.ensures.taken version taken h))) same
+
+pub returns-clause-damaged : goal.returns-clause-damaged
+returns-clause-damaged c =
+    let same = rw c.deref.ensures.value at c.read_entries.ensures.damaged in
+    IfErr-weaker c.read_entries.result _ _ (λ fault why. group_damage fault c.args.reader.now c.edition.new.self c.args.rows.now
+    (λ version taken h. subst (λ (row : spec.Edition). HasTaken version c.edition.new.self (with_edition taken row)) c.in_ok-copied_edition.ensures (c.in_ok-edition.ensures.taken version taken h)) why) same

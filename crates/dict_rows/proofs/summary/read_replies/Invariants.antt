@@ -1,0 +1,10 @@
+-- what was taken so far
+use Rattle.std.proofs.Common.{ℕ, take}
+use Rattle.dict_rows.specs.Tables.{Tables}
+use Rattle.dict_rows.specs.Given.{kept_given}
+use Rattle.dict_rows.specs.Taken.{HasTaken}
+use Rattle.dict_rows.specs.Whole.{with_replies}
+use Rattle.dict_rows.proofs.summary.read_replies.Given as goal
+
+abbrev pub invariant-loop-row : goal.invariant-loop-row
+invariant-loop-row l = (version : ℕ) (taken : Tables) → HasTaken version l.initial.reader taken → HasTaken version l.reader (with_replies taken (kept_given (take l.row-index l.rows)))

@@ -1,0 +1,50 @@
+// The record of an entry.
+ghost use Rattle.std.specs.Prelude.{◌≡◌, ◌+◌, ◌<◌, ◌≤◌, length, take, drop, MatchOption, OnOk, IfErr};
+ghost use Rattle.dict_records.specs.Typed.{owned_entry};
+ghost use Rattle.dict_rows.specs.Given.{OnDamage, IsEntry, IsNoEntry};
+
+use crate::fault::RowsFault;
+use crate::items::{is_number, number_of};
+use dict_index::{entry_key, is_edition_text};
+use dict_records::Entry;
+use std::alloc::Global;
+
+/// What an interval cuts out of a text, if it lies within it.
+fn cut_out(text: &[u8], start: u64, size: u64) -> Option<&[u8]>
+    ensures { MatchOption result (length text.now < start + size) (λ body. (start + size ≤ length text.now) × (body.now ≡ take size (drop start text.now))) }
+{
+    let most = text.len() as u64;
+    if start > most || size > most - start {
+        return None;
+    }
+    Some(&text[start as usize..(start + size) as usize])
+}
+
+/// Whether a record is that of an entry at this place of this edition: its interval lies within the text, and its
+/// headword and its body are lawful. Else it is `Damaged`.
+pub(crate) fn test_entry(
+    alloc: Global,
+    number: u64,
+    ord: u64,
+    text: &[u8],
+    row: &Entry<String>,
+) -> Result<(), RowsFault>
+    ensures is { OnOk result (IsEntry number ord text.now (owned_entry row.now)) }
+    ensures damaged { IfErr result (λ fault. OnDamage fault (IsNoEntry number ord text.now (owned_entry row.now))) }
+{
+    if !is_number(number, &row.edition) || !is_number(ord, &row.ord) {
+        return Err(RowsFault::Damaged);
+    }
+    let start = number_of(&row.start)?;
+    let size = number_of(&row.length)?;
+    let Some(body) = cut_out(text, start, size) else {
+        return Err(RowsFault::Damaged);
+    };
+    if !is_edition_text(body) {
+        return Err(RowsFault::Damaged);
+    }
+    let Some(_) = entry_key(alloc, row.headword.as_str())? else {
+        return Err(RowsFault::Damaged);
+    };
+    Ok(())
+}

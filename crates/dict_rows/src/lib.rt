@@ -1,0 +1,18 @@
+//! The records of the tables, and the catalogue that they stand for.
+#![tactic(auto)]
+
+mod entries;
+mod fault;
+mod items;
+mod lawful;
+mod laws;
+mod marks;
+mod reader;
+mod replies;
+mod summary;
+mod titles;
+
+pub use fault::RowsFault;
+pub use laws::one_catalogue;
+pub use reader::Reader;
+pub use summary::{EditionRows, Tables, summary_of};

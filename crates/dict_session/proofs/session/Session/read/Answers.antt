@@ -1,0 +1,63 @@
+use Rattle.std.proofs.Common.{◌≡◌, ℕ, ◌<◌, ◌+◌, List, [], ◌∷◌, ◌++◌, length, take, drop, get_or, sym, ap, ◌∙◌, subst, append_assoc, append-nil, arith, refl, take-append-drop}
+use Rattle.std.proofs.lemmas.List.{take_more, take_all}
+use Rattle.dict_session.specs.Session.{Leaves, IsSameSession, host_of}
+use Rattle.dict_session.specs.Answers.{answer_to}
+use Rattle.dict_session.specs.Lines.{cut}
+use Rattle.dict_session.specs.declared.session.Session.{Session}
+use Rattle.dict_session.specs.declared.step.Step.TheVariants.{More}
+use Rattle.dict_session.proofs.SessionLemmas.{leaves_more, leaves_ended, leaves_held}
+use Rattle.dict_session.proofs.session.Session.read.Goals as goal
+
+-- one more octet of the piece
+longer : (rest piece : List ℕ) (i : ℕ) → i < length piece → (rest ++ take i piece) ++ get_or piece i 0 ∷ [] ≡ rest ++ take (i + 1) piece
+longer rest piece i lt = append_assoc rest (take i piece) (get_or piece i 0 ∷ []) ∙ ap (λ l. rest ++ l) (sym (take_more piece i 0 lt))
+
+same_after : (a b c : Session) → IsSameSession a b → IsSameSession b c → IsSameSession a c
+same_after a b c h g = record { host = g.host ∙ h.host; connection = g.connection ∙ h.connection; room = g.room ∙ h.room }
+
+pub loop-octet-init : goal.loop-octet-init
+loop-octet-init g c = record {
+  left = λ rest h. subst (Leaves (answer_to c.args.plain.now (host_of c.args.self.now)) More c.args.self.now (g.K.Sink.stream c.args.sink.now) (g.K.Sink.stream c.args.sink.now)) (sym (append-nil rest))
+      (leaves_held (answer_to c.args.plain.now (host_of c.args.self.now)) c.args.self.now (g.K.Sink.stream c.args.sink.now) rest h.unfinished h);
+  same = record { host = refl; connection = refl; room = refl };
+}
+
+pub loop-octet-preserved : goal.loop-octet-preserved
+loop-octet-preserved g c = record {
+  left = λ rest h.
+      (let i = c.loop-octet.octet-index in
+      let piece = c.args.piece.now in
+      let lt : i < length piece = omega arith in
+      let before = c.loop-octet.invariant.left rest h in
+      let answer = answer_to c.args.plain.now (host_of c.args.self.now) in
+      let one = subst (λ (host : List ℕ). Leaves (answer_to c.args.plain.now host) More c.take.new.self (g.K.Sink.stream c.loop-octet.sink) (g.K.Sink.stream c.take.new.sink) ((cut (rest ++ take i piece)).rest ++ get_or piece i 0 ∷ []))
+      c.loop-octet.invariant.same.host (c.in-More.ensures.answers (cut (rest ++ take i piece)).rest before.1) in
+      subst (Leaves answer More c.take.new.self (g.K.Sink.stream c.args.sink.now) (g.K.Sink.stream c.take.new.sink)) (longer rest piece i lt)
+      (leaves_more answer More c.loop-octet.self c.take.new.self _ (g.K.Sink.stream c.loop-octet.sink) _ (rest ++ take i piece) (get_or piece i 0 ∷ []) before one));
+  same = same_after _ _ _ c.loop-octet.invariant.same c.in-More.ensures.same;
+}
+
+pub returns-in_default : goal.returns-in_default
+returns-in_default g c = record {
+  answers = λ rest h.
+      (let i = c.loop-octet.octet-index in
+      let piece = c.args.piece.now in
+      let lt : i < length piece = omega arith in
+      let before = c.loop-octet.invariant.left rest h in
+      let read = (rest ++ take i piece) ++ get_or piece i 0 ∷ [] in
+      let whole : read ++ drop (i + 1) piece ≡ rest ++ piece =
+      ap (λ l. l ++ drop (i + 1) piece) (longer rest piece i lt) ∙ (append_assoc rest (take (i + 1) piece) (drop (i + 1) piece) ∙ ap (λ l. rest ++ l) (take-append-drop (i + 1) piece)) in
+      let answer = answer_to c.args.plain.now (host_of c.args.self.now) in
+      let one = subst (λ (host : List ℕ). Leaves (answer_to c.args.plain.now host) c.take.result c.take.new.self (g.K.Sink.stream c.loop-octet.sink) (g.K.Sink.stream c.take.new.sink) ((cut (rest ++ take i piece)).rest ++ get_or piece i 0 ∷ []))
+      c.loop-octet.invariant.same.host (c.take.ensures.answers (cut (rest ++ take i piece)).rest before.1) in
+      subst (Leaves answer c.take.result c.take.new.self (g.K.Sink.stream c.args.sink.now) (g.K.Sink.stream c.take.new.sink)) whole
+      (leaves_ended answer c.take.result c.take.new.self _ _ read (drop (i + 1) piece) c.in_default.not-More
+      (leaves_more answer c.take.result c.loop-octet.self c.take.new.self _ (g.K.Sink.stream c.loop-octet.sink) _ (rest ++ take i piece) (get_or piece i 0 ∷ []) before one)));
+  same = same_after _ _ _ c.loop-octet.invariant.same c.take.ensures.same;
+}
+
+pub returns-clause-answers : goal.returns-clause-answers
+returns-clause-answers g c rest h =
+    let piece = c.args.piece.now in
+    let whole : rest ++ take c.loop-octet.octet-index piece ≡ rest ++ piece = ap (λ l. rest ++ l) (take_all _ piece (omega arith)) in
+    subst (Leaves (answer_to c.args.plain.now (host_of c.args.self.now)) More c.loop-octet.self (g.K.Sink.stream c.args.sink.now) (g.K.Sink.stream c.loop-octet.sink)) whole (c.loop-octet.invariant.left rest h)

@@ -1,0 +1,5 @@
+use Rattle.dict_session.proofs.ShortLemmas.{session-short}
+use Rattle.dict_session.proofs.session_lines_are_short.Goals as goal
+
+pub returns : goal.returns
+returns c = session-short

@@ -1,0 +1,7 @@
+use Rattle.std.proofs.Common.{subst}
+use Rattle.dict_io.specs.Streams.{Puts}
+use Rattle.dict_session.proofs.ShowLemmas.{server_is}
+use Rattle.dict_session.proofs.show.put_server.Goals as goal
+
+pub returns : goal.returns
+returns g c = subst (Puts c.put_replies.result (g.K.Sink.stream c.args.sink.now) (g.K.Sink.stream c.put_replies.new.sink)) (server_is c.args.host) c.put_replies.ensures

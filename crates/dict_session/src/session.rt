@@ -1,0 +1,181 @@
+// One session in pieces.
+ghost use Rattle.std.specs.Prelude.{◌≡◌, ◌≢◌, ℕ, ◌≤◌, ◌-◌, List, [], ◌∷◌, ◌++◌, IfOk, vec_len, vec_capacity, length, take};
+ghost use Rattle.dict_line.specs.Meaning.{meaning};
+ghost use Rattle.dict_line.specs.Told.{Tells};
+ghost use Rattle.dict_proto.specs.Replies.{banner_octets};
+ghost use Rattle.dict_session.specs.Answers.{answer_to};
+ghost use Rattle.dict_session.specs.declared.step.Step.TheVariants.{More};
+
+use crate::answer::{answer_line, put_line};
+use crate::plain::Plain;
+use crate::step::Step;
+use dict_io::Sink;
+use dict_line::{LineFault, MAX_LINE_OCTETS, Request, parse_line};
+use dict_proto::Reply;
+use std::alloc::{AllocError, Global};
+
+pub mod run;
+
+/// A session: the unfinished line that it has read, and how its last call ended.
+#[derive(Drop)]
+pub struct Session<'h> {
+    host: &'h str,
+    connection: u64,
+    held: Vec<u8>,
+    is_overlong: bool,
+    after_cr: bool,
+    last: Step,
+    ghost room: { 6144 ≤ vec_capacity held },
+    ghost short: { vec_len held ≤ 6144 },
+}
+
+impl<'h> Session<'h> {
+    ghost use Rattle.dict_session.specs.Session.{HasUnfinished, Leaves, EndsLine, IsSameSession, step_of, host_of, connection_of};
+    ghost use Rattle.dict_session.specs.Ending.{PutsLine};
+    ghost use Rattle.dict_session.specs.Lines.{HasNoLineEnd};
+
+    /// A session that has read nothing, with the name of the server's host and the connection's number. The line's
+    /// room is taken here, and never grows.
+    pub fn new(alloc: Global, host: &'h str, connection: u64) -> Result<Session<'h>, AllocError>
+        ensures line { IfOk result (λ s. HasUnfinished s []) }
+        ensures step { IfOk result (λ s. step_of s ≡ More) }
+        ensures host { IfOk result (λ s. host_of s ≡ host.now) }
+        ensures connection { IfOk result (λ s. connection_of s ≡ connection) }
+    {
+        let held = Vec::with_capacity(alloc, MAX_LINE_OCTETS)?;
+        Ok(Session {
+            host,
+            connection,
+            held,
+            is_overlong: false,
+            after_cr: false,
+            last: Step::More,
+        })
+    }
+
+    /// Puts the greeting. Once a call of the session ended by `Quit` or `Broken`, it answers the same and puts nothing.
+    pub fn greet<K: Sink>(&mut self, sink: &mut K) -> Step
+        ensures greeting { step_of self.old ≡ More
+            → PutsLine result (K.stream sink.old) (K.stream sink.new) (banner_octets (host_of self.old) (connection_of self.old)) }
+        ensures line { (rest : List ℕ) → HasUnfinished self.old rest → HasUnfinished self.new rest }
+        ensures step { step_of self.new ≡ result }
+        ensures same { IsSameSession self.old self.new }
+        ensures ended { step_of self.old ≢ More → (result ≡ step_of self.old) × (K.stream sink.new ≡ K.stream sink.old) }
+    {
+        if self.last != Step::More {
+            return self.last;
+        }
+        let banner = Reply::Banner {
+            host: self.host,
+            connection: self.connection,
+        };
+        self.last = put_line(&banner, sink);
+        self.last
+    }
+
+    /// Takes the next piece of what the client sent, and puts the answer to each line that it ends, up to that of
+    /// a QUIT. A line of more than 6,144 octets is answered once, at its end. Once a call of the session ended by
+    /// `Quit` or `Broken`, it answers the same and puts nothing.
+    pub fn feed<K: Sink>(
+        &mut self,
+        alloc: Global,
+        piece: &[u8],
+        plain: &Plain,
+        sink: &mut K,
+    ) -> Step
+        ensures answers { step_of self.old ≡ More → (rest : List ℕ) → HasUnfinished self.old rest
+            → Leaves (answer_to plain.now (host_of self.old)) result self.new (K.stream sink.old) (K.stream sink.new) (rest ++ piece.now) }
+        ensures step { step_of self.new ≡ result }
+        ensures same { IsSameSession self.old self.new }
+        ensures ended { step_of self.old ≢ More → (result ≡ step_of self.old) × (K.stream sink.new ≡ K.stream sink.old) }
+    {
+        if self.last != Step::More {
+            return self.last;
+        }
+        self.last = self.read(alloc, piece, plain, sink);
+        self.last
+    }
+
+    // The same for a session that goes on.
+    fn read<K: Sink>(&mut self, alloc: Global, piece: &[u8], plain: &Plain, sink: &mut K) -> Step
+        ensures answers { (rest : List ℕ) → HasUnfinished self.old rest
+            → Leaves (answer_to plain.now (host_of self.old)) result self.new (K.stream sink.old) (K.stream sink.new) (rest ++ piece.now) }
+        ensures same { IsSameSession self.old self.new }
+    {
+        for octet in piece {
+            match self.take(alloc, *octet, plain, sink) {
+                Step::More => {}
+                step => return step,
+            }
+        }
+        Step::More
+    }
+
+    // Takes one octet.
+    fn take<K: Sink>(&mut self, alloc: Global, octet: u8, plain: &Plain, sink: &mut K) -> Step
+        ensures answers { (rest : List ℕ) → HasUnfinished self.old rest
+            → Leaves (answer_to plain.now (host_of self.old)) result self.new (K.stream sink.old) (K.stream sink.new) (rest ++ octet ∷ []) }
+        ensures same { IsSameSession self.old self.new }
+    {
+        if octet == b'\n' && self.after_cr {
+            self.end_line(alloc, plain, sink)
+        } else {
+            self.hold(octet);
+            Step::More
+        }
+    }
+
+    // Adds an octet that ends no line.
+    fn hold(&mut self, octet: u8)
+        ensures line { (rest : List ℕ) → HasUnfinished self.old rest → HasNoLineEnd (rest ++ octet ∷ []) → HasUnfinished self.new (rest ++ octet ∷ []) }
+        ensures same { IsSameSession self.old self.new }
+    {
+        if self.held.len() < MAX_LINE_OCTETS {
+            self.held.push_reserved(octet);
+        } else {
+            self.is_overlong = true;
+        }
+        self.after_cr = octet == b'\r';
+    }
+
+    // The octets held but for the last.
+    fn line(&self) -> &[u8]
+        ensures { result.now ≡ take (length self.now.held.items - 1) self.now.held.items }
+    {
+        let length = self.held.len().saturating_sub(1);
+        &self.held.as_slice()[..length]
+    }
+
+    // What the line asks whose CR was read last.
+    fn request(&self, alloc: Global) -> Result<Request, LineFault>
+        ensures { (rest : List ℕ) → HasUnfinished self.now rest → Tells result (meaning (take (length rest - 1) rest)) }
+    {
+        if self.is_overlong {
+            Err(LineFault::NotRecognized)
+        } else {
+            parse_line(alloc, self.line())
+        }
+    }
+
+    // Answers the line whose CR was read last, at its LF.
+    fn end_line<K: Sink>(&mut self, alloc: Global, plain: &Plain, sink: &mut K) -> Step
+        ensures answers { (rest : List ℕ) → HasUnfinished self.old rest
+            → EndsLine (answer_to plain.now (host_of self.old)) result self.new (K.stream sink.old) (K.stream sink.new) (take (length rest - 1) rest) }
+        ensures same { IsSameSession self.old self.new }
+    {
+        let step = answer_line(alloc, plain, self.host, self.request(alloc), sink);
+        if step == Step::More {
+            self.clear();
+        }
+        step
+    }
+
+    fn clear(&mut self)
+        ensures line { HasUnfinished self.new [] }
+        ensures same { IsSameSession self.old self.new }
+    {
+        self.held.clear();
+        self.is_overlong = false;
+        self.after_cr = false;
+    }
+}

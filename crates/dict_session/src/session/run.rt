@@ -1,0 +1,65 @@
+// A session over a source and a sink.
+ghost use Rattle.dict_io.specs.Streams.{change};
+ghost use Rattle.dict_session.specs.Run.{Ends};
+
+use crate::plain::Plain;
+use crate::session::Session;
+use crate::step::Step;
+use dict_io::{Sink, Source};
+use std::alloc::Global;
+
+/// How a session ended that met no fault.
+#[derive(Clone, Copy, Debug, PartialEq, Eq)]
+pub enum End {
+    /// A QUIT was answered.
+    Quit,
+    /// The client's octets ended.
+    InputEnd,
+}
+
+/// Why a session ended otherwise.
+#[derive(Clone, Copy, Debug, PartialEq, Eq)]
+pub enum SessionFault {
+    /// The reader failed, or has given 18,446,744,073,709,551,615 octets.
+    Read,
+    /// The writer failed.
+    Write,
+    /// The session's room was refused. Nothing was read or written.
+    Memory,
+}
+
+/// Greets a client, and answers its lines up to a QUIT or to the end of its octets. `host` is the name of the server's
+/// host, and `connection` the connection's number. At most 4,096 octets are read at a time, and no more once a QUIT
+/// was answered or the writer has failed.
+pub fn run<S: Source, K: Sink>(
+    alloc: Global,
+    reader: &mut S,
+    writer: &mut K,
+    plain: &Plain,
+    host: &str,
+    connection: u64,
+) -> Result<End, SessionFault>
+    ensures { Ends plain.now host.now connection result
+        (change S.stream reader.old reader.new) (change K.stream writer.old writer.new) }
+{
+    let Ok(mut session) = Session::new(alloc, host, connection) else {
+        return Err(SessionFault::Memory);
+    };
+    match session.greet(writer) {
+        Step::More => {}
+        Step::Quit | Step::Broken => return Err(SessionFault::Write),
+    }
+    let mut room = [0u8; 4096];
+    'reads: for _turn in 0..u64::MAX {
+        match reader.take(&mut room) {
+            Err(_) => return Err(SessionFault::Read),
+            Ok(0) => return Ok(End::InputEnd),
+            Ok(n) => match session.feed(alloc, &room[..n], plain, writer) {
+                Step::More => {}
+                Step::Quit => return Ok(End::Quit),
+                Step::Broken => return Err(SessionFault::Write),
+            },
+        }
+    }
+    Err(SessionFault::Read)
+}

@@ -1,0 +1,12 @@
+use Rattle.std.proofs.Common.{◌≡◌, sym, subst, arith, length}
+use Rattle.std.proofs.lemmas.Str.{IsUtf8-string_bytes}
+use Rattle.dict_sql.specs.Columns.{HasColumns, entry_columns}
+use Rattle.dict_sql.proofs.RowLemmas.{cells}
+use Rattle.dict_sql.proofs.records.StoredEntryStringRecord.from_row.Goals as goal
+
+pub returns-clause-lawful : goal.returns-clause-lawful
+returns-clause-lawful c =
+    let row = c.args.row.now in
+    let wide : length row ≡ 6 = omega (arith, c.column_count.ensures) in
+    subst (HasColumns entry_columns) (sym (cells row 6 wide))
+    ((_, c.in_ok-cell.ensures.ok), ((_, c.in_ok-cell-2.ensures.ok), ((_, c.in_ok-cell-3.ensures.ok), ((_, c.in_ok-cell-4.ensures.ok, IsUtf8-string_bytes c.in_ok-cell-4.field-0), ((_, c.in_ok-cell-5.ensures.ok), ((_, c.in_ok-cell-6.ensures.ok), tt))))))

@@ -1,0 +1,42 @@
+//! A table is made and cleared, each in a transaction of its own.
+
+ghost use Rattle.std.specs.Prelude.{OnOk};
+ghost use Rattle.sqlite.specs.State.{HasCleanDisk};
+ghost use Rattle.sqlite.specs.Held.{state};
+ghost use Rattle.dict_tables.specs.Tables.{table_of};
+ghost use Rattle.dict_sql.specs.Effects.{HasApartRowids, rows_of};
+
+use dict_sql::commit::commit;
+use dict_sql::create::create_table;
+use dict_sql::delete::clear_table;
+use dict_tables::{StoreTable, has_table, is_name_used, waits_for_counter};
+use sqlite::{Alter, Connection, Error};
+
+/// Makes the table where its name is free.
+pub(crate) fn make<S: Alter>(conn: &mut Connection<S>, table: StoreTable) -> Result<(), Error>
+    ensures { HasCleanDisk (state S.Store conn.new) → OnOk result (HasApartRowids (rows_of (table_of table 0).name (state S.Store conn.new).now)) }
+{
+    let schema = conn.schema();
+    if is_name_used(schema, table.name().as_bytes())
+        || waits_for_counter(schema)
+        || !conn.is_autocommit()
+    {
+        return Err(Error::InvalidQuery);
+    }
+    let mut tx = conn.transaction();
+    create_table(&mut tx, table)?;
+    commit(tx)
+}
+
+/// Clears the table where it is there.
+pub(crate) fn clear<S: Alter>(conn: &mut Connection<S>, table: StoreTable) -> Result<(), Error>
+    requires { HasCleanDisk (state S.Store conn.old) → HasApartRowids (rows_of (table_of table 0).name (state S.Store conn.old).now) }
+    ensures { HasCleanDisk (state S.Store conn.new) → OnOk result (HasApartRowids (rows_of (table_of table 0).name (state S.Store conn.new).now)) }
+{
+    if !has_table(conn.schema(), table) || !conn.is_autocommit() {
+        return Err(Error::InvalidQuery);
+    }
+    let mut tx = conn.transaction();
+    clear_table(&mut tx, table)?;
+    commit(tx)
+}
