@@ -2,6 +2,7 @@
 use super::files::{GEM, read};
 use crate::{Fault, Halted, Keeper, Lookup, PlainDesk, apply_all};
 use dict_catalogue::{Command, Kept, Refusal, Verb};
+use dict_index::Edition;
 use std::alloc::Global;
 use std::test::Fail;
 
@@ -17,21 +18,16 @@ fn told(answer: &Result<Kept, Refusal>) -> (u64, Option<Verb>, Option<u64>) {
 fn four<K: Keeper>(
     alloc: Global,
     desk: &mut K,
-) -> Result<Result<Vec<Result<Kept, Refusal>>, Halted>, Fail> {
-    let edition = read(alloc, GEM)?;
+    edition: &Edition,
+) -> Result<Vec<Result<Kept, Refusal>>, Halted> {
+    let name = "gem";
     let requests = [
-        (
-            "r1",
-            Command::Install {
-                name: "gem",
-                edition: &edition,
-            },
-        ),
-        ("r2", Command::Rollback { name: "gem" }),
-        ("r1", Command::Retire { name: "gem" }),
-        ("r2", Command::Retire { name: "gem" }),
+        ("r1", Command::Install { name, edition }),
+        ("r2", Command::Rollback { name }),
+        ("r1", Command::Retire { name }),
+        ("r2", Command::Retire { name }),
     ];
-    Ok(apply_all(alloc, desk, &requests))
+    apply_all(alloc, desk, &requests)
 }
 
 const FOUR: [(u64, Option<Verb>, Option<u64>); 4] = [
@@ -45,7 +41,8 @@ const FOUR: [(u64, Option<Verb>, Option<u64>); 4] = [
 fn each_in_turn(rt: HostRuntime) -> Result<(), Fail> {
     let alloc = rt.alloc();
     let mut desk = PlainDesk::new(alloc);
-    let answers = four(alloc, &mut desk)??;
+    let edition = read(alloc, GEM)?;
+    let answers = four(alloc, &mut desk, &edition)?;
     assert_eq!(rt; answers.len(), FOUR.len());
     for (answer, wanted) in answers.iter().zip(FOUR.iter()) {
         assert_eq!(rt; told(answer), *wanted);
