@@ -1,6 +1,6 @@
 -- Commands one after another: what one more of them makes of the answers, of the catalogue and of what a stop may leave.
-use Rattle.std.proofs.Common.{◌≡◌, ◌⊎◌, inl, inr, ℕ, zero, suc, ◌+◌, ◌<◌, Bool, true, false, List, [], ◌∷◌, ◌++◌, length, take, get_or, refl, sym, ap, ◌∙◌, subst, arith}
-use Rattle.std.specs.Prelude.{◌||◌, map, cond, Option, Some, None, is_some, is_ok, MatchBool, Result, Ok, Err}
+use Rattle.std.proofs.Common.{◌≡◌, ◌⊎◌, inl, inr, ℕ, suc, ◌+◌, ◌<◌, Bool, true, false, List, [], ◌∷◌, ◌++◌, length, take, get_or, refl, sym, ap, ◌∙◌, subst, arith}
+use Rattle.std.specs.Prelude.{◌||◌, cond, Option, Some, None, is_some, is_ok, MatchBool, Result, Ok, Err}
 use Rattle.std.specs.Borrow.{Bor}
 use Rattle.std.proofs.lemmas.Bool.{true≢false, false≢true}
 use Rattle.std.proofs.lemmas.List.{map-append, length-map}
@@ -12,7 +12,6 @@ use Rattle.dict_catalogue.specs.Commands.{Command}
 use Rattle.dict_catalogue.specs.Tests.{tests_of}
 use Rattle.dict_catalogue.specs.Effects.{KeptReply}
 use Rattle.dict_catalogue.specs.Steps.{Catalogue, holdings, Reply, accepted, refused, Outcome, Request, step, after, acts, acts_unless_kept, kept_under, IsStep, id_unlawful, id_kept, test_failed, none_failed}
-use Rattle.dict_catalogue.specs.Views.{kept_shown}
 use Rattle.dict_catalogue.specs.declared.commands.Command as written
 use Rattle.dict_catalogue.specs.declared.fault.Refusal.{Refusal}
 use Rattle.dict_catalogue.specs.declared.reply.Kept.{Kept}
@@ -20,7 +19,7 @@ use Rattle.dict_catalogue.proofs.StepLemmas.{failing_first, none_failing, step_i
 use Rattle.dict_desk.specs.Faults.{has_failed_by, has_closed_by}
 use Rattle.dict_desk.specs.Applying.{Applies, Leaves, LeavesNoMore}
 use Rattle.dict_desk.specs.Requests.{request_meant, requests_meant}
-use Rattle.dict_desk.specs.AllApplied.{settled_answer, reply_shown, replies, has_acted, LeftAfter, AllAnswered, Stands, StandsOrOneMore, HaltsAt}
+use Rattle.dict_desk.specs.AllApplied.{settled_answer, reply_shown, replies, has_acted, AllAnswered, HaltsAt}
 use Rattle.dict_desk.specs.declared.fault.Fault.{Fault}
 use Rattle.dict_desk.specs.declared.fault.Fault.TheVariants.{Refused, Memory, Disk, Closed, NotACatalogue, Damaged, NewerSchema}
 

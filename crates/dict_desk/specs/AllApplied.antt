@@ -1,14 +1,12 @@
 -- Commands that are applied one after another, each in its turn: what they are answered, what they make of a catalogue,
 -- and what a stop may leave of them.
-use Rattle.std.specs.Prelude.{◌≡◌, ◌⊎◌, ◌≤◌, ◌+◌, ℕ, Bool, true, false, ◌||◌, List, [], ◌∷◌, map, length, take, Option, Some, MatchBool, Result, Ok, Err}
-use Rattle.std.specs.Borrow.{Bor}
+use Rattle.std.specs.Prelude.{◌≡◌, ◌⊎◌, ◌+◌, ℕ, Bool, false, ◌||◌, List, [], ◌∷◌, map, take, Option, Some, MatchBool, Result, Ok, Err}
 use Rattle.dict_catalogue.specs.Steps.{Catalogue, Reply, accepted, refused, Request, step, after, acts}
-use Rattle.dict_catalogue.specs.Views.{command_meant, kept_shown}
+use Rattle.dict_catalogue.specs.Views.{kept_shown}
 use Rattle.dict_catalogue.specs.declared.reply.Kept.{Kept}
 use Rattle.dict_catalogue.specs.declared.fault.Refusal.{Refusal}
 use Rattle.dict_desk.specs.declared.fault.Fault.{Fault}
 use Rattle.dict_desk.specs.declared.fault.Fault.TheVariants.{Refused, Memory, Disk, Closed, NotACatalogue, Damaged, NewerSchema}
-use Rattle.dict_desk.specs.declared.keeper.Halted.{Halted}
 use Rattle.dict_desk.specs.Applying.{LeavesNoMore}
 
 -- an answer that lets the next command have its turn, or the failure that doesn't

@@ -1,6 +1,6 @@
-use Rattle.std.proofs.Common.{◌≡◌, ◌+◌, ◌<◌, ◌++◌, [], ◌∷◌, List, ℕ, refl, sym, ap, ◌∙◌, subst, take, rules, arith}
+use Rattle.std.proofs.Common.{◌+◌, sym, ◌∙◌, subst, take, arith}
 use Rattle.std.proofs.lemmas.Grind.{common_steps}
-use Rattle.dict_catalogue.specs.Steps.{Catalogue, after}
+use Rattle.dict_catalogue.specs.Steps.{after}
 use Rattle.dict_desk.specs.Faults.{has_closed_by}
 use Rattle.dict_desk.specs.AllApplied.{AllAnswered, HaltsAt}
 use Rattle.dict_desk.specs.Requests.{request_meant, requests_meant}

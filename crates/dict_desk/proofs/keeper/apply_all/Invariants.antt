@@ -1,4 +1,4 @@
-use Rattle.std.proofs.Common.{◌≡◌, ◌≤◌, ◌<◌, true, false, List, length, ℕ, take}
+use Rattle.std.proofs.Common.{◌≡◌, ◌≤◌, ◌<◌, false, length, take}
 use Rattle.std.specs.Prelude.{vec_len, vec_capacity}
 use Rattle.dict_catalogue.specs.Steps.{Catalogue}
 use Rattle.dict_desk.specs.AllApplied.{AllAnswered}
