@@ -3,6 +3,7 @@ ghost use Rattle.std.specs.Prelude.{◌≡◌, ◌<◌, ◌≤◌, ℕ, length, 
 ghost use Rattle.httparse.specs.Spans.{IsRequestOf, IsRequestWithin};
 ghost use Rattle.dict_head.specs.Heads.{Needs, NeedsHead, HasEnd, IsLineEnd, front_of};
 ghost use Rattle.dict_head.specs.Requests.{IsReading, IsHeadReading};
+ghost use Rattle.dict_head.specs.declared.kinds.Need as needs;
 
 use crate::fields::{framing_of, values_of};
 use crate::kinds::{Framing, Need, Reading, Request};
@@ -112,7 +113,8 @@ pub fn read_request(octets: &[u8]) -> Reading<'_>
 
 /// What to do with the octets of a request that have come. It takes no memory.
 pub fn need(octets: &[u8]) -> Need
-    ensures { Needs octets.now result }
+    ensures is { Needs octets.now result }
+    ensures only { (other : needs.Need) → Needs octets.now other → other ≡ result }
 {
     match read_request(octets) {
         Reading::More => Need::More,

@@ -38,13 +38,16 @@ const MOVED: &[u8] =
 const NO_FORMER: &[u8] =
     b"HTTP/1.1 409 Conflict\r\nContent-Type: application/json\r\nContent-Length: 34\r\nConnection: close\r\n\r\n{\"reason\":\"NoFormer\",\"refusal\":23}";
 
-// Whether the request is answered so.
+// Whether the request is whole, or refused, and is answered so.
 fn answers(
     alloc: Global,
     desk: &mut PlainDesk,
     request: &[u8],
     wanted: &[u8],
 ) -> Result<bool, Fail> {
+    if let Need::More = need(request) {
+        return Ok(false);
+    }
     let service = Service::new(alloc)?;
     let answer = service.respond(alloc, request, desk);
     Ok(answer.octets() == wanted)
