@@ -1,4 +1,5 @@
 //! Requests over a desk in memory, answered octet for octet.
+mod curl;
 mod failing;
 mod statuses;
 mod table;
