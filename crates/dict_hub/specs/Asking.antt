@@ -1,0 +1,21 @@
+-- What a piece of an editor's request leaves.
+use Rattle.std.specs.Prelude.{◌≡◌, ◌⊎◌, ◌++◌, ℕ, List, Option}
+use Rattle.dict_io.specs.Streams.{Stream, PutsAll, PutsFront}
+use Rattle.dict_catalogue.specs.Steps.{Catalogue}
+use Rattle.dict_head.specs.Heads.{Needs}
+use Rattle.dict_head.specs.declared.kinds.Need.TheVariants.{More as NeedsMore}
+use Rattle.dict_http.specs.Responding.{Responds}
+use Rattle.dict_http.specs.Settling.{Settles}
+
+-- More octets are needed than have come, and nothing is answered.
+pub record Awaits (octets held : List ℕ) (old new : Stream) : Type 0 where
+  pub more : Needs octets NeedsMore
+  pub held_all : held ≡ octets
+  pub nothing : new ≡ old
+
+-- The octets that have come are answered over this catalogue, and the answer is put, or where the sink failed a front of
+-- it.
+pub record Answers (Shows : Catalogue → Type 0) (Before After : List (Option Catalogue) → Type 0) (before : Catalogue) (octets : List ℕ) (old new : Stream) : Type 0 where
+  pub answer : List ℕ
+  pub responds : Responds Shows Before After before (Settles before octets) answer
+  pub puts : PutsAll old new answer ⊎ PutsFront old new answer
