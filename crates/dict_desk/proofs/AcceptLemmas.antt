@@ -1,6 +1,6 @@
 -- What an accepted command makes of the parts of a catalogue in memory.
 use Rattle.std.proofs.Common.{◌≡◌, ℕ, ◌+◌, ◌≤◌, ◌<◌, Bool, true, false, not, ◌||◌, ◌==◌, List, [], ◌∷◌, ◌++◌, length, map, refl, sym, ap, subst, ◌∙◌, cond, arith, bytes_eq}
-use Rattle.std.specs.Prelude.{filter, find, flat_map, Option, Some, None, option_map, unwrap_or, IfSome}
+use Rattle.std.specs.Prelude.{filter, Option, Some, None, option_map, unwrap_or, IfSome}
 use Rattle.std.specs.List.{AllByRecursion, list_any}
 use Rattle.std.specs.Option.{option_or}
 use Rattle.std.proofs.lemmas.Bool.{eqb-true, eq-eqb, both_ways}
@@ -12,7 +12,7 @@ use Rattle.dict_catalogue.specs.Items.{Stored, Item, regular, virtual, editions_
 use Rattle.dict_catalogue.specs.Commands.{Command, install, rollback, retire, put_virtual, place}
 use Rattle.dict_catalogue.specs.Tests.{Holdings}
 use Rattle.dict_catalogue.specs.Effects.{KeptReply, items_after, installs_after, effect, reply_to, editions_gone}
-use Rattle.dict_catalogue.specs.Steps.{KeptFor, Catalogue, Outcome, Reply, accepted, refused, holdings, summary_of, kept_under, with_effect, step, IsStep, id_unlawful, id_kept, test_failed, none_failed}
+use Rattle.dict_catalogue.specs.Steps.{KeptFor, Catalogue, Outcome, accepted, refused, holdings, summary_of, kept_under, with_effect, step, IsStep, id_unlawful, id_kept, test_failed, none_failed}
 use Rattle.dict_catalogue.specs.Views.{summary_shown, kept_shown, IsChangeOf}
 use Rattle.dict_catalogue.specs.declared.planning.Change.{Change}
 use Rattle.dict_catalogue.specs.WellFormed.{IsWellFormed, IsLawfulCommand}

@@ -1,8 +1,7 @@
 -- Which edition a number finds.
-use Rattle.std.proofs.Common.{◌≡◌, ℕ, List, sym, ap, subst, ◌∙◌}
-use Rattle.std.specs.Prelude.{Option, Some, None, Result, Ok, Err, OnErr}
+use Rattle.std.proofs.Common.{◌≡◌, ℕ, sym, ap, subst, ◌∙◌}
+use Rattle.std.specs.Prelude.{Some, None, Result, Ok, Err, OnErr}
 use Rattle.dict_index.specs.Edition.{Edition}
-use Rattle.dict_catalogue.specs.Items.{Stored}
 use Rattle.dict_catalogue.specs.Steps.{Catalogue}
 use Rattle.dict_desk.specs.Shown.{HasEdition}
 use Rattle.dict_desk.specs.Plain.{PlainState}

@@ -8,3 +8,4 @@ mod PlainLemmas
 mod DeskLemmas
 mod ReplyLemmas
 mod AcceptLemmas
+pub mod AllLemmas

@@ -1,5 +1,5 @@
 -- What is handed out of a list of entries, as it is gone through.
-use Rattle.std.proofs.Common.{◌≡◌, ℕ, zero, suc, ◌+◌, ◌<◌, Bool, true, false, List, [], ◌∷◌, ◌++◌, length, map, take, drop, get_or, refl, sym, ap, ◌∙◌, cond, arith}
+use Rattle.std.proofs.Common.{◌≡◌, ℕ, zero, suc, ◌<◌, Bool, true, false, List, [], ◌∷◌, ◌++◌, length, map, take, drop, get_or, refl, ap, cond, arith}
 use Rattle.std.specs.Prelude.{filter}
 
 module _ {X Y : Type 0} (p : X → Bool) (r : X → Y) where

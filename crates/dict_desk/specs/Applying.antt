@@ -1,6 +1,6 @@
 -- What a command leaves: the catalogue that is shown, and those of which a stop may leave one.
 use Rattle.std.specs.Prelude.{◌≡◌, ◌⊎◌, Bool, List, ◌∷◌, [], Option, Some, MatchBool, Result, Ok, Err}
-use Rattle.dict_catalogue.specs.Steps.{Catalogue, Outcome, accepted, refused, kept_under}
+use Rattle.dict_catalogue.specs.Steps.{Catalogue, Outcome, accepted, refused}
 use Rattle.dict_catalogue.specs.Views.{kept_shown}
 use Rattle.dict_catalogue.specs.declared.reply.Kept.{Kept}
 use Rattle.dict_desk.specs.declared.fault.Fault.{Fault}

@@ -1,5 +1,5 @@
 -- Which databases and which strategy a command asks, and what it gets of them. RFC 2229, sections 3.2 and 3.3.
-use Rattle.std.specs.Prelude.{ℕ, Bool, not, ◌==◌, List, [], ◌∷◌, length, map, filter, flat_map, find, codes, if◌then◌else◌, Option, Some, None, option_map}
+use Rattle.std.specs.Prelude.{ℕ, ◌==◌, List, [], ◌∷◌, length, map, filter, flat_map, find, codes, if◌then◌else◌, Option, Some, option_map}
 use Rattle.std.specs.Str.{bytes_eq}
 use Rattle.dict_match.specs.Key.{key_of}
 use Rattle.dict_match.specs.StrategyText.{strategy_named}

@@ -4,6 +4,8 @@ pub mod Faults
 pub mod Shown
 pub mod Handing
 pub mod Applying
+pub mod Requests
+pub mod AllApplied
 pub mod PlainEntries
 pub mod Plain
 pub mod Worked

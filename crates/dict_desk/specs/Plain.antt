@@ -1,16 +1,14 @@
 -- The catalogue that is kept in memory.
-use Rattle.std.specs.Prelude.{◌≡◌, ◌≤◌, ◌<◌, ℕ, Bool, not, ◌==◌, List, [], ◌∷◌, map, length, find, slice_get, Option, Some, None, option_map, unwrap_or, IfSome, string_bytes, String}
+use Rattle.std.specs.Prelude.{◌≡◌, ◌≤◌, ◌<◌, ℕ, Bool, not, ◌==◌, List, [], ◌∷◌, map, length, find, slice_get, Option, Some, None, option_map, unwrap_or, IfSome, string_bytes}
 use Rattle.std.specs.List.{AllByRecursion, list_any}
-use Rattle.std.specs.BTreeMap.{BTreeMap, get_by_text}
 use Rattle.dict_index.specs.Edition.{Edition}
 use Rattle.dict_catalogue.specs.Items.{Stored, Item, regular, virtual, editions_of}
 use Rattle.dict_catalogue.specs.Commands.{Command, install, rollback, retire, put_virtual, place}
 use Rattle.dict_catalogue.specs.Tests.{Holdings}
 use Rattle.dict_catalogue.specs.Effects.{KeptReply}
 use Rattle.dict_catalogue.specs.Steps.{KeptFor, Catalogue, summary_of, kept_under}
-use Rattle.dict_catalogue.specs.Views.{summary_shown, kept_shown}
+use Rattle.dict_catalogue.specs.Views.{kept_shown}
 use Rattle.dict_catalogue.specs.WellFormed.{IsWellFormed}
-use Rattle.dict_catalogue.specs.declared.summary.Summary.{Summary}
 use Rattle.dict_desk.specs.declared.replies.Filed.{Filed}
 
 -- what contracts see of a catalogue that is kept in memory, and whether the last call failed

@@ -1,8 +1,8 @@
 -- What a desk tells of the catalogue that it shows.
-use Rattle.std.specs.Prelude.{◌≡◌, ℕ, List, [], ◌∷◌, map, length, Contains}
+use Rattle.std.specs.Prelude.{ℕ, List, [], ◌∷◌, map, length, Contains}
 use Rattle.dict_match.specs.declared.strategy.Strategy.{Strategy}
 use Rattle.dict_index.specs.Edition.{Edition, Entry}
-use Rattle.dict_catalogue.specs.Items.{Stored, Item, editions_of}
+use Rattle.dict_catalogue.specs.Items.{Item, editions_of}
 use Rattle.dict_catalogue.specs.Steps.{Catalogue}
 use Rattle.dict_desk.specs.Found.{found, headwords}
 use Rattle.dict_desk.specs.declared.lookup.What.{What}

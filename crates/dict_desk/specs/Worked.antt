@@ -1,5 +1,5 @@
 -- A small catalogue, and what it is asked, worked by hand.
-use Rattle.std.specs.Prelude.{ℕ, List, [], ◌∷◌, codes, Option, Some, None}
+use Rattle.std.specs.Prelude.{ℕ, List, [], ◌∷◌, codes, Some, None}
 use Rattle.dict_index.specs.Edition.{Edition, Entry}
 use Rattle.dict_catalogue.specs.Items.{regular, virtual}
 use Rattle.dict_catalogue.specs.Steps.{Catalogue}

@@ -1,13 +1,17 @@
 // What keeps a catalogue.
-ghost use Rattle.std.specs.Prelude.{◌≡◌, ◌↔◌, true, false, ◌||◌, List, Option, IfOk, IfErr, Err, is_some, option_map};
+ghost use Rattle.std.specs.Prelude.{◌≡◌, ◌↔◌, ◌≤◌, ◌<◌, true, false, ◌||◌, List, Option, IfOk, IfErr, OnOk, Err, is_some, option_map, length, vec_len};
 ghost use Rattle.dict_catalogue.specs.Steps.{Catalogue, kept_under, step};
 ghost use Rattle.dict_catalogue.specs.Views.{command_meant, kept_shown};
 ghost use Rattle.dict_desk.specs.Applying.{Applies, Leaves};
 ghost use Rattle.dict_desk.specs.Faults.{IsOfLookup, IsOfCommand, is_disk, has_failed_by, has_closed_by};
+ghost use Rattle.dict_desk.specs.Requests.{requests_meant};
+ghost use Rattle.dict_desk.specs.AllApplied.{settled_answer, AllAnswered, HaltsAt};
 
 use crate::fault::Fault;
 use crate::lookup::Lookup;
-use dict_catalogue::{Command, Kept};
+use dict_catalogue::{Command, Kept, Refusal};
+use std::alloc::Global;
+use thiserror::Error;
 
 /// Keeps a catalogue, and changes it by commands.
 pub trait Keeper: Lookup {
@@ -35,4 +39,68 @@ pub trait Keeper: Lookup {
         ensures failed { Self.has_failed self.new ≡ has_failed_by result }
         ensures closes { Self.is_closed self.new ≡ (Self.is_closed self.old || has_closed_by result) }
         ensures closed { (result ≡ Err Fault.Closed) ↔ (Self.is_closed self.old ≡ true) };
+}
+
+/// The failure that ended a list of commands.
+#[derive(Clone, Copy, Debug, PartialEq, Eq, Error)]
+#[error("a command failed, and those behind it were not tried")]
+pub struct Halted {
+    /// How many commands were answered before it. What they did stands.
+    pub stand: usize,
+    /// The failure, which is no refusal.
+    pub fault: Fault,
+}
+
+// An answer that lets the next command have its turn, or the failure that doesn't.
+fn settled(answer: Result<Kept, Fault>) -> Result<Result<Kept, Refusal>, Fault>
+    ensures { result ≡ settled_answer answer }
+{
+    match answer {
+        Ok(kept) => Ok(Ok(kept)),
+        Err(Fault::Refused(refusal)) => Ok(Err(refusal)),
+        Err(fault) => Err(fault),
+    }
+}
+
+/// Applies commands one after another, each under the id of its request, and tells what each was answered.
+///
+/// A refusal doesn't stop it. The first failure does: then it tells how many commands were answered before, which
+/// stand, and the failure. Where that is `Disk`, the command that failed is there whole or not at all once the desk is
+/// opened anew. The list of the answers has its room before the first command is applied, so no memory is wanting for
+/// it once one is.
+pub fn apply_all<K: Keeper>(
+    alloc: Global,
+    desk: &mut K,
+    requests: &[(&str, Command)],
+) -> Result<Vec<Result<Kept, Refusal>>, Halted>
+    ensures value { K.is_trusted desk.new → (M : Catalogue) → K.shows desk.old M → IfOk result (λ outcomes. AllAnswered (K.shows desk.new) (K.leaves_one_of desk.old) (K.leaves_one_of desk.new) M (requests_meant requests.now) outcomes.items) }
+    ensures halted { K.is_trusted desk.new → (M : Catalogue) → K.shows desk.old M → IfErr result (λ halted. HaltsAt (K.shows desk.new) (K.leaves_one_of desk.old) (K.leaves_one_of desk.new) M (requests_meant requests.now) halted.stand halted.fault) }
+    ensures trust { K.is_trusted desk.new → K.is_trusted desk.old }
+    ensures counted { IfOk result (λ outcomes. vec_len outcomes ≡ length requests.now) }
+    ensures within { IfErr result (λ halted. halted.stand ≤ length requests.now) }
+    ensures spares { (ms : List (Option Catalogue)) → K.leaves_one_of desk.old ms → IfErr result (λ halted. halted.stand ≡ 0 → is_disk halted.fault ≡ false → K.leaves_one_of desk.new ms) }
+    ensures kinds { IfErr result (λ halted. IsOfLookup halted.fault) }
+    ensures open { OnOk result (0 < length requests.now → K.has_failed desk.new ≡ false) }
+    ensures closes { IfErr result (λ halted. K.is_closed desk.new ≡ (K.is_closed desk.old || is_disk halted.fault)) }
+    ensures closed { IfErr result (λ halted. halted.fault ≡ Fault.Closed → (K.is_closed desk.old ≡ true) × (halted.stand ≡ 0)) }
+    ensures never { K.is_closed desk.old ≡ true → OnOk result (length requests.now ≡ 0) }
+{
+    let Ok(mut outcomes) = Vec::with_capacity(alloc, requests.len()) else {
+        return Err(Halted {
+            stand: 0,
+            fault: Fault::Memory,
+        });
+    };
+    for request in requests {
+        match settled(desk.apply(request.0, &request.1)) {
+            Ok(outcome) => outcomes.push_reserved(outcome),
+            Err(fault) => {
+                return Err(Halted {
+                    stand: outcomes.len(),
+                    fault,
+                });
+            }
+        }
+    }
+    Ok(outcomes)
 }

@@ -14,7 +14,7 @@ mod sink;
 mod tests;
 
 pub use fault::Fault;
-pub use keeper::Keeper;
+pub use keeper::{Halted, Keeper, apply_all};
 pub use laws::{distinct_law, worked_definitions, worked_matches};
 pub use lookup::{End, Lookup, What};
 pub use plain::PlainDesk;

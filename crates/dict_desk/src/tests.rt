@@ -1,4 +1,5 @@
 // A catalogue in memory.
+mod all;
 mod callers;
 mod commands;
 mod files;

@@ -7,12 +7,14 @@
 mod actions;
 mod answers;
 mod changing;
+mod laws;
 mod parts;
 mod service;
 
 pub use answers::Answer;
 pub use changing::kept_json;
 pub use dict_head::{Need, Status, need};
+pub use laws::one_answer;
 pub use service::Service;
 
 #[cfg(test)]

@@ -1,7 +1,14 @@
 //! Requests over a desk in memory, answered octet for octet.
+mod curl;
+mod failing;
+mod statuses;
+mod table;
+
 use crate::{Answer, Need, Service, Status, kept_json, need};
 use dict_catalogue::{Kept, Verb};
-use dict_desk::PlainDesk;
+use dict_desk::{Keeper, PlainDesk};
+use dict_io::{LimitedSink, Sink};
+use memchr::memmem;
 use std::alloc::Global;
 use std::test::Fail;
 
@@ -38,10 +45,20 @@ const MOVED: &[u8] =
 const NO_FORMER: &[u8] =
     b"HTTP/1.1 409 Conflict\r\nContent-Type: application/json\r\nContent-Length: 34\r\nConnection: close\r\n\r\n{\"reason\":\"NoFormer\",\"refusal\":23}";
 
-// Whether the request is whole, or refused, and is answered so.
-fn answers(
+// Whether the answer's `Content-Length` is the length of its body.
+fn is_framed(alloc: Global, answer: &[u8]) -> Result<bool, Fail> {
+    let Some(end) = memmem::find(answer, b"\r\n\r\n") else {
+        return Ok(false);
+    };
+    let len = answer.len().saturating_sub(end).saturating_sub(4);
+    let line = format!(in alloc; "\r\nContent-Length: {len}\r\n")?;
+    Ok(memmem::find(answer, line.as_bytes()).is_some())
+}
+
+// Whether the request is whole, or refused, and is answered so, with the length of its body.
+fn answers<K: Keeper>(
     alloc: Global,
-    desk: &mut PlainDesk,
+    desk: &mut K,
     request: &[u8],
     wanted: &[u8],
 ) -> Result<bool, Fail> {
@@ -50,7 +67,15 @@ fn answers(
     }
     let service = Service::new(alloc)?;
     let answer = service.respond(alloc, request, desk);
-    Ok(answer.octets() == wanted)
+    Ok(answer.octets() == wanted && is_framed(alloc, answer.octets())?)
+}
+
+// The octets of an answer with this status and this body.
+fn response(alloc: Global, status: &str, body: &str) -> Result<String, Fail> {
+    let len = body.len();
+    Ok(format!(in alloc;
+        "HTTP/1.1 {status}\r\nContent-Type: application/json\r\nContent-Length: {len}\r\nConnection: close\r\n\r\n{body}"
+    )?)
 }
 
 #[test]
@@ -200,5 +225,17 @@ fn replies(rt: HostRuntime) -> Result<(), Fail> {
         Need::Refused(Status::BadRequest)
     );
     assert_eq!(rt; Answer::Fixed("a").octets(), b"a".as_slice());
+    Ok(())
+}
+
+#[test]
+fn an_answer_is_put(rt: HostRuntime) -> Result<(), Fail> {
+    let alloc = rt.alloc();
+    let mut sink = LimitedSink::new(alloc, 5)?;
+    assert!(rt; Answer::Fixed("abc").put(&mut sink).is_ok());
+    let made = Answer::Made(String::from_str(alloc, "def")?);
+    assert!(rt; made.put(&mut sink).is_err());
+    assert_eq!(rt; sink.taken(), b"abcde".as_slice());
+    assert!(rt; sink.put(b"g").is_err());
     Ok(())
 }

@@ -3,7 +3,7 @@ use Rattle.std.specs.Str.{chars}
 use lib.Utf8.{encode}
 use Rattle.dict_match.specs.Key.{key_of}
 use Rattle.dict_match.specs.Matching.{is_hit}
-use Rattle.dict_desk.specs.Asked.{searched, strategy_of}
+use Rattle.dict_desk.specs.Asked.{searched}
 use Rattle.dict_desk.proofs.laws.worked_definitions.Goals as goal
 
 pub returns-clause-name : goal.returns-clause-name

@@ -2,4 +2,4 @@ use Rattle.std.proofs.Common.{rules, sym}
 use Rattle.dict_http.proofs.tests.answers.Goals as goal
 
 pub respond-answer-requires : goal.respond-answer-requires
-respond-answer-requires c = record { whole = λ given. c.in_default.not-More (sym (c.need.ensures.only _ given)) }
+respond-answer-requires g c = record { whole = λ given. c.in_default.not-More (sym (c.need.ensures.only _ given)) }

@@ -1,4 +1,4 @@
-use Rattle.std.proofs.Common.{◌≡◌, ap, sym, ◌∙◌, List, length}
+use Rattle.std.proofs.Common.{ap, sym, ◌∙◌, List, length}
 use Rattle.std.specs.Prelude.{filter}
 use Rattle.dict_index.specs.Edition.{Edition}
 use Rattle.dict_catalogue.specs.Items.{Stored}

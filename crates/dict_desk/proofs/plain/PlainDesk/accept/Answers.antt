@@ -1,10 +1,9 @@
-use Rattle.std.proofs.Common.{◌≡◌, ℕ, List, [], ◌∷◌, ◌++◌, length, cond, bytes_eq, rules, ap, ◌∙◌, arith}
+use Rattle.std.proofs.Common.{◌≡◌, ℕ, List, [], ◌∷◌, ◌++◌, length, cond, bytes_eq, rules, ap, ◌∙◌}
 use Rattle.std.specs.Prelude.{filter, Some}
 use Rattle.std.specs.List.{cons_option}
 use Rattle.std.specs.BTreeMap.{get_by_text}
 use Rattle.dict_index.specs.Edition.{Edition}
 use Rattle.dict_catalogue.specs.Items.{Stored}
-use Rattle.dict_catalogue.specs.Steps.{Catalogue}
 use Rattle.dict_catalogue.specs.Views.{summary_shown, command_meant}
 use Rattle.dict_desk.specs.Plain.{PlainState, catalogue_from, stays}
 use Rattle.dict_desk.specs.declared.replies.Filed.{Filed}

@@ -1,4 +1,4 @@
-use Rattle.std.proofs.Common.{◌<◌, length, rules, ap, ◌∙◌, arith}
+use Rattle.std.proofs.Common.{◌<◌, length, rules, ap, ◌∙◌}
 use Rattle.std.specs.Prelude.{Some}
 use Rattle.std.specs.BTreeMap.{get_by_text}
 use Rattle.dict_catalogue.specs.Steps.{kept_under}

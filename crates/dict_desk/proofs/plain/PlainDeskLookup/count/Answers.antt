@@ -1,5 +1,5 @@
-use Rattle.std.proofs.Common.{◌≡◌, ℕ, List, ap, subst, ◌∙◌}
-use Rattle.dict_index.specs.Edition.{Edition, Entry}
+use Rattle.std.proofs.Common.{ℕ, List, ap, ◌∙◌}
+use Rattle.dict_index.specs.Edition.{Edition}
 use Rattle.dict_catalogue.specs.Items.{Stored}
 use Rattle.dict_desk.specs.Shown.{count_of}
 use Rattle.dict_desk.proofs.DeskLemmas.{same_some, none_some, has_here}

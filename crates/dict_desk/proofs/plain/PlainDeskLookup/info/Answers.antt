@@ -1,4 +1,4 @@
-use Rattle.std.proofs.Common.{◌≡◌, ℕ, List, ap, subst, ◌∙◌}
+use Rattle.std.proofs.Common.{◌≡◌, List, ap, subst}
 use Rattle.dict_index.specs.Edition.{Edition, Entry}
 use Rattle.dict_catalogue.specs.Items.{Stored}
 use Rattle.dict_desk.specs.Shown.{info_rows}
