@@ -13,3 +13,4 @@ pub mod EntryLemmas
 pub mod KeptLemmas
 pub mod FinishLemmas
 pub mod WholeLemmas
+pub mod OrderLemmas

@@ -6,3 +6,4 @@ pub mod Given
 pub mod Titles
 pub mod Taken
 pub mod Whole
+pub mod Order

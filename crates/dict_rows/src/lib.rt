@@ -13,6 +13,6 @@ mod summary;
 mod titles;
 
 pub use fault::RowsFault;
-pub use laws::one_catalogue;
+pub use laws::{one_catalogue, ordered_records};
 pub use reader::Reader;
 pub use summary::{EditionRows, Tables, summary_of};
