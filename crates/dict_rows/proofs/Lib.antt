@@ -14,3 +14,4 @@ pub mod KeptLemmas
 pub mod FinishLemmas
 pub mod WholeLemmas
 pub mod OrderLemmas
+pub mod PartLemmas

@@ -1,9 +1,11 @@
 // What holds of all tables.
-ghost use Rattle.std.specs.Prelude.{◌≡◌, ℕ};
+ghost use Rattle.std.specs.Prelude.{◌≡◌, ◌++◌, ◌∷◌, [], ℕ, ℤ, List, false, IsTrue, IsPermutation};
+ghost use Rattle.std.specs.List.{AllByRecursion};
+ghost use Rattle.dict_records.specs.Records.{Edition, Entry};
 ghost use Rattle.dict_catalogue.specs.Steps.{Catalogue};
-ghost use Rattle.dict_rows.specs.Tables.{Tables};
+ghost use Rattle.dict_rows.specs.Tables.{Tables, editions_numbered, entries_of};
 ghost use Rattle.dict_rows.specs.Stands.{Stands};
-ghost use Rattle.dict_rows.specs.Order.{HaveSame, AreOrdered};
+ghost use Rattle.dict_rows.specs.Order.{HaveSame, AreOrdered, is_of, editions_of_numbers, entries_of_numbers};
 
 /// Tables stand for one catalogue at most.
 ///
@@ -17,4 +19,15 @@ pub fn one_catalogue()
 /// It does nothing. Its clause is the law.
 pub fn ordered_records()
     ensures { (version : ℕ) (old new : Tables) (M : Catalogue) → HaveSame old new → AreOrdered new → Stands version old M → Stands version new M }
+{}
+
+/// The editions of some numbers, and those of one more, are together those of all these numbers, and so are their entries;
+/// they are the whole table where each record has one of the numbers.
+///
+/// It does nothing. Its clauses are the law.
+pub fn records_by_number()
+    ensures editions { (numbers : List ℤ) (number : ℤ) (all read part : List Edition) → is_of numbers number ≡ false → IsPermutation (editions_of_numbers numbers all) read → IsPermutation (editions_numbered number all) part → IsPermutation (editions_of_numbers (numbers ++ number ∷ []) all) (read ++ part) }
+    ensures entries { (numbers : List ℤ) (number : ℤ) (all read part : List Entry) → is_of numbers number ≡ false → IsPermutation (entries_of_numbers numbers all) read → IsPermutation (entries_of number all) part → IsPermutation (entries_of_numbers (numbers ++ number ∷ []) all) (read ++ part) }
+    ensures all_editions { (numbers : List ℤ) (all : List Edition) → AllByRecursion (λ row. IsTrue (is_of numbers row.number)) all → editions_of_numbers numbers all ≡ all }
+    ensures all_entries { (numbers : List ℤ) (all : List Entry) → AllByRecursion (λ row. IsTrue (is_of numbers row.edition)) all → entries_of_numbers numbers all ≡ all }
 {}

@@ -13,6 +13,6 @@ mod summary;
 mod titles;
 
 pub use fault::RowsFault;
-pub use laws::{one_catalogue, ordered_records};
+pub use laws::{one_catalogue, ordered_records, records_by_number};
 pub use reader::Reader;
 pub use summary::{EditionRows, Tables, summary_of};
