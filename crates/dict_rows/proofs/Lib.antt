@@ -15,3 +15,5 @@ pub mod FinishLemmas
 pub mod WholeLemmas
 pub mod OrderLemmas
 pub mod PartLemmas
+pub mod ApartLemmas
+pub mod StrayLemmas

@@ -7,3 +7,4 @@ pub mod Titles
 pub mod Taken
 pub mod Whole
 pub mod Order
+pub mod Apart

@@ -1,11 +1,15 @@
 // What holds of all tables.
-ghost use Rattle.std.specs.Prelude.{◌≡◌, ◌++◌, ◌∷◌, [], ℕ, ℤ, List, false, IsTrue, IsPermutation};
+ghost use Rattle.std.specs.Prelude.{◌≡◌, ◌≤ℤ◌, ◌++◌, ◌∷◌, [], ℕ, ℤ, Bool, List, false, IsTrue, IsPermutation};
 ghost use Rattle.std.specs.List.{AllByRecursion};
 ghost use Rattle.dict_records.specs.Records.{Edition, Entry};
 ghost use Rattle.dict_catalogue.specs.Steps.{Catalogue};
 ghost use Rattle.dict_rows.specs.Tables.{Tables, editions_numbered, entries_of};
 ghost use Rattle.dict_rows.specs.Stands.{Stands};
-ghost use Rattle.dict_rows.specs.Order.{HaveSame, AreOrdered, is_of, editions_of_numbers, entries_of_numbers};
+ghost use Rattle.dict_catalogue.specs.WellFormed.{IsEachOnce};
+ghost use Rattle.dict_rows.specs.Apart.{HasTakenIds, HasTakenRowids};
+ghost use Rattle.dict_rows.specs.declared.apart.Ids.{Ids};
+ghost use Rattle.dict_rows.specs.declared.apart.Rowids.{Rowids};
+ghost use Rattle.dict_rows.specs.Order.{InOrder, HaveSame, AreOrdered, is_of, editions_of_numbers, entries_of_numbers};
 
 /// Tables stand for one catalogue at most.
 ///
@@ -30,4 +34,12 @@ pub fn records_by_number()
     ensures entries { (numbers : List ℤ) (number : ℤ) (all read part : List Entry) → is_of numbers number ≡ false → IsPermutation (entries_of_numbers numbers all) read → IsPermutation (entries_of number all) part → IsPermutation (entries_of_numbers (numbers ++ number ∷ []) all) (read ++ part) }
     ensures all_editions { (numbers : List ℤ) (all : List Edition) → AllByRecursion (λ row. IsTrue (is_of numbers row.number)) all → editions_of_numbers numbers all ≡ all }
     ensures all_entries { (numbers : List ℤ) (all : List Entry) → AllByRecursion (λ row. IsTrue (is_of numbers row.edition)) all → entries_of_numbers numbers all ≡ all }
+{}
+
+/// Ids that were taken in an order, whichever it is, are each there once, and rowids that were taken in theirs are apart.
+///
+/// It does nothing. Its clauses are the law.
+pub fn taken_in_order()
+    ensures ids { (leq : List ℕ → List ℕ → Bool) → ((a b : List ℕ) → IsTrue (leq a b) → IsTrue (leq b a) → a ≡ b) → (ids : Ids) (taken : List (List ℕ)) → HasTakenIds ids taken → InOrder (λ a b. IsTrue (leq a b)) taken → IsEachOnce taken }
+    ensures rowids { (rowids : Rowids) (taken : List ℤ) → HasTakenRowids rowids taken → InOrder (λ a b. a ≤ℤ b) taken → InOrder (λ a b. a ≡ b → ⊥) taken }
 {}

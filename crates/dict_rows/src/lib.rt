@@ -1,6 +1,7 @@
 //! The records of the tables, and the catalogue that they stand for.
 #![tactic(auto)]
 
+mod apart;
 mod entries;
 mod fault;
 mod items;
@@ -12,7 +13,8 @@ mod replies;
 mod summary;
 mod titles;
 
+pub use apart::{Ids, Rowids};
 pub use fault::RowsFault;
-pub use laws::{one_catalogue, ordered_records, records_by_number};
+pub use laws::{one_catalogue, ordered_records, records_by_number, taken_in_order};
 pub use reader::Reader;
 pub use summary::{EditionRows, Tables, summary_of};
