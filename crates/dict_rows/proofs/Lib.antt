@@ -17,3 +17,6 @@ pub mod OrderLemmas
 pub mod PartLemmas
 pub mod ApartLemmas
 pub mod StrayLemmas
+pub mod MemberLemmas
+pub mod AfterLemmas
+pub mod ChangeLemmas

@@ -8,3 +8,4 @@ pub mod Taken
 pub mod Whole
 pub mod Order
 pub mod Apart
+pub mod After

@@ -15,6 +15,9 @@ mod titles;
 
 pub use apart::{Ids, Rowids};
 pub use fault::RowsFault;
-pub use laws::{one_catalogue, ordered_records, records_by_number, taken_in_order};
+pub use laws::{
+    empty_records, one_catalogue, ordered_records, records_after, records_by_number,
+    taken_in_order,
+};
 pub use reader::Reader;
 pub use summary::{EditionRows, Tables, summary_of};
