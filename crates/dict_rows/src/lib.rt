@@ -12,6 +12,7 @@ mod reader;
 mod replies;
 mod summary;
 mod titles;
+mod written;
 
 pub use apart::{Ids, Rowids};
 pub use fault::RowsFault;
@@ -21,3 +22,4 @@ pub use laws::{
 };
 pub use reader::Reader;
 pub use summary::{EditionRows, Tables, summary_of};
+pub use written::{edition_row, entry_row, item_row, kept_row, mark_row, member_row};
