@@ -20,3 +20,4 @@ pub mod StrayLemmas
 pub mod MemberLemmas
 pub mod AfterLemmas
 pub mod ChangeLemmas
+pub mod WorkedLemmas

@@ -9,3 +9,4 @@ pub mod Whole
 pub mod Order
 pub mod Apart
 pub mod After
+pub mod Worked

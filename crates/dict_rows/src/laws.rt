@@ -7,6 +7,7 @@ ghost use Rattle.dict_name.specs.Names.{is_request_id};
 ghost use Rattle.dict_catalogue.specs.Commands.{Command};
 ghost use Rattle.dict_catalogue.specs.Tests.{refusal_of};
 ghost use Rattle.dict_rows.specs.Written.{mark_record};
+ghost use Rattle.dict_rows.specs.Worked.{worked_tables, worked_catalogue};
 ghost use Rattle.dict_rows.specs.After.{Change, IsChange, tables_after};
 ghost use Rattle.dict_catalogue.specs.Steps.{Catalogue, empty_catalogue, holdings, kept_under, with_effect};
 ghost use Rattle.dict_rows.specs.Tables.{Tables, editions_numbered, entries_of};
@@ -65,4 +66,11 @@ pub fn records_after()
 /// It does nothing. Its clause is the law.
 pub fn empty_records()
     ensures { (version : ℕ) → Stands version (record { marks = mark_record version 0 ∷ []; items = []; members = []; editions = []; entries = []; kept = [] }) empty_catalogue }
+{}
+
+/// A small catalogue with the databases `ore` and `gem` and the virtual database `all`, and the records that stand for it.
+///
+/// It does nothing. Its clause is the example, from the definitions alone.
+pub fn worked_records()
+    ensures { Stands 1 worked_tables worked_catalogue }
 {}

@@ -18,7 +18,7 @@ pub use apart::{Ids, Rowids};
 pub use fault::RowsFault;
 pub use laws::{
     empty_records, one_catalogue, ordered_records, records_after, records_by_number,
-    taken_in_order,
+    taken_in_order, worked_records,
 };
 pub use reader::Reader;
 pub use summary::{EditionRows, Tables, summary_of};
