@@ -71,7 +71,7 @@ install_each old installs name content number items h =
     let Q = AreOldOr old installs name new in
     by_test (AllByRecursion Q) (is_known items name) (changed_in_place number (install name content) items) (items ++ regular name new None ∷ [])
     (λ e. all_map P Q (λ item. cond (is_named name item) (installed new item) item)
-        (λ item p. by_test Q (is_named name item) (installed new item) item (λ named. installed_or old installs name new item named p) (λ named. old_or old installs name new item p)) items h)
+    (λ item p. by_test Q (is_named name item) (installed new item) item (λ named. installed_or old installs name new item named p) (λ named. old_or old installs name new item p)) items h)
     (λ e. all_append Q items (regular name new None ∷ []) (all_weaker P Q (λ item p. old_or old installs name new item p) items h) ((inr (refl, refl), tt), tt))
 
 -- ---- the number of an installed edition is there

@@ -125,7 +125,7 @@ each_edition old installs number (install name content) edition items by h =
     let new : Stored Edition = record { number = number; content = content } in
     all_weaker (AreOldOr old installs name new) (AreOldOrNew old installs edition)
     (λ item p. all_weaker (λ stored. IsOld old installs (name_of item) stored ⊎ IsNew name new (name_of item) stored) (λ stored. IsOld old installs (name_of item) stored ⊎ IsNewOf edition (name_of item) stored)
-        (λ stored q. or_to old installs number name content edition (name_of item) stored by q) (editions_of item) p)
+    (λ stored q. or_to old installs number name content edition (name_of item) stored by q) (editions_of item) p)
     (items_after number (install name content) items) (install_each old installs name content number items h)
 each_edition old installs number (rollback name) edition items by h =
     all_after (AreOld old installs) (AreOldOrNew old installs edition) number (rollback name) items (λ item p. old_to old installs edition item p) (λ item p. old_to old installs edition _ (swapped_old old installs item p)) tt h
@@ -193,9 +193,10 @@ old_each old installs items h range =
     items h (by_edition (λ n. (1 ≤ n) × (n ≤ installs)) items range)
 
 free_of : (version : ℕ) (old : Tables) (M : Catalogue) → Stands version old M → IsFree (M.installs + 1) old
-free_of version old M h =
-    (all_weaker (λ (row : spec.Edition). IsTrue (has_number M.items row.number)) (λ (row : spec.Edition). same_number row.number (pos (M.installs + 1)) ≡ false) (λ row k. above_all M.installs (edition_numbers M.items) row.number h.well_formed.edition_range k) old.editions h.numbers,
-    all_weaker (λ (row : spec.Entry). IsTrue (has_number M.items row.edition)) (λ (row : spec.Entry). same_number row.edition (pos (M.installs + 1)) ≡ false) (λ row k. above_all M.installs (edition_numbers M.items) row.edition h.well_formed.edition_range k) old.entries h.entries)
+free_of version old M h = (
+  all_weaker (λ (row : spec.Edition). IsTrue (has_number M.items row.number)) (λ (row : spec.Edition). same_number row.number (pos (M.installs + 1)) ≡ false) (λ row k. above_all M.installs (edition_numbers M.items) row.number h.well_formed.edition_range k) old.editions h.numbers,
+  all_weaker (λ (row : spec.Entry). IsTrue (has_number M.items row.edition)) (λ (row : spec.Entry). same_number row.edition (pos (M.installs + 1)) ≡ false) (λ row k. above_all M.installs (edition_numbers M.items) row.edition h.well_formed.edition_range k) old.entries h.entries,
+)
 
 -- the records that stay have numbers of the catalogue after
 known_after : {X : Type 0} (key : X → ℤ) (before after : List ℕ) (xs : List X) → AllByRecursion (λ x. IsTrue (list_any (λ one. same_number (pos one) (key x)) before)) xs →
@@ -264,7 +265,7 @@ after_stands version old M id command change h lawful named new passed is =
       owners = subst (λ rows. AllByRecursion (λ (row : spec.Member). IsTrue (is_known after.items row.owner)) rows) (sym listed) (own_owners after.items);
       editions = all_with (AreOldOrNew old M.installs change.edition) (λ (item : Item Edition). AllByRecursion (λ stored. is_gone change.gone (pos stored.number) ≡ false) (editions_of item)) (HoldsEditions (tables_after version change old))
           (λ item p q. all_with (λ stored. IsOld old M.installs (name_of item) stored ⊎ IsNewOf change.edition (name_of item) stored) (λ (stored : Stored Edition). is_gone change.gone (pos stored.number) ≡ false) (HoldsEdition (tables_after version change old) (name_of item))
-              (λ stored a b. one_after version change old M.installs (name_of item) stored fit (free_of version old M h) b a) (editions_of item) p q)
+          (λ stored a b. one_after version change old M.installs (name_of item) stored fit (free_of version old M h) b a) (editions_of item) p q)
           after.items each (by_edition (λ n. is_gone change.gone (pos n) ≡ false) after.items stay);
       numbers = all_append (λ (row : spec.Edition). IsTrue (has_number after.items row.number)) (filter (λ (row : spec.Edition). not (is_gone change.gone row.number)) old.editions) (installed_editions change.edition)
           (subst (λ (g : List ℕ). AllByRecursion (λ (row : spec.Edition). IsTrue (has_number after.items row.number)) (filter (λ (row : spec.Edition). not (is_gone g row.number)) old.editions)) (sym gone) (known_after (λ (row : spec.Edition). row.number) (edition_numbers M.items) numbers old.editions h.numbers))

@@ -58,10 +58,11 @@ pub own_members : {A : Type 0} (items : List (Item A)) → has_names_once items 
 own_members [] h = tt
 own_members (item ∷ items) h =
     let parts = and_parts (not (is_known items (name_of item))) (has_names_once items) h in
-    let apart : AllByRecursion (λ other. is_named (name_of item) other ≡ false) items = none_passes (is_named (name_of item)) items (not-true (is_known items (name_of item)) parts.0) in
-    (filter-append (λ (row : spec.Member). bytes_eq row.owner (name_of item)) (numbered (member_record (name_of item)) 0 (members_of item)) (all_members items)
-    ∙ (λ i. mine (name_of item) 0 (members_of item) i ++ unknown (name_of item) items apart i) ∙ append_none (numbered (member_record (name_of item)) 0 (members_of item)),
-    all_with (λ other. is_named (name_of item) other ≡ false) (HoldsMembers (all_members items)) (HoldsMembers (all_members (item ∷ items))) (λ other named held. behind item items other named held) items apart (own_members items parts.1))
+    let apart : AllByRecursion (λ other. is_named (name_of item) other ≡ false) items = none_passes (is_named (name_of item)) items (not-true (is_known items (name_of item)) parts.0) in (
+      filter-append (λ (row : spec.Member). bytes_eq row.owner (name_of item)) (numbered (member_record (name_of item)) 0 (members_of item)) (all_members items)
+          ∙ (λ i. mine (name_of item) 0 (members_of item) i ++ unknown (name_of item) items apart i) ∙ append_none (numbered (member_record (name_of item)) 0 (members_of item)),
+      all_with (λ other. is_named (name_of item) other ≡ false) (HoldsMembers (all_members items)) (HoldsMembers (all_members (item ∷ items))) (λ other named held. behind item items other named held) items apart (own_members items parts.1),
+    )
 
 or_first : (a b : Bool) → a ≡ true → (a || b) ≡ true
 or_first true b e = refl
@@ -73,9 +74,10 @@ or_second false b e = e
 
 known_each : {A : Type 0} (items : List (Item A)) → AllByRecursion (λ item. is_known items (name_of item) ≡ true) items
 known_each [] = tt
-known_each (item ∷ items) =
-    (or_first (is_named (name_of item) item) (is_known items (name_of item)) (text_itself (name_of item)),
-    all_weaker (λ other. is_known items (name_of other) ≡ true) (λ other. is_known (item ∷ items) (name_of other) ≡ true) (λ other e. or_second (is_named (name_of other) item) (is_known items (name_of other)) e) items (known_each items))
+known_each (item ∷ items) = (
+  or_first (is_named (name_of item) item) (is_known items (name_of item)) (text_itself (name_of item)),
+  all_weaker (λ other. is_known items (name_of other) ≡ true) (λ other. is_known (item ∷ items) (name_of other) ≡ true) (λ other e. or_second (is_named (name_of other) item) (is_known items (name_of other)) e) items (known_each items),
+)
 
 owned : (owner : List ℕ) (P : List ℕ → Type 0) (n : ℕ) (names : List (List ℕ)) → P owner → AllByRecursion (λ (row : spec.Member). P row.owner) (numbered (member_record owner) n names)
 owned owner P n [] p = tt
@@ -86,7 +88,7 @@ pub own_owners : {A : Type 0} (items : List (Item A)) → AllByRecursion (λ (ro
 own_owners {A} items =
     all_flat_map (λ (row : spec.Member). IsTrue (is_known items row.owner)) (λ (item : Item A). numbered (member_record (name_of item)) 0 (members_of item)) items
     (all_weaker (λ (item : Item A). is_known items (name_of item) ≡ true) (λ (item : Item A). AllByRecursion (λ (row : spec.Member). IsTrue (is_known items row.owner)) (numbered (member_record (name_of item)) 0 (members_of item)))
-        (λ item e. owned (name_of item) (λ owner. IsTrue (is_known items owner)) 0 (members_of item) e) items (known_each items))
+    (λ item e. owned (name_of item) (λ owner. IsTrue (is_known items owner)) 0 (members_of item) e) items (known_each items))
 
 -- ---- whatever is kept of the editions
 

@@ -152,6 +152,7 @@ rise_same {X} key (x ∷ xs) (y ∷ ys) into back sx sy =
         let up = in_all (λ z. Below (key y) (key z)) x ys sy.0 i in
         let down = in_all (λ z. Below (key x) (key z)) y xs sx.0 j in
         absurd (up.1 (le_both (key y) (key x) up.0 down.0))
+
     later : {u w : X} (us ws : List X) (z : X) → w ≡ u → AllByRecursion (λ v. Below (key u) (key v)) us → IsIn z us → IsIn z (w ∷ ws) → IsIn z ws
     later {u} {w} us ws z same all i (inl e) = absurd ((in_all (λ v. Below (key u) (key v)) z us all i).1 (ap key (sym (e ∙ same))))
     later {u} {w} us ws z same all i (inr j) = j
@@ -243,21 +244,24 @@ below_from k n l e h = let above : n + 1 ≤ h.0 = h.2 in subst (λ (z : ℤ). B
 
 pub numbered_rise : {X Y : Type 0} (f : ℕ → X → Y) (key : Y → ℤ) → ((n : ℕ) (x : X) → key (f n x) ≡ pos n) → (n : ℕ) (xs : List X) → InOrder (λ a b. Below (key a) (key b)) (numbered f n xs)
 numbered_rise f key keyed n [] = tt
-numbered_rise f key keyed n (x ∷ xs) =
-    (all_weaker (λ y. (m : ℕ) × (key y ≡ pos m) × (n + 1 ≤ m)) (λ y. Below (key (f n x)) (key y)) (λ y h. below_from (key (f n x)) n (key y) (keyed n x) h) (numbered f (n + 1) xs) (numbered_from f key keyed (n + 1) xs),
-    numbered_rise f key keyed (n + 1) xs)
+numbered_rise f key keyed n (x ∷ xs) = (
+  all_weaker (λ y. (m : ℕ) × (key y ≡ pos m) × (n + 1 ≤ m)) (λ y. Below (key (f n x)) (key y)) (λ y h. below_from (key (f n x)) n (key y) (keyed n x) h) (numbered f (n + 1) xs) (numbered_from f key keyed (n + 1) xs),
+  numbered_rise f key keyed (n + 1) xs,
+)
 
 kept_from : (n : ℕ) (replies : List KeptFor) → IsNumberedFrom n replies → AllByRecursion (λ row. (m : ℕ) × (row.number ≡ pos m) × (n ≤ m)) (map kept_record replies)
 kept_from n [] h = tt
-kept_from n (one ∷ replies) h =
-    ((n, ap pos h.0, let le : n ≤ n = omega arith in le),
-    all_weaker (λ (row : spec.Kept). (m : ℕ) × (row.number ≡ pos m) × (n + 1 ≤ m)) (λ row. (m : ℕ) × (row.number ≡ pos m) × (n ≤ m)) (λ row g. (g.0, g.1, let above : n + 1 ≤ g.0 = g.2 in omega arith)) (map kept_record replies) (kept_from (n + 1) replies h.1))
+kept_from n (one ∷ replies) h = (
+  (n, ap pos h.0, let le : n ≤ n = omega arith in le),
+  all_weaker (λ (row : spec.Kept). (m : ℕ) × (row.number ≡ pos m) × (n + 1 ≤ m)) (λ row. (m : ℕ) × (row.number ≡ pos m) × (n ≤ m)) (λ row g. (g.0, g.1, let above : n + 1 ≤ g.0 = g.2 in omega arith)) (map kept_record replies) (kept_from (n + 1) replies h.1),
+)
 
 kept_rise : (n : ℕ) (replies : List KeptFor) → IsNumberedFrom n replies → InOrder (λ (a b : spec.Kept). Below a.number b.number) (map kept_record replies)
 kept_rise n [] h = tt
-kept_rise n (one ∷ replies) h =
-    (all_weaker (λ (row : spec.Kept). (m : ℕ) × (row.number ≡ pos m) × (n + 1 ≤ m)) (λ row. Below (pos one.reply.number) row.number) (λ row g. below_from (pos one.reply.number) n row.number (ap pos h.0) g) (map kept_record replies) (kept_from (n + 1) replies h.1),
-    kept_rise (n + 1) replies h.1)
+kept_rise n (one ∷ replies) h = (
+  all_weaker (λ (row : spec.Kept). (m : ℕ) × (row.number ≡ pos m) × (n + 1 ≤ m)) (λ row. Below (pos one.reply.number) row.number) (λ row g. below_from (pos one.reply.number) n row.number (ap pos h.0) g) (map kept_record replies) (kept_from (n + 1) replies h.1),
+  kept_rise (n + 1) replies h.1,
+)
 
 -- ---- the tables
 
@@ -306,7 +310,7 @@ ordered_stands version old new M same order h = record {
   owners = all_same (λ (row : spec.Member). IsTrue (is_known M.items row.owner)) old.members new.members same.members h.owners;
   editions = all_weaker (HoldsEditions old) (HoldsEditions new)
       (λ item g. all_weaker (HoldsEdition old (name_of item)) (HoldsEdition new (name_of item)) (λ stored k. edition_same old new (name_of item) stored (same_from old.editions new.editions same.editions) (same_from old.entries new.entries same.entries) order.entries k)
-          (editions_of item) g) M.items h.editions;
+      (editions_of item) g) M.items h.editions;
   numbers = all_same (λ (row : spec.Edition). IsTrue (has_number M.items row.number)) old.editions new.editions same.editions h.numbers;
   entries = all_same (λ (row : spec.Entry). IsTrue (has_number M.items row.edition)) old.entries new.entries same.entries h.entries;
   kept = sym (ordered_once (λ (row : spec.Kept). row.number) old.kept new.kept (same_from old.kept new.kept same.kept)

@@ -28,9 +28,10 @@ pub no_strays : (version : ℕ) (reader : Reader) (taken tables : Tables) (M : C
     AllByRecursion (λ (row : spec.Edition). row.number ≢ number) tables.editions × AllByRecursion (λ (row : spec.Entry). row.edition ≢ number) tables.entries
 no_strays version reader taken tables M number unknown h goes stands =
     let numbers = numbers_taken version reader taken tables M h goes stands in
-    let none : has_number M.items number ≡ false = ap (λ ns. list_any (λ one. same_number (pos one) number) ns) numbers ∙ unknown in
-    (all_weaker (λ (row : spec.Edition). IsTrue (has_number M.items row.number)) (λ (row : spec.Edition). row.number ≢ number) (λ row there same. false≢true (sym none ∙ ap (has_number M.items) (sym same) ∙ there)) tables.editions stands.numbers,
-    all_weaker (λ (row : spec.Entry). IsTrue (has_number M.items row.edition)) (λ (row : spec.Entry). row.edition ≢ number) (λ row there same. false≢true (sym none ∙ ap (has_number M.items) (sym same) ∙ there)) tables.entries stands.entries)
+    let none : has_number M.items number ≡ false = ap (λ ns. list_any (λ one. same_number (pos one) number) ns) numbers ∙ unknown in (
+      all_weaker (λ (row : spec.Edition). IsTrue (has_number M.items row.number)) (λ (row : spec.Edition). row.number ≢ number) (λ row there same. false≢true (sym none ∙ ap (has_number M.items) (sym same) ∙ there)) tables.editions stands.numbers,
+      all_weaker (λ (row : spec.Entry). IsTrue (has_number M.items row.edition)) (λ (row : spec.Entry). row.edition ≢ number) (λ row there same. false≢true (sym none ∙ ap (has_number M.items) (sym same) ∙ there)) tables.entries stands.entries,
+    )
 
 within : (installs most number : ℕ) → installs ≤ most → is_from_one_to installs number ≡ true → number ≤ most
 within installs most number le h = let parts = and_parts (nat_le 1 number) (nat_le number installs) h in let below : number ≤ installs = grind (arith, nat_tests) in omega arith

@@ -9,9 +9,7 @@ ghost use Rattle.dict_rows.specs.Written.{mark_record, item_record, member_recor
 
 use dict_catalogue::{Item, Kept as Reply, Verb};
 use dict_index::{Edition, Entry};
-use dict_records::{
-    Edition as EditionRow, Entry as EntryRow, Item as ItemRow, Kept, Mark, Member,
-};
+use dict_records::{Edition as EditionRow, Entry as EntryRow, Item as ItemRow, Kept, Mark, Member};
 
 /// The mark of a file of this schema, with the count of installs.
 pub fn mark_row(version: u64, installs: u64) -> Mark<&'static str>
@@ -75,9 +73,10 @@ pub fn member_row<'a>(owner: &'a str, ord: u64, name: &'a str) -> Member<&'a str
     requires { ord ≤ 9223372036854775807 }
     ensures { lent_member result ≡ member_record owner.now ord name.now }
 {
+    let place = ord as i64;
     Member {
         owner,
-        ord: ord as i64,
+        ord: place,
         name,
     }
 }
