@@ -1,0 +1,3 @@
+pub mod CreateTexts
+pub mod InsertTexts
+pub mod DeleteTexts
