@@ -20,7 +20,7 @@ use Rattle.dict_sql.proofs.AddFaults.{cause}
 use Rattle.dict_sql.proofs.FaultLemmas.{faults_inside}
 use Rattle.dict_sql.proofs.InsertLemmas.{adds_chosen, cast_int, cast_null}
 use Rattle.dict_sql.proofs.TextLemmas.{parsed_or, ReadsInsert, insert_is, insert_command, insert_plain}
-use Rattle.dict_keyed_sql.specs.Rows.{keyed_entry_row, piece_row}
+use Rattle.dict_sql.specs.Keyed.{keyed_entry_row, piece_row}
 use Rattle.dict_keyed_sql.specs.Tables.{entry, word, gram}
 use Rattle.dict_keyed_sql.specs.Texts.{insert_keyed_entry, insert_word, insert_gram}
 

@@ -1,3 +1,5 @@
 pub mod CreateTexts
-pub mod InsertTexts
 pub mod DeleteTexts
+pub mod InsertTexts
+pub mod ReadTexts
+

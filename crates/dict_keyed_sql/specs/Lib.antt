@@ -1,3 +1,3 @@
-pub mod Rows
+pub mod Scans
 pub mod Tables
 pub mod Texts

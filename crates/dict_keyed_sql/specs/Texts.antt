@@ -22,3 +22,15 @@ abbrev pub delete_text : KeyedTable → List ℕ
 delete_text Entry = codes "DELETE FROM entry WHERE edition = ?1"
 delete_text Word = codes "DELETE FROM word WHERE edition = ?1"
 delete_text Gram = codes "DELETE FROM gram WHERE edition = ?1"
+
+-- all rows, in the order of the table's key
+abbrev pub list_text : KeyedTable → List ℕ
+list_text Entry = codes "SELECT rowid, * FROM entry ORDER BY 2, 3"
+list_text Word = codes "SELECT rowid, * FROM word ORDER BY 2, 3, 4"
+list_text Gram = codes "SELECT rowid, * FROM gram ORDER BY 2, 3, 4"
+
+-- those of an edition, in the order of the table's key
+abbrev pub select_text : KeyedTable → List ℕ
+select_text Entry = codes "SELECT rowid, * FROM entry WHERE edition = ?1 ORDER BY 3"
+select_text Word = codes "SELECT rowid, * FROM word WHERE edition = ?1 ORDER BY 3, 4"
+select_text Gram = codes "SELECT rowid, * FROM gram WHERE edition = ?1 ORDER BY 3, 4"

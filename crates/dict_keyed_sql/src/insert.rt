@@ -6,7 +6,7 @@ ghost use Rattle.dict_records.specs.Keyed.{lent_keyed_entry, lent_word, lent_gra
 ghost use Rattle.dict_sql.specs.Effects.{Has, WhileOpen, seen};
 ghost use Rattle.dict_sql.specs.Inserts.{Inserts, FailsToInsert};
 ghost use Rattle.dict_keyed_sql.specs.Tables.{entry, word, gram};
-ghost use Rattle.dict_keyed_sql.specs.Rows.{keyed_entry_row, piece_row};
+ghost use Rattle.dict_sql.specs.Keyed.{keyed_entry_row, piece_row};
 
 use dict_records::{Gram, KeyedEntry, Word};
 use sqlite::{Alter, Error, Transaction, params};

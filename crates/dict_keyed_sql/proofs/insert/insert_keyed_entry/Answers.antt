@@ -7,7 +7,7 @@ use Rattle.dict_sql.specs.Effects.{seen}
 use Rattle.dict_sql.proofs.NumberLemmas.{bound_int}
 use Rattle.dict_sql.proofs.StateLemmas.{inside, fails_in}
 use Rattle.dict_sql.proofs.RefusalLemmas.{adds_aside}
-use Rattle.dict_keyed_sql.specs.Rows.{keyed_entry_row}
+use Rattle.dict_sql.specs.Keyed.{keyed_entry_row}
 use Rattle.dict_keyed_sql.specs.Texts.{insert_keyed_entry}
 use Rattle.dict_keyed_sql.proofs.InsertTexts.{adds_entry, entry_fails}
 use Rattle.dict_keyed_sql.proofs.insert.insert_keyed_entry.Goals as goal

@@ -7,7 +7,7 @@ use Rattle.dict_sql.specs.Effects.{seen}
 use Rattle.dict_sql.proofs.NumberLemmas.{bound_int}
 use Rattle.dict_sql.proofs.StateLemmas.{inside, fails_in}
 use Rattle.dict_sql.proofs.RefusalLemmas.{adds_aside}
-use Rattle.dict_keyed_sql.specs.Rows.{piece_row}
+use Rattle.dict_sql.specs.Keyed.{piece_row}
 use Rattle.dict_keyed_sql.specs.Texts.{insert_word}
 use Rattle.dict_keyed_sql.proofs.InsertTexts.{adds_word, word_fails}
 use Rattle.dict_keyed_sql.proofs.insert.insert_word.Goals as goal
