@@ -2,4 +2,4 @@ pub mod CreateTexts
 pub mod DeleteTexts
 pub mod InsertTexts
 pub mod ReadTexts
-
+pub mod ScanLemmas

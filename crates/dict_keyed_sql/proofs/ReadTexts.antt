@@ -196,4 +196,3 @@ takes_of_gram = record { whole = lit≤ tt; names = λ x. refl; typed = λ schem
 
 pub is_of_gram : (tree : ℕ) (n : ℤ) (row : Row) → passes (Int n ∷ []) test_edition row ≡ equals_number 1 n (shown (gram tree) row)
 is_of_gram tree n row = and_true _ ∙ equals_is (column row 1) n
-
