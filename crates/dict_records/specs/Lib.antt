@@ -1,2 +1,3 @@
+pub mod Keyed
 pub mod Records
 pub mod Typed

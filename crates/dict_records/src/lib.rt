@@ -1,6 +1,8 @@
 //! The records of the store's tables.
 #![tactic(auto)]
 
+mod keyed;
 mod records;
 
+pub use keyed::{Gram, KeyedEntry, Word};
 pub use records::{Edition, Entry, Item, Kept, Mark, Member, Stored};

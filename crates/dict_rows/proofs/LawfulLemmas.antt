@@ -203,7 +203,7 @@ true_numbers_once (x ∷ xs) h = and_from (not (list_any (λ one. one == x) xs))
 
 -- items
 
-names_are : {A : Type 0} (items : List (Item A)) → has_names_once items ≡ has_once (map name_of items)
+pub names_are : {A : Type 0} (items : List (Item A)) → has_names_once items ≡ has_once (map name_of items)
 names_are [] = refl
 names_are (item ∷ items) =
     let known : is_known items (name_of item) ≡ is_among (map name_of items) (name_of item) = sym (any_same (λ one. bytes_eq one (name_of item)) (is_named (name_of item)) name_of (λ x. refl) items) in

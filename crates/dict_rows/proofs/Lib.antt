@@ -13,3 +13,11 @@ pub mod EntryLemmas
 pub mod KeptLemmas
 pub mod FinishLemmas
 pub mod WholeLemmas
+pub mod OrderLemmas
+pub mod PartLemmas
+pub mod ApartLemmas
+pub mod StrayLemmas
+pub mod MemberLemmas
+pub mod AfterLemmas
+pub mod ChangeLemmas
+pub mod WorkedLemmas

@@ -6,3 +6,7 @@ pub mod Given
 pub mod Titles
 pub mod Taken
 pub mod Whole
+pub mod Order
+pub mod Apart
+pub mod After
+pub mod Worked

@@ -1,5 +1,5 @@
 // The items that the records of two tables tell, with no title of an edition yet.
-ghost use Rattle.std.specs.Prelude.{◌≡◌, ◌≢◌, ◌↔◌, ◌++◌, ◌∷◌, [], ℕ, pos, List, Option, IfOk, IfErr, OnOk, IsTrue, map, option_map, string_bytes, length};
+ghost use Rattle.std.specs.Prelude.{◌≡◌, ◌≢◌, ◌≤◌, ◌↔◌, ◌++◌, ◌∷◌, [], ℕ, pos, List, Option, IfOk, IfErr, OnOk, IsTrue, map, option_map, string_bytes, length};
 ghost use Rattle.dict_records.specs.Typed.{owned_item};
 ghost use Rattle.dict_catalogue.specs.Items.{members_of};
 ghost use Rattle.dict_catalogue.specs.Views.{item_shown, stored_shown, texts_shown};
@@ -15,6 +15,7 @@ use std::alloc::Global;
 /// The number that stands in a column, which is never below 0.
 pub(crate) fn number_of(found: &i64) -> Result<u64, RowsFault>
     ensures number { IfOk result (λ number. found.now ≡ pos number) }
+    ensures most { IfOk result (λ number. number ≤ 9223372036854775807) }
     ensures below { IfErr result (λ fault. OnDamage fault ((number : ℕ) → found.now ≢ pos number)) }
     ensures only { IfErr result (λ fault. fault ≡ RowsFault.Damaged) }
 {

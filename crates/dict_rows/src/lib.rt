@@ -1,6 +1,7 @@
 //! The records of the tables, and the catalogue that they stand for.
 #![tactic(auto)]
 
+mod apart;
 mod entries;
 mod fault;
 mod items;
@@ -11,8 +12,14 @@ mod reader;
 mod replies;
 mod summary;
 mod titles;
+mod written;
 
+pub use apart::{Ids, Rowids};
 pub use fault::RowsFault;
-pub use laws::one_catalogue;
+pub use laws::{
+    empty_records, one_catalogue, ordered_records, records_after, records_by_number,
+    taken_in_order, worked_records,
+};
 pub use reader::Reader;
 pub use summary::{EditionRows, Tables, summary_of};
+pub use written::{edition_row, entry_row, item_row, kept_row, mark_row, member_row};

@@ -1,5 +1,5 @@
 // The record of the mark, and the owners of the members.
-ghost use Rattle.std.specs.Prelude.{◌≡◌, ◌≢◌, ℕ, [], ◌∷◌, IfOk, IfErr, map};
+ghost use Rattle.std.specs.Prelude.{◌≡◌, ◌≢◌, ◌≤◌, ℕ, [], ◌∷◌, IfOk, IfErr, map};
 ghost use Rattle.std.specs.List.{list_all};
 ghost use Rattle.dict_catalogue.specs.Items.{is_known};
 ghost use Rattle.dict_catalogue.specs.Views.{item_shown};
@@ -14,6 +14,7 @@ use dict_records::{Mark, Member, Stored};
 
 /// The count of installs that a mark of this schema tells.
 fn installs_in(version: u64, mark: &Mark<String>) -> Result<u64, RowsFault>
+    ensures most { IfOk result (λ installs. installs ≤ 9223372036854775807) }
     ensures told { IfOk result (λ installs. owned_mark mark.now ≡ mark_record version installs) }
     ensures damaged { IfErr result (λ fault. OnDamage fault ((installs : ℕ) → owned_mark mark.now ≢ mark_record version installs)) }
 {
@@ -28,6 +29,7 @@ fn installs_in(version: u64, mark: &Mark<String>) -> Result<u64, RowsFault>
 
 /// The count of installs that the one mark of a file of this schema tells.
 pub(crate) fn installs_of(version: u64, marks: &[Stored<Mark<String>>]) -> Result<u64, RowsFault>
+    ensures most { IfOk result (λ installs. installs ≤ 9223372036854775807) }
     ensures told { IfOk result (λ installs. marks_given marks.now ≡ mark_record version installs ∷ []) }
     ensures damaged { IfErr result (λ fault. OnDamage fault ((installs : ℕ) → marks_given marks.now ≢ mark_record version installs ∷ [])) }
 {

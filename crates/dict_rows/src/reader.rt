@@ -1,7 +1,8 @@
 // A reader of the records of the tables, one after another.
-ghost use Rattle.std.specs.Prelude.{◌≡◌, ◌≤◌, ◌<◌, ◌+◌, ◌⊎◌, ℕ, IfOk, IfErr, OnOk, OnErr, IfSome, IsSome, map};
+ghost use Rattle.std.specs.Prelude.{◌≡◌, ◌≢◌, ◌≤◌, ◌<◌, ◌+◌, ◌⊎◌, ℕ, pos, false, IfOk, IfErr, OnOk, OnErr, IfSome, IsSome, map};
 ghost use Rattle.dict_records.specs.Typed.{owned_edition, owned_entry, owned_kept};
-ghost use Rattle.dict_rows.specs.Tables.{Tables};
+ghost use Rattle.dict_rows.specs.Tables.{Tables, same_number};
+ghost use Rattle.std.specs.List.{AllByRecursion, list_any};
 ghost use Rattle.dict_rows.specs.Given.{marks_given, items_given, members_given, OnDamage, IsEntry, IsNoEntry};
 ghost use Rattle.dict_catalogue.specs.Steps.{Catalogue, summary_of};
 ghost use Rattle.dict_catalogue.specs.Views.{summary_shown};
@@ -9,16 +10,16 @@ ghost use Rattle.dict_rows.specs.Stands.{Stands};
 
 use crate::entries::test_entry;
 use crate::fault::RowsFault;
-use crate::items::{items_of, number_of};
+use crate::items::{is_number, items_of, number_of};
 use crate::lawful::has_lawful_items;
 use crate::marks::{are_owned, installs_of};
 use crate::replies::{is_install, reply_of};
 use crate::titles::{are_titled, place_of, title_at};
-use dict_catalogue::{Item, Summary};
+use dict_catalogue::{Item, Summary, edition_numbers};
 use dict_index::is_edition_text;
 use dict_name::is_title;
 use dict_records::{Edition, Entry, Item as ItemRow, Kept, Mark, Member, Stored};
-use std::alloc::Global;
+use std::alloc::{AllocError, Global};
 
 /// The most entries of an edition.
 const MAX_ENTRIES: u64 = 65_535;
@@ -62,6 +63,33 @@ fn add_entry(alloc: Global, hand: &mut InHand, row: &Entry<String>) -> Result<()
     Ok(())
 }
 
+/// The same numbers as a column holds them, or `Damaged` where one doesn't fit.
+fn signed_numbers(alloc: Global, numbers: &[u64]) -> Result<Vec<i64>, RowsFault>
+    ensures same { IfOk result (λ signed. signed.items ≡ map pos numbers.now) }
+    ensures damaged { IfErr result (λ fault. OnDamage fault (AllByRecursion (λ number. number ≤ 9223372036854775807) numbers.now → ⊥)) }
+{
+    let mut signed = Vec::new(alloc);
+    for number in numbers {
+        if *number > MAX_ACCEPTED {
+            return Err(RowsFault::Damaged);
+        }
+        signed.push(*number as i64)?;
+    }
+    Ok(signed)
+}
+
+/// Whether one of the numbers stands in the column.
+fn is_one_of(numbers: &[u64], found: i64) -> bool
+    ensures { result ≡ list_any (λ one. same_number (pos one) found) numbers.now }
+{
+    for number in numbers {
+        if is_number(*number, &found) {
+            return true;
+        }
+    }
+    false
+}
+
 /// A reader of the records of the tables. It holds the items with the titles of the editions that were read, the text
 /// of one edition, and counts.
 #[derive(Drop)]
@@ -74,12 +102,15 @@ pub struct Reader {
     /// How many kept replies were read, and how many of them are of installs.
     pub(crate) accepted: u64,
     pub(crate) installed: u64,
+    ghost installs_few: { installs ≤ 9223372036854775807 },
     ghost accepted_few: { accepted ≤ 9223372036854775807 },
     ghost installed_within: { installed ≤ accepted },
 }
 
 impl Reader {
-    ghost use Rattle.dict_rows.specs.Taken.{HasTaken, StandsForNone, begun, with_edition, with_entry, with_kept, IsOfLast, HasIdsOnce};
+    ghost use Rattle.dict_rows.specs.Taken.{HasTaken, StandsForNone, GoesOn, items_in, begun, with_edition, with_entry, with_kept, IsOfLast, HasIdsOnce};
+    ghost use Rattle.dict_rows.specs.Stands.{has_number};
+    ghost use Rattle.dict_catalogue.specs.Items.{edition_numbers};
 
     /// Begins with the mark, the items in the order of their places, and the members in the order of theirs: all of them.
     ///
@@ -106,6 +137,27 @@ impl Reader {
             accepted: 0,
             installed: 0,
         })
+    }
+
+    /// The numbers of the editions of the items, in their order. `Damaged` never comes where records were taken.
+    pub fn numbers(&self, alloc: Global) -> Result<Vec<i64>, RowsFault>
+        ensures numbers { IfOk result (λ numbers. numbers.items ≡ map pos (edition_numbers (items_in self.now))) }
+        ensures damaged { IfErr result (λ fault. OnDamage fault ((version : ℕ) (taken : Tables) → HasTaken version self.now taken → ⊥)) }
+    {
+        let numbers = edition_numbers(alloc, &self.items)?;
+        signed_numbers(alloc, &numbers)
+    }
+
+    /// Whether one of the items has an edition of this number.
+    ///
+    /// Where none has, no catalogue stands for tables with such an edition or with entries of it.
+    pub fn knows(&self, alloc: Global, number: i64) -> Result<bool, AllocError>
+        ensures known { IfOk result (λ known. known ≡ has_number (items_in self.now) number) }
+        ensures stray { IfOk result (λ known. known ≡ false → (version : ℕ) (taken tables : Tables) (M : Catalogue) → HasTaken version self.now taken → GoesOn taken tables → Stands version tables M →
+            AllByRecursion (λ row. row.number ≢ number) tables.editions × AllByRecursion (λ row. row.edition ≢ number) tables.entries) }
+    {
+        let numbers = edition_numbers(alloc, &self.items)?;
+        Ok(is_one_of(&numbers, number))
     }
 
     /// Takes the record of an edition, whose entries come next. The editions come in any order.

@@ -2,6 +2,10 @@
 #![tactic(auto)]
 
 #[cfg(test)]
+mod limits;
+#[cfg(test)]
+mod orders;
+#[cfg(test)]
 mod records;
 #[cfg(test)]
 mod tests;

@@ -160,6 +160,23 @@ pub fn reply(
     })
 }
 
+/// An edition with this text, and one entry that cuts this interval out of it.
+pub fn cutting(
+    alloc: Global,
+    number: i64,
+    owner: &str,
+    body: &[u8],
+    start: i64,
+    length: i64,
+) -> Result<EditionRows, AllocError> {
+    let mut entries = Vec::new(alloc);
+    entries.push(entry(alloc, number, 0, "iron", start, length)?)?;
+    Ok(EditionRows {
+        edition: edition(alloc, number, owner, "Ores", body)?,
+        entries,
+    })
+}
+
 /// The edition `ore`, whose one entry has this place, this headword and this interval.
 pub fn ore(
     alloc: Global,

@@ -13,7 +13,7 @@ use Rattle.sqlite.specs.declared.types.Value.{Value}
 use Rattle.sqlite.specs.declared.types.Value.TheVariants.{Null, Int}
 use Rattle.sqlite.specs.Order.{Row, column, value_cmp}
 use Rattle.std.specs.Cmp.{tied_itself}
-use Rattle.sqlite_value.proofs.OrderLemmas.{value_cmp_total}
+use Rattle.dict_sql.proofs.KitLemmas.{value_cmp_total}
 use Rattle.sqlite.specs.Tree.{Trees, rowid, put_row}
 use Rattle.sqlite.specs.Table.{Table}
 use Rattle.sqlite.specs.Schema.{Schema}

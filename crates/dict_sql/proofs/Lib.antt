@@ -1,3 +1,4 @@
+pub mod KitLemmas
 pub mod InsertLemmas
 pub mod TextLemmas
 pub mod InsertTexts

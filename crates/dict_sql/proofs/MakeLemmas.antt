@@ -11,14 +11,12 @@ use Rattle.sqlite.specs.Disk.{MoreFaults}
 use Rattle.sqlite.specs.declared.error.Error.{Error}
 use Rattle.sqlite.specs.declared.error.Error.TheVariants.{SqliteFailure}
 use Rattle.sqlite.specs.declared.error.ErrorCode.TheVariants as code
-use Rattle.sqlite_rules.proofs.ListLemmas.{all_has}
+use Rattle.dict_sql.proofs.KitLemmas.{all_has, index_owner, table_below}
 use Rattle.dict_sql.specs.Refusals.{RefusesToMake}
 use Rattle.sqlite.specs.Does.{lacks_sequence}
 use Rattle.sqlite_schema.specs.Names.{same_name, table_named}
 use Rattle.sqlite_schema.specs.declared.schema.Index.{Index}
 use Rattle.sqlite_catalog.specs.Listing.{IsTableRow, IsIndexRow}
-use Rattle.sqlite_catalog.proofs.LayoutLemmas.{index_owner}
-use Rattle.sqlite_catalog.proofs.StepLemmas.{table_below}
 use Rattle.dict_tables.specs.Tables.{table_of, store_tables}
 use Rattle.dict_tables.specs.Found.{HasOwn}
 use Rattle.dict_tables.specs.Room.{HasRoom, LeavesRoom}

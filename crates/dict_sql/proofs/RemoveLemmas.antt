@@ -6,7 +6,7 @@ use Rattle.std.specs.List.{AllByRecursion, IsDistinct, list_any}
 use Rattle.std.specs.List.Sorted.{IsPermutation}
 use Rattle.std.specs.Ordering.{is_eq, ordering_reverse}
 use Rattle.std.specs.Cmp.{tied_itself}
-use Rattle.sqlite_value.proofs.OrderLemmas.{value_cmp_total}
+use Rattle.dict_sql.proofs.KitLemmas.{value_cmp_total}
 use Rattle.sqlite.specs.declared.types.Value.{Value}
 use Rattle.sqlite.specs.declared.types.Value.TheVariants.{Int}
 use Rattle.sqlite.specs.Order.{Row, column, value_cmp}

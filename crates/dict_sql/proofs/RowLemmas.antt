@@ -1,5 +1,5 @@
 -- A row from its columns.
-use Rattle.std.proofs.Common.{◌≡◌, inl, inr, ℕ, suc, ◌+◌, [], ◌∷◌, map, length, refl, sym, ap, subst, ◌∙◌, arith, add-zero, Option, Some, None, MatchOption, ◌≢◌, String, string_bytes, ℤ}
+use Rattle.std.proofs.Common.{◌≡◌, inl, inr, ℕ, suc, ◌+◌, [], ◌∷◌, map, drop, length, refl, sym, ap, subst, ◌∙◌, arith, add-zero, Option, Some, None, MatchOption, ◌≢◌, String, string_bytes, ℤ}
 use Rattle.std.proofs.lemmas.Str.{IsUtf8-string_bytes}
 use Rattle.sqlite.specs.declared.types.Value.{Value}
 use Rattle.sqlite.specs.declared.types.Value.TheVariants.{Null, Int, Text}
@@ -32,3 +32,8 @@ number_or_null v (Some n) h = inr (n, h.1)
 pub text_or_null : {Z : Type 0} (v : Value) (o : Option (String Z)) → MatchOption o (v ≡ Null) (λ s. (v ≢ Null) × (v ≡ Text (string_bytes s))) → IsOf NameOrNull v
 text_or_null v None h = inl h
 text_or_null v (Some s) h = inr (string_bytes s, h.1, IsUtf8-string_bytes s)
+
+-- the first column, and what stands behind it
+pub first_and_rest : (r : Row) (n : ℕ) → length r ≡ suc n → r ≡ column r 0 ∷ drop 1 r
+first_and_rest [] n wide = absurd (omega (arith, wide))
+first_and_rest (x ∷ r) n wide = refl

@@ -26,7 +26,7 @@ use Rattle.dict_sql.specs.declared.records.ReadError.{ReadError}
 use Rattle.dict_sql.specs.declared.records.ReadError.TheVariants.{NoRecord, Store}
 use Rattle.dict_sql.proofs.SilentLemmas.{commits_none, never_returns}
 use Rattle.dict_sql.specs.Reads.{IsListing, IsSelection, FailsToRead, FailsToList, FailsToDecode, FailsToDecodeAll, HasNoRecord, select_edition, select_entry, select_some_entries, select_kept}
-use Rattle.dict_sql.specs.Streams.{Scan, scan_table, scan_text, scan_values, IsWhole, IsFront, HasGiven, GivesOn, Passes, FailsToGive, IsNotBegun}
+use Rattle.dict_sql.specs.Streams.{Scan, scan_table, scan_text, scan_values, IsWhole, IsFront, HasGiven, GivesOn, Passes, FailsToGive, FailsToMove, IsNotBegun}
 use Rattle.dict_sql.specs.Streams.Scan.{AllEditions, AllEntries, EntriesOf, AllKept}
 use Rattle.dict_sql.proofs.Callers.{still_has}
 use Rattle.dict_sql.proofs.ReadTexts.{read_edition, reads_edition, read_entry, reads_entry, read_some_entries, reads_some_entries, read_kept, reads_kept}
@@ -108,6 +108,11 @@ module _ {S : Type 0} (g : Ghosts S) (what : Scan) where
   pub fails_to_decode : (columns : List Content) (old new : Held S) (given : List Row) (row : Row) (e : ReadError) → Passes g what old new given row → FailsToDecode columns row e → FailsToGive g columns what old new given e
   fails_to_decode columns old new given row NoRecord passed none = (row, passed, none)
   fails_to_decode columns old new given row (Store e) passed refused = inr (refused, row, passed)
+
+-- the next row is no record, or memory was refused for it
+pub stops_at : {S : Type 0} (g : Ghosts S) (columns : List Content) (old new : Held S) (row : Row) (e : ReadError) → IsUnchanged (state g old) (state g new) → kit.Advances g old new (Some row) → FailsToDecode columns row e → FailsToMove g columns old new e
+stops_at g columns old new row NoRecord same moved none = (row, same, moved, none)
+stops_at g columns old new row (Store e) same moved refused = inr (refused, row, same, moved)
 
 -- ---- how a reading begins
 

@@ -8,3 +8,4 @@ pub mod Streams
 pub mod Deletes
 pub mod Creates
 pub mod Drops
+pub mod Keyed

@@ -80,3 +80,9 @@ module _ {S : Type 0} (g : Ghosts S) where
     pub failed : HasCleanDisk (state g new) → IfErr result (FailsToRead (state g old) (state g new))
     pub mode : old.in_transaction ≡ false → new.in_transaction ≡ false
     pub survives : Survives (state g old) (state g new) (λ _. ⊥)
+
+  -- The same of whatever is read: the next row is no record; or memory was refused for its record; or the store failed or the limit was met, and nothing more is given.
+  abbrev pub FailsToMove : List Content → Held S → Held S → ReadError → Type 0
+  FailsToMove columns old new NoRecord = (row : Row) × IsUnchanged (state g old) (state g new) × kit.Advances g old new (Some row) × ¬ HasColumns columns row
+  FailsToMove columns old new (Store e) =
+      (kit.FailsToAdvance g old new e × kit.IsEnded new) ⊎ ((e ≡ SqliteFailure OutOfMemory) × (row : Row) × IsUnchanged (state g old) (state g new) × kit.Advances g old new (Some row))

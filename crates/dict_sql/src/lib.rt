@@ -6,6 +6,7 @@ pub mod create;
 pub mod delete;
 pub mod drop;
 pub mod insert;
+pub mod keyed;
 pub mod laws;
 pub mod read;
 pub mod records;

@@ -83,7 +83,7 @@ fn is_refused(error: &Error) -> bool
 }
 
 // What stands in a column, or that something else does.
-fn cell<T: FromSql>(row: &Row, at: usize) -> Result<T, ReadError>
+pub(crate) fn cell<T: FromSql>(row: &Row, at: usize) -> Result<T, ReadError>
     requires { at < length row.now }
     ensures ok { IfOk result (λ x. T.FromSql.reads_as (column row.now at) x) }
     ensures other { IfErr result (λ e. e ≡ ReadError.NoRecord → ¬ T.FromSql.is_readable (column row.now at)) }

@@ -7,11 +7,11 @@ ghost use Rattle.std.specs.Borrow.{sem, RestsIfErr};
 ghost use Rattle.sqlite.specs.Order.{Row as SqlRow};
 ghost use Rattle.sqlite.specs.State.{HasCleanDisk, IsUnchanged, Survives};
 ghost use Rattle.sqlite.specs.Held.{state};
-ghost use Rattle.sqlite.specs.Given.{IsEnded};
+ghost use Rattle.sqlite.specs.Given.{IsEnded, Advances};
 ghost use Rattle.sqlite.specs.contracts.connection.Connection.{the_row};
 ghost use Rattle.dict_tables.specs.Tables.{edition as edition_table, entry, kept};
 ghost use Rattle.dict_sql.specs.Effects.{Has, WhileOpen};
-ghost use Rattle.dict_sql.specs.Streams.{Scan, HasGiven, GivesOn, FailsToGive, IsNotBegun};
+ghost use Rattle.dict_sql.specs.Streams.{Scan, HasGiven, GivesOn, FailsToGive, FailsToMove, IsNotBegun};
 ghost use Rattle.dict_sql.specs.Streams.Scan.{AllEditions, AllEntries, EntriesOf, AllKept};
 
 use crate::records::{ReadError, Record};
@@ -87,6 +87,8 @@ pub fn next_record<S: Alter, R: Record>(rows: &mut Rows<'_, S>) -> Result<Option
     ensures given { HasCleanDisk (state S.Store rows.new.conn.now) → IfOk result (λ record'. (what : Scan) (given : List SqlRow) → HasGiven S.Store what rows.old.conn.now given → GivesOn S.Store what rows.new.conn.now given (option_map R.Record.stored record')) }
     ensures same { HasCleanDisk (state S.Store rows.new.conn.now) → OnOk result (IsUnchanged (state S.Store rows.old.conn.now) (state S.Store rows.new.conn.now)) }
     ensures failed { HasCleanDisk (state S.Store rows.new.conn.now) → IfErr result (λ e. (what : Scan) (given : List SqlRow) → HasGiven S.Store what rows.old.conn.now given → FailsToGive S.Store R.Record.columns what rows.old.conn.now rows.new.conn.now given e) }
+    ensures moved { HasCleanDisk (state S.Store rows.new.conn.now) → IfOk result (λ record'. Advances S.Store rows.old.conn.now rows.new.conn.now (option_map R.Record.stored record')) }
+    ensures stopped { HasCleanDisk (state S.Store rows.new.conn.now) → IfErr result (FailsToMove S.Store R.Record.columns rows.old.conn.now rows.new.conn.now) }
     ensures ends { IfOk result (λ record'. IfNone record' (IsEnded rows.new.conn.now)) }
     ensures ended { IsEnded rows.old.conn.now → IfOk result IsNone }
     ensures mode { rows.old.conn.now.in_transaction ≡ false → rows.new.conn.now.in_transaction ≡ false }

@@ -1,3 +1,4 @@
+pub mod KitLemmas
 pub mod PlaceLemmas
 pub mod FindLemmas
 pub mod TableLemmas

@@ -11,8 +11,7 @@ use Rattle.sqlite.specs.Change.{created, next_tree, is_used, automatics}
 use Rattle.sqlite_schema.specs.Names.{table_named, index_named, view_named, same_name}
 use Rattle.sqlite_schema.specs.declared.schema.Reference.{Reference}
 use Rattle.sqlite_schema.specs.declared.schema.Index.{Index}
-use Rattle.sqlite_catalog.proofs.StepLemmas.{table_below, no_table, no_index, no_view, same_itself}
-use Rattle.sqlite_rules.proofs.ListLemmas.{all_from}
+use Rattle.dict_tables.proofs.KitLemmas.{table_below, no_table, no_index, no_view, same_itself, all_from}
 use Rattle.dict_tables.specs.Tables.{table_of}
 use Rattle.dict_tables.specs.Found.{HasOwn, is_in, is_further_key}
 use Rattle.dict_tables.specs.Room.{HasRoom, LeavesRoom, is_referred}

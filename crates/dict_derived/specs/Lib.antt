@@ -1,0 +1,3 @@
+pub mod Derived
+pub mod Exact
+pub mod Search

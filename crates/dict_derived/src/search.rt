@@ -1,0 +1,96 @@
+//! Which entries a query looks at.
+
+ghost use Rattle.std.specs.Prelude.{◌≡◌, ◌+◌, ◌≤◌, IfOk, length, take, drop};
+ghost use Rattle.dict_derived.specs.Search.{rows_of, rows_for, is_tested, with_last, by_first, by_grams};
+ghost use Rattle.dict_match.specs.Words.{words_between_blanks};
+
+use crate::headword::reversed;
+use dict_match::{Strategy, words};
+use std::alloc::{AllocError, Global};
+
+/// The entries of an edition that a query looks at, by what the tables have of each. All ends are taken in.
+#[derive(Debug, PartialEq, Eq, Drop)]
+pub enum Selection {
+    Nothing,
+    All,
+    /// Those of this key.
+    Key(Vec<u8>),
+    /// Those whose key is from the first on, up to the second.
+    Keys(Vec<u8>, Vec<u8>),
+    /// Those whose key, read in reverse order, is from the first on, up to the second.
+    ReversedKeys(Vec<u8>, Vec<u8>),
+    /// Those whose key has both grams, which may be equal.
+    Grams([u8; 3], [u8; 3]),
+    /// Those whose key has this word.
+    Word(Vec<u8>),
+}
+
+/// Which entries of an edition a query of this key by a strategy looks at: all that it finds are among them. The only error is want of memory.
+pub fn select(alloc: Global, strategy: Strategy, query: &[u8]) -> Result<Selection, AllocError>
+    ensures { IfOk result (λ selection. rows_of selection ≡ rows_for strategy query.now) }
+{
+    if query.is_empty() {
+        return Ok(Selection::Nothing);
+    }
+    match strategy {
+        Strategy::Exact => Ok(Selection::Key(Vec::from_slice(alloc, query)?)),
+        Strategy::Prefix => Ok(Selection::Keys(
+            Vec::from_slice(alloc, query)?,
+            with_last(alloc, query)?,
+        )),
+        Strategy::Suffix => {
+            let low = reversed(alloc, query)?;
+            let high = with_last(alloc, low.as_slice())?;
+            Ok(Selection::ReversedKeys(low, high))
+        }
+        Strategy::Substring => Ok(by_grams(query)),
+        Strategy::Word | Strategy::First | Strategy::Last => by_first_word(alloc, query),
+    }
+}
+
+/// Whether what is selected has to be tested by `dict_match::matches`, entry by entry.
+pub fn is_tested(strategy: Strategy) -> bool
+    ensures { result ≡ is_tested strategy }
+{
+    !matches!(
+        strategy,
+        Strategy::Exact | Strategy::Prefix | Strategy::Suffix
+    )
+}
+
+/// The octets, and 255 behind them.
+fn with_last(alloc: Global, octets: &[u8]) -> Result<Vec<u8>, AllocError>
+    ensures { IfOk result (λ v. v.items ≡ with_last octets.now) }
+{
+    let mut list = Vec::from_slice(alloc, octets)?;
+    list.push(255)?;
+    Ok(list)
+}
+
+/// The three octets that begin at a place.
+fn gram_at(octets: &[u8], place: usize) -> [u8; 3]
+    requires { place + 3 ≤ length octets.now }
+    ensures { result ≡ take 3 (drop place octets.now) }
+{
+    [octets[place], octets[place + 1], octets[place + 2]]
+}
+
+/// By the first and the last gram, where there is one.
+fn by_grams(query: &[u8]) -> Selection
+    ensures { rows_of result ≡ by_grams query.now }
+{
+    if query.len() < 3 {
+        return Selection::All;
+    }
+    Selection::Grams(gram_at(query, 0), gram_at(query, query.len() - 3))
+}
+
+/// By the first word, where there is one.
+fn by_first_word(alloc: Global, query: &[u8]) -> Result<Selection, AllocError>
+    ensures { IfOk result (λ selection. rows_of selection ≡ by_first (words_between_blanks query.now)) }
+{
+    match words(query).next() {
+        Some(word) => Ok(Selection::Word(Vec::from_slice(alloc, word)?)),
+        None => Ok(Selection::All),
+    }
+}

@@ -1,0 +1,5 @@
+pub mod CreateTexts
+pub mod DeleteTexts
+pub mod InsertTexts
+pub mod ReadTexts
+pub mod ScanLemmas

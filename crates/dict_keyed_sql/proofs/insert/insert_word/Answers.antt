@@ -1,0 +1,34 @@
+use Rattle.std.proofs.Common.{codes, rules, ap, arith}
+use mir.Syntax.{w64}
+use mir.Val.{SFits}
+use Rattle.sqlite.specs.Held.{state}
+use Rattle.dict_records.specs.Keyed.{Piece, lent_word}
+use Rattle.dict_sql.specs.Effects.{seen}
+use Rattle.dict_sql.proofs.NumberLemmas.{bound_int}
+use Rattle.dict_sql.proofs.StateLemmas.{inside, fails_in}
+use Rattle.dict_sql.proofs.RefusalLemmas.{adds_aside}
+use Rattle.dict_sql.specs.Keyed.{piece_row}
+use Rattle.dict_keyed_sql.specs.Texts.{insert_word}
+use Rattle.dict_keyed_sql.proofs.InsertTexts.{adds_word, word_fails}
+use Rattle.dict_keyed_sql.proofs.insert.insert_word.Goals as goal
+
+pub returns-clause-added : goal.returns-clause-added
+returns-clause-added g c clean =
+    let old = seen g.S.Store c.args.tx.now in
+    let new = seen g.S.Store c.execute.new.self in
+    let given : Piece = lent_word c.args.given.now in
+    let fits_edition : SFits w64 c.args.given.now.edition = search rules in
+    let fits_ord : SFits w64 c.args.given.now.ord = search rules in
+    inside insert_word (piece_row given) old new c.execute.result (λ open' count. adds_word old new given count (c.requires (omega (arith, c.execute.ensures.survives.clean)) open')) (λ outside. (c.execute.ensures.ended outside).0)
+    (λ within. rw ((bound_int _ c.args.given.now.edition fits_edition c.params-to_sql.ensures), c.params-to_sql-2.ensures, (bound_int _ c.args.given.now.ord fits_ord c.params-to_sql-3.ensures)) at (c.execute.ensures.runs clean within))
+
+pub returns-clause-failed : goal.returns-clause-failed
+returns-clause-failed g c clean =
+    let old = seen g.S.Store c.args.tx.now in
+    let new = seen g.S.Store c.execute.new.self in
+    let given : Piece = lent_word c.args.given.now in
+    let fits_edition : SFits w64 c.args.given.now.edition = search rules in
+    let fits_ord : SFits w64 c.args.given.now.ord = search rules in
+    fails_in _ _ (adds_aside (codes "word") (piece_row given) old) old new insert_word _ c.execute.result (λ outside. ((c.execute.ensures.ended outside).0, ap (state g.S.Store) (c.execute.ensures.ended outside).1))
+    (λ within. rw ((bound_int _ c.args.given.now.edition fits_edition c.params-to_sql.ensures), c.params-to_sql-2.ensures, (bound_int _ c.args.given.now.ord fits_ord c.params-to_sql-3.ensures)) at (c.execute.ensures.runs clean within))
+    (λ open' e. word_fails old new given e (c.requires (omega (arith, c.execute.ensures.survives.clean)) open'))

@@ -1,0 +1,92 @@
+-- What is read row by row, and what it has given so far.
+use Rattle.std.specs.Prelude.{◌≡◌, ◌⊎◌, ℕ, ℤ, Bool, true, List, [], ◌∷◌, ◌++◌, codes, Option, Some, None}
+use Rattle.sqlite.specs.declared.types.Value.TheVariants.{Int}
+use Rattle.sqlite.specs.declared.error.Error.TheVariants.{SqliteFailure}
+use Rattle.sqlite.specs.declared.error.ErrorCode.TheVariants.{OutOfMemory}
+use Rattle.sqlite.specs.Order.{Row}
+use Rattle.sqlite.specs.Table.{Table}
+use Rattle.sqlite.specs.Effect.{Database}
+use Rattle.sqlite.specs.State.{IsUnchanged}
+use Rattle.sqlite.specs.Held.{Held, state}
+use Rattle.sqlite.specs.Given as kit
+use Rattle.sqlite_trees.specs.declared.store.Store.{Ghosts}
+use Rattle.dict_sql.specs.Effects.{Has, equals_number}
+use Rattle.dict_sql.specs.Columns.{Content, HasColumns}
+use Rattle.dict_sql.specs.declared.records.ReadError.{ReadError}
+use Rattle.dict_sql.specs.declared.records.ReadError.TheVariants.{NoRecord, Store}
+use Rattle.dict_sql.specs.Reads.{IsSelection, FailsToRead}
+use Rattle.dict_keyed_sql.specs.Tables.{table_of}
+use Rattle.dict_keyed_sql.specs.Texts.{list_text, select_text}
+use Rattle.dict_keyed_sql.specs.declared.tables.KeyedTable.{KeyedTable}
+use Rattle.dict_keyed_sql.specs.declared.tables.KeyedTable.TheVariants.{Entry, Word, Gram}
+
+-- which rows are read, one at a time: those of a whole table, or of one edition
+pub data Scan : Type 0 where
+  All : KeyedTable → Scan
+  Of : KeyedTable → ℤ → Scan
+
+abbrev pub scan_table : Scan → ℕ → Table
+scan_table (All table) = table_of table
+scan_table (Of table edition) = table_of table
+
+abbrev pub scan_name : Scan → List ℕ
+scan_name what = (scan_table what 0).name
+
+-- the text that is run, and the values that it is given
+abbrev pub scan_text : Scan → List ℕ
+scan_text (All table) = list_text table
+scan_text (Of table edition) = select_text table
+
+abbrev pub scan_values : Scan → Row
+scan_values (All table) = []
+scan_values (Of table edition) = Int edition ∷ []
+
+-- which rows of the table are read
+abbrev pub scan_test : Scan → Row → Bool
+scan_test (All table) = λ _. true
+scan_test (Of table edition) = equals_number 1 edition
+
+-- the columns that order them, where the rowid is column 0
+abbrev pub whole_order : KeyedTable → List ℕ
+whole_order Entry = 1 ∷ 2 ∷ []
+whole_order Word = 1 ∷ 2 ∷ 3 ∷ []
+whole_order Gram = 1 ∷ 2 ∷ 3 ∷ []
+
+abbrev pub edition_order : KeyedTable → List ℕ
+edition_order Entry = 2 ∷ []
+edition_order Word = 2 ∷ 3 ∷ []
+edition_order Gram = 2 ∷ 3 ∷ []
+
+abbrev pub scan_order : Scan → List ℕ
+scan_order (All table) = whole_order table
+scan_order (Of table edition) = edition_order table
+
+-- all rows that are read, in their order
+abbrev pub IsWhole : Scan → Database → List Row → Type 0
+IsWhole what db rows = IsSelection (scan_name what) (scan_test what) (scan_order what) db rows
+
+-- the first of these rows
+abbrev pub IsFront : Scan → Database → List Row → Type 0
+IsFront what db rows = (tail : List Row) × IsWhole what db (rows ++ tail)
+
+module _ {S : Type 0} (g : Ghosts S) where
+  -- the connection reads this, and has given these rows
+  pub record HasGiven (what : Scan) (h : Held S) (given : List Row) : Type 0 where
+    pub runs : kit.HasGiven g (scan_text what) (scan_values what) h given
+    pub has : Has (scan_table what) (state g h).now
+    pub front : IsFront what (state g h).now given
+
+  -- one more row is given, or those so far are all
+  abbrev pub GivesOn : Scan → Held S → List Row → Option Row → Type 0
+  GivesOn what new given (Some row) = HasGiven what new (given ++ row ∷ [])
+  GivesOn what new given None = IsWhole what (state g new).now given
+
+  -- the next row was taken, behind which the reading stands now
+  abbrev pub Passes : Scan → Held S → Held S → List Row → Row → Type 0
+  Passes what old new given row = IsUnchanged (state g old) (state g new) × HasGiven what new (given ++ row ∷ [])
+
+  -- The next row is no record; or memory was refused for its record; or the store failed or the limit was met, and nothing more is given.
+  abbrev pub FailsToGive : List Content → Scan → Held S → Held S → List Row → ReadError → Type 0
+  FailsToGive columns what old new given NoRecord = (row : Row) × Passes what old new given row × ¬ HasColumns columns row
+  FailsToGive columns what old new given (Store e) =
+      (FailsToRead (state g old) (state g new) e × kit.IsEnded new) ⊎ ((e ≡ SqliteFailure OutOfMemory) × (row : Row) × Passes what old new given row)

@@ -1,0 +1,41 @@
+//! The tables are made, inside an open transaction.
+
+ghost use Rattle.std.specs.Prelude.{◌≡◌, IfErr, OnOk};
+ghost use Rattle.sqlite.specs.State.{HasCleanDisk, Survives};
+ghost use Rattle.dict_sql.specs.Effects.{WhileOpen, seen};
+ghost use Rattle.dict_sql.specs.Creates.{IsFree, Makes, FailsToMake};
+ghost use Rattle.dict_keyed_sql.specs.Tables.{table_of};
+ghost use Rattle.dict_keyed_sql.specs.Texts.{create_text};
+
+use crate::tables::KeyedTable;
+use sqlite::{Alter, Error, Transaction};
+
+fn text_of(table: KeyedTable) -> &'static str
+    ensures { result.now ≡ create_text table }
+{
+    match table {
+        KeyedTable::Entry => {
+            "CREATE TABLE entry (edition INTEGER NOT NULL, ord INTEGER NOT NULL, headword TEXT NOT NULL, start INTEGER NOT NULL, length INTEGER NOT NULL, key BLOB NOT NULL, rkey BLOB NOT NULL, PRIMARY KEY (edition, ord)) STRICT"
+        }
+        KeyedTable::Word => {
+            "CREATE TABLE word (edition INTEGER NOT NULL, word BLOB NOT NULL, ord INTEGER NOT NULL, PRIMARY KEY (edition, word, ord)) STRICT"
+        }
+        KeyedTable::Gram => {
+            "CREATE TABLE gram (edition INTEGER NOT NULL, gram BLOB NOT NULL, ord INTEGER NOT NULL, PRIMARY KEY (edition, gram, ord)) STRICT"
+        }
+    }
+}
+
+/// Makes the table with the index of its key. It answers the count that `sqlite` reports.
+pub fn create_keyed_table<S: Alter>(
+    tx: &mut Transaction<'_, S>,
+    table: KeyedTable,
+) -> Result<usize, Error>
+    requires { WhileOpen (seen S.Store tx.old) (λ db. IsFree db.schema (table_of table 0).name) }
+    ensures same_reference { tx.new.conn.ghost_name ≡ tx.old.conn.ghost_name }
+    ensures made { HasCleanDisk (seen S.Store tx.new) → OnOk result (Makes (table_of table 0) (seen S.Store tx.old) (seen S.Store tx.new)) }
+    ensures failed { HasCleanDisk (seen S.Store tx.new) → IfErr result (FailsToMake (table_of table 0) (seen S.Store tx.old) (seen S.Store tx.new)) }
+    ensures survives { Survives (seen S.Store tx.old) (seen S.Store tx.new) (λ _. ⊥) }
+{
+    tx.execute(text_of(table), &[])
+}

@@ -1,0 +1,79 @@
+//! One more record in a table, inside an open transaction.
+
+ghost use Rattle.std.specs.Prelude.{◌≡◌, codes, IfErr, OnOk};
+ghost use Rattle.sqlite.specs.State.{HasCleanDisk, Survives};
+ghost use Rattle.dict_records.specs.Keyed.{lent_keyed_entry, lent_word, lent_gram};
+ghost use Rattle.dict_sql.specs.Effects.{Has, WhileOpen, seen};
+ghost use Rattle.dict_sql.specs.Inserts.{Inserts, FailsToInsert};
+ghost use Rattle.dict_keyed_sql.specs.Tables.{entry, word, gram};
+ghost use Rattle.dict_sql.specs.Keyed.{keyed_entry_row, piece_row};
+
+use dict_records::{Gram, KeyedEntry, Word};
+use sqlite::{Alter, Error, Transaction, params};
+
+/// Inserts an entry of an edition with its key, read in either direction. It answers the count of written rows that `sqlite` reports.
+pub fn insert_keyed_entry<S: Alter>(
+    tx: &mut Transaction<'_, S>,
+    given: &KeyedEntry<&str, &[u8]>,
+) -> Result<usize, Error>
+    requires { WhileOpen (seen S.Store tx.old) (Has entry) }
+    ensures same_reference { tx.new.conn.ghost_name ≡ tx.old.conn.ghost_name }
+    ensures added { HasCleanDisk (seen S.Store tx.new) → OnOk result (Inserts (codes "entry") (keyed_entry_row (lent_keyed_entry given.now)) (seen S.Store tx.old) (seen S.Store tx.new)) }
+    ensures failed { HasCleanDisk (seen S.Store tx.new) → IfErr result (FailsToInsert (codes "entry") (keyed_entry_row (lent_keyed_entry given.now)) (seen S.Store tx.old) (seen S.Store tx.new)) }
+    ensures survives { Survives (seen S.Store tx.old) (seen S.Store tx.new) (λ _. ⊥) }
+{
+    let edition = given.edition;
+    let ord = given.ord;
+    let start = given.start;
+    let length = given.length;
+    tx.execute(
+        "INSERT INTO entry (edition, ord, headword, start, length, key, rkey) VALUES (?1, ?2, ?3, ?4, ?5, ?6, ?7)",
+        params![
+            edition,
+            ord,
+            given.headword,
+            start,
+            length,
+            given.key,
+            given.reversed
+        ],
+    )
+}
+
+/// Inserts a word of an entry's key. It answers the count of written rows that `sqlite` reports.
+pub fn insert_word<S: Alter>(
+    tx: &mut Transaction<'_, S>,
+    given: &Word<&[u8]>,
+) -> Result<usize, Error>
+    requires { WhileOpen (seen S.Store tx.old) (Has word) }
+    ensures same_reference { tx.new.conn.ghost_name ≡ tx.old.conn.ghost_name }
+    ensures added { HasCleanDisk (seen S.Store tx.new) → OnOk result (Inserts (codes "word") (piece_row (lent_word given.now)) (seen S.Store tx.old) (seen S.Store tx.new)) }
+    ensures failed { HasCleanDisk (seen S.Store tx.new) → IfErr result (FailsToInsert (codes "word") (piece_row (lent_word given.now)) (seen S.Store tx.old) (seen S.Store tx.new)) }
+    ensures survives { Survives (seen S.Store tx.old) (seen S.Store tx.new) (λ _. ⊥) }
+{
+    let edition = given.edition;
+    let ord = given.ord;
+    tx.execute(
+        "INSERT INTO word (edition, word, ord) VALUES (?1, ?2, ?3)",
+        params![edition, given.word, ord],
+    )
+}
+
+/// Inserts a gram of an entry's key. It answers the count of written rows that `sqlite` reports.
+pub fn insert_gram<S: Alter>(
+    tx: &mut Transaction<'_, S>,
+    given: &Gram<&[u8]>,
+) -> Result<usize, Error>
+    requires { WhileOpen (seen S.Store tx.old) (Has gram) }
+    ensures same_reference { tx.new.conn.ghost_name ≡ tx.old.conn.ghost_name }
+    ensures added { HasCleanDisk (seen S.Store tx.new) → OnOk result (Inserts (codes "gram") (piece_row (lent_gram given.now)) (seen S.Store tx.old) (seen S.Store tx.new)) }
+    ensures failed { HasCleanDisk (seen S.Store tx.new) → IfErr result (FailsToInsert (codes "gram") (piece_row (lent_gram given.now)) (seen S.Store tx.old) (seen S.Store tx.new)) }
+    ensures survives { Survives (seen S.Store tx.old) (seen S.Store tx.new) (λ _. ⊥) }
+{
+    let edition = given.edition;
+    let ord = given.ord;
+    tx.execute(
+        "INSERT INTO gram (edition, gram, ord) VALUES (?1, ?2, ?3)",
+        params![edition, given.gram, ord],
+    )
+}

@@ -1,0 +1,14 @@
+//! The SQL statements of the tables that have what is derived of headwords: entries with keys, words and grams.
+#![tactic(auto)]
+
+mod create;
+mod delete;
+mod insert;
+mod scan;
+mod tables;
+
+pub use create::create_keyed_table;
+pub use delete::{delete_grams, delete_keyed_entries, delete_words};
+pub use insert::{insert_gram, insert_keyed_entry, insert_word};
+pub use scan::{next_keyed, read_rows, read_rows_of};
+pub use tables::KeyedTable;

@@ -1,0 +1,29 @@
+//! The records of the tables that later schemas have: entries with what is derived of their headwords, and the tables of words and grams. The type of the octets is `&[u8]` where a record is written, `Vec<u8>` where it was read.
+
+/// A headword of an edition, where its body stands in the edition's text, its key, and the key's octets in reverse order.
+#[derive(Debug, PartialEq, Eq, Drop)]
+pub struct KeyedEntry<T, B> {
+    pub edition: i64,
+    pub ord: i64,
+    pub headword: T,
+    pub start: i64,
+    pub length: i64,
+    pub key: B,
+    pub reversed: B,
+}
+
+/// A word of the key of the entry at a place of an edition.
+#[derive(Debug, PartialEq, Eq, Drop)]
+pub struct Word<B> {
+    pub edition: i64,
+    pub word: B,
+    pub ord: i64,
+}
+
+/// Three octets that follow one another in the key of the entry at a place of an edition.
+#[derive(Debug, PartialEq, Eq, Drop)]
+pub struct Gram<B> {
+    pub edition: i64,
+    pub gram: B,
+    pub ord: i64,
+}

@@ -1,0 +1,2 @@
+pub mod KeepLemmas
+pub mod CommitLemmas

@@ -1,0 +1,13 @@
+use Rattle.std.proofs.Common.{subst, codes}
+use Rattle.sqlite.specs.Held.{state}
+use Rattle.dict_sql.specs.Effects.{IsAdded}
+use Rattle.dict_sql.specs.Encodings.{mark_row}
+use Rattle.dict_records.specs.Records.{Mark}
+use Rattle.dict_store.proofs.KeepLemmas.{marked}
+use Rattle.dict_store.proofs.making.add_mark.Goals as goal
+
+pub returns-clause-marked : goal.returns-clause-marked
+returns-clause-marked g c clean before made =
+    let old = state g.S.Store c.args.tx.now.conn.now in
+    let new = state g.S.Store c.insert_mark.new.tx.conn.now in
+    marked before old.now new.now made (subst (λ (m : Mark). IsAdded (codes "mark") (mark_row m) old.now new.now) c.mark_row-mark.ensures (c.in_ok-insert_mark.ensures.added clean).0)

@@ -1,0 +1,86 @@
+// A store is made in a database.
+ghost use Rattle.std.specs.Prelude.{◌≡◌, ◌↔◌, false, IsTrue, IfErr, OnOk, Err};
+ghost use Rattle.sqlite.specs.Effect.{Database, IsDatabase};
+ghost use Rattle.sqlite.specs.State.{HasCleanDisk, KeepsCommit, Survives};
+ghost use Rattle.sqlite.specs.Held.{state};
+ghost use Rattle.dict_tables.specs.Tables.{mark, store_tables};
+ghost use Rattle.dict_sql.specs.Effects.{Has, WhileOpen, seen};
+ghost use Rattle.dict_sql.specs.Creates.{AreMade, IsReady};
+ghost use Rattle.dict_catalogue.specs.Steps.{empty_catalogue};
+ghost use Rattle.dict_desk.specs.Faults.{is_disk};
+ghost use Rattle.dict_store.specs.Holds.{Holds, Rests, IsLeft, HasPlace};
+
+use crate::fault::fault_of;
+use dict_desk::Fault;
+use dict_rows::mark_row;
+use dict_sql::commit::commit;
+use dict_sql::create::create_tables;
+use dict_sql::insert::insert_mark;
+use dict_tables::{has_room, is_own_name_used};
+use sqlite::{Alter, Connection, Error, Transaction};
+use sqlite_schema::schema::Schema;
+
+/// The version of the schema that is made.
+const VERSION: u64 = 1;
+
+/// Adds the mark of the empty catalogue to the tables that were made.
+fn add_mark<S: Alter>(tx: &mut Transaction<'_, S>) -> Result<(), Error>
+    requires { WhileOpen (seen S.Store tx.old) (Has mark) }
+    ensures same_reference { tx.new.conn.ghost_name ≡ tx.old.conn.ghost_name }
+    ensures marked { HasCleanDisk (seen S.Store tx.new) → OnOk result ((before : Database) → AreMade store_tables before (seen S.Store tx.old).now → Holds 1 (seen S.Store tx.new).now empty_catalogue) }
+    ensures sound { HasCleanDisk (seen S.Store tx.new) → OnOk result (IsDatabase (seen S.Store tx.new).now) }
+    ensures keeps { HasCleanDisk (seen S.Store tx.new) → KeepsCommit (seen S.Store tx.old) (seen S.Store tx.new) }
+    ensures survives { Survives (seen S.Store tx.old) (seen S.Store tx.new) (λ _. ⊥) }
+{
+    let mark = mark_row(VERSION, 0);
+    insert_mark(tx, &mark)?;
+    Ok(())
+}
+
+/// Makes the tables, with the mark of the empty catalogue.
+fn make_all<S: Alter>(tx: &mut Transaction<'_, S>) -> Result<(), Error>
+    requires { WhileOpen (seen S.Store tx.old) IsReady }
+    ensures same_reference { tx.new.conn.ghost_name ≡ tx.old.conn.ghost_name }
+    ensures made { HasCleanDisk (seen S.Store tx.new) → OnOk result (Holds 1 (seen S.Store tx.new).now empty_catalogue × IsDatabase (seen S.Store tx.new).now) }
+    ensures keeps { HasCleanDisk (seen S.Store tx.new) → KeepsCommit (seen S.Store tx.old) (seen S.Store tx.new) }
+    ensures survives { Survives (seen S.Store tx.old) (seen S.Store tx.new) (λ _. ⊥) }
+{
+    create_tables(tx)?;
+    add_mark(tx)
+}
+
+/// Whether all tables can be made, and no name is in use that is kept for the product.
+fn has_place(schema: &Schema) -> bool
+    ensures { IsTrue result ↔ HasPlace schema.now }
+{
+    has_room(schema) && !is_own_name_used(schema)
+}
+
+/// Makes the tables of the empty catalogue in a database that has none of them, by one commit.
+///
+/// `NotACatalogue` tells that there is no place for them: one of their names is in use, or a name that is kept for the
+/// product, or a table waits for its counter. `Memory` tells that a growth was refused before the commit. After both all
+/// is as it was. `Disk` tells that the store failed: once it is opened anew, the tables are there whole or not at all.
+pub fn create<S: Alter>(conn: &mut Connection<S>) -> Result<(), Fault>
+    requires { conn.old.in_transaction ≡ false }
+    ensures rests { HasCleanDisk (state S.Store conn.new) → OnOk result (Rests 1 (state S.Store conn.new) empty_catalogue) }
+    ensures only { HasCleanDisk (state S.Store conn.new) → OnOk result ((trees : _) → (state S.Store conn.new).may_leave trees → IsLeft 1 empty_catalogue trees) }
+    ensures place { (result ≡ Err Fault.NotACatalogue) ↔ (HasPlace (state S.Store conn.old).now.schema → ⊥) }
+    ensures unchanged { result ≡ Err Fault.NotACatalogue → conn.new ≡ conn.old }
+    ensures adds_none { IfErr result (λ fault. is_disk fault ≡ false → Survives (state S.Store conn.old) (state S.Store conn.new) (λ _. ⊥)) }
+    ensures undone { HasCleanDisk (state S.Store conn.new) → IfErr result (λ fault. is_disk fault ≡ false → IsTrue (state S.Store conn.new).is_open → (state S.Store conn.new).committed ≡ (state S.Store conn.old).committed) }
+    ensures autocommit { (state S.Store conn.new).in_transaction ≡ false }
+    ensures crash { Survives (state S.Store conn.old) (state S.Store conn.new) (IsLeft 1 empty_catalogue) }
+{
+    if !has_place(conn.schema()) {
+        return Err(Fault::NotACatalogue);
+    }
+    let mut tx = conn.transaction();
+    if let Err(error) = make_all(&mut tx) {
+        return Err(fault_of(error));
+    }
+    match commit(tx) {
+        Ok(()) => Ok(()),
+        Err(_) => Err(Fault::Disk),
+    }
+}
