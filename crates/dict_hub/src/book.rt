@@ -1,5 +1,5 @@
 // Which connections are open.
-ghost use Rattle.std.specs.Prelude.{◌≡◌, ◌<◌, ◌≤◌, ◌++◌, [], ◌∷◌, true, None, Some, All, IfOk, OnOk, OnErr, length, vec_len, vec_capacity, remove};
+ghost use Rattle.std.specs.Prelude.{◌≡◌, ◌<◌, ◌≤◌, ◌+◌, ◌++◌, [], ◌∷◌, true, None, Some, All, IfOk, IfSome, OnOk, OnErr, length, vec_len, vec_capacity, remove};
 ghost use Rattle.std.specs.List.{AllPairs};
 ghost use Rattle.dict_hub.specs.Books.{is_given, opening, place_of};
 
@@ -70,7 +70,8 @@ impl Book {
 
     /// The place of an open connection, from 0.
     pub fn place_of(&self, id: u64) -> Option<usize>
-        ensures { result ≡ place_of id self.now.ids.items }
+        ensures value { result ≡ place_of id self.now.ids.items }
+        ensures within { IfSome result (λ place. place < vec_len self.now.ids) }
     {
         self.ids.iter().position(|one| *one == id)
     }
@@ -79,6 +80,7 @@ impl Book {
     pub fn close(&mut self, place: usize)
         requires { place < vec_len self.old.ids }
         ensures ids { self.new.ids.items ≡ remove self.old.ids.items place }
+        ensures len { vec_len self.new.ids + 1 ≡ vec_len self.old.ids }
         ensures greatest { self.new.greatest ≡ self.old.greatest }
     {
         self.ids.remove(place);

@@ -5,10 +5,12 @@
 
 mod asking;
 mod book;
+mod editors;
 mod fault;
 
 pub use asking::{Out, take_piece};
 pub use book::Book;
+pub use editors::Editors;
 pub use fault::HubFault;
 
 #[cfg(test)]

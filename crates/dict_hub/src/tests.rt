@@ -1,5 +1,5 @@
 //! Which connections are open, and what an editor's octets are answered piece by piece.
-use crate::{Book, HubFault, Out, take_piece};
+use crate::{Book, Editors, HubFault, Out, take_piece};
 use dict_desk::{Lookup, PlainDesk};
 use dict_http::Service;
 use dict_io::LimitedSink;
@@ -81,5 +81,21 @@ fn one_request_a_connection(rt: HostRuntime) -> Result<(), Fail> {
     let out = take_piece(&service, alloc, &mut held, piece, &mut desk, &mut sink)?;
     assert_eq!(rt; out, Out::Close);
     assert_eq!(rt; sink.taken(), b"HTT".as_slice());
+    Ok(())
+}
+
+#[test]
+fn editors_come_and_go(rt: HostRuntime) -> Result<(), Fail> {
+    let mut editors = Editors::new(rt.alloc())?;
+    assert_eq!(rt; editors.ended(1), Err(HubFault::UnknownConnection));
+    for id in 1..65u64 {
+        assert!(rt; editors.opened(id).is_ok());
+    }
+    assert_eq!(rt; editors.opened(64), Err(HubFault::UnknownConnection));
+    assert_eq!(rt; editors.opened(65), Err(HubFault::TooMany));
+    assert!(rt; editors.ended(30).is_ok());
+    assert_eq!(rt; editors.ended(30), Err(HubFault::UnknownConnection));
+    assert!(rt; editors.opened(66).is_ok());
+    assert_eq!(rt; editors.opened(65), Err(HubFault::UnknownConnection));
     Ok(())
 }
