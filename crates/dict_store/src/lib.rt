@@ -3,7 +3,9 @@
 
 mod desk;
 mod fault;
+mod laws;
 mod making;
 
 pub use desk::Desk;
+pub use laws::read_in_order;
 pub use making::create;

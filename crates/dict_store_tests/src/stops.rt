@@ -34,30 +34,21 @@ fn open<D: Disk + Drop>(alloc: Global, files: Files<D>) -> Option<Connection<Fil
     }
 }
 
-/// How many of the six tables are there, and how many marks.
-fn found<S: Alter>(conn: &mut Connection<S>) -> (i64, i64) {
-    let mut count = 0;
-    for table in [
-        StoreTable::Mark,
-        StoreTable::Item,
-        StoreTable::Member,
-        StoreTable::Edition,
-        StoreTable::Entry,
-        StoreTable::Kept,
-    ] {
-        if has_table(conn.schema(), table) {
-            count += 1;
-        }
-    }
+/// Whether all of three tables are there, whether one of them is, and how many marks there are.
+fn found<S: Alter>(conn: &mut Connection<S>) -> (bool, bool, i64) {
+    let schema = conn.schema();
+    let first = has_table(schema, StoreTable::Mark);
+    let middle = has_table(schema, StoreTable::Edition);
+    let last = has_table(schema, StoreTable::Kept);
     let marks = match conn.query_row("SELECT count(*) FROM mark", &[]) {
         Ok(row) => row.get(0).unwrap_or(-1),
         Err(_) => -1,
     };
-    (count, marks)
+    (first && middle && last, first || middle || last, marks)
 }
 
-fn is_whole_or_none(rt: &impl Abort, found: (i64, i64), done: bool) {
-    assert!(rt; found == (6, 1) || (found == (0, -1) && !done));
+fn is_whole_or_none(rt: &impl Abort, found: (bool, bool, i64), done: bool) {
+    assert!(rt; found == (true, true, 1) || (found == (false, false, -1) && !done));
 }
 
 #[test]
