@@ -18,9 +18,9 @@ fn is_damaged(rt: &impl Abort, alloc: Global, rows: &Rows) {
 }
 
 /// The records of so many databases, each with one edition.
-fn many(alloc: Global, count: i64) -> Result<Rows, AllocError> {
+fn many(alloc: Global, count: u32) -> Result<Rows, AllocError> {
     let mut rows = Rows {
-        marks: vec![in alloc; mark(alloc, "dictcat", 1, count)?]?,
+        marks: vec![in alloc; mark(alloc, "dictcat", 1, i64::from(count))?]?,
         items: Vec::new(alloc),
         members: Vec::new(alloc),
         editions: Vec::new(alloc),
@@ -29,6 +29,7 @@ fn many(alloc: Global, count: i64) -> Result<Rows, AllocError> {
     let body = b"iron\n  ore\n";
     for place in 0..count {
         let name = format!(in alloc; "d{place}")?;
+        let place = i64::from(place);
         let number = place + 1;
         let item = regular(alloc, place, name.as_str(), number, None)?;
         rows.items.push(item)?;
@@ -47,20 +48,19 @@ fn many(alloc: Global, count: i64) -> Result<Rows, AllocError> {
     Ok(rows)
 }
 
-/// Adds a virtual database that lists so many of them, the first ones once more where there are fewer.
-fn add_all(
-    alloc: Global,
-    rows: &mut Rows,
-    count: i64,
-    listed_count: i64,
-) -> Result<(), AllocError> {
-    rows.items.push(listed(alloc, count, "all", 1, "All")?)?;
-    for ord in 0..listed_count {
-        let name = format!(in alloc; "d{}", ord % count)?;
-        rows.members
-            .push(member(alloc, "all", ord, name.as_str())?)?;
+/// Adds a virtual database behind so many others, which lists these, and the first one once more where it is asked.
+fn add_all(alloc: Global, rows: &mut Rows, count: u32, again: bool) -> Result<(), AllocError> {
+    let place = i64::from(count);
+    rows.items.push(listed(alloc, place, "all", 1, "All")?)?;
+    for ord in 0..count {
+        let name = format!(in alloc; "d{ord}")?;
+        let row = member(alloc, "all", i64::from(ord), name.as_str())?;
+        rows.members.push(row)?;
     }
-    let kept = reply(alloc, "all", count + 1, "virtual", "all", None)?;
+    if again {
+        rows.members.push(member(alloc, "all", place, "d0")?)?;
+    }
+    let kept = reply(alloc, "all", place + 1, "virtual", "all", None)?;
     rows.kept.push(kept)?;
     Ok(())
 }
@@ -79,14 +79,14 @@ fn sixty_four_items(rt: HostRuntime) -> Result<(), Fail> {
 fn members_at_the_limit(rt: HostRuntime) -> Result<(), Fail> {
     let alloc = rt.alloc();
     let mut rows = many(alloc, 63)?;
-    add_all(alloc, &mut rows, 63, 63)?;
+    add_all(alloc, &mut rows, 63, false)?;
     let summary = summary_of(alloc, 1, &rows.tables())?;
     assert_eq!(rt; summary.items.len(), 64);
     let mut rows = many(alloc, 63)?;
-    add_all(alloc, &mut rows, 63, 64)?;
+    add_all(alloc, &mut rows, 63, true)?;
     is_damaged(&rt, alloc, &rows);
     let mut rows = many(alloc, 64)?;
-    add_all(alloc, &mut rows, 64, 64)?;
+    add_all(alloc, &mut rows, 64, false)?;
     is_damaged(&rt, alloc, &rows);
     Ok(())
 }
@@ -124,6 +124,7 @@ fn octets_that_are_no_text(rt: HostRuntime) -> Result<(), Fail> {
     let mut rows = whole(alloc)?;
     rows.editions = vec![in alloc; cutting(alloc, 1, "ore", body, 2, 11)?, gem(alloc)?]?;
     let summary = summary_of(alloc, 1, &rows.tables())?;
+    assert_eq!(rt; summary.items.len(), 3);
     assert_eq!(rt; summary.items[0].title(), "Ores");
     rows.editions = vec![in alloc; cutting(alloc, 1, "ore", body, 1, 12)?, gem(alloc)?]?;
     is_damaged(&rt, alloc, &rows);

@@ -51,6 +51,10 @@ fn numbers_of_the_items(rt: HostRuntime) -> Result<(), Fail> {
 fn written_rows(rt: HostRuntime) -> Result<(), Fail> {
     let alloc = rt.alloc();
     let rows = whole(alloc)?;
+    assert_eq!(rt; rows.marks.len(), 1);
+    assert_eq!(rt; rows.items.len(), 3);
+    assert_eq!(rt; rows.members.len(), 2);
+    assert_eq!(rt; rows.kept.len(), 3);
     assert_eq!(rt; mark_row(1, 2), rows.marks[0].value.lend());
     let item = Item::Regular {
         name: String::from_str(alloc, "gem")?,
@@ -79,6 +83,8 @@ fn written_edition(rt: HostRuntime) -> Result<(), Fail> {
     let index = b"00-database-short\tA\tZ\nopal\tZ\tP\nFire Opal\tZ\tP\ndot\to\tF\n";
     let text = b"00-database-short\n  Gems\nopal\n  a stone\n.dot\n";
     let edition = read_edition(alloc, index, text)?;
+    assert_eq!(rt; rows.editions.len(), 2);
+    assert_eq!(rt; rows.editions[1].entries.len(), 3);
     assert_eq!(rt;
         edition_row("gem", 2, &edition),
         rows.editions[1].edition.value.lend()

@@ -1,2 +1,3 @@
 pub mod KeepLemmas
 pub mod CommitLemmas
+pub mod ReadLemmas

@@ -1,0 +1,9 @@
+//! Runs of the store, over memory, over files that memory holds, and over disks that fail. A library with tests alone.
+#![tactic(auto)]
+
+#[cfg(test)]
+mod creating;
+#[cfg(test)]
+mod hiccup;
+#[cfg(test)]
+mod stops;
