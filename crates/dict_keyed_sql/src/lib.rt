@@ -10,5 +10,7 @@ mod tables;
 pub use create::create_keyed_table;
 pub use delete::{delete_grams, delete_keyed_entries, delete_words};
 pub use insert::{insert_gram, insert_keyed_entry, insert_word};
-pub use scan::{next_keyed, read_rows, read_rows_of};
+pub use scan::{
+    next_keyed, read_between, read_between_reversed, read_rows, read_rows_of, read_with_key,
+};
 pub use tables::KeyedTable;
