@@ -6,8 +6,6 @@ mod laws;
 mod pieces;
 mod reader;
 mod search;
-#[cfg(test)]
-mod tests;
 
 pub use headword::{Derived, derive};
 pub use laws::{range_law, search_laws};

@@ -5,3 +5,4 @@ pub mod InsertTexts
 pub mod KeyTexts
 pub mod ReadTexts
 pub mod ScanLemmas
+pub mod TableLemmas

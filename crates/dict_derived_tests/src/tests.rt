@@ -1,5 +1,8 @@
 // Keys at every edge, and what is selected beside the filter of a whole list.
-use super::*;
+use dict_derived::{
+    Derived, NotDerived, PieceReader, Pieces, Selection, derive, grams_of, is_tested, range_law,
+    search_laws, select, words_of,
+};
 use dict_match::{Key, Strategy, key_of, matches, words};
 use std::alloc::Global;
 use std::test::Fail;
