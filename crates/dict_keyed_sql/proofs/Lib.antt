@@ -2,6 +2,7 @@ pub mod ConditionLemmas
 pub mod CreateTexts
 pub mod DeleteTexts
 pub mod InsertTexts
+pub mod InsideLemmas
 pub mod KeyTexts
 pub mod ReadTexts
 pub mod ScanLemmas
