@@ -1,7 +1,7 @@
 -- What follows of rows that are read one at a time.
 use Rattle.std.proofs.Common.{◌≡◌, ◌++◌, List, [], ◌∷◌, Ok, Err, Some, None, Option, Result, IfOk, IfErr, OnOk, OnErr, IsTrue, option_map, inl, inr, refl, sym, ap, subst, arith, ℤ}
 use Rattle.sqlite.specs.Order.{Row}
-use Rattle.sqlite.specs.declared.types.Value.TheVariants.{Int}
+use Rattle.sqlite.specs.declared.types.Value.TheVariants.{Int, Blob as Bytes}
 use Rattle.sqlite.specs.declared.error.Error.{Error}
 use Rattle.sqlite.specs.Schema.{Schema}
 use Rattle.sqlite.specs.Given.{Returns}
@@ -28,10 +28,11 @@ use Rattle.dict_sql.proofs.ReadFaults.{a_number, nothing, ends_at, fails_read}
 use Rattle.dict_sql.proofs.SilentLemmas.{commits_none, never_returns}
 use Rattle.dict_sql.proofs.StreamLemmas.{still}
 use Rattle.dict_keyed_sql.specs.Tables.{entry, word, gram}
-use Rattle.dict_keyed_sql.specs.Texts.{list_text, select_text}
+use Rattle.dict_keyed_sql.specs.Texts.{list_text, select_text, key_text, range_text, reversed_text}
 use Rattle.dict_keyed_sql.specs.Scans.{Scan, scan_table, scan_text, scan_values, scan_test, IsWhole, IsFront, HasGiven, GivesOn, Passes, FailsToGive}
-use Rattle.dict_keyed_sql.specs.Scans.Scan.{All, Of}
+use Rattle.dict_keyed_sql.specs.Scans.Scan.{All, Of, WithKey, Between, BetweenReversed}
 use Rattle.dict_keyed_sql.specs.declared.tables.KeyedTable.TheVariants as keyed
+use Rattle.dict_keyed_sql.proofs.KeyTexts.{a_key, a_range, read_by_key, reads_by_key, takes_by_key, is_with_key, read_by_range, reads_by_range, takes_by_range, is_in_range, read_by_reversed, reads_by_reversed, takes_by_reversed, is_in_reversed_range}
 use Rattle.dict_keyed_sql.proofs.ReadTexts.{read_all_entry, reads_all_entry, takes_all_entry, read_of_entry, reads_of_entry, takes_of_entry, is_of_entry, read_all_word, reads_all_word, takes_all_word, read_of_word, reads_of_word, takes_of_word, is_of_word, read_all_gram, reads_all_gram, takes_all_gram, read_of_gram, reads_of_gram, takes_of_gram, is_of_gram}
 
 shows : (what : Scan) (old new : State) (rows : List Row) → Has (scan_table what) old.now → Shown (scan_text what) (scan_values what) old new rows → IsWhole what old.now rows
@@ -41,6 +42,9 @@ shows (All keyed.Word) old new rows has h = (shown_selects (list_text keyed.Word
 shows (Of keyed.Word n) old new rows has h = (shown_selects (select_text keyed.Word) read_of_word word _ _ _ _ _ _ _ _ reads_of_word (λ tree. refl) (Int n ∷ []) (scan_test (Of keyed.Word n)) (λ tree row. is_of_word tree n row) old new rows has h).0
 shows (All keyed.Gram) old new rows has h = (shown_selects (list_text keyed.Gram) read_all_gram gram _ _ _ _ _ _ _ _ reads_all_gram (λ tree. refl) [] (scan_test (All keyed.Gram)) (λ tree row. refl) old new rows has h).0
 shows (Of keyed.Gram n) old new rows has h = (shown_selects (select_text keyed.Gram) read_of_gram gram _ _ _ _ _ _ _ _ reads_of_gram (λ tree. refl) (Int n ∷ []) (scan_test (Of keyed.Gram n)) (λ tree row. is_of_gram tree n row) old new rows has h).0
+shows (WithKey n key) old new rows has h = (shown_selects key_text read_by_key entry _ _ _ _ _ _ _ _ reads_by_key (λ tree. refl) (Int n ∷ Bytes key ∷ []) (scan_test (WithKey n key)) (λ tree row. is_with_key tree n key row) old new rows has h).0
+shows (Between n low high) old new rows has h = (shown_selects range_text read_by_range entry _ _ _ _ _ _ _ _ reads_by_range (λ tree. refl) (Int n ∷ Bytes low ∷ Bytes high ∷ []) (scan_test (Between n low high)) (λ tree row. is_in_range tree n low high row) old new rows has h).0
+shows (BetweenReversed n low high) old new rows has h = (shown_selects reversed_text read_by_reversed entry _ _ _ _ _ _ _ _ reads_by_reversed (λ tree. refl) (Int n ∷ Bytes low ∷ Bytes high ∷ []) (scan_test (BetweenReversed n low high)) (λ tree row. is_in_reversed_range tree n low high row) old new rows has h).0
 
 plainly : (what : Scan) (db : Database) → Has (scan_table what) db → IsPlain (understood db.schema (scan_text what))
 plainly (All keyed.Entry) db has = reads_plain (list_text keyed.Entry) read_all_entry entry _ _ _ _ _ _ _ _ reads_all_entry db.schema has.0 has.1 has.2
@@ -49,6 +53,9 @@ plainly (All keyed.Word) db has = reads_plain (list_text keyed.Word) read_all_wo
 plainly (Of keyed.Word n) db has = reads_plain (select_text keyed.Word) read_of_word word _ _ _ _ _ _ _ _ reads_of_word db.schema has.0 has.1 has.2
 plainly (All keyed.Gram) db has = reads_plain (list_text keyed.Gram) read_all_gram gram _ _ _ _ _ _ _ _ reads_all_gram db.schema has.0 has.1 has.2
 plainly (Of keyed.Gram n) db has = reads_plain (select_text keyed.Gram) read_of_gram gram _ _ _ _ _ _ _ _ reads_of_gram db.schema has.0 has.1 has.2
+plainly (WithKey n key) db has = reads_plain key_text read_by_key entry _ _ _ _ _ _ _ _ reads_by_key db.schema has.0 has.1 has.2
+plainly (Between n low high) db has = reads_plain range_text read_by_range entry _ _ _ _ _ _ _ _ reads_by_range db.schema has.0 has.1 has.2
+plainly (BetweenReversed n low high) db has = reads_plain reversed_text read_by_reversed entry _ _ _ _ _ _ _ _ reads_by_reversed db.schema has.0 has.1 has.2
 
 ends : (what : Scan) (now : Database) → Has (scan_table what) now → (c : Compiled) → understood now.schema (scan_text what) ≡ Ok c → (db : Database) (params : Row) → EndsIn c.command db params
 ends (All keyed.Entry) now has = ends_at (list_text keyed.Entry) read_all_entry entry _ _ _ _ _ _ _ _ reads_all_entry now.schema has
@@ -57,6 +64,9 @@ ends (All keyed.Word) now has = ends_at (list_text keyed.Word) read_all_word wor
 ends (Of keyed.Word n) now has = ends_at (select_text keyed.Word) read_of_word word _ _ _ _ _ _ _ _ reads_of_word now.schema has
 ends (All keyed.Gram) now has = ends_at (list_text keyed.Gram) read_all_gram gram _ _ _ _ _ _ _ _ reads_all_gram now.schema has
 ends (Of keyed.Gram n) now has = ends_at (select_text keyed.Gram) read_of_gram gram _ _ _ _ _ _ _ _ reads_of_gram now.schema has
+ends (WithKey n key) now has = ends_at key_text read_by_key entry _ _ _ _ _ _ _ _ reads_by_key now.schema has
+ends (Between n low high) now has = ends_at range_text read_by_range entry _ _ _ _ _ _ _ _ reads_by_range now.schema has
+ends (BetweenReversed n low high) now has = ends_at reversed_text read_by_reversed entry _ _ _ _ _ _ _ _ reads_by_reversed now.schema has
 
 fails_to_read : (what : Scan) (old new : State) → (IsTrue old.is_open → Has (scan_table what) old.now) → (e : Error) → FailsToQuery (scan_text what) (scan_values what) old new e → FailsToRead old new e
 fails_to_read (All keyed.Entry) old new has = fails_read (list_text keyed.Entry) read_all_entry entry _ _ _ _ _ _ _ _ reads_all_entry nothing takes_all_entry tt old new has
@@ -65,6 +75,9 @@ fails_to_read (All keyed.Word) old new has = fails_read (list_text keyed.Word) r
 fails_to_read (Of keyed.Word n) old new has = fails_read (select_text keyed.Word) read_of_word word _ _ _ _ _ _ _ _ reads_of_word a_number takes_of_word n old new has
 fails_to_read (All keyed.Gram) old new has = fails_read (list_text keyed.Gram) read_all_gram gram _ _ _ _ _ _ _ _ reads_all_gram nothing takes_all_gram tt old new has
 fails_to_read (Of keyed.Gram n) old new has = fails_read (select_text keyed.Gram) read_of_gram gram _ _ _ _ _ _ _ _ reads_of_gram a_number takes_of_gram n old new has
+fails_to_read (WithKey n key) old new has = fails_read key_text read_by_key entry _ _ _ _ _ _ _ _ reads_by_key a_key takes_by_key (n, key) old new has
+fails_to_read (Between n low high) old new has = fails_read range_text read_by_range entry _ _ _ _ _ _ _ _ reads_by_range a_range takes_by_range (n, low, high) old new has
+fails_to_read (BetweenReversed n low high) old new has = fails_read reversed_text read_by_reversed entry _ _ _ _ _ _ _ _ reads_by_reversed a_range takes_by_reversed (n, low, high) old new has
 
 none_committed : (what : Scan) (params : Row) (s : State) (db : Trees) → ¬ CommitsShowing (scan_text what) params s db
 none_committed (All keyed.Entry) = commits_none (list_text keyed.Entry) read_all_entry _ reads_all_entry.read (reads_all_entry.statement 0)
@@ -73,6 +86,9 @@ none_committed (All keyed.Word) = commits_none (list_text keyed.Word) read_all_w
 none_committed (Of keyed.Word n) = commits_none (select_text keyed.Word) read_of_word _ reads_of_word.read (reads_of_word.statement 0)
 none_committed (All keyed.Gram) = commits_none (list_text keyed.Gram) read_all_gram _ reads_all_gram.read (reads_all_gram.statement 0)
 none_committed (Of keyed.Gram n) = commits_none (select_text keyed.Gram) read_of_gram _ reads_of_gram.read (reads_of_gram.statement 0)
+none_committed (WithKey n key) = commits_none key_text read_by_key _ reads_by_key.read (reads_by_key.statement 0)
+none_committed (Between n low high) = commits_none range_text read_by_range _ reads_by_range.read (reads_by_range.statement 0)
+none_committed (BetweenReversed n low high) = commits_none reversed_text read_by_reversed _ reads_by_reversed.read (reads_by_reversed.statement 0)
 
 none_returned : (what : Scan) (schema : Schema) → ¬ Returns (understood schema (scan_text what))
 none_returned (All keyed.Entry) = never_returns (list_text keyed.Entry) read_all_entry _ reads_all_entry.read (reads_all_entry.statement 0)
@@ -81,6 +97,9 @@ none_returned (All keyed.Word) = never_returns (list_text keyed.Word) read_all_w
 none_returned (Of keyed.Word n) = never_returns (select_text keyed.Word) read_of_word _ reads_of_word.read (reads_of_word.statement 0)
 none_returned (All keyed.Gram) = never_returns (list_text keyed.Gram) read_all_gram _ reads_all_gram.read (reads_all_gram.statement 0)
 none_returned (Of keyed.Gram n) = never_returns (select_text keyed.Gram) read_of_gram _ reads_of_gram.read (reads_of_gram.statement 0)
+none_returned (WithKey n key) = never_returns key_text read_by_key _ reads_by_key.read (reads_by_key.statement 0)
+none_returned (Between n low high) = never_returns range_text read_by_range _ reads_by_range.read (reads_by_range.statement 0)
+none_returned (BetweenReversed n low high) = never_returns reversed_text read_by_reversed _ reads_by_reversed.read (reads_by_reversed.statement 0)
 
 commits_nothing : (what : Scan) (old new : State) → Survives old new (CommitsShowing (scan_text what) (scan_values what) old) → Survives old new (λ _. ⊥)
 commits_nothing what old new s = survives_weaker old new _ _ (λ clean db. none_committed what (scan_values what) old db) s

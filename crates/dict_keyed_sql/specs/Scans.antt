@@ -1,33 +1,47 @@
 -- What is read row by row, and what it has given so far.
-use Rattle.std.specs.Prelude.{◌≡◌, ◌⊎◌, ℕ, ℤ, Bool, true, List, [], ◌∷◌, ◌++◌, codes, Option, Some, None}
-use Rattle.sqlite.specs.declared.types.Value.TheVariants.{Int}
+use Rattle.std.specs.Prelude.{◌≡◌, ◌⊎◌, ℕ, ℤ, Bool, true, not, ◌&&◌, List, [], ◌∷◌, ◌++◌, codes, Option, Some, None}
+use Rattle.std.specs.Ordering.{is_lt, is_gt}
+use Rattle.sqlite.specs.declared.types.Value.TheVariants.{Int, Blob as Bytes}
 use Rattle.sqlite.specs.declared.error.Error.TheVariants.{SqliteFailure}
 use Rattle.sqlite.specs.declared.error.ErrorCode.TheVariants.{OutOfMemory}
-use Rattle.sqlite.specs.Order.{Row}
+use Rattle.sqlite.specs.Order.{Row, column, value_cmp}
 use Rattle.sqlite.specs.Table.{Table}
 use Rattle.sqlite.specs.Effect.{Database}
 use Rattle.sqlite.specs.State.{IsUnchanged}
 use Rattle.sqlite.specs.Held.{Held, state}
 use Rattle.sqlite.specs.Given as kit
 use Rattle.sqlite_trees.specs.declared.store.Store.{Ghosts}
-use Rattle.dict_sql.specs.Effects.{Has, equals_number}
+use Rattle.dict_sql.specs.Effects.{Has, equals_number, same_value}
 use Rattle.dict_sql.specs.Columns.{Content, HasColumns}
 use Rattle.dict_sql.specs.declared.records.ReadError.{ReadError}
 use Rattle.dict_sql.specs.declared.records.ReadError.TheVariants.{NoRecord, Store}
 use Rattle.dict_sql.specs.Reads.{IsSelection, FailsToRead}
-use Rattle.dict_keyed_sql.specs.Tables.{table_of}
-use Rattle.dict_keyed_sql.specs.Texts.{list_text, select_text}
+use Rattle.dict_keyed_sql.specs.Tables.{table_of, entry}
+use Rattle.dict_keyed_sql.specs.Texts.{list_text, select_text, key_text, range_text, reversed_text}
 use Rattle.dict_keyed_sql.specs.declared.tables.KeyedTable.{KeyedTable}
 use Rattle.dict_keyed_sql.specs.declared.tables.KeyedTable.TheVariants.{Entry, Word, Gram}
 
--- which rows are read, one at a time: those of a whole table, or of one edition
+-- The octets in a column are these; or from the first on, up to the second, both taken in.
+abbrev pub equals_octets : ℕ → List ℕ → Row → Bool
+equals_octets at b r = same_value (column r at) (Bytes b)
+
+abbrev pub is_between : ℕ → List ℕ → List ℕ → Row → Bool
+is_between at low high r = not (is_lt (value_cmp (column r at) (Bytes low))) && not (is_gt (value_cmp (column r at) (Bytes high)))
+
+-- which rows are read, one at a time: those of a whole table, or of one edition, or the entries of an edition with a key, or with keys between two, read in either direction
 pub data Scan : Type 0 where
   All : KeyedTable → Scan
   Of : KeyedTable → ℤ → Scan
+  WithKey : ℤ → List ℕ → Scan
+  Between : ℤ → List ℕ → List ℕ → Scan
+  BetweenReversed : ℤ → List ℕ → List ℕ → Scan
 
 abbrev pub scan_table : Scan → ℕ → Table
 scan_table (All table) = table_of table
 scan_table (Of table edition) = table_of table
+scan_table (WithKey edition key) = entry
+scan_table (Between edition low high) = entry
+scan_table (BetweenReversed edition low high) = entry
 
 abbrev pub scan_name : Scan → List ℕ
 scan_name what = (scan_table what 0).name
@@ -36,15 +50,24 @@ scan_name what = (scan_table what 0).name
 abbrev pub scan_text : Scan → List ℕ
 scan_text (All table) = list_text table
 scan_text (Of table edition) = select_text table
+scan_text (WithKey edition key) = key_text
+scan_text (Between edition low high) = range_text
+scan_text (BetweenReversed edition low high) = reversed_text
 
 abbrev pub scan_values : Scan → Row
 scan_values (All table) = []
 scan_values (Of table edition) = Int edition ∷ []
+scan_values (WithKey edition key) = Int edition ∷ Bytes key ∷ []
+scan_values (Between edition low high) = Int edition ∷ Bytes low ∷ Bytes high ∷ []
+scan_values (BetweenReversed edition low high) = Int edition ∷ Bytes low ∷ Bytes high ∷ []
 
 -- which rows of the table are read
 abbrev pub scan_test : Scan → Row → Bool
 scan_test (All table) = λ _. true
 scan_test (Of table edition) = equals_number 1 edition
+scan_test (WithKey edition key) = λ r. equals_number 1 edition r && equals_octets 6 key r
+scan_test (Between edition low high) = λ r. equals_number 1 edition r && is_between 6 low high r
+scan_test (BetweenReversed edition low high) = λ r. equals_number 1 edition r && is_between 7 low high r
 
 -- the columns that order them, where the rowid is column 0
 abbrev pub whole_order : KeyedTable → List ℕ
@@ -60,6 +83,9 @@ edition_order Gram = 2 ∷ 3 ∷ []
 abbrev pub scan_order : Scan → List ℕ
 scan_order (All table) = whole_order table
 scan_order (Of table edition) = edition_order table
+scan_order (WithKey edition key) = 2 ∷ []
+scan_order (Between edition low high) = 2 ∷ []
+scan_order (BetweenReversed edition low high) = 2 ∷ []
 
 -- all rows that are read, in their order
 abbrev pub IsWhole : Scan → Database → List Row → Type 0

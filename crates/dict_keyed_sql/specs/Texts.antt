@@ -34,3 +34,13 @@ abbrev pub select_text : KeyedTable → List ℕ
 select_text Entry = codes "SELECT rowid, * FROM entry WHERE edition = ?1 ORDER BY 3"
 select_text Word = codes "SELECT rowid, * FROM word WHERE edition = ?1 ORDER BY 3, 4"
 select_text Gram = codes "SELECT rowid, * FROM gram WHERE edition = ?1 ORDER BY 3, 4"
+
+-- the entries of an edition by their keys, read in either direction, in their order
+abbrev pub key_text : List ℕ
+key_text = codes "SELECT rowid, * FROM entry WHERE edition = ?1 AND key = ?2 ORDER BY 3"
+
+abbrev pub range_text : List ℕ
+range_text = codes "SELECT rowid, * FROM entry WHERE edition = ?1 AND key >= ?2 AND key <= ?3 ORDER BY 3"
+
+abbrev pub reversed_text : List ℕ
+reversed_text = codes "SELECT rowid, * FROM entry WHERE edition = ?1 AND rkey >= ?2 AND rkey <= ?3 ORDER BY 3"

@@ -3,12 +3,18 @@
 
 mod create;
 mod delete;
+mod found;
 mod insert;
+mod inside;
 mod scan;
 mod tables;
 
 pub use create::create_keyed_table;
 pub use delete::{delete_grams, delete_keyed_entries, delete_words};
+pub use found::has_keyed_table;
 pub use insert::{insert_gram, insert_keyed_entry, insert_word};
-pub use scan::{next_keyed, read_rows, read_rows_of};
+pub use inside::entries_inside;
+pub use scan::{
+    next_keyed, read_between, read_between_reversed, read_rows, read_rows_of, read_with_key,
+};
 pub use tables::KeyedTable;

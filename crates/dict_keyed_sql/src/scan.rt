@@ -1,6 +1,6 @@
 //! The records of a table, read one at a time.
 //!
-//! A caller begins with `read_rows` or `read_rows_of`, and then calls `next_keyed` until it gives none.
+//! A caller begins with `read_rows` or one of its like, and then calls `next_keyed` until it gives none.
 
 ghost use Rattle.std.specs.Prelude.{◌≡◌, false, [], List, option_map, IfOk, IfErr, IfNone, IsNone, OnOk};
 ghost use Rattle.std.specs.Borrow.{sem, RestsIfErr};
@@ -11,10 +11,10 @@ ghost use Rattle.sqlite.specs.Given.{IsEnded};
 ghost use Rattle.sqlite.specs.contracts.connection.Connection.{the_row};
 ghost use Rattle.dict_sql.specs.Effects.{Has, WhileOpen};
 ghost use Rattle.dict_sql.specs.Streams.{IsNotBegun};
-ghost use Rattle.dict_keyed_sql.specs.Tables.{table_of};
+ghost use Rattle.dict_keyed_sql.specs.Tables.{table_of, entry};
 ghost use Rattle.dict_keyed_sql.specs.Texts.{list_text, select_text};
 ghost use Rattle.dict_keyed_sql.specs.Scans.{Scan, HasGiven, GivesOn, FailsToGive};
-ghost use Rattle.dict_keyed_sql.specs.Scans.Scan.{All, Of};
+ghost use Rattle.dict_keyed_sql.specs.Scans.Scan.{All, Of, WithKey, Between, BetweenReversed};
 
 use crate::tables::KeyedTable;
 use dict_sql::records::{ReadError, Record};
@@ -74,6 +74,71 @@ pub fn read_rows_of<S: Alter>(
     ensures survives { IfOk result (λ rows. Survives (state S.Store conn.old) (state S.Store rows.conn.now) (λ _. ⊥)) }
 {
     conn.query(select_text(table), params![edition])
+}
+
+/// Begins to read the entries of an edition that have this key, in their order.
+///
+/// An error is the store's, or tells that the limit on steps was met.
+pub fn read_with_key<'a, S: Alter>(
+    conn: &'a mut Connection<S>,
+    edition: i64,
+    key: &[u8],
+) -> Result<Rows<'a, S>, Error>
+    requires { WhileOpen (state S.Store conn.old) (Has entry) }
+    ensures* refused { sem 𝓛 (RestsIfErr (the_row S.row S.Store) conn.entry (λ rows. rows.conn.ghost_name) result (IsNotBegun S.Store conn.old result)) }
+    ensures same_reference { IfOk result (λ rows. rows.conn.ghost_name ≡ conn.entry.ghost_name) }
+    ensures begun { IfOk result (λ rows. HasCleanDisk (state S.Store rows.conn.now) → HasGiven S.Store (WithKey edition key.now) rows.conn.now [] × IsUnchanged (state S.Store conn.old) (state S.Store rows.conn.now)) }
+    ensures mode { IfOk result (λ rows. conn.old.in_transaction ≡ false → rows.conn.now.in_transaction ≡ false) }
+    ensures survives { IfOk result (λ rows. Survives (state S.Store conn.old) (state S.Store rows.conn.now) (λ _. ⊥)) }
+{
+    conn.query(
+        "SELECT rowid, * FROM entry WHERE edition = ?1 AND key = ?2 ORDER BY 3",
+        params![edition, key],
+    )
+}
+
+/// Begins to read the entries of an edition whose keys are from the first on, up to the second, in their order. Both ends are taken in.
+///
+/// An error is the store's, or tells that the limit on steps was met.
+pub fn read_between<'a, S: Alter>(
+    conn: &'a mut Connection<S>,
+    edition: i64,
+    low: &[u8],
+    high: &[u8],
+) -> Result<Rows<'a, S>, Error>
+    requires { WhileOpen (state S.Store conn.old) (Has entry) }
+    ensures* refused { sem 𝓛 (RestsIfErr (the_row S.row S.Store) conn.entry (λ rows. rows.conn.ghost_name) result (IsNotBegun S.Store conn.old result)) }
+    ensures same_reference { IfOk result (λ rows. rows.conn.ghost_name ≡ conn.entry.ghost_name) }
+    ensures begun { IfOk result (λ rows. HasCleanDisk (state S.Store rows.conn.now) → HasGiven S.Store (Between edition low.now high.now) rows.conn.now [] × IsUnchanged (state S.Store conn.old) (state S.Store rows.conn.now)) }
+    ensures mode { IfOk result (λ rows. conn.old.in_transaction ≡ false → rows.conn.now.in_transaction ≡ false) }
+    ensures survives { IfOk result (λ rows. Survives (state S.Store conn.old) (state S.Store rows.conn.now) (λ _. ⊥)) }
+{
+    conn.query(
+        "SELECT rowid, * FROM entry WHERE edition = ?1 AND key >= ?2 AND key <= ?3 ORDER BY 3",
+        params![edition, low, high],
+    )
+}
+
+/// Begins to read the entries of an edition whose keys, read in reverse order, are from the first on, up to the second, in their order. Both ends are taken in.
+///
+/// An error is the store's, or tells that the limit on steps was met.
+pub fn read_between_reversed<'a, S: Alter>(
+    conn: &'a mut Connection<S>,
+    edition: i64,
+    low: &[u8],
+    high: &[u8],
+) -> Result<Rows<'a, S>, Error>
+    requires { WhileOpen (state S.Store conn.old) (Has entry) }
+    ensures* refused { sem 𝓛 (RestsIfErr (the_row S.row S.Store) conn.entry (λ rows. rows.conn.ghost_name) result (IsNotBegun S.Store conn.old result)) }
+    ensures same_reference { IfOk result (λ rows. rows.conn.ghost_name ≡ conn.entry.ghost_name) }
+    ensures begun { IfOk result (λ rows. HasCleanDisk (state S.Store rows.conn.now) → HasGiven S.Store (BetweenReversed edition low.now high.now) rows.conn.now [] × IsUnchanged (state S.Store conn.old) (state S.Store rows.conn.now)) }
+    ensures mode { IfOk result (λ rows. conn.old.in_transaction ≡ false → rows.conn.now.in_transaction ≡ false) }
+    ensures survives { IfOk result (λ rows. Survives (state S.Store conn.old) (state S.Store rows.conn.now) (λ _. ⊥)) }
+{
+    conn.query(
+        "SELECT rowid, * FROM entry WHERE edition = ?1 AND rkey >= ?2 AND rkey <= ?3 ORDER BY 3",
+        params![edition, low, high],
+    )
 }
 
 /// The next record, or none after the last.

@@ -1,5 +1,8 @@
 //! The names of the tables.
 
+ghost use Rattle.std.specs.Prelude.{◌≡◌};
+ghost use Rattle.dict_keyed_sql.specs.Tables.{table_of};
+
 /// A table of what is derived of headwords.
 #[derive(Clone, Copy, Debug, PartialEq, Eq)]
 pub enum KeyedTable {
@@ -9,4 +12,17 @@ pub enum KeyedTable {
     Word,
     /// The runs of three octets of the keys.
     Gram,
+}
+
+impl KeyedTable {
+    /// The name of the table.
+    pub fn name(self) -> &'static str
+        ensures { result.now ≡ (table_of self 0).name }
+    {
+        match self {
+            KeyedTable::Entry => "entry",
+            KeyedTable::Word => "word",
+            KeyedTable::Gram => "gram",
+        }
+    }
 }

@@ -14,8 +14,8 @@ use dict_records::{Edition, Item, Kept, Mark, Member, Stored};
 use sqlite::{Alter, Connection, Error, Row, params};
 use std::alloc::Global;
 
-// The record of each row, in turn.
-fn records_of<R: Record + Drop>(alloc: Global, rows: &[Row]) -> Result<Vec<R>, ReadError>
+/// The record of each row, in turn. `NoRecord` tells that one of them is none, another error that memory was refused.
+pub fn records_of<R: Record + Drop>(alloc: Global, rows: &[Row]) -> Result<Vec<R>, ReadError>
     ensures read { IfOk result (λ all. map R.Record.stored all.items ≡ rows.now) }
     ensures refused { IfErr result (FailsToDecodeAll R.Record.columns rows.now) }
 {

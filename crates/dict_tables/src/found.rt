@@ -15,8 +15,8 @@ use sqlite_schema::schema::{Column, Index, Kind, Reference, Schema, Table};
 use sqlite_value::keys::{Collation, Order};
 use sqlite_value::value::Value;
 
-// Whether a column is strict, with no default, and has this name and kind.
-fn is_column(column: &Column, name: &[u8], kind: Kind, not_null: bool) -> bool
+/// Whether a column is strict, with no default, and has this name and kind.
+pub fn is_column(column: &Column, name: &[u8], kind: Kind, not_null: bool) -> bool
     ensures { IsTrue result ↔ column.now ≡ column_of name.now kind not_null }
 {
     column.name.as_slice() == name
@@ -27,8 +27,8 @@ fn is_column(column: &Column, name: &[u8], kind: Kind, not_null: bool) -> bool
         && column.collation == Collation::Binary
 }
 
-// No rule of the table is more than its keys.
-fn is_plain(table: &Table) -> bool
+/// Whether no rule of the table is more than its keys.
+pub fn is_plain(table: &Table) -> bool
     ensures { IsTrue result ↔ (table.now.checks ≡ []) × (table.now.references ≡ []) × (table.now.computed ≡ []) × (table.now.stamps ≡ record { places = []; terms = []; formats = [] }) × (table.now.is_counted ≡ false) }
 {
     table.checks.roots.is_empty()
@@ -46,7 +46,8 @@ fn is_key(places: &Items<usize>, key: &[usize]) -> bool
     places.as_slice() == key
 }
 
-fn is_one_key(keys: &[Items<usize>], key: &[usize]) -> bool
+/// Whether the only UNIQUE key, the primary one among them, has these places of columns.
+pub fn is_one_key(keys: &[Items<usize>], key: &[usize]) -> bool
     ensures { IsTrue result ↔ keys.now ≡ key.now ∷ [] }
 {
     match keys {
@@ -64,7 +65,8 @@ fn are_two_keys(keys: &[Items<usize>], first: &[usize], second: &[usize]) -> boo
     }
 }
 
-fn is_one_plain(orders: &[Order]) -> bool
+/// Whether there is one key, and it is in the plain order.
+pub fn is_one_plain(orders: &[Order]) -> bool
     ensures { IsTrue result ↔ orders.now ≡ plain ∷ [] }
 {
     match orders {
@@ -289,8 +291,8 @@ fn is_kept(t: &Table) -> bool
         && is_plain(t)
 }
 
-// The table of this name.
-fn find_table<'a>(schema: &'a Schema, name: &[u8]) -> Option<&'a Table>
+/// The table of this name.
+pub fn find_table<'a>(schema: &'a Schema, name: &[u8]) -> Option<&'a Table>
     ensures { option_copied result ≡ found_table schema.now name.now }
 {
     schema.tables.get(schema.table_named(name)?)
@@ -350,8 +352,8 @@ fn has_further_key(schema: &Schema, table: &Table) -> bool
     indexes.iter().any(|index| is_further_key(table, index))
 }
 
-// Whether the table shares its tree with none, no foreign key leads into it, and it has no further unique index.
-fn is_alone(schema: &Schema, table: &Table) -> bool
+/// Whether the table shares its tree with none, no foreign key leads into it, and it has no further unique index.
+pub fn is_alone(schema: &Schema, table: &Table) -> bool
     ensures { IsTrue result ↔ IsAlone schema.now table.now }
 {
     table.tree < 2_147_483_648
