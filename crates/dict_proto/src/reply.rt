@@ -51,7 +51,7 @@ pub enum Reply<'a> {
     /// 112: what a database says of itself follows, as a text or as a list.
     InfoHeading,
     /// What a database says of itself, as a text.
-    InfoText(&'a str),
+    InfoText(&'a [u8]),
     /// 113: the command lines, as a text.
     Help,
     /// 114: the server's host and how many databases it has, as a text.
@@ -103,7 +103,7 @@ pub fn write_reply<K: Sink>(sink: &mut K, reply: &Reply) -> Result<(), SinkFault
         Reply::ListLine { name, text } => put_list_line(sink, name, text),
         Reply::ListEnd => sink.put(b".\r\n"),
         Reply::InfoHeading => sink.put(b"112 database information\r\n"),
-        Reply::InfoText(text) => put_text(sink, text.as_bytes()),
+        Reply::InfoText(text) => put_text(sink, text),
         Reply::Help => put_help(sink),
         Reply::ServerInformation { host, count } => put_server_information(sink, host, count),
         Reply::Status(count) => put_count(sink, b"210", count, b"databases"),

@@ -48,7 +48,7 @@ fn a_writer_is_called_once_a_line(rt: HostRuntime) -> Result<(), Fail> {
     assert_eq!(rt; calls_for(&Reply::MatchCount(12))?, 1);
     assert_eq!(rt; calls_for(&row)?, 1);
     assert_eq!(rt; calls_for(&definition)?, 2);
-    assert_eq!(rt; calls_for(&Reply::InfoText("x\n.y\n"))?, 1);
+    assert_eq!(rt; calls_for(&Reply::InfoText(b"x\n.y\n"))?, 1);
     assert_eq!(rt; calls_for(&Reply::Help)?, 1);
     Ok(())
 }

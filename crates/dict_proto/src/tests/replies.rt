@@ -235,7 +235,10 @@ fn info_of_a_database(rt: HostRuntime) -> Result<(), Fail> {
         ),
     ];
     for (text, want) in &texts {
-        assert_eq!(rt; octets_of(alloc, &Reply::InfoText(text))?.as_slice(), *want);
+        assert_eq!(rt;
+            octets_of(alloc, &Reply::InfoText(text.as_bytes()))?.as_slice(),
+            *want
+        );
     }
     Ok(())
 }
@@ -269,7 +272,7 @@ fn a_sink_with_little_room(rt: HostRuntime) -> Result<(), Fail> {
         title: "Gems",
         body: b"x\n.y\n",
     };
-    let info = Reply::InfoText(".gem\nx");
+    let info = Reply::InfoText(b".gem\nx");
     let text = b"..gem\r\nx\r\n.\r\n".as_slice();
     let server = Reply::ServerInformation {
         host: "a",

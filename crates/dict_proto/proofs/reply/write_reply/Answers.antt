@@ -27,7 +27,7 @@ returns-in-InfoHeading g c = rw c.in-InfoHeading.is c.put-in-InfoHeading.ensures
 
 pub returns-in-InfoText : goal.returns-in-InfoText
 unfolding info_text_octets
-returns-in-InfoText g c = rw c.in-InfoText.is (rw c.as_bytes.ensures.value at c.put_text.ensures)
+returns-in-InfoText g c = rw c.in-InfoText.is c.put_text.ensures
 
 pub returns-in-Status : goal.returns-in-Status
 unfolding status_octets

@@ -1,27 +1,25 @@
-use Rattle.std.proofs.Common.{ℕ, List, true, sym, ap, ◌∙◌, subst, inl}
-use Rattle.dict_io.specs.Streams.{PutsAll, PutsFront}
+use Rattle.std.proofs.Common.{List, ℕ, true, sym, ap, ◌∙◌, subst}
+use Rattle.std.specs.Prelude.{Option}
 use Rattle.dict_session.specs.Ending.{PutsAnswer}
-use Rattle.dict_session.specs.Answers.{found_answer}
-use Rattle.dict_match.specs.declared.strategy.Strategy.TheVariants.{Exact}
-use Rattle.dict_session.specs.Database.{found}
-use Rattle.dict_session.proofs.AnswerLemmas.{define_unknown, define_known}
+use Rattle.dict_session.specs.Places.{HoldsAsked, asked_in}
+use Rattle.dict_session.specs.Rows.{answering, found_octets}
+use Rattle.dict_session.specs.declared.asked.Asked.{Asked}
+use Rattle.dict_session.proofs.FoundLemmas.{for_definitions}
+use Rattle.dict_session.proofs.AnswerLemmas.{define_unknown, none_asked, some_asked, held_few, define_held}
 use Rattle.dict_session.proofs.answer.put_define.Goals as goal
 
-pub returns-then-not-has_name : goal.returns-then-not-has_name
-returns-then-not-has_name g c =
-    subst (λ (answer : List ℕ). PutsAnswer c.put_whole.result (g.K.Sink.stream c.args.sink.now) (g.K.Sink.stream c.put_whole.new.sink) answer true)
-    (sym (define_unknown c.args.plain.now c.args.database.now c.args.word.now (sym c.has_name.ensures ∙ c.if-not-has_name.true))) (c.put_whole.ensures true)
+pub returns-in-Ok-None-clause-value : goal.returns-in-Ok-None-clause-value
+returns-in-Ok-None-clause-value g c = λ trusted M shown.
+    let failed = g.L.Lookup.has_failed c.args.desk.now in
+    let none = none_asked (asked_in M.items c.args.name.now) (subst (λ (o : Option Asked). HoldsAsked o (asked_in M.items c.args.name.now)) c.in-Ok-None.field-0-is (c.in-Ok-None.ensures.value M shown)) in
+    subst (λ (answer : List ℕ). PutsAnswer failed c.put_whole.result (g.K.Sink.stream c.args.sink.now) (g.K.Sink.stream c.put_whole.new.sink) answer true)
+    (sym (define_unknown M c.args.name.now c.args.word.now none)) (c.put_whole.ensures failed true)
 
-pub returns-in-Ok-put_found : goal.returns-in-Ok-put_found
-returns-in-Ok-put_found g c =
-    subst (PutsAll (g.K.Sink.stream c.args.sink.now) (g.K.Sink.stream c.put_found.new.sink))
-    (ap (λ q. found_answer c.args.plain.now (found Exact q c.args.plain.now.edition)) (c.as_bytes.ensures ∙ c.in-Ok.ensures)
-    ∙ sym (define_known c.args.plain.now c.args.database.now c.args.word.now (sym c.has_name.ensures ∙ c.if-not-has_name.false)))
-    c.in-Ok-put_found.ensures
-
-pub returns : goal.returns
-returns g c = inl (
-    subst (PutsFront (g.K.Sink.stream c.args.sink.now) (g.K.Sink.stream c.put_found.new.sink))
-    (ap (λ q. found_answer c.args.plain.now (found Exact q c.args.plain.now.edition)) (c.as_bytes.ensures ∙ c.in-Ok.ensures)
-    ∙ sym (define_known c.args.plain.now c.args.database.now c.args.word.now (sym c.has_name.ensures ∙ c.if-not-has_name.false)))
-    c.in-Err.ensures)
+pub returns-clause-value : goal.returns-clause-value
+returns-clause-value g c = λ trusted M shown.
+    let failed = g.L.Lookup.has_failed c.put_found.new.desk in
+    let held = some_asked M c.args.name.now c.in-Ok-Some.asked (g.met.L.Lookup.well_formed c.args.desk.now M shown) (subst (λ (o : Option Asked). HoldsAsked o (asked_in M.items c.args.name.now)) c.in-Ok-Some.field-0-is (c.in-Ok-Some.ensures.value M shown)) in
+    let asked = c.in-Ok-Some.asked in
+    subst (λ (answer : List ℕ). PutsAnswer failed c.put_found.result (g.K.Sink.stream c.args.sink.now) (g.K.Sink.stream c.put_found.new.sink) answer true)
+    (ap (λ (key : List ℕ). found_octets (for_definitions key) M.items (answering (for_definitions key) M.items asked.places.items asked.is_first)) c.in-Ok.ensures ∙ define_held M c.args.name.now c.args.word.now asked held)
+    (c.put_found.ensures.value trusted M shown (held_few M c.args.name.now asked (g.met.L.Lookup.well_formed c.args.desk.now M shown) held))
