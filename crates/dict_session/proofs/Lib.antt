@@ -1,11 +1,11 @@
 pub mod LineLemmas
-pub mod KeyedLemmas
-pub mod DistinctLemmas
-pub mod HeadwordLemmas
-pub mod SeenLemmas
+pub mod PartLemmas
+pub mod PlaceLemmas
+pub mod AskedLemmas
+pub mod FoundLemmas
+pub mod AnswerLemmas
 pub mod ShowLemmas
 pub mod ShortLemmas
 pub mod SpokenLemmas
 pub mod SessionLemmas
-pub mod AnswerLemmas
 pub mod RunLemmas

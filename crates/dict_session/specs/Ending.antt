@@ -1,37 +1,65 @@
 -- How a call of a session ends, and what it leaves of a sink.
 use Rattle.std.specs.Prelude.{◌≡◌, ℕ, ◌⊎◌, List, Bool, true, false, Result, Ok, Err}
-use Rattle.dict_io.specs.Streams.{Stream, PutsAll, PutsFront}
+use Rattle.dict_io.specs.Streams.{Stream, AppendsFront, PutsAll, PutsFront}
 use Rattle.dict_line.specs.Meaning.{Meaning}
 use Rattle.dict_proto.specs.Replies.{unavailable_octets}
 use Rattle.dict_session.specs.Answers.{ends_session, may_be_unavailable}
 use Rattle.dict_session.specs.Spoken.{Speaks}
-use Rattle.dict_session.specs.declared.answer.Answered.{Answered}
-use Rattle.dict_session.specs.declared.answer.Answered.TheVariants.{Whole, Unavailable}
+use Rattle.dict_session.specs.declared.step.Answered.{Answered}
+use Rattle.dict_session.specs.declared.step.Answered.TheVariants.{Whole, Unavailable}
+use Rattle.dict_session.specs.declared.step.PutFault.{PutFault}
+use Rattle.dict_session.specs.declared.step.PutFault.TheVariants.{Sink, Desk}
+use Rattle.dict_session.specs.declared.step.Course.{Course}
+use Rattle.dict_session.specs.declared.step.Course.TheVariants as courses
 use Rattle.dict_session.specs.declared.step.Step.{Step}
-use Rattle.dict_session.specs.declared.step.Step.TheVariants.{More, Quit, Broken}
+use Rattle.dict_session.specs.declared.step.Step.TheVariants as steps
 
--- the answer was put, or where it may be unavailable the 420 line in its place, or where the sink failed a front of one
-abbrev pub PutsAnswer : {E : Type 0} → Result Answered E → Stream → Stream → List ℕ → Bool → Type 0
-PutsAnswer (Ok Whole) old new answer may = PutsAll old new answer
-PutsAnswer (Ok Unavailable) old new answer may = (may ≡ true) × PutsAll old new unavailable_octets
-PutsAnswer (Err fault) old new answer may = PutsFront old new answer ⊎ ((may ≡ true) × PutsFront old new unavailable_octets)
+-- a front of these octets was put, and no call of the sink failed
+pub record PutsPart (old new : Stream) (octets : List ℕ) : Type 0 where
+  pub front : AppendsFront old.octets new.octets octets
+  pub failures : new.failures ≡ old.failures
 
--- the call answered what one line asks, and a QUIT ends the session
-abbrev pub Finishes : (Meaning → List ℕ) → Step → Stream → Stream → Meaning → Type 0
-Finishes answer More old new asked = (PutsAll old new (answer asked) × (ends_session asked ≡ false))
+-- these octets were put; or the sink failed, and a front of them was put; or the desk did, of whose last call `failed`
+-- tells it, and so
+abbrev pub Delivers : {T : Type 0} → Bool → Result T PutFault → Stream → Stream → List ℕ → Type 0
+Delivers failed (Ok done) old new octets = PutsAll old new octets
+Delivers failed (Err Sink) old new octets = PutsFront old new octets
+Delivers failed (Err Desk) old new octets = (failed ≡ true) × PutsPart old new octets
+
+-- the answer was put, or where it may be unavailable the 420 line in its place, or where the sink or the desk failed a
+-- front
+abbrev pub PutsAnswer : Bool → Result Answered PutFault → Stream → Stream → List ℕ → Bool → Type 0
+PutsAnswer failed (Ok Whole) old new answer may = PutsAll old new answer
+PutsAnswer failed (Ok Unavailable) old new answer may = (may ≡ true) × PutsAll old new unavailable_octets
+PutsAnswer failed (Err Sink) old new answer may = PutsFront old new answer ⊎ ((may ≡ true) × PutsFront old new unavailable_octets)
+PutsAnswer failed (Err Desk) old new answer may = (may ≡ true) × (failed ≡ true) × PutsPart old new answer
+
+-- a session that the sink or the desk broke off is broken
+abbrev pub step_at : Course → Step
+step_at courses.More = steps.More
+step_at courses.Quit = steps.Quit
+step_at courses.SinkFailed = steps.Broken
+step_at courses.DeskFailed = steps.Broken
+
+-- the call answered what one line asks, and a QUIT ends the session. `failed` tells whether the desk's last call failed
+abbrev pub Finishes : (Meaning → List ℕ) → Bool → Course → Stream → Stream → Meaning → Type 0
+Finishes answer failed courses.More old new asked = (PutsAll old new (answer asked) × (ends_session asked ≡ false))
     ⊎ ((may_be_unavailable asked ≡ true) × PutsAll old new unavailable_octets)
-Finishes answer Quit old new asked = PutsAll old new (answer asked) × (ends_session asked ≡ true)
-Finishes answer Broken old new asked = PutsFront old new (answer asked)
+Finishes answer failed courses.Quit old new asked = PutsAll old new (answer asked) × (ends_session asked ≡ true)
+Finishes answer failed courses.SinkFailed old new asked = PutsFront old new (answer asked)
     ⊎ ((may_be_unavailable asked ≡ true) × PutsFront old new unavailable_octets)
+Finishes answer failed courses.DeskFailed old new asked = (may_be_unavailable asked ≡ true) × (failed ≡ true) × PutsPart old new (answer asked)
 
--- the call put these octets, and the session goes on
-abbrev pub PutsLine : Step → Stream → Stream → List ℕ → Type 0
-PutsLine More old new octets = PutsAll old new octets
-PutsLine Quit old new octets = ⊥
-PutsLine Broken old new octets = PutsFront old new octets
+-- the call put these octets, and the session goes on; or the sink failed
+abbrev pub PutsLine : Course → Stream → Stream → List ℕ → Type 0
+PutsLine courses.More old new octets = PutsAll old new octets
+PutsLine courses.Quit old new octets = ⊥
+PutsLine courses.SinkFailed old new octets = PutsFront old new octets
+PutsLine courses.DeskFailed old new octets = ⊥
 
 -- the call wrote what answers these lines, or where it broke off a front of that, and tells whether a QUIT was answered
-abbrev pub Wrote : (Meaning → List ℕ) → Step → Stream → Stream → List (List ℕ) → Type 0
-Wrote answer More old new ls = (o : List ℕ) × Speaks answer ls o false × PutsAll old new o
-Wrote answer Quit old new ls = (o : List ℕ) × Speaks answer ls o true × PutsAll old new o
-Wrote answer Broken old new ls = (o : List ℕ) × (ended : Bool) × Speaks answer ls o ended × PutsFront old new o
+abbrev pub Wrote : (Meaning → List ℕ) → Bool → Course → Stream → Stream → List (List ℕ) → Type 0
+Wrote answer failed courses.More old new ls = (o : List ℕ) × Speaks answer ls o false × PutsAll old new o
+Wrote answer failed courses.Quit old new ls = (o : List ℕ) × Speaks answer ls o true × PutsAll old new o
+Wrote answer failed courses.SinkFailed old new ls = (o : List ℕ) × (ended : Bool) × Speaks answer ls o ended × PutsFront old new o
+Wrote answer failed courses.DeskFailed old new ls = (failed ≡ true) × ((o : List ℕ) × (ended : Bool) × Speaks answer ls o ended × PutsPart old new o)

@@ -1,10 +1,12 @@
 pub mod Lines
-pub mod Database
-pub mod Keyed
+pub mod Shows
 pub mod Answers
 pub mod Spoken
 pub mod Ending
+pub mod Desks
+pub mod Places
+pub mod Rows
+pub mod RowLemmas
 pub mod Session
 pub mod Run
-pub mod Shows
 pub mod Limits

@@ -5,13 +5,14 @@ use Rattle.dict_io.specs.Streams.{Stream, Change, HasFailed, PutsAll, PutsFront,
 use Rattle.dict_line.specs.Meaning.{Meaning}
 use Rattle.dict_proto.specs.Replies.{banner_octets}
 use Rattle.dict_session.specs.Lines.{cut}
-use Rattle.dict_session.specs.Database.{Database}
+use Rattle.dict_catalogue.specs.Steps.{Catalogue}
 use Rattle.dict_session.specs.Answers.{answer_to}
 use Rattle.dict_session.specs.Spoken.{Speaks}
+use Rattle.dict_session.specs.Ending.{PutsPart}
 use Rattle.dict_session.specs.declared.session.run.End.{End}
 use Rattle.dict_session.specs.declared.session.run.End.TheVariants.{Quit, InputEnd}
 use Rattle.dict_session.specs.declared.session.run.SessionFault.{SessionFault}
-use Rattle.dict_session.specs.declared.session.run.SessionFault.TheVariants.{Read, Write, Memory}
+use Rattle.dict_session.specs.declared.session.run.SessionFault.TheVariants.{Read, Write, Broken, Memory}
 
 -- the octets b were read, and what was written is the greeting and what answers the lines of b, of which no QUIT was
 -- answered
@@ -28,22 +29,24 @@ EndsInPiece answer greeting writer b ended Written =
     × Speaks answer (cut front).lines o false × PutsAll writer.old between (greeting ++ o)
     × Speaks answer (cut b).lines (o ++ more) ended × Written between writer.new more
 
--- the octets b were read: what was written, and why the run ended
-abbrev pub EndsAt : (Meaning → List ℕ) → List ℕ → Result End SessionFault → Change → Change → List ℕ → Type 0
-EndsAt answer greeting (Ok Quit) reader writer b =
+-- the octets b were read: what was written, and why the run ended. `failed` tells whether the desk's last call failed
+abbrev pub EndsAt : (Meaning → List ℕ) → List ℕ → Bool → Result End SessionFault → Change → Change → List ℕ → Type 0
+EndsAt answer greeting failed (Ok Quit) reader writer b =
     GivesAll reader.old reader.new b × EndsInPiece answer greeting writer b true PutsAll
-EndsAt answer greeting (Ok InputEnd) reader writer b =
+EndsAt answer greeting failed (Ok InputEnd) reader writer b =
     GivesAll reader.old reader.new b × IsAtEnd reader.new.octets × HasAnswered answer greeting writer b
-EndsAt answer greeting (Err Read) reader writer b =
+EndsAt answer greeting failed (Err Read) reader writer b =
     Consumes reader.old.octets reader.new.octets b × (HasFailed reader.old.failures reader.new.failures ⊎ (2 ^ 64 - 1 ≤ length b))
     × HasAnswered answer greeting writer b
-EndsAt answer greeting (Err Write) reader writer b =
+EndsAt answer greeting failed (Err Write) reader writer b =
     GivesAll reader.old reader.new b
     × (((b ≡ []) × PutsFront writer.old writer.new greeting)
     ⊎ ((ended : Bool) × EndsInPiece answer greeting writer b ended PutsFront))
-EndsAt answer greeting (Err Memory) reader writer b = (reader.new ≡ reader.old) × (writer.new ≡ writer.old)
+EndsAt answer greeting failed (Err Broken) reader writer b =
+    GivesAll reader.old reader.new b × (failed ≡ true) × ((ended : Bool) × EndsInPiece answer greeting writer b ended PutsPart)
+EndsAt answer greeting failed (Err Memory) reader writer b = (reader.new ≡ reader.old) × (writer.new ≡ writer.old)
 
--- a session over the database ended so, greeted under this host and number
-abbrev pub Ends : Database → List ℕ → ℕ → Result End SessionFault → Change → Change → Type 0
-Ends database host connection end reader writer =
-    (b : List ℕ) × EndsAt (answer_to database host) (banner_octets host connection) end reader writer b
+-- a session over the catalogue ended so, greeted under this host and number
+abbrev pub Ends : Catalogue → List ℕ → ℕ → Bool → Result End SessionFault → Change → Change → Type 0
+Ends catalogue host connection failed end reader writer =
+    (b : List ℕ) × EndsAt (answer_to catalogue host) (banner_octets host connection) failed end reader writer b

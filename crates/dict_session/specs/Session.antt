@@ -1,12 +1,13 @@
 -- What a session keeps between two pieces, and what a call leaves.
-use Rattle.std.specs.Prelude.{◌≡◌, ℕ, ◌<◌, List, [], length, MatchBool, ◌-◌, slice_index, ◌==◌, vec_capacity}
+use Rattle.std.specs.Prelude.{◌≡◌, ℕ, Bool, ◌<◌, List, [], length, MatchBool, ◌-◌, slice_index, ◌==◌, vec_capacity}
 use Rattle.dict_io.specs.Streams.{Stream}
 use Rattle.dict_line.specs.Meaning.{Meaning, meaning}
 use Rattle.dict_session.specs.Lines.{HasNoLineEnd, cut}
-use Rattle.dict_session.specs.Ending.{Finishes, Wrote}
+use Rattle.dict_session.specs.Ending.{Finishes, Wrote, step_at}
 use Rattle.dict_session.specs.declared.session.Session.{Session}
 use Rattle.dict_session.specs.declared.step.Step.{Step}
-use Rattle.dict_session.specs.declared.step.Step.TheVariants.{More, Quit, Broken}
+use Rattle.dict_session.specs.declared.step.Course.{Course}
+use Rattle.dict_session.specs.declared.step.Course.TheVariants.{More, Quit, SinkFailed, DeskFailed}
 
 -- the session has read this unfinished line: all of it, or of more than 6,144 octets that they are too many
 pub record HasUnfinished (s : Session) (rest : List ℕ) : Type 0 where
@@ -14,9 +15,12 @@ pub record HasUnfinished (s : Session) (rest : List ℕ) : Type 0 where
   pub octets : MatchBool s.is_overlong (6144 < length rest) (s.held.items ≡ rest)
   pub last : s.after_cr ≡ (slice_index rest (length rest - 1) == 13)
 
--- how the last call of the session ended
+-- how the last call of the session ended, and the same as its callers see it
+abbrev pub course_of : Session → Course
+course_of s = s.last
+
 abbrev pub step_of : Session → Step
-step_of s = s.last
+step_of s = step_at s.last
 
 -- the host that the session tells, and its connection's number
 abbrev pub host_of : Session → List ℕ
@@ -32,15 +36,16 @@ pub record IsSameSession (old new : Session) : Type 0 where
   pub room : vec_capacity new.held ≡ vec_capacity old.held
 
 -- a session that goes on has read this
-abbrev pub Keeps : Step → Session → List ℕ → Type 0
+abbrev pub Keeps : Course → Session → List ℕ → Type 0
 Keeps More s rest = HasUnfinished s rest
 Keeps Quit s rest = Unit {0}
-Keeps Broken s rest = Unit {0}
+Keeps SinkFailed s rest = Unit {0}
+Keeps DeskFailed s rest = Unit {0}
 
--- the call answered the lines that end in b, and keeps the rest of b
-abbrev pub Leaves : (Meaning → List ℕ) → Step → Session → Stream → Stream → List ℕ → Type 0
-Leaves answer step s old new b = Wrote answer step old new (cut b).lines × Keeps step s (cut b).rest
+-- the call answered the lines that end in b, and keeps the rest of b; `failed` tells whether the desk's last call failed
+abbrev pub Leaves : (Meaning → List ℕ) → Bool → Course → Session → Stream → Stream → List ℕ → Type 0
+Leaves answer failed course s old new b = Wrote answer failed course old new (cut b).lines × Keeps course s (cut b).rest
 
 -- the call answered this line, and keeps nothing
-abbrev pub EndsLine : (Meaning → List ℕ) → Step → Session → Stream → Stream → List ℕ → Type 0
-EndsLine answer step s old new line = Finishes answer step old new (meaning line) × Keeps step s []
+abbrev pub EndsLine : (Meaning → List ℕ) → Bool → Course → Session → Stream → Stream → List ℕ → Type 0
+EndsLine answer failed course s old new line = Finishes answer failed course old new (meaning line) × Keeps course s []

@@ -1,50 +1,51 @@
 // The answer to one line.
-ghost use Rattle.std.specs.Prelude.{◌≡◌, ℕ, List, Bool, true, Err};
+ghost use Rattle.std.specs.Prelude.{◌≡◌, ℕ, List, Bool, true, false, Err, IfOk, OnOk};
 ghost use Rattle.dict_io.specs.Streams.{Stream, Puts};
 ghost use Rattle.dict_line.specs.Meaning.{Meaning};
 ghost use Rattle.dict_line.specs.Told.{Tells, requested};
-ghost use Rattle.dict_session.specs.Answers.{answer_to, define_answer, found_answer, match_answer, matched_answer, ends_session, may_be_unavailable};
-ghost use Rattle.dict_proto.specs.Replies.{reply_octets, done_octets};
-ghost use Rattle.dict_session.specs.Database.{Database, found, headwords, strategy_of};
-ghost use Rattle.dict_match.specs.declared.strategy.Strategy.TheVariants.{Exact};
-ghost use Rattle.dict_session.specs.Ending.{Finishes, PutsAnswer, PutsLine};
+ghost use Rattle.dict_catalogue.specs.Steps.{Catalogue};
+ghost use Rattle.dict_proto.specs.Replies.{reply_octets};
+ghost use Rattle.dict_desk.specs.Asked.{strategy_of};
+ghost use Rattle.dict_session.specs.Answers.{answer_to, define_answer, match_answer, ends_session, may_be_unavailable};
+ghost use Rattle.dict_session.specs.Desks.{Stays};
+ghost use Rattle.dict_session.specs.Places.{asked_in, HoldsAsked};
+ghost use Rattle.dict_session.specs.Ending.{Delivers, Finishes, PutsAnswer, PutsLine};
 
-use crate::plain::Plain;
+use crate::asked::{Asked, asked_by};
+use crate::found::put_found;
+use crate::query::Query;
 use crate::show::{put_databases, put_help, put_info, put_server, put_status, put_strategies};
-use crate::step::Step;
+use crate::step::{Answered, Course, PutFault};
+use dict_desk::{Fault, Lookup, What};
 use dict_io::{Sink, SinkFault};
 use dict_line::{LineFault, Request};
 use dict_match::{Strategy, key_of};
 use dict_proto::{Reply, write_reply};
 use std::alloc::Global;
 
-// Whether a line got its answer, or the 420 line in its place.
-#[derive(Clone, Copy, Debug, PartialEq, Eq)]
-pub(crate) enum Answered {
-    Whole,
-    Unavailable,
-}
-
-// Puts the answer to what a line asks, and tells whether the session goes on. Where memory was refused, 420 is put
-// in its place.
-pub(crate) fn answer_line<K: Sink>(
+// Puts the answer to what a line asks, and tells whether the session goes on. Where memory was refused, or the desk
+// failed before the answer's first octet, 420 is put in its place.
+pub(crate) fn answer_line<L: Lookup, K: Sink>(
     alloc: Global,
-    plain: &Plain,
+    desk: &mut L,
     host: &str,
     asked: Result<Request, LineFault>,
     sink: &mut K,
-) -> Step
-    ensures { (meaning : Meaning) → Tells asked meaning → Finishes (answer_to plain.now host.now) result (K.stream sink.old) (K.stream sink.new) meaning }
+) -> Course
+    ensures value { L.is_trusted desk.new → (M : Catalogue) → L.shows desk.old M → (meaning : Meaning) → Tells asked meaning
+        → Finishes (answer_to M host.now) (L.has_failed desk.new) result (K.stream sink.old) (K.stream sink.new) meaning }
+    ensures desk { Stays L.shows L.leaves_one_of L.is_trusted desk.old desk.new }
 {
     match asked {
-        Ok(request) => answer_request(alloc, plain, host, request, sink),
+        Ok(request) => answer_request(alloc, desk, host, &request, sink),
         Err(fault) => answer_fault(fault, sink),
     }
 }
 
 // Puts the answer to a line that is no command.
-fn answer_fault<K: Sink>(fault: LineFault, sink: &mut K) -> Step
-    ensures { (database : Database) (host : List ℕ) (meaning : Meaning) → Tells (Err fault) meaning → Finishes (answer_to database host) result (K.stream sink.old) (K.stream sink.new) meaning }
+fn answer_fault<K: Sink>(fault: LineFault, sink: &mut K) -> Course
+    ensures { (M : Catalogue) (host : List ℕ) (failed : Bool) (meaning : Meaning) → Tells (Err fault) meaning
+        → Finishes (answer_to M host) failed result (K.stream sink.old) (K.stream sink.new) meaning }
 {
     match fault {
         LineFault::NotRecognized => put_line(&Reply::NotRecognized, sink),
@@ -55,30 +56,32 @@ fn answer_fault<K: Sink>(fault: LineFault, sink: &mut K) -> Step
 }
 
 // Puts a reply after which the session goes on.
-pub(crate) fn put_line<K: Sink>(reply: &Reply, sink: &mut K) -> Step
+pub(crate) fn put_line<K: Sink>(reply: &Reply, sink: &mut K) -> Course
     ensures { PutsLine result (K.stream sink.old) (K.stream sink.new) (reply_octets reply.now) }
 {
     match write_reply(sink, reply) {
-        Ok(()) => Step::More,
-        Err(_) => Step::Broken,
+        Ok(()) => Course::More,
+        Err(_) => Course::SinkFailed,
     }
 }
 
 // Puts the answer to a request, and tells whether the session goes on.
-fn answer_request<K: Sink>(
+fn answer_request<L: Lookup, K: Sink>(
     alloc: Global,
-    plain: &Plain,
+    desk: &mut L,
     host: &str,
-    request: Request,
+    request: &Request,
     sink: &mut K,
-) -> Step
-    ensures { Finishes (answer_to plain.now host.now) result (K.stream sink.old) (K.stream sink.new) (requested request) }
+) -> Course
+    ensures value { L.is_trusted desk.new → (M : Catalogue) → L.shows desk.old M
+        → Finishes (answer_to M host.now) (L.has_failed desk.new) result (K.stream sink.old) (K.stream sink.new) (requested request.now) }
+    ensures desk { Stays L.shows L.leaves_one_of L.is_trusted desk.old desk.new }
 {
-    let ends = is_quit(&request);
-    match put_answer(alloc, plain, host, &request, sink) {
-        Err(_) => Step::Broken,
-        Ok(Answered::Whole) if ends => Step::Quit,
-        Ok(_) => Step::More,
+    match put_answer(alloc, desk, host, request, sink) {
+        Ok(Answered::Whole) if is_quit(request) => Course::Quit,
+        Ok(_) => Course::More,
+        Err(PutFault::Sink) => Course::SinkFailed,
+        Err(PutFault::Desk) => Course::DeskFailed,
     }
 }
 
@@ -89,50 +92,58 @@ fn is_quit(request: &Request) -> bool
     matches!(request, Request::Quit)
 }
 
-// Puts the answer to a request, or 420 where memory for it is refused before the answer's first octet.
-fn put_answer<K: Sink>(
+// Puts the answer to a request, or 420 where memory for it was refused, or the desk failed, before its first octet.
+fn put_answer<L: Lookup, K: Sink>(
     alloc: Global,
-    plain: &Plain,
+    desk: &mut L,
     host: &str,
     request: &Request,
     sink: &mut K,
-) -> Result<Answered, SinkFault>
-    ensures { PutsAnswer result (K.stream sink.old) (K.stream sink.new) (answer_to plain.now host.now (requested request.now)) (may_be_unavailable (requested request.now)) }
+) -> Result<Answered, PutFault>
+    ensures value { L.is_trusted desk.new → (M : Catalogue) → L.shows desk.old M
+        → PutsAnswer (L.has_failed desk.new) result (K.stream sink.old) (K.stream sink.new) (answer_to M host.now (requested request.now)) (may_be_unavailable (requested request.now)) }
+    ensures desk { Stays L.shows L.leaves_one_of L.is_trusted desk.old desk.new }
 {
     match request {
-        Request::Define { database, word } => put_define(
-            alloc,
-            plain,
-            database.as_str(),
-            word.as_str(),
-            sink,
-        ),
+        Request::Define { database, word } => {
+            put_define(alloc, desk, database.as_str(), word.as_str(), sink)
+        }
         Request::Match {
             database,
             strategy,
             word,
         } => put_match(
             alloc,
-            plain,
+            desk,
             database.as_str(),
             strategy.as_str(),
             word.as_str(),
             sink,
         ),
-        Request::Client => put_whole(&Reply::Done, sink),
-        Request::Quit => put_whole(&Reply::Closing, sink),
-        Request::ShowDatabases => whole(put_databases(plain, sink)),
+        Request::ShowDatabases => put_databases(desk, sink),
         Request::ShowStrategies => whole(put_strategies(sink)),
-        Request::ShowServer => whole(put_server(host, sink)),
-        Request::ShowInfo { database } => whole(put_info(plain, database.as_str(), sink)),
-        Request::Status => whole(put_status(sink)),
+        Request::ShowServer => put_server(desk, host, sink),
+        Request::ShowInfo { database } => put_info(desk, database.as_str(), sink),
+        Request::Client => put_whole(&Reply::Done, sink),
+        Request::Status => put_status(desk, sink),
         Request::Help => whole(put_help(sink)),
+        Request::Quit => put_whole(&Reply::Closing, sink),
     }
 }
 
 // An answer that was put whole, or that the sink broke off.
-fn whole(put: Result<(), SinkFault>) -> Result<Answered, SinkFault>
-    ensures { (old new : Stream) (answer : List ℕ) (may : Bool) → Puts put old new answer → PutsAnswer result old new answer may }
+pub(crate) fn whole(put: Result<(), SinkFault>) -> Result<Answered, PutFault>
+    ensures { (old new : Stream) (answer : List ℕ) (failed may : Bool) → Puts put old new answer → PutsAnswer failed result old new answer may }
+{
+    match put {
+        Ok(()) => Ok(Answered::Whole),
+        Err(_) => Err(PutFault::Sink),
+    }
+}
+
+// An answer that was put whole, or that the sink or the desk broke off.
+pub(crate) fn delivered(put: Result<(), PutFault>) -> Result<Answered, PutFault>
+    ensures { (old new : Stream) (answer : List ℕ) (failed : Bool) → Delivers failed put old new answer → PutsAnswer failed result old new answer true }
 {
     match put {
         Ok(()) => Ok(Answered::Whole),
@@ -140,64 +151,61 @@ fn whole(put: Result<(), SinkFault>) -> Result<Answered, SinkFault>
     }
 }
 
-fn put_whole<K: Sink>(reply: &Reply, sink: &mut K) -> Result<Answered, SinkFault>
-    ensures { (may : Bool) → PutsAnswer result (K.stream sink.old) (K.stream sink.new) (reply_octets reply.now) may }
+pub(crate) fn put_whole<K: Sink>(reply: &Reply, sink: &mut K) -> Result<Answered, PutFault>
+    ensures { (failed may : Bool) → PutsAnswer failed result (K.stream sink.old) (K.stream sink.new) (reply_octets reply.now) may }
 {
     match write_reply(sink, reply) {
         Ok(()) => Ok(Answered::Whole),
+        Err(_) => Err(PutFault::Sink),
+    }
+}
+
+pub(crate) fn put_unavailable<K: Sink>(sink: &mut K) -> Result<Answered, PutFault>
+    ensures { (answer : List ℕ) (failed : Bool) → PutsAnswer failed result (K.stream sink.old) (K.stream sink.new) answer true }
+{
+    match write_reply(sink, &Reply::Unavailable) {
+        Ok(()) => Ok(Answered::Unavailable),
+        Err(_) => Err(PutFault::Sink),
+    }
+}
+
+// Which databases the word asks.
+fn asked_of<L: Lookup>(desk: &L, word: &str) -> Result<Option<Asked>, Fault>
+    ensures value { (M : Catalogue) → L.shows desk.now M → IfOk result (λ asked. HoldsAsked asked (asked_in M.items word.now)) }
+    ensures open { OnOk result (L.is_closed desk.now ≡ false) }
+{
+    match desk.summary() {
+        Ok(summary) => Ok(asked_by(&summary.items, word)),
         Err(fault) => Err(fault),
     }
 }
 
 // Puts the answer to DEFINE.
-fn put_define<K: Sink>(
+fn put_define<L: Lookup, K: Sink>(
     alloc: Global,
-    plain: &Plain,
-    database: &str,
+    desk: &mut L,
+    name: &str,
     word: &str,
     sink: &mut K,
-) -> Result<Answered, SinkFault>
-    ensures { PutsAnswer result (K.stream sink.old) (K.stream sink.new) (define_answer plain.now database.now word.now) true }
+) -> Result<Answered, PutFault>
+    ensures value { L.is_trusted desk.new → (M : Catalogue) → L.shows desk.old M
+        → PutsAnswer (L.has_failed desk.new) result (K.stream sink.old) (K.stream sink.new) (define_answer M name.now word.now) true }
+    ensures desk { Stays L.shows L.leaves_one_of L.is_trusted desk.old desk.new }
 {
-    if !plain.has_name(database) {
-        return put_whole(&Reply::InvalidDatabase, sink);
-    }
+    let asked = match asked_of(desk, name) {
+        Ok(Some(asked)) => asked,
+        Ok(None) => return put_whole(&Reply::InvalidDatabase, sink),
+        Err(_) => return put_unavailable(sink),
+    };
     let Ok(key) = key_of(alloc, word) else {
         return put_unavailable(sink);
     };
-    match put_found(plain, key.as_bytes(), sink) {
-        Ok(()) => Ok(Answered::Whole),
-        Err(fault) => Err(fault),
-    }
-}
-
-fn put_unavailable<K: Sink>(sink: &mut K) -> Result<Answered, SinkFault>
-    ensures { (answer : List ℕ) → PutsAnswer result (K.stream sink.old) (K.stream sink.new) answer true }
-{
-    match write_reply(sink, &Reply::Unavailable) {
-        Ok(()) => Ok(Answered::Unavailable),
-        Err(fault) => Err(fault),
-    }
-}
-
-// Puts the definitions that a query finds.
-fn put_found<K: Sink>(plain: &Plain, query: &[u8], sink: &mut K) -> Result<(), SinkFault>
-    ensures { Puts result (K.stream sink.old) (K.stream sink.new) (found_answer plain.now (found Exact query.now plain.now.edition)) }
-{
-    let count = plain.count(Strategy::Exact, query);
-    if count == 0 {
-        return write_reply(sink, &Reply::NoMatch);
-    }
-    write_reply(sink, &Reply::DefinitionCount(count))?;
-    plain.put_found(Strategy::Exact, query, sink)?;
-    put_done(sink)
-}
-
-// Puts the line that ends an answer of several replies.
-fn put_done<K: Sink>(sink: &mut K) -> Result<(), SinkFault>
-    ensures { Puts result (K.stream sink.old) (K.stream sink.new) done_octets }
-{
-    write_reply(sink, &Reply::Done)
+    let query = Query {
+        what: What::Entries,
+        strategy: Strategy::Exact,
+        key,
+    };
+    put_found(desk, asked, &query, sink)
 }
 
 // The strategy that MATCH asks for by this name.
@@ -212,46 +220,33 @@ fn strategy_of(name: &str) -> Option<Strategy>
 }
 
 // Puts the answer to MATCH.
-fn put_match<K: Sink>(
+fn put_match<L: Lookup, K: Sink>(
     alloc: Global,
-    plain: &Plain,
+    desk: &mut L,
     name: &str,
     strategy: &str,
     word: &str,
     sink: &mut K,
-) -> Result<Answered, SinkFault>
-    ensures { PutsAnswer result (K.stream sink.old) (K.stream sink.new) (match_answer plain.now name.now strategy.now word.now) true }
+) -> Result<Answered, PutFault>
+    ensures value { L.is_trusted desk.new → (M : Catalogue) → L.shows desk.old M
+        → PutsAnswer (L.has_failed desk.new) result (K.stream sink.old) (K.stream sink.new) (match_answer M name.now strategy.now word.now) true }
+    ensures desk { Stays L.shows L.leaves_one_of L.is_trusted desk.old desk.new }
 {
-    if !plain.has_name(name) {
-        return put_whole(&Reply::InvalidDatabase, sink);
-    }
+    let asked = match asked_of(desk, name) {
+        Ok(Some(asked)) => asked,
+        Ok(None) => return put_whole(&Reply::InvalidDatabase, sink),
+        Err(_) => return put_unavailable(sink),
+    };
     let Some(strategy) = strategy_of(strategy) else {
         return put_whole(&Reply::InvalidStrategy, sink);
     };
     let Ok(key) = key_of(alloc, word) else {
         return put_unavailable(sink);
     };
-    match put_matched(plain, strategy, key.as_bytes(), sink) {
-        Ok(()) => Ok(Answered::Whole),
-        Err(fault) => Err(fault),
-    }
-}
-
-// Puts the headwords that a query finds.
-fn put_matched<K: Sink>(
-    plain: &Plain,
-    strategy: Strategy,
-    query: &[u8],
-    sink: &mut K,
-) -> Result<(), SinkFault>
-    ensures { Puts result (K.stream sink.old) (K.stream sink.new) (matched_answer plain.now (headwords (found strategy query.now plain.now.edition))) }
-{
-    let count = plain.count_headwords(strategy, query);
-    if count == 0 {
-        return write_reply(sink, &Reply::NoMatch);
-    }
-    write_reply(sink, &Reply::MatchCount(count))?;
-    plain.put_headwords(strategy, query, sink)?;
-    write_reply(sink, &Reply::ListEnd)?;
-    put_done(sink)
+    let query = Query {
+        what: What::Headwords,
+        strategy,
+        key,
+    };
+    put_found(desk, asked, &query, sink)
 }

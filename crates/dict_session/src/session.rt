@@ -5,10 +5,12 @@ ghost use Rattle.dict_line.specs.Told.{Tells};
 ghost use Rattle.dict_proto.specs.Replies.{banner_octets};
 ghost use Rattle.dict_session.specs.Answers.{answer_to};
 ghost use Rattle.dict_session.specs.declared.step.Step.TheVariants.{More};
+ghost use Rattle.dict_catalogue.specs.Steps.{Catalogue};
+ghost use Rattle.dict_session.specs.Desks.{Stays};
 
 use crate::answer::{answer_line, put_line};
-use crate::plain::Plain;
-use crate::step::Step;
+use crate::step::{Course, Step};
+use dict_desk::Lookup;
 use dict_io::Sink;
 use dict_line::{LineFault, MAX_LINE_OCTETS, Request, parse_line};
 use dict_proto::Reply;
@@ -24,13 +26,13 @@ pub struct Session<'h> {
     held: Vec<u8>,
     is_overlong: bool,
     after_cr: bool,
-    last: Step,
+    last: Course,
     ghost room: { 6144 ≤ vec_capacity held },
     ghost short: { vec_len held ≤ 6144 },
 }
 
 impl<'h> Session<'h> {
-    ghost use Rattle.dict_session.specs.Session.{HasUnfinished, Leaves, EndsLine, IsSameSession, step_of, host_of, connection_of};
+    ghost use Rattle.dict_session.specs.Session.{HasUnfinished, Leaves, EndsLine, IsSameSession, course_of, step_of, host_of, connection_of};
     ghost use Rattle.dict_session.specs.Ending.{PutsLine};
     ghost use Rattle.dict_session.specs.Lines.{HasNoLineEnd};
 
@@ -49,79 +51,113 @@ impl<'h> Session<'h> {
             held,
             is_overlong: false,
             after_cr: false,
-            last: Step::More,
+            last: Course::More,
         })
     }
 
     /// Puts the greeting. Once a call of the session ended by `Quit` or `Broken`, it answers the same and puts nothing.
     pub fn greet<K: Sink>(&mut self, sink: &mut K) -> Step
         ensures greeting { step_of self.old ≡ More
-            → PutsLine result (K.stream sink.old) (K.stream sink.new) (banner_octets (host_of self.old) (connection_of self.old)) }
+            → PutsLine (course_of self.new) (K.stream sink.old) (K.stream sink.new) (banner_octets (host_of self.old) (connection_of self.old)) }
         ensures line { (rest : List ℕ) → HasUnfinished self.old rest → HasUnfinished self.new rest }
         ensures step { step_of self.new ≡ result }
         ensures same { IsSameSession self.old self.new }
         ensures ended { step_of self.old ≢ More → (result ≡ step_of self.old) × (K.stream sink.new ≡ K.stream sink.old) }
     {
-        if self.last != Step::More {
-            return self.last;
+        if self.last != Course::More {
+            return self.last.step();
         }
         let banner = Reply::Banner {
             host: self.host,
             connection: self.connection,
         };
         self.last = put_line(&banner, sink);
-        self.last
+        self.last.step()
     }
 
     /// Takes the next piece of what the client sent, and puts the answer to each line that it ends, up to that of
-    /// a QUIT. A line of more than 6,144 octets is answered once, at its end. Once a call of the session ended by
-    /// `Quit` or `Broken`, it answers the same and puts nothing.
-    pub fn feed<K: Sink>(
+    /// a QUIT. A line of more than 6,144 octets is answered once, at its end. Where memory is refused or the desk fails
+    /// before an answer's first octet, 420 is put in its place. Once a call of the session ended by `Quit` or `Broken`,
+    /// it answers the same, puts nothing and asks nothing.
+    pub fn feed<L: Lookup, K: Sink>(
         &mut self,
         alloc: Global,
         piece: &[u8],
-        plain: &Plain,
+        desk: &mut L,
         sink: &mut K,
     ) -> Step
-        ensures answers { step_of self.old ≡ More → (rest : List ℕ) → HasUnfinished self.old rest
-            → Leaves (answer_to plain.now (host_of self.old)) result self.new (K.stream sink.old) (K.stream sink.new) (rest ++ piece.now) }
+        ensures answers { step_of self.old ≡ More → L.is_trusted desk.new → (M : Catalogue) → L.shows desk.old M → (rest : List ℕ) → HasUnfinished self.old rest
+            → Leaves (answer_to M (host_of self.old)) (L.has_failed desk.new) (course_of self.new) self.new (K.stream sink.old) (K.stream sink.new) (rest ++ piece.now) }
+        ensures desk { Stays L.shows L.leaves_one_of L.is_trusted desk.old desk.new }
         ensures step { step_of self.new ≡ result }
         ensures same { IsSameSession self.old self.new }
-        ensures ended { step_of self.old ≢ More → (result ≡ step_of self.old) × (K.stream sink.new ≡ K.stream sink.old) }
+        ensures ended { step_of self.old ≢ More → (result ≡ step_of self.old) × (K.stream sink.new ≡ K.stream sink.old) × (desk.new ≡ desk.old) }
     {
-        if self.last != Step::More {
+        self.advance(alloc, piece, desk, sink).step()
+    }
+
+    // The same, and what broke the session off.
+    pub(crate) fn advance<L: Lookup, K: Sink>(
+        &mut self,
+        alloc: Global,
+        piece: &[u8],
+        desk: &mut L,
+        sink: &mut K,
+    ) -> Course
+        ensures answers { step_of self.old ≡ More → L.is_trusted desk.new → (M : Catalogue) → L.shows desk.old M → (rest : List ℕ) → HasUnfinished self.old rest
+            → Leaves (answer_to M (host_of self.old)) (L.has_failed desk.new) result self.new (K.stream sink.old) (K.stream sink.new) (rest ++ piece.now) }
+        ensures desk { Stays L.shows L.leaves_one_of L.is_trusted desk.old desk.new }
+        ensures course { course_of self.new ≡ result }
+        ensures same { IsSameSession self.old self.new }
+        ensures ended { step_of self.old ≢ More → (result ≡ course_of self.old) × (K.stream sink.new ≡ K.stream sink.old) × (desk.new ≡ desk.old) }
+    {
+        if self.last != Course::More {
             return self.last;
         }
-        self.last = self.read(alloc, piece, plain, sink);
+        self.last = self.read(alloc, piece, desk, sink);
         self.last
     }
 
     // The same for a session that goes on.
-    fn read<K: Sink>(&mut self, alloc: Global, piece: &[u8], plain: &Plain, sink: &mut K) -> Step
-        ensures answers { (rest : List ℕ) → HasUnfinished self.old rest
-            → Leaves (answer_to plain.now (host_of self.old)) result self.new (K.stream sink.old) (K.stream sink.new) (rest ++ piece.now) }
+    fn read<L: Lookup, K: Sink>(
+        &mut self,
+        alloc: Global,
+        piece: &[u8],
+        desk: &mut L,
+        sink: &mut K,
+    ) -> Course
+        ensures answers { L.is_trusted desk.new → (M : Catalogue) → L.shows desk.old M → (rest : List ℕ) → HasUnfinished self.old rest
+            → Leaves (answer_to M (host_of self.old)) (L.has_failed desk.new) result self.new (K.stream sink.old) (K.stream sink.new) (rest ++ piece.now) }
+        ensures desk { Stays L.shows L.leaves_one_of L.is_trusted desk.old desk.new }
         ensures same { IsSameSession self.old self.new }
     {
         for octet in piece {
-            match self.take(alloc, *octet, plain, sink) {
-                Step::More => {}
-                step => return step,
+            match self.take(alloc, *octet, desk, sink) {
+                Course::More => {}
+                course => return course,
             }
         }
-        Step::More
+        Course::More
     }
 
     // Takes one octet.
-    fn take<K: Sink>(&mut self, alloc: Global, octet: u8, plain: &Plain, sink: &mut K) -> Step
-        ensures answers { (rest : List ℕ) → HasUnfinished self.old rest
-            → Leaves (answer_to plain.now (host_of self.old)) result self.new (K.stream sink.old) (K.stream sink.new) (rest ++ octet ∷ []) }
+    fn take<L: Lookup, K: Sink>(
+        &mut self,
+        alloc: Global,
+        octet: u8,
+        desk: &mut L,
+        sink: &mut K,
+    ) -> Course
+        ensures answers { L.is_trusted desk.new → (M : Catalogue) → L.shows desk.old M → (rest : List ℕ) → HasUnfinished self.old rest
+            → Leaves (answer_to M (host_of self.old)) (L.has_failed desk.new) result self.new (K.stream sink.old) (K.stream sink.new) (rest ++ octet ∷ []) }
+        ensures desk { Stays L.shows L.leaves_one_of L.is_trusted desk.old desk.new }
         ensures same { IsSameSession self.old self.new }
     {
         if octet == b'\n' && self.after_cr {
-            self.end_line(alloc, plain, sink)
+            self.end_line(alloc, desk, sink)
         } else {
             self.hold(octet);
-            Step::More
+            Course::More
         }
     }
 
@@ -158,16 +194,17 @@ impl<'h> Session<'h> {
     }
 
     // Answers the line whose CR was read last, at its LF.
-    fn end_line<K: Sink>(&mut self, alloc: Global, plain: &Plain, sink: &mut K) -> Step
-        ensures answers { (rest : List ℕ) → HasUnfinished self.old rest
-            → EndsLine (answer_to plain.now (host_of self.old)) result self.new (K.stream sink.old) (K.stream sink.new) (take (length rest - 1) rest) }
+    fn end_line<L: Lookup, K: Sink>(&mut self, alloc: Global, desk: &mut L, sink: &mut K) -> Course
+        ensures answers { L.is_trusted desk.new → (M : Catalogue) → L.shows desk.old M → (rest : List ℕ) → HasUnfinished self.old rest
+            → EndsLine (answer_to M (host_of self.old)) (L.has_failed desk.new) result self.new (K.stream sink.old) (K.stream sink.new) (take (length rest - 1) rest) }
+        ensures desk { Stays L.shows L.leaves_one_of L.is_trusted desk.old desk.new }
         ensures same { IsSameSession self.old self.new }
     {
-        let step = answer_line(alloc, plain, self.host, self.request(alloc), sink);
-        if step == Step::More {
+        let course = answer_line(alloc, desk, self.host, self.request(alloc), sink);
+        if course == Course::More {
             self.clear();
         }
-        step
+        course
     }
 
     fn clear(&mut self)

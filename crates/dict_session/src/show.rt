@@ -1,12 +1,24 @@
 // The answers to SHOW, STATUS and HELP.
-ghost use Rattle.std.specs.Prelude.{◌≡◌};
+ghost use Rattle.std.specs.Prelude.{◌≡◌, ◌++◌, Bool, map, true};
 ghost use Rattle.std.specs.List.{flat_map};
 ghost use Rattle.dict_io.specs.Streams.{Puts};
-ghost use Rattle.dict_proto.specs.Replies.{reply_octets};
+ghost use Rattle.dict_index.specs.Edition.{Edition};
+ghost use Rattle.dict_catalogue.specs.Steps.{Catalogue};
+ghost use Rattle.dict_catalogue.specs.Views.{item_shown, texts_shown};
+ghost use Rattle.dict_desk.specs.Shown.{HasEdition};
+ghost use Rattle.dict_proto.specs.Replies.{reply_octets, list_end_octets, done_octets, info_heading_octets, info_text_octets};
 ghost use Rattle.dict_match.specs.StrategyText.{strategies};
+ghost use Rattle.dict_session.specs.Desks.{Stays};
+ghost use Rattle.dict_session.specs.Ending.{PutsAnswer};
+ghost use Rattle.dict_session.specs.Rows.{shown_line, line_if_named, items_octets, members_octets};
 ghost use Rattle.dict_session.specs.Shows.{databases_answer, strategies_answer, strategy_line, server_answer, info_answer, status_answer, help_answer};
 
-use crate::plain::Plain;
+use crate::answer::{put_unavailable, put_whole, whole};
+use crate::asked::is_regular_named;
+use crate::rows::InfoRow;
+use crate::step::{Answered, PutFault};
+use dict_catalogue::Item;
+use dict_desk::{End, Lookup};
 use dict_io::{Sink, SinkFault};
 use dict_match::Strategy;
 use dict_proto::{Reply, write_reply};
@@ -21,18 +33,57 @@ fn put_replies<K: Sink>(replies: &[Reply], sink: &mut K) -> Result<(), SinkFault
     Ok(())
 }
 
-// Puts the answer to SHOW DB.
-pub(crate) fn put_databases<K: Sink>(plain: &Plain, sink: &mut K) -> Result<(), SinkFault>
-    ensures { Puts result (K.stream sink.old) (K.stream sink.new) (databases_answer plain.now) }
+// Puts what ends a list.
+pub(crate) fn put_list_end<K: Sink>(sink: &mut K) -> Result<(), SinkFault>
+    ensures { Puts result (K.stream sink.old) (K.stream sink.new) (list_end_octets ++ done_octets) }
+{
+    put_replies(&[Reply::ListEnd, Reply::Done], sink)
+}
+
+// Puts the item's name and title as a line of a list.
+fn put_item_line<K: Sink>(item: &Item, sink: &mut K) -> Result<(), SinkFault>
+    ensures { Puts result (K.stream sink.old) (K.stream sink.new) (shown_line (item_shown item.now)) }
 {
     let line = Reply::ListLine {
-        name: plain.name(),
-        text: plain.title(),
+        name: item.name(),
+        text: item.title(),
     };
-    put_replies(
-        &[Reply::DatabaseCount(1), line, Reply::ListEnd, Reply::Done],
-        sink,
-    )
+    write_reply(sink, &line)
+}
+
+// Puts the lines of the items.
+fn put_item_lines<K: Sink>(items: &[Item], sink: &mut K) -> Result<(), SinkFault>
+    ensures { Puts result (K.stream sink.old) (K.stream sink.new) (flat_map shown_line (map item_shown items.now)) }
+{
+    for item in items {
+        put_item_line(item, sink)?;
+    }
+    Ok(())
+}
+
+// Puts the answer to SHOW DB over these items.
+fn put_items<K: Sink>(items: &[Item], sink: &mut K) -> Result<(), SinkFault>
+    ensures { Puts result (K.stream sink.old) (K.stream sink.new) (items_octets (map item_shown items.now)) }
+{
+    if items.is_empty() {
+        return write_reply(sink, &Reply::NoDatabases);
+    }
+    write_reply(sink, &Reply::DatabaseCount(items.len() as u64))?;
+    put_item_lines(items, sink)?;
+    put_list_end(sink)
+}
+
+// Puts the answer to SHOW DB.
+pub(crate) fn put_databases<L: Lookup, K: Sink>(
+    desk: &L,
+    sink: &mut K,
+) -> Result<Answered, PutFault>
+    ensures { (M : Catalogue) → L.shows desk.now M → (failed : Bool) → PutsAnswer failed result (K.stream sink.old) (K.stream sink.new) (databases_answer M) true }
+{
+    match desk.summary() {
+        Ok(summary) => whole(put_items(&summary.items, sink)),
+        Err(_) => put_unavailable(sink),
+    }
 }
 
 // The line of a strategy in the answer to SHOW STRAT.
@@ -62,41 +113,127 @@ pub(crate) fn put_strategies<K: Sink>(sink: &mut K) -> Result<(), SinkFault>
     let count = Strategy::ALL.len() as u64;
     write_reply(sink, &Reply::StrategyCount(count))?;
     put_strategy_lines(sink)?;
-    put_replies(&[Reply::ListEnd, Reply::Done], sink)
+    put_list_end(sink)
 }
 
 // Puts the answer to SHOW SERVER.
-pub(crate) fn put_server<K: Sink>(host: &str, sink: &mut K) -> Result<(), SinkFault>
-    ensures { Puts result (K.stream sink.old) (K.stream sink.new) (server_answer host.now) }
+pub(crate) fn put_server<L: Lookup, K: Sink>(
+    desk: &L,
+    host: &str,
+    sink: &mut K,
+) -> Result<Answered, PutFault>
+    ensures { (M : Catalogue) → L.shows desk.now M → (failed : Bool) → PutsAnswer failed result (K.stream sink.old) (K.stream sink.new) (server_answer M host.now) true }
 {
-    put_replies(
-        &[Reply::ServerInformation { host, count: 1 }, Reply::Done],
+    match desk.summary() {
+        Ok(summary) => {
+            let count = summary.items.len() as u64;
+            let server = Reply::ServerInformation { host, count };
+            whole(put_replies(&[server, Reply::Done], sink))
+        }
+        Err(_) => put_unavailable(sink),
+    }
+}
+
+// Puts the lines of the regular items of this name.
+fn put_named<K: Sink>(items: &[Item], name: &str, sink: &mut K) -> Result<(), SinkFault>
+    ensures { Puts result (K.stream sink.old) (K.stream sink.new) (flat_map (line_if_named name.now) (map item_shown items.now)) }
+{
+    for item in items {
+        put_if_named(item, name, sink)?;
+    }
+    Ok(())
+}
+
+fn put_if_named<K: Sink>(item: &Item, name: &str, sink: &mut K) -> Result<(), SinkFault>
+    ensures { Puts result (K.stream sink.old) (K.stream sink.new) (line_if_named name.now (item_shown item.now)) }
+{
+    if is_regular_named(item, name) {
+        put_item_line(item, sink)
+    } else {
+        Ok(())
+    }
+}
+
+// Puts the lines of the regular items of these names.
+fn put_member_lines<K: Sink>(
+    items: &[Item],
+    members: &[String],
+    sink: &mut K,
+) -> Result<(), SinkFault>
+    ensures { Puts result (K.stream sink.old) (K.stream sink.new) (members_octets (map item_shown items.now) (texts_shown members.now)) }
+{
+    for member in members {
+        put_named(items, member.as_str(), sink)?;
+    }
+    Ok(())
+}
+
+// Puts the answer to SHOW INFO about a virtual item with these members.
+fn put_members<K: Sink>(
+    items: &[Item],
+    members: &[String],
+    sink: &mut K,
+) -> Result<(), SinkFault>
+    ensures { Puts result (K.stream sink.old) (K.stream sink.new) (info_heading_octets ++ (members_octets (map item_shown items.now) (texts_shown members.now) ++ (list_end_octets ++ done_octets))) }
+{
+    write_reply(sink, &Reply::InfoHeading)?;
+    put_member_lines(items, members, sink)?;
+    put_list_end(sink)
+}
+
+// Puts the answer to SHOW INFO about a regular item whose current edition has this number.
+fn put_edition<L: Lookup, K: Sink>(
+    desk: &mut L,
+    number: u64,
+    sink: &mut K,
+) -> Result<Answered, PutFault>
+    ensures value { L.is_trusted desk.new → (M : Catalogue) (edition : Edition) → L.shows desk.old M → HasEdition M number edition
+        → PutsAnswer (L.has_failed desk.new) result (K.stream sink.old) (K.stream sink.new) (info_heading_octets ++ (info_text_octets edition.info ++ done_octets)) true }
+    ensures desk { Stays L.shows L.leaves_one_of L.is_trusted desk.old desk.new }
+{
+    let mut row = InfoRow {
         sink,
-    )
+        has_begun: false,
+    };
+    match desk.info(number, &mut row) {
+        Ok(End::All) => put_whole(&Reply::Done, row.sink),
+        Ok(End::Stopped) => Err(PutFault::Sink),
+        Err(_) if row.has_begun => Err(PutFault::Desk),
+        Err(_) => put_unavailable(row.sink),
+    }
 }
 
 // Puts the answer to SHOW INFO.
-pub(crate) fn put_info<K: Sink>(plain: &Plain, name: &str, sink: &mut K) -> Result<(), SinkFault>
-    ensures { Puts result (K.stream sink.old) (K.stream sink.new) (info_answer plain.now name.now) }
+pub(crate) fn put_info<L: Lookup, K: Sink>(
+    desk: &mut L,
+    name: &str,
+    sink: &mut K,
+) -> Result<Answered, PutFault>
+    ensures value { L.is_trusted desk.new → (M : Catalogue) → L.shows desk.old M
+        → PutsAnswer (L.has_failed desk.new) result (K.stream sink.old) (K.stream sink.new) (info_answer M name.now) true }
+    ensures desk { Stays L.shows L.leaves_one_of L.is_trusted desk.old desk.new }
 {
-    if !plain.has_name(name) {
-        return write_reply(sink, &Reply::InvalidDatabase);
+    let Ok(summary) = desk.summary() else {
+        return put_unavailable(sink);
+    };
+    match summary.items.iter().find(|item| item.name() == name) {
+        None => put_whole(&Reply::InvalidDatabase, sink),
+        Some(Item::Virtual { members, .. }) => whole(put_members(&summary.items, members, sink)),
+        Some(Item::Regular { current, .. }) => {
+            let number = current.number;
+            put_edition(desk, number, sink)
+        }
     }
-    put_replies(
-        &[
-            Reply::InfoHeading,
-            Reply::InfoText(plain.info()),
-            Reply::Done,
-        ],
-        sink,
-    )
 }
 
 // Puts the answer to STATUS.
-pub(crate) fn put_status<K: Sink>(sink: &mut K) -> Result<(), SinkFault>
-    ensures { Puts result (K.stream sink.old) (K.stream sink.new) status_answer }
+pub(crate) fn put_status<L: Lookup, K: Sink>(desk: &L, sink: &mut K) -> Result<Answered, PutFault>
+    ensures { (M : Catalogue) → L.shows desk.now M → (failed : Bool) → PutsAnswer failed result (K.stream sink.old) (K.stream sink.new) (status_answer M) true }
 {
-    write_reply(sink, &Reply::Status(1))
+    match desk.summary() {
+        Ok(summary) => put_whole(&Reply::Status(summary.items.len() as u64), sink),
+        Err(_) => put_unavailable(sink),
+    }
 }
 
 // Puts the answer to HELP.

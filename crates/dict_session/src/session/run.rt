@@ -1,10 +1,13 @@
 // A session over a source and a sink.
 ghost use Rattle.dict_io.specs.Streams.{change};
+ghost use Rattle.std.specs.Prelude.{◌≡◌, Err};
+ghost use Rattle.dict_catalogue.specs.Steps.{Catalogue};
+ghost use Rattle.dict_session.specs.Desks.{Stays};
 ghost use Rattle.dict_session.specs.Run.{Ends};
 
-use crate::plain::Plain;
 use crate::session::Session;
-use crate::step::Step;
+use crate::step::{Course, Step};
+use dict_desk::Lookup;
 use dict_io::{Sink, Source};
 use std::alloc::Global;
 
@@ -24,23 +27,27 @@ pub enum SessionFault {
     Read,
     /// The writer failed.
     Write,
+    /// The desk failed after an answer's first octet.
+    Broken,
     /// The session's room was refused. Nothing was read or written.
     Memory,
 }
 
 /// Greets a client, and answers its lines up to a QUIT or to the end of its octets. `host` is the name of the server's
 /// host, and `connection` the connection's number. At most 4,096 octets are read at a time, and no more once a QUIT
-/// was answered or the writer has failed.
-pub fn run<S: Source, K: Sink>(
+/// was answered or the session is broken.
+pub fn run<S: Source, K: Sink, L: Lookup>(
     alloc: Global,
     reader: &mut S,
     writer: &mut K,
-    plain: &Plain,
+    desk: &mut L,
     host: &str,
     connection: u64,
 ) -> Result<End, SessionFault>
-    ensures { Ends plain.now host.now connection result
+    ensures answers { L.is_trusted desk.new → (M : Catalogue) → L.shows desk.old M → Ends M host.now connection (L.has_failed desk.new) result
         (change S.stream reader.old reader.new) (change K.stream writer.old writer.new) }
+    ensures desk { Stays L.shows L.leaves_one_of L.is_trusted desk.old desk.new }
+    ensures memory { result ≡ Err SessionFault.Memory → (reader.new ≡ reader.old) × (writer.new ≡ writer.old) }
 {
     let Ok(mut session) = Session::new(alloc, host, connection) else {
         return Err(SessionFault::Memory);
@@ -54,10 +61,11 @@ pub fn run<S: Source, K: Sink>(
         match reader.take(&mut room) {
             Err(_) => return Err(SessionFault::Read),
             Ok(0) => return Ok(End::InputEnd),
-            Ok(n) => match session.feed(alloc, &room[..n], plain, writer) {
-                Step::More => {}
-                Step::Quit => return Ok(End::Quit),
-                Step::Broken => return Err(SessionFault::Write),
+            Ok(n) => match session.advance(alloc, &room[..n], desk, writer) {
+                Course::More => {}
+                Course::Quit => return Ok(End::Quit),
+                Course::SinkFailed => return Err(SessionFault::Write),
+                Course::DeskFailed => return Err(SessionFault::Broken),
             },
         }
     }

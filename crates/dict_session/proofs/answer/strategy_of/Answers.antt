@@ -1,7 +1,7 @@
 use Rattle.std.proofs.Common.{Some, cond, sym, ap, ◌∙◌}
 use Rattle.dict_match.specs.StrategyText.{strategy_named}
 use Rattle.dict_match.specs.declared.strategy.Strategy.TheVariants.{Prefix}
-use Rattle.dict_session.specs.Database.{strategy_of}
+use Rattle.dict_desk.specs.Asked.{strategy_of}
 use Rattle.dict_session.proofs.answer.strategy_of.Goals as goal
 
 pub returns-then-eq : goal.returns-then-eq

@@ -1,0 +1,46 @@
+-- What a front of octets is, where the desk broke them off; and what two calls leave of the desk.
+use Rattle.std.proofs.Common.{◌≡◌, ℕ, List, [], ◌++◌, Bool, true, false, arith, length, take, refl, sym, subst, ◌∙◌, length-append}
+use Rattle.std.specs.Prelude.{Option, Result, Ok, Err}
+use Rattle.std.proofs.lemmas.List.{take-append-le, take_all}
+use Rattle.dict_io.specs.Streams.{Stream, PutsAll, PutsFront}
+use Rattle.dict_io.proofs.PutLemmas.{appends_longer, appends_after, all_after, front_after, front_longer}
+use Rattle.dict_catalogue.specs.Steps.{Catalogue}
+use Rattle.dict_session.specs.Desks.{Stays}
+use Rattle.dict_session.specs.Ending.{PutsPart, Delivers}
+use Rattle.dict_session.specs.declared.step.PutFault.{PutFault}
+use Rattle.dict_session.specs.declared.step.PutFault.TheVariants.{Sink, Desk}
+
+-- what was put whole is a front of more
+pub part_of : (a b : Stream) (xs ys : List ℕ) → PutsAll a b xs → PutsPart a b (xs ++ ys)
+part_of a b xs ys h = record {
+  front = (length xs, omega (arith, length-append xs ys), rw (take-append-le (length xs) xs ys (omega arith), take_all (length xs) xs (omega arith)) h.octets);
+  failures = h.failures;
+}
+
+pub part_longer : (a b : Stream) (xs ys : List ℕ) → PutsPart a b xs → PutsPart a b (xs ++ ys)
+part_longer a b xs ys h = record { front = appends_longer a.octets b.octets xs ys h.front; failures = h.failures }
+
+pub part_after : (a b c : Stream) (xs ys : List ℕ) → PutsAll a b xs → PutsPart b c ys → PutsPart a c (xs ++ ys)
+part_after a b c xs ys h g = record { front = appends_after a.octets b.octets c.octets xs ys h.octets g.front; failures = g.failures ∙ h.failures }
+
+-- xs was put, and then what a call puts
+pub delivers_after : {T : Type 0} (failed : Bool) (r : Result T PutFault) (a b c : Stream) (xs ys : List ℕ) → PutsAll a b xs → Delivers failed r b c ys → Delivers failed r a c (xs ++ ys)
+delivers_after failed (Ok t) a b c xs ys h p = all_after a b c xs ys h p
+delivers_after failed (Err Sink) a b c xs ys h p = front_after a b c xs ys h p
+delivers_after failed (Err Desk) a b c xs ys h p = (p.0, part_after a b c xs ys h p.1)
+
+-- where a call broke off, more octets are broken off so
+pub delivers_longer : {T U : Type 0} (failed : Bool) (fault : PutFault) (a b : Stream) (xs ys : List ℕ) → Delivers {T} failed (Err fault) a b xs → Delivers {U} failed (Err fault) a b (xs ++ ys)
+delivers_longer failed Sink a b xs ys p = front_longer a b xs ys p
+delivers_longer failed Desk a b xs ys p = (p.0, part_longer a b xs ys p.1)
+
+module _ {S : Type 0} (Shows : S → Catalogue → Type 0) (LeavesOneOf : S → List (Option Catalogue) → Type 0) (IsTrusted : S → Type 0) where
+  pub stays_same : (a : S) → Stays Shows LeavesOneOf IsTrusted a a
+  stays_same a = record { trust = λ t. t; shows = λ t m h. h; leaves = λ ms h. h }
+
+  pub stays_after : (a b c : S) → Stays Shows LeavesOneOf IsTrusted a b → Stays Shows LeavesOneOf IsTrusted b c → Stays Shows LeavesOneOf IsTrusted a c
+  stays_after a b c h k = record {
+    trust = λ t. h.trust (k.trust t);
+    shows = λ t m s. k.shows t m (h.shows (k.trust t) m s);
+    leaves = λ ms l. k.leaves ms (h.leaves ms l);
+  }

@@ -1,0 +1,108 @@
+-- What a query gives, place by place, as the code goes through them.
+use Rattle.std.specs.Prelude.{◌≡◌, ℕ, Bool, true, false, ◌==◌, length, List, [], ◌∷◌, ◌++◌, if◌then◌else◌, Option, Some, None, slice_get}
+use Rattle.std.specs.List.{flat_map}
+use Rattle.dict_match.specs.declared.strategy.Strategy.{Strategy}
+use Rattle.dict_index.specs.Edition.{Edition, Entry}
+use Rattle.dict_catalogue.specs.Items.{Item, regular, virtual, name_of}
+use Rattle.dict_catalogue.specs.Views.{title_of}
+use Rattle.dict_catalogue.specs.WellFormed.{total}
+use Rattle.dict_desk.specs.Found.{found}
+use Rattle.dict_desk.specs.Shown.{headword_rows, count_of}
+use Rattle.dict_desk.specs.Asked.{Database}
+use Rattle.dict_desk.specs.declared.lookup.What.{What}
+use Rattle.dict_desk.specs.declared.lookup.What.TheVariants.{Entries, Headwords}
+use Rattle.dict_proto.specs.Replies.{definition_count_octets, definition_octets, match_count_octets, list_line_octets, list_end_octets, info_heading_octets, info_text_octets, done_octets, no_match_octets, no_databases_octets, database_count_octets}
+use Rattle.dict_session.specs.Places.{Asking, is_regular_named}
+use Rattle.dict_session.specs.declared.query.Query.{Query}
+use Rattle.dict_session.specs.declared.found.Counted.{Counted}
+
+-- the rows that a query gives of an edition: the entries found, or their headwords
+abbrev pub rows_by : What → Strategy → List ℕ → Edition → List Entry
+rows_by Entries strategy key edition = found strategy key edition
+rows_by Headwords strategy key edition = headword_rows strategy key edition
+
+-- a row of the database with this name and title: a definition, or a line of a list
+abbrev pub row_octets : What → List ℕ → List ℕ → Entry → List ℕ
+row_octets Entries name title row = definition_octets row.headword name title row.body
+row_octets Headwords name title row = list_line_octets name row.headword
+
+-- what a query gives of a database, and how many rows these are
+abbrev pub octets_in : Query → Database → List ℕ
+octets_in query database = flat_map (row_octets query.what database.name database.edition.title) (rows_by query.what query.strategy query.key database.edition)
+
+abbrev pub count_in : Query → Database → ℕ
+count_in query database = count_of query.what query.strategy query.key database.edition
+
+-- the database at a place, if a regular item stands there
+abbrev pub regular_as : Option (Item Edition) → List Database
+regular_as None = []
+regular_as (Some (regular name current former)) = record { name = name; edition = current.content } ∷ []
+regular_as (Some (virtual name title members)) = []
+
+abbrev pub at_place : List (Item Edition) → ℕ → List Database
+at_place items place = regular_as (slice_get items place)
+
+abbrev pub octets_at : Query → List (Item Edition) → ℕ → List ℕ
+octets_at query items place = flat_map (octets_in query) (at_place items place)
+
+abbrev pub count_at : Query → List (Item Edition) → ℕ → ℕ
+count_at query items place = total (count_in query) (at_place items place)
+
+-- the first place with a count, alone, or none
+abbrev pub first_counted : (ℕ → ℕ) → List ℕ → List ℕ
+first_counted count [] = []
+first_counted count (place ∷ places) = if count place == 0 then first_counted count places else place ∷ []
+
+-- the places in which the rows of an answer stand
+abbrev pub answering : Query → List (Item Edition) → List ℕ → Bool → List ℕ
+answering query items places is_first = if is_first then first_counted (count_at query items) places else places
+
+abbrev pub count_octets : What → ℕ → List ℕ
+count_octets Entries count = definition_count_octets count
+count_octets Headwords count = match_count_octets count
+
+abbrev pub end_octets : What → List ℕ
+end_octets Entries = done_octets
+end_octets Headwords = list_end_octets ++ done_octets
+
+-- an answer with so many rows, from these places
+abbrev pub counted_octets : Query → List (Item Edition) → List ℕ → ℕ → List ℕ
+counted_octets query items places count = count_octets query.what count ++ (flat_map (octets_at query items) places ++ end_octets query.what)
+
+-- the answer, where these places are asked
+abbrev pub found_octets : Query → List (Item Edition) → List ℕ → List ℕ
+found_octets query items places =
+    if total (count_at query items) places == 0 then no_match_octets
+    else counted_octets query items places (total (count_at query items) places)
+
+-- what a database says of itself, with the line before it
+abbrev pub info_row : Entry → List ℕ
+info_row row = info_heading_octets ++ info_text_octets row.body
+
+-- some rows were begun
+abbrev pub has_some : List Entry → Bool
+has_some [] = false
+has_some (row ∷ rows) = true
+
+-- the line of an item as a summary has it
+abbrev pub shown_line : Item (List ℕ) → List ℕ
+shown_line item = list_line_octets (name_of item) (title_of item)
+
+-- the same where it is regular and has this name, and else nothing
+abbrev pub line_if_named : List ℕ → Item (List ℕ) → List ℕ
+line_if_named name item = if is_regular_named name item then shown_line item else []
+
+-- the places are these, and their rows are counted
+pub record IsCounted (query : Query) (items : List (Item Edition)) (all : List ℕ) (counted : Counted) : Type 0 where
+  pub places : counted.places.items ≡ all
+  pub count : counted.count ≡ total (count_at query items) all
+
+-- the answer to SHOW DB, over the items of a summary
+abbrev pub items_octets : List (Item (List ℕ)) → List ℕ
+items_octets items =
+    if length items == 0 then no_databases_octets
+    else database_count_octets (length items) ++ (flat_map shown_line items ++ (list_end_octets ++ done_octets))
+
+-- the lines of the regular items of these names
+abbrev pub members_octets : List (Item (List ℕ)) → List (List ℕ) → List ℕ
+members_octets items members = flat_map (λ member. flat_map (line_if_named member) items) members

@@ -1,0 +1,244 @@
+// What a query finds in the databases that are asked.
+ghost use Rattle.std.specs.Prelude.{◌≡◌, ◌≤◌, true, false, length, slice_get, IsOk, IfOk, OnOk};
+ghost use Rattle.std.specs.List.{flat_map};
+ghost use Rattle.dict_index.specs.Edition.{Edition};
+ghost use Rattle.dict_catalogue.specs.Steps.{Catalogue, summary_of};
+ghost use Rattle.dict_catalogue.specs.WellFormed.{total};
+ghost use Rattle.dict_desk.specs.Shown.{HasEdition};
+ghost use Rattle.dict_io.specs.Streams.{Puts};
+ghost use Rattle.dict_session.specs.Desks.{Stays};
+ghost use Rattle.dict_session.specs.Ending.{Delivers, PutsAnswer};
+ghost use Rattle.dict_session.specs.Places.{IsHeading};
+ghost use Rattle.dict_session.specs.Rows.{rows_by, row_octets, count_octets, end_octets, count_at, octets_at, first_counted, answering, counted_octets, found_octets, IsCounted};
+
+use crate::answer::{delivered, put_unavailable, put_whole};
+use crate::asked::{Asked, Heading, heading_at, one_place};
+use crate::query::Query;
+use crate::rows::FoundRows;
+use crate::show::put_list_end;
+use crate::step::{Answered, PutFault};
+use arrayvec::ArrayVec;
+use dict_desk::{End, Fault, Lookup, What};
+use dict_io::{Sink, SinkFault};
+use dict_proto::{Reply, write_reply};
+
+/// The places that an answer's rows come from, and how many rows there are.
+#[derive(Drop)]
+pub(crate) struct Counted {
+    pub places: ArrayVec<usize, 64>,
+    pub count: u64,
+}
+
+// The heading of the database at a place.
+fn heading_of<L: Lookup>(desk: &L, place: usize) -> Result<Option<Heading>, Fault>
+    ensures value { (M : Catalogue) → L.shows desk.now M → IfOk result (λ heading. IsHeading heading (slice_get (summary_of M).items place)) }
+    ensures open { L.is_closed desk.now ≡ false → IsOk result }
+{
+    match desk.summary() {
+        Ok(summary) => Ok(heading_at(&summary.items, place)),
+        Err(fault) => Err(fault),
+    }
+}
+
+// How many rows a query gives of the database at a place.
+fn count_at<L: Lookup>(desk: &mut L, place: usize, query: &Query) -> Result<u64, Fault>
+    ensures value { L.is_trusted desk.new → (M : Catalogue) → L.shows desk.old M → IfOk result (λ count. count ≡ count_at query.now M.items place) }
+    ensures desk { Stays L.shows L.leaves_one_of L.is_trusted desk.old desk.new }
+    ensures open { L.is_closed desk.old ≡ false → OnOk result (L.is_closed desk.new ≡ false) }
+{
+    match heading_of(desk, place) {
+        Ok(Some(heading)) => desk.count(heading.number, query.strategy, &query.key, query.what),
+        Ok(None) => Ok(0),
+        Err(fault) => Err(fault),
+    }
+}
+
+// How many rows it gives of those at all the places.
+fn count_all<L: Lookup>(desk: &mut L, places: &[usize], query: &Query) -> Result<u64, Fault>
+    ensures value { L.is_trusted desk.new → (M : Catalogue) → L.shows desk.old M → length places.now ≤ 64 → IfOk result (λ count. count ≡ total (count_at query.now M.items) places.now) }
+    ensures desk { Stays L.shows L.leaves_one_of L.is_trusted desk.old desk.new }
+    ensures open { L.is_closed desk.old ≡ false → OnOk result (L.is_closed desk.new ≡ false) }
+{
+    let mut sum = 0u64;
+    for place in places {
+        match count_at(desk, *place, query) {
+            Ok(count) => sum = sum.saturating_add(count),
+            Err(fault) => return Err(fault),
+        }
+    }
+    Ok(sum)
+}
+
+// The first place of whose database a query gives rows, and how many.
+fn count_first<L: Lookup>(desk: &mut L, places: &[usize], query: &Query) -> Result<Counted, Fault>
+    ensures value { L.is_trusted desk.new → (M : Catalogue) → L.shows desk.old M → IfOk result (IsCounted query.now M.items (first_counted (count_at query.now M.items) places.now)) }
+    ensures desk { Stays L.shows L.leaves_one_of L.is_trusted desk.old desk.new }
+    ensures open { L.is_closed desk.old ≡ false → OnOk result (L.is_closed desk.new ≡ false) }
+{
+    for place in places {
+        match count_at(desk, *place, query) {
+            Ok(0) => {}
+            Ok(count) => {
+                return Ok(Counted {
+                    places: one_place(*place),
+                    count,
+                });
+            }
+            Err(fault) => return Err(fault),
+        }
+    }
+    Ok(Counted {
+        places: ArrayVec::new(),
+        count: 0,
+    })
+}
+
+// Which of the databases asked give rows, and how many.
+fn count_asked<L: Lookup>(desk: &mut L, asked: Asked, query: &Query) -> Result<Counted, Fault>
+    ensures value { L.is_trusted desk.new → (M : Catalogue) → L.shows desk.old M → length asked.places.items ≤ 64 → IfOk result (IsCounted query.now M.items (answering query.now M.items asked.places.items asked.is_first)) }
+    ensures desk { Stays L.shows L.leaves_one_of L.is_trusted desk.old desk.new }
+    ensures open { L.is_closed desk.old ≡ false → OnOk result (L.is_closed desk.new ≡ false) }
+{
+    let Asked { places, is_first } = asked;
+    if is_first {
+        return count_first(desk, places.as_slice(), query);
+    }
+    match count_all(desk, places.as_slice(), query) {
+        Ok(count) => Ok(Counted { places, count }),
+        Err(fault) => Err(fault),
+    }
+}
+
+// Puts the rows that a query gives of the edition under a heading.
+fn put_rows<L: Lookup, K: Sink>(
+    desk: &mut L,
+    heading: &Heading,
+    query: &Query,
+    sink: &mut K,
+) -> Result<(), PutFault>
+    ensures value { L.is_trusted desk.new → (M : Catalogue) (edition : Edition) → L.shows desk.old M → HasEdition M heading.now.number edition
+        → Delivers (L.has_failed desk.new) result (K.stream sink.old) (K.stream sink.new)
+            (flat_map (row_octets query.now.what heading.now.name.bytes heading.now.title.bytes) (rows_by query.now.what query.now.strategy query.now.key edition)) }
+    ensures desk { Stays L.shows L.leaves_one_of L.is_trusted desk.old desk.new }
+    ensures open { L.is_closed desk.old ≡ false → OnOk result (L.is_closed desk.new ≡ false) }
+{
+    let mut rows = FoundRows {
+        sink,
+        what: query.what,
+        heading,
+    };
+    let end = match query.what {
+        What::Entries => desk.find(heading.number, query.strategy, &query.key, &mut rows),
+        What::Headwords => desk.heads(heading.number, query.strategy, &query.key, &mut rows),
+    };
+    match end {
+        Ok(End::All) => Ok(()),
+        Ok(End::Stopped) => Err(PutFault::Sink),
+        Err(_) => Err(PutFault::Desk),
+    }
+}
+
+// Puts the rows that it gives of the database at a place.
+fn put_at<L: Lookup, K: Sink>(
+    desk: &mut L,
+    place: usize,
+    query: &Query,
+    sink: &mut K,
+) -> Result<(), PutFault>
+    requires { L.is_closed desk.old ≡ false }
+    ensures value { L.is_trusted desk.new → (M : Catalogue) → L.shows desk.old M
+        → Delivers (L.has_failed desk.new) result (K.stream sink.old) (K.stream sink.new) (octets_at query.now M.items place) }
+    ensures desk { Stays L.shows L.leaves_one_of L.is_trusted desk.old desk.new }
+    ensures open { OnOk result (L.is_closed desk.new ≡ false) }
+{
+    match heading_of(desk, place) {
+        Ok(Some(heading)) => put_rows(desk, &heading, query, sink),
+        Ok(None) => Ok(()),
+        // The desk is open, and answers its summary.
+        Err(_) => unreachable!(),
+    }
+}
+
+// Puts the rows that it gives of those at the places.
+fn put_places<L: Lookup, K: Sink>(
+    desk: &mut L,
+    places: &[usize],
+    query: &Query,
+    sink: &mut K,
+) -> Result<(), PutFault>
+    requires { L.is_closed desk.old ≡ false }
+    ensures value { L.is_trusted desk.new → (M : Catalogue) → L.shows desk.old M
+        → Delivers (L.has_failed desk.new) result (K.stream sink.old) (K.stream sink.new) (flat_map (octets_at query.now M.items) places.now) }
+    ensures desk { Stays L.shows L.leaves_one_of L.is_trusted desk.old desk.new }
+{
+    for place in places {
+        match put_at(desk, *place, query, sink) {
+            Ok(()) => {}
+            Err(fault) => return Err(fault),
+        }
+    }
+    Ok(())
+}
+
+// Puts the line that tells how many rows follow.
+fn put_count<K: Sink>(what: What, count: u64, sink: &mut K) -> Result<(), SinkFault>
+    ensures { Puts result (K.stream sink.old) (K.stream sink.new) (count_octets what count) }
+{
+    match what {
+        What::Entries => write_reply(sink, &Reply::DefinitionCount(count)),
+        What::Headwords => write_reply(sink, &Reply::MatchCount(count)),
+    }
+}
+
+// Puts what follows the rows.
+fn put_end<K: Sink>(what: What, sink: &mut K) -> Result<(), SinkFault>
+    ensures { Puts result (K.stream sink.old) (K.stream sink.new) (end_octets what) }
+{
+    match what {
+        What::Entries => write_reply(sink, &Reply::Done),
+        What::Headwords => put_list_end(sink),
+    }
+}
+
+// Puts an answer of so many rows, from these places.
+fn put_counted<L: Lookup, K: Sink>(
+    desk: &mut L,
+    counted: &Counted,
+    query: &Query,
+    sink: &mut K,
+) -> Result<(), PutFault>
+    requires { L.is_closed desk.old ≡ false }
+    ensures value { L.is_trusted desk.new → (M : Catalogue) → L.shows desk.old M
+        → Delivers (L.has_failed desk.new) result (K.stream sink.old) (K.stream sink.new) (counted_octets query.now M.items counted.now.places.items counted.now.count) }
+    ensures desk { Stays L.shows L.leaves_one_of L.is_trusted desk.old desk.new }
+{
+    if put_count(query.what, counted.count, sink).is_err() {
+        return Err(PutFault::Sink);
+    }
+    put_places(desk, counted.places.as_slice(), query, sink)?;
+    match put_end(query.what, sink) {
+        Ok(()) => Ok(()),
+        Err(_) => Err(PutFault::Sink),
+    }
+}
+
+// Puts what a query finds in the databases that are asked.
+pub(crate) fn put_found<L: Lookup, K: Sink>(
+    desk: &mut L,
+    asked: Asked,
+    query: &Query,
+    sink: &mut K,
+) -> Result<Answered, PutFault>
+    requires { L.is_closed desk.old ≡ false }
+    ensures value { L.is_trusted desk.new → (M : Catalogue) → L.shows desk.old M → length asked.places.items ≤ 64
+        → PutsAnswer (L.has_failed desk.new) result (K.stream sink.old) (K.stream sink.new) (found_octets query.now M.items (answering query.now M.items asked.places.items asked.is_first)) true }
+    ensures desk { Stays L.shows L.leaves_one_of L.is_trusted desk.old desk.new }
+{
+    let Ok(counted) = count_asked(desk, asked, query) else {
+        return put_unavailable(sink);
+    };
+    if counted.count == 0 {
+        return put_whole(&Reply::NoMatch, sink);
+    }
+    delivered(put_counted(desk, &counted, query, sink))
+}
