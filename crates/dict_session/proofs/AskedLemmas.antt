@@ -12,7 +12,9 @@ use Rattle.dict_catalogue.specs.WellFormed.{IsWellFormed, IsEachOnce, IsLawfulIt
 use Rattle.dict_desk.specs.Asked.{Database, databases, databases_named, asked_by, first_finding, searched}
 use Rattle.dict_match.specs.declared.strategy.Strategy.{Strategy}
 use Rattle.dict_session.specs.Places.{places_from, places_named, places_by, places_under, asked_in, is_regular_named, Asking}
-use Rattle.dict_session.specs.Rows.{at_place, regular_as}
+use Rattle.dict_session.specs.Rows.{at_place, regular_as, answering, first_counted, count_at}
+use Rattle.dict_session.specs.declared.query.Query.{Query}
+use Rattle.dict_session.proofs.FoundLemmas.{at_places, first_over}
 
 -- ---- a summary asks as its catalogue does, since only names and kinds of items are looked at
 
@@ -66,15 +68,14 @@ module _ {A B : Type 0} (f : A → B) where
 
 -- ---- what stands at the places
 
--- the databases at places, one after the other
-abbrev pub at_places : List (Item Edition) → List ℕ → List Database
-at_places items places = flat_map (at_place items) places
-
 tail_of : {X : Type 0} (all : List X) (n : ℕ) (x : X) (xs : List X) → x ∷ xs ≡ drop n all → (slice_get all n ≡ Some x) × (xs ≡ drop (n + 1) all)
 tail_of [] zero x xs e = cc
 tail_of [] (suc n) x xs e = cc
 tail_of (y ∷ all) zero x xs e = (cc, cc)
-tail_of (y ∷ all) (suc n) x xs e = tail_of all n x xs e
+tail_of (y ∷ all) (suc n) x xs e =
+    let later = tail_of all n x xs e in
+    let same : suc (n + 1) ≡ suc n + 1 = omega arith in
+    (later.0, later.1 ∙ ap (λ k. drop k (y ∷ all)) same)
 
 -- the regular items of a list that pass a test of items
 abbrev those : (Item Edition → Bool) → List (Item Edition) → List Database
@@ -149,3 +150,76 @@ under_stands all word n (item ∷ items) e =
         → option_map (at_places all) (if b then Some (places_by all n item) else places_under all word (n + 1) items) ≡ option_map (asked_by all) (if b then Some item else find (is_named word) items)
     by_test true e f = ap Some e
     by_test false e f = f
+
+-- ---- there is room for the places
+
+places_few : {X : Type 0} (test : X → Bool) (n : ℕ) (xs : List X) → length (places_from test n xs) ≤ length xs
+places_few test n [] = omega arith
+places_few test n (x ∷ xs) = by_test (test x) (places_few test (n + 1) xs)
+  where
+    by_test : (b : Bool) → length (places_from test (n + 1) xs) ≤ length xs → length (if b then n ∷ places_from test (n + 1) xs else places_from test (n + 1) xs) ≤ suc (length xs)
+    by_test true h = omega (arith, h)
+    by_test false h = omega (arith, h)
+
+named_few : (word : List ℕ) (n : ℕ) (items : List (Item Edition)) → length (places_from (is_regular_named word) n items) ≤ how_many (λ one. bytes_eq one word) (map name_of items)
+named_few word n [] = omega arith
+named_few word n (item ∷ items) = by_test (is_named word item) (is_regular item) (named_few word (n + 1) items)
+  where
+    by_test : (a b : Bool) → length (places_from (is_regular_named word) (n + 1) items) ≤ how_many (λ one. bytes_eq one word) (map name_of items)
+        → length (if a && b then n ∷ places_from (is_regular_named word) (n + 1) items else places_from (is_regular_named word) (n + 1) items) ≤ (if a then 1 else 0) + how_many (λ one. bytes_eq one word) (map name_of items)
+    by_test true true h = omega (arith, h)
+    by_test true false h = omega (arith, h)
+    by_test false b h = omega (arith, h)
+
+members_few : (items : List (Item Edition)) → IsEachOnce (map name_of items) → (members : List (List ℕ)) → length (flat_map (places_named items) members) ≤ length members
+members_few items once [] = omega arith
+members_few items once (member ∷ members) =
+    omega (arith, length-append (places_named items member) (flat_map (places_named items) members), named_few member 0 items, once member, members_few items once members)
+
+by_few : (items : List (Item Edition)) (n : ℕ) (item : Item Edition) → IsEachOnce (map name_of items) → IsLawfulItem item → length (places_by items n item) ≤ 64
+by_few items n (regular name current former) once lawful = omega arith
+by_few items n (virtual name title members) once lawful = omega (arith, members_few items once members, lawful.3)
+
+under_few : (all : List (Item Edition)) (word : List ℕ) (n : ℕ) (items : List (Item Edition)) (places : List ℕ) → IsEachOnce (map name_of all) → AllByRecursion IsLawfulItem items
+    → places_under all word n items ≡ Some places → length places ≤ 64
+under_few all word n [] places once lawful e = cc
+under_few all word n (item ∷ items) places once lawful e = by_test (is_named word item) (under_few all word (n + 1) items places once lawful.1) e
+  where
+    by_test : (b : Bool) → (places_under all word (n + 1) items ≡ Some places → length places ≤ 64) → (if b then Some (places_by all n item) else places_under all word (n + 1) items) ≡ Some places → length places ≤ 64
+    by_test true later e = let same : places_by all n item ≡ places = cc in subst (λ (l : List ℕ). length l ≤ 64) same (by_few all n item once lawful.0)
+    by_test false later e = later e
+
+pub asked_few : (M : Catalogue) (word : List ℕ) (asking : Asking) → IsWellFormed M → asked_in M.items word ≡ Some asking → length asking.places ≤ 64
+asked_few M word asking w e = by_tests (bytes_eq word (codes "*")) (bytes_eq word (codes "!")) (places_under M.items word 0 M.items) refl e
+  where
+    all : List ℕ
+    all = places_from is_regular 0 M.items
+    all_few : length all ≤ 64
+    all_few = omega (arith, places_few is_regular 0 M.items, w.item_limit)
+    by_tests : (a b : Bool) (o : Option (List ℕ)) → places_under M.items word 0 M.items ≡ o
+        → (if a then Some (record { places = all; is_first = false }) else if b then Some (record { places = all; is_first = true }) else option_map (λ (places : List ℕ). let made : Asking = record { places = places; is_first = false } in made) o) ≡ Some asking
+        → length asking.places ≤ 64
+    by_tests true b o is e = let same : all ≡ asking.places = cc in subst (λ (l : List ℕ). length l ≤ 64) same all_few
+    by_tests false true o is e = let same : all ≡ asking.places = cc in subst (λ (l : List ℕ). length l ≤ 64) same all_few
+    by_tests false false None is e = cc
+    by_tests false false (Some places) is e = let same : places ≡ asking.places = cc in subst (λ (l : List ℕ). length l ≤ 64) same (under_few M.items word 0 M.items places w.names w.items is)
+
+-- ---- the databases that a word asks
+
+pub searched_are : (M : Catalogue) (word : List ℕ) (query : Query) → searched M word query.strategy query.key
+    ≡ option_map (λ (asking : Asking). at_places M.items (answering query M.items asking.places asking.is_first)) (asked_in M.items word)
+unfolding searched
+searched_are M word query = by_tests (bytes_eq word (codes "*")) (bytes_eq word (codes "!"))
+  where
+    all : List ℕ
+    all = places_from is_regular 0 M.items
+    given : Asking → List Database
+    given asking = at_places M.items (answering query M.items asking.places asking.is_first)
+    named : (o : Option (List ℕ)) → option_map (at_places M.items) o ≡ option_map given (option_map (λ (places : List ℕ). let made : Asking = record { places = places; is_first = false } in made) o)
+    named None = refl
+    named (Some places) = refl
+    by_tests : (a b : Bool) → (if a then Some (databases M.items) else if b then Some (first_finding query.strategy query.key (databases M.items)) else option_map (asked_by M.items) (find (is_named word) M.items))
+        ≡ option_map given (if a then Some (record { places = all; is_first = false }) else if b then Some (record { places = all; is_first = true }) else option_map (λ (places : List ℕ). let made : Asking = record { places = places; is_first = false } in made) (places_under M.items word 0 M.items))
+    by_tests true b = ap Some (sym (all_stand M.items))
+    by_tests false true = ap Some (ap (first_finding query.strategy query.key) (sym (all_stand M.items)) ∙ sym (first_over query M.items all))
+    by_tests false false = sym (under_stands M.items word 0 M.items refl) ∙ named (places_under M.items word 0 M.items)

@@ -1,12 +1,12 @@
 -- What a front of octets is, where the desk broke them off; and what two calls leave of the desk.
 use Rattle.std.proofs.Common.{◌≡◌, ℕ, List, [], ◌++◌, Bool, true, false, arith, length, take, refl, sym, subst, ◌∙◌, length-append}
-use Rattle.std.specs.Prelude.{Option, Result, Ok, Err}
+use Rattle.std.specs.Prelude.{Option}
 use Rattle.std.proofs.lemmas.List.{take-append-le, take_all}
 use Rattle.dict_io.specs.Streams.{Stream, PutsAll, PutsFront}
 use Rattle.dict_io.proofs.PutLemmas.{appends_longer, appends_after, all_after, front_after, front_longer}
 use Rattle.dict_catalogue.specs.Steps.{Catalogue}
 use Rattle.dict_session.specs.Desks.{Stays}
-use Rattle.dict_session.specs.Ending.{PutsPart, Delivers}
+use Rattle.dict_session.specs.Ending.{PutsPart, Breaks}
 use Rattle.dict_session.specs.declared.step.PutFault.{PutFault}
 use Rattle.dict_session.specs.declared.step.PutFault.TheVariants.{Sink, Desk}
 
@@ -23,16 +23,14 @@ part_longer a b xs ys h = record { front = appends_longer a.octets b.octets xs y
 pub part_after : (a b c : Stream) (xs ys : List ℕ) → PutsAll a b xs → PutsPart b c ys → PutsPart a c (xs ++ ys)
 part_after a b c xs ys h g = record { front = appends_after a.octets b.octets c.octets xs ys h.octets g.front; failures = g.failures ∙ h.failures }
 
--- xs was put, and then what a call puts
-pub delivers_after : {T : Type 0} (failed : Bool) (r : Result T PutFault) (a b c : Stream) (xs ys : List ℕ) → PutsAll a b xs → Delivers failed r b c ys → Delivers failed r a c (xs ++ ys)
-delivers_after failed (Ok t) a b c xs ys h p = all_after a b c xs ys h p
-delivers_after failed (Err Sink) a b c xs ys h p = front_after a b c xs ys h p
-delivers_after failed (Err Desk) a b c xs ys h p = (p.0, part_after a b c xs ys h p.1)
+-- xs was put, and then a front of ys
+pub breaks_after : (failed : Bool) (fault : PutFault) (a b c : Stream) (xs ys : List ℕ) → PutsAll a b xs → Breaks failed fault b c ys → Breaks failed fault a c (xs ++ ys)
+breaks_after failed Sink a b c xs ys h p = front_after a b c xs ys h p
+breaks_after failed Desk a b c xs ys h p = (p.0, part_after a b c xs ys h p.1)
 
--- where a call broke off, more octets are broken off so
-pub delivers_longer : {T U : Type 0} (failed : Bool) (fault : PutFault) (a b : Stream) (xs ys : List ℕ) → Delivers {T} failed (Err fault) a b xs → Delivers {U} failed (Err fault) a b (xs ++ ys)
-delivers_longer failed Sink a b xs ys p = front_longer a b xs ys p
-delivers_longer failed Desk a b xs ys p = (p.0, part_longer a b xs ys p.1)
+pub breaks_longer : (failed : Bool) (fault : PutFault) (a b : Stream) (xs ys : List ℕ) → Breaks failed fault a b xs → Breaks failed fault a b (xs ++ ys)
+breaks_longer failed Sink a b xs ys p = front_longer a b xs ys p
+breaks_longer failed Desk a b xs ys p = (p.0, part_longer a b xs ys p.1)
 
 module _ {S : Type 0} (Shows : S → Catalogue → Type 0) (LeavesOneOf : S → List (Option Catalogue) → Type 0) (IsTrusted : S → Type 0) where
   pub stays_same : (a : S) → Stays Shows LeavesOneOf IsTrusted a a

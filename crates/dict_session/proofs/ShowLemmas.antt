@@ -1,35 +1,174 @@
--- The answers to SHOW, STATUS and HELP as replies, one after the other.
-use Rattle.std.proofs.Common.{◌≡◌, ℕ, List, [], ◌∷◌, ◌++◌, Bor, true, false, refl, sym, ap, ◌∙◌, append-nil, append_assoc}
+-- The answers to SHOW, STATUS and HELP as replies, one after the other, and over a catalogue's summary.
+use Rattle.std.proofs.Common.{◌≡◌, ◌≢◌, ℕ, suc, List, [], ◌∷◌, ◌++◌, Bor, Bool, true, false, ◌||◌, ◌&&◌, refl, sym, ap, ◌∙◌, append-nil, append_assoc, length, map, arith, subst, cond}
+use Rattle.std.specs.Prelude.{Option, None, Some, find, option_map, ◌==◌, filter, Contains, if◌then◌else◌}
 use Rattle.std.specs.List.{flat_map}
 use Rattle.std.specs.Str.{bytes_eq}
+use Rattle.std.proofs.lemmas.Bool.Decides.{nat_tests}
+use Rattle.std.proofs.lemmas.List.{length-map}
+use Rattle.std.proofs.lemmas.List.Concat.{flat_map-append}
+use Rattle.dict_io.specs.Streams.{Stream, PutsAll}
+use Rattle.dict_index.specs.Edition.{Edition, Entry}
+use Rattle.dict_catalogue.specs.Items.{Item, Stored, regular, virtual, name_of, is_named, is_regular, item_as, editions_of}
+use Rattle.dict_catalogue.specs.Steps.{Catalogue, summary_of}
+use Rattle.dict_desk.specs.Asked.{Database, databases, databases_named}
+use Rattle.dict_desk.specs.Shown.{HasEdition, info_rows}
 use Rattle.dict_proto.specs.declared.reply.Reply.{Reply}
-use Rattle.dict_proto.specs.declared.reply.Reply.TheVariants.{DatabaseCount, ListLine, ListEnd, InfoHeading, InfoText, Help, ServerInformation, Done}
-use Rattle.dict_proto.specs.Replies.{reply_octets, list_end_octets, done_octets, invalid_database_octets}
-use Rattle.dict_session.specs.Database.{Database}
-use Rattle.dict_session.specs.Shows.{databases_answer, server_answer, info_answer, help_answer}
-
-pub databases_are : (database : Database) (name title : Bor (List ℕ)) → name.now ≡ database.name → title.now ≡ database.edition.title
-    → flat_map reply_octets (DatabaseCount 1 ∷ ListLine name title ∷ ListEnd ∷ Done ∷ []) ≡ databases_answer database
-unfolding databases_answer
-databases_are database name title n t = rw (n, t, append-nil done_octets) refl
+use Rattle.dict_proto.specs.declared.reply.Reply.TheVariants.{ListEnd, Help, ServerInformation, Done}
+use Rattle.dict_proto.specs.Replies.{reply_octets, list_end_octets, done_octets, invalid_database_octets, info_heading_octets, info_text_octets, no_databases_octets, database_count_octets}
+use Rattle.dict_session.specs.Ending.{PutsPart}
+use Rattle.dict_session.specs.Rows.{shown_line, line_if_named, items_octets, members_octets, info_row, has_some}
+use Rattle.dict_session.specs.Places.{is_regular_named}
+use Rattle.dict_session.specs.Shows.{databases_answer, items_answer, item_line, server_answer, info_answer, info_found, info_of, database_line, status_answer, help_answer}
+use Rattle.dict_session.proofs.PartLemmas.{part_of}
+use Rattle.dict_session.proofs.AskedLemmas.{named_as, regular_named_as}
 
 pub help_is : flat_map reply_octets (Help ∷ Done ∷ []) ≡ help_answer
 unfolding help_answer
 help_is = rw (append-nil done_octets) refl
 
-pub info_is : (database : Database) (name : List ℕ) (info : Bor (List ℕ)) → bytes_eq name database.name ≡ true → info.now ≡ database.edition.info
-    → flat_map reply_octets (InfoHeading ∷ InfoText info ∷ Done ∷ []) ≡ info_answer database name
-unfolding info_answer
-info_is database name info same i = rw (same, i, append-nil done_octets) refl
-
-pub info_unknown : (database : Database) (name : List ℕ) → bytes_eq name database.name ≡ false → invalid_database_octets ≡ info_answer database name
-unfolding info_answer
-info_unknown database name other = rw other refl
-
 -- what ends a list
 pub end_is : flat_map reply_octets (ListEnd ∷ Done ∷ []) ≡ list_end_octets ++ done_octets
 end_is = ap (λ l. list_end_octets ++ l) (append-nil done_octets)
 
-pub server_is : (host : Bor (List ℕ)) → flat_map reply_octets (ServerInformation host 1 ∷ Done ∷ []) ≡ server_answer host.now
-unfolding server_answer
-server_is host = rw (append-nil done_octets) refl
+-- ---- a summary's items and its catalogue's
+
+abbrev pub title_alone : Edition → List ℕ
+title_alone edition = edition.title
+
+abbrev pub titled : Item Edition → Item (List ℕ)
+titled item = item_as title_alone item
+
+line_as : (item : Item Edition) → shown_line (titled item) ≡ item_line item
+line_as (regular name current former) = refl
+line_as (virtual name title members) = refl
+
+lines_as : (items : List (Item Edition)) → flat_map shown_line (map titled items) ≡ flat_map item_line items
+lines_as [] = refl
+lines_as (item ∷ items) = ap (λ l. l ++ flat_map shown_line (map titled items)) (line_as item) ∙ ap (λ l. item_line item ++ l) (lines_as items)
+
+pub items_as : (items : List (Item Edition)) → items_octets (map titled items) ≡ items_answer items
+items_as items =
+    ap (λ (n : ℕ). if n == 0 then no_databases_octets else database_count_octets n ++ (flat_map shown_line (map titled items) ++ (list_end_octets ++ done_octets))) (length-map items titled)
+    ∙ ap (λ (l : List ℕ). if length items == 0 then no_databases_octets else database_count_octets (length items) ++ (l ++ (list_end_octets ++ done_octets))) (lines_as items)
+
+pub databases_are : (M : Catalogue) (items : List (Item (List ℕ))) → items ≡ (summary_of M).items → items_octets items ≡ databases_answer M
+unfolding databases_answer
+databases_are M items e = ap items_octets e ∙ items_as M.items
+
+pub count_as : (M : Catalogue) (items : List (Item (List ℕ))) → items ≡ (summary_of M).items → length items ≡ length M.items
+count_as M items e = ap length e ∙ length-map M.items titled
+
+-- the lines of the regular items of one name
+named_lines : (member : List ℕ) (items : List (Item Edition)) → flat_map (line_if_named member) (map titled items) ≡ flat_map database_line (databases_named items member)
+named_lines member [] = refl
+named_lines member (virtual name title members ∷ items) = by_test (bytes_eq name member) (named_lines member items)
+  where
+    by_test : (b : Bool) → flat_map (line_if_named member) (map titled items) ≡ flat_map database_line (databases_named items member)
+        → (if b && false then shown_line (virtual name title members) else []) ++ flat_map (line_if_named member) (map titled items) ≡ flat_map database_line (databases_named items member)
+    by_test true e = e
+    by_test false e = e
+named_lines member (regular name current former ∷ items) = by_test (bytes_eq name member) (named_lines member items)
+  where
+    here : Database
+    here = record { name = name; edition = current.content }
+    by_test : (b : Bool) → flat_map (line_if_named member) (map titled items) ≡ flat_map database_line (databases_named items member)
+        → (if b && true then shown_line (titled (regular name current former)) else []) ++ flat_map (line_if_named member) (map titled items)
+        ≡ flat_map database_line (if b then here ∷ databases_named items member else databases_named items member)
+    by_test true e = ap (λ l. database_line here ++ l) e
+    by_test false e = e
+
+pub members_are : (items : List (Item Edition)) (members : List (List ℕ)) → members_octets (map titled items) members ≡ flat_map database_line (flat_map (databases_named items) members)
+members_are items [] = refl
+members_are items (member ∷ members) =
+    ap (λ l. l ++ members_octets (map titled items) members) (named_lines member items)
+    ∙ (ap (λ l. flat_map database_line (databases_named items member) ++ l) (members_are items members)
+    ∙ sym (flat_map-append database_line (databases_named items member) (flat_map (databases_named items) members)))
+
+-- ---- SHOW INFO
+
+found_as : (name : List ℕ) (items : List (Item Edition)) → find (is_named name) (map titled items) ≡ option_map titled (find (is_named name) items)
+found_as name [] = refl
+found_as name (item ∷ items) = by_test (is_named name item) (named_as title_alone name item) (found_as name items)
+  where
+    by_test : (b : Bool) → is_named name (titled item) ≡ b → find (is_named name) (map titled items) ≡ option_map titled (find (is_named name) items)
+        → (if is_named name (titled item) then Some (titled item) else find (is_named name) (map titled items)) ≡ option_map titled (if b then Some item else find (is_named name) items)
+    by_test true e f = ap (λ t. if t then Some (titled item) else find (is_named name) (map titled items)) e
+    by_test false e f = ap (λ t. if t then Some (titled item) else find (is_named name) (map titled items)) e ∙ f
+
+found_stands : (test : Item Edition → Bool) (items : List (Item Edition)) (item : Item Edition) → find test items ≡ Some item → Contains items item
+found_stands test [] item e = cc
+found_stands test (x ∷ items) item e = by_test (test x) (found_stands test items item) e
+  where
+    by_test : (b : Bool) → (find test items ≡ Some item → Contains items item) → (if b then Some x else find test items) ≡ Some item → Contains (x ∷ items) item
+    by_test true later e = (0, omega arith, cc)
+    by_test false later e = let (k, below, is) = later e in (suc k, omega (arith, below), is)
+
+current_stored : (name : List ℕ) (current : Stored Edition) (former : Option (Stored Edition)) → Contains (editions_of (regular name current former)) current
+current_stored name current None = (0, omega arith, refl)
+current_stored name current (Some other) = (0, omega arith, refl)
+
+module _ (M : Catalogue) (name : List ℕ) (items : List (Item (List ℕ))) (e : items ≡ (summary_of M).items) where
+  found_in : (o : Option (Item (List ℕ))) → o ≡ find (is_named name) items → o ≡ option_map titled (find (is_named name) M.items)
+  found_in o is = is ∙ (ap (find (is_named name)) e ∙ found_as name M.items)
+
+  pub info_unknown : None ≡ find (is_named name) items → invalid_database_octets ≡ info_answer M name
+  unfolding info_answer
+  info_unknown is = by_item (find (is_named name) M.items) (found_in None is)
+    where
+      by_item : (o : Option (Item Edition)) → None ≡ option_map titled o → invalid_database_octets ≡ info_found M.items o
+      by_item None e = refl
+      by_item (Some item) e = cc
+
+  pub info_virtual : (own title : List ℕ) (members : List (List ℕ)) → Some (virtual own title members) ≡ find (is_named name) items
+      → info_heading_octets ++ (members_octets items members ++ (list_end_octets ++ done_octets)) ≡ info_answer M name
+  unfolding info_answer
+  info_virtual own title members is = by_item (find (is_named name) M.items) (found_in (Some (virtual own title members)) is)
+    where
+      by_item : (o : Option (Item Edition)) → Some (virtual own title members) ≡ option_map titled o → info_heading_octets ++ (members_octets items members ++ (list_end_octets ++ done_octets)) ≡ info_found M.items o
+      by_item None e = cc
+      by_item (Some (regular other current former)) e = cc
+      by_item (Some (virtual other other_title others)) f =
+          let same : members ≡ others = cc in
+          ap (λ (l : List ℕ). info_heading_octets ++ l) (ap (λ (l : List ℕ). l ++ (list_end_octets ++ done_octets)) (ap (λ (xs : List (Item (List ℕ))). members_octets xs members) e ∙ (members_are M.items members ∙ ap (λ (ms : List (List ℕ)). flat_map database_line (flat_map (databases_named M.items) ms)) same))
+          ∙ sym (append_assoc (flat_map database_line (flat_map (databases_named M.items) others)) list_end_octets done_octets))
+
+  -- the edition that SHOW INFO tells of
+  abbrev pub HasInfo : ℕ → Type 0
+  HasInfo number = (edition : Edition) × HasEdition M number edition × (info_heading_octets ++ (info_text_octets edition.info ++ done_octets) ≡ info_answer M name)
+
+  pub info_regular : (own : List ℕ) (current : Stored (List ℕ)) (former : Option (Stored (List ℕ))) → Some (regular own current former) ≡ find (is_named name) items → HasInfo current.number
+  unfolding info_answer
+  info_regular own current former is = by_item (find (is_named name) M.items) refl (found_in (Some (regular own current former)) is)
+    where
+      by_item : (o : Option (Item Edition)) → find (is_named name) M.items ≡ o → Some (regular own current former) ≡ option_map titled o
+          → (edition : Edition) × HasEdition M current.number edition × (info_heading_octets ++ (info_text_octets edition.info ++ done_octets) ≡ info_found M.items (find (is_named name) M.items))
+      by_item None f g = cc
+      by_item (Some (virtual other title members)) f g = cc
+      by_item (Some (regular other stored before)) f g =
+          let same : current.number ≡ stored.number = cc in (
+            stored.content,
+            subst (λ (n : ℕ). HasEdition M n stored.content) (sym same) (record {
+              item = regular other stored before;
+              stands = found_stands (is_named name) M.items (regular other stored before) f;
+              stored = current_stored other stored before;
+            }),
+            sym (ap (info_found M.items) f),
+          )
+
+-- ---- the row of SHOW INFO
+
+pub row_is : (edition : Edition) → flat_map info_row (info_rows edition) ++ done_octets ≡ info_heading_octets ++ (info_text_octets edition.info ++ done_octets)
+row_is edition =
+    ap (λ (l : List ℕ). l ++ done_octets) (append-nil (info_heading_octets ++ info_text_octets edition.info)) ∙ append_assoc info_heading_octets (info_text_octets edition.info) done_octets
+
+-- a front of the row that was begun, or nothing
+pub part_of_row : (a b : Stream) (edition : Edition) (front rest : List Entry) → info_rows edition ≡ front ++ rest → PutsAll a b (flat_map info_row front)
+    → PutsPart a b (info_heading_octets ++ (info_text_octets edition.info ++ done_octets))
+part_of_row a b edition front rest e h =
+    subst (PutsPart a b) (sym (append_assoc (flat_map info_row front) (flat_map info_row rest) done_octets)
+    ∙ (ap (λ (l : List ℕ). l ++ done_octets) (sym (flat_map-append info_row front rest) ∙ sym (ap (flat_map info_row) e)) ∙ row_is edition))
+    (part_of a b (flat_map info_row front) (flat_map info_row rest ++ done_octets) h)
+
+pub none_begun : (a b : Stream) (front : List Entry) → false ≡ has_some front → PutsAll a b (flat_map info_row front) → PutsAll a b []
+none_begun a b [] e h = h
+none_begun a b (row ∷ front) e h = cc

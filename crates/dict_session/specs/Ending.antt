@@ -19,12 +19,15 @@ pub record PutsPart (old new : Stream) (octets : List ℕ) : Type 0 where
   pub front : AppendsFront old.octets new.octets octets
   pub failures : new.failures ≡ old.failures
 
--- these octets were put; or the sink failed, and a front of them was put; or the desk did, of whose last call `failed`
--- tells it, and so
+-- the sink failed, and a front of these octets was put; or the desk did, of whose last call `failed` tells it, and so
+abbrev pub Breaks : Bool → PutFault → Stream → Stream → List ℕ → Type 0
+Breaks failed Sink old new octets = PutsFront old new octets
+Breaks failed Desk old new octets = (failed ≡ true) × PutsPart old new octets
+
+-- these octets were put, or broken off
 abbrev pub Delivers : {T : Type 0} → Bool → Result T PutFault → Stream → Stream → List ℕ → Type 0
 Delivers failed (Ok done) old new octets = PutsAll old new octets
-Delivers failed (Err Sink) old new octets = PutsFront old new octets
-Delivers failed (Err Desk) old new octets = (failed ≡ true) × PutsPart old new octets
+Delivers failed (Err fault) old new octets = Breaks failed fault old new octets
 
 -- the answer was put, or where it may be unavailable the 420 line in its place, or where the sink or the desk failed a
 -- front

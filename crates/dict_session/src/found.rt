@@ -1,10 +1,11 @@
 // What a query finds in the databases that are asked.
-ghost use Rattle.std.specs.Prelude.{◌≡◌, ◌≤◌, true, false, length, slice_get, IsOk, IfOk, OnOk};
+ghost use Rattle.std.specs.Prelude.{◌≡◌, ◌≤◌, List, true, false, length, slice_get, IsOk, IfOk, OnOk, OnErr};
 ghost use Rattle.std.specs.List.{flat_map};
-ghost use Rattle.dict_index.specs.Edition.{Edition};
+ghost use Rattle.dict_index.specs.Edition.{Edition, Entry};
 ghost use Rattle.dict_catalogue.specs.Steps.{Catalogue, summary_of};
 ghost use Rattle.dict_catalogue.specs.WellFormed.{total};
 ghost use Rattle.dict_desk.specs.Shown.{HasEdition};
+ghost use Rattle.dict_desk.specs.Handing.{Hands};
 ghost use Rattle.dict_io.specs.Streams.{Puts};
 ghost use Rattle.dict_session.specs.Desks.{Stays};
 ghost use Rattle.dict_session.specs.Ending.{Delivers, PutsAnswer};
@@ -18,7 +19,7 @@ use crate::rows::FoundRows;
 use crate::show::put_list_end;
 use crate::step::{Answered, PutFault};
 use arrayvec::ArrayVec;
-use dict_desk::{End, Fault, Lookup, What};
+use dict_desk::{End, Fault, Lookup, RowSink, What};
 use dict_io::{Sink, SinkFault};
 use dict_proto::{Reply, write_reply};
 
@@ -109,6 +110,47 @@ fn count_asked<L: Lookup>(desk: &mut L, asked: Asked, query: &Query) -> Result<C
     }
 }
 
+// Hands the rows that a query gives of the edition of this number to a sink.
+fn hand_out<L: Lookup, T: RowSink>(
+    desk: &mut L,
+    number: u64,
+    query: &Query,
+    sink: &mut T,
+) -> Result<End, Fault>
+    ensures value { L.is_trusted desk.new → (M : Catalogue) (edition : Edition) → L.shows desk.old M → HasEdition M number edition
+        → Hands T.takes T.stops sink.old sink.new (rows_by query.now.what query.now.strategy query.now.key edition) result }
+    ensures handed { (rows : List Entry) × Hands T.takes T.stops sink.old sink.new rows result }
+    ensures desk { Stays L.shows L.leaves_one_of L.is_trusted desk.old desk.new }
+    ensures open { OnOk result (L.is_closed desk.new ≡ false) }
+    ensures failed { OnErr result (L.has_failed desk.new ≡ true) }
+{
+    match query.what {
+        What::Entries => desk.find(number, query.strategy, &query.key, sink),
+        What::Headwords => desk.heads(number, query.strategy, &query.key, sink),
+    }
+}
+
+// Puts the rows that a query gives of the edition of this number.
+fn deliver<L: Lookup, K: Sink>(
+    desk: &mut L,
+    number: u64,
+    query: &Query,
+    rows: &mut FoundRows<K>,
+) -> Result<(), PutFault>
+    ensures value { L.is_trusted desk.new → (M : Catalogue) (edition : Edition) → L.shows desk.old M → HasEdition M number edition
+        → Delivers (L.has_failed desk.new) result (K.stream rows.old.sink.now) (K.stream rows.new.sink.now)
+            (flat_map (row_octets rows.old.what rows.old.heading.now.name.bytes rows.old.heading.now.title.bytes) (rows_by query.now.what query.now.strategy query.now.key edition)) }
+    ensures same_reference { rows.new.sink.ghost_name ≡ rows.old.sink.ghost_name }
+    ensures desk { Stays L.shows L.leaves_one_of L.is_trusted desk.old desk.new }
+    ensures open { OnOk result (L.is_closed desk.new ≡ false) }
+{
+    match hand_out(desk, number, query, rows) {
+        Ok(End::All) => Ok(()),
+        Ok(End::Stopped) => Err(PutFault::Sink),
+        Err(_) => Err(PutFault::Desk),
+    }
+}
+
 // Puts the rows that a query gives of the edition under a heading.
 fn put_rows<L: Lookup, K: Sink>(
     desk: &mut L,
@@ -120,22 +162,15 @@ fn put_rows<L: Lookup, K: Sink>(
         → Delivers (L.has_failed desk.new) result (K.stream sink.old) (K.stream sink.new)
             (flat_map (row_octets query.now.what heading.now.name.bytes heading.now.title.bytes) (rows_by query.now.what query.now.strategy query.now.key edition)) }
     ensures desk { Stays L.shows L.leaves_one_of L.is_trusted desk.old desk.new }
-    ensures open { L.is_closed desk.old ≡ false → OnOk result (L.is_closed desk.new ≡ false) }
+    ensures open { OnOk result (L.is_closed desk.new ≡ false) }
 {
+    let what = query.what;
     let mut rows = FoundRows {
         sink,
-        what: query.what,
+        what,
         heading,
     };
-    let end = match query.what {
-        What::Entries => desk.find(heading.number, query.strategy, &query.key, &mut rows),
-        What::Headwords => desk.heads(heading.number, query.strategy, &query.key, &mut rows),
-    };
-    match end {
-        Ok(End::All) => Ok(()),
-        Ok(End::Stopped) => Err(PutFault::Sink),
-        Err(_) => Err(PutFault::Desk),
-    }
+    deliver(desk, heading.number, query, &mut rows)
 }
 
 // Puts the rows that it gives of the database at a place.
@@ -212,10 +247,14 @@ fn put_counted<L: Lookup, K: Sink>(
         → Delivers (L.has_failed desk.new) result (K.stream sink.old) (K.stream sink.new) (counted_octets query.now M.items counted.now.places.items counted.now.count) }
     ensures desk { Stays L.shows L.leaves_one_of L.is_trusted desk.old desk.new }
 {
-    if put_count(query.what, counted.count, sink).is_err() {
-        return Err(PutFault::Sink);
+    match put_count(query.what, counted.count, sink) {
+        Ok(()) => {}
+        Err(_) => return Err(PutFault::Sink),
     }
-    put_places(desk, counted.places.as_slice(), query, sink)?;
+    match put_places(desk, counted.places.as_slice(), query, sink) {
+        Ok(()) => {}
+        Err(fault) => return Err(fault),
+    }
     match put_end(query.what, sink) {
         Ok(()) => Ok(()),
         Err(_) => Err(PutFault::Sink),
