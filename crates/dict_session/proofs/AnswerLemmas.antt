@@ -27,7 +27,7 @@ define_unknown M name word e =
     ap (λ (o : Option (List Database)). defined (option_map (flat_map (definitions_in (key_of word))) o))
     (searched_are M name (for_definitions (key_of word)) ∙ ap (option_map (λ (asking : Asking). at_places M.items (answering (for_definitions (key_of word)) M.items asking.places asking.is_first))) e)
 
-define_known : (M : Catalogue) (name word : List ℕ) (asking : Asking) → asked_in M.items name ≡ Some asking
+pub define_known : (M : Catalogue) (name word : List ℕ) (asking : Asking) → asked_in M.items name ≡ Some asking
     → define_answer M name word ≡ found_octets (for_definitions (key_of word)) M.items (answering (for_definitions (key_of word)) M.items asking.places asking.is_first)
 unfolding define_answer
 define_known M name word asking e =
@@ -64,13 +64,13 @@ unfolding match_answer
 match_unknown M name strategy word e =
     ap (λ b. if b then strategy_answer M name (strategy_of strategy) word else invalid_database_octets) (names_asked M name ∙ ap (λ (o : Option Asking). is_some o) e)
 
-match_by : (M : Catalogue) (name strategy word : List ℕ) (asking : Asking) (o : Option Strategy) → asked_in M.items name ≡ Some asking → o ≡ strategy_of strategy → match_answer M name strategy word ≡ strategy_answer M name o word
+pub match_by : (M : Catalogue) (name strategy word : List ℕ) (asking : Asking) (o : Option Strategy) → asked_in M.items name ≡ Some asking → o ≡ strategy_of strategy → match_answer M name strategy word ≡ strategy_answer M name o word
 unfolding match_answer
 match_by M name strategy word asking o e is =
     ap (λ b. if b then strategy_answer M name (strategy_of strategy) word else invalid_database_octets) (names_asked M name ∙ ap (λ (o : Option Asking). is_some o) e)
     ∙ ap (λ (s : Option Strategy). strategy_answer M name s word) (sym is)
 
-match_known : (M : Catalogue) (name strategy word : List ℕ) (s : Strategy) (asking : Asking) → asked_in M.items name ≡ Some asking → Some s ≡ strategy_of strategy
+pub match_known : (M : Catalogue) (name strategy word : List ℕ) (s : Strategy) (asking : Asking) → asked_in M.items name ≡ Some asking → Some s ≡ strategy_of strategy
     → match_answer M name strategy word ≡ found_octets (for_matches s (key_of word)) M.items (answering (for_matches s (key_of word)) M.items asking.places asking.is_first)
 match_known M name strategy word s asking e is =
     match_by M name strategy word asking (Some s) e is

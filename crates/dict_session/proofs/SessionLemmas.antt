@@ -61,3 +61,9 @@ kept_ended DeskFailed s rest other none h = h
 
 pub leaves_ended : (d : Meaning → List ℕ) (f : Bool) (course : Course) (s : Session) (a b : Stream) (p q : List ℕ) → (course ≡ More → ⊥) → Leaves d f course s a b p → Leaves d f course s a b (p ++ q)
 leaves_ended d f course s a b p q none h = rw (cut_append p q) (wrote_ended d f course a b (cut p).lines (cut ((cut p).rest ++ q)).lines none h.0, kept_ended course s _ _ none h.1)
+
+pub keeps_none : (course : Course) (s : Session) → (course ≡ More → ⊥) → Keeps course s []
+keeps_none More s none = absurd (none refl)
+keeps_none Quit s none = tt
+keeps_none SinkFailed s none = tt
+keeps_none DeskFailed s none = tt

@@ -1,6 +1,6 @@
 -- Each line of a session's octets is short.
 use Rattle.std.proofs.Common.{◌≡◌, ◌≢◌, ℕ, suc, ◌+◌, ◌^◌, ◌<◌, ◌≤◌, List, [], ◌∷◌, ◌++◌, Bool, true, false, not, ◌&&◌, ◌||◌, Bor, refl, sym, ap, ◌∙◌, subst, arith, length, map, codes, inl, inr}
-use Rattle.std.specs.Prelude.{filter, IsTrue, MatchBool, ◌==◌, if◌then◌else◌, Option, None, Some}
+use Rattle.std.specs.Prelude.{IsTrue, MatchBool, ◌==◌, if◌then◌else◌, Option, None, Some, slice_get, find}
 use Rattle.std.specs.List.{flat_map, list_all, list_any, AllByRecursion}
 use Rattle.std.specs.Str.{bytes_eq}
 use Rattle.std.proofs.lemmas.Bool.{leb-true}
@@ -20,14 +20,27 @@ use Rattle.dict_match.specs.declared.strategy.Strategy.TheVariants.{Exact, Prefi
 use Rattle.dict_line.specs.Meaning.{Meaning, meaning, define, matching, show_databases, show_strategies, show_server, show_info, client, status, help, quit, not_recognized, illegal_parameters, not_implemented}
 use Rattle.dict_proto.specs.Text.{crlf}
 use Rattle.dict_proto.specs.ReplyLines.{AreShortLines, HasNoReturn, IsShort}
-use Rattle.dict_proto.specs.Replies.{banner_octets, definition_count_octets, match_count_octets, database_count_octets, strategy_count_octets, list_line_octets, list_end_octets, info_heading_octets, info_text_octets, help_octets, server_information_octets, done_octets, unavailable_octets, invalid_database_octets, no_match_octets}
-use Rattle.dict_proto.specs.declared.reply.Reply.TheVariants.{Banner, DefinitionCount, Definition, MatchCount, DatabaseCount, StrategyCount, ListLine, ListEnd, InfoHeading, InfoText, Help, ServerInformation, Status, Done, Closing, Unavailable, NotRecognized, InvalidDatabase, InvalidStrategy, NoMatch, IllegalParameters, NotImplemented}
+use Rattle.dict_proto.specs.Replies.{banner_octets, definition_count_octets, match_count_octets, database_count_octets, strategy_count_octets, list_line_octets, list_end_octets, info_heading_octets, info_text_octets, help_octets, server_information_octets, done_octets, unavailable_octets, no_match_octets, no_databases_octets}
+use Rattle.dict_proto.specs.declared.reply.Reply.TheVariants.{Banner, DefinitionCount, Definition, MatchCount, DatabaseCount, StrategyCount, ListLine, ListEnd, InfoHeading, InfoText, Help, ServerInformation, Status, Done, Closing, Unavailable, NotRecognized, InvalidDatabase, InvalidStrategy, NoMatch, NoDatabases, IllegalParameters, NotImplemented}
 use Rattle.dict_proto.proofs.ReplyLinesLemmas.{reply_octets-short}
-use Rattle.dict_session.specs.Database.{Database, found, is_found, distinct, headwords, strategy_of}
-use Rattle.dict_session.specs.Shows.{databases_answer, strategies_answer, strategy_line, server_answer, info_answer, status_answer, help_answer}
-use Rattle.dict_session.specs.Answers.{answer_to, define_answer, found_answer, definitions, definition_of, match_answer, strategy_answer, matched_answer, matches, is_quit}
+use Rattle.dict_catalogue.specs.Items.{Item, Stored, regular, virtual, is_named}
+use Rattle.dict_catalogue.specs.Steps.{Catalogue}
+use Rattle.dict_catalogue.specs.WellFormed.{IsWellFormed, IsLawfulItem, HasWellFormedEditions, total}
+use Rattle.dict_desk.specs.Found.{found, is_found, distinct, headwords}
+use Rattle.dict_desk.specs.Shown.{row}
+use Rattle.dict_desk.specs.Asked.{Database, databases_named, strategy_of}
+use Rattle.dict_desk.specs.declared.lookup.What.{What}
+use Rattle.dict_desk.specs.declared.lookup.What.TheVariants.{Entries, Headwords}
+use Rattle.dict_session.specs.Shows.{databases_answer, strategies_answer, strategy_line, server_answer, info_answer, info_found, info_of, item_line, database_line, status_answer, help_answer}
+use Rattle.dict_session.specs.Answers.{answer_to, define_answer, match_answer, is_quit}
 use Rattle.dict_session.specs.Spoken.{Speaks}
-use Rattle.dict_session.specs.Limits.{is_host_octet, is_host, IsWithinLimits}
+use Rattle.dict_session.specs.Places.{Asking, asked_in}
+use Rattle.dict_session.specs.Rows.{rows_by, row_octets, octets_in, octets_at, count_at, regular_as, first_counted, answering, count_octets, end_octets, counted_octets, found_octets}
+use Rattle.dict_session.specs.declared.query.Query.{Query}
+use Rattle.dict_session.specs.Limits.{is_host_octet, is_host}
+use Rattle.dict_session.proofs.FoundLemmas.{item_at, current_well, counts_few, for_definitions, for_matches}
+use Rattle.dict_session.proofs.AskedLemmas.{asked_few}
+use Rattle.dict_session.proofs.AnswerLemmas.{define_unknown, define_known, match_unknown, match_by, match_known}
 
 -- ---- lines, one after the other
 
@@ -121,18 +134,6 @@ headword-short headword h = (h.1.1, none_control headword h.1.2)
 
 -- ---- counts
 
-filter_few : {X : Type 0} (p : X → Bool) (xs : List X) → length (filter p xs) ≤ length xs
-filter_few p [] = omega arith
-filter_few p (x ∷ xs) = by_test (p x) (filter_few p xs)
-  where
-    by_test : (test : Bool) → length (filter p xs) ≤ length xs → length (if test then x ∷ filter p xs else filter p xs) ≤ suc (length xs)
-    by_test true h = omega (arith, h)
-    by_test false h = omega (arith, h)
-
-distinct_few : (texts : List (List ℕ)) → length (distinct texts) ≤ length texts
-distinct_few [] = omega arith
-distinct_few (text ∷ texts) = omega (arith, filter_few (λ other. not (bytes_eq other text)) (distinct texts), distinct_few texts)
-
 distinct_all : (P : List ℕ → Type 0) (texts : List (List ℕ)) → AllByRecursion P texts → AllByRecursion P (distinct texts)
 distinct_all P [] h = tt
 distinct_all P (text ∷ texts) h = (h.0, all_filter P (λ other. not (bytes_eq other text)) (distinct texts) (distinct_all P texts h.1))
@@ -145,62 +146,152 @@ lent text = record { ref_ptr = (0, 0); now = text }
 end-short : AreShortLines (list_end_octets ++ done_octets)
 end-short = short_append list_end_octets done_octets (reply_octets-short ListEnd tt) (reply_octets-short Done tt)
 
-module _ (d : Database) (w : IsWithinLimits d) where
-  entry-short : (entry : Entry) → IsWellFormedEntry entry → AreShortLines (definition_of d entry)
-  entry-short entry h = reply_octets-short (Definition (lent entry.headword) (lent d.name) (lent d.edition.title) (lent entry.body))
-      (headword-short entry.headword h.headword, name-short d.name w.name, title-short d.edition.title w.edition.title.1, text-short entry.body h.body)
+longer : (text : List ℕ) → IsShort 200 text → IsShort 255 text
+longer text h = (omega (arith, h.0), h.1)
 
-  found_few : (s : Strategy) (q : List ℕ) → length (found s q d.edition) < 2 ^ 64
-  found_few s q = omega (arith, filter_few (is_found s q) d.edition.entries, w.edition.few)
+line-short : (name text : List ℕ) → IsTrue (is_name name) → IsShort 255 text → AreShortLines (list_line_octets name text)
+line-short name text n h = reply_octets-short (ListLine (lent name) (lent text)) (name-short name n, h)
 
-  found_all : (s : Strategy) (q : List ℕ) → AllByRecursion IsWellFormedEntry (found s q d.edition)
-  found_all s q = all_filter IsWellFormedEntry (is_found s q) d.edition.entries w.edition.entries
+current_title : (name : List ℕ) (current : Stored Edition) (former : Option (Stored Edition)) → HasWellFormedEditions (regular name current former) → IsTrue (is_title current.content.title)
+current_title name current former h = (current_well name current former h).title.1
 
-  found_answer-short : (entries : List Entry) → AllByRecursion IsWellFormedEntry entries → length entries < 2 ^ 64 → AreShortLines (found_answer d entries)
-  found_answer-short entries h few = short_either (length entries == 0) no_match_octets (definitions d entries) (reply_octets-short NoMatch tt)
-      (short_append (definition_count_octets (length entries)) (flat_map (definition_of d) entries ++ done_octets) (reply_octets-short (DefinitionCount (length entries)) few)
-      (short_append (flat_map (definition_of d) entries) done_octets (short_all (definition_of d) entries (all_weaker IsWellFormedEntry (λ entry. AreShortLines (definition_of d entry)) entry-short entries h)) (reply_octets-short Done tt)))
+item-short : (item : Item Edition) → IsLawfulItem item → HasWellFormedEditions item → AreShortLines (item_line item)
+item-short (regular name current former) lawful well = line-short name current.content.title lawful (longer current.content.title (title-short current.content.title (current_title name current former well)))
+item-short (virtual name title members) lawful well = line-short name title lawful.0 (longer title (title-short title lawful.1))
 
-  define-short : (name word : List ℕ) → AreShortLines (define_answer d name word)
-  unfolding define_answer
-  define-short name word = short_either (bytes_eq name d.name) (found_answer d (found Exact (key_of word) d.edition)) invalid_database_octets
-      (found_answer-short (found Exact (key_of word) d.edition) (found_all Exact (key_of word)) (found_few Exact (key_of word))) (reply_octets-short InvalidDatabase tt)
+items-short : (items : List (Item Edition)) → AllByRecursion IsLawfulItem items → AllByRecursion HasWellFormedEditions items → AreShortLines (flat_map item_line items)
+items-short [] lawful well = short_none
+items-short (item ∷ items) lawful well = short_append (item_line item) (flat_map item_line items) (item-short item lawful.0 well.0) (items-short items lawful.1 well.1)
 
-  line-short : (word : List ℕ) → IsShort 255 word → AreShortLines (list_line_octets d.name word)
-  line-short word h = reply_octets-short (ListLine (lent d.name) (lent word)) (name-short d.name w.name, h)
+-- a database that is asked
+record IsLawful (db : Database) : Type 0 where
+  pub name : IsTrue (is_name db.name)
+  pub edition : IsWellFormedEdition db.edition
 
-  matched-short : (words : List (List ℕ)) → AllByRecursion (IsShort 255) words → length words < 2 ^ 64 → AreShortLines (matched_answer d words)
-  matched-short words h few = short_either (length words == 0) no_match_octets (matches d words) (reply_octets-short NoMatch tt)
-      (short_append (match_count_octets (length words)) (flat_map (list_line_octets d.name) words ++ (list_end_octets ++ done_octets)) (reply_octets-short (MatchCount (length words)) few)
-      (short_append (flat_map (list_line_octets d.name) words) (list_end_octets ++ done_octets) (short_all (list_line_octets d.name) words (all_weaker (IsShort 255) (λ word. AreShortLines (list_line_octets d.name word)) line-short words h)) end-short))
+entry-short : (db : Database) → IsLawful db → (entry : Entry) → IsWellFormedEntry entry → AreShortLines (row_octets Entries db.name db.edition.title entry)
+entry-short db w entry h = reply_octets-short (Definition (lent entry.headword) (lent db.name) (lent db.edition.title) (lent entry.body))
+    (headword-short entry.headword h.headword, name-short db.name w.name, title-short db.edition.title w.edition.title.1, text-short entry.body h.body)
 
-  strategy-short : (s : Option Strategy) (word : List ℕ) → AreShortLines (strategy_answer d s word)
-  strategy-short None word = reply_octets-short InvalidStrategy tt
-  strategy-short (Some s) word =
-      let entries = found s (key_of word) d.edition in
-      let words : List (List ℕ) = map (λ (entry : Entry). entry.headword) entries in
-      let all : AllByRecursion (IsShort 255) words = all_map IsWellFormedEntry (IsShort 255) (λ (entry : Entry). entry.headword) (λ entry h. headword-short entry.headword h.headword) entries (found_all s (key_of word)) in
-      let few : length (distinct words) < 2 ^ 64 = omega (arith, distinct_few words, length-map entries (λ (entry : Entry). entry.headword), found_few s (key_of word)) in
-      matched-short (distinct words) (distinct_all (IsShort 255) words all) few
+found_all : (s : Strategy) (q : List ℕ) (edition : Edition) → IsWellFormedEdition edition → AllByRecursion IsWellFormedEntry (found s q edition)
+found_all s q edition w = all_filter IsWellFormedEntry (is_found s q) edition.entries w.entries
 
-  match-short : (name strategy word : List ℕ) → AreShortLines (match_answer d name strategy word)
-  unfolding match_answer
-  match-short name strategy word = short_either (bytes_eq name d.name) (strategy_answer d (strategy_of strategy) word) invalid_database_octets (strategy-short (strategy_of strategy) word) (reply_octets-short InvalidDatabase tt)
+rows-short : (query : Query) (what : What) (db : Database) → IsLawful db → AreShortLines (flat_map (row_octets what db.name db.edition.title) (rows_by what query.strategy query.key db.edition))
+rows-short query Entries db w = short_all (row_octets Entries db.name db.edition.title) (found query.strategy query.key db.edition)
+    (all_weaker IsWellFormedEntry (λ entry. AreShortLines (row_octets Entries db.name db.edition.title entry)) (entry-short db w) (found query.strategy query.key db.edition) (found_all query.strategy query.key db.edition w.edition))
+rows-short query Headwords db w =
+    let entries = found query.strategy query.key db.edition in
+    let words : List (List ℕ) = map (λ (entry : Entry). entry.headword) entries in
+    let all : AllByRecursion (IsShort 255) words = all_map IsWellFormedEntry (IsShort 255) (λ (entry : Entry). entry.headword) (λ entry h. headword-short entry.headword h.headword) entries (found_all query.strategy query.key db.edition w.edition) in
+    short_all (row_octets Headwords db.name db.edition.title) (map (λ (headword : List ℕ). row headword []) (distinct words))
+    (all_map (IsShort 255) (λ (r : Entry). AreShortLines (row_octets Headwords db.name db.edition.title r)) (λ (headword : List ℕ). row headword []) (λ headword h. line-short db.name headword w.name h) (distinct words) (distinct_all (IsShort 255) words all))
 
-  longer : (text : List ℕ) → IsShort 200 text → IsShort 255 text
-  longer text h = (omega (arith, h.0), h.1)
+at-short : (M : Catalogue) → IsWellFormed M → (query : Query) (place : ℕ) → AreShortLines (octets_at query M.items place)
+at-short M w query place = by_item (slice_get M.items place) refl
+  where
+    by_item : (o : Option (Item Edition)) → slice_get M.items place ≡ o → AreShortLines (flat_map (octets_in query) (regular_as o))
+    by_item None e = short_none
+    by_item (Some (virtual name title members)) e = short_none
+    by_item (Some (regular name current former)) e =
+        let db : Database = record { name = name; edition = current.content } in
+        let lawful : IsLawful db = record {
+          name = item_at IsLawfulItem M.items place (regular name current former) w.items e;
+          edition = current_well name current former (item_at HasWellFormedEditions M.items place (regular name current former) w.editions e);
+        } in
+        short_append (octets_in query db) [] (rows-short query query.what db lawful) short_none
 
-  databases-short : AreShortLines (databases_answer d)
-  unfolding databases_answer
-  databases-short = short_append (database_count_octets 1) (list_line_octets d.name d.edition.title ++ (list_end_octets ++ done_octets)) (reply_octets-short (DatabaseCount 1) (omega arith))
-      (short_append (list_line_octets d.name d.edition.title) (list_end_octets ++ done_octets) (line-short d.edition.title (longer d.edition.title (title-short d.edition.title w.edition.title.1))) end-short)
+count-short : (what : What) (n : ℕ) → n < 2 ^ 64 → AreShortLines (count_octets what n)
+count-short Entries n few = reply_octets-short (DefinitionCount n) few
+count-short Headwords n few = reply_octets-short (MatchCount n) few
 
-  info-short : (name : List ℕ) → AreShortLines (info_answer d name)
-  unfolding info_answer
-  info-short name = short_either (bytes_eq name d.name) (info_heading_octets ++ (info_text_octets d.edition.info ++ done_octets)) invalid_database_octets
-      (short_append info_heading_octets (info_text_octets d.edition.info ++ done_octets) (reply_octets-short InfoHeading tt)
-      (short_append (info_text_octets d.edition.info) done_octets (reply_octets-short (InfoText (lent d.edition.info)) (text-short d.edition.info w.edition.info)) (reply_octets-short Done tt)))
-      (reply_octets-short InvalidDatabase tt)
+ending-short : (what : What) → AreShortLines (end_octets what)
+ending-short Entries = reply_octets-short Done tt
+ending-short Headwords = end-short
+
+places-short : (M : Catalogue) → IsWellFormed M → (query : Query) (places : List ℕ) → AreShortLines (flat_map (octets_at query M.items) places)
+places-short M w query places = short_all (octets_at query M.items) places (all_of (λ place. AreShortLines (octets_at query M.items place)) (at-short M w query) places)
+
+found-short : (M : Catalogue) → IsWellFormed M → (query : Query) (places : List ℕ) → length places ≤ 64 → AreShortLines (found_octets query M.items places)
+found-short M w query places few =
+    let n = total (count_at query M.items) places in
+    let below : n < 2 ^ 64 = omega (arith, counts_few query M places w, few) in
+    short_either (n == 0) no_match_octets (counted_octets query M.items places n) (reply_octets-short NoMatch tt)
+    (short_append (count_octets query.what n) (flat_map (octets_at query M.items) places ++ end_octets query.what) (count-short query.what n below)
+    (short_append (flat_map (octets_at query M.items) places) (end_octets query.what) (places-short M w query places) (ending-short query.what)))
+
+first_few : (count : ℕ → ℕ) (places : List ℕ) → length places ≤ 64 → length (first_counted count places) ≤ 64
+first_few count [] few = omega arith
+first_few count (place ∷ places) few = by_test (count place == 0) (first_few count places (omega (arith, few)))
+  where
+    by_test : (b : Bool) → length (first_counted count places) ≤ 64 → length (if b then first_counted count places else place ∷ []) ≤ 64
+    by_test true h = h
+    by_test false h = omega arith
+
+answering-short : (M : Catalogue) → IsWellFormed M → (query : Query) (places : List ℕ) (is_first : Bool) → length places ≤ 64 → AreShortLines (found_octets query M.items (answering query M.items places is_first))
+answering-short M w query places true few = found-short M w query (first_counted (count_at query M.items) places) (first_few (count_at query M.items) places few)
+answering-short M w query places false few = found-short M w query places few
+
+define-short : (M : Catalogue) → IsWellFormed M → (name word : List ℕ) → AreShortLines (define_answer M name word)
+define-short M w name word = by_asked (asked_in M.items name) refl
+  where
+    by_asked : (o : Option Asking) → asked_in M.items name ≡ o → AreShortLines (define_answer M name word)
+    by_asked None e = subst AreShortLines (sym (define_unknown M name word e)) (reply_octets-short InvalidDatabase tt)
+    by_asked (Some asking) e = subst AreShortLines (sym (define_known M name word asking e))
+        (answering-short M w (for_definitions (key_of word)) asking.places asking.is_first (asked_few M name asking w e))
+
+match-short : (M : Catalogue) → IsWellFormed M → (name strategy word : List ℕ) → AreShortLines (match_answer M name strategy word)
+match-short M w name strategy word = by_asked (asked_in M.items name) refl (strategy_of strategy) refl
+  where
+    by_asked : (o : Option Asking) → asked_in M.items name ≡ o → (s : Option Strategy) → s ≡ strategy_of strategy → AreShortLines (match_answer M name strategy word)
+    by_asked None e s is = subst AreShortLines (sym (match_unknown M name strategy word e)) (reply_octets-short InvalidDatabase tt)
+    by_asked (Some asking) e None is = subst AreShortLines (sym (match_by M name strategy word asking None e is)) (reply_octets-short InvalidStrategy tt)
+    by_asked (Some asking) e (Some s) is = subst AreShortLines (sym (match_known M name strategy word s asking e is))
+        (answering-short M w (for_matches s (key_of word)) asking.places asking.is_first (asked_few M name asking w e))
+
+databases-short : (M : Catalogue) → IsWellFormed M → AreShortLines (databases_answer M)
+unfolding databases_answer
+databases-short M w = short_either (length M.items == 0) no_databases_octets (database_count_octets (length M.items) ++ (flat_map item_line M.items ++ (list_end_octets ++ done_octets))) (reply_octets-short NoDatabases tt)
+    (short_append (database_count_octets (length M.items)) (flat_map item_line M.items ++ (list_end_octets ++ done_octets)) (reply_octets-short (DatabaseCount (length M.items)) (omega (arith, w.item_limit)))
+    (short_append (flat_map item_line M.items) (list_end_octets ++ done_octets) (items-short M.items w.items w.editions) end-short))
+
+database-short : (db : Database) → IsLawful db → AreShortLines (database_line db)
+database-short db w = line-short db.name db.edition.title w.name (longer db.edition.title (title-short db.edition.title w.edition.title.1))
+
+named-short : (member : List ℕ) (items : List (Item Edition)) → AllByRecursion IsLawfulItem items → AllByRecursion HasWellFormedEditions items → AreShortLines (flat_map database_line (databases_named items member))
+named-short member [] lawful well = short_none
+named-short member (virtual name title members ∷ items) lawful well = named-short member items lawful.1 well.1
+named-short member (regular name current former ∷ items) lawful well = by_test (bytes_eq name member) (named-short member items lawful.1 well.1)
+  where
+    db : Database
+    db = record { name = name; edition = current.content }
+    by_test : (b : Bool) → AreShortLines (flat_map database_line (databases_named items member)) → AreShortLines (flat_map database_line (if b then db ∷ databases_named items member else databases_named items member))
+    by_test true h = short_append (database_line db) (flat_map database_line (databases_named items member)) (database-short db (record { name = lawful.0; edition = current_well name current former well.0 })) h
+    by_test false h = h
+
+members-short : (items : List (Item Edition)) (members : List (List ℕ)) → AllByRecursion IsLawfulItem items → AllByRecursion HasWellFormedEditions items → AreShortLines (flat_map database_line (flat_map (databases_named items) members))
+members-short items [] lawful well = short_none
+members-short items (member ∷ members) lawful well = subst AreShortLines (sym (flat_map-append database_line (databases_named items member) (flat_map (databases_named items) members)))
+    (short_append (flat_map database_line (databases_named items member)) (flat_map database_line (flat_map (databases_named items) members)) (named-short member items lawful well) (members-short items members lawful well))
+
+info_of-short : (items : List (Item Edition)) (item : Item Edition) → AllByRecursion IsLawfulItem items → AllByRecursion HasWellFormedEditions items → HasWellFormedEditions item → AreShortLines (info_of items item)
+info_of-short items (regular name current former) lawful well here = reply_octets-short (InfoText (lent current.content.info)) (text-short current.content.info (current_well name current former here).info)
+info_of-short items (virtual name title members) lawful well here = short_append (flat_map database_line (flat_map (databases_named items) members)) list_end_octets (members-short items members lawful well) (reply_octets-short ListEnd tt)
+
+found-well : (test : Item Edition → Bool) (items : List (Item Edition)) (item : Item Edition) → AllByRecursion HasWellFormedEditions items → find test items ≡ Some item → HasWellFormedEditions item
+found-well test [] item well e = cc
+found-well test (x ∷ items) item well e = by_test (test x) (found-well test items item well.1) e
+  where
+    by_test : (b : Bool) → (find test items ≡ Some item → HasWellFormedEditions item) → (if b then Some x else find test items) ≡ Some item → HasWellFormedEditions item
+    by_test true later e = let same : x ≡ item = cc in subst HasWellFormedEditions same well.0
+    by_test false later e = later e
+
+info-short : (M : Catalogue) → IsWellFormed M → (name : List ℕ) → AreShortLines (info_answer M name)
+unfolding info_answer
+info-short M w name = by_item (find (is_named name) M.items) refl
+  where
+    by_item : (o : Option (Item Edition)) → find (is_named name) M.items ≡ o → AreShortLines (info_found M.items o)
+    by_item None e = reply_octets-short InvalidDatabase tt
+    by_item (Some item) e = short_append info_heading_octets (info_of M.items item ++ done_octets) (reply_octets-short InfoHeading tt)
+        (short_append (info_of M.items item) done_octets (info_of-short M.items item w.items w.editions (found-well (is_named name) M.items item w.editions e)) (reply_octets-short Done tt))
 
 is_other : ℕ → Bool
 is_other c = not (c == 13)
@@ -224,27 +315,27 @@ unfolding strategies_answer
 strategies-short = short_append (strategy_count_octets (length strategies)) (flat_map strategy_line strategies ++ (list_end_octets ++ done_octets)) (reply_octets-short (StrategyCount (length strategies)) (omega arith))
     (short_append (flat_map strategy_line strategies) (list_end_octets ++ done_octets) (short_all strategy_line strategies (all_of (λ s. AreShortLines (strategy_line s)) strategy_line-short strategies)) end-short)
 
-server-short : (host : List ℕ) → IsTrue (is_host host) → AreShortLines (server_answer host)
+server-short : (M : Catalogue) → IsWellFormed M → (host : List ℕ) → IsTrue (is_host host) → AreShortLines (server_answer M host)
 unfolding server_answer
-server-short host h = short_append (server_information_octets host 1) done_octets (reply_octets-short (ServerInformation (lent host) 1) (host-short host h, omega arith)) (reply_octets-short Done tt)
+server-short M w host h = short_append (server_information_octets host (length M.items)) done_octets (reply_octets-short (ServerInformation (lent host) (length M.items)) (host-short host h, omega (arith, w.item_limit))) (reply_octets-short Done tt)
 
-status-short : AreShortLines status_answer
+status-short : (M : Catalogue) → IsWellFormed M → AreShortLines (status_answer M)
 unfolding status_answer
-status-short = reply_octets-short (Status 1) (omega arith)
+status-short M w = reply_octets-short (Status (length M.items)) (omega (arith, w.item_limit))
 
 help-short : AreShortLines help_answer
 unfolding help_answer
 help-short = short_append help_octets done_octets (reply_octets-short Help tt) (reply_octets-short Done tt)
 
-answer_to-short : (d : Database) (host : List ℕ) → IsWithinLimits d → IsTrue (is_host host) → (asked : Meaning) → AreShortLines (answer_to d host asked)
+answer_to-short : (d : Catalogue) (host : List ℕ) → IsWellFormed d → IsTrue (is_host host) → (asked : Meaning) → AreShortLines (answer_to d host asked)
 answer_to-short d host w h (define name word) = define-short d w name word
 answer_to-short d host w h (matching name strategy word) = match-short d w name strategy word
 answer_to-short d host w h show_databases = databases-short d w
 answer_to-short d host w h show_strategies = strategies-short
-answer_to-short d host w h show_server = server-short host h
+answer_to-short d host w h show_server = server-short d w host h
 answer_to-short d host w h (show_info name) = info-short d w name
 answer_to-short d host w h client = reply_octets-short Done tt
-answer_to-short d host w h status = status-short
+answer_to-short d host w h status = status-short d w
 answer_to-short d host w h help = help-short
 answer_to-short d host w h quit = reply_octets-short Closing tt
 answer_to-short d host w h not_recognized = reply_octets-short NotRecognized tt
@@ -262,7 +353,7 @@ speaks-short answer each (l ∷ ls) o ended (rest, inl h) = subst AreShortLines 
     by_quit more false k = more k
 speaks-short answer each (l ∷ ls) o ended (rest, inr h) = subst AreShortLines (sym h.1) (short_append unavailable_octets rest (reply_octets-short Unavailable tt) (speaks-short answer each ls rest ended h.2))
 
-pub session-short : (d : Database) (host : List ℕ) (connection : ℕ) (ls : List (List ℕ)) (o : List ℕ) (ended : Bool) → IsWithinLimits d → IsTrue (is_host host) → connection < 2 ^ 64
+pub session-short : (d : Catalogue) (host : List ℕ) (connection : ℕ) (ls : List (List ℕ)) (o : List ℕ) (ended : Bool) → IsWellFormed d → IsTrue (is_host host) → connection < 2 ^ 64
     → Speaks (answer_to d host) ls o ended → AreShortLines (banner_octets host connection ++ o)
 session-short d host connection ls o ended w h lt spoken =
     short_append (banner_octets host connection) o (reply_octets-short (Banner (lent host) connection) (host-short host h, lt)) (speaks-short (answer_to d host) (answer_to-short d host w h) ls o ended spoken)

@@ -1,12 +1,14 @@
 -- The answers to SHOW, STATUS and HELP as replies, one after the other, and over a catalogue's summary.
-use Rattle.std.proofs.Common.{◌≡◌, ◌≢◌, ℕ, suc, List, [], ◌∷◌, ◌++◌, Bor, Bool, true, false, ◌||◌, ◌&&◌, refl, sym, ap, ◌∙◌, append-nil, append_assoc, length, map, arith, subst, cond}
-use Rattle.std.specs.Prelude.{Option, None, Some, find, option_map, ◌==◌, filter, Contains, if◌then◌else◌}
+use Rattle.std.proofs.Common.{◌≡◌, ◌≢◌, ℕ, suc, List, [], ◌∷◌, ◌++◌, Bor, Bool, true, false, ◌||◌, ◌&&◌, refl, sym, ap, ◌∙◌, append-nil, append_assoc, ◌+◌, ◌<◌, length, map, take, drop, get_or, take-append-drop, arith, subst, inl, inr}
+use Rattle.std.specs.Prelude.{Option, None, Some, Result, Ok, Err, find, option_map, ◌==◌, filter, Contains, if◌then◌else◌}
 use Rattle.std.specs.List.{flat_map}
 use Rattle.std.specs.Str.{bytes_eq}
 use Rattle.std.proofs.lemmas.Bool.Decides.{nat_tests}
-use Rattle.std.proofs.lemmas.List.{length-map}
+use Rattle.std.proofs.lemmas.List.{length-map, get_or-map, take_more}
+use Rattle.dict_session.proofs.PlaceLemmas.{read_at}
 use Rattle.std.proofs.lemmas.List.Concat.{flat_map-append}
-use Rattle.dict_io.specs.Streams.{Stream, PutsAll}
+use Rattle.dict_io.specs.Streams.{Stream, PutsAll, PutsFront}
+use Rattle.dict_io.proofs.PutLemmas.{all_after, front_after, front_longer}
 use Rattle.dict_index.specs.Edition.{Edition, Entry}
 use Rattle.dict_catalogue.specs.Items.{Item, Stored, regular, virtual, name_of, is_named, is_regular, item_as, editions_of}
 use Rattle.dict_catalogue.specs.Steps.{Catalogue, summary_of}
@@ -14,12 +16,19 @@ use Rattle.dict_desk.specs.Asked.{Database, databases, databases_named}
 use Rattle.dict_desk.specs.Shown.{HasEdition, info_rows}
 use Rattle.dict_proto.specs.declared.reply.Reply.{Reply}
 use Rattle.dict_proto.specs.declared.reply.Reply.TheVariants.{ListEnd, Help, ServerInformation, Done}
-use Rattle.dict_proto.specs.Replies.{reply_octets, list_end_octets, done_octets, invalid_database_octets, info_heading_octets, info_text_octets, no_databases_octets, database_count_octets}
-use Rattle.dict_session.specs.Ending.{PutsPart}
+use Rattle.dict_proto.specs.Replies.{reply_octets, list_end_octets, done_octets, invalid_database_octets, info_heading_octets, info_text_octets, no_databases_octets, database_count_octets, unavailable_octets, status_octets}
+use Rattle.dict_session.specs.Ending.{PutsPart, PutsAnswer}
+use Rattle.dict_session.specs.declared.step.Answered.{Answered}
+use Rattle.dict_session.specs.declared.step.Answered.TheVariants.{Whole, Unavailable}
+use Rattle.dict_session.specs.declared.step.PutFault.{PutFault}
+use Rattle.dict_session.specs.declared.step.PutFault.TheVariants.{Sink, Desk}
+use Rattle.dict_desk.specs.Faults.{IsOfLookup, is_failure}
+use Rattle.dict_desk.specs.declared.fault.Fault.{Fault}
+use Rattle.dict_desk.specs.declared.fault.Fault.TheVariants.{Refused, Memory, Disk, Closed, NotACatalogue, Damaged, NewerSchema}
 use Rattle.dict_session.specs.Rows.{shown_line, line_if_named, items_octets, members_octets, info_row, has_some}
 use Rattle.dict_session.specs.Places.{is_regular_named}
 use Rattle.dict_session.specs.Shows.{databases_answer, items_answer, item_line, server_answer, info_answer, info_found, info_of, database_line, status_answer, help_answer}
-use Rattle.dict_session.proofs.PartLemmas.{part_of}
+use Rattle.dict_session.proofs.PartLemmas.{part_of, part_after}
 use Rattle.dict_session.proofs.AskedLemmas.{named_as, regular_named_as}
 
 pub help_is : flat_map reply_octets (Help ∷ Done ∷ []) ≡ help_answer
@@ -172,3 +181,70 @@ part_of_row a b edition front rest e h =
 pub none_begun : (a b : Stream) (front : List Entry) → false ≡ has_some front → PutsAll a b (flat_map info_row front) → PutsAll a b []
 none_begun a b [] e h = h
 none_begun a b (row ∷ front) e h = cc
+
+-- ---- what was put, and then an answer
+
+pub whole_after : (failed : Bool) (r : Result Answered PutFault) (a b c : Stream) (xs ys : List ℕ) → PutsAll a b xs → PutsAnswer failed r b c ys false → PutsAnswer failed r a c (xs ++ ys) true
+whole_after failed (Ok Whole) a b c xs ys h k = all_after a b c xs ys h k
+whole_after failed (Ok Unavailable) a b c xs ys h (e, k) = cc
+whole_after failed (Err Sink) a b c xs ys h (inl k) = inl (front_after a b c xs ys h k)
+whole_after failed (Err Sink) a b c xs ys h (inr (e, k)) = cc
+whole_after failed (Err Desk) a b c xs ys h (e, f, k) = cc
+
+pub none_before : (failed : Bool) (r : Result Answered PutFault) (a b c : Stream) (answer : List ℕ) (may : Bool) → PutsAll a b [] → PutsAnswer failed r b c answer may → PutsAnswer failed r a c answer may
+none_before failed (Ok Whole) a b c answer may h k = all_after a b c [] answer h k
+none_before failed (Ok Unavailable) a b c answer may h (e, k) = (e, all_after a b c [] unavailable_octets h k)
+none_before failed (Err Sink) a b c answer may h (inl k) = inl (front_after a b c [] answer h k)
+none_before failed (Err Sink) a b c answer may h (inr (e, k)) = inr (e, front_after a b c [] unavailable_octets h k)
+none_before failed (Err Desk) a b c answer may h (e, f, k) = (e, f, part_after a b c [] answer h k)
+
+pub lookup_failed : (fault : Fault) → IsOfLookup fault → is_failure fault ≡ true
+lookup_failed (Refused refusal) h = absurd h
+lookup_failed Memory h = refl
+lookup_failed Disk h = refl
+lookup_failed Closed h = refl
+lookup_failed NotACatalogue h = absurd h
+lookup_failed Damaged h = absurd h
+lookup_failed NewerSchema h = absurd h
+
+-- ---- one line after another
+
+module _ {X Y : Type 0} (f : Y → List ℕ) (g : X → Y) (xs : List X) (i : ℕ) (x : X) (lt : i < length xs) (is : x ≡ get_or xs i x) (a b c : Stream) where
+  pub loop_front : PutsAll a b (flat_map f (take i (map g xs))) → PutsFront b c (f (g x)) → PutsFront a c (flat_map f (map g xs))
+  loop_front h k =
+      subst (PutsFront a c) (ap (λ l. flat_map f (take i (map g xs)) ++ flat_map f l) (sym (read_at g xs i x lt is)) ∙ (sym (flat_map-append f (take i (map g xs)) (drop i (map g xs))) ∙ ap (flat_map f) (take-append-drop i (map g xs))))
+      (front_after a b c (flat_map f (take i (map g xs))) (f (g x) ++ flat_map f (drop (i + 1) (map g xs))) h (front_longer b c (f (g x)) (flat_map f (drop (i + 1) (map g xs))) k))
+
+  pub loop_more : PutsAll a b (flat_map f (take i (map g xs))) → PutsAll b c (f (g x)) → PutsAll a c (flat_map f (take (i + 1) (map g xs)))
+  loop_more h k =
+      let below : i < length (map g xs) = omega (arith, length-map xs g, lt) in
+      let here : get_or (map g xs) i (g x) ≡ g x = get_or-map g xs i x (g x) lt ∙ ap g (sym is) in
+      subst (PutsAll a c) (ap (λ l. flat_map f (take i (map g xs)) ++ l) (sym (append-nil (f (g x)))) ∙ (ap (λ y. flat_map f (take i (map g xs)) ++ flat_map f (y ∷ [])) (sym here)
+      ∙ (sym (flat_map-append f (take i (map g xs)) (get_or (map g xs) i (g x) ∷ [])) ∙ ap (flat_map f) (sym (take_more (map g xs) i (g x) below)))))
+      (all_after a b c (flat_map f (take i (map g xs))) (f (g x)) h k)
+
+pub items_some : (items : List (Item (List ℕ))) (n : ℕ) → n ≡ length items → n ≢ 0 → database_count_octets n ++ (flat_map shown_line items ++ (list_end_octets ++ done_octets)) ≡ items_octets items
+items_some items n e some =
+    let test : (length items == 0) ≡ false = grind (arith, nat_tests, e, some) in
+    ap (λ (k : ℕ). database_count_octets k ++ (flat_map shown_line items ++ (list_end_octets ++ done_octets))) e
+    ∙ sym (ap (λ b. if b then no_databases_octets else database_count_octets (length items) ++ (flat_map shown_line items ++ (list_end_octets ++ done_octets))) test)
+
+pub server_is : (M : Catalogue) (host : Bor (List ℕ)) (count : ℕ) → count ≡ length M.items → flat_map reply_octets (ServerInformation host count ∷ Done ∷ []) ≡ server_answer M host.now
+unfolding server_answer
+server_is M host count e = rw (e, append-nil done_octets) refl
+
+pub status_is : (M : Catalogue) (count : ℕ) → count ≡ length M.items → status_octets count ≡ status_answer M
+unfolding status_answer
+status_is M count e = ap status_octets e
+
+find_shown : {X Y : Type 0} (g : X → Y) (test : Y → Bool) (xs : List X) → find test (map g xs) ≡ option_map g (find (λ x. test (g x)) xs)
+find_shown g test [] = refl
+find_shown g test (x ∷ xs) = by_test (test (g x)) (find_shown g test xs)
+  where
+    by_test : (b : Bool) → find test (map g xs) ≡ option_map g (find (λ x. test (g x)) xs) → (if b then Some (g x) else find test (map g xs)) ≡ option_map g (if b then Some x else find (λ x. test (g x)) xs)
+    by_test true e = refl
+    by_test false e = e
+
+-- an item that was found in a summary
+pub found_shown : {X Y : Type 0} (g : X → Y) (test : Y → Bool) (xs : List X) (o : Option X) → o ≡ find (λ x. test (g x)) xs → option_map g o ≡ find test (map g xs)
+found_shown g test xs o e = ap (option_map g) e ∙ sym (find_shown g test xs)

@@ -200,11 +200,13 @@ impl<'h> Session<'h> {
         ensures desk { Stays L.shows L.leaves_one_of L.is_trusted desk.old desk.new }
         ensures same { IsSameSession self.old self.new }
     {
-        let course = answer_line(alloc, desk, self.host, self.request(alloc), sink);
-        if course == Course::More {
-            self.clear();
+        match answer_line(alloc, desk, self.host, self.request(alloc), sink) {
+            Course::More => {
+                self.clear();
+                Course::More
+            }
+            course => course,
         }
-        course
     }
 
     fn clear(&mut self)

@@ -1,9 +1,10 @@
 // The answers to SHOW, STATUS and HELP.
-ghost use Rattle.std.specs.Prelude.{◌≡◌, ◌++◌, Bool, map, true};
+ghost use Rattle.std.specs.Prelude.{◌≡◌, ◌++◌, Bool, map, true, false, find, length, option_map, IfOk};
 ghost use Rattle.std.specs.List.{flat_map};
 ghost use Rattle.dict_io.specs.Streams.{Puts};
 ghost use Rattle.dict_index.specs.Edition.{Edition};
 ghost use Rattle.dict_catalogue.specs.Steps.{Catalogue};
+ghost use Rattle.dict_catalogue.specs.Items.{is_named};
 ghost use Rattle.dict_catalogue.specs.Views.{item_shown, texts_shown};
 ghost use Rattle.dict_desk.specs.Shown.{HasEdition};
 ghost use Rattle.dict_proto.specs.Replies.{reply_octets, list_end_octets, done_octets, info_heading_octets, info_text_octets};
@@ -18,7 +19,7 @@ use crate::asked::is_regular_named;
 use crate::rows::InfoRow;
 use crate::step::{Answered, PutFault};
 use dict_catalogue::Item;
-use dict_desk::{End, Lookup};
+use dict_desk::{End, Fault, Lookup};
 use dict_io::{Sink, SinkFault};
 use dict_match::Strategy;
 use dict_proto::{Reply, write_reply};
@@ -65,10 +66,11 @@ fn put_item_lines<K: Sink>(items: &[Item], sink: &mut K) -> Result<(), SinkFault
 fn put_items<K: Sink>(items: &[Item], sink: &mut K) -> Result<(), SinkFault>
     ensures { Puts result (K.stream sink.old) (K.stream sink.new) (items_octets (map item_shown items.now)) }
 {
-    if items.is_empty() {
+    let count = items.len() as u64;
+    if count == 0 {
         return write_reply(sink, &Reply::NoDatabases);
     }
-    write_reply(sink, &Reply::DatabaseCount(items.len() as u64))?;
+    write_reply(sink, &Reply::DatabaseCount(count))?;
     put_item_lines(items, sink)?;
     put_list_end(sink)
 }
@@ -124,9 +126,8 @@ pub(crate) fn put_server<L: Lookup, K: Sink>(
 ) -> Result<Answered, PutFault>
     ensures { (M : Catalogue) → L.shows desk.now M → (failed : Bool) → PutsAnswer failed result (K.stream sink.old) (K.stream sink.new) (server_answer M host.now) true }
 {
-    match desk.summary() {
-        Ok(summary) => {
-            let count = summary.items.len() as u64;
+    match count_items(desk) {
+        Ok(count) => {
             let server = Reply::ServerInformation { host, count };
             whole(put_replies(&[server, Reply::Done], sink))
         }
@@ -181,7 +182,32 @@ fn put_members<K: Sink>(
     put_list_end(sink)
 }
 
-// Puts the answer to SHOW INFO about a regular item whose current edition has this number.
+// Puts the answer to SHOW INFO about a regular item whose current edition has this number, where nothing is put yet.
+fn put_row<L: Lookup, K: Sink>(
+    desk: &mut L,
+    number: u64,
+    row: &mut InfoRow<K>,
+) -> Result<Answered, PutFault>
+    requires { row.old.has_begun ≡ false }
+    ensures value { L.is_trusted desk.new → (M : Catalogue) (edition : Edition) → L.shows desk.old M → HasEdition M number edition
+        → PutsAnswer (L.has_failed desk.new) result (K.stream row.old.sink.now) (K.stream row.new.sink.now) (info_heading_octets ++ (info_text_octets edition.info ++ done_octets)) true }
+    ensures same_reference { row.new.sink.ghost_name ≡ row.old.sink.ghost_name }
+    ensures desk { Stays L.shows L.leaves_one_of L.is_trusted desk.old desk.new }
+{
+    match desk.info(number, row) {
+        Ok(End::All) => put_whole(&Reply::Done, row.sink),
+        Ok(End::Stopped) => Err(PutFault::Sink),
+        Err(_) => {
+            if row.has_begun {
+                Err(PutFault::Desk)
+            } else {
+                put_unavailable(row.sink)
+            }
+        }
+    }
+}
+
+// The same over a sink.
 fn put_edition<L: Lookup, K: Sink>(
     desk: &mut L,
     number: u64,
@@ -195,11 +221,26 @@ fn put_edition<L: Lookup, K: Sink>(
         sink,
         has_begun: false,
     };
-    match desk.info(number, &mut row) {
-        Ok(End::All) => put_whole(&Reply::Done, row.sink),
-        Ok(End::Stopped) => Err(PutFault::Sink),
-        Err(_) if row.has_begun => Err(PutFault::Desk),
-        Err(_) => put_unavailable(row.sink),
+    put_row(desk, number, &mut row)
+}
+
+// The first item of this name.
+fn item_named<'i>(items: &'i [Item], name: &str) -> Option<&'i Item>
+    ensures { option_map (λ item. item.now) result ≡ find (λ item. is_named name.now (item_shown item)) items.now }
+{
+    items.iter().find(|item| item.name() == name)
+}
+
+// How many items the desk has.
+fn count_items<L: Lookup>(desk: &L) -> Result<u64, Fault>
+    ensures { (M : Catalogue) → L.shows desk.now M → IfOk result (λ count. count ≡ length M.items) }
+{
+    match desk.summary() {
+        Ok(summary) => {
+            let items: &[Item] = &summary.items;
+            Ok(items.len() as u64)
+        }
+        Err(fault) => Err(fault),
     }
 }
 
@@ -216,9 +257,10 @@ pub(crate) fn put_info<L: Lookup, K: Sink>(
     let Ok(summary) = desk.summary() else {
         return put_unavailable(sink);
     };
-    match summary.items.iter().find(|item| item.name() == name) {
+    let items: &[Item] = &summary.items;
+    match item_named(items, name) {
         None => put_whole(&Reply::InvalidDatabase, sink),
-        Some(Item::Virtual { members, .. }) => whole(put_members(&summary.items, members, sink)),
+        Some(Item::Virtual { members, .. }) => whole(put_members(items, members, sink)),
         Some(Item::Regular { current, .. }) => {
             let number = current.number;
             put_edition(desk, number, sink)
@@ -230,8 +272,8 @@ pub(crate) fn put_info<L: Lookup, K: Sink>(
 pub(crate) fn put_status<L: Lookup, K: Sink>(desk: &L, sink: &mut K) -> Result<Answered, PutFault>
     ensures { (M : Catalogue) → L.shows desk.now M → (failed : Bool) → PutsAnswer failed result (K.stream sink.old) (K.stream sink.new) (status_answer M) true }
 {
-    match desk.summary() {
-        Ok(summary) => put_whole(&Reply::Status(summary.items.len() as u64), sink),
+    match count_items(desk) {
+        Ok(count) => put_whole(&Reply::Status(count), sink),
         Err(_) => put_unavailable(sink),
     }
 }

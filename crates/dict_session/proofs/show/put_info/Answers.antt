@@ -1,14 +1,49 @@
-use Rattle.std.proofs.Common.{subst, sym, ◌∙◌}
+use Rattle.std.proofs.Common.{List, ℕ, ◌++◌, ◌≡◌, ap, ◌∙◌, sym, subst, map, length, true, None, Some, refl}
+use Rattle.std.specs.Prelude.{Option, option_map, find, string_bytes}
+use Rattle.std.specs.List.{flat_map}
+use Rattle.std.proofs.lemmas.List.{length-map}
 use Rattle.dict_io.specs.Streams.{Puts}
-use Rattle.dict_session.proofs.ShowLemmas.{info_is, info_unknown}
+use Rattle.dict_io.proofs.PutLemmas.{puts_after, puts_err, front_after, front_longer}
+use Rattle.dict_catalogue.specs.Items.{is_named, Item, regular, virtual}
+use Rattle.dict_catalogue.specs.Views.{item_shown, texts_shown, stored_shown}
+use Rattle.dict_catalogue.specs.declared.summary.Item.{Item as SummaryItem}
+use Rattle.dict_proto.specs.Replies.{info_heading_octets, list_end_octets, done_octets}
+use Rattle.dict_session.specs.Ending.{PutsAnswer}
+use Rattle.dict_session.specs.Rows.{members_octets}
+use Rattle.dict_session.specs.Shows.{databases_answer, server_answer, info_answer}
+use Rattle.dict_session.proofs.ShowLemmas.{info_unknown, info_virtual, info_regular, found_shown}
 use Rattle.dict_session.proofs.show.put_info.Goals as goal
 
-pub returns-then-not-has_name : goal.returns-then-not-has_name
-returns-then-not-has_name g c =
-    subst (Puts c.write_reply.result (g.K.Sink.stream c.args.sink.now) (g.K.Sink.stream c.write_reply.new.sink))
-    (info_unknown c.args.plain.now c.args.name.now (sym c.has_name.ensures ∙ c.if-not-has_name.true)) c.write_reply.ensures
+pub returns-in-None-clause-value : goal.returns-in-None-clause-value
+returns-in-None-clause-value g c = λ trusted M shown.
+    let failed = g.L.Lookup.has_failed c.args.desk.now in
+    let items = map item_shown c.deref-items.result.now in
+    let same = (ap (λ (items : List SummaryItem). map item_shown items) c.deref-items.ensures.value ∙ ap (λ h. h.items) (c.in-Ok.ensures.value M shown)) in
+    let named : None ≡ find (is_named c.args.name.now) items = found_shown item_shown (is_named c.args.name.now) c.deref-items.result.now None c.in-None.ensures in
+    subst (λ (answer : List ℕ). PutsAnswer failed c.put_whole.result (g.K.Sink.stream c.args.sink.now) (g.K.Sink.stream c.put_whole.new.sink) answer true) (info_unknown M c.args.name.now items same named) (c.put_whole.ensures failed true)
 
-pub returns : goal.returns
-returns g c =
-    subst (Puts c.put_replies.result (g.K.Sink.stream c.args.sink.now) (g.K.Sink.stream c.put_replies.new.sink))
-    (info_is c.args.plain.now c.args.name.now c.info.result (sym c.has_name.ensures ∙ c.if-not-has_name.false) c.info.ensures) c.put_replies.ensures
+pub returns-in-Some-Virtual-clause-value : goal.returns-in-Some-Virtual-clause-value
+returns-in-Some-Virtual-clause-value g c = λ trusted M shown.
+    let items = map item_shown c.deref-items.result.now in
+    let same = (ap (λ (items : List SummaryItem). map item_shown items) c.deref-items.ensures.value ∙ ap (λ h. h.items) (c.in-Ok.ensures.value M shown)) in
+    let own = string_bytes c.in-Some-Virtual.field-0-0 in
+    let title = string_bytes c.in-Some-Virtual.field-0-1 in
+    let members = texts_shown c.in-Some-Virtual.members.items in
+    let named : Some (virtual own title members) ≡ find (is_named c.args.name.now) items =
+    ap (λ x. Some (item_shown x)) (sym c.in-Some-Virtual.field-0-is) ∙ found_shown item_shown (is_named c.args.name.now) c.deref-items.result.now (Some c.in-Some-Virtual.field-0.now) c.in-Some-Virtual.ensures in
+    c.whole.ensures (g.K.Sink.stream c.args.sink.now) (g.K.Sink.stream c.put_members.new.sink) (info_answer M c.args.name.now) (g.L.Lookup.has_failed c.args.desk.now) true
+    (subst (Puts c.put_members.result (g.K.Sink.stream c.args.sink.now) (g.K.Sink.stream c.put_members.new.sink))
+    (ap (λ (texts : List (List ℕ)). info_heading_octets ++ (members_octets items texts ++ (list_end_octets ++ done_octets))) (ap texts_shown c.deref.ensures.value) ∙ info_virtual M c.args.name.now items same own title members named) c.put_members.ensures)
+
+pub returns-in-Some-Regular-clause-value : goal.returns-in-Some-Regular-clause-value
+returns-in-Some-Regular-clause-value g c = λ trusted M shown.
+    let items = map item_shown c.deref-items.result.now in
+    let same = (ap (λ (items : List SummaryItem). map item_shown items) c.deref-items.ensures.value ∙ ap (λ h. h.items) (c.in-Ok.ensures.value M shown)) in
+    let own = string_bytes c.in-Some-Regular.field-0-0 in
+    let current = stored_shown c.in-Some-Regular.current in
+    let former = option_map stored_shown c.in-Some-Regular.field-0-2 in
+    let named : Some (regular own current former) ≡ find (is_named c.args.name.now) items =
+    ap (λ x. Some (item_shown x)) (sym c.in-Some-Regular.field-0-is) ∙ found_shown item_shown (is_named c.args.name.now) c.deref-items.result.now (Some c.in-Some-Regular.field-0.now) c.in-Some-Regular.ensures in
+    let (edition, has, answer) = info_regular M c.args.name.now items same own current former named in
+    subst (λ (octets : List ℕ). PutsAnswer (g.L.Lookup.has_failed c.put_edition.new.desk) c.put_edition.result (g.K.Sink.stream c.args.sink.now) (g.K.Sink.stream c.put_edition.new.sink) octets true) answer
+    (c.put_edition.ensures.value trusted M edition shown has)

@@ -5,7 +5,6 @@ use Rattle.dict_io.proofs.PutLemmas.{puts_err, puts_after, front_after, front_lo
 use Rattle.dict_match.specs.StrategyText.{strategies}
 use Rattle.dict_proto.specs.Replies.{strategy_count_octets, list_end_octets, done_octets}
 use Rattle.dict_session.specs.Shows.{strategy_line, strategies_answer}
-use Rattle.dict_session.proofs.ShowLemmas.{end_is}
 use Rattle.dict_session.proofs.show.put_strategies.Goals as goal
 
 pub returns-in_err-write_reply : goal.returns-in_err-write_reply
@@ -21,6 +20,6 @@ returns-in_err-put_strategy_lines g c =
 pub returns : goal.returns
 unfolding strategies_answer
 returns g c =
-    puts_after c.put_replies.result _ _ _ (strategy_count_octets (length strategies)) (flat_map strategy_line strategies ++ (list_end_octets ++ done_octets)) c.in_ok-write_reply.ensures
-    (puts_after c.put_replies.result _ _ _ (flat_map strategy_line strategies) (list_end_octets ++ done_octets) c.in_ok-put_strategy_lines.ensures
-    (subst (Puts c.put_replies.result (g.K.Sink.stream c.put_strategy_lines.new.sink) (g.K.Sink.stream c.put_replies.new.sink)) end_is c.put_replies.ensures))
+    puts_after c.put_list_end.result _ _ _ (strategy_count_octets (length strategies)) (flat_map strategy_line strategies ++ (list_end_octets ++ done_octets)) c.in_ok-write_reply.ensures
+    (puts_after c.put_list_end.result _ _ _ (flat_map strategy_line strategies) (list_end_octets ++ done_octets) c.in_ok-put_strategy_lines.ensures
+    c.put_list_end.ensures)
