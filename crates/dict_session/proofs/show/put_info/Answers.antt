@@ -11,6 +11,7 @@ use Rattle.dict_proto.specs.Replies.{info_heading_octets, list_end_octets, done_
 use Rattle.dict_session.specs.Ending.{PutsAnswer}
 use Rattle.dict_session.specs.Rows.{members_octets}
 use Rattle.dict_session.specs.Shows.{databases_answer, server_answer, info_answer}
+use Rattle.dict_desk.specs.Shown.{HasEdition}
 use Rattle.dict_session.proofs.ShowLemmas.{info_unknown, info_virtual, info_regular, found_shown}
 use Rattle.dict_session.proofs.show.put_info.Goals as goal
 
@@ -33,7 +34,7 @@ returns-in-Some-Virtual-clause-value g c = λ trusted M shown.
     ap (λ x. Some (item_shown x)) (sym c.in-Some-Virtual.field-0-is) ∙ found_shown item_shown (is_named c.args.name.now) c.deref-items.result.now (Some c.in-Some-Virtual.field-0.now) c.in-Some-Virtual.ensures in
     c.whole.ensures (g.K.Sink.stream c.args.sink.now) (g.K.Sink.stream c.put_members.new.sink) (info_answer M c.args.name.now) (g.L.Lookup.has_failed c.args.desk.now) true
     (subst (Puts c.put_members.result (g.K.Sink.stream c.args.sink.now) (g.K.Sink.stream c.put_members.new.sink))
-    (ap (λ (texts : List (List ℕ)). info_heading_octets ++ (members_octets items texts ++ (list_end_octets ++ done_octets))) (ap texts_shown c.deref.ensures.value) ∙ info_virtual M c.args.name.now items same own title members named) c.put_members.ensures)
+    (ap (λ (texts : List (List ℕ)). info_heading_octets ++ (members_octets items texts ++ (list_end_octets ++ done_octets))) (ap texts_shown (c.deref.ensures.value ∙ ap (λ v. v.items) c.in-Some-Virtual.members-is)) ∙ info_virtual M c.args.name.now items same own title members named) c.put_members.ensures)
 
 pub returns-in-Some-Regular-clause-value : goal.returns-in-Some-Regular-clause-value
 returns-in-Some-Regular-clause-value g c = λ trusted M shown.
@@ -46,4 +47,4 @@ returns-in-Some-Regular-clause-value g c = λ trusted M shown.
     ap (λ x. Some (item_shown x)) (sym c.in-Some-Regular.field-0-is) ∙ found_shown item_shown (is_named c.args.name.now) c.deref-items.result.now (Some c.in-Some-Regular.field-0.now) c.in-Some-Regular.ensures in
     let (edition, has, answer) = info_regular M c.args.name.now items same own current former named in
     subst (λ (octets : List ℕ). PutsAnswer (g.L.Lookup.has_failed c.put_edition.new.desk) c.put_edition.result (g.K.Sink.stream c.args.sink.now) (g.K.Sink.stream c.put_edition.new.sink) octets true) answer
-    (c.put_edition.ensures.value trusted M edition shown has)
+    (c.put_edition.ensures.value trusted M edition shown (subst (λ (n : ℕ). HasEdition M n edition) (ap (λ v. v.number) (sym c.in-Some-Regular.current-is)) has))
