@@ -27,6 +27,9 @@ pub use session::Session;
 pub use session::run::{End, SessionFault, run};
 pub use step::Step;
 
+#[cfg(test)]
+mod tests;
+
 
 /// The lines of octets are these, and no others.
 pub fn one_cut()

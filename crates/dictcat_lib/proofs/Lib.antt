@@ -1,2 +1,3 @@
 pub mod EndLemmas
 pub mod LineLemmas
+pub mod PlainLemmas

@@ -1,10 +1,11 @@
 -- How a session over one database in lists ends.
-use Rattle.std.specs.Prelude.{◌≡◌, ◌≢◌, ℕ, ◌⊎◌, IsTrue, false, List, [], Option, Some, None, Result, Ok, Err, codes}
+use Rattle.std.specs.Prelude.{◌≡◌, ◌≢◌, ℕ, ◌⊎◌, IsTrue, Bool, false, List, [], Option, Some, None, Result, Ok, Err, codes}
 use Rattle.dict_catalogue.specs.declared.fault.Refusal.TheVariants.{BadName}
 use Rattle.dict_name.specs.Names.{is_name}
 use Rattle.dict_index.specs.Edition.{Edition}
 use Rattle.dict_index.specs.Meaning.{IsEdition, IsFault}
-use Rattle.dict_session.specs.Database.{Database}
+use Rattle.dict_catalogue.specs.Commands.{install}
+use Rattle.dict_catalogue.specs.Steps.{Catalogue, empty_catalogue, step}
 use Rattle.dict_io.specs.Streams.{Change}
 use Rattle.dict_session.specs.Run.{Ends}
 use Rattle.dict_session.specs.declared.session.run.End.{End}
@@ -18,14 +19,16 @@ use Rattle.dictcat_lib.specs.declared.fault.Fault.TheVariants as faults
 abbrev pub IsUntouched : Change → Type 0
 IsUntouched change = change.new ≡ change.old
 
--- the edition that an index and a text say, under a lawful name
-abbrev pub IsDatabase : List ℕ → List ℕ → List ℕ → Database → Type 0
-IsDatabase name index text database = (database.name ≡ name) × IsTrue (is_name name) × IsEdition index text database.edition
+-- the catalogue whose one command installed this edition under this name
+unfoldable pub catalogue_of : List ℕ → Edition → Catalogue
+catalogue_of name edition = (step empty_catalogue (codes "plain") (install name edition)).catalogue
 
--- a session over that database, greeted as the first at localhost, ended so
+-- a session over the edition that an index and a text say, installed under this lawful name, greeted as the first at
+-- localhost, ended so
 abbrev pub EndsOver : List ℕ → List ℕ → List ℕ → Result End SessionFault → Change → Change → Type 0
 EndsOver name index text end reader writer =
-    (database : Database) × IsDatabase name index text database × Ends database (codes "localhost") 1 end reader writer
+    (edition : Edition) × IsTrue (is_name name) × IsEdition index text edition
+    × ((failed : Bool) × Ends (catalogue_of name edition) (codes "localhost") 1 failed end reader writer)
 
 -- what comes of an index, a text and a name
 abbrev pub PlainEnds : {A : Type 0} → List ℕ → List ℕ → List ℕ → Result A Fault → Change → Change → Type 0

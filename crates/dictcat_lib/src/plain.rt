@@ -6,17 +6,20 @@ ghost use Rattle.std.specs.Prelude.{MatchResult};
 
 use crate::fault::Fault;
 use crate::files::{InputFiles, ReadFault};
-use dict_catalogue::Refusal;
+use dict_catalogue::Command;
+use dict_desk::{Fault as DeskFault, Keeper, PlainDesk};
 use dict_index::read_edition;
 use dict_io::{Sink, Source};
-use dict_name::is_name;
-use dict_session::{Plain, SessionFault, run};
+use dict_session::{SessionFault, run};
 use std::alloc::Global;
 
 const HOST: &str = "localhost";
 
+/// The id under which the database is installed.
+const INSTALL_ID: &str = "plain";
+
 /// Runs a session over the database that an index and a text make, under a name, with host `localhost` and as
-/// connection 1. The edition's refusals come first, and then the name's.
+/// connection 1. The edition's refusals come first, and then that of its install: the name's.
 pub fn run_plain<S: Source, K: Sink>(
     alloc: Global,
     name: &str,
@@ -32,16 +35,22 @@ pub fn run_plain<S: Source, K: Sink>(
         Ok(edition) => edition,
         Err(fault) => return Err(Fault::from(fault)),
     };
-    if !is_name(name) {
-        return Err(Fault::Refused(Refusal::BadName));
-    }
-    let Ok(plain) = Plain::new(alloc, name, &edition) else {
-        return Err(Fault::Memory);
+    let mut desk = PlainDesk::new(alloc);
+    let install = Command::Install {
+        name,
+        edition: &edition,
     };
-    match run(alloc, reader, writer, &plain, HOST, 1) {
+    match desk.apply(INSTALL_ID, &install) {
+        Ok(_) => {}
+        Err(DeskFault::Refused(refusal)) => return Err(Fault::Refused(refusal)),
+        Err(_) => return Err(Fault::Memory),
+    }
+    match run(alloc, reader, writer, &mut desk, HOST, 1) {
         Ok(_) => Ok(()),
         Err(SessionFault::Memory) => Err(Fault::Memory),
-        Err(SessionFault::Read | SessionFault::Write) => Err(Fault::SessionEnded),
+        Err(SessionFault::Read | SessionFault::Write | SessionFault::Broken) => {
+            Err(Fault::SessionEnded)
+        }
     }
 }
 
