@@ -63,6 +63,7 @@ module _ {A B : Type 0} (f : A → B) where
     where
       of_name : List ℕ → Asking
       of_name places = record { places = places; is_first = false }
+
       by_word : List ℕ → Option Asking → Option Asking
       by_word l o = if bytes_eq word (codes "*") then Some (record { places = l; is_first = false }) else if bytes_eq word (codes "!") then Some (record { places = l; is_first = true }) else o
 
@@ -95,6 +96,7 @@ places_stand test only all n (regular name current former ∷ items) e =
   where
     here : Database
     here = record { name = name; edition = current.content }
+
     by_test : (b : Bool) → at_place all n ≡ here ∷ [] → at_places all (places_from test (n + 1) items) ≡ those test items
         → at_places all (if b then n ∷ places_from test (n + 1) items else places_from test (n + 1) items) ≡ (if b then here ∷ those test items else those test items)
     by_test true e f = ap (λ l. l ++ at_places all (places_from test (n + 1) items)) e ∙ ap (λ l. here ∷ l) f
@@ -194,8 +196,10 @@ asked_few M word asking w e = by_tests (bytes_eq word (codes "*")) (bytes_eq wor
   where
     all : List ℕ
     all = places_from is_regular 0 M.items
+
     all_few : length all ≤ 64
     all_few = omega (arith, places_few is_regular 0 M.items, w.item_limit)
+
     by_tests : (a b : Bool) (o : Option (List ℕ)) → places_under M.items word 0 M.items ≡ o
         → (if a then Some (record { places = all; is_first = false }) else if b then Some (record { places = all; is_first = true }) else option_map (λ (places : List ℕ). let made : Asking = record { places = places; is_first = false } in made) o) ≡ Some asking
         → length asking.places ≤ 64
@@ -213,11 +217,14 @@ searched_are M word query = by_tests (bytes_eq word (codes "*")) (bytes_eq word 
   where
     all : List ℕ
     all = places_from is_regular 0 M.items
+
     given : Asking → List Database
     given asking = at_places M.items (answering query M.items asking.places asking.is_first)
+
     named : (o : Option (List ℕ)) → option_map (at_places M.items) o ≡ option_map given (option_map (λ (places : List ℕ). let made : Asking = record { places = places; is_first = false } in made) o)
     named None = refl
     named (Some places) = refl
+
     by_tests : (a b : Bool) → (if a then Some (databases M.items) else if b then Some (first_finding query.strategy query.key (databases M.items)) else option_map (asked_by M.items) (find (is_named word) M.items))
         ≡ option_map given (if a then Some (record { places = all; is_first = false }) else if b then Some (record { places = all; is_first = true }) else option_map (λ (places : List ℕ). let made : Asking = record { places = places; is_first = false } in made) (places_under M.items word 0 M.items))
     by_tests true b = ap Some (sym (all_stand M.items))

@@ -75,6 +75,7 @@ first_over query items (place ∷ places) = by_item (slice_get items place) refl
         → at_places items (if b then first_counted (count_at query items) places else place ∷ []) ≡ (if b then first_finding query.strategy query.key (at_places items places) else db ∷ [])
     by_count true db e h = h
     by_count false db e h = ap (λ l. l ++ []) e
+
     by_item : (o : Option (Item Edition)) → slice_get items place ≡ o → at_places items (first_counted (count_at query items) places) ≡ first_finding query.strategy query.key (at_places items places)
         → at_places items (if count_at query items place == 0 then first_counted (count_at query items) places else place ∷ []) ≡ first_finding query.strategy query.key (at_place items place ++ at_places items places)
     by_item None e h =

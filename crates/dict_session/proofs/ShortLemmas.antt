@@ -263,6 +263,7 @@ named-short member (regular name current former ∷ items) lawful well = by_test
   where
     db : Database
     db = record { name = name; edition = current.content }
+
     by_test : (b : Bool) → AreShortLines (flat_map database_line (databases_named items member)) → AreShortLines (flat_map database_line (if b then db ∷ databases_named items member else databases_named items member))
     by_test true h = short_append (database_line db) (flat_map database_line (databases_named items member)) (database-short db (record { name = lawful.0; edition = current_well name current former well.0 })) h
     by_test false h = h

@@ -80,6 +80,7 @@ named_lines member (regular name current former ∷ items) = by_test (bytes_eq n
   where
     here : Database
     here = record { name = name; edition = current.content }
+
     by_test : (b : Bool) → flat_map (line_if_named member) (map titled items) ≡ flat_map database_line (databases_named items member)
         → (if b && true then shown_line (titled (regular name current former)) else []) ++ flat_map (line_if_named member) (map titled items)
         ≡ flat_map database_line (if b then here ∷ databases_named items member else databases_named items member)

@@ -25,13 +25,13 @@ pub found_joined : (a b c : Stream) (what what' : What) (heading heading' : Head
     → PutsAll a b (flat_map (octets_under what heading) rows) → PutsAll b c (flat_map (octets_under what' heading') more) → PutsAll a c (flat_map (octets_under what heading) (rows ++ more))
 found_joined a b c what what' heading heading' rows more e f h k =
     all_joined (octets_under what heading) a b c rows more h
-        (subst (λ (w : What). PutsAll b c (flat_map (octets_under w heading) more)) e (subst (λ (x : Heading). PutsAll b c (flat_map (octets_under what' x) more)) f k))
+    (subst (λ (w : What). PutsAll b c (flat_map (octets_under w heading) more)) e (subst (λ (x : Heading). PutsAll b c (flat_map (octets_under what' x) more)) f k))
 
 pub found_stopped : (a b c : Stream) (what what' : What) (heading heading' : Heading) (rows more rest : List Entry) → what' ≡ what → heading' ≡ heading
     → PutsAll a b (flat_map (octets_under what heading) rows) → PutsFront b c (flat_map (octets_under what' heading') more) → PutsFront a c (flat_map (octets_under what heading) (rows ++ (more ++ rest)))
 found_stopped a b c what what' heading heading' rows more rest e f h k =
     front_joined (octets_under what heading) a b c rows more rest h
-        (subst (λ (w : What). PutsFront b c (flat_map (octets_under w heading) more)) e (subst (λ (x : Heading). PutsFront b c (flat_map (octets_under what' x) more)) f k))
+    (subst (λ (w : What). PutsFront b c (flat_map (octets_under w heading) more)) e (subst (λ (x : Heading). PutsFront b c (flat_map (octets_under what' x) more)) f k))
 
 pub some_none : (x : Bool) → x ≡ (x || false)
 some_none true = refl

@@ -13,6 +13,7 @@ const MAX_PLACES: usize = 64;
 
 /// The most octets of a database's name, and of its title.
 const MAX_NAME: usize = 32;
+
 const MAX_TITLE: usize = 200;
 
 /// The places among a catalogue's items of the databases that are asked, in their order: all of them, or the first in

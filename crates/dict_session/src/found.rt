@@ -139,7 +139,7 @@ fn deliver<L: Lookup, K: Sink>(
 ) -> Result<(), PutFault>
     ensures value { L.is_trusted desk.new → (M : Catalogue) (edition : Edition) → L.shows desk.old M → HasEdition M number edition
         → Delivers (L.has_failed desk.new) result (K.stream rows.old.sink.now) (K.stream rows.new.sink.now)
-            (flat_map (row_octets rows.old.what rows.old.heading.now.name.bytes rows.old.heading.now.title.bytes) (rows_by query.now.what query.now.strategy query.now.key edition)) }
+        (flat_map (row_octets rows.old.what rows.old.heading.now.name.bytes rows.old.heading.now.title.bytes) (rows_by query.now.what query.now.strategy query.now.key edition)) }
     ensures same_reference { rows.new.sink.ghost_name ≡ rows.old.sink.ghost_name }
     ensures desk { Stays L.shows L.leaves_one_of L.is_trusted desk.old desk.new }
     ensures open { OnOk result (L.is_closed desk.new ≡ false) }
@@ -160,7 +160,7 @@ fn put_rows<L: Lookup, K: Sink>(
 ) -> Result<(), PutFault>
     ensures value { L.is_trusted desk.new → (M : Catalogue) (edition : Edition) → L.shows desk.old M → HasEdition M heading.now.number edition
         → Delivers (L.has_failed desk.new) result (K.stream sink.old) (K.stream sink.new)
-            (flat_map (row_octets query.now.what heading.now.name.bytes heading.now.title.bytes) (rows_by query.now.what query.now.strategy query.now.key edition)) }
+        (flat_map (row_octets query.now.what heading.now.name.bytes heading.now.title.bytes) (rows_by query.now.what query.now.strategy query.now.key edition)) }
     ensures desk { Stays L.shows L.leaves_one_of L.is_trusted desk.old desk.new }
     ensures open { OnOk result (L.is_closed desk.new ≡ false) }
 {

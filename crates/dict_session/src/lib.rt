@@ -30,7 +30,6 @@ pub use step::Step;
 #[cfg(test)]
 mod tests;
 
-
 /// The lines of octets are these, and no others.
 pub fn one_cut()
     ensures found { (b : List ℕ) → AreLines b (cut b).lines (cut b).rest }

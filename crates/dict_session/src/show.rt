@@ -170,11 +170,7 @@ fn put_member_lines<K: Sink>(
 }
 
 // Puts the answer to SHOW INFO about a virtual item with these members.
-fn put_members<K: Sink>(
-    items: &[Item],
-    members: &[String],
-    sink: &mut K,
-) -> Result<(), SinkFault>
+fn put_members<K: Sink>(items: &[Item], members: &[String], sink: &mut K) -> Result<(), SinkFault>
     ensures { Puts result (K.stream sink.old) (K.stream sink.new) (info_heading_octets ++ (members_octets (map item_shown items.now) (texts_shown members.now) ++ (list_end_octets ++ done_octets))) }
 {
     write_reply(sink, &Reply::InfoHeading)?;

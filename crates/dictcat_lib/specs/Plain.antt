@@ -30,6 +30,28 @@ EndsOver name index text end reader writer =
     (edition : Edition) × IsTrue (is_name name) × IsEdition index text edition
     × ((failed : Bool) × Ends (catalogue_of name edition) (codes "localhost") 1 failed end reader writer)
 
+-- what is told of a session's fault
+abbrev pub told_by : SessionFault → Fault
+told_by session_faults.Read = faults.SessionEnded
+told_by session_faults.Write = faults.SessionEnded
+told_by session_faults.Broken = faults.SessionEnded
+told_by session_faults.Memory = faults.Memory
+
+-- a session over the edition, installed under this lawful name, ended so
+abbrev pub RunsOver : List ℕ → Edition → Result End SessionFault → Change → Change → Type 0
+RunsOver name edition end reader writer = IsTrue (is_name name) × ((failed : Bool) × Ends (catalogue_of name edition) (codes "localhost") 1 failed end reader writer)
+
+-- what comes of an edition and a name
+abbrev pub InstalledEnds : {A : Type 0} → List ℕ → Edition → Result A Fault → Change → Change → Type 0
+InstalledEnds name edition (Ok _) reader writer = (end : End) × RunsOver name edition (Ok end) reader writer
+InstalledEnds name edition (Err (faults.Refused refusal)) reader writer = (refusal ≡ BadName) × (is_name name ≡ false) × IsUntouched reader × IsUntouched writer
+InstalledEnds name edition (Err faults.SessionEnded) reader writer = (fault : SessionFault) × (fault ≢ session_faults.Memory) × RunsOver name edition (Err fault) reader writer
+InstalledEnds name edition (Err faults.Memory) reader writer = IsUntouched reader × IsUntouched writer
+InstalledEnds name edition (Err (faults.Line refusal line)) reader writer = ⊥
+InstalledEnds name edition (Err (faults.Edition refusal)) reader writer = ⊥
+InstalledEnds name edition (Err (faults.CannotRead path)) reader writer = ⊥
+InstalledEnds name edition (Err faults.CannotWrite) reader writer = ⊥
+
 -- what comes of an index, a text and a name
 abbrev pub PlainEnds : {A : Type 0} → List ℕ → List ℕ → List ℕ → Result A Fault → Change → Change → Type 0
 PlainEnds name index text (Ok _) reader writer = (end : End) × EndsOver name index text (Ok end) reader writer

@@ -1,14 +1,18 @@
 // A session over one database in lists.
 ghost use Rattle.dict_io.specs.Streams.{change};
-ghost use Rattle.dictcat_lib.specs.Plain.{PlainEnds, FilesEnd, IsUnread};
+ghost use Rattle.dictcat_lib.specs.Plain.{PlainEnds, InstalledEnds, FilesEnd, IsUnread, told_by};
 ghost use Rattle.dictcat_lib.specs.Files.{IsReadFrom};
-ghost use Rattle.std.specs.Prelude.{MatchResult};
+ghost use Rattle.std.specs.Prelude.{◌≡◌, MatchResult, codes};
+ghost use Rattle.dict_index.specs.Edition.{edition_of};
+ghost use Rattle.dict_catalogue.specs.Commands.{install};
+ghost use Rattle.dict_catalogue.specs.Steps.{Catalogue, empty_catalogue, step};
+ghost use Rattle.dict_desk.specs.Applying.{Applies};
 
 use crate::fault::Fault;
 use crate::files::{InputFiles, ReadFault};
-use dict_catalogue::Command;
+use dict_catalogue::{Command, Kept};
 use dict_desk::{Fault as DeskFault, Keeper, PlainDesk};
-use dict_index::read_edition;
+use dict_index::{Edition, read_edition};
 use dict_io::{Sink, Source};
 use dict_session::{SessionFault, run};
 use std::alloc::Global;
@@ -36,25 +40,54 @@ pub fn run_plain<S: Source, K: Sink>(
         Err(fault) => return Err(Fault::from(fault)),
     };
     let mut desk = PlainDesk::new(alloc);
-    let install = Command::Install {
-        name,
-        edition: &edition,
-    };
-    match desk.apply(INSTALL_ID, &install) {
+    run_installed(alloc, &mut desk, name, &edition, reader, writer)
+}
+
+// Installs the edition under the name, and runs a session over that.
+fn run_installed<D: Keeper, S: Source, K: Sink>(
+    alloc: Global,
+    desk: &mut D,
+    name: &str,
+    edition: &Edition,
+    reader: &mut S,
+    writer: &mut K,
+) -> Result<(), Fault<'static>>
+    ensures { D.is_trusted desk.new → D.shows desk.old empty_catalogue → InstalledEnds name.now (edition_of edition.now) result
+        (change S.stream reader.old reader.new) (change K.stream writer.old writer.new) }
+{
+    match install(desk, name, edition) {
         Ok(_) => {}
         Err(DeskFault::Refused(refusal)) => return Err(Fault::Refused(refusal)),
         Err(_) => return Err(Fault::Memory),
     }
-    match run(alloc, reader, writer, &mut desk, HOST, 1) {
+    match run(alloc, reader, writer, desk, HOST, 1) {
         Ok(_) => Ok(()),
-        Err(SessionFault::Memory) => Err(Fault::Memory),
-        Err(SessionFault::Read | SessionFault::Write | SessionFault::Broken) => {
-            Err(Fault::SessionEnded)
-        }
+        Err(fault) => Err(told_by(fault)),
     }
 }
 
-// The same over two files, by their paths.
+// What is told of a session's fault.
+fn told_by(fault: SessionFault) -> Fault<'static>
+    ensures { result ≡ told_by fault }
+{
+    match fault {
+        SessionFault::Memory => Fault::Memory,
+        SessionFault::Read => Fault::SessionEnded,
+        SessionFault::Write => Fault::SessionEnded,
+        SessionFault::Broken => Fault::SessionEnded,
+    }
+}
+
+// Installs the edition under the name, as the first command.
+fn install<K: Keeper>(desk: &mut K, name: &str, edition: &Edition) -> Result<Kept, DeskFault>
+    ensures value { K.is_trusted desk.new → (M : Catalogue) → K.shows desk.old M → Applies (K.shows desk.new) M (step M (codes "plain") (install name.now (edition_of edition.now))) result }
+    ensures trust { K.is_trusted desk.new → K.is_trusted desk.old }
+{
+    let command = Command::Install { name, edition };
+    desk.apply(INSTALL_ID, &command)
+}
+
+// A session over two files, by their paths.
 #[tactic(auto, unfolding(crate::specs::Plain::FilesEnd))]
 pub(crate) fn run_files<'w, I: InputFiles, S: Source, K: Sink>(
     alloc: Global,

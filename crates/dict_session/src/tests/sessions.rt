@@ -1,11 +1,10 @@
 // Sessions over catalogues in memory.
 use super::files::{GEM, STONES, desk_of, ore_gem_all};
-use crate::{
-    End, Session, Step, is_host, one_cut, run, session_lines_are_short, spoken_answers,
-};
+use crate::{End, Session, Step, is_host, one_cut, run, session_lines_are_short, spoken_answers};
 use dict_desk::PlainDesk;
 use dict_io::{LimitedSink, OverRead};
 use std::alloc::Global;
+use std::process::Abort;
 use std::test::Fail;
 
 // What a client sends, whether a QUIT in it is answered, and the answers.
@@ -145,7 +144,7 @@ static EMPTY_ROWS: [Row; 5] = [
 
 // Runs the rows whole.
 fn run_rows(
-    rt: &HostRuntime,
+    rt: &impl Abort,
     alloc: Global,
     desk: &mut PlainDesk,
     rows: &[Row],
@@ -184,7 +183,7 @@ fn fed(
 
 // Feeds the rows octet by octet, and cut in two at each place.
 fn feed_rows(
-    rt: &HostRuntime,
+    rt: &impl Abort,
     alloc: Global,
     desk: &mut PlainDesk,
     rows: &[Row],

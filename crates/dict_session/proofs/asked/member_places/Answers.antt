@@ -13,5 +13,5 @@ loop-member-preserved c =
     let texts = texts_shown c.args.members.now in
     let member = c.member-item.result in
     places_in f (flat_map f texts) c.loop-member.places.items c.add_named.new.places.items (drop i texts) (string_bytes member) (drop (i + 1) texts)
-        (read_at string_bytes c.args.members.now i member (omega arith) c.member-item.is)
-        (subst (λ (name : List ℕ). Holds c.add_named.new.places.items (c.loop-member.places.items ++ f name)) c.as_str.ensures.value c.add_named.ensures) c.loop-member.invariant
+    (read_at string_bytes c.args.members.now i member (omega arith) c.member-item.is)
+    (subst (λ (name : List ℕ). Holds c.add_named.new.places.items (c.loop-member.places.items ++ f name)) c.as_str.ensures.value c.add_named.ensures) c.loop-member.invariant

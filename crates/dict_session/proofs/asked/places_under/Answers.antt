@@ -12,7 +12,7 @@ returns-then-eq c =
     let item = c.index-items-place.result in
     subst (HoldsUnder (Some c.places_by.result))
     (under_here all c.args.name.now i (drop i all) (item_shown item) (drop (i + 1) all) (places_under all c.args.name.now 0 all) (read_at item_shown c.args.items.now i item (omega arith) c.index-items-place.is)
-        (ap (λ (name : List ℕ). bytes_eq name c.args.name.now) (sym c.name.ensures) ∙ (sym c.eq.ensures ∙ c.if-eq.true)) c.loop-place.invariant)
+    (ap (λ (name : List ℕ). bytes_eq name c.args.name.now) (sym c.name.ensures) ∙ (sym c.eq.ensures ∙ c.if-eq.true)) c.loop-place.invariant)
     c.places_by.ensures
 
 pub loop-place-preserved : goal.loop-place-preserved
@@ -21,4 +21,4 @@ loop-place-preserved c =
     let all = map item_shown c.args.items.now in
     let item = c.index-items-place.result in
     under_later all c.args.name.now i (drop i all) (item_shown item) (drop (i + 1) all) (places_under all c.args.name.now 0 all) (read_at item_shown c.args.items.now i item (omega arith) c.index-items-place.is)
-        (ap (λ (name : List ℕ). bytes_eq name c.args.name.now) (sym c.name.ensures) ∙ (sym c.eq.ensures ∙ c.if-eq.false)) c.loop-place.invariant
+    (ap (λ (name : List ℕ). bytes_eq name c.args.name.now) (sym c.name.ensures) ∙ (sym c.eq.ensures ∙ c.if-eq.false)) c.loop-place.invariant

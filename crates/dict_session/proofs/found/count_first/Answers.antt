@@ -35,7 +35,7 @@ returns-in-Ok-clause-value g c = λ trusted M shown.
     let earlier = c.in-Ok.ensures.desk.trust trusted in
     let counted : c.in-Ok.count ≡ count place = c.in-Ok.ensures.value trusted M (c.loop-place.invariant.desk.shows earlier M shown) in
     let here : place ∷ [] ≡ first_counted count places = first_here count (drop i places) place (drop (i + 1) places) (first_counted count places) (drop_more places i 0 (omega arith))
-        (λ e. c.in-Ok.count-test.1 (counted ∙ e)) (c.loop-place.invariant.left earlier M shown) in
+    (λ e. c.in-Ok.count-test.1 (counted ∙ e)) (c.loop-place.invariant.left earlier M shown) in
     let alone : count place ≡ total count (place ∷ []) = omega arith in
     record { places = c.one_place.ensures ∙ here; count = counted ∙ (alone ∙ ap (total count) here) }
 

@@ -22,8 +22,7 @@ returns-in-Ok-Stopped-clause-same_reference g c = let (rows, handed) = c.in-Ok-S
 pub returns-in-Err-clause-value : goal.returns-in-Err-clause-value
 returns-in-Err-clause-value g c = λ trusted M edition shown has.
     let f = row_octets c.args.rows.now.what c.args.rows.now.heading.now.name.bytes c.args.rows.now.heading.now.title.bytes in
-    let (front, rest, parts, taken) = (c.in-Err.ensures.value trusted M edition shown has).failed in
-    (
+    let (front, rest, parts, taken) = (c.in-Err.ensures.value trusted M edition shown has).failed in (
       c.in-Err.ensures.failed,
       subst (PutsPart (g.K.Sink.stream c.args.rows.now.sink.now) (g.K.Sink.stream c.hand_out.new.sink.sink.now)) (sym (flat_map-append f front rest) ∙ sym (ap (flat_map f) parts))
           (part_of (g.K.Sink.stream c.args.rows.now.sink.now) (g.K.Sink.stream c.hand_out.new.sink.sink.now) (flat_map f front) (flat_map f rest) taken.0),

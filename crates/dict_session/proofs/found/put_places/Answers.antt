@@ -27,7 +27,7 @@ loop-place-preserved g c = record {
       subst (PutsAll (g.K.Sink.stream c.args.sink.now) (g.K.Sink.stream c.put_at.new.sink))
       (ap (λ l. flat_map f (take i places) ++ l) (sym (append-nil (f (get_or places i 0)))) ∙ (sym (flat_map-append f (take i places) (get_or places i 0 ∷ [])) ∙ sym (ap (flat_map f) (take_more places i 0 lt))))
       (all_after (g.K.Sink.stream c.args.sink.now) (g.K.Sink.stream c.loop-place.sink) (g.K.Sink.stream c.put_at.new.sink) (flat_map f (take i places)) (f (get_or places i 0))
-          (c.loop-place.invariant.left earlier M shown) (c.in-Ok.ensures.value trusted M (c.loop-place.invariant.desk.shows earlier M shown))));
+      (c.loop-place.invariant.left earlier M shown) (c.in-Ok.ensures.value trusted M (c.loop-place.invariant.desk.shows earlier M shown))));
   desk = stays_after g.L.Lookup.shows g.L.Lookup.leaves_one_of g.L.Lookup.is_trusted _ _ _ c.loop-place.invariant.desk c.in-Ok.ensures.desk;
   is_open = c.in-Ok.ensures.open;
 }
@@ -43,8 +43,8 @@ returns-in-Err-clause-value g c = λ trusted M shown.
     let rest = flat_map f (drop (i + 1) places) in
     subst (Breaks failed c.in-Err.fault (g.K.Sink.stream c.args.sink.now) (g.K.Sink.stream c.put_at.new.sink)) (sym (pieces_at f places i 0 lt))
     (breaks_after failed c.in-Err.fault (g.K.Sink.stream c.args.sink.now) (g.K.Sink.stream c.loop-place.sink) (g.K.Sink.stream c.put_at.new.sink) (flat_map f (take i places)) (f (get_or places i 0) ++ rest)
-        (c.loop-place.invariant.left earlier M shown)
-        (breaks_longer failed c.in-Err.fault (g.K.Sink.stream c.loop-place.sink) (g.K.Sink.stream c.put_at.new.sink) (f (get_or places i 0)) rest (c.in-Err.ensures.value trusted M (c.loop-place.invariant.desk.shows earlier M shown))))
+    (c.loop-place.invariant.left earlier M shown)
+    (breaks_longer failed c.in-Err.fault (g.K.Sink.stream c.loop-place.sink) (g.K.Sink.stream c.put_at.new.sink) (f (get_or places i 0)) rest (c.in-Err.ensures.value trusted M (c.loop-place.invariant.desk.shows earlier M shown))))
 
 pub returns-in-Err-clause-desk : goal.returns-in-Err-clause-desk
 returns-in-Err-clause-desk g c = stays_after g.L.Lookup.shows g.L.Lookup.leaves_one_of g.L.Lookup.is_trusted _ _ _ c.loop-place.invariant.desk c.in-Err.ensures.desk

@@ -25,8 +25,7 @@ more_of DeskFailed e = cc
 pub returns-in-Err-clause-answers : goal.returns-in-Err-clause-answers
 returns-in-Err-clause-answers g c = λ trusted M shown.
     let (b, read, turns, (greeted, hello, left)) = c.reads.invariant.left trusted M shown in
-    let answer = answer_to M c.args.host.now in
-    (
+    let answer = answer_to M c.args.host.now in (
       b,
       (
         Consumes-kept _ _ _ _ read.octets c.in-Err.ensures.given.octets,
@@ -59,8 +58,11 @@ returns-in-Quit-advance-clause-answers g c = λ trusted M shown.
     let last = subst (λ (host : List ℕ). Leaves (answer_to M host) failed Quit c.advance.new.self (g.K.Sink.stream c.reads.writer) (g.K.Sink.stream c.advance.new.sink) ((cut b).rest ++ piece))
     c.reads.invariant.host (c.in-Quit-advance.ensures.answers c.reads.invariant.step trusted M (c.reads.invariant.desk.shows earlier M shown) (cut b).rest left.1) in (
       b ++ piece,
-      (given_after _ _ _ b piece read c.in-Ok-take.ensures.given, quit_in answer (g.L.Lookup.has_failed c.reads.desk) (banner_octets c.args.host.now c.args.connection) (g.K.Sink.stream c.args.writer.now) greeted hello
-            (g.K.Sink.stream c.reads.writer) (g.K.Sink.stream c.advance.new.sink) b piece failed few left.0 last.0),
+      (
+        given_after _ _ _ b piece read c.in-Ok-take.ensures.given,
+        quit_in answer (g.L.Lookup.has_failed c.reads.desk) (banner_octets c.args.host.now c.args.connection) (g.K.Sink.stream c.args.writer.now) greeted hello
+            (g.K.Sink.stream c.reads.writer) (g.K.Sink.stream c.advance.new.sink) b piece failed few left.0 last.0,
+      ),
     )
 
 pub returns-in-SinkFailed-clause-answers : goal.returns-in-SinkFailed-clause-answers
@@ -74,8 +76,11 @@ returns-in-SinkFailed-clause-answers g c = λ trusted M shown.
     let last = subst (λ (host : List ℕ). Leaves (answer_to M host) failed SinkFailed c.advance.new.self (g.K.Sink.stream c.reads.writer) (g.K.Sink.stream c.advance.new.sink) ((cut b).rest ++ piece))
     c.reads.invariant.host (c.in-SinkFailed.ensures.answers c.reads.invariant.step trusted M (c.reads.invariant.desk.shows earlier M shown) (cut b).rest left.1) in (
       b ++ piece,
-      (given_after _ _ _ b piece read c.in-Ok-take.ensures.given, inr (sink_failed_in answer (g.L.Lookup.has_failed c.reads.desk) (banner_octets c.args.host.now c.args.connection) (g.K.Sink.stream c.args.writer.now) greeted hello
-            (g.K.Sink.stream c.reads.writer) (g.K.Sink.stream c.advance.new.sink) b piece failed few left.0 last.0)),
+      (
+        given_after _ _ _ b piece read c.in-Ok-take.ensures.given,
+        inr (sink_failed_in answer (g.L.Lookup.has_failed c.reads.desk) (banner_octets c.args.host.now c.args.connection) (g.K.Sink.stream c.args.writer.now) greeted hello
+            (g.K.Sink.stream c.reads.writer) (g.K.Sink.stream c.advance.new.sink) b piece failed few left.0 last.0),
+      ),
     )
 
 pub returns-in-DeskFailed-clause-answers : goal.returns-in-DeskFailed-clause-answers
@@ -87,9 +92,9 @@ returns-in-DeskFailed-clause-answers g c = λ trusted M shown.
     let piece = take c.in-Ok-take.n c.take.new.room in
     let few : length piece ≤ 4096 = omega (arith, c.take.auto.room, c.reads.invariant.space, c.in-Ok-take.ensures.count, length-take-le c.in-Ok-take.n c.take.new.room c.in-Ok-take.ensures.count) in
     let last = subst (λ (host : List ℕ). Leaves (answer_to M host) failed DeskFailed c.advance.new.self (g.K.Sink.stream c.reads.writer) (g.K.Sink.stream c.advance.new.sink) ((cut b).rest ++ piece))
-    c.reads.invariant.host (c.in-DeskFailed.ensures.answers c.reads.invariant.step trusted M (c.reads.invariant.desk.shows earlier M shown) (cut b).rest left.1) in 
+    c.reads.invariant.host (c.in-DeskFailed.ensures.answers c.reads.invariant.step trusted M (c.reads.invariant.desk.shows earlier M shown) (cut b).rest left.1) in
     let broken = desk_failed_in answer (g.L.Lookup.has_failed c.reads.desk) (banner_octets c.args.host.now c.args.connection) (g.K.Sink.stream c.args.writer.now) greeted hello
-            (g.K.Sink.stream c.reads.writer) (g.K.Sink.stream c.advance.new.sink) b piece failed few left.0 last.0 in (
+    (g.K.Sink.stream c.reads.writer) (g.K.Sink.stream c.advance.new.sink) b piece failed few left.0 last.0 in (
       b ++ piece,
       (given_after _ _ _ b piece read c.in-Ok-take.ensures.given, broken.0, broken.1),
     )
@@ -112,14 +117,14 @@ pub reads-preserved : goal.reads-preserved
 reads-preserved g c =
     record {
       left = λ trusted M shown.
-          (    let earlier = c.in-More-advance.ensures.desk.trust trusted in
-    let (b, read, turns, (greeted, hello, left)) = c.reads.invariant.left earlier M shown in
-    let answer = answer_to M c.args.host.now in
-    let failed = g.L.Lookup.has_failed c.advance.new.desk in
-    let piece = take c.in-Ok-take.n c.take.new.room in
-    let few : length piece ≤ 4096 = omega (arith, c.take.auto.room, c.reads.invariant.space, c.in-Ok-take.ensures.count, length-take-le c.in-Ok-take.n c.take.new.room c.in-Ok-take.ensures.count) in
-    let last = subst (λ (host : List ℕ). Leaves (answer_to M host) failed More c.advance.new.self (g.K.Sink.stream c.reads.writer) (g.K.Sink.stream c.advance.new.sink) ((cut b).rest ++ piece))
-    c.reads.invariant.host (c.in-More-advance.ensures.answers c.reads.invariant.step trusted M (c.reads.invariant.desk.shows earlier M shown) (cut b).rest left.1) in (
+          (let earlier = c.in-More-advance.ensures.desk.trust trusted in
+          let (b, read, turns, (greeted, hello, left)) = c.reads.invariant.left earlier M shown in
+          let answer = answer_to M c.args.host.now in
+          let failed = g.L.Lookup.has_failed c.advance.new.desk in
+          let piece = take c.in-Ok-take.n c.take.new.room in
+          let few : length piece ≤ 4096 = omega (arith, c.take.auto.room, c.reads.invariant.space, c.in-Ok-take.ensures.count, length-take-le c.in-Ok-take.n c.take.new.room c.in-Ok-take.ensures.count) in
+          let last = subst (λ (host : List ℕ). Leaves (answer_to M host) failed More c.advance.new.self (g.K.Sink.stream c.reads.writer) (g.K.Sink.stream c.advance.new.sink) ((cut b).rest ++ piece))
+          c.reads.invariant.host (c.in-More-advance.ensures.answers c.reads.invariant.step trusted M (c.reads.invariant.desk.shows earlier M shown) (cut b).rest left.1) in (
             b ++ piece,
             given_after _ _ _ b piece read c.in-Ok-take.ensures.given,
             omega (arith, length-append b piece, length-take-le c.in-Ok-take.n c.take.new.room c.in-Ok-take.ensures.count),
