@@ -6,7 +6,7 @@ use Rattle.dict_index.specs.Meaning.{IsEdition}
 use Rattle.dict_session.specs.Run.{Ends}
 use Rattle.dict_session.specs.declared.session.run.SessionFault.{SessionFault}
 use Rattle.dict_session.specs.declared.session.run.SessionFault.TheVariants.{Read, Write, Broken, Memory}
-use Rattle.dictcat_lib.specs.Plain.{catalogue_of, told_by, InstalledEnds, PlainEnds}
+use Rattle.dictcat_lib.specs.Plain.{catalogue_of, told_by, FailsOver, InstalledEnds, PlainEnds}
 use Rattle.dictcat_lib.specs.declared.fault.Fault.{Fault}
 use Rattle.dictcat_lib.specs.declared.fault.Fault.TheVariants as faults
 use Rattle.dict_name.specs.Names.{is_name, is_request_id}
@@ -34,12 +34,12 @@ unfolding is_request_id
 install_accepted name edition kept e = accepted_by name edition (is_name name) kept e
 
 -- a session that a fault ended
-pub ended_by : {A : Type 0} (name : List ℕ) (edition : Edition) (fault : SessionFault) (failed : Bool) (reader writer : Change) → is_name name ≡ true
-    → Ends (catalogue_of name edition) (codes "localhost") 1 failed (Err fault) reader writer → InstalledEnds {A = A} name edition (Err (told_by fault)) reader writer
+pub ended_by : (name : List ℕ) (edition : Edition) (fault : SessionFault) (failed : Bool) (reader writer : Change) → is_name name ≡ true
+    → Ends (catalogue_of name edition) (codes "localhost") 1 failed (Err fault) reader writer → FailsOver name edition (told_by fault) reader writer
 ended_by name edition Read failed reader writer lawful ends = (Read, (λ e. cc), (lawful, (failed, ends)))
 ended_by name edition Write failed reader writer lawful ends = (Write, (λ e. cc), (lawful, (failed, ends)))
 ended_by name edition Broken failed reader writer lawful ends = (Broken, (λ e. cc), (lawful, (failed, ends)))
-ended_by name edition Memory failed reader writer lawful (b, r, w) = (r, w)
+ended_by name edition Memory failed reader writer lawful (b, h) = h
 
 -- the edition is what the index and the text say
 pub plain_ends : {A : Type 0} (name index text : List ℕ) (edition : Edition) (r : Result A Fault) (reader writer : Change) → IsEdition index text edition

@@ -41,16 +41,20 @@ told_by session_faults.Memory = faults.Memory
 abbrev pub RunsOver : List ℕ → Edition → Result End SessionFault → Change → Change → Type 0
 RunsOver name edition end reader writer = IsTrue (is_name name) × ((failed : Bool) × Ends (catalogue_of name edition) (codes "localhost") 1 failed end reader writer)
 
+-- the same with a fault: the install was refused for the name, or the session ended by a fault, or memory ran out
+abbrev pub FailsOver : List ℕ → Edition → Fault → Change → Change → Type 0
+FailsOver name edition (faults.Refused refusal) reader writer = (refusal ≡ BadName) × (is_name name ≡ false) × IsUntouched reader × IsUntouched writer
+FailsOver name edition faults.SessionEnded reader writer = (fault : SessionFault) × (fault ≢ session_faults.Memory) × RunsOver name edition (Err fault) reader writer
+FailsOver name edition faults.Memory reader writer = IsUntouched reader × IsUntouched writer
+FailsOver name edition (faults.Line refusal line) reader writer = ⊥
+FailsOver name edition (faults.Edition refusal) reader writer = ⊥
+FailsOver name edition (faults.CannotRead path) reader writer = ⊥
+FailsOver name edition faults.CannotWrite reader writer = ⊥
+
 -- what comes of an edition and a name
 abbrev pub InstalledEnds : {A : Type 0} → List ℕ → Edition → Result A Fault → Change → Change → Type 0
 InstalledEnds name edition (Ok _) reader writer = (end : End) × RunsOver name edition (Ok end) reader writer
-InstalledEnds name edition (Err (faults.Refused refusal)) reader writer = (refusal ≡ BadName) × (is_name name ≡ false) × IsUntouched reader × IsUntouched writer
-InstalledEnds name edition (Err faults.SessionEnded) reader writer = (fault : SessionFault) × (fault ≢ session_faults.Memory) × RunsOver name edition (Err fault) reader writer
-InstalledEnds name edition (Err faults.Memory) reader writer = IsUntouched reader × IsUntouched writer
-InstalledEnds name edition (Err (faults.Line refusal line)) reader writer = ⊥
-InstalledEnds name edition (Err (faults.Edition refusal)) reader writer = ⊥
-InstalledEnds name edition (Err (faults.CannotRead path)) reader writer = ⊥
-InstalledEnds name edition (Err faults.CannotWrite) reader writer = ⊥
+InstalledEnds name edition (Err fault) reader writer = FailsOver name edition fault reader writer
 
 -- what comes of an index, a text and a name
 abbrev pub PlainEnds : {A : Type 0} → List ℕ → List ℕ → List ℕ → Result A Fault → Change → Change → Type 0

@@ -235,7 +235,10 @@ fn info_of_a_database(rt: HostRuntime) -> Result<(), Fail> {
         ),
     ];
     for (text, want) in &texts {
-        assert_eq!(rt; octets_of(alloc, &Reply::InfoText(text.as_bytes()))?.as_slice(), *want);
+        assert_eq!(rt;
+            octets_of(alloc, &Reply::InfoText(text.as_bytes()))?.as_slice(),
+            *want
+        );
     }
     Ok(())
 }

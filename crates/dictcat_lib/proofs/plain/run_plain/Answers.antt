@@ -10,4 +10,4 @@ returns g c =
     plain_ends c.args.name.now c.args.index.now c.args.text.now (edition_of c.in-Ok.edition) c.run_installed.result
     (change g.S.Source.stream c.args.reader.now c.run_installed.new.reader) (change g.K.Sink.stream c.args.writer.now c.run_installed.new.writer)
     (c.in-Ok.edition, c.in-Ok.ensures.edition, refl)
-    (c.run_installed.ensures tt (sym (ap (λ s. s.catalogue) c.new.ensures), empty_well_formed))
+    (c.run_installed.ensures tt (sym (ap (λ s. s.catalogue) c.new-desk.ensures), empty_well_formed))
