@@ -1,0 +1,68 @@
+// Catalogues in memory.
+use dict_catalogue::Command;
+use dict_desk::{Keeper, PlainDesk};
+use dict_index::{Edition, read_edition};
+use std::alloc::Global;
+use std::test::Fail;
+
+/// A name, an index and a text.
+#[derive(Clone, Copy)]
+pub struct Files(pub &'static str, pub &'static [u8], pub &'static [u8]);
+
+pub const GEM: Files = Files(
+    "gem",
+    b"00-database-short\tA\tZ\nopal\tZ\tP\nFire Opal\tZ\tP\ndot\to\tF\n",
+    b"00-database-short\n  Gems\nopal\n  a stone\n.dot\n",
+);
+
+pub const ORE: Files = Files(
+    "ore",
+    b"00-database-short\tA\tX\niron\tX\tL\n",
+    b"00-database-short\nOres\niron\n  ore\n",
+);
+
+// Entries in another order than their headwords', with one headword twice, and what the database says of itself.
+pub const STONES: Files = Files(
+    "stones",
+    b"00-database-short\tA\tb\n00-database-info\tf\tF\npearl\tb\tC\nopal\tb\tC\npearl\td\tC\nagate\tb\tC\n",
+    b"00-database-short\n  Stones\nx\ny\n.x\ny\n",
+);
+
+// Applies a command, and forgets its reply.
+fn apply(desk: &mut PlainDesk, id: &str, command: &Command) -> Result<(), Fail> {
+    desk.apply(id, command)?;
+    Ok(())
+}
+
+// Installs an edition under the name, which is the request's id too.
+fn install(desk: &mut PlainDesk, name: &str, edition: &Edition) -> Result<(), Fail> {
+    let command = Command::Install { name, edition };
+    apply(desk, name, &command)
+}
+
+// Installs the edition that the files say.
+fn install_files(alloc: Global, desk: &mut PlainDesk, files: Files) -> Result<(), Fail> {
+    let edition = read_edition(alloc, files.1, files.2)?;
+    install(desk, files.0, &edition)
+}
+
+/// A catalogue of these databases, in their order.
+pub fn desk_of(alloc: Global, databases: &[Files]) -> Result<PlainDesk, Fail> {
+    let mut desk = PlainDesk::new(alloc);
+    for files in databases {
+        install_files(alloc, &mut desk, *files)?;
+    }
+    Ok(desk)
+}
+
+/// `ore`, `gem`, and `all`, which lists these two.
+pub fn ore_gem_all(alloc: Global) -> Result<PlainDesk, Fail> {
+    let mut desk = desk_of(alloc, &[ORE, GEM])?;
+    let command = Command::PutVirtual {
+        name: "all",
+        title: "All",
+        members: &["ore", "gem"],
+    };
+    apply(&mut desk, "put", &command)?;
+    Ok(desk)
+}
