@@ -1,1 +1,4 @@
 pub mod BookLemmas
+pub mod LineLemmas
+pub mod HubLemmas
+pub mod EventLemmas

@@ -1,3 +1,7 @@
 pub mod Books
 pub mod Asking
-pub mod Editors
+pub mod Holding
+pub mod Given
+pub mod Lines
+pub mod Hubs
+pub mod Events

@@ -1,5 +1,5 @@
 // Which connections are open.
-ghost use Rattle.std.specs.Prelude.{◌≡◌, ◌<◌, ◌≤◌, ◌+◌, ◌++◌, [], ◌∷◌, true, None, Some, All, IfOk, IfSome, OnOk, OnErr, length, vec_len, vec_capacity, remove};
+ghost use Rattle.std.specs.Prelude.{◌≡◌, ◌<◌, ◌≤◌, ◌+◌, ◌++◌, [], ◌∷◌, true, None, Some, Ok, All, IfOk, IfSome, OnOk, OnErr, length, vec_len, vec_capacity, remove};
 ghost use Rattle.std.specs.List.{AllPairs};
 ghost use Rattle.dict_hub.specs.Books.{is_given, opening, place_of};
 
@@ -66,6 +66,15 @@ impl Book {
         self.ids.push_reserved(id);
         self.greatest = Some(id);
         Ok(())
+    }
+
+    /// Gives this id to a connection that isn't open any more.
+    pub fn pass(&mut self, id: u64)
+        requires { opening id self.old.greatest (vec_len self.old.ids) ≡ Ok tt }
+        ensures ids { self.new.ids.items ≡ self.old.ids.items }
+        ensures greatest { self.new.greatest ≡ Some id }
+    {
+        self.greatest = Some(id);
     }
 
     /// The place of an open connection, from 0.

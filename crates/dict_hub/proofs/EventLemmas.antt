@@ -1,0 +1,32 @@
+-- What a piece does, by whether its connection is open.
+use Rattle.std.proofs.Common.{◌≡◌, ◌++◌, ℕ, Bool, List, refl, sym, subst}
+use Rattle.std.specs.Prelude.{Option, Some, None, Result, Ok, Err, IfOk}
+use Rattle.dict_io.specs.Streams.{Stream}
+use Rattle.dict_catalogue.specs.Steps.{Catalogue}
+use Rattle.dict_hub.specs.Holding.{Holding, left_by}
+use Rattle.dict_hub.specs.Given.{Gets}
+use Rattle.dict_hub.specs.Hubs.{Has}
+use Rattle.dict_hub.specs.Events.{Happening, came, id_of, held_after, Serves}
+use Rattle.dict_hub.specs.declared.hub.Hub.{Hub}
+use Rattle.dict_hub.specs.declared.asking.Out.{Out}
+use Rattle.dict_hub.specs.declared.fault.HubFault.{HubFault}
+use Rattle.dict_hub.specs.declared.fault.HubFault.TheVariants.{UnknownConnection}
+
+pub serves_piece : (host : List ℕ) (failed : Bool) (Shows : Catalogue → Type 0) (Before After : List (Option Catalogue) → Type 0) (before : Catalogue)
+    (held : Option Holding) (what : Happening) (id : ℕ) (piece : List ℕ) (old new : Stream) (result : Result Out HubFault) → what ≡ came id piece
+    → (held ≡ None → result ≡ Err UnknownConnection)
+    → ((one : Holding) → held ≡ Some one → IfOk result (λ out. Gets host failed Shows Before After before one.kind (one.octets ++ piece) out old new))
+    → IfOk result (λ out. Serves host failed Shows Before After before held what out old new)
+serves_piece host failed Shows Before After before None what id piece old new result is unknown known =
+    subst (λ r. IfOk r (λ out. Serves host failed Shows Before After before None what out old new)) (sym (unknown refl)) tt
+serves_piece host failed Shows Before After before (Some held) what id piece old new result is unknown known =
+    subst (λ w. IfOk result (λ out. Serves host failed Shows Before After before (Some held) w out old new)) (sym is) (known held refl)
+
+pub own_piece : (hub : Hub) (held : Option Holding) (what : Happening) (id : ℕ) (piece : List ℕ) (result : Result Out HubFault) → what ≡ came id piece
+    → (held ≡ None → result ≡ Err UnknownConnection)
+    → ((one : Holding) → held ≡ Some one → IfOk result (λ out. Has hub id (left_by one.kind (one.octets ++ piece) out)))
+    → IfOk result (λ out. Has hub (id_of what) (held_after held what out))
+own_piece hub None what id piece result is unknown known =
+    subst (λ r. IfOk r (λ out. Has hub (id_of what) (held_after None what out))) (sym (unknown refl)) tt
+own_piece hub (Some held) what id piece result is unknown known =
+    subst (λ w. IfOk result (λ out. Has hub (id_of w) (held_after (Some held) w out))) (sym is) (known held refl)

@@ -1,0 +1,82 @@
+-- What an event is, and what it does to its connection.
+use Rattle.std.specs.Prelude.{◌≡◌, ℕ, Bool, true, false, List, [], ◌++◌, Option, Some, None, Result, Ok, Err}
+use Rattle.dict_io.specs.Streams.{Stream}
+use Rattle.dict_catalogue.specs.Steps.{Catalogue}
+use Rattle.dict_hub.specs.Books.{opening}
+use Rattle.dict_hub.specs.Holding.{Holding, left_by}
+use Rattle.dict_hub.specs.Given.{Greets, Gets, Stays}
+use Rattle.dict_hub.specs.declared.kind.Kind.{Kind}
+use Rattle.dict_hub.specs.declared.fault.HubFault.{HubFault}
+use Rattle.dict_hub.specs.declared.fault.HubFault.TheVariants.{UnknownConnection}
+use Rattle.dict_hub.specs.declared.asking.Out.{Out}
+use Rattle.dict_hub.specs.declared.asking.Out.TheVariants.{More, Close}
+use Rattle.dict_hub.specs.declared.hub.Event.{Event}
+use Rattle.dict_hub.specs.declared.hub.Event.TheVariants.{Opened, Bytes, Ended}
+
+-- a connection of this id was opened, octets came on it, or its other end sends no more
+pub data Happening : Type 0 where
+  opened : ℕ → Kind → Happening
+  came : ℕ → List ℕ → Happening
+  ended : ℕ → Happening
+
+abbrev pub happening : Event → Happening
+happening (Opened id kind) = opened id kind
+happening (Bytes id piece) = came id piece.now
+happening (Ended id) = ended id
+
+-- whose event it is
+abbrev pub id_of : Happening → ℕ
+id_of (opened id kind) = id
+id_of (came id piece) = id
+id_of (ended id) = id
+
+-- what comes of an open connection alone
+abbrev pub of_open : Option Holding → Result (Unit {0}) HubFault
+of_open None = Err UnknownConnection
+of_open (Some held) = Ok tt
+
+-- the first test that the event fails, by what is held of its connection, the greatest id that was given and how many
+-- are open: an opening wants a new id, and fewer than 64 open ones; all else an open connection
+abbrev pub admitted : Option Holding → Option ℕ → ℕ → Happening → Result (Unit {0}) HubFault
+admitted held greatest count (opened id kind) = opening id greatest count
+admitted held greatest count (came id piece) = of_open held
+admitted held greatest count (ended id) = of_open held
+
+-- an end takes no memory
+abbrev pub takes_memory : Happening → Bool
+takes_memory (opened id kind) = true
+takes_memory (came id piece) = true
+takes_memory (ended id) = false
+
+abbrev pub greatest_after : Option ℕ → Happening → Option ℕ
+greatest_after greatest (opened id kind) = Some id
+greatest_after greatest (came id piece) = greatest
+greatest_after greatest (ended id) = greatest
+
+-- what octets that came leave of what is held
+abbrev pub held_after_piece : Option Holding → List ℕ → Out → Option Holding
+held_after_piece None piece out = None
+held_after_piece (Some held) piece out = left_by held.kind (held.octets ++ piece) out
+
+-- what is held of the event's connection after it
+abbrev pub held_after : Option Holding → Happening → Out → Option Holding
+held_after held (opened id kind) out = left_by kind [] out
+held_after held (came id piece) out = held_after_piece held piece out
+held_after held (ended id) out = None
+
+-- what octets that came put, where the connection is open
+abbrev pub ServesPiece : List ℕ → Bool → (Catalogue → Type 0) → (List (Option Catalogue) → Type 0) → (List (Option Catalogue) → Type 0) → Catalogue → Option Holding → List ℕ → Out → Stream → Stream → Type 0
+ServesPiece host failed Shows Before After before None piece out old new = ⊥
+ServesPiece host failed Shows Before After before (Some held) piece out old new = Gets host failed Shows Before After before held.kind (held.octets ++ piece) out old new
+
+-- an end puts nothing, and nothing is to be closed
+pub record Ends (Shows : Catalogue → Type 0) (Before After : List (Option Catalogue) → Type 0) (before : Catalogue) (out : Out) (old new : Stream) : Type 0 where
+  pub no_close : out ≡ More
+  pub nothing : new ≡ old
+  pub stays : Stays Shows Before After before
+
+-- what the event puts on its connection, and what it leaves of the catalogue
+abbrev pub Serves : List ℕ → Bool → (Catalogue → Type 0) → (List (Option Catalogue) → Type 0) → (List (Option Catalogue) → Type 0) → Catalogue → Option Holding → Happening → Out → Stream → Stream → Type 0
+Serves host failed Shows Before After before held (opened id kind) out old new = Greets host id kind out old new × Stays Shows Before After before
+Serves host failed Shows Before After before held (came id piece) out old new = ServesPiece host failed Shows Before After before held piece out old new
+Serves host failed Shows Before After before held (ended id) out old new = Ends Shows Before After before out old new

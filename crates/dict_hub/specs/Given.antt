@@ -1,0 +1,49 @@
+-- What an event gives its connection: a function of the host, the connection's id and kind, the octets that have come on it
+-- and the catalogue.
+use Rattle.std.specs.Prelude.{◌≡◌, ◌⊎◌, ℕ, List, [], Bool, true, false, Option}
+use Rattle.dict_io.specs.Streams.{Stream, PutsAll, PutsFront}
+use Rattle.dict_catalogue.specs.Steps.{Catalogue}
+use Rattle.dict_desk.specs.Applying.{LeavesNoMore}
+use Rattle.dict_line.specs.Meaning.{Meaning}
+use Rattle.dict_proto.specs.Replies.{banner_octets}
+use Rattle.dict_head.specs.Heads.{Needs}
+use Rattle.dict_head.specs.declared.kinds.Need.TheVariants.{More as NeedsMore}
+use Rattle.dict_session.specs.Lines.{cut}
+use Rattle.dict_session.specs.Answers.{answer_to}
+use Rattle.dict_session.specs.Spoken.{Speaks}
+use Rattle.dict_session.specs.Ending.{PutsPart}
+use Rattle.dict_hub.specs.Asking.{Answers}
+use Rattle.dict_hub.specs.declared.kind.Kind.{Kind}
+use Rattle.dict_hub.specs.declared.kind.Kind.TheVariants.{Dict, Http}
+use Rattle.dict_hub.specs.declared.asking.Out.{Out}
+use Rattle.dict_hub.specs.declared.asking.Out.TheVariants.{More, Close}
+
+-- a connection is opened: a reader is greeted, or where the sink fails gets a front of the greeting and is closed
+abbrev pub Greets : List ℕ → ℕ → Kind → Out → Stream → Stream → Type 0
+Greets host id Dict More old new = PutsAll old new (banner_octets host id)
+Greets host id Dict Close old new = PutsFront old new (banner_octets host id)
+Greets host id Http More old new = new ≡ old
+Greets host id Http Close old new = ⊥
+
+-- These lines of a reader's are answered. They are closed by a QUIT, or where the sink or the desk failed, of which
+-- `failed` tells the last, behind a front of the answers
+abbrev pub Replies : (Meaning → List ℕ) → Bool → List (List ℕ) → Out → Stream → Stream → Type 0
+Replies answer failed lines More old new = (octets : List ℕ) × Speaks answer lines octets false × PutsAll old new octets
+Replies answer failed lines Close old new = (octets : List ℕ) × (ended : Bool) × Speaks answer lines octets ended
+    × (((ended ≡ true) × PutsAll old new octets) ⊎ (PutsFront old new octets ⊎ ((failed ≡ true) × PutsPart old new octets)))
+
+-- the catalogue stays, and nothing new may be left by a stop
+pub record Stays (Shows : Catalogue → Type 0) (Before After : List (Option Catalogue) → Type 0) (before : Catalogue) : Type 0 where
+  pub shows : Shows before
+  pub leaves : LeavesNoMore Before After
+
+-- an editor's octets are no whole request yet, and nothing is put; or they are answered, and the connection is closed
+abbrev pub Asks : (Catalogue → Type 0) → (List (Option Catalogue) → Type 0) → (List (Option Catalogue) → Type 0) → Catalogue → List ℕ → Out → Stream → Stream → Type 0
+Asks Shows Before After before octets More old new = Needs octets NeedsMore × (new ≡ old) × Stays Shows Before After before
+Asks Shows Before After before octets Close old new = Answers Shows Before After before octets old new
+
+-- these octets have come on a connection of this kind
+abbrev pub Gets : List ℕ → Bool → (Catalogue → Type 0) → (List (Option Catalogue) → Type 0) → (List (Option Catalogue) → Type 0) → Catalogue → Kind → List ℕ → Out → Stream → Stream → Type 0
+Gets host failed Shows Before After before Dict octets out old new =
+    Replies (answer_to before host) failed (cut octets).lines out old new × Stays Shows Before After before
+Gets host failed Shows Before After before Http octets out old new = Asks Shows Before After before octets out old new

@@ -1,0 +1,31 @@
+-- What the hub keeps of one connection.
+use Rattle.std.specs.Prelude.{◌≡◌, ℕ, List, Option, Some, None}
+use Rattle.dict_session.specs.Session.{HasUnfinished, step_of, host_of, connection_of}
+use Rattle.dict_session.specs.declared.session.Session.{Session}
+use Rattle.dict_session.specs.declared.step.Step.TheVariants as steps
+use Rattle.dict_hub.specs.Holding.{Holding}
+use Rattle.dict_hub.specs.declared.kind.Kind.TheVariants.{Dict, Http}
+use Rattle.dict_hub.specs.declared.line.Line.{Line}
+use Rattle.dict_hub.specs.declared.line.Line.TheVariants.{Reader, Editor}
+
+-- a session under this host and number that goes on, and has read what is held
+pub record IsReader (host : List ℕ) (id : ℕ) (session : Session) (held : Holding) : Type 0 where
+  pub kind : held.kind ≡ Dict
+  pub goes_on : step_of session ≡ steps.More
+  pub unfinished : HasUnfinished session held.octets
+  pub same_host : host_of session ≡ host
+  pub number : connection_of session ≡ id
+
+-- the octets of a request that have come
+pub record IsEditor (octets : List ℕ) (held : Holding) : Type 0 where
+  pub kind : held.kind ≡ Http
+  pub octets_held : octets ≡ held.octets
+
+abbrev pub Holds : List ℕ → ℕ → Line → Holding → Type 0
+Holds host id (Reader session) held = IsReader host id session held
+Holds host id (Editor octets) held = IsEditor octets.items held
+
+-- it holds this where it is still open
+abbrev pub IsLeft : List ℕ → ℕ → Line → Option Holding → Type 0
+IsLeft host id line None = Unit {0}
+IsLeft host id line (Some held) = Holds host id line held

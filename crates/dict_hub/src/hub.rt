@@ -1,0 +1,199 @@
+// The open connections of readers and editors.
+ghost use Rattle.std.specs.Prelude.{◌≡◌, ◌≢◌, ◌++◌, ◌<◌, ℕ, List, Option, [], ◌∷◌, true, None, Some, Ok, Err, IfOk, IfErr, OnOk, OnErr, vec_len, vec_capacity, remove};
+ghost use Rattle.dict_catalogue.specs.Steps.{Catalogue};
+ghost use Rattle.dict_hub.specs.Books.{opening, place_of};
+ghost use Rattle.dict_hub.specs.Holding.{Holding, left_by};
+ghost use Rattle.dict_hub.specs.Given.{Greets, Gets};
+ghost use Rattle.dict_hub.specs.declared.asking.Out.TheVariants as outs;
+ghost use Rattle.dict_hub.specs.declared.fault.HubFault.{HubFault};
+ghost use Rattle.dict_hub.specs.declared.fault.HubFault.TheVariants.{UnknownConnection, Memory};
+
+use crate::asking::Out;
+use crate::book::Book;
+use crate::fault::HubFault;
+use crate::kind::Kind;
+use crate::line::Line;
+use dict_desk::Keeper;
+use dict_http::Service;
+use dict_io::Sink;
+use std::alloc::{AllocError, Global};
+
+/// Something that happened on a connection.
+#[derive(Clone, Copy)]
+pub enum Event<'p> {
+    /// It was opened.
+    Opened(u64, Kind),
+    /// These octets came.
+    Bytes(u64, &'p [u8]),
+    /// The other end sends no more.
+    Ended(u64),
+}
+
+/// The open connections, in the order of their ids.
+#[derive(Drop)]
+pub struct Hub<'h> {
+    alloc: Global,
+    host: &'h str,
+    service: Service,
+    book: Book,
+    lines: Vec<Line<'h>>,
+    ghost even: { vec_len lines ≡ vec_len book.ids },
+}
+
+impl<'h> Hub<'h> {
+    ghost use Rattle.dict_hub.specs.Hubs.{Has, host_of, greatest_of, count_of};
+    ghost use Rattle.dict_hub.specs.Events.{happening, id_of, admitted, takes_memory, greatest_after, held_after, Serves};
+
+    /// No connection is open, and no id was given.
+    pub fn new(alloc: Global, host: &'h str) -> Result<Hub<'h>, AllocError>
+        ensures none { IfOk result (λ hub. (id : ℕ) → Has hub id None) }
+        ensures greatest { IfOk result (λ hub. greatest_of hub ≡ None) }
+        ensures host { IfOk result (λ hub. host_of hub ≡ host.now) }
+    {
+        Ok(Hub {
+            alloc,
+            host,
+            service: Service::new(alloc)?,
+            book: Book::new(alloc)?,
+            lines: Vec::new(alloc),
+        })
+    }
+
+    /// Takes an event. Only its own connection is served, at the catalogue that the desk shows now; a reader's is closed by
+    /// a QUIT or where the sink or the desk failed, an editor's by its answer. An event that is refused changes nothing and
+    /// puts nothing. The sink is the connection's own.
+    pub fn event<K: Keeper, S: Sink>(
+        &mut self,
+        desk: &mut K,
+        event: Event,
+        sink: &mut S,
+    ) -> Result<Out, HubFault>
+        ensures refused { (held : Option Holding) → Has self.old (id_of (happening event.entry)) held → (fault : HubFault)
+            → admitted held (greatest_of self.old) (count_of self.old) (happening event.entry) ≡ Err fault → result ≡ Err fault }
+        ensures memory { (held : Option Holding) → Has self.old (id_of (happening event.entry)) held
+            → admitted held (greatest_of self.old) (count_of self.old) (happening event.entry) ≡ Ok tt → IfErr result (λ fault. (fault ≡ Memory) × (takes_memory (happening event.entry) ≡ true)) }
+        ensures serves { K.is_trusted desk.new → (M : Catalogue) → K.shows desk.old M → (held : Option Holding) → Has self.old (id_of (happening event.entry)) held
+            → IfOk result (λ out. Serves (host_of self.old) (K.has_failed desk.new) (K.shows desk.new) (K.leaves_one_of desk.old) (K.leaves_one_of desk.new) M held (happening event.entry) out (S.stream sink.old) (S.stream sink.new)) }
+        ensures own { K.is_trusted desk.new → (M : Catalogue) → K.shows desk.old M → (held : Option Holding) → Has self.old (id_of (happening event.entry)) held
+            → IfOk result (λ out. Has self.new (id_of (happening event.entry)) (held_after held (happening event.entry) out)) }
+        ensures others { (other : ℕ) (held : Option Holding) → other ≢ id_of (happening event.entry) → Has self.old other held → Has self.new other held }
+        ensures greatest { OnOk result (greatest_of self.new ≡ greatest_after (greatest_of self.old) (happening event.entry)) }
+        ensures host { host_of self.new ≡ host_of self.old }
+        ensures trust { K.is_trusted desk.new → K.is_trusted desk.old }
+        ensures kept { OnErr result ((other : ℕ) (held : Option Holding) → Has self.old other held → Has self.new other held) }
+        ensures given { OnErr result (greatest_of self.new ≡ greatest_of self.old) }
+        ensures desk { OnErr result (desk.new ≡ desk.old) }
+        ensures sink { OnErr result (sink.new ≡ sink.old) }
+    {
+        match event {
+            Event::Opened(id, kind) => self.opened(id, kind, sink),
+            Event::Bytes(id, piece) => self.bytes(id, piece, desk, sink),
+            Event::Ended(id) => self.ended(id),
+        }
+    }
+
+    // Opens a connection, and greets a reader.
+    fn opened<S: Sink>(&mut self, id: u64, kind: Kind, sink: &mut S) -> Result<Out, HubFault>
+        ensures tests { (fault : HubFault) → opening id (greatest_of self.old) (count_of self.old) ≡ Err fault → result ≡ Err fault }
+        ensures memory { opening id (greatest_of self.old) (count_of self.old) ≡ Ok tt → IfErr result (λ fault. fault ≡ Memory) }
+        ensures own { IfOk result (λ out. Has self.new id (left_by kind [] out)) }
+        ensures greets { IfOk result (λ out. Greets (host_of self.old) id kind out (S.stream sink.old) (S.stream sink.new)) }
+        ensures greatest { OnOk result (greatest_of self.new ≡ Some id) }
+        ensures others { OnOk result ((other : ℕ) (held : Option Holding) → other ≢ id → Has self.old other held → Has self.new other held) }
+        ensures host { host_of self.new ≡ host_of self.old }
+        ensures kept { OnErr result ((other : ℕ) (held : Option Holding) → Has self.old other held → Has self.new other held) }
+        ensures given { OnErr result (greatest_of self.new ≡ greatest_of self.old) }
+        ensures sink { OnErr result (sink.new ≡ sink.old) }
+    {
+        self.book.admits(id)?;
+        if self.lines.reserve(1).is_err() {
+            return Err(HubFault::Memory);
+        }
+        let Ok(mut line) = Line::new(self.alloc, self.host, id, kind) else {
+            return Err(HubFault::Memory);
+        };
+        let out = line.greet(sink);
+        self.keep(id, line, out);
+        Ok(out)
+    }
+
+    // Keeps a connection that was greeted, or only its id.
+    fn keep(&mut self, id: u64, line: Line<'h>, out: Out)
+        requires admitted { opening id (greatest_of self.old) (count_of self.old) ≡ Ok tt }
+        requires room { vec_len self.old.lines < vec_capacity self.old.lines }
+        ensures more { out ≡ outs.More → (self.new.book.ids.items ≡ self.old.book.ids.items ++ id ∷ []) × (self.new.lines.items ≡ self.old.lines.items ++ line.entry ∷ []) }
+        ensures close { out ≡ outs.Close → (self.new.book.ids.items ≡ self.old.book.ids.items) × (self.new.lines.items ≡ self.old.lines.items) }
+        ensures greatest { greatest_of self.new ≡ Some id }
+        ensures host { host_of self.new ≡ host_of self.old }
+    {
+        match out {
+            Out::More => {
+                let _ = self.book.open(id);
+                self.lines.push_reserved(line);
+            }
+            Out::Close => self.book.pass(id),
+        }
+    }
+
+    // Closes the connection at a place, whatever has come on it.
+    fn close(&mut self, place: usize)
+        requires { place < vec_len self.old.book.ids }
+        ensures ids { self.new.book.ids.items ≡ remove self.old.book.ids.items place }
+        ensures greatest { greatest_of self.new ≡ greatest_of self.old }
+        ensures lines { self.new.lines.items ≡ remove self.old.lines.items place }
+        ensures host { host_of self.new ≡ host_of self.old }
+    {
+        self.book.close(place);
+        self.lines.remove(place);
+    }
+
+    // Octets came on a connection.
+    fn bytes<K: Keeper, S: Sink>(
+        &mut self,
+        id: u64,
+        piece: &[u8],
+        desk: &mut K,
+        sink: &mut S,
+    ) -> Result<Out, HubFault>
+        ensures unknown { Has self.old id None → result ≡ Err UnknownConnection }
+        ensures memory { (held : Holding) → Has self.old id (Some held) → IfErr result (λ fault. fault ≡ Memory) }
+        ensures gets { K.is_trusted desk.new → (M : Catalogue) → K.shows desk.old M → (held : Holding) → Has self.old id (Some held)
+            → IfOk result (λ out. Gets (host_of self.old) (K.has_failed desk.new) (K.shows desk.new) (K.leaves_one_of desk.old) (K.leaves_one_of desk.new) M held.kind (held.octets ++ piece.now) out (S.stream sink.old) (S.stream sink.new)) }
+        ensures own { K.is_trusted desk.new → (M : Catalogue) → K.shows desk.old M → (held : Holding) → Has self.old id (Some held)
+            → IfOk result (λ out. Has self.new id (left_by held.kind (held.octets ++ piece.now) out)) }
+        ensures others { (other : ℕ) (held : Option Holding) → other ≢ id → Has self.old other held → Has self.new other held }
+        ensures greatest { greatest_of self.new ≡ greatest_of self.old }
+        ensures host { host_of self.new ≡ host_of self.old }
+        ensures trust { K.is_trusted desk.new → K.is_trusted desk.old }
+        ensures kept { OnErr result ((held : Option Holding) → Has self.old id held → Has self.new id held) }
+        ensures desk { OnErr result (desk.new ≡ desk.old) }
+        ensures sink { OnErr result (sink.new ≡ sink.old) }
+    {
+        let Some(place) = self.book.place_of(id) else {
+            return Err(HubFault::UnknownConnection);
+        };
+        match self.lines[place].take(&self.service, self.alloc, piece, desk, sink)? {
+            Out::More => Ok(Out::More),
+            Out::Close => {
+                self.close(place);
+                Ok(Out::Close)
+            }
+        }
+    }
+
+    // The other end sends no more. What has come of an unfinished line or request is let go, and changes nothing.
+    fn ended(&mut self, id: u64) -> Result<Out, HubFault>
+        ensures unknown { Has self.old id None → result ≡ Err UnknownConnection }
+        ensures known { (held : Holding) → Has self.old id (Some held) → (result ≡ Ok outs.More) × Has self.new id None }
+        ensures others { (other : ℕ) (held : Option Holding) → other ≢ id → Has self.old other held → Has self.new other held }
+        ensures greatest { greatest_of self.new ≡ greatest_of self.old }
+        ensures host { host_of self.new ≡ host_of self.old }
+        ensures kept { OnErr result ((held : Option Holding) → Has self.old id held → Has self.new id held) }
+    {
+        let Some(place) = self.book.place_of(id) else {
+            return Err(HubFault::UnknownConnection);
+        };
+        self.close(place);
+        Ok(Out::More)
+    }
+}
