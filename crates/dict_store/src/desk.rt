@@ -5,9 +5,9 @@ ghost use Rattle.sqlite.specs.Held.{state};
 ghost use Rattle.dict_catalogue.specs.Steps.{empty_catalogue, summary_of};
 ghost use Rattle.dict_catalogue.specs.Views.{summary_shown};
 ghost use Rattle.dict_desk.specs.Faults.{is_disk};
-ghost use Rattle.dict_store.specs.Holds.{Rests, IsLeft, HasPlace};
+ghost use Rattle.dict_file.specs.Holds.{Rests, IsLeft, HasPlace};
 
-use crate::making::create;
+use dict_file::create;
 use dict_catalogue::Summary;
 use dict_desk::Fault;
 use sqlite::{Alter, Connection};

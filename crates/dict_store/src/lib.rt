@@ -1,11 +1,6 @@
-//! The store of catalogues, in the tables of one database.
+//! A desk over one file: what readers ask of its catalogue, and what editors change.
 #![tactic(auto)]
 
 mod desk;
-mod fault;
-mod laws;
-mod making;
 
 pub use desk::Desk;
-pub use laws::read_in_order;
-pub use making::create;

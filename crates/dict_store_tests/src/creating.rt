@@ -2,7 +2,8 @@
 
 use dict_desk::Fault;
 use dict_sql::read::marks;
-use dict_store::{Desk, create};
+use dict_file::create;
+use dict_store::Desk;
 use dict_tables::{StoreTable, has_table};
 use sqlite::{Alter, Connection, Error};
 use std::alloc::Global;

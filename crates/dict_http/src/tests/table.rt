@@ -41,16 +41,16 @@ const LONGER_BODY: &str =
 const LED_BODY: &str =
     "053\n00-database-short\tA\tZ\nopal\tZ\tP\nFire Opal\tZ\tP\ndot\to\tF\n00-database-short\n  Gems\nopal\n  a stone\n.dot\n";
 
-const R1: &str = "Request-Id: r1\r\n";
+const FIRST_ID: &str = "Request-Id: r1\r\n";
 
-const R2: &str = "Request-Id: r2\r\n";
+const SECOND_ID: &str = "Request-Id: r2\r\n";
 
-const R3: &str = "Request-Id: r3\r\n";
+const THIRD_ID: &str = "Request-Id: r3\r\n";
 
 const INSTALLED: &str = "{\"edition\":1,\"name\":\"gem\",\"number\":1,\"verb\":\"install\"}";
 
 /// An install of `gem`, and its answer.
-pub const INSTALL: Row = Row("PUT /databases/gem", R1, GEM_BODY, OK, INSTALLED);
+pub const INSTALL: Row = Row("PUT /databases/gem", FIRST_ID, GEM_BODY, OK, INSTALLED);
 
 const ONE: &str =
     "[{\"current\":1,\"former\":null,\"kind\":\"regular\",\"name\":\"gem\",\"title\":\"Gems\"}]";
@@ -64,33 +64,45 @@ static TABLE: [Row; 24] = [
     Row("GET /databases", "", "", OK, ONE),
     Row(
         "PUT /databases/gem",
-        R2,
+        SECOND_ID,
         PAST_BODY,
         REFUSED,
         "{\"fault\":4,\"line\":4,\"reason\":\"Interval\"}",
     ),
     Row(
         "PUT /databases/gem",
-        R2,
+        SECOND_ID,
         LONG_BODY,
         REFUSED,
         "{\"fault\":14,\"line\":null,\"reason\":\"LastLine\"}",
     ),
-    Row("PUT /databases/gem", R2, LONGER_BODY, BAD, BAD_TEXT),
-    Row("PUT /databases/gem", R2, LED_BODY, BAD, BAD_TEXT),
-    Row("PUT /databases/Gem", R2, GEM_BODY, CONFLICT, BAD_NAME),
-    Row("PUT /databases/Gem", R2, LED_BODY, BAD, BAD_TEXT),
+    Row("PUT /databases/gem", SECOND_ID, LONGER_BODY, BAD, BAD_TEXT),
+    Row("PUT /databases/gem", SECOND_ID, LED_BODY, BAD, BAD_TEXT),
     Row(
         "PUT /databases/Gem",
-        R2,
+        SECOND_ID,
+        GEM_BODY,
+        CONFLICT,
+        BAD_NAME,
+    ),
+    Row("PUT /databases/Gem", SECOND_ID, LED_BODY, BAD, BAD_TEXT),
+    Row(
+        "PUT /databases/Gem",
+        SECOND_ID,
         PAST_BODY,
         REFUSED,
         "{\"fault\":4,\"line\":4,\"reason\":\"Interval\"}",
     ),
-    Row("GET /databases", R2, "?", OK, ONE),
-    Row("PUT /databases/gem", R1, "?", OK, INSTALLED),
-    Row("DELETE /databases/gem", R1, "", OK, INSTALLED),
-    Row("POST /databases/gem/rollback", R2, "", CONFLICT, NO_FORMER),
+    Row("GET /databases", SECOND_ID, "?", OK, ONE),
+    Row("PUT /databases/gem", FIRST_ID, "?", OK, INSTALLED),
+    Row("DELETE /databases/gem", FIRST_ID, "", OK, INSTALLED),
+    Row(
+        "POST /databases/gem/rollback",
+        SECOND_ID,
+        "",
+        CONFLICT,
+        NO_FORMER,
+    ),
     Row("POST /databases/gem/rollback", "", "", BAD, BAD_TEXT),
     Row(
         "POST /databases/gem/rollback",
@@ -108,42 +120,42 @@ static TABLE: [Row; 24] = [
     ),
     Row(
         "POST /databases/gem/place",
-        R2,
+        SECOND_ID,
         "{\"place\":0}",
         OK,
         "{\"edition\":null,\"name\":\"gem\",\"number\":2,\"verb\":\"place\"}",
     ),
     Row(
         "POST /databases/gem/place",
-        R3,
+        THIRD_ID,
         "{\"place\":-1}",
         BAD,
         BAD_TEXT,
     ),
     Row(
         "POST /databases/gem/place",
-        R3,
+        THIRD_ID,
         "{\"place\":0,\"x\":1}",
         BAD,
         BAD_TEXT,
     ),
     Row(
         "POST /databases/gem/place",
-        R3,
+        THIRD_ID,
         "{\"place\":4294967295}",
         CONFLICT,
         "{\"reason\":\"BadPlace\",\"refusal\":30}",
     ),
     Row(
         "PUT /virtual/all",
-        R3,
+        THIRD_ID,
         "{\"members\":[\"gem\"]}",
         BAD,
         BAD_TEXT,
     ),
     Row(
         "PUT /databases/gem",
-        R3,
+        THIRD_ID,
         GEM_BODY,
         OK,
         "{\"edition\":2,\"name\":\"gem\",\"number\":3,\"verb\":\"install\"}",
@@ -168,14 +180,14 @@ static VIRTUAL: [Row; 4] = [
     INSTALL,
     Row(
         "PUT /virtual/all",
-        R2,
+        SECOND_ID,
         "{\"members\":[\"gem\"],\"title\":\"All\"}",
         OK,
         "{\"edition\":null,\"name\":\"all\",\"number\":2,\"verb\":\"virtual\"}",
     ),
     Row(
         "DELETE /databases/gem",
-        R3,
+        THIRD_ID,
         "",
         CONFLICT,
         "{\"reason\":\"Listed\",\"refusal\":24}",
@@ -193,7 +205,7 @@ static RETIRED: [Row; 5] = [
     INSTALL,
     Row(
         "DELETE /databases/gem",
-        R2,
+        SECOND_ID,
         "",
         OK,
         "{\"edition\":null,\"name\":\"gem\",\"number\":2,\"verb\":\"retire\"}",
@@ -201,14 +213,14 @@ static RETIRED: [Row; 5] = [
     Row("GET /databases", "", "", OK, "[]"),
     Row(
         "PUT /databases/gem",
-        R2,
+        SECOND_ID,
         GEM_BODY,
         OK,
         "{\"edition\":null,\"name\":\"gem\",\"number\":2,\"verb\":\"retire\"}",
     ),
     Row(
         "DELETE /databases/gem",
-        R3,
+        THIRD_ID,
         "",
         CONFLICT,
         "{\"reason\":\"Unknown\",\"refusal\":21}",

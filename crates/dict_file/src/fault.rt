@@ -1,12 +1,12 @@
 // The fault that an error of a statement is.
 ghost use Rattle.std.specs.Prelude.{◌≡◌};
-ghost use Rattle.dict_store.specs.Faults.{fault_of};
+ghost use Rattle.dict_file.specs.Faults.{fault_of};
 
 use dict_desk::Fault;
 use sqlite::{Error, ErrorCode};
 
 /// The fault of a statement before the commit: refused memory, or the store failed.
-pub(crate) fn fault_of(error: Error) -> Fault
+pub fn fault_of(error: Error) -> Fault
     ensures { result ≡ fault_of error }
 {
     match error {

@@ -3,8 +3,8 @@ use Rattle.sqlite.specs.Held.{state}
 use Rattle.dict_sql.specs.Effects.{IsAdded}
 use Rattle.dict_sql.specs.Encodings.{mark_row}
 use Rattle.dict_records.specs.Records.{Mark}
-use Rattle.dict_store.proofs.KeepLemmas.{marked}
-use Rattle.dict_store.proofs.making.add_mark.Goals as goal
+use Rattle.dict_file.proofs.KeepLemmas.{marked}
+use Rattle.dict_file.proofs.making.add_mark.Goals as goal
 
 pub returns-clause-marked : goal.returns-clause-marked
 returns-clause-marked g c clean before made =

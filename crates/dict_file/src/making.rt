@@ -8,7 +8,7 @@ ghost use Rattle.dict_sql.specs.Effects.{Has, WhileOpen, seen};
 ghost use Rattle.dict_sql.specs.Creates.{AreMade, IsReady};
 ghost use Rattle.dict_catalogue.specs.Steps.{empty_catalogue};
 ghost use Rattle.dict_desk.specs.Faults.{is_disk};
-ghost use Rattle.dict_store.specs.Holds.{Holds, Rests, IsLeft, HasPlace};
+ghost use Rattle.dict_file.specs.Holds.{Holds, Rests, IsLeft, HasPlace};
 
 use crate::fault::fault_of;
 use dict_desk::Fault;

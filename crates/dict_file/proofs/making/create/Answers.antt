@@ -3,9 +3,9 @@ use Rattle.sqlite.specs.Effect.{Database}
 use Rattle.sqlite.specs.State.{HasCleanDisk, Survives}
 use Rattle.sqlite.specs.Held.{state}
 use Rattle.dict_catalogue.specs.Steps.{empty_catalogue}
-use Rattle.dict_store.specs.Holds.{Holds, Rests, IsLeft}
-use Rattle.dict_store.proofs.CommitLemmas.{leaves, done}
-use Rattle.dict_store.proofs.making.create.Goals as goal
+use Rattle.dict_file.specs.Holds.{Holds, Rests, IsLeft}
+use Rattle.dict_file.proofs.CommitLemmas.{leaves, done}
+use Rattle.dict_file.proofs.making.create.Goals as goal
 
 pub returns-in-Ok-clause-rests : goal.returns-in-Ok-clause-rests
 returns-in-Ok-clause-rests g c clean =

@@ -18,7 +18,7 @@ use Rattle.dict_sql.proofs.Callers.{apart_added, apart_none}
 use Rattle.dict_catalogue.specs.Steps.{empty_catalogue}
 use Rattle.dict_catalogue.proofs.WellFormedLemmas.{empty_well_formed}
 use Rattle.dict_rows.specs.Written.{mark_record}
-use Rattle.dict_store.specs.Holds.{Keeps, KeepsAll, Holds}
+use Rattle.dict_file.specs.Holds.{Keeps, KeepsAll, Holds}
 
 at_place : {X : Type 0} (P : X → Type 0) (xs : List X) (at : ℕ) (x : X) → AllByRecursion P xs → slice_get xs at ≡ Some x → P x
 at_place P [] at x h e = absurd (cc)

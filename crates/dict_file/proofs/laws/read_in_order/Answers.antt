@@ -9,8 +9,8 @@ use Rattle.dict_records.specs.declared.records.Stored.{Stored}
 use Rattle.dict_records.specs.declared.records as typed
 use Rattle.dict_sql.specs.Encodings.{stored_item, stored_member, stored_entry, stored_kept}
 use Rattle.dict_sql.specs.Reads.{by_columns}
-use Rattle.dict_store.proofs.ReadLemmas.{sorted_order, one_le, second_le, records_order}
-use Rattle.dict_store.proofs.laws.read_in_order.Goals as goal
+use Rattle.dict_file.proofs.ReadLemmas.{sorted_order, one_le, second_le, records_order}
+use Rattle.dict_file.proofs.laws.read_in_order.Goals as goal
 
 pub returns-clause-items : goal.returns-clause-items
 returns-clause-items c = λ db rows h.

@@ -1,0 +1,3 @@
+pub mod KeepLemmas
+pub mod CommitLemmas
+pub mod ReadLemmas
