@@ -4,6 +4,7 @@ mod HeadwordLemmas
 mod SeenLemmas
 mod DistinctLemmas
 mod RowLemmas
+mod SpanLemmas
 mod PlainLemmas
 mod DeskLemmas
 mod ReplyLemmas

@@ -1,5 +1,5 @@
 -- What is found in an edition that is kept in memory.
-use Rattle.std.proofs.Common.{◌≡◌, ℕ, List, [], length, map, sym, ap, ◌∙◌}
+use Rattle.std.proofs.Common.{◌≡◌, ℕ, List, [], length, map, take, drop, ◌-◌, sym, ap, ◌∙◌}
 use Rattle.std.specs.Prelude.{filter}
 use Rattle.std.proofs.lemmas.List.{length-map}
 use Rattle.dict_match.specs.declared.strategy.Strategy.{Strategy}
@@ -8,10 +8,11 @@ use Rattle.dict_index.specs.Line.{Line}
 use Rattle.dict_catalogue.specs.Items.{Stored}
 use Rattle.dict_desk.specs.Found.{is_found, found, headwords}
 use Rattle.dict_desk.specs.Shown.{row, headword_rows}
-use Rattle.dict_desk.specs.PlainEntries.{line_of, entry_of, headword_of, AreMarked, is_hit_of, is_listed, rows_found, rows_listed}
+use Rattle.dict_desk.specs.PlainEntries.{line_of, entry_of, headword_of, AreMarked, is_hit_of, is_listed, rows_found, rows_listed, LieWithin}
 use Rattle.dict_desk.specs.declared.entries.OwnedEntry.{OwnedEntry}
 use Rattle.dict_desk.proofs.HeadwordLemmas.{headwords_listed}
 use Rattle.dict_desk.proofs.RowLemmas.{chosen_after, mapped_twice}
+use Rattle.dict_desk.proofs.SpanLemmas.{within_all, span_before, chosen_twice}
 
 module _ (title info text : List ℕ) (strategy : Strategy) (query : List ℕ) (entries : List OwnedEntry) where
   abbrev whole : Edition
@@ -30,6 +31,24 @@ module _ (title info text : List ℕ) (strategy : Strategy) (query : List ℕ) (
 
   pub count_is_listed : AreMarked [] entries → length (filter (is_listed strategy query) entries) ≡ length (headwords (found strategy query whole))
   count_is_listed marks = sym (length-map (filter (is_listed strategy query) entries) headword_of) ∙ ap length (sym (headwords_listed text strategy query entries marks))
+
+  -- of a span in which all that is found lies
+  module _ (first end : ℕ) (within : LieWithin (is_found strategy query) whole.entries first end) where
+    abbrev part : List OwnedEntry
+    part = take (end - first) (drop first entries)
+
+    hits : filter (is_hit_of strategy query) part ≡ filter (is_hit_of strategy query) entries
+    hits = within_all (is_hit_of strategy query) entries first end (span_before (entry_of text) (is_found strategy query) entries first end within)
+
+    pub part_is_found : rows_found text strategy query part ≡ found strategy query whole
+    part_is_found = ap (map (entry_of text)) hits ∙ rows_are_found
+
+    pub part_is_listed : AreMarked [] entries → rows_listed strategy query part ≡ headword_rows strategy query whole
+    part_is_listed marks =
+        ap (map (λ entry. row (headword_of entry) [])) (chosen_twice (λ entry. entry.is_first) (is_hit_of strategy query) part
+        ∙ (ap (filter (λ (entry : OwnedEntry). entry.is_first)) hits
+        ∙ sym (chosen_twice (λ entry. entry.is_first) (is_hit_of strategy query) entries)))
+        ∙ rows_are_listed marks
 
 abbrev stored : ℕ → Edition → Stored Edition
 stored number edition = record { number = number; content = edition }

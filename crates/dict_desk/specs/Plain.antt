@@ -9,6 +9,9 @@ use Rattle.dict_catalogue.specs.Effects.{KeptReply}
 use Rattle.dict_catalogue.specs.Steps.{KeptFor, Catalogue, summary_of, kept_under}
 use Rattle.dict_catalogue.specs.Views.{kept_shown}
 use Rattle.dict_catalogue.specs.WellFormed.{IsWellFormed}
+use Rattle.dict_desk.specs.Found.{is_found}
+use Rattle.dict_desk.specs.PlainEntries.{LieWithin}
+use Rattle.dict_desk.specs.declared.counted.Counted.{Counted}
 use Rattle.dict_desk.specs.declared.replies.Filed.{Filed}
 
 -- what contracts see of a catalogue that is kept in memory, and whether the last call failed
@@ -60,6 +63,11 @@ pub record AreInStep (summary : Holdings (List ℕ)) (editions : List (Stored Ed
   pub early : AllByRecursion (λ stored. stored.number ≤ summary.installs) editions
   pub filed : ArePlaces places (map filed_shown replies)
   pub well_formed : IsWellFormed (catalogue_from summary editions replies)
+
+-- in the edition that was counted, all entries that the query finds lie in the span
+abbrev pub HoldsSpan : List (Stored Edition) → Counted → Type 0
+HoldsSpan editions counted =
+    (stored : Stored Edition) → numbered counted.number editions ≡ Some stored → LieWithin (is_found counted.strategy counted.query) stored.content.entries counted.span.first counted.span.end
 
 -- the edition that a command installs, under this number
 abbrev pub newly_installed : ℕ → Command Edition → List (Stored Edition)

@@ -1,5 +1,5 @@
 -- The entries of an edition that is kept in memory.
-use Rattle.std.specs.Prelude.{◌≡◌, ℕ, Bool, not, ◌&&◌, List, [], ◌∷◌, ◌++◌, map, filter, string_bytes}
+use Rattle.std.specs.Prelude.{◌≡◌, ◌≤◌, ℕ, Bool, not, ◌&&◌, List, [], ◌∷◌, ◌++◌, map, filter, take, drop, length, string_bytes}
 use Rattle.std.specs.List.{list_any}
 use Rattle.std.specs.Str.{bytes_eq}
 use Rattle.dict_match.specs.Key.{key_of}
@@ -44,3 +44,10 @@ rows_found text strategy query entries = map (entry_of text) (filter (is_hit_of 
 
 abbrev pub rows_listed : Strategy → List ℕ → List OwnedEntry → List Entry
 rows_listed strategy query entries = map (λ entry. row (headword_of entry) []) (filter (is_listed strategy query) entries)
+
+-- all elements of this kind lie between two places: none before the first, none from the end on
+pub record LieWithin {X : Type 0} (p : X → Bool) (xs : List X) (first end : ℕ) : Type 0 where
+  pub before : filter p (take first xs) ≡ []
+  pub behind : filter p (drop end xs) ≡ []
+  pub ordered : first ≤ end
+  pub fits : end ≤ length xs

@@ -1,15 +1,15 @@
 // An edition that is kept in memory.
-ghost use Rattle.std.specs.Prelude.{◌≡◌, ◌≤◌, ◌==◌, not, filter, IfOk, option_map, vec_capacity, vec_len};
+ghost use Rattle.std.specs.Prelude.{◌≡◌, ◌≤◌, ◌==◌, not, filter, IfOk, option_map, length, vec_capacity, vec_len};
 ghost use Rattle.std.specs.List.{list_any};
 ghost use Rattle.dict_desk.specs.Plain.{numbered};
 ghost use Rattle.dict_index.specs.Edition.{edition_of};
-ghost use Rattle.dict_desk.specs.Found.{found};
+ghost use Rattle.dict_desk.specs.Found.{is_found, found};
+ghost use Rattle.dict_desk.specs.PlainEntries.{LieWithin};
+ghost use Rattle.dict_desk.specs.declared.lookup.What.TheVariants.{Entries, Headwords};
 ghost use Rattle.dict_desk.specs.Shown.{headword_rows, info_rows, count_of};
 
-use crate::entries::{
-    OwnedEntry, count_found, count_listed, hand_found, hand_listed, owned_entries,
-};
-use crate::lookup::{End, What};
+use crate::entries::{Hits, OwnedEntry, Span, hand_found, hand_listed, hits_among, owned_entries};
+use crate::lookup::End;
 use crate::sink::{RowSink, Turn};
 use dict_index::Edition;
 use dict_match::Strategy;
@@ -77,30 +77,60 @@ impl PlainEdition {
         self.number
     }
 
-    // How many entries a query finds, or how many headwords they have.
-    pub(crate) fn count(&self, strategy: Strategy, query: &[u8], what: What) -> u64
-        ensures { result ≡ count_of what strategy query.now self.now.content }
+    // What a query finds.
+    pub(crate) fn hits(&self, strategy: Strategy, query: &[u8]) -> Hits
+        ensures entries { result.entries ≡ count_of Entries strategy query.now self.now.content }
+        ensures headwords { result.headwords ≡ count_of Headwords strategy query.now self.now.content }
+        ensures within { LieWithin (is_found strategy query.now) self.now.content.entries result.span.first result.span.end }
     {
-        match what {
-            What::Entries => count_found(&self.entries, strategy, query),
-            What::Headwords => count_listed(&self.entries, strategy, query),
-        }
+        hits_among(&self.entries, strategy, query)
     }
 
-    // Hands out the entries that a query finds.
-    pub(crate) fn find<T: RowSink>(&self, strategy: Strategy, query: &[u8], sink: &mut T) -> End
+    // Hands out the entries that a query finds, all of which lie in the span.
+    pub(crate) fn find<T: RowSink>(
+        &self,
+        span: Span,
+        strategy: Strategy,
+        query: &[u8],
+        sink: &mut T,
+    ) -> End
+        requires { LieWithin (is_found strategy query.now) self.now.content.entries span.first span.end }
         ensures all { result ≡ End.All → T.takes sink.old (found strategy query.now self.now.content) sink.new }
         ensures stopped { result ≡ End.Stopped → T.stops sink.old (found strategy query.now self.now.content) sink.new }
     {
-        hand_found(&self.text, &self.entries, strategy, query, sink)
+        hand_found(
+            &self.text,
+            &self.entries[span.first..span.end],
+            strategy,
+            query,
+            sink,
+        )
     }
 
-    // Hands out the headwords of the entries that a query finds.
-    pub(crate) fn heads<T: RowSink>(&self, strategy: Strategy, query: &[u8], sink: &mut T) -> End
+    // Hands out the headwords of the entries that a query finds, all of which lie in the span.
+    pub(crate) fn heads<T: RowSink>(
+        &self,
+        span: Span,
+        strategy: Strategy,
+        query: &[u8],
+        sink: &mut T,
+    ) -> End
+        requires { LieWithin (is_found strategy query.now) self.now.content.entries span.first span.end }
         ensures all { result ≡ End.All → T.takes sink.old (headword_rows strategy query.now self.now.content) sink.new }
         ensures stopped { result ≡ End.Stopped → T.stops sink.old (headword_rows strategy query.now self.now.content) sink.new }
     {
-        hand_listed(&self.entries, strategy, query, sink)
+        hand_listed(&self.entries[span.first..span.end], strategy, query, sink)
+    }
+
+    // The span of all entries.
+    pub(crate) fn whole(&self) -> Span
+        ensures first { result.first ≡ 0 }
+        ensures end { result.end ≡ length self.now.content.entries }
+    {
+        Span {
+            first: 0,
+            end: self.entries.len(),
+        }
     }
 
     // Hands out what the database says of itself.

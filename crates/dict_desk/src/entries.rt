@@ -1,9 +1,9 @@
 // The entries of an edition that is kept in memory.
-ghost use Rattle.std.specs.Prelude.{◌≡◌, ℕ, [], ◌∷◌, List, IfOk, length, map, filter, take, drop};
+ghost use Rattle.std.specs.Prelude.{◌≡◌, ◌≤◌, ◌<◌, ◌==◌, ◌+◌, ℕ, [], ◌∷◌, List, IfOk, length, map, filter, take, drop, if◌then◌else◌};
 ghost use Rattle.std.specs.List.{AllByRecursion};
 ghost use Rattle.dict_index.specs.Views.{line_of as line_read, HasBodyIn, HasItsKey as HasKeyRead};
 ghost use Rattle.dict_desk.specs.Shown.{row};
-ghost use Rattle.dict_desk.specs.PlainEntries.{line_of, entry_of, headword_of, HasItsKey, AreMarked, is_hit_of, is_listed, rows_found, rows_listed};
+ghost use Rattle.dict_desk.specs.PlainEntries.{line_of, entry_of, headword_of, HasItsKey, AreMarked, is_hit_of, is_listed, rows_found, rows_listed, LieWithin};
 
 use crate::lookup::End;
 use crate::sink::{RowSink, Turn};
@@ -64,7 +64,7 @@ fn finds(strategy: Strategy, query: &[u8], entry: &OwnedEntry) -> bool
     matches(strategy, query, entry.key.as_bytes())
 }
 
-// Whether a query finds the entry, which is the first of its headword.
+// Whether the entry is the first of its headword, and a query finds it.
 fn lists(strategy: Strategy, query: &[u8], entry: &OwnedEntry) -> bool
     requires { HasItsKey entry.now }
     ensures { result ≡ is_listed strategy query.now entry.now }
@@ -72,32 +72,65 @@ fn lists(strategy: Strategy, query: &[u8], entry: &OwnedEntry) -> bool
     entry.is_first && finds(strategy, query, entry)
 }
 
-// How many entries a query finds.
-pub(crate) fn count_found(entries: &[OwnedEntry], strategy: Strategy, query: &[u8]) -> u64
-    requires { AllByRecursion HasItsKey entries.now }
-    ensures { result ≡ length (filter (is_hit_of strategy query.now) entries.now) }
-{
-    let mut count = 0u64;
-    for entry in entries {
-        if finds(strategy, query, entry) {
-            count += 1;
-        }
-    }
-    count
+/// The places from the first one up to the end.
+#[derive(Clone, Copy)]
+pub(crate) struct Span {
+    pub first: usize,
+    pub end: usize,
 }
 
-// How many of the entries that a query finds are the first of their headwords.
-pub(crate) fn count_listed(entries: &[OwnedEntry], strategy: Strategy, query: &[u8]) -> u64
-    requires { AllByRecursion HasItsKey entries.now }
-    ensures { result ≡ length (filter (is_listed strategy query.now) entries.now) }
+/// What a query finds: how many entries, how many headwords, and a span in which all these entries lie.
+#[derive(Clone, Copy)]
+pub(crate) struct Hits {
+    pub entries: u64,
+    pub headwords: u64,
+    pub span: Span,
+}
+
+// One entry more, which lies behind those before it.
+fn with(hits: Hits, place: usize, entry: &OwnedEntry) -> Hits
+    requires entries { hits.entries ≤ place }
+    requires headwords { hits.headwords ≤ place }
+    requires place { place < 9223372036854775808 }
+    ensures entries { result.entries ≡ hits.entries + 1 }
+    ensures headwords { result.headwords ≡ (if entry.now.is_first then hits.headwords + 1 else hits.headwords) }
+    ensures first { result.span.first ≡ (if hits.span.end == 0 then place else hits.span.first) }
+    ensures end { result.span.end ≡ place + 1 }
 {
-    let mut count = 0u64;
-    for entry in entries {
-        if lists(strategy, query, entry) {
-            count += 1;
+    let first = if hits.span.end == 0 {
+        place
+    } else {
+        hits.span.first
+    };
+    let firsts = if entry.is_first { 1 } else { 0 };
+    Hits {
+        entries: hits.entries + 1,
+        headwords: hits.headwords + firsts,
+        span: Span {
+            first,
+            end: place + 1,
+        },
+    }
+}
+
+// What a query finds among the entries.
+pub(crate) fn hits_among(entries: &[OwnedEntry], strategy: Strategy, query: &[u8]) -> Hits
+    requires { AllByRecursion HasItsKey entries.now }
+    ensures entries { result.entries ≡ length (filter (is_hit_of strategy query.now) entries.now) }
+    ensures headwords { result.headwords ≡ length (filter (is_listed strategy query.now) entries.now) }
+    ensures within { LieWithin (is_hit_of strategy query.now) entries.now result.span.first result.span.end }
+{
+    let mut hits = Hits {
+        entries: 0,
+        headwords: 0,
+        span: Span { first: 0, end: 0 },
+    };
+    for (place, entry) in entries.iter().enumerate() {
+        if finds(strategy, query, entry) {
+            hits = with(hits, place, entry);
         }
     }
-    count
+    hits
 }
 
 // Hands out the entries that a query finds, each with its text.

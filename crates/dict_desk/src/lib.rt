@@ -1,6 +1,7 @@
 //! The desk: what a catalogue is asked and told through.
 #![tactic(auto)]
 
+mod counted;
 mod edition;
 mod entries;
 mod fault;

@@ -1,5 +1,5 @@
 // A catalogue in memory.
-ghost use Rattle.std.specs.Prelude.{◌≡◌, ◌<◌, ◌++◌, [], true, false, None, Some, IfOk, IfErr, OnOk, OnErr, option_map, vec_len, vec_capacity};
+ghost use Rattle.std.specs.Prelude.{◌≡◌, ◌<◌, ◌++◌, [], true, false, None, Some, IfSome, IfOk, IfErr, OnOk, OnErr, option_map, vec_len, vec_capacity};
 ghost use Rattle.std.specs.List.{cons_option};
 ghost use Rattle.dict_name.specs.Names.{is_request_id};
 ghost use Rattle.dict_index.specs.Edition.{Edition};
@@ -8,8 +8,12 @@ ghost use Rattle.dict_catalogue.specs.Views.{command_meant, kept_shown, IsChange
 ghost use Rattle.dict_desk.specs.Shown.{HasEdition};
 ghost use Rattle.dict_desk.specs.Applying.{Applies};
 ghost use Rattle.dict_desk.specs.Plain.{newly_installed};
+ghost use Rattle.dict_desk.specs.PlainEntries.{LieWithin};
+ghost use Rattle.dict_desk.specs.Found.{is_found};
 
+use crate::counted::{Counted, span_of};
 use crate::edition::{PlainEdition, edition_numbered, take_out};
+use crate::entries::Span;
 use crate::fault::Fault;
 use crate::keeper::Keeper;
 use crate::lookup::{End, Lookup, What};
@@ -23,8 +27,8 @@ use std::collections::BTreeMap;
 use std::marker::Model;
 
 /// A catalogue in memory: its summary, the editions that the summary names, and the kept replies in order, with their
-/// places by their ids. Contracts see it as the catalogue, and as whether its last call failed. A stop leaves nothing
-/// of it.
+/// places by their ids; and the question that was counted last. Contracts see it as the catalogue, and as whether its
+/// last call failed. A stop leaves nothing of it.
 #[derive(Drop)]
 pub struct PlainDesk {
     alloc: Global,
@@ -32,19 +36,21 @@ pub struct PlainDesk {
     editions: Vec<PlainEdition>,
     replies: Vec<Filed>,
     places: BTreeMap<String, usize>,
+    counted: Option<Counted>,
     has_failed: bool,
 }
 
 impl Model for PlainDesk {
     ghost use Rattle.std.specs.BTreeMap.{get_by_text};
     ghost use Rattle.dict_catalogue.specs.Views.{summary_shown};
-    ghost use Rattle.dict_desk.specs.Plain.{PlainState, catalogue_from, AreInStep};
+    ghost use Rattle.dict_desk.specs.Plain.{PlainState, catalogue_from, AreInStep, HoldsSpan};
+    ghost use Rattle.std.specs.Prelude.{IfSome};
 
     ghost Value = { PlainState };
 
     ghost view = { λ d. record { catalogue = catalogue_from (summary_shown d.summary) d.editions.items d.replies.items; has_failed = d.has_failed } };
 
-    ghost invariant = { λ d. AreInStep (summary_shown d.summary) d.editions.items d.replies.items (get_by_text d.places) };
+    ghost invariant = { λ d. AreInStep (summary_shown d.summary) d.editions.items d.replies.items (get_by_text d.places) × IfSome d.counted (HoldsSpan d.editions.items) };
 }
 
 impl PlainDesk {
@@ -58,6 +64,7 @@ impl PlainDesk {
             editions: Vec::new(alloc),
             replies: Vec::new(alloc),
             places: BTreeMap::new(alloc),
+            counted: None,
             has_failed: false,
         }
     }
@@ -67,6 +74,16 @@ impl PlainDesk {
         ensures { (edition : Edition) → HasEdition self.now.catalogue number edition → option_map (λ found. found.now) result ≡ Some (record { number = number; content = edition }) }
     {
         edition_numbered(&self.editions, number)
+    }
+
+    // The edition of this number, and the span in which all its entries lie that the query finds.
+    fn asked(&self, number: u64, strategy: Strategy, query: &Key) -> Option<(&PlainEdition, Span)>
+        ensures same { (edition : Edition) → HasEdition self.now.catalogue number edition → option_map (λ found. found.0.now) result ≡ Some (record { number = number; content = edition }) }
+        ensures within { IfSome result (λ found. LieWithin (is_found strategy query.now) found.0.now.content.entries found.1.first found.1.end) }
+    {
+        let edition = edition_numbered(&self.editions, number)?;
+        let span = span_of(self.counted.as_ref(), edition, strategy, query);
+        Some((edition, span))
     }
 
     // A copy of the reply that is kept under the id.
@@ -123,6 +140,7 @@ impl PlainDesk {
         ensures same { OnErr result (self.new.catalogue ≡ self.old.catalogue) }
     {
         command.is_lawful();
+        self.counted = None;
         let edition = installed(self.alloc, command, change.summary.installs)?;
         let filed = file_under(self.alloc, id, &change.kept)?;
         self.editions.reserve(1)?;
@@ -194,10 +212,15 @@ impl Lookup for PlainDesk {
         what: What,
     ) -> Result<u64, Fault> {
         self.has_failed = false;
-        match self.edition(number) {
-            Some(edition) => Ok(edition.count(strategy, query.as_bytes(), what)),
-            None => Ok(0),
-        }
+        let Some(edition) = edition_numbered(&self.editions, number) else {
+            return Ok(0);
+        };
+        let hits = edition.hits(strategy, query.as_bytes());
+        self.counted = Counted::note(number, strategy, query, hits.span);
+        Ok(match what {
+            What::Entries => hits.entries,
+            What::Headwords => hits.headwords,
+        })
     }
 
     fn find<T: RowSink>(
@@ -208,8 +231,8 @@ impl Lookup for PlainDesk {
         sink: &mut T,
     ) -> Result<End, Fault> {
         self.has_failed = false;
-        match self.edition(number) {
-            Some(edition) => Ok(edition.find(strategy, query.as_bytes(), sink)),
+        match self.asked(number, strategy, query) {
+            Some((edition, span)) => Ok(edition.find(span, strategy, query.as_bytes(), sink)),
             None => Ok(End::All),
         }
     }
@@ -222,8 +245,8 @@ impl Lookup for PlainDesk {
         sink: &mut T,
     ) -> Result<End, Fault> {
         self.has_failed = false;
-        match self.edition(number) {
-            Some(edition) => Ok(edition.heads(strategy, query.as_bytes(), sink)),
+        match self.asked(number, strategy, query) {
+            Some((edition, span)) => Ok(edition.heads(span, strategy, query.as_bytes(), sink)),
             None => Ok(End::All),
         }
     }

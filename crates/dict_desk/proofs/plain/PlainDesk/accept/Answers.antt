@@ -29,9 +29,11 @@ returns-in_err-note_place-clause-same c =
     ∙ ap (λ (state : PlainState). state.catalogue) c.self.view_is))
 
 pub invariant_of-self-in_err-note_place : goal.invariant_of-self-in_err-note_place
-invariant_of-self-in_err-note_place c =
-    parts_same (summary_shown c.self.inside.summary) c.self.inside.editions.items c.reserve.new.self.items c.self.inside.replies.items c.reserve-2.new.self.items (get_by_text c.self.inside.places) (get_by_text c.note_place.new.places) c.self.invariant
-    c.in_ok-reserve.ensures.items c.in_ok-reserve-2.ensures.items c.in_err-note_place.ensures.same
+invariant_of-self-in_err-note_place c = (
+  parts_same (summary_shown c.self.inside.summary) c.self.inside.editions.items c.reserve.new.self.items c.self.inside.replies.items c.reserve-2.new.self.items (get_by_text c.self.inside.places) (get_by_text c.note_place.new.places) c.self.invariant.0
+      c.in_ok-reserve.ensures.items c.in_ok-reserve-2.ensures.items c.in_err-note_place.ensures.same,
+  tt,
+)
 
 pub invariant_of-self-2 : goal.invariant_of-self-2
 invariant_of-self-2 c =
@@ -42,11 +44,13 @@ invariant_of-self-2 c =
     c.push_reserved.ensures.items ∙ ap (λ (rs : List Filed). rs ++ c.in_ok-filed.filed ∷ []) c.in_ok-reserve-2.ensures.items in
     let count : c.len-place.result ≡ length c.self.inside.replies.items = c.len-place.ensures ∙ (c.in_ok-reserve-2.ensures.len ∙ search rules) in
     let placed : (text : List ℕ) → get_by_text c.note_place.new.places text ≡ cond (bytes_eq c.args.id.now text) (Some (length c.self.inside.replies.items)) (get_by_text c.self.inside.places text) =
-    λ text. c.in_ok-note_place.ensures.noted text ∙ ap (λ (n : ℕ). cond (bytes_eq c.args.id.now text) (Some n) (get_by_text c.self.inside.places text)) count in
-    (accepted_parts (summary_shown c.self.inside.summary) c.self.inside.editions.items c.put.new.editions.items (cons_option c.in_ok-edition.edition []) c.self.inside.replies.items c.push_reserved.new.self.items
-    (get_by_text c.self.inside.places) (get_by_text c.note_place.new.places) c.args.self.now.catalogue c.args.id.now (command_meant c.args.command.now) c.args.change c.in_ok-filed.filed
-    (ap (λ (state : PlainState). state.catalogue) c.self.view_is) c.self.invariant c.is_lawful.ensures c.requires.id c.requires.unused c.requires.planned c.in_ok-filed.ensures c.in_ok-edition.ensures
-    left filed_last placed).0
+    λ text. c.in_ok-note_place.ensures.noted text ∙ ap (λ (n : ℕ). cond (bytes_eq c.args.id.now text) (Some n) (get_by_text c.self.inside.places text)) count in (
+      (accepted_parts (summary_shown c.self.inside.summary) c.self.inside.editions.items c.put.new.editions.items (cons_option c.in_ok-edition.edition []) c.self.inside.replies.items c.push_reserved.new.self.items
+          (get_by_text c.self.inside.places) (get_by_text c.note_place.new.places) c.args.self.now.catalogue c.args.id.now (command_meant c.args.command.now) c.args.change c.in_ok-filed.filed
+          (ap (λ (state : PlainState). state.catalogue) c.self.view_is) c.self.invariant.0 c.is_lawful.ensures c.requires.id c.requires.unused c.requires.planned c.in_ok-filed.ensures c.in_ok-edition.ensures
+          left filed_last placed).0,
+      tt,
+    )
 
 pub returns-clause-after : goal.returns-clause-after
 returns-clause-after c =
@@ -60,5 +64,5 @@ returns-clause-after c =
     λ text. c.in_ok-note_place.ensures.noted text ∙ ap (λ (n : ℕ). cond (bytes_eq c.args.id.now text) (Some n) (get_by_text c.self.inside.places text)) count in
     (accepted_parts (summary_shown c.self.inside.summary) c.self.inside.editions.items c.put.new.editions.items (cons_option c.in_ok-edition.edition []) c.self.inside.replies.items c.push_reserved.new.self.items
     (get_by_text c.self.inside.places) (get_by_text c.note_place.new.places) c.args.self.now.catalogue c.args.id.now (command_meant c.args.command.now) c.args.change c.in_ok-filed.filed
-    (ap (λ (state : PlainState). state.catalogue) c.self.view_is) c.self.invariant c.is_lawful.ensures c.requires.id c.requires.unused c.requires.planned c.in_ok-filed.ensures c.in_ok-edition.ensures
+    (ap (λ (state : PlainState). state.catalogue) c.self.view_is) c.self.invariant.0 c.is_lawful.ensures c.requires.id c.requires.unused c.requires.planned c.in_ok-filed.ensures c.in_ok-edition.ensures
     left filed_last placed).1

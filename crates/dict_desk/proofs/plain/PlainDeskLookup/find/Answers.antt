@@ -8,7 +8,7 @@ use Rattle.dict_desk.proofs.plain.PlainDeskLookup.find.Goals as goal
 
 pub returns-in-Some-clause-value : goal.returns-in-Some-clause-value
 returns-in-Some-clause-value g c = λ trusted M edition shown has.
-    let same = same_some _ _ (c.in-Some.ensures edition (has_here M _ _ c.args.number edition c.self.view_is shown.0 has)) in
+    let same = same_some _ _ (c.in-Some.ensures.same edition (has_here M _ _ c.args.number edition c.self.view_is shown.0 has)) in
     let rows : found c.args.strategy c.as_bytes.result.now c.in-Some.edition.now.content ≡ found c.args.strategy c.args.query.now edition =
     ap (λ (query : List ℕ). found c.args.strategy query c.in-Some.edition.now.content) c.as_bytes.ensures
     ∙ ap (λ (stored : Stored Edition). found c.args.strategy c.args.query.now stored.content) same in
@@ -18,4 +18,4 @@ returns-in-Some-clause-value g c = λ trusted M edition shown has.
 
 pub returns-in-None-clause-value : goal.returns-in-None-clause-value
 returns-in-None-clause-value g c = λ trusted M edition shown has.
-    none_some _ _ (c.in-None.ensures edition (has_here M _ _ c.args.number edition c.self.view_is shown.0 has))
+    none_some _ _ (c.in-None.ensures.same edition (has_here M _ _ c.args.number edition c.self.view_is shown.0 has))
