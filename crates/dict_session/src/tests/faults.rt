@@ -104,7 +104,7 @@ impl Lookup for Failing {
 // A line, after how many of its calls the desk fails, what the session comes to, and what is answered.
 type Row = (&'static str, usize, Step, &'static str);
 
-static ROWS: [Row; 9] = [
+static ROWS: [Row; 13] = [
     (
         "DEFINE * opal\r\n",
         0,
@@ -134,6 +134,30 @@ static ROWS: [Row; 9] = [
         4,
         Step::More,
         "150 2 definitions retrieved\r\n151 \"opal\" stones \"Stones\"\r\nx\r\n.\r\n151 \"opal\" gem \"Gems\"\r\nopal\r\n  a stone\r\n.\r\n250 ok\r\n210 2 databases\r\n",
+    ),
+    (
+        "MATCH * exact opal\r\n",
+        0,
+        Step::More,
+        "420 server temporarily unavailable\r\n210 2 databases\r\n",
+    ),
+    (
+        "MATCH * exact opal\r\n",
+        2,
+        Step::Broken,
+        "152 2 matches found\r\n",
+    ),
+    (
+        "MATCH * exact opal\r\n",
+        3,
+        Step::Broken,
+        "152 2 matches found\r\nstones \"opal\"\r\n",
+    ),
+    (
+        "MATCH * exact opal\r\n",
+        4,
+        Step::More,
+        "152 2 matches found\r\nstones \"opal\"\r\ngem \"opal\"\r\n.\r\n250 ok\r\n210 2 databases\r\n",
     ),
     (
         "MATCH ! suffix fire\\ opal\r\n",

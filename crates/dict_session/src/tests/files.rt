@@ -21,6 +21,13 @@ pub const ORE: Files = Files(
     b"00-database-short\nOres\niron\n  ore\n",
 );
 
+/// Two headwords of which one is the other with the last character of all behind it.
+pub const EDGE: Files = Files(
+    "edge",
+    b"00-database-short\tA\tZ\na\tZ\tC\na\xf4\x8f\xbf\xbf\tZ\tC\nb\tZ\tC\n",
+    b"00-database-short\n  Gems\nx\n",
+);
+
 // Entries in another order than their headwords', with one headword twice, and what the database says of itself.
 pub const STONES: Files = Files(
     "stones",
@@ -28,8 +35,8 @@ pub const STONES: Files = Files(
     b"00-database-short\n  Stones\nx\ny\n.x\ny\n",
 );
 
-// Applies a command, and forgets its reply.
-fn apply(desk: &mut PlainDesk, id: &str, command: &Command) -> Result<(), Fail> {
+///// Applies a command, and forgets its reply.
+pub fn apply(desk: &mut PlainDesk, id: &str, command: &Command) -> Result<(), Fail> {
     desk.apply(id, command)?;
     Ok(())
 }

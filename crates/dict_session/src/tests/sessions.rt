@@ -7,8 +7,8 @@ use std::alloc::Global;
 use std::process::Abort;
 use std::test::Fail;
 
-// What a client sends, whether a QUIT in it is answered, and the answers.
-type Row = (&'static str, bool, &'static str);
+/// What a client sends, whether a QUIT in it is answered, and the answers.
+pub type Row = (&'static str, bool, &'static str);
 
 const PEARLS: &str =
     "150 2 definitions retrieved\r\n151 \"pearl\" stones \"Stones\"\r\nx\r\n.\r\n151 \"pearl\" stones \"Stones\"\r\ny\r\n.\r\n250 ok\r\n";
@@ -142,8 +142,8 @@ static EMPTY_ROWS: [Row; 5] = [
     ("STATUS\r\n", false, "210 0 databases\r\n"),
 ];
 
-// Runs the rows whole.
-fn run_rows(
+/// Runs the rows whole.
+pub fn run_rows(
     rt: &impl Abort,
     alloc: Global,
     desk: &mut PlainDesk,
@@ -181,8 +181,8 @@ fn fed(
     Ok((step, writer))
 }
 
-// Feeds the rows octet by octet, and cut in two at each place.
-fn feed_rows(
+/// Feeds the rows octet by octet, and cut in two at each place.
+pub fn feed_rows(
     rt: &impl Abort,
     alloc: Global,
     desk: &mut PlainDesk,
