@@ -30,7 +30,7 @@ fn text(alloc: Global, text: &str) -> Result<String, AllocError> {
     String::from_str(alloc, text)
 }
 
-pub fn mark(
+pub(crate) fn mark(
     alloc: Global,
     magic: &str,
     version: i64,
@@ -45,7 +45,7 @@ pub fn mark(
     Ok(Stored { rowid: 1, value })
 }
 
-pub fn regular(
+pub(crate) fn regular(
     alloc: Global,
     place: i64,
     name: &str,
@@ -66,7 +66,7 @@ pub fn regular(
     })
 }
 
-pub fn listed(
+pub(crate) fn listed(
     alloc: Global,
     place: i64,
     name: &str,
@@ -87,7 +87,7 @@ pub fn listed(
     })
 }
 
-pub fn member(
+pub(crate) fn member(
     alloc: Global,
     owner: &str,
     ord: i64,
@@ -101,7 +101,7 @@ pub fn member(
     Ok(Stored { rowid: ord, value })
 }
 
-pub fn edition(
+pub(crate) fn edition(
     alloc: Global,
     number: i64,
     owner: &str,
@@ -121,7 +121,7 @@ pub fn edition(
     })
 }
 
-pub fn entry(
+pub(crate) fn entry(
     alloc: Global,
     edition: i64,
     ord: i64,
@@ -139,7 +139,7 @@ pub fn entry(
     Ok(Stored { rowid: ord, value })
 }
 
-pub fn reply(
+pub(crate) fn reply(
     alloc: Global,
     id: &str,
     number: i64,
@@ -161,7 +161,7 @@ pub fn reply(
 }
 
 /// An edition with this text, and one entry that cuts this interval out of it.
-pub fn cutting(
+pub(crate) fn cutting(
     alloc: Global,
     number: i64,
     owner: &str,
@@ -178,7 +178,7 @@ pub fn cutting(
 }
 
 /// The edition `ore`, whose one entry has this place, this headword and this interval.
-pub fn ore(
+pub(crate) fn ore(
     alloc: Global,
     number: i64,
     owner: &str,
@@ -195,7 +195,7 @@ pub fn ore(
     })
 }
 
-pub fn gem(alloc: Global) -> Result<EditionRows, AllocError> {
+pub(crate) fn gem(alloc: Global) -> Result<EditionRows, AllocError> {
     let body = b"00-database-short\n  Gems\nopal\n  a stone\n.dot\n";
     let mut entries = Vec::new(alloc);
     entries.push(entry(alloc, 2, 0, "opal", 25, 15)?)?;
@@ -231,7 +231,7 @@ fn replies(alloc: Global) -> Result<Vec<Stored<Kept<String>>>, AllocError> {
 }
 
 /// The records of the whole catalogue.
-pub fn whole(alloc: Global) -> Result<Rows, AllocError> {
+pub(crate) fn whole(alloc: Global) -> Result<Rows, AllocError> {
     let mut marks = Vec::new(alloc);
     marks.push(mark(alloc, "dictcat", 1, 2)?)?;
     let mut editions = Vec::new(alloc);

@@ -15,7 +15,7 @@ fn number<S: Alter>(conn: &mut Connection<S>, text: &str) -> Result<i64, Error> 
 }
 
 /// Makes a store where the connection is in no transaction.
-pub fn make<S: Alter>(conn: &mut Connection<S>) -> Result<(), Fault> {
+pub(crate) fn make<S: Alter>(conn: &mut Connection<S>) -> Result<(), Fault> {
     if !conn.is_autocommit() {
         return Err(Fault::Closed);
     }
