@@ -1,5 +1,5 @@
 -- What each status tells of how the program ended.
-use Rattle.std.proofs.Common.{◌≡◌, ℕ, ◌≤◌, ◌⊎◌, List, [], Option, Ok, Err, inl, inr, arith}
+use Rattle.std.proofs.Common.{◌≡◌, ℕ, ◌≤◌, List, Option, Ok, Err, inl, inr, arith}
 use Rattle.dict_io.specs.Streams.{Change}
 use Rattle.dictcat_lib.specs.Faults.{status_of}
 use Rattle.dictcat_lib.specs.Plain.{IsUntouched}

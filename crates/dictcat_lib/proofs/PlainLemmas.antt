@@ -1,19 +1,19 @@
 -- What the one install of a session over files is answered.
 use Rattle.std.proofs.Common.{◌≡◌, ℕ, List, Bool, true, false, refl, codes}
-use Rattle.std.specs.Prelude.{if◌then◌else◌, Option, None, Some, Result, Ok, Err}
+use Rattle.std.specs.Prelude.{if◌then◌else◌, None, Some, Result, Ok, Err}
 use Rattle.dict_io.specs.Streams.{Change}
-use Rattle.dict_index.specs.Meaning.{IsEdition}
 use Rattle.dict_session.specs.Run.{Ends}
 use Rattle.dict_session.specs.declared.session.run.SessionFault.{SessionFault}
 use Rattle.dict_session.specs.declared.session.run.SessionFault.TheVariants.{Read, Write, Broken, Memory}
-use Rattle.dictcat_lib.specs.Plain.{catalogue_of, told_by, FailsOver, InstalledEnds, PlainEnds}
+use Rattle.dict_catalogue.specs.Steps.{Catalogue}
+use Rattle.dictcat_lib.specs.Plain.{catalogue_of, told_by, IsUntouched, RunEnds, IsInstalled, Installs, PlainEnds}
 use Rattle.dictcat_lib.specs.declared.fault.Fault.{Fault}
 use Rattle.dictcat_lib.specs.declared.fault.Fault.TheVariants as faults
 use Rattle.dict_name.specs.Names.{is_name, is_request_id}
 use Rattle.dict_index.specs.Edition.{Edition}
 use Rattle.dict_catalogue.specs.Commands.{install}
 use Rattle.dict_catalogue.specs.Effects.{KeptReply}
-use Rattle.dict_catalogue.specs.Steps.{Reply, accepted, refused, empty_catalogue, step, decided}
+use Rattle.dict_catalogue.specs.Steps.{accepted, refused, empty_catalogue, step, decided}
 use Rattle.dict_catalogue.specs.declared.fault.Refusal.{Refusal}
 use Rattle.dict_catalogue.specs.declared.fault.Refusal.TheVariants.{BadName}
 
@@ -34,21 +34,31 @@ unfolding is_request_id
 install_accepted name edition kept e = accepted_by name edition (is_name name) kept e
 
 -- a session that a fault ended
-pub ended_by : (name : List ℕ) (edition : Edition) (fault : SessionFault) (failed : Bool) (reader writer : Change) → is_name name ≡ true
-    → Ends (catalogue_of name edition) (codes "localhost") 1 failed (Err fault) reader writer → FailsOver name edition (told_by fault) reader writer
-ended_by name edition Read failed reader writer lawful ends = (Read, (λ e. cc), (lawful, (failed, ends)))
-ended_by name edition Write failed reader writer lawful ends = (Write, (λ e. cc), (lawful, (failed, ends)))
-ended_by name edition Broken failed reader writer lawful ends = (Broken, (λ e. cc), (lawful, (failed, ends)))
-ended_by name edition Memory failed reader writer lawful (b, h) = h
+pub ended_by : (A : Type 0) (M : Catalogue) (fault : SessionFault) (failed : Bool) (reader writer : Change) → Ends M (codes "localhost") 1 failed (Err fault) reader writer → RunEnds {A = A} M (Err (told_by fault)) reader writer
+ended_by A M Read failed reader writer ends = (Read, (λ e. cc), (failed, ends))
+ended_by A M Write failed reader writer ends = (Write, (λ e. cc), (failed, ends))
+ended_by A M Broken failed reader writer ends = (Broken, (λ e. cc), (failed, ends))
+ended_by A M Memory failed reader writer (b, h) = h
 
--- the edition is what the index and the text say
-pub plain_ends : {A : Type 0} (name index text : List ℕ) (edition : Edition) (r : Result A Fault) (reader writer : Change) → IsEdition index text edition
-    → InstalledEnds name edition r reader writer → PlainEnds name index text r reader writer
-plain_ends name index text edition (Ok done) reader writer is (end, (lawful, runs)) = (end, (edition, lawful, is, runs))
-plain_ends name index text edition (Err (faults.Refused refusal)) reader writer is (bad, unlawful, r, w) = (bad, unlawful, (edition, is), r, w)
-plain_ends name index text edition (Err faults.SessionEnded) reader writer is (fault, other, (lawful, runs)) = (fault, other, (edition, lawful, is, runs))
-plain_ends name index text edition (Err faults.Memory) reader writer is h = h
-plain_ends name index text edition (Err (faults.Line refusal line)) reader writer is h = absurd h
-plain_ends name index text edition (Err (faults.Edition refusal)) reader writer is h = absurd h
-plain_ends name index text edition (Err (faults.CannotRead path)) reader writer is h = h
-plain_ends name index text edition (Err faults.CannotWrite) reader writer is h = h
+-- a session over what was installed
+pub installed_ends : {A : Type 0} (Shows : Catalogue → Type 0) (name index text : List ℕ) (result : Result A Fault) (reader writer : Change) → (done : IsInstalled Shows name index text)
+    → RunEnds (catalogue_of name done.edition) result reader writer → PlainEnds name index text result reader writer
+installed_ends Shows name index text (Ok value) reader writer done (end, runs) = (end, (done.edition, done.lawful, done.said, runs))
+installed_ends Shows name index text (Err faults.SessionEnded) reader writer done (fault, other, runs) = (fault, other, (done.edition, done.lawful, done.said, runs))
+installed_ends Shows name index text (Err faults.Memory) reader writer done h = h
+installed_ends Shows name index text (Err (faults.Refused refusal)) reader writer done h = absurd h
+installed_ends Shows name index text (Err (faults.Line refusal line)) reader writer done h = absurd h
+installed_ends Shows name index text (Err (faults.Edition refusal)) reader writer done h = absurd h
+installed_ends Shows name index text (Err (faults.CannotRead path)) reader writer done h = h
+installed_ends Shows name index text (Err faults.CannotWrite) reader writer done h = h
+
+-- nothing was installed, and nothing was read or written
+pub not_installed : (A B : Type 0) (Shows : Catalogue → Type 0) (name index text : List ℕ) (fault : Fault) (reader writer : Change) → IsUntouched reader → IsUntouched writer
+    → Installs {A = A} Shows name index text (Err fault) → PlainEnds {A = B} name index text (Err fault) reader writer
+not_installed A B Shows name index text (faults.Refused refusal) reader writer r w (bad, unlawful, said) = (bad, unlawful, said, r, w)
+not_installed A B Shows name index text faults.SessionEnded reader writer r w h = absurd h
+not_installed A B Shows name index text faults.Memory reader writer r w h = (r, w)
+not_installed A B Shows name index text (faults.Line refusal line) reader writer r w h = (h, r, w)
+not_installed A B Shows name index text (faults.Edition refusal) reader writer r w h = (h, r, w)
+not_installed A B Shows name index text (faults.CannotRead path) reader writer r w h = h
+not_installed A B Shows name index text faults.CannotWrite reader writer r w h = h

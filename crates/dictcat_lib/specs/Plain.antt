@@ -1,5 +1,5 @@
 -- How a session over one database in lists ends.
-use Rattle.std.specs.Prelude.{◌≡◌, ◌≢◌, ℕ, ◌⊎◌, IsTrue, Bool, false, List, [], Option, Some, None, Result, Ok, Err, codes}
+use Rattle.std.specs.Prelude.{◌≡◌, ◌≢◌, ℕ, ◌⊎◌, IsTrue, Bool, false, List, Option, Some, None, Result, Ok, Err, codes}
 use Rattle.dict_catalogue.specs.declared.fault.Refusal.TheVariants.{BadName}
 use Rattle.dict_name.specs.Names.{is_name}
 use Rattle.dict_index.specs.Edition.{Edition}
@@ -37,24 +37,34 @@ told_by session_faults.Write = faults.SessionEnded
 told_by session_faults.Broken = faults.SessionEnded
 told_by session_faults.Memory = faults.Memory
 
--- a session over the edition, installed under this lawful name, ended so
-abbrev pub RunsOver : List ℕ → Edition → Result End SessionFault → Change → Change → Type 0
-RunsOver name edition end reader writer = IsTrue (is_name name) × ((failed : Bool) × Ends (catalogue_of name edition) (codes "localhost") 1 failed end reader writer)
+-- what comes of a session over a catalogue
+abbrev pub RunEnds : {A : Type 0} → Catalogue → Result A Fault → Change → Change → Type 0
+RunEnds M (Ok _) reader writer = (end : End) × ((failed : Bool) × Ends M (codes "localhost") 1 failed (Ok end) reader writer)
+RunEnds M (Err faults.SessionEnded) reader writer = (fault : SessionFault) × (fault ≢ session_faults.Memory) × ((failed : Bool) × Ends M (codes "localhost") 1 failed (Err fault) reader writer)
+RunEnds M (Err faults.Memory) reader writer = IsUntouched reader × IsUntouched writer
+RunEnds M (Err (faults.Line refusal line)) reader writer = ⊥
+RunEnds M (Err (faults.Edition refusal)) reader writer = ⊥
+RunEnds M (Err (faults.Refused refusal)) reader writer = ⊥
+RunEnds M (Err (faults.CannotRead path)) reader writer = ⊥
+RunEnds M (Err faults.CannotWrite) reader writer = ⊥
 
--- the same with a fault: the install was refused for the name, or the session ended by a fault, or memory ran out
-abbrev pub FailsOver : List ℕ → Edition → Fault → Change → Change → Type 0
-FailsOver name edition (faults.Refused refusal) reader writer = (refusal ≡ BadName) × (is_name name ≡ false) × IsUntouched reader × IsUntouched writer
-FailsOver name edition faults.SessionEnded reader writer = (fault : SessionFault) × (fault ≢ session_faults.Memory) × RunsOver name edition (Err fault) reader writer
-FailsOver name edition faults.Memory reader writer = IsUntouched reader × IsUntouched writer
-FailsOver name edition (faults.Line refusal line) reader writer = ⊥
-FailsOver name edition (faults.Edition refusal) reader writer = ⊥
-FailsOver name edition (faults.CannotRead path) reader writer = ⊥
-FailsOver name edition faults.CannotWrite reader writer = ⊥
+-- the edition that an index and a text say is installed under this lawful name, as the first command
+pub record IsInstalled (Shows : Catalogue → Type 0) (name index text : List ℕ) : Type 0 where
+  pub edition : Edition
+  pub lawful : IsTrue (is_name name)
+  pub said : IsEdition index text edition
+  pub shows : Shows (catalogue_of name edition)
 
--- what comes of an edition and a name
-abbrev pub InstalledEnds : {A : Type 0} → List ℕ → Edition → Result A Fault → Change → Change → Type 0
-InstalledEnds name edition (Ok _) reader writer = (end : End) × RunsOver name edition (Ok end) reader writer
-InstalledEnds name edition (Err fault) reader writer = FailsOver name edition fault reader writer
+-- what comes of the install: it is done, or there is no such edition, or the name is refused, or memory ran out
+abbrev pub Installs : {A : Type 0} → (Catalogue → Type 0) → List ℕ → List ℕ → List ℕ → Result A Fault → Type 0
+Installs Shows name index text (Ok _) = IsInstalled Shows name index text
+Installs Shows name index text (Err (faults.Line refusal line)) = IsFault index text refusal (Some line)
+Installs Shows name index text (Err (faults.Edition refusal)) = IsFault index text refusal None
+Installs Shows name index text (Err (faults.Refused refusal)) = (refusal ≡ BadName) × (is_name name ≡ false) × ((edition : Edition) × IsEdition index text edition)
+Installs Shows name index text (Err faults.Memory) = Unit {0}
+Installs Shows name index text (Err faults.SessionEnded) = ⊥
+Installs Shows name index text (Err (faults.CannotRead path)) = ⊥
+Installs Shows name index text (Err faults.CannotWrite) = ⊥
 
 -- what comes of an index, a text and a name
 abbrev pub PlainEnds : {A : Type 0} → List ℕ → List ℕ → List ℕ → Result A Fault → Change → Change → Type 0

@@ -1,6 +1,6 @@
 // A session over one database in lists.
 ghost use Rattle.dict_io.specs.Streams.{change};
-ghost use Rattle.dictcat_lib.specs.Plain.{PlainEnds, InstalledEnds, FilesEnd, IsUnread, told_by};
+ghost use Rattle.dictcat_lib.specs.Plain.{PlainEnds, RunEnds, Installs, FilesEnd, IsUnread, told_by};
 ghost use Rattle.dictcat_lib.specs.Files.{IsReadFrom};
 ghost use Rattle.std.specs.Prelude.{◌≡◌, MatchResult, codes};
 ghost use Rattle.dict_index.specs.Edition.{edition_of};
@@ -23,46 +23,59 @@ const HOST: &str = "localhost";
 const INSTALL_ID: &str = "plain";
 
 /// Runs a session over the database that an index and a text make, under a name, with host `localhost` and as
-/// connection 1. The edition's refusals come first, and then that of its install: the name's.
+/// connection 1. The edition's refusals come first, and then that of its install: the name's. The octets are given back
+/// before the session begins.
 pub fn run_plain<S: Source, K: Sink>(
     alloc: Global,
     name: &str,
-    index: &[u8],
-    text: &[u8],
+    index: Vec<u8>,
+    text: Vec<u8>,
     reader: &mut S,
     writer: &mut K,
 ) -> Result<(), Fault<'static>>
-    ensures { PlainEnds name.now index.now text.now result
+    ensures { PlainEnds name.now index.items text.items result
         (change S.stream reader.old reader.new) (change K.stream writer.old writer.new) }
 {
-    let edition = match read_edition(alloc, index, text) {
-        Ok(edition) => edition,
-        Err(fault) => return Err(Fault::from(fault)),
-    };
     let mut desk = PlainDesk::new(alloc);
-    run_installed(alloc, &mut desk, name, &edition, reader, writer)
+    install_octets(alloc, &mut desk, name, index, text)?;
+    run_over(alloc, &mut desk, reader, writer)
 }
 
-// Installs the edition under the name, and runs a session over that.
-fn run_installed<D: Keeper, S: Source, K: Sink>(
+// Runs a session over what a desk shows.
+fn run_over<D: Keeper, S: Source, K: Sink>(
     alloc: Global,
     desk: &mut D,
-    name: &str,
-    edition: &Edition,
     reader: &mut S,
     writer: &mut K,
 ) -> Result<(), Fault<'static>>
-    ensures { D.is_trusted desk.new → D.shows desk.old empty_catalogue → InstalledEnds name.now (edition_of edition.now) result
+    ensures ends { D.is_trusted desk.new → (M : Catalogue) → D.shows desk.old M → RunEnds M result
         (change S.stream reader.old reader.new) (change K.stream writer.old writer.new) }
+    ensures trust { D.is_trusted desk.new → D.is_trusted desk.old }
 {
-    match install(desk, name, edition) {
-        Ok(_) => {}
-        Err(DeskFault::Refused(refusal)) => return Err(Fault::Refused(refusal)),
-        Err(_) => return Err(Fault::Memory),
-    }
     match run(alloc, reader, writer, desk, HOST, 1) {
         Ok(_) => Ok(()),
         Err(fault) => Err(told_by(fault)),
+    }
+}
+
+// Installs the edition that an index and a text say under the name.
+fn install_octets<D: Keeper>(
+    alloc: Global,
+    desk: &mut D,
+    name: &str,
+    index: Vec<u8>,
+    text: Vec<u8>,
+) -> Result<(), Fault<'static>>
+    ensures { D.is_trusted desk.new → D.shows desk.old empty_catalogue → Installs (D.shows desk.new) name.now index.items text.items result }
+{
+    let edition = match read_edition(alloc, &index, &text) {
+        Ok(edition) => edition,
+        Err(fault) => return Err(Fault::from(fault)),
+    };
+    match install(desk, name, &edition) {
+        Ok(_) => Ok(()),
+        Err(DeskFault::Refused(refusal)) => Err(Fault::Refused(refusal)),
+        Err(_) => Err(Fault::Memory),
     }
 }
 
@@ -103,14 +116,7 @@ pub(crate) fn run_files<'w, I: InputFiles, S: Source, K: Sink>(
 {
     let index = read_file(files, index)?;
     let text = read_file(files, text)?;
-    run_plain(
-        alloc,
-        name,
-        index.as_slice(),
-        text.as_slice(),
-        reader,
-        writer,
-    )
+    run_plain(alloc, name, index, text, reader, writer)
 }
 
 // The octets of the file with this path.

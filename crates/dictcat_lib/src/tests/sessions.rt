@@ -21,6 +21,8 @@ fn session_over(
     let (name, index, text) = files;
     let mut reader = OverRead::new(pieces);
     let mut writer = LimitedSink::new(alloc, room)?;
+    let index = Vec::from_slice(alloc, index)?;
+    let text = Vec::from_slice(alloc, text)?;
     let end = run_plain(alloc, name, index, text, &mut reader, &mut writer);
     Ok((end, taken(alloc, &writer)?))
 }

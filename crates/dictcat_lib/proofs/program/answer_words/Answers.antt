@@ -1,4 +1,4 @@
-use Rattle.std.proofs.Common.{refl, inl, inr, sym, ◌∙◌, Err}
+use Rattle.std.proofs.Common.{refl, inl, inr, ◌∙◌, Err}
 use Rattle.dictcat_lib.specs.Words.{IsMistake}
 use Rattle.dictcat_lib.specs.declared.fault.Fault.TheVariants.{Memory}
 use Rattle.dictcat_lib.proofs.program.answer_words.Goals as goal

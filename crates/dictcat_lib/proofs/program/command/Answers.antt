@@ -1,4 +1,4 @@
-use Rattle.std.proofs.Common.{refl, inl, inr}
+use Rattle.std.proofs.Common.{refl}
 use Rattle.dictcat_lib.proofs.program.command.Goals as goal
 
 pub returns-in-Err : goal.returns-in-Err

@@ -1,9 +1,6 @@
-use Rattle.std.proofs.Common.{ap, codes, true, false, ◌≡◌, ◌∙◌}
+use Rattle.std.proofs.Common.{ap, true}
 use Rattle.std.proofs.lemmas.Result.{IfOk-weaker}
-use Rattle.clap.specs.Simple.{App, app_of, app_of_fields}
-use Rattle.clap.specs.declared.builder.command.Command.{Command}
-use Rattle.clap.specs.declared.builder.command.Command.TheOpen.{Command-F}
-use Rattle.clap.specs.declared.builder.command.Command.TheViews.{out-Command}
+use Rattle.clap.specs.Simple.{App}
 use Rattle.dictcat_lib.specs.Words.{Reads, command_line, required}
 use Rattle.dictcat_lib.proofs.LineLemmas.{adds_subcommand}
 use Rattle.dictcat_lib.proofs.words.command_line.Goals as goal
