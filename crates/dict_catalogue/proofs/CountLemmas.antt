@@ -1,16 +1,16 @@
 -- Names, members and edition numbers stand once, and there are at most 64 items, after each command.
-use Rattle.std.proofs.Common.{◌≡◌, ℕ, ◌+◌, ◌≤◌, ◌<◌, Bool, true, false, ◌||◌, ◌&&◌, List, [], ◌∷◌, ◌++◌, length, take, drop, refl, ap, sym, subst, ◌∙◌, arith, append_assoc, append-nil}
-use Rattle.std.specs.Prelude.{map, filter, not, cond, flat_map, nat_lt, nat_le, IsTrue, bytes_eq, Option, Some, None, ◌==◌}
-use Rattle.std.specs.List.{list_any, AllByRecursion}
+use Rattle.std.proofs.Common.{◌≡◌, ℕ, ◌+◌, ◌≤◌, ◌<◌, Bool, true, false, ◌||◌, List, [], ◌∷◌, ◌++◌, length, refl, sym, subst, ◌∙◌, arith, append_assoc, append-nil}
+use Rattle.std.specs.Prelude.{map, cond, nat_lt, IsTrue, bytes_eq, Some, None, ◌==◌}
+use Rattle.std.specs.List.{AllByRecursion}
 use Rattle.std.proofs.lemmas.List.{length-map, length-append, map-append}
 use Rattle.std.proofs.lemmas.Bool.{false≢true, and_parts, not-true}
 use Rattle.std.proofs.lemmas.Bool.Decides.{nat_tests}
 use Rattle.dict_catalogue.specs.Items.{Stored, Item, regular, virtual, name_of, is_named, is_among, is_known, names_regular, numbers_of, edition_numbers}
 use Rattle.dict_catalogue.specs.Commands.{Command, install, rollback, retire, put_virtual, place}
 use Rattle.dict_catalogue.specs.Tests.{Test, Holdings, tests_of, member_tests, has_room, has_turn}
-use Rattle.dict_catalogue.specs.Effects.{installed, swapped, put_anew, changed, changed_in_place, others_than, moved, items_after}
+use Rattle.dict_catalogue.specs.Effects.{installed, swapped, put_anew, changed_in_place, others_than, moved, items_after}
 use Rattle.dict_catalogue.specs.Steps.{AllHold}
-use Rattle.dict_catalogue.specs.WellFormed.{total, how_many, IsEachOnce, IsEachNumberOnce}
+use Rattle.dict_catalogue.specs.WellFormed.{total, IsEachOnce, IsEachNumberOnce}
 use Rattle.dict_catalogue.proofs.ListLemmas.{sum_append, sum_filtered, sum_moved, sum_same, sum_grown, sum_flat_map, length_sum, none_sum, any_same, by_test}
 use Rattle.dict_catalogue.proofs.ItemLemmas.{same_text, turned, name_turned}
 

@@ -1,18 +1,14 @@
 -- What the commands keep true of the items.
-use Rattle.std.proofs.Common.{◌≡◌, ◌≢◌, ℕ, ◌+◌, ◌-◌, ◌≤◌, ◌<◌, Bool, true, false, ◌||◌, ◌&&◌, List, [], ◌∷◌, ◌++◌, length, take, drop, refl, ap, sym, subst, ◌∙◌, arith}
-use Rattle.std.specs.Prelude.{map, filter, not, cond, flat_map, nat_lt, IsTrue, bytes_eq, is_some, Option, Some, None, ◌==◌}
-use Rattle.std.specs.List.{list_any, AllByRecursion}
-use Rattle.std.proofs.lemmas.List.{length-map, length-append}
-use Rattle.std.proofs.lemmas.Bool.{false≢true, and_parts, and_from, not-true, not_from_false}
-use Rattle.std.proofs.lemmas.Bool.Decides.{nat_tests}
+use Rattle.std.proofs.Common.{◌≡◌, ℕ, Bool, true, false, ◌||◌, ◌&&◌, List, [], ◌∷◌, ◌++◌, take, drop, refl, ap, sym, ◌∙◌}
+use Rattle.std.specs.Prelude.{filter, not, cond, bytes_eq, is_some, Option, Some, None}
+use Rattle.std.specs.List.{AllByRecursion}
+use Rattle.std.proofs.lemmas.Bool.{false≢true}
 use Rattle.std.proofs.lemmas.Slice.Eq.{bytes_eq-Decides}
-use Rattle.dict_name.specs.Names.{is_name, is_title}
-use Rattle.dict_catalogue.specs.Items.{Stored, Item, regular, virtual, name_of, is_regular, is_virtual, has_former, members_of, editions_of, is_named, lists, is_among, is_known, names_regular, names_virtual, names_former, is_listed, current_of, current_number, numbers_of, edition_numbers}
+use Rattle.dict_catalogue.specs.Items.{Stored, Item, regular, virtual, name_of, is_regular, is_virtual, is_named, is_known, names_regular, names_virtual, current_of, current_number}
 use Rattle.dict_catalogue.specs.Commands.{Command, install, rollback, retire, put_virtual, place, target}
 use Rattle.dict_catalogue.specs.Effects.{installed, swapped, put_anew, changed, changed_in_place, others_than, moved, items_after}
-use Rattle.dict_catalogue.specs.WellFormed.{total, how_many}
 use Rattle.dict_text.proofs.AllLemmas.{all_weaker, all_append, all_filter, all_take, all_drop, all_map}
-use Rattle.dict_catalogue.proofs.ListLemmas.{sum_append, sum_same, any_same, by_test}
+use Rattle.dict_catalogue.proofs.ListLemmas.{any_same, by_test}
 
 -- equal texts
 

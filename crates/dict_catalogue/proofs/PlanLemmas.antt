@@ -1,13 +1,13 @@
 -- A plan over a summary is a step of every catalogue with that summary.
-use Rattle.std.proofs.Common.{◌≡◌, ℕ, Bool, List, ap, sym, subst, ◌∙◌, refl}
-use Rattle.std.specs.Prelude.{IsTrue, Option, Some, None, Result, Ok, Err, MatchResult}
+use Rattle.std.proofs.Common.{◌≡◌, ℕ, List, ap, sym, subst, ◌∙◌, refl}
+use Rattle.std.specs.Prelude.{IsTrue, Some, None, Result, Ok, Err, MatchResult}
 use Rattle.dict_index.specs.Edition.{Edition}
 use Rattle.dict_name.specs.Names.{is_request_id}
 use Rattle.dict_catalogue.specs.Commands.{Command}
 use Rattle.dict_catalogue.specs.Tests.{Holdings, refusal_of}
-use Rattle.dict_catalogue.specs.Effects.{KeptReply, effect, reply_to, editions_gone}
-use Rattle.dict_catalogue.specs.Steps.{KeptFor, Catalogue, Outcome, accepted, refused, holdings, summary_of, command_summary, kept_under, with_effect, step}
-use Rattle.dict_catalogue.specs.Views.{summary_shown, kept_shown, IsEffect, IsChange, IsFaultOf, IsChangeOf, IsPlanOf}
+use Rattle.dict_catalogue.specs.Effects.{effect, reply_to}
+use Rattle.dict_catalogue.specs.Steps.{Catalogue, Outcome, accepted, refused, holdings, summary_of, command_summary, kept_under, with_effect, step}
+use Rattle.dict_catalogue.specs.Views.{IsChange, IsFaultOf, IsChangeOf, IsPlanOf}
 use Rattle.dict_catalogue.specs.declared.planning.Change.{Change}
 use Rattle.dict_catalogue.specs.declared.fault.Refusal.{Refusal}
 use Rattle.dict_catalogue.specs.declared.fault.PlanFault.{PlanFault}

@@ -1,13 +1,13 @@
 -- One command, and lists of commands.
-use Rattle.std.proofs.Common.{◌≡◌, ℕ, ◌+◌, Bool, true, false, List, [], ◌∷◌, ◌++◌, refl, ap, sym, ◌∙◌, subst, append_assoc, append-nil}
-use Rattle.std.specs.Prelude.{map, cond, Option, Some, None, MatchOption, ◌⊎◌}
+use Rattle.std.proofs.Common.{◌≡◌, ℕ, Bool, true, false, List, [], ◌∷◌, ◌++◌, refl, ap, sym, ◌∙◌, subst, append_assoc, append-nil}
+use Rattle.std.specs.Prelude.{map, cond, Option, Some, None}
 use Rattle.std.proofs.lemmas.List.{map-append}
 use Rattle.dict_index.specs.Edition.{Edition}
 use Rattle.dict_name.specs.Names.{is_request_id}
 use Rattle.dict_catalogue.specs.Commands.{Command}
 use Rattle.dict_catalogue.specs.Tests.{Test, wants, tests_of, first_failing, refusal_of}
-use Rattle.dict_catalogue.specs.Effects.{KeptReply, effect, reply_to}
-use Rattle.dict_catalogue.specs.Steps.{KeptFor, Catalogue, holdings, kept_under, Reply, accepted, refused, Outcome, with_effect, decided, answered, step, AllHold, FailsFirst, IsStep, id_unlawful, id_kept, test_failed, none_failed, Request, after, acts, acts_unless_kept, is_none_refused, acting}
+use Rattle.dict_catalogue.specs.Effects.{KeptReply}
+use Rattle.dict_catalogue.specs.Steps.{KeptFor, Catalogue, holdings, kept_under, refused, Outcome, with_effect, decided, answered, step, AllHold, FailsFirst, IsStep, id_unlawful, id_kept, test_failed, none_failed, Request, after, acts, acts_unless_kept, is_none_refused, acting}
 use Rattle.dict_catalogue.specs.declared.fault.Refusal.{Refusal}
 use Rattle.dict_catalogue.specs.declared.fault.Refusal.TheVariants.{BadRequestId}
 

@@ -1,18 +1,18 @@
 -- The tests and the effects of a command are the same whatever is kept of an edition: over a catalogue's editions
 -- and over its summary's titles.
 use Rattle.std.proofs.Common.{◌≡◌, ℕ, ◌+◌, Bool, true, false, ◌||◌, ◌&&◌, List, [], ◌∷◌, ◌++◌, length, take, drop, refl, ap, sym, ◌∙◌}
-use Rattle.std.specs.Prelude.{map, filter, not, cond, flat_map, Option, Some, None, option_map, bytes_eq, nat_lt, ◌==◌}
+use Rattle.std.specs.Prelude.{map, filter, not, cond, Some, None, nat_lt, ◌==◌}
 use Rattle.std.specs.List.{list_any, take-map, drop-map}
 use Rattle.std.proofs.lemmas.List.{map-append, length-map, length-append}
 use Rattle.dict_name.specs.Names.{is_name, is_title}
-use Rattle.dict_catalogue.specs.Items.{Stored, Item, regular, virtual, name_of, is_regular, is_virtual, has_former, is_named, lists, is_known, names_regular, names_virtual, names_former, is_listed, is_among, current_of, current_number, editions_of, numbers_of, edition_numbers, stored_as, item_as}
+use Rattle.dict_catalogue.specs.Items.{Stored, Item, regular, virtual, is_regular, is_virtual, has_former, is_named, lists, is_known, names_regular, names_virtual, names_former, is_listed, is_among, current_of, current_number, numbers_of, edition_numbers, stored_as, item_as}
 use Rattle.dict_catalogue.specs.Commands.{Command, install, rollback, retire, put_virtual, place, target, command_as}
-use Rattle.dict_catalogue.specs.Tests.{Test, wants, Holdings, holdings_as, member_tests, has_turn, has_room, has_member_count, install_tests, rollback_tests, retire_tests, put_virtual_tests, place_tests, tests_of, refusal_of, first_failing}
+use Rattle.dict_catalogue.specs.Tests.{wants, Holdings, holdings_as, member_tests, has_turn, has_room, has_member_count, tests_of, refusal_of, first_failing}
 use Rattle.dict_index.specs.Edition.{Edition}
 use Rattle.dict_catalogue.specs.Steps.{Catalogue, holdings, summary_of, command_summary, with_effect}
 use Rattle.dict_catalogue.specs.declared.fault.Refusal.TheVariants.{BadName, Unknown, IsVirtual, NoFormer, Listed, CatalogueFull, BadMember, MemberTwice, MemberCount, BadTitle, BadPlace, IsRegular}
 use Rattle.dict_catalogue.specs.declared.reply.Verb.TheVariants.{Install, Rollback}
-use Rattle.dict_catalogue.specs.Effects.{installed, swapped, put_anew, changed, changed_in_place, others_than, moved, items_after, installs_after, effect, KeptReply, edition_told, reply_to, editions_gone}
+use Rattle.dict_catalogue.specs.Effects.{installed, swapped, put_anew, changed, changed_in_place, others_than, moved, items_after, installs_after, effect, reply_to, editions_gone}
 
 -- lists seen through a function
 

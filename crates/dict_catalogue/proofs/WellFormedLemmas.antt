@@ -1,23 +1,22 @@
 -- A well formed catalogue stays so under every command.
-use Rattle.std.proofs.Common.{◌≡◌, ℕ, ◌+◌, ◌≤◌, ◌<◌, Bool, true, false, ◌||◌, ◌&&◌, List, [], ◌∷◌, ◌++◌, length, take, drop, refl, ap, sym, subst, ◌∙◌, arith}
-use Rattle.std.specs.Prelude.{map, filter, not, cond, flat_map, nat_lt, nat_le, IsTrue, bytes_eq, is_some, Option, Some, None, ◌==◌}
+use Rattle.std.proofs.Common.{◌≡◌, ℕ, ◌+◌, ◌≤◌, Bool, true, false, ◌||◌, ◌&&◌, List, [], ◌∷◌, ◌++◌, length, refl, ap, sym, subst, ◌∙◌, arith}
+use Rattle.std.specs.Prelude.{map, not, cond, nat_lt, nat_le, IsTrue, bytes_eq, is_some, Some, None}
 use Rattle.std.specs.List.{list_any, AllByRecursion}
 use Rattle.std.proofs.lemmas.List.{length-append, map-append}
-use Rattle.std.proofs.lemmas.Bool.{false≢true, and_parts, and_from, not-true, not_from_false}
+use Rattle.std.proofs.lemmas.Bool.{and_parts, not-true, not_from_false}
 use Rattle.std.proofs.lemmas.Bool.Decides.{nat_tests}
 use Rattle.std.proofs.lemmas.List.Folds.{list_any-append}
 use Rattle.dict_index.specs.Edition.{Edition}
 use Rattle.dict_index.specs.WellFormed.{IsWellFormedEdition}
-use Rattle.dict_name.specs.Names.{is_name, is_title, is_request_id}
+use Rattle.dict_name.specs.Names.{is_name, is_request_id}
 use Rattle.dict_catalogue.specs.Items.{Stored, Item, regular, virtual, name_of, is_regular, is_virtual, members_of, editions_of, is_named, lists, is_among, is_known, names_regular, names_virtual, is_listed, current_number, numbers_of, edition_numbers}
 use Rattle.dict_catalogue.specs.Commands.{Command, install, rollback, retire, put_virtual, place, target, verb_of}
-use Rattle.dict_catalogue.specs.Tests.{Test, Holdings, tests_of, has_room, has_turn}
-use Rattle.dict_catalogue.specs.Effects.{installed, swapped, put_anew, changed, changed_in_place, others_than, moved, items_after, installs_after, effect, reply_to, edition_told}
+use Rattle.dict_catalogue.specs.Tests.{Holdings, tests_of, has_room, has_turn}
+use Rattle.dict_catalogue.specs.Effects.{installed, swapped, put_anew, changed_in_place, others_than, moved, items_after, installs_after, effect, reply_to, edition_told}
 use Rattle.dict_catalogue.specs.Steps.{KeptFor, Catalogue, Outcome, holdings, kept_under, with_effect, step, AllHold, IsStep, id_unlawful, id_kept, test_failed, none_failed}
-use Rattle.dict_catalogue.specs.WellFormed.{total, how_many, IsEachOnce, IsEachNumberOnce, IsLawfulItem, HasWellFormedEditions, HasKnownMembers, IsLawfulCommand, tells_edition, IsLawfulReply, IsNumberedFrom, is_install, IsWellFormed}
-use Rattle.dict_catalogue.specs.declared.reply.Verb.{Verb}
+use Rattle.dict_catalogue.specs.WellFormed.{IsEachOnce, IsLawfulItem, HasWellFormedEditions, HasKnownMembers, IsLawfulCommand, tells_edition, IsLawfulReply, IsNumberedFrom, is_install, IsWellFormed}
 use Rattle.dict_text.proofs.AllLemmas.{all_weaker, all_append, all_filter, all_flat_map, all_flat_map_parts}
-use Rattle.dict_catalogue.proofs.ListLemmas.{sum_append, any_moved, any_same, any_append_left, any_append_right, any_filter, none_passes, by_test}
+use Rattle.dict_catalogue.proofs.ListLemmas.{sum_append, any_moved, any_append_left, any_append_right, any_filter, none_passes, by_test}
 use Rattle.dict_catalogue.proofs.ItemLemmas.{same_text, text_itself, known_turned, regular_named_turned, virtual_named_turned, current_there, all_after}
 use Rattle.dict_catalogue.proofs.CountLemmas.{once_added, tested_once, tested_regular, tested_later, names_after, limit_after, numbers_after}
 use Rattle.dict_catalogue.proofs.StepLemmas.{step_is}

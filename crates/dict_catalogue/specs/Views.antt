@@ -1,5 +1,5 @@
 -- What contracts see of the values of this crate.
-use Rattle.std.specs.Prelude.{◌≡◌, ℕ, List, map, Option, None, Some, option_map, String, string_bytes, Result, MatchResult, ⊤}
+use Rattle.std.specs.Prelude.{◌≡◌, ℕ, List, map, None, Some, option_map, String, string_bytes, Result, MatchResult, ⊤}
 use Rattle.std.specs.Borrow.{Bor}
 use Rattle.dict_index.specs.Edition.{Edition, edition_of}
 use Rattle.dict_catalogue.specs.Items.{Stored, Item as AnItem, regular, virtual}

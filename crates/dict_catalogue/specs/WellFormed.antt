@@ -1,12 +1,11 @@
 -- When a catalogue is well formed.
-use Rattle.std.specs.Prelude.{◌≡◌, ℕ, ◌+◌, ◌<◌, ◌≤◌, Bool, true, false, IsTrue, ◌==◌, List, [], ◌∷◌, length, map, if◌then◌else◌, is_some, bytes_eq}
+use Rattle.std.specs.Prelude.{◌≡◌, ℕ, ◌+◌, ◌≤◌, Bool, true, false, IsTrue, ◌==◌, List, [], ◌∷◌, length, map, if◌then◌else◌, is_some, bytes_eq}
 use Rattle.std.specs.List.{AllByRecursion}
 use Rattle.dict_index.specs.Edition.{Edition}
 use Rattle.dict_index.specs.WellFormed.{IsWellFormedEdition}
 use Rattle.dict_name.specs.Names.{is_name, is_title, is_request_id}
-use Rattle.dict_catalogue.specs.Items.{Stored, Item, regular, virtual, name_of, is_named, members_of, editions_of, names_regular, edition_numbers}
+use Rattle.dict_catalogue.specs.Items.{Item, regular, virtual, name_of, members_of, editions_of, names_regular, edition_numbers}
 use Rattle.dict_catalogue.specs.Commands.{Command, install, rollback, retire, put_virtual, place}
-use Rattle.dict_catalogue.specs.Effects.{KeptReply}
 use Rattle.dict_catalogue.specs.Steps.{KeptFor, Catalogue}
 use Rattle.dict_catalogue.specs.declared.reply.Verb.{Verb}
 use Rattle.dict_catalogue.specs.declared.reply.Verb.TheVariants.{Install, Rollback, Retire, Virtual, Place}

@@ -1,5 +1,5 @@
 -- Rows that are derived of the keys of an edition, and how many there are.
-use Rattle.std.proofs.Common.{◌≡◌, ◌≢◌, ◌↔◌, ℕ, ℤ, pos, ◌+◌, ◌<◌, ◌≤◌, Bool, true, false, List, [], ◌∷◌, ◌++◌, length, map, get_or, Option, Some, None, slice_get, refl, ap, sym, ◌∙◌, subst, inl, inr, arith, eqb, length-append}
+use Rattle.std.proofs.Common.{◌≡◌, ◌≢◌, ◌↔◌, ℕ, ℤ, pos, ◌+◌, ◌<◌, ◌≤◌, Bool, true, false, List, [], ◌∷◌, ◌++◌, length, map, get_or, Some, slice_get, refl, ap, sym, ◌∙◌, subst, inl, inr, arith, length-append}
 use Rattle.std.specs.Bool.{Decides}
 use Rattle.std.specs.Cmp.{IsTotalOrder, IsEquivalence, Equal-is}
 use Rattle.std.specs.declared.cmp.Ordering.{Ordering}
@@ -8,7 +8,6 @@ use Rattle.std.specs.Ordering.{int_cmp, ordering_then, eq_by_cmp}
 use Rattle.std.specs.List.{Contains, All, AllByRecursion, IsDistinct}
 use Rattle.std.specs.List.Sorted.{IsStrictlySortedBy}
 use Rattle.std.specs.Set.{is_member}
-use Rattle.std.proofs.lemmas.Bool.{false≢true, cases_Bool}
 use Rattle.std.proofs.lemmas.Bool.Decides.{Decides-like, same_from_decides, eqb_tells}
 use Rattle.std.proofs.lemmas.Cmp.{on_total, then_total, int_cmp_total, nat_list_cmp_total, tied_itself, eq_by_cmp_equiv}
 use Rattle.std.proofs.lemmas.List.{length-map, get_or-map}
@@ -21,7 +20,7 @@ use Rattle.dict_text.proofs.AllLemmas.{all_append, all_append_parts}
 use Rattle.dict_records.specs.Keyed.{Piece}
 use Rattle.dict_derived.specs.Derived.{octets_cmp, AreOnce}
 use Rattle.dict_derived.specs.declared.reader.Pieces.{Pieces}
-use Rattle.dict_derived.specs.Exact.{IsPieceOf, IsDue, piece_cmp, AreDerived, HasMany}
+use Rattle.dict_derived.specs.Exact.{IsPieceOf, IsDue, piece_cmp, HasMany}
 
 -- ---- the order of rows
 

@@ -1,15 +1,14 @@
 -- Lists of octets that are put in, each once, in order.
 use denote.Ref.{Bor}
-use Rattle.std.proofs.Common.{◌≡◌, ◌≢◌, ◌↔◌, ℕ, suc, ◌+◌, ◌-◌, ◌<◌, ◌≤◌, Bool, true, false, cond, List, [], ◌∷◌, ◌++◌, ◌||◌, length, map, take, drop, get_or, refl, ap, sym, ◌∙◌, subst, inl, inr, arith, bytes_eq, append_assoc, drop-cons, length-drop}
+use Rattle.std.proofs.Common.{◌≡◌, ◌↔◌, ℕ, suc, ◌+◌, ◌-◌, ◌<◌, ◌≤◌, Bool, true, false, List, [], ◌∷◌, ◌++◌, ◌||◌, length, map, drop, get_or, refl, ap, sym, ◌∙◌, subst, inl, inr, arith, bytes_eq, append_assoc, drop-cons, length-drop}
 use Rattle.std.specs.Bool.{Decides}
 use Rattle.std.specs.declared.cmp.Ordering.{Ordering}
 use Rattle.std.specs.declared.cmp.Ordering.TheVariants.{Less, Equal, Greater}
 use Rattle.std.specs.Ordering.{match_ordering}
-use Rattle.std.specs.List.{Contains, AllByRecursion, list_any}
+use Rattle.std.specs.List.{Contains, AllByRecursion}
 use Rattle.std.specs.List.Sorted.{IsStrictlySortedBy}
 use Rattle.std.specs.Set.{is_member}
 use Rattle.std.specs.BTreeSet.{insert_key}
-use Rattle.std.proofs.lemmas.Bool.{false≢true}
 use Rattle.std.proofs.lemmas.List.{append-nil}
 use Rattle.std.proofs.lemmas.List.Folds.{list_any-append}
 use Rattle.std.proofs.lemmas.List.Elements.{Contains-append_left, Contains-append_right, Contains-append_cases}

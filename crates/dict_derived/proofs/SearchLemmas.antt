@@ -1,5 +1,5 @@
 -- What a query finds is among what it looks at.
-use Rattle.std.proofs.Common.{◌≡◌, ◌≢◌, IsTrue, ℕ, ◌+◌, ◌-◌, ◌<◌, ◌≤◌, Bool, true, false, cond, List, [], ◌∷◌, ◌++◌, length, take, drop, reverse, ◌==◌, refl, ap, sym, ◌∙◌, subst, arith, ltb, IsUtf8, append_assoc, length-drop}
+use Rattle.std.proofs.Common.{◌≡◌, ◌≢◌, ℕ, ◌-◌, ◌≤◌, false, cond, List, [], ◌∷◌, ◌++◌, length, take, drop, reverse, refl, ap, sym, ◌∙◌, subst, arith, ltb, IsUtf8, append_assoc, length-drop}
 use Rattle.std.specs.List.{Contains}
 use Rattle.std.proofs.lemmas.Bool.{false≢true, ne_eqb, ltb-false, cond_both}
 use Rattle.std.proofs.lemmas.Grind.{common_steps}
@@ -9,8 +9,7 @@ use Rattle.dict_match.specs.Words.{words_between_blanks}
 use Rattle.dict_match.specs.Matching.{Hits, Fits, StandsIn}
 use Rattle.dict_match.specs.declared.strategy.Strategy.{Strategy}
 use Rattle.dict_match.specs.declared.strategy.Strategy.TheVariants.{Exact, Prefix, Suffix, Substring, Word, First, Last}
-use Rattle.dict_derived.specs.Derived.{IsWordOf, IsGramOf}
-use Rattle.dict_derived.specs.Search.{Rows, NoRows, AllRows, WithGrams, Selects, with_last, by_first, by_grams, rows_by, rows_for, is_tested}
+use Rattle.dict_derived.specs.Search.{Rows, NoRows, AllRows, WithGrams, Selects, by_first, by_grams, rows_by, rows_for, is_tested}
 use Rattle.dict_derived.proofs.RangeLemmas.{begins, holds, text-low, reverse-low}
 
 -- ---- words

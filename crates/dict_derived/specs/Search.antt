@@ -1,7 +1,6 @@
 -- Which entries of an edition a query looks at, told by what the tables have of each entry's key.
-use Rattle.std.specs.Prelude.{◌≡◌, ⊤, ℕ, ◌-◌, Bool, true, false, List, [], ◌∷◌, ◌++◌, length, reverse, take, drop, ◌==◌, nat_lt, IsTrue, if◌then◌else◌, Vec}
+use Rattle.std.specs.Prelude.{◌≡◌, ⊤, ℕ, ◌-◌, Bool, true, false, List, [], ◌∷◌, ◌++◌, length, reverse, take, drop, ◌==◌, nat_lt, IsTrue, if◌then◌else◌}
 use Rattle.std.specs.Ordering.{is_le}
-use Rattle.std.specs.declared.alloc.Global.{Global}
 use Rattle.dict_match.specs.declared.strategy.Strategy.{Strategy}
 use Rattle.dict_match.specs.declared.strategy.Strategy.TheVariants.{Exact, Prefix, Suffix, Substring, Word, First, Last}
 use Rattle.dict_match.specs.Words.{words_between_blanks}

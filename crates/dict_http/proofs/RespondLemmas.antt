@@ -1,10 +1,10 @@
 -- How an answer ends, by what the keeper answered.
-use Rattle.std.proofs.Common.{◌≡◌, ◌⊎◌, inl, inr, ℕ, Bool, true, false, List, [], ◌∷◌, Option, Some, None, refl, sym, ap, ◌∙◌, subst}
-use Rattle.std.specs.Prelude.{MatchBool, MatchOption, is_some, Result, Ok, Err}
+use Rattle.std.proofs.Common.{◌≡◌, inl, inr, ℕ, Bool, true, false, List, [], ◌∷◌, Option, Some, None, refl, sym, ap, ◌∙◌, subst}
+use Rattle.std.specs.Prelude.{MatchBool, MatchOption, is_some, Ok, Err}
 use Rattle.dict_index.specs.Edition.{Edition}
 use Rattle.dict_catalogue.specs.Commands.{Command}
 use Rattle.dict_catalogue.specs.Effects.{KeptReply}
-use Rattle.dict_catalogue.specs.Steps.{Catalogue, Reply, accepted, refused, step, kept_under}
+use Rattle.dict_catalogue.specs.Steps.{Catalogue, step, kept_under}
 use Rattle.dict_catalogue.specs.Views.{kept_shown}
 use Rattle.dict_catalogue.specs.declared.fault.Refusal.{Refusal}
 use Rattle.dict_catalogue.specs.declared.reply.Kept.{Kept}

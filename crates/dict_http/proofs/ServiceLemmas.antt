@@ -1,17 +1,17 @@
 -- What is settled of a request, test by test.
-use Rattle.std.proofs.Common.{◌≡◌, ◌≢◌, ◌⊎◌, inl, inr, ◌≤◌, ℕ, Bool, true, false, List, [], ◌∷◌, refl, sym, ap, ◌∙◌, subst}
+use Rattle.std.proofs.Common.{◌≡◌, ◌≢◌, ◌⊎◌, inl, inr, ℕ, Bool, true, false, List, [], ◌∷◌, refl, ap, subst}
 use Rattle.std.specs.Prelude.{Option, Some, None, MatchOption, codes, nat_le, if◌then◌else◌}
 use Rattle.dict_catalogue.specs.Steps.{Catalogue}
-use Rattle.dict_head.specs.Fields.{framing_of, framing_of_codings, framing_of_lengths, framing_of_length, length_of, values_of}
-use Rattle.dict_head.specs.Heads.{Needs, NeedsBody, NeedsHead, headers_of}
+use Rattle.dict_head.specs.Fields.{framing_of_codings, framing_of_length, length_of, values_of}
+use Rattle.dict_head.specs.Heads.{Needs, NeedsBody, headers_of}
 use Rattle.dict_head.specs.Requests.{Request}
 use Rattle.dict_head.specs.declared.kinds.Framing as framings
 use Rattle.dict_head.specs.declared.kinds.Framing.TheVariants.{Body, Refused as NoBody}
-use Rattle.dict_head.specs.declared.kinds.Need.TheVariants.{More, Whole, Refused}
+use Rattle.dict_head.specs.declared.kinds.Need.TheVariants.{Refused}
 use Rattle.dict_head.specs.declared.statuses.Status.{Status}
 use Rattle.dict_head.specs.declared.statuses.Status.TheVariants.{BadRequest, ContentTooLarge}
 use Rattle.dict_route.specs.declared.kinds.Route.{Route}
-use Rattle.dict_http.specs.Answers.{plain, not_allowed}
+use Rattle.dict_http.specs.Answers.{not_allowed}
 use Rattle.dict_http.specs.Actions.{action_of}
 use Rattle.dict_http.specs.Settling.{Settled, stays, SettlesIds, SettlesAction, SettlesRoute}
 use Rattle.dict_http.specs.declared.actions.Action.{Action}

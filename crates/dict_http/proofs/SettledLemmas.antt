@@ -1,14 +1,12 @@
 -- One answer, and one catalogue after it.
-use Rattle.std.proofs.Common.{◌≡◌, ◌≢◌, ◌⊎◌, inl, inr, ◌<◌, ◌≤◌, ◌+◌, ℕ, List, [], ◌∷◌, ◌++◌, length, take, drop, get_or, decimal, refl, sym, ap, ◌∙◌, subst, arith}
+use Rattle.std.proofs.Common.{◌≡◌, ◌≢◌, ◌⊎◌, inl, inr, ◌+◌, ℕ, List, [], ◌++◌, length, take, get_or, decimal, refl, sym, ap, ◌∙◌, subst, arith}
 use Rattle.std.specs.Prelude.{Option, Some, None, MatchOption}
 use Rattle.std.proofs.lemmas.Bool.{cases_lt}
 use Rattle.std.proofs.lemmas.Fmt.{decimal_injective}
 use Rattle.std.proofs.lemmas.List.{append_cancel_left}
 use Rattle.std.proofs.Math.Seq.{take-append_seam}
 use Rattle.httparse.specs.Grammar.{RequestHead, print_request}
-use Rattle.dict_index.specs.Edition.{Edition, edition_of}
-use Rattle.dict_index.specs.Meaning.{IsEdition, IsFault, IsReadEdition}
-use Rattle.dict_index.specs.declared.fault.Refusal as refusals
+use Rattle.dict_index.specs.Edition.{edition_of}
 use Rattle.dict_index.proofs.CutLemmas.{one_cut}
 use Rattle.dict_index.proofs.LawLemmas as editions
 use Rattle.dict_index.proofs.ChoiceLemmas as choice
@@ -16,7 +14,7 @@ use Rattle.dict_catalogue.specs.Commands.{install, place, put_virtual, retire, r
 use Rattle.dict_catalogue.specs.Effects.{KeptReply}
 use Rattle.dict_catalogue.specs.Steps.{Catalogue, kept_under, summary_of}
 use Rattle.dict_head.specs.Fields.{framing_of}
-use Rattle.dict_head.specs.Heads.{HasHead, headers_of, front_of, IsClosed, Needs, NeedsBody, NeedsHead}
+use Rattle.dict_head.specs.Heads.{HasHead, headers_of, front_of, IsClosed, Needs, NeedsBody}
 use Rattle.dict_head.specs.Requests.{Request, IsRequest, request_of}
 use Rattle.dict_head.specs.declared.kinds.Framing.{Framing}
 use Rattle.dict_head.specs.declared.kinds.Framing.TheVariants.{Body, Refused as NoBody}

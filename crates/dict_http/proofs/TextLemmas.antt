@@ -1,10 +1,8 @@
 -- The fixed answers, octet for octet.
-use Rattle.std.proofs.Common.{◌≡◌, ◌<◌, ◌++◌, ◌^◌, ℕ, Bool, true, List, length, get_or, codes, decimal, refl, sym, ap, ◌∙◌, arith, lit<}
-use Rattle.std.specs.Str.Parse.{digits_value}
+use Rattle.std.proofs.Common.{◌≡◌, codes, decimal, refl, arith, lit<}
 use Rattle.std.proofs.lemmas.Fmt.{decimal-digits_value}
 use Rattle.std.proofs.lemmas.Str.Parse.{numerals_by_value, tells_all_ascii_digits}
-use Rattle.dict_head.specs.declared.statuses.Status.TheVariants.{BadRequest, NotFound, ContentTooLarge, ServiceUnavailable, MethodNotAllowed}
-use Rattle.dict_route.specs.declared.kinds.Route.{Route}
+use Rattle.dict_head.specs.declared.statuses.Status.TheVariants.{BadRequest, NotFound, ContentTooLarge}
 use Rattle.dict_route.specs.declared.kinds.Route.TheVariants.{Databases, Database, Rollback, Place, Virtual}
 use Rattle.dict_http.specs.Answers.{response_text, plain, not_allowed, unavailable_text}
 

@@ -1,29 +1,29 @@
 -- An edition that was read keeps the limits of editions.
-use Rattle.std.proofs.Common.{◌≡◌, ◌≢◌, ℕ, zero, suc, ◌+◌, ◌-◌, ◌<◌, ◌≤◌, ◌⊎◌, inl, inr, Bool, true, false, List, [], ◌∷◌, ◌++◌, length, take, map, refl, sym, ap, ◌∙◌, subst, arith, cond, append_assoc}
-use Rattle.std.proofs.lemmas.Bool.{and_from, both_ways}
+use Rattle.std.proofs.Common.{◌≡◌, ℕ, suc, ◌+◌, ◌<◌, ◌≤◌, ◌⊎◌, inl, inr, Bool, true, false, List, [], ◌∷◌, ◌++◌, length, map, refl, sym, ap, ◌∙◌, subst, arith, cond, append_assoc}
+use Rattle.std.proofs.lemmas.Bool.{and_from}
 use Rattle.std.proofs.lemmas.Bool.Decides.{nat_tests}
 use Rattle.std.proofs.lemmas.List.{length-map}
 use Rattle.std.proofs.lemmas.Slice.Eq.{bytes_eq-Decides}
 use Rattle.std.proofs.lemmas.Str.{IsUtf8-nil}
-use Rattle.std.specs.Prelude.{◌==◌, ◌&&◌, not, nat_le, IsTrue, Option, Some, None, IfSome, find, slice_get, slice_index_or}
+use Rattle.std.specs.Prelude.{not, nat_le, Option, Some, None, IfSome, find, slice_get, slice_index_or}
 use Rattle.std.specs.List.{AllByRecursion, AllZip}
 use Rattle.std.specs.Option.{option_map}
 use Rattle.std.specs.Str.{IsUtf8, bytes_eq}
-use Rattle.dict_text.specs.Characters.{is_blank, has_control}
-use Rattle.dict_text.specs.Blanks.{without_leading_blanks, without_trailing_blanks, without_blanks_at_ends}
+use Rattle.dict_text.specs.Characters.{is_blank}
+use Rattle.dict_text.specs.Blanks.{without_blanks_at_ends}
 use Rattle.dict_text.specs.Lines.{text_lines}
-use Rattle.dict_name.specs.Names.{passes, first_passes, last_passes, has_size, is_title}
+use Rattle.dict_name.specs.Names.{first_passes, last_passes, is_title}
 use Rattle.dict_match.specs.Key.{key_of}
 use Rattle.dict_index.specs.Cuts.{HasNo, IsCutAt}
 use Rattle.dict_index.specs.Line.{Line, IsLine, body_in}
-use Rattle.dict_index.specs.Reserved.{is_reserved, without_key_line, title_from, title_in, info_from, info_in, text_under, short_key, info_key}
+use Rattle.dict_index.specs.Reserved.{is_reserved, without_key_line, title_from, info_from, text_under, short_key, info_key}
 use Rattle.dict_index.specs.Edition.{Edition, ReadEdition, entry_in, edition_of}
-use Rattle.dict_index.specs.Tests.{IfSays, IsHeadword, IsText, IsTextOctet, HasShortLines, IsTitle, line_at}
+use Rattle.dict_index.specs.Tests.{IfSays, IsHeadword, IsTextOctet, IsTitle, line_at}
 use Rattle.dict_index.specs.Order.{rank, IsOfLine}
 use Rattle.dict_index.specs.Meaning.{IsReadEdition, IsEdition, entry_lines}
 use Rattle.dict_index.specs.Views.{line_of, LiesIn}
 use Rattle.dict_index.specs.declared.entry.Entry.{Entry as ReadEntry}
-use Rattle.dict_index.specs.WellFormed.{IsEditionTitle, IsEditionText, IsEntryHeadword, IsWellFormedEntry, IsWellFormedEdition}
+use Rattle.dict_index.specs.WellFormed.{IsEditionTitle, IsEditionText, IsWellFormedEntry, IsWellFormedEdition}
 use Rattle.dict_index.specs.declared.fault.Refusal.TheVariants.{IndexNotUtf8, Headword, BodyText, BodyLine, BadTitle, TooManyEntries, TextTooLong, Interval}
 use Rattle.dict_text.proofs.AllLemmas.{all_at, all_weaker, all_filter, all_append_parts}
 use Rattle.dict_index.proofs.CutLemmas.{utf8_parts}

@@ -5,9 +5,9 @@ use Rattle.std.proofs.lemmas.List.Concat.{flat_map-append}
 use Rattle.std.specs.List.{flat_map}
 use Rattle.std.proofs.Math.Seq.{take-append-add}
 use Rattle.std.specs.Prelude.{Option, Result, Ok, Err, IsErr}
-use Rattle.std.specs.Io.KnownBytes.{Appends, Consumes}
-use Rattle.std.proofs.KnownBytes.{Appends-trans, Appends-nil, Consumes-trans, Consumes-kept}
-use Rattle.dict_io.specs.Streams.{Stream, AppendsFront, HasFailed, PutsAll, PutsFront, Puts, GivesAll, GivesNone}
+use Rattle.std.specs.Io.KnownBytes.{Appends}
+use Rattle.std.proofs.KnownBytes.{Appends-trans, Appends-nil, Consumes-trans}
+use Rattle.dict_io.specs.Streams.{Stream, AppendsFront, HasFailed, PutsAll, PutsFront, Puts, GivesAll}
 
 -- nothing was put
 pub puts_none : (a : Stream) → PutsAll a a []

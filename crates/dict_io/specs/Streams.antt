@@ -1,6 +1,6 @@
 -- What a call leaves of the octets that a source gives or a sink takes, where they are known, and of a count of failures.
 use Rattle.std.specs.Prelude.{◌≡◌, ℕ, ◌-◌, ◌^◌, ◌<◌, ◌⊎◌, ◌≤◌, List, take, length, Option, Result, MatchResult}
-use Rattle.std.specs.Io.KnownBytes.{Appends, Consumes, Keeps, IsAtEnd}
+use Rattle.std.specs.Io.KnownBytes.{Appends, Consumes, Keeps}
 
 -- a source or a sink as contracts see it: the octets that the source will give, or that the sink took so far, where
 -- they are known, and how many of its calls failed, up to 18,446,744,073,709,551,615

@@ -1,8 +1,7 @@
 -- The compact texts of values.
-use Rattle.std.proofs.Common.{◌≡◌, ℕ, Bool, true, false, ◌||◌, List, [], ◌∷◌, ◌++◌, map, option_map, Option, Some, None, codes, decimal, refl, sym, ap, ◌∙◌, append_assoc}
-use Rattle.std.specs.List.{join_with_byte}
+use Rattle.std.proofs.Common.{◌≡◌, ℕ, true, false, ◌||◌, List, [], ◌∷◌, ◌++◌, map, Option, Some, None, codes, refl, sym, ap, ◌∙◌, append_assoc}
 use Rattle.json.specs.Print.{quoted}
-use Rattle.serde_json.specs.Data.{Data, null, number, string, array, object, unsigned, Items, no_items, item, Members, no_members, member}
+use Rattle.serde_json.specs.Data.{Data, string, array}
 use Rattle.serde_json.specs.View.{items_of}
 use Rattle.serde_json.specs.Written.{compact_text, items_text, has_float, items_have_float}
 use Rattle.serde_json.proofs.OnLiterals.{serde_json_on_literals}
@@ -10,9 +9,8 @@ use Rattle.dict_catalogue.specs.Items.{Stored, Item, regular, virtual}
 use Rattle.dict_catalogue.specs.Effects.{KeptReply}
 use Rattle.dict_catalogue.specs.declared.fault.Refusal.{Refusal}
 use Rattle.dict_index.specs.declared.fault.Refusal as editions
-use Rattle.dict_catalogue.specs.declared.reply.Verb.{Verb}
-use Rattle.dict_json.specs.Texts.{number_or_null, with_commas, kept_text, refused_command_text, refused_edition_text, item_text, list_text}
-use Rattle.dict_json.specs.Values.{maybe_number, texts_value, kept_value, refused_command_value, refused_edition_value, item_value}
+use Rattle.dict_json.specs.Texts.{with_commas, kept_text, refused_command_text, refused_edition_text, item_text, list_text}
+use Rattle.dict_json.specs.Values.{texts_value, kept_value, refused_command_value, refused_edition_value, item_value}
 
 kept_parts : (edition : Option ℕ) (kept : KeptReply) → compact_text (kept_value (record kept { edition = edition })) ≡ kept_text (record kept { edition = edition })
 unfolding serde_json_on_literals

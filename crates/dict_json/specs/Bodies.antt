@@ -1,5 +1,5 @@
 -- What the bodies of requests say. RFC 8259, as `serde_json` reads it: of equal keys the last one counts.
-use Rattle.std.specs.Prelude.{◌≡◌, ◌<◌, ◌^◌, ℕ, List, map, Option, Some, None, option_map, codes, IsUtf8}
+use Rattle.std.specs.Prelude.{◌≡◌, ◌<◌, ◌^◌, ℕ, List, map, Some, option_map, codes, IsUtf8}
 use Rattle.serde_json.specs.Data.{Data, object, no_members, member, number, unsigned, string, array, Items}
 use Rattle.serde_json.specs.Events.{members_len}
 use Rattle.serde_json.specs.Find.{get, as_object}

@@ -1,9 +1,9 @@
 -- The JSON of answers, octet by octet: compact, with the keys in the order of their octets. RFC 8259; which members
 -- there are is this server's.
-use Rattle.std.specs.Prelude.{ℕ, List, [], ◌∷◌, ◌++◌, map, option_map, Option, Some, None, codes, decimal}
+use Rattle.std.specs.Prelude.{ℕ, List, ◌++◌, map, option_map, Option, Some, None, codes, decimal}
 use Rattle.std.specs.List.{join_with_byte}
 use Rattle.json.specs.Print.{quoted}
-use Rattle.dict_catalogue.specs.Items.{Stored, Item, regular, virtual}
+use Rattle.dict_catalogue.specs.Items.{Item, regular, virtual}
 use Rattle.dict_catalogue.specs.Effects.{KeptReply}
 use Rattle.dict_catalogue.specs.Refusals.{refusal_number, refusal_name}
 use Rattle.dict_catalogue.specs.declared.fault.Refusal.{Refusal}

@@ -1,8 +1,8 @@
 -- The same as values of `serde_json`.
-use Rattle.std.specs.Prelude.{ℕ, List, [], ◌∷◌, map, option_map, Option, Some, None, codes}
+use Rattle.std.specs.Prelude.{ℕ, List, map, option_map, Option, Some, None, codes}
 use Rattle.serde_json.specs.Data.{Data, object, no_members, member, number, unsigned, null, string, array}
 use Rattle.serde_json.specs.View.{items_of}
-use Rattle.dict_catalogue.specs.Items.{Stored, Item, regular, virtual}
+use Rattle.dict_catalogue.specs.Items.{Item, regular, virtual}
 use Rattle.dict_catalogue.specs.Effects.{KeptReply}
 use Rattle.dict_catalogue.specs.Refusals.{refusal_number, refusal_name}
 use Rattle.dict_catalogue.specs.declared.fault.Refusal.{Refusal}

@@ -1,6 +1,6 @@
 -- The key under which a headword is filed and a query is looked up, by the first version of folding: it knows
 -- the letters of ASCII alone.
-use Rattle.std.specs.Prelude.{ℕ, Bool, List, [], ◌∷◌, length, map, filter, nat_le, ◌==◌, ◌||◌, if◌then◌else◌}
+use Rattle.std.specs.Prelude.{ℕ, Bool, List, length, map, filter, nat_le, ◌==◌, ◌||◌, if◌then◌else◌}
 use Rattle.std.specs.Char.{to_ascii_lowercase, is_ascii_alphanumeric}
 use Rattle.std.specs.List.{join_with_byte}
 use Rattle.std.specs.Str.{chars, encode_utf8_all}

@@ -1,5 +1,5 @@
 -- A path has one form at most.
-use Rattle.std.proofs.Common.{◌≡◌, ◌≢◌, ◌<◌, ◌++◌, ℕ, zero, suc, List, [], ◌∷◌, length, get_or, codes, refl, sym, ap, ◌∙◌, subst, arith}
+use Rattle.std.proofs.Common.{◌≡◌, ◌++◌, ℕ, List, [], ◌∷◌, get_or, codes, refl, sym, ap, ◌∙◌, subst, arith}
 use Rattle.std.proofs.lemmas.List.{append_cancel_left, append_cancel_right}
 use Rattle.dict_route.specs.declared.kinds.Route.{Route}
 use Rattle.dict_route.specs.declared.kinds.Route.TheVariants.{Databases, Database, Rollback, Place, Virtual}

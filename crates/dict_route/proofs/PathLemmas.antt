@@ -1,17 +1,16 @@
 -- The paths that the rows of the router find, and their names.
-use Rattle.std.proofs.Common.{rules, ◌≡◌, ◌≢◌, ◌<◌, ◌≤◌, ◌+◌, ◌-◌, ◌++◌, ◌==◌, ◌&&◌, ◌⊎◌, inl, inr, ℕ, zero, suc, Bool, true, false, cond, ltb, nat_eq, List, [], ◌∷◌, length, drop, get_or, Option, Some, None, option_map, codes, refl, sym, ap, ◌∙◌, subst, arith, append_assoc, lit<, Fits, w8}
+use Rattle.std.proofs.Common.{rules, ◌≡◌, ◌≢◌, ◌<◌, ◌-◌, ◌++◌, ◌==◌, ◌&&◌, ◌⊎◌, inl, inr, ℕ, suc, Bool, true, false, ltb, nat_eq, List, [], ◌∷◌, length, drop, get_or, Option, Some, None, option_map, codes, refl, sym, ap, ◌∙◌, subst, arith, lit<, Fits, w8}
 use Rattle.std.proofs.Math.Facts.{Fits-lt-pow}
 use Rattle.std.specs.List.{AllByRecursion, ends_with}
 use Rattle.std.specs.Cmp.Lexicographic.{pointwise}
 use Rattle.std.proofs.lemmas.List.{append_cancel_left, append_cancel_right}
-use Rattle.matchit.specs.Rows.{RowsOf, param_token, catch_all_token}
-use Rattle.matchit.specs.Router.{RouteOf}
-use Rattle.matchit.specs.Seek.{segment, has_slash, first, seek, step, own, or_else, param_step, longest_suffix, cuts}
+use Rattle.matchit.specs.Rows.{param_token}
+use Rattle.matchit.specs.Seek.{has_slash, first, seek, step, param_step, cuts}
 use Rattle.dict_route.specs.declared.kinds.Route.{Route}
 use Rattle.dict_route.specs.declared.kinds.Route.TheVariants.{Databases, Database, Rollback, Place, Virtual}
 use Rattle.dict_route.specs.Paths.{HasNoSlash, HasName, IsPath, before, after}
 use Rattle.dict_route.specs.Rows.{rows, with_name}
-use Rattle.dict_route.proofs.SeekLemmas.{Key, TheRows, not_eq, equal_or_not, none_at, by_octet, prefixed, step_same, prefixed_all, are_octets, word_back, word_on, IsOctet, passes, passes_all, slash_or_none, segment_whole, segment_front, no_slash, has_one, by_param}
+use Rattle.dict_route.proofs.SeekLemmas.{Key, TheRows, not_eq, equal_or_not, none_at, by_octet, are_octets, word_back, word_on, IsOctet, passes, passes_all, slash_or_none, segment_whole, segment_front, no_slash, has_one, by_param}
 
 -- ---- the rows, part by part
 

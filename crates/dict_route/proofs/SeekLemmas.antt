@@ -1,10 +1,9 @@
 -- What `matchit` finds for rows of this crate's shapes.
-use Rattle.std.proofs.Common.{rules, ◌≡◌, ◌≢◌, ◌<◌, ◌≤◌, ◌+◌, ◌-◌, ◌++◌, ◌==◌, ◌&&◌, ◌⊎◌, inl, inr, ℕ, zero, suc, Bool, true, false, cond, ltb, nat_eq, nat_lt, List, [], ◌∷◌, length, drop, Option, Some, None, codes, refl, sym, ap, ◌∙◌, subst, arith}
-use Rattle.std.specs.List.{AllByRecursion, ends_with, list_all}
-use Rattle.std.specs.Cmp.Lexicographic.{pointwise}
+use Rattle.std.proofs.Common.{rules, ◌≡◌, ◌≢◌, ◌<◌, ◌-◌, ◌++◌, ◌==◌, ◌&&◌, ◌⊎◌, inl, inr, ℕ, zero, suc, Bool, true, false, cond, nat_lt, List, [], ◌∷◌, length, Option, Some, None, refl, sym, ap, ◌∙◌, subst, arith}
+use Rattle.std.specs.List.{AllByRecursion, list_all}
 use Rattle.matchit.specs.Rows.{RowsOf, param_token, catch_all_token}
 use Rattle.matchit.specs.Router.{RouteOf}
-use Rattle.matchit.specs.Seek.{segment, has_slash, first, seek, step, own, or_else, param_step, longest_suffix, cuts}
+use Rattle.matchit.specs.Seek.{segment, has_slash, seek, step, own, or_else, param_step}
 use Rattle.dict_route.specs.declared.kinds.Route.{Route}
 use Rattle.dict_route.specs.Paths.{HasNoSlash}
 

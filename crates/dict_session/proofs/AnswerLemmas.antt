@@ -5,15 +5,14 @@ use Rattle.std.specs.List.{flat_map, list_any}
 use Rattle.std.specs.Str.{bytes_eq}
 use Rattle.dict_match.specs.Key.{key_of}
 use Rattle.dict_match.specs.declared.strategy.Strategy.{Strategy}
-use Rattle.dict_match.specs.declared.strategy.Strategy.TheVariants.{Exact}
 use Rattle.dict_index.specs.Edition.{Edition}
 use Rattle.dict_catalogue.specs.Items.{Item, is_named, is_known, is_regular}
 use Rattle.dict_catalogue.specs.Steps.{Catalogue}
 use Rattle.dict_catalogue.specs.WellFormed.{IsWellFormed}
-use Rattle.dict_desk.specs.Asked.{Database, definitions_in, matches_in, searched, strategy_of}
+use Rattle.dict_desk.specs.Asked.{Database, definitions_in, matches_in, strategy_of}
 use Rattle.dict_proto.specs.Replies.{invalid_database_octets, invalid_strategy_octets}
 use Rattle.dict_session.specs.Answers.{define_answer, defined, match_answer, matched, strategy_answer, names_databases}
-use Rattle.dict_session.specs.Places.{Asking, Holds, HoldsAsked, asked_in, places_from, places_by, places_under}
+use Rattle.dict_session.specs.Places.{Asking, HoldsAsked, asked_in, places_from, places_by, places_under}
 use Rattle.dict_session.specs.Rows.{answering, found_octets}
 use Rattle.dict_session.specs.declared.asked.Asked.{Asked}
 use Rattle.dict_session.proofs.FoundLemmas.{at_places, found_over, for_definitions, for_matches, definitions_over, matches_over}

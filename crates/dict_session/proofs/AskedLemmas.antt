@@ -1,18 +1,16 @@
 -- Which databases a word asks, by their places; and of how many places there is room.
-use Rattle.std.proofs.Common.{◌≡◌, ◌≢◌, ℕ, zero, suc, ◌+◌, ◌<◌, ◌≤◌, List, [], ◌∷◌, ◌++◌, Bool, true, false, not, ◌&&◌, arith, length, map, take, drop, get_or, refl, sym, ap, ◌∙◌, subst, cond, append_assoc, append-nil, length-append, codes}
-use Rattle.std.specs.Prelude.{Option, None, Some, IsTrue, option_map, slice_get, filter, find, if◌then◌else◌, ◌==◌}
-use Rattle.std.specs.List.{flat_map, AllByRecursion, list_any}
+use Rattle.std.proofs.Common.{◌≡◌, ℕ, zero, suc, ◌+◌, ◌≤◌, List, [], ◌∷◌, ◌++◌, Bool, true, false, ◌&&◌, arith, length, map, drop, refl, sym, ap, ◌∙◌, subst, length-append, codes}
+use Rattle.std.specs.Prelude.{Option, None, Some, option_map, slice_get, find, if◌then◌else◌}
+use Rattle.std.specs.List.{flat_map, AllByRecursion}
 use Rattle.std.specs.Str.{bytes_eq}
-use Rattle.std.proofs.lemmas.List.{drop_more, length-map}
 use Rattle.std.proofs.lemmas.List.Concat.{flat_map-append}
 use Rattle.dict_index.specs.Edition.{Edition}
-use Rattle.dict_catalogue.specs.Items.{Item, regular, virtual, name_of, is_named, is_regular, is_known, members_of, names_regular, item_as}
-use Rattle.dict_catalogue.specs.Steps.{Catalogue, summary_of}
-use Rattle.dict_catalogue.specs.WellFormed.{IsWellFormed, IsEachOnce, IsLawfulItem, HasKnownMembers, how_many, total}
+use Rattle.dict_catalogue.specs.Items.{Item, regular, virtual, name_of, is_named, is_regular, item_as}
+use Rattle.dict_catalogue.specs.Steps.{Catalogue}
+use Rattle.dict_catalogue.specs.WellFormed.{IsWellFormed, IsEachOnce, IsLawfulItem, how_many}
 use Rattle.dict_desk.specs.Asked.{Database, databases, databases_named, asked_by, first_finding, searched}
-use Rattle.dict_match.specs.declared.strategy.Strategy.{Strategy}
 use Rattle.dict_session.specs.Places.{places_from, places_named, places_by, places_under, asked_in, is_regular_named, Asking}
-use Rattle.dict_session.specs.Rows.{at_place, regular_as, answering, first_counted, count_at}
+use Rattle.dict_session.specs.Rows.{at_place, regular_as, answering}
 use Rattle.dict_session.specs.declared.query.Query.{Query}
 use Rattle.dict_session.proofs.FoundLemmas.{at_places, first_over}
 

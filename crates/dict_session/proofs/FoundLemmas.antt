@@ -1,5 +1,5 @@
 -- What the places of databases give, and the databases at them.
-use Rattle.std.proofs.Common.{◌≡◌, ◌≢◌, ℕ, zero, suc, ◌+◌, ◌*◌, ◌^◌, ◌<◌, ◌≤◌, List, [], ◌∷◌, ◌++◌, Bool, true, false, arith, length, map, take, get_or, refl, sym, ap, ◌∙◌, subst, cond, append_assoc, append-nil, length-append}
+use Rattle.std.proofs.Common.{◌≡◌, ◌≢◌, ℕ, zero, suc, ◌+◌, ◌*◌, ◌<◌, ◌≤◌, List, [], ◌∷◌, ◌++◌, Bool, true, false, arith, length, map, take, get_or, refl, sym, ap, ◌∙◌, subst, append-nil, length-append}
 use Rattle.std.specs.Prelude.{Option, None, Some, Result, Ok, Err, IfOk, Contains, option_map, slice_get, filter, ◌==◌, ◌&&◌, not, if◌then◌else◌}
 use Rattle.std.specs.List.{flat_map, AllByRecursion}
 use Rattle.std.specs.Str.{bytes_eq}
@@ -8,7 +8,6 @@ use Rattle.std.proofs.lemmas.Bool.Decides.{nat_tests}
 use Rattle.std.proofs.lemmas.List.{length-map, take_more}
 use Rattle.std.proofs.lemmas.List.Concat.{flat_map-append}
 use Rattle.std.proofs.lemmas.Option.{slice_get-map}
-use Rattle.dict_text.proofs.AllLemmas.{all_filter}
 use Rattle.dict_match.specs.declared.strategy.Strategy.{Strategy}
 use Rattle.dict_match.specs.declared.strategy.Strategy.TheVariants.{Exact}
 use Rattle.dict_name.specs.Names.{is_name, is_title, has_size}
@@ -19,14 +18,14 @@ use Rattle.dict_catalogue.specs.Steps.{Catalogue, summary_of}
 use Rattle.dict_catalogue.specs.WellFormed.{IsWellFormed, IsLawfulItem, HasWellFormedEditions, total}
 use Rattle.dict_catalogue.proofs.ListLemmas.{sum_flat_map, sum_append}
 use Rattle.dict_desk.specs.Found.{found, is_found, distinct, headwords}
-use Rattle.dict_desk.specs.Shown.{HasEdition, count_of, headword_rows, row}
-use Rattle.dict_desk.specs.Asked.{Database, Definition, Match, first_finding, definitions_in, matches_in}
+use Rattle.dict_desk.specs.Shown.{HasEdition, count_of, row}
+use Rattle.dict_desk.specs.Asked.{Database, first_finding, definitions_in, matches_in}
 use Rattle.dict_desk.specs.declared.lookup.What.{What}
 use Rattle.dict_desk.specs.declared.lookup.What.TheVariants.{Entries, Headwords}
-use Rattle.dict_proto.specs.Replies.{no_match_octets, list_line_octets}
+use Rattle.dict_proto.specs.Replies.{no_match_octets}
 use Rattle.dict_session.specs.Answers.{definition_of, definitions_answer, match_line, matches_answer}
 use Rattle.dict_session.specs.Places.{IsHeading}
-use Rattle.dict_session.specs.Rows.{rows_by, row_octets, octets_in, count_in, regular_as, at_place, octets_at, count_at, first_counted, answering, count_octets, end_octets, counted_octets, found_octets, IsCounted}
+use Rattle.dict_session.specs.Rows.{rows_by, row_octets, octets_in, count_in, regular_as, at_place, octets_at, count_at, first_counted, count_octets, end_octets, counted_octets, found_octets, IsCounted}
 use Rattle.dict_session.specs.declared.found.Counted.{Counted}
 use Rattle.dict_session.specs.declared.query.Query.{Query}
 use Rattle.dict_session.specs.declared.asked.Heading.{Heading}

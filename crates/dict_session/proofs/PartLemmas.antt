@@ -1,9 +1,9 @@
 -- What a front of octets is, where the desk broke them off; and what two calls leave of the desk.
-use Rattle.std.proofs.Common.{◌≡◌, ℕ, List, [], ◌++◌, Bool, true, false, arith, length, take, refl, sym, subst, ◌∙◌, length-append}
+use Rattle.std.proofs.Common.{ℕ, List, ◌++◌, Bool, arith, length, ◌∙◌, length-append}
 use Rattle.std.specs.Prelude.{Option}
 use Rattle.std.proofs.lemmas.List.{take-append-le, take_all}
-use Rattle.dict_io.specs.Streams.{Stream, PutsAll, PutsFront}
-use Rattle.dict_io.proofs.PutLemmas.{appends_longer, appends_after, all_after, front_after, front_longer}
+use Rattle.dict_io.specs.Streams.{Stream, PutsAll}
+use Rattle.dict_io.proofs.PutLemmas.{appends_longer, appends_after, front_after, front_longer}
 use Rattle.dict_catalogue.specs.Steps.{Catalogue}
 use Rattle.dict_session.specs.Desks.{Stays}
 use Rattle.dict_session.specs.Ending.{PutsPart, Breaks}

@@ -1,5 +1,5 @@
 -- What a run has written, from the greeting on.
-use Rattle.std.proofs.Common.{◌≡◌, ℕ, ◌≤◌, List, [], ◌++◌, length, refl, sym, subst, Bool, true, false, append_assoc}
+use Rattle.std.proofs.Common.{◌≡◌, ℕ, ◌≤◌, List, ◌++◌, length, refl, Bool, true}
 use Rattle.dict_io.specs.Streams.{Stream, PutsAll, PutsFront}
 use Rattle.dict_io.proofs.PutLemmas.{all_after}
 use Rattle.dict_line.specs.Meaning.{Meaning}

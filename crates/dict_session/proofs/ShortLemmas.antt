@@ -1,18 +1,17 @@
 -- Each line of a session's octets is short.
-use Rattle.std.proofs.Common.{◌≡◌, ◌≢◌, ℕ, suc, ◌+◌, ◌^◌, ◌<◌, ◌≤◌, List, [], ◌∷◌, ◌++◌, Bool, true, false, not, ◌&&◌, ◌||◌, Bor, refl, sym, ap, ◌∙◌, subst, arith, length, map, codes, inl, inr}
+use Rattle.std.proofs.Common.{◌≡◌, ◌≢◌, ℕ, ◌+◌, ◌^◌, ◌<◌, ◌≤◌, List, [], ◌∷◌, ◌++◌, Bool, true, false, not, ◌&&◌, ◌||◌, Bor, refl, sym, ap, ◌∙◌, subst, arith, length, map, codes, inl, inr}
 use Rattle.std.specs.Prelude.{IsTrue, MatchBool, ◌==◌, if◌then◌else◌, Option, None, Some, slice_get, find}
 use Rattle.std.specs.List.{flat_map, list_all, list_any, AllByRecursion}
 use Rattle.std.specs.Str.{bytes_eq}
 use Rattle.std.proofs.lemmas.Bool.{leb-true}
-use Rattle.std.proofs.lemmas.List.{length-map}
 use Rattle.std.proofs.lemmas.List.Concat.{flat_map-append}
 use Rattle.dict_text.specs.Characters.{is_control, has_control}
 use Rattle.dict_text.specs.Lines.{text_lines, onto_first_line}
 use Rattle.dict_text.proofs.AllLemmas.{all_append, all_filter, all_map, all_weaker, all_of}
 use Rattle.dict_name.specs.Names.{has_size, is_name_octet, is_name, is_title}
 use Rattle.dict_index.specs.Edition.{Edition, Entry}
-use Rattle.dict_index.specs.Tests.{IsTextOctet, HasShortLines}
-use Rattle.dict_index.specs.WellFormed.{IsEditionTitle, IsEditionText, IsEntryHeadword, IsWellFormedEntry, IsWellFormedEdition}
+use Rattle.dict_index.specs.Tests.{IsTextOctet}
+use Rattle.dict_index.specs.WellFormed.{IsEditionText, IsEntryHeadword, IsWellFormedEntry, IsWellFormedEdition}
 use Rattle.dict_match.specs.Key.{key_of}
 use Rattle.dict_match.specs.StrategyText.{name_of, title_of, strategies}
 use Rattle.dict_match.specs.declared.strategy.Strategy.{Strategy}
@@ -20,13 +19,13 @@ use Rattle.dict_match.specs.declared.strategy.Strategy.TheVariants.{Exact, Prefi
 use Rattle.dict_line.specs.Meaning.{Meaning, meaning, define, matching, show_databases, show_strategies, show_server, show_info, client, status, help, quit, not_recognized, illegal_parameters, not_implemented}
 use Rattle.dict_proto.specs.Text.{crlf}
 use Rattle.dict_proto.specs.ReplyLines.{AreShortLines, HasNoReturn, IsShort}
-use Rattle.dict_proto.specs.Replies.{banner_octets, definition_count_octets, match_count_octets, database_count_octets, strategy_count_octets, list_line_octets, list_end_octets, info_heading_octets, info_text_octets, help_octets, server_information_octets, done_octets, unavailable_octets, no_match_octets, no_databases_octets}
+use Rattle.dict_proto.specs.Replies.{banner_octets, database_count_octets, strategy_count_octets, list_line_octets, list_end_octets, info_heading_octets, help_octets, server_information_octets, done_octets, unavailable_octets, no_match_octets, no_databases_octets}
 use Rattle.dict_proto.specs.declared.reply.Reply.TheVariants.{Banner, DefinitionCount, Definition, MatchCount, DatabaseCount, StrategyCount, ListLine, ListEnd, InfoHeading, InfoText, Help, ServerInformation, Status, Done, Closing, Unavailable, NotRecognized, InvalidDatabase, InvalidStrategy, NoMatch, NoDatabases, IllegalParameters, NotImplemented}
 use Rattle.dict_proto.proofs.ReplyLinesLemmas.{reply_octets-short}
 use Rattle.dict_catalogue.specs.Items.{Item, Stored, regular, virtual, is_named}
 use Rattle.dict_catalogue.specs.Steps.{Catalogue}
 use Rattle.dict_catalogue.specs.WellFormed.{IsWellFormed, IsLawfulItem, HasWellFormedEditions, total}
-use Rattle.dict_desk.specs.Found.{found, is_found, distinct, headwords}
+use Rattle.dict_desk.specs.Found.{found, is_found, distinct}
 use Rattle.dict_desk.specs.Shown.{row}
 use Rattle.dict_desk.specs.Asked.{Database, databases_named, strategy_of}
 use Rattle.dict_desk.specs.declared.lookup.What.{What}

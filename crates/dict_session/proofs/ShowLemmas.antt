@@ -1,6 +1,6 @@
 -- The answers to SHOW, STATUS and HELP as replies, one after the other, and over a catalogue's summary.
-use Rattle.std.proofs.Common.{◌≡◌, ◌≢◌, ℕ, suc, List, [], ◌∷◌, ◌++◌, Bor, Bool, true, false, ◌||◌, ◌&&◌, refl, sym, ap, ◌∙◌, append-nil, append_assoc, ◌+◌, ◌<◌, length, map, take, drop, get_or, take-append-drop, arith, subst, inl, inr}
-use Rattle.std.specs.Prelude.{Option, None, Some, Result, Ok, Err, find, option_map, ◌==◌, filter, Contains, if◌then◌else◌}
+use Rattle.std.proofs.Common.{◌≡◌, ◌≢◌, ℕ, suc, List, [], ◌∷◌, ◌++◌, Bor, Bool, true, false, ◌&&◌, refl, sym, ap, ◌∙◌, append-nil, append_assoc, ◌+◌, ◌<◌, length, map, take, drop, get_or, take-append-drop, arith, subst, inl, inr}
+use Rattle.std.specs.Prelude.{Option, None, Some, Result, Ok, Err, find, option_map, ◌==◌, Contains, if◌then◌else◌}
 use Rattle.std.specs.List.{flat_map}
 use Rattle.std.specs.Str.{bytes_eq}
 use Rattle.std.proofs.lemmas.Bool.Decides.{nat_tests}
@@ -10,11 +10,10 @@ use Rattle.std.proofs.lemmas.List.Concat.{flat_map-append}
 use Rattle.dict_io.specs.Streams.{Stream, PutsAll, PutsFront}
 use Rattle.dict_io.proofs.PutLemmas.{all_after, front_after, front_longer}
 use Rattle.dict_index.specs.Edition.{Edition, Entry}
-use Rattle.dict_catalogue.specs.Items.{Item, Stored, regular, virtual, name_of, is_named, is_regular, item_as, editions_of}
+use Rattle.dict_catalogue.specs.Items.{Item, Stored, regular, virtual, is_named, item_as, editions_of}
 use Rattle.dict_catalogue.specs.Steps.{Catalogue, summary_of}
-use Rattle.dict_desk.specs.Asked.{Database, databases, databases_named}
+use Rattle.dict_desk.specs.Asked.{Database, databases_named}
 use Rattle.dict_desk.specs.Shown.{HasEdition, info_rows}
-use Rattle.dict_proto.specs.declared.reply.Reply.{Reply}
 use Rattle.dict_proto.specs.declared.reply.Reply.TheVariants.{ListEnd, Help, ServerInformation, Done}
 use Rattle.dict_proto.specs.Replies.{reply_octets, list_end_octets, done_octets, invalid_database_octets, info_heading_octets, info_text_octets, no_databases_octets, database_count_octets, unavailable_octets, status_octets}
 use Rattle.dict_session.specs.Ending.{PutsPart, PutsAnswer}
@@ -26,10 +25,9 @@ use Rattle.dict_desk.specs.Faults.{IsOfLookup, is_failure}
 use Rattle.dict_desk.specs.declared.fault.Fault.{Fault}
 use Rattle.dict_desk.specs.declared.fault.Fault.TheVariants.{Refused, Memory, Disk, Closed, NotACatalogue, Damaged, NewerSchema}
 use Rattle.dict_session.specs.Rows.{shown_line, line_if_named, items_octets, members_octets, info_row, has_some}
-use Rattle.dict_session.specs.Places.{is_regular_named}
-use Rattle.dict_session.specs.Shows.{databases_answer, items_answer, item_line, server_answer, info_answer, info_found, info_of, database_line, status_answer, help_answer}
+use Rattle.dict_session.specs.Shows.{databases_answer, items_answer, item_line, server_answer, info_answer, info_found, database_line, status_answer, help_answer}
 use Rattle.dict_session.proofs.PartLemmas.{part_of, part_after}
-use Rattle.dict_session.proofs.AskedLemmas.{named_as, regular_named_as}
+use Rattle.dict_session.proofs.AskedLemmas.{named_as}
 
 pub help_is : flat_map reply_octets (Help ∷ Done ∷ []) ≡ help_answer
 unfolding help_answer

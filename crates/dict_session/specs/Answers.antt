@@ -1,5 +1,5 @@
 -- The answer to each line. RFC 2229, sections 3.2, 3.3 and 3.5 to 3.9.
-use Rattle.std.specs.Prelude.{ℕ, Bool, true, false, ◌==◌, ◌||◌, List, [], ◌++◌, length, codes, if◌then◌else◌, Option, Some, None}
+use Rattle.std.specs.Prelude.{ℕ, Bool, true, false, ◌==◌, ◌||◌, List, ◌++◌, length, codes, if◌then◌else◌, Option, Some, None}
 use Rattle.std.specs.List.{flat_map}
 use Rattle.std.specs.Str.{bytes_eq}
 use Rattle.dict_match.specs.declared.strategy.Strategy.{Strategy}

@@ -1,5 +1,5 @@
 -- What the calls of a session leave of the desk that it asks.
-use Rattle.std.specs.Prelude.{ℕ, List, Option}
+use Rattle.std.specs.Prelude.{List, Option}
 use Rattle.dict_catalogue.specs.Steps.{Catalogue}
 
 -- A desk that may be trusted afterwards could be before, and shows what it showed; and a stop may leave nothing that it

@@ -12,7 +12,7 @@ use Rattle.dict_desk.specs.Asked.{Database}
 use Rattle.dict_desk.specs.declared.lookup.What.{What}
 use Rattle.dict_desk.specs.declared.lookup.What.TheVariants.{Entries, Headwords}
 use Rattle.dict_proto.specs.Replies.{definition_count_octets, definition_octets, match_count_octets, list_line_octets, list_end_octets, info_heading_octets, info_text_octets, done_octets, no_match_octets, no_databases_octets, database_count_octets}
-use Rattle.dict_session.specs.Places.{Asking, is_regular_named}
+use Rattle.dict_session.specs.Places.{is_regular_named}
 use Rattle.dict_session.specs.declared.query.Query.{Query}
 use Rattle.dict_session.specs.declared.found.Counted.{Counted}
 

@@ -1,4 +1,4 @@
-use Rattle.std.proofs.Common.{rules, arith}
+use Rattle.std.proofs.Common.{arith}
 use Rattle.dict_catalogue.specs.Views.{item_shown}
 use Rattle.dict_catalogue.proofs.MoveLemmas.{moved_shown}
 use Rattle.dict_catalogue.proofs.effects.moved.Goals as goal

@@ -1,5 +1,4 @@
 use Rattle.std.proofs.Common.{arith}
-use Rattle.std.proofs.lemmas.Grind.{common_steps}
 use Rattle.dict_catalogue.proofs.TestLemmas.{first_failing_append}
 use Rattle.dict_catalogue.proofs.refusing.put_virtual_refusal.Goals as goal
 

@@ -1,4 +1,4 @@
-use Rattle.std.proofs.Common.{◌≡◌, List, ℕ, ◌∷◌, [], ap, sym, ◌∙◌, subst}
+use Rattle.std.proofs.Common.{◌≡◌, List, ℕ, ap, sym, ◌∙◌, subst}
 use Rattle.dict_match.specs.Words.{words_between_blanks}
 use Rattle.dict_derived.proofs.PieceLemmas.{AreOnceOf, none_yet, one_more, all_in, lent, lent-insert_key, lent-rising}
 use Rattle.dict_derived.proofs.pieces.words_of.Goals as goal

@@ -1,8 +1,5 @@
-use Rattle.std.proofs.Common.{◌≡◌, ℕ, Bool, List, ◌++◌, map, bytes_eq}
-use Rattle.std.specs.List.{list_any}
-use Rattle.std.specs.List.Sorted.{IsStrictlySortedBy}
+use Rattle.std.proofs.Common.{map}
 use Rattle.dict_match.specs.Words.{words_between_blanks}
-use Rattle.dict_derived.specs.Derived.{octets_cmp}
 use Rattle.dict_derived.proofs.PieceLemmas.{AreOnceOf}
 use Rattle.dict_derived.proofs.pieces.words_of.Given as goal
 

@@ -1,7 +1,6 @@
-use Rattle.std.proofs.Common.{◌≡◌, ℕ, ◌+◌, ◌*◌, ◌<◌, ◌≤◌, List, Some, slice_get, refl, ap, sym, ◌∙◌, subst, arith}
+use Rattle.std.proofs.Common.{◌≡◌, ℕ, ◌+◌, Some, slice_get, refl, ap, sym, ◌∙◌, subst, arith}
 use Rattle.std.proofs.lemmas.Option.{slice_get_read}
-use Rattle.dict_derived.specs.Derived.{AreOnce}
-use Rattle.dict_derived.specs.Exact.{HasMany, IsPieceOf}
+use Rattle.dict_derived.specs.Exact.{HasMany}
 use Rattle.dict_derived.proofs.ExactLemmas.{IsDueBelow, none_due, more_due, all_due}
 use Rattle.dict_derived.proofs.reader.count_due.Goals as goal
 

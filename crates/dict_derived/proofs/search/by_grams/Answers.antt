@@ -1,6 +1,6 @@
-use Rattle.std.proofs.Common.{◌≡◌, ℕ, ◌-◌, ◌<◌, ◌≤◌, List, cond, ltb, length, take, drop, ap, sym, ◌∙◌, arith, length-drop}
+use Rattle.std.proofs.Common.{◌≡◌, ◌-◌, cond, length, take, drop, ap, sym, ◌∙◌, arith, length-drop}
 use Rattle.std.proofs.lemmas.Bool.{le-ltb}
-use Rattle.dict_derived.specs.Search.{Rows, AllRows, WithGrams}
+use Rattle.dict_derived.specs.Search.{AllRows, WithGrams}
 use Rattle.std.proofs.lemmas.List.{take_all}
 use Rattle.dict_derived.proofs.search.by_grams.Goals as goal
 

@@ -1,5 +1,5 @@
 use Rattle.dict_catalogue.specs.Views.{command_meant}
-use Rattle.dict_http.proofs.RespondLemmas.{after_ok, after_refusal, after_failure}
+use Rattle.dict_http.proofs.RespondLemmas.{after_ok, after_refusal}
 use Rattle.dict_http.proofs.changing.apply.Goals as goal
 
 pub returns-in-Ok-clause-ends : goal.returns-in-Ok-clause-ends

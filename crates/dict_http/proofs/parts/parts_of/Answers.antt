@@ -1,4 +1,4 @@
-use Rattle.dict_http.proofs.PartLemmas.{no_parts, unread_parts, short_parts, are_parts}
+use Rattle.dict_http.proofs.PartLemmas.{no_parts, unread_parts, short_parts}
 use Rattle.dict_http.proofs.parts.parts_of.Goals as goal
 
 pub returns-in_default : goal.returns-in_default

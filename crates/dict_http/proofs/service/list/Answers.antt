@@ -1,6 +1,4 @@
-use Rattle.std.proofs.Common.{◌≡◌, ◌∙◌, ap, subst, List, ℕ}
-use Rattle.std.specs.Prelude.{string_bytes}
-use Rattle.dict_catalogue.specs.Steps.{summary_of}
+use Rattle.std.proofs.Common.{◌∙◌, ap, subst, List, ℕ}
 use Rattle.dict_catalogue.specs.Tests.{Holdings}
 use Rattle.dict_head.specs.declared.statuses.Status.TheVariants as statuses
 use Rattle.dict_json.specs.Texts.{list_text}

@@ -1,4 +1,4 @@
-use Rattle.std.proofs.Common.{rules, ◌≡◌, ◌∙◌, sym, length, Some, codes, arith}
+use Rattle.std.proofs.Common.{rules, ◌≡◌, ◌∙◌, sym, Some, codes, arith}
 use Rattle.serde_json.specs.Find.{get, as_object}
 use Rattle.serde_json.specs.View.{view, members_view}
 use Rattle.dict_json.proofs.BodyLemmas.{one_count, one_is, unsigned_of}

@@ -1,4 +1,4 @@
-use Rattle.std.proofs.Common.{rules, ◌≡◌, ◌∙◌, sym, ap, length, Some, codes, option_and_then}
+use Rattle.std.proofs.Common.{rules, ◌≡◌, ◌∙◌, sym, ap, Some, codes, option_and_then}
 use Rattle.serde_json.specs.Find.{get, as_object, as_array, as_str}
 use Rattle.serde_json.specs.View.{view, members_view, items_view}
 use Rattle.dict_json.proofs.BodyLemmas.{array_is, string_is, count_is, two_is}

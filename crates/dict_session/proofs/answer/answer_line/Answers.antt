@@ -1,4 +1,4 @@
-use Rattle.std.proofs.Common.{sym, subst}
+use Rattle.std.proofs.Common.{subst}
 use Rattle.dict_line.specs.Told.{Tells}
 use Rattle.dict_session.proofs.answer.answer_line.Goals as goal
 

@@ -1,4 +1,4 @@
-use Rattle.std.proofs.Common.{◌≡◌, ◌≤◌, ◌+◌, ◌*◌, ◌<◌, ℕ, List, ap, ◌∙◌, subst, sym, refl, arith, length, take, get_or}
+use Rattle.std.proofs.Common.{◌≡◌, ◌+◌, ◌<◌, ap, ◌∙◌, refl, arith, length, take, get_or}
 use Rattle.std.proofs.lemmas.List.{length-take-le, take_all}
 use Rattle.dict_catalogue.specs.WellFormed.{total}
 use Rattle.dict_session.specs.Rows.{count_at}

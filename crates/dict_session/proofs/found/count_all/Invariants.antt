@@ -1,10 +1,8 @@
-use Rattle.std.proofs.Common.{◌≡◌, ◌≤◌, ℕ, List, false, length, take, drop}
-use Rattle.std.specs.List.{flat_map}
+use Rattle.std.proofs.Common.{◌≡◌, ◌≤◌, false, length, take}
 use Rattle.dict_catalogue.specs.Steps.{Catalogue}
 use Rattle.dict_catalogue.specs.WellFormed.{total}
-use Rattle.dict_io.specs.Streams.{PutsAll}
 use Rattle.dict_session.specs.Desks.{Stays}
-use Rattle.dict_session.specs.Rows.{count_at, octets_at, first_counted}
+use Rattle.dict_session.specs.Rows.{count_at}
 use Rattle.dict_session.proofs.found.count_all.Given as goal
 
 abbrev pub invariant-loop-place : goal.invariant-loop-place

@@ -1,4 +1,4 @@
-use Rattle.std.proofs.Common.{List, ℕ, ap, ◌∙◌, subst, sym, None, Some}
+use Rattle.std.proofs.Common.{ap, subst, sym}
 use Rattle.std.specs.Prelude.{Option, slice_get}
 use Rattle.dict_catalogue.specs.Steps.{summary_of}
 use Rattle.dict_catalogue.specs.WellFormed.{total}

@@ -1,7 +1,7 @@
-use Rattle.std.proofs.Common.{◌≡◌, ◌≢◌, ◌≤◌, ◌+◌, ◌<◌, ℕ, List, [], ◌∷◌, ap, ◌∙◌, subst, sym, refl, arith, length, take, drop, get_or}
+use Rattle.std.proofs.Common.{◌≡◌, ◌+◌, [], ◌∷◌, ap, ◌∙◌, sym, refl, arith, drop, get_or}
 use Rattle.std.proofs.lemmas.List.{drop_more, drop_all}
 use Rattle.dict_catalogue.specs.WellFormed.{total}
-use Rattle.dict_session.specs.Rows.{count_at, first_counted, IsCounted}
+use Rattle.dict_session.specs.Rows.{count_at, first_counted}
 use Rattle.dict_session.proofs.PartLemmas.{stays_same, stays_after}
 use Rattle.dict_session.proofs.FoundLemmas.{first_here, first_later}
 use Rattle.dict_session.proofs.found.count_first.Goals as goal

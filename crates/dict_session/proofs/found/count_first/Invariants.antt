@@ -1,10 +1,7 @@
-use Rattle.std.proofs.Common.{◌≡◌, ◌≤◌, ℕ, List, false, length, take, drop}
-use Rattle.std.specs.List.{flat_map}
+use Rattle.std.proofs.Common.{◌≡◌, false, drop}
 use Rattle.dict_catalogue.specs.Steps.{Catalogue}
-use Rattle.dict_catalogue.specs.WellFormed.{total}
-use Rattle.dict_io.specs.Streams.{PutsAll}
 use Rattle.dict_session.specs.Desks.{Stays}
-use Rattle.dict_session.specs.Rows.{count_at, octets_at, first_counted}
+use Rattle.dict_session.specs.Rows.{count_at, first_counted}
 use Rattle.dict_session.proofs.found.count_first.Given as goal
 
 abbrev pub invariant-loop-place : goal.invariant-loop-place

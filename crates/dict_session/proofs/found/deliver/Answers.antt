@@ -1,9 +1,8 @@
-use Rattle.std.proofs.Common.{List, ℕ, ap, ◌∙◌, subst, sym, refl, Ok}
+use Rattle.std.proofs.Common.{ap, ◌∙◌, subst, sym, Ok}
 use Rattle.std.specs.List.{flat_map}
 use Rattle.std.proofs.lemmas.List.Concat.{flat_map-append}
-use Rattle.dict_desk.specs.declared.lookup.End.TheVariants.{All, Stopped}
 use Rattle.dict_session.specs.Ending.{PutsPart}
-use Rattle.dict_session.specs.Rows.{row_octets, rows_by}
+use Rattle.dict_session.specs.Rows.{row_octets}
 use Rattle.dict_session.proofs.PartLemmas.{part_of}
 use Rattle.dict_session.proofs.found.deliver.Goals as goal
 

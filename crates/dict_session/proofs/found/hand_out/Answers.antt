@@ -1,4 +1,4 @@
-use Rattle.std.proofs.Common.{sym, subst, ap}
+use Rattle.std.proofs.Common.{sym, subst}
 use Rattle.dict_desk.specs.Handing.{Hands}
 use Rattle.dict_desk.specs.declared.lookup.What.{What}
 use Rattle.dict_session.specs.Rows.{rows_by}

@@ -1,4 +1,4 @@
-use Rattle.std.proofs.Common.{List, ℕ, ◌++◌, ap, sym, subst}
+use Rattle.std.proofs.Common.{List, ℕ, ◌++◌, subst}
 use Rattle.std.specs.List.{flat_map}
 use Rattle.dict_io.specs.Streams.{PutsAll}
 use Rattle.dict_io.proofs.PutLemmas.{front_after, all_after}

@@ -1,4 +1,4 @@
-use Rattle.std.proofs.Common.{List, ℕ, true, sym, subst}
+use Rattle.std.proofs.Common.{List, ℕ, true, subst}
 use Rattle.dict_session.specs.Ending.{Delivers, PutsAnswer}
 use Rattle.dict_session.specs.Rows.{answering, found_octets}
 use Rattle.dict_session.proofs.FoundLemmas.{found_none, found_some}

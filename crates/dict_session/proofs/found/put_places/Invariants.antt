@@ -1,10 +1,9 @@
-use Rattle.std.proofs.Common.{◌≡◌, ◌≤◌, ℕ, List, false, length, take, drop}
+use Rattle.std.proofs.Common.{◌≡◌, false, take}
 use Rattle.std.specs.List.{flat_map}
 use Rattle.dict_catalogue.specs.Steps.{Catalogue}
-use Rattle.dict_catalogue.specs.WellFormed.{total}
 use Rattle.dict_io.specs.Streams.{PutsAll}
 use Rattle.dict_session.specs.Desks.{Stays}
-use Rattle.dict_session.specs.Rows.{count_at, octets_at, first_counted}
+use Rattle.dict_session.specs.Rows.{octets_at}
 use Rattle.dict_session.proofs.found.put_places.Given as goal
 
 abbrev pub invariant-loop-place : goal.invariant-loop-place

@@ -1,16 +1,13 @@
-use Rattle.std.proofs.Common.{List, ℕ, ◌++◌, ◌≡◌, ap, ◌∙◌, sym, subst, map, length, true, None, Some, refl}
-use Rattle.std.specs.Prelude.{Option, option_map, find, string_bytes}
-use Rattle.std.specs.List.{flat_map}
-use Rattle.std.proofs.lemmas.List.{length-map}
+use Rattle.std.proofs.Common.{List, ℕ, ◌++◌, ◌≡◌, ap, ◌∙◌, sym, subst, map, true, None, Some}
+use Rattle.std.specs.Prelude.{option_map, find, string_bytes}
 use Rattle.dict_io.specs.Streams.{Puts}
-use Rattle.dict_io.proofs.PutLemmas.{puts_after, puts_err, front_after, front_longer}
-use Rattle.dict_catalogue.specs.Items.{is_named, Item, regular, virtual}
+use Rattle.dict_catalogue.specs.Items.{is_named, regular, virtual}
 use Rattle.dict_catalogue.specs.Views.{item_shown, texts_shown, stored_shown}
 use Rattle.dict_catalogue.specs.declared.summary.Item.{Item as SummaryItem}
 use Rattle.dict_proto.specs.Replies.{info_heading_octets, list_end_octets, done_octets}
 use Rattle.dict_session.specs.Ending.{PutsAnswer}
 use Rattle.dict_session.specs.Rows.{members_octets}
-use Rattle.dict_session.specs.Shows.{databases_answer, server_answer, info_answer}
+use Rattle.dict_session.specs.Shows.{info_answer}
 use Rattle.dict_desk.specs.Shown.{HasEdition}
 use Rattle.dict_session.proofs.ShowLemmas.{info_unknown, info_virtual, info_regular, found_shown}
 use Rattle.dict_session.proofs.show.put_info.Goals as goal

@@ -4,7 +4,7 @@ use Rattle.std.specs.List.{flat_map}
 use Rattle.dict_io.specs.Streams.{PutsAll, PutsFront}
 use Rattle.dict_io.proofs.PutLemmas.{puts_err}
 use Rattle.dict_catalogue.specs.Views.{item_shown}
-use Rattle.dict_session.specs.Rows.{shown_line, line_if_named}
+use Rattle.dict_session.specs.Rows.{line_if_named}
 use Rattle.dict_session.proofs.ShowLemmas.{loop_front, loop_more}
 use Rattle.dict_session.proofs.show.put_member_lines.Goals as goal
 

@@ -1,10 +1,7 @@
-use Rattle.std.proofs.Common.{List, ℕ, arith, map, subst}
-use Rattle.std.specs.Prelude.{string_bytes}
-use Rattle.std.specs.List.{flat_map}
-use Rattle.dict_io.specs.Streams.{PutsAll, PutsFront}
+use Rattle.std.proofs.Common.{arith}
 use Rattle.dict_io.proofs.PutLemmas.{puts_err}
 use Rattle.dict_catalogue.specs.Views.{item_shown}
-use Rattle.dict_session.specs.Rows.{shown_line, line_if_named}
+use Rattle.dict_session.specs.Rows.{line_if_named}
 use Rattle.dict_session.proofs.ShowLemmas.{loop_front, loop_more}
 use Rattle.dict_session.proofs.show.put_named.Goals as goal
 

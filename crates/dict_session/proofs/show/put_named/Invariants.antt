@@ -1,8 +1,8 @@
 use Rattle.std.proofs.Common.{take, map}
 use Rattle.std.specs.List.{flat_map}
-use Rattle.dict_catalogue.specs.Views.{item_shown, texts_shown}
+use Rattle.dict_catalogue.specs.Views.{item_shown}
 use Rattle.dict_io.specs.Streams.{PutsAll}
-use Rattle.dict_session.specs.Rows.{shown_line, line_if_named}
+use Rattle.dict_session.specs.Rows.{line_if_named}
 use Rattle.dict_session.proofs.show.put_named.Given as goal
 
 abbrev pub invariant-loop-item : goal.invariant-loop-item

@@ -1,4 +1,4 @@
-use Rattle.std.proofs.Common.{List, ℕ, true, false, [], ◌++◌, sym, ap, ◌∙◌, subst, refl, inl, Ok}
+use Rattle.std.proofs.Common.{List, ℕ, true, false, ◌++◌, sym, ap, ◌∙◌, subst, refl, inl, Ok}
 use Rattle.std.specs.Prelude.{◌||◌}
 use Rattle.std.specs.List.{flat_map}
 use Rattle.dict_io.specs.Streams.{PutsFront}

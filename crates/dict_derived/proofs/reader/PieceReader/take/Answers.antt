@@ -1,4 +1,4 @@
-use Rattle.std.proofs.Common.{◌≡◌, ◌↔◌, IsTrue, ℤ, false, true, List, [], ◌∷◌, ◌++◌, refl, ap, sym, ◌∙◌, subst, w64}
+use Rattle.std.proofs.Common.{◌↔◌, IsTrue, [], ◌∷◌, ◌++◌, refl, ap, sym, ◌∙◌, subst, w64}
 use Rattle.std.specs.Option.{IfSome}
 use Rattle.std.proofs.lemmas.Bool.{false≢true}
 use Rattle.std.proofs.lemmas.Int.{to_z-of_z}

@@ -1,4 +1,4 @@
-use Rattle.std.proofs.Common.{rules, arith}
+use Rattle.std.proofs.Common.{arith}
 use Rattle.dict_proto.proofs.GatheringLemmas.{piece_joined, piece_broken}
 use Rattle.dict_proto.proofs.gathered.Gathered.add_all.Goals as goal
 

@@ -1,7 +1,5 @@
-use Rattle.std.proofs.Common.{rules, ◌≡◌, ◌++◌, ℕ, List, Some, None, drop, take, length, sym, ap, ◌∙◌, subst, refl}
-use Rattle.matchit.specs.Seek.{first}
-use Rattle.dict_route.specs.Paths.{IsPath, HasName, before, after}
-use Rattle.dict_route.specs.Rows.{rows}
+use Rattle.std.proofs.Common.{◌≡◌, ◌++◌, ℕ, List, sym, ap, ◌∙◌, subst}
+use Rattle.dict_route.specs.Paths.{IsPath, after}
 use Rattle.dict_route.proofs.PathLemmas.{found_is, not_found, octets_of, same_rest, same_front}
 use Rattle.dict_route.proofs.finding.Routes.find.Goals as goal
 
