@@ -11,11 +11,11 @@ use Rattle.dict_desk.specs.Shown.{row}
 use Rattle.dict_desk.specs.declared.entries.OwnedEntry.{OwnedEntry}
 
 abbrev pub headword_of : OwnedEntry → List ℕ
-headword_of entry = string_bytes entry.headword
+headword_of entry = string_bytes entry.said.value.headword
 
 -- the line of the index that made the entry
 abbrev pub line_of : OwnedEntry → Line
-line_of entry = record { headword = headword_of entry; offset = entry.offset; size = entry.size }
+line_of entry = record { headword = headword_of entry; offset = entry.said.value.offset; size = entry.said.value.size }
 
 -- the entry, with the text that its interval cuts out
 abbrev pub entry_of : List ℕ → OwnedEntry → Entry

@@ -12,15 +12,21 @@ use dict_match::{Key, Strategy, matches};
 use std::alloc::{AllocError, Global};
 use std::collections::BTreeSet;
 
-/// An entry: where its text stands in that of its edition, the key of its headword, and whether it is the first entry
-/// with this headword.
+/// What a line of the index says: a headword, and where its text stands in that of its edition.
 #[derive(Drop)]
-pub(crate) struct OwnedEntry {
+pub(crate) struct Said {
     pub headword: String,
-    pub key: Key,
     pub offset: usize,
     pub size: usize,
+}
+
+/// An entry: the key of its headword, whether it is the first entry with this headword, and what its line says. The
+/// last is apart, so that keys, which are gone through for each query, lie near one another.
+#[derive(Drop)]
+pub(crate) struct OwnedEntry {
+    pub key: Key,
     pub is_first: bool,
+    pub said: Box<Said>,
 }
 
 // The entries, with memory of their own. Earlier headwords are looked up in a set in order.
@@ -47,12 +53,16 @@ fn owned_entry(alloc: Global, entry: &Entry, is_first: bool) -> Result<OwnedEntr
     ensures key { IfOk result HasItsKey }
     ensures mark { IfOk result (λ owned. owned.is_first ≡ is_first) }
 {
-    Ok(OwnedEntry {
-        headword: String::from_str(alloc, entry.headword)?,
-        key: entry.key.clone()?,
+    let headword = String::from_str(alloc, entry.headword)?;
+    let said = Said {
+        headword,
         offset: entry.offset,
         size: entry.size,
+    };
+    Ok(OwnedEntry {
+        key: entry.key.clone()?,
         is_first,
+        said: Box::new(alloc, said)?,
     })
 }
 
@@ -166,8 +176,8 @@ fn hand_entry<T: RowSink>(text: &[u8], entry: &OwnedEntry, sink: &mut T) -> Turn
     ensures more { result ≡ Turn.More → T.takes sink.old (entry_of text.now entry.now ∷ []) sink.new }
     ensures stop { result ≡ Turn.Stop → T.stops sink.old (entry_of text.now entry.now ∷ []) sink.new }
 {
-    let body = cut(text, entry.offset, entry.size);
-    sink.take(entry.headword.as_str(), body)
+    let body = cut(text, entry.said.offset, entry.said.size);
+    sink.take(entry.said.headword.as_str(), body)
 }
 
 // What an interval cuts out of a text, as far as the text goes.
@@ -204,5 +214,5 @@ fn hand_headword<T: RowSink>(entry: &OwnedEntry, sink: &mut T) -> Turn
     ensures more { result ≡ Turn.More → T.takes sink.old (row (headword_of entry.now) [] ∷ []) sink.new }
     ensures stop { result ≡ Turn.Stop → T.stops sink.old (row (headword_of entry.now) [] ∷ []) sink.new }
 {
-    sink.take(entry.headword.as_str(), b"")
+    sink.take(entry.said.headword.as_str(), b"")
 }
