@@ -1,5 +1,5 @@
 #!/usr/bin/env python3
-"""Pipes lines through `dictcat plain`, and prints requests a second and peak memory.
+"""Pipes lines through `dictcat plain`, and prints requests a second, by the clock and by the processor's time, and peak memory.
 
 Usage: bench/plain.py [MEGABYTES [PROGRAM..]]    (20, and the program of these sources, where nothing is given)
 
@@ -12,6 +12,7 @@ are compared in one run.
 
 import os
 import pathlib
+import resource
 import subprocess
 import sys
 import tempfile
@@ -60,9 +61,10 @@ def peak_of(pid):
 
 
 def measure(program, name, index, text, requests):
-    """Seconds, peak memory in KB, and octets of the answers."""
+    """Seconds by the clock and of the processor, peak memory in KB, and octets of the answers."""
     read_end, write_end = os.pipe()
     peak = 0
+    before = resource.getrusage(resource.RUSAGE_CHILDREN)
     with open(requests, "rb") as source:
         begin = time.monotonic()
         child = subprocess.Popen(
@@ -79,10 +81,12 @@ def measure(program, name, index, text, requests):
                 peak = max(peak, peak_of(child.pid))
         status = child.wait()
         seconds = time.monotonic() - begin
+    after = resource.getrusage(resource.RUSAGE_CHILDREN)
+    worked = after.ru_utime + after.ru_stime - before.ru_utime - before.ru_stime
     os.close(read_end)
     if status != 0:
         sys.exit(f"the program ended with {status}")
-    return seconds, peak, answered
+    return seconds, worked, peak, answered
 
 
 QUERIES = {
@@ -113,10 +117,11 @@ def small(programs, megabytes, folder):
             path = folder / "requests"
             count = make_requests(path, name, words, int(size * 1_000_000))
             for program in programs:
-                seconds, peak, answered = measure(program, name, index, text, path)
+                seconds, worked, peak, answered = measure(program, name, index, text, path)
                 print(
                     f"{name}: {size:g} MB, {count} requests in {seconds:.2f} s: "
-                    f"{count / seconds:,.0f} requests/s, {answered / 1e6:.0f} MB answered, peak {peak} KB",
+                    f"{count / seconds:,.0f} requests/s, {count / worked:,.0f} a processor's second, "
+                    f"{answered / 1e6:.0f} MB answered, peak {peak} KB",
                     flush=True,
                 )
 
@@ -127,15 +132,20 @@ def large(programs, count, folder):
     words = [TOP / "bench/make_database.py", "65536", "16000000", index, text]
     subprocess.run([sys.executable, *words], check=True)
     path.write_bytes(b"QUIT\r\n")
-    opened = [min(measure(program, "made", index, text, path)[0] for _ in range(3)) for program in programs]
+    opened = [
+        [min(times) for times in zip(*(measure(program, "made", index, text, path)[:2] for _ in range(3)))]
+        for program in programs
+    ]
     for what, line in QUERIES.items():
         numbers = [(i * 40_503) % 55_000 + 10_000 for i in range(count)]
         path.write_text("".join(line.format(number) + "\r\n" for number in numbers) + "QUIT\r\n")
-        for program, start in zip(programs, opened):
-            seconds, peak, answered = measure(program, "made", index, text, path)
+        for program, (start, start_worked) in zip(programs, opened):
+            seconds, worked, peak, answered = measure(program, "made", index, text, path)
+            seconds, worked = max(seconds - start, 0.001), max(worked - start_worked, 0.001)
             print(
-                f"65,536 lines: {what}: {count} requests in {seconds - start:.2f} s: "
-                f"{count / (seconds - start):,.0f} requests/s, {answered} octets answered, peak {peak} KB",
+                f"65,536 lines: {what}: {count} requests in {seconds:.2f} s: "
+                f"{count / seconds:,.0f} requests/s, {count / worked:,.0f} a processor's second, "
+                f"{answered} octets answered, peak {peak} KB",
                 flush=True,
             )
 
@@ -148,7 +158,7 @@ def main():
         programs = [found.stdout.strip()]
     with tempfile.TemporaryDirectory() as folder:
         small(programs, megabytes, pathlib.Path(folder))
-        large(programs, 300, pathlib.Path(folder))
+        large(programs, 1000, pathlib.Path(folder))
 
 
 main()
