@@ -1,0 +1,4 @@
+pub mod RecordLemmas
+pub mod StateLemmas
+pub mod HandLemmas
+pub mod StreamLemmas
