@@ -1,0 +1,156 @@
+-- What a command's change makes of the catalogue that a store holds.
+use Rattle.std.proofs.Common.{◌≡◌, ℕ, Bool, true, false, List, IsTrue, Option, Some, None, Result, Ok, Err, refl, sym, ap, subst, ◌∙◌}
+use Rattle.std.proofs.lemmas.Bool.{false≢true}
+use Rattle.sqlite.specs.Effect.{Database}
+use Rattle.sqlite.specs.Tree.{Trees}
+use Rattle.sqlite.specs.State.{State, HasCleanDisk, IsUnchanged}
+use Rattle.dict_index.specs.Edition.{Edition}
+use Rattle.dict_name.specs.Names.{is_request_id}
+use Rattle.dict_catalogue.specs.Commands.{Command}
+use Rattle.dict_catalogue.specs.Tests.{Holdings, refusal_of}
+use Rattle.dict_catalogue.specs.Effects.{KeptReply, effect, reply_to}
+use Rattle.dict_catalogue.specs.Steps.{Catalogue, Outcome, accepted, refused, holdings, summary_of, kept_under, with_effect, step}
+use Rattle.dict_catalogue.specs.Views.{command_shown, command_meant, IsChange}
+use Rattle.dict_catalogue.specs.WellFormed.{IsLawfulCommand}
+use Rattle.dict_catalogue.specs.declared.commands.Command as typed
+use Rattle.dict_catalogue.specs.declared.planning.Change.{Change as Planned}
+use Rattle.dict_catalogue.specs.declared.fault.Refusal.{Refusal}
+use Rattle.dict_catalogue.proofs.SummaryLemmas.{refusal_of_as, effect_with, reply_to_as}
+use Rattle.dict_desk.specs.declared.fault.Fault.{Fault}
+use Rattle.dict_desk.specs.declared.fault.Fault.TheVariants.{Refused, Memory, Disk, Closed, NotACatalogue, Damaged, NewerSchema}
+use Rattle.dict_rows.specs.After.{tables_after}
+use Rattle.dict_rows.proofs.ChangeLemmas.{after_stands}
+use Rattle.dict_file.specs.Holds.{Holds, Rests, IsLeft}
+use Rattle.dict_commands.specs.Kept.{Turns}
+use Rattle.dict_commands.specs.Changes.{change_by}
+use Rattle.dict_commands.specs.Decided.{IsDeclined, LiesWithin}
+use Rattle.dict_commands.specs.Committed.{IsCommitted, IsTreesOf, Stays, IsOfStore}
+use Rattle.dict_commands.specs.Answers.{Answers, HoldsBy, summary_after, IsOfShut}
+use Rattle.dict_commands.specs.declared.applied.Applied.{Applied}
+use Rattle.dict_commands.specs.declared.applied.Applied.TheVariants.{Before, Now}
+use Rattle.dict_commands.proofs.DecideLemmas.{change_is}
+
+-- ---- the cases of a step
+
+accepted_step : (M : Catalogue) (id : List ℕ) (command : Command Edition) → is_request_id id ≡ true → kept_under M.kept id ≡ None → refusal_of (holdings M) command ≡ None →
+    step M id command ≡ record { reply = accepted (reply_to command (effect command (holdings M))); catalogue = with_effect M id command }
+accepted_step M id command lawful new none = rw (lawful, new, none) refl
+
+refused_step : (M : Catalogue) (id : List ℕ) (command : Command Edition) (refusal : Refusal) → is_request_id id ≡ true → kept_under M.kept id ≡ None → refusal_of (holdings M) command ≡ Some refusal →
+    step M id command ≡ record { reply = refused refusal; catalogue = M }
+refused_step M id command refusal lawful new some = rw (lawful, new, some) refl
+
+pub kept_step : (M : Catalogue) (id : List ℕ) (command : Command Edition) (reply : KeptReply) → is_request_id id ≡ true → kept_under M.kept id ≡ Some reply → step M id command ≡ record { reply = accepted reply; catalogue = M }
+kept_step M id command reply lawful there = rw (lawful, there) refl
+
+same_refusal : (M : Catalogue) (command : typed.Command) → refusal_of (holdings M) (command_meant command) ≡ refusal_of (summary_of M) (command_shown command)
+same_refusal M command = sym (refusal_of_as (λ (edition : Edition). edition.title) (holdings M) (command_meant command))
+
+-- ---- a store that stays holds what it held
+
+pub rests_still : (old new : State) (M : Catalogue) → Stays old new → IsTrue new.is_open → Rests 1 old M → Rests 1 new M
+rests_still old new M stays lives rests = record {
+  is_open = lives;
+  settled = stays.settled lives rests.settled;
+  holds = subst (λ db. Holds 1 db M) (sym (stays.committed lives)) rests.holds;
+}
+
+pub rests_unchanged : (old new : State) (M : Catalogue) → IsUnchanged old new → Rests 1 old M → Rests 1 new M
+rests_unchanged old new M same rests = record {
+  is_open = same.0.is_open;
+  settled = same.0.now_is ∙ rests.settled ∙ sym same.0.committed_is;
+  holds = subst (λ db. Holds 1 db M) (sym same.0.committed_is) rests.holds;
+}
+
+pub holds_now : (s : State) (M : Catalogue) → Rests 1 s M → Holds 1 s.now M
+holds_now s M rests = subst (λ db. Holds 1 db M) (sym rests.settled) rests.holds
+
+pub declined_answers : (s : State) (M : Catalogue) (id : List ℕ) (command : typed.Command) (summary : Holdings (List ℕ)) (fault : Fault) → is_request_id id ≡ true → kept_under M.kept id ≡ None → summary_of M ≡ summary
+    → IsDeclined summary (command_shown command) fault → Rests 1 s M → Answers s M id (step M id (command_meant command)) (Err fault)
+declined_answers s M id command summary (Refused refusal) lawful new is h rests =
+    (refused_step M id (command_meant command) refusal lawful new (same_refusal M command ∙ ap (λ (b : Holdings (List ℕ)). refusal_of b (command_shown command)) is ∙ h), rests)
+declined_answers s M id command summary Memory lawful new is h rests = λ lives. rests
+declined_answers s M id command summary Disk lawful new is h rests = absurd h
+declined_answers s M id command summary Closed lawful new is h rests = absurd h
+declined_answers s M id command summary NotACatalogue lawful new is h rests = absurd h
+declined_answers s M id command summary Damaged lawful new is h rests = absurd h
+declined_answers s M id command summary NewerSchema lawful new is h rests = absurd h
+
+pub failed_answers : (old new : State) (M : Catalogue) (id : List ℕ) (outcome : Outcome) (fault : Fault) → IsOfStore fault → Stays old new → Rests 1 old M → Answers new M id outcome (Err fault)
+failed_answers old new M id outcome (Refused refusal) h stays rests = absurd h
+failed_answers old new M id outcome Memory h stays rests = λ lives. rests_still old new M stays lives rests
+failed_answers old new M id outcome Disk h stays rests = λ lives. rests_still old new M stays lives rests
+failed_answers old new M id outcome Closed h stays rests = absurd h
+failed_answers old new M id outcome NotACatalogue h stays rests = absurd h
+failed_answers old new M id outcome Damaged h stays rests = absurd h
+failed_answers old new M id outcome NewerSchema h stays rests = absurd h
+
+-- ---- a store that is shut
+
+pub store_shut : (id : List ℕ) (fault : Fault) → IsOfStore fault → IsOfShut id (Err fault)
+store_shut id (Refused refusal) h = absurd h
+store_shut id Memory h = tt
+store_shut id Disk h = tt
+store_shut id Closed h = absurd h
+store_shut id NotACatalogue h = absurd h
+store_shut id Damaged h = absurd h
+store_shut id NewerSchema h = absurd h
+
+pub not_shut : {A : Type 0} (is_open : Bool) → IsTrue is_open → is_open ≡ false → A
+not_shut is_open live shut = absurd (false≢true (sym shut ∙ live))
+
+-- ---- the change is made
+
+module _ (M : Catalogue) (id : List ℕ) (command : typed.Command) (planned : Planned) (summary : Holdings (List ℕ)) (lawful : is_request_id id ≡ true) (new : kept_under M.kept id ≡ None) (is : summary_of M ≡ summary)
+    (change : IsChange summary (command_shown command) planned) (allowed : IsLawfulCommand (command_meant command)) (lies : LiesWithin command) where
+  planned_here : IsChange (summary_of M) (command_shown command) planned
+  planned_here = subst (λ (b : Holdings (List ℕ)). IsChange b (command_shown command) planned) (sym is) change
+
+  none_refused : refusal_of (holdings M) (command_meant command) ≡ None
+  none_refused = same_refusal M command ∙ planned_here.0
+
+  acted : step M id (command_meant command) ≡ record { reply = accepted (reply_to (command_meant command) (effect (command_meant command) (holdings M))); catalogue = with_effect M id (command_meant command) }
+  acted = accepted_step M id (command_meant command) lawful new none_refused
+
+  pub holds_after : (old db : Database) → Holds 1 old M → Turns (tables_after 1 (change_by id command planned)) old db → Holds 1 db (step M id (command_meant command)).catalogue
+  holds_after old db h turns =
+      let it = turns h.tables (record { own = h.own; keeps = h.keeps }) in
+      subst (λ (o : Outcome). Holds 1 db o.catalogue) (sym acted) (record {
+        own = it.own;
+        tables = tables_after 1 (change_by id command planned) h.tables;
+        keeps = it.keeps;
+        stands = after_stands 1 h.tables M id (command_meant command) (change_by id command planned) h.stands allowed lawful new none_refused (change_is M id command planned planned_here.1 lies);
+      })
+
+  pub left_after : (old : State) (trees : Trees) → Rests 1 old M → IsTreesOf (Turns (tables_after 1 (change_by id command planned)) old.now) trees → IsLeft 1 (step M id (command_meant command)).catalogue trees
+  left_after old trees rests it = (it.0, it.1, it.2, holds_after old.now it.0 (holds_now old M rests) it.3)
+
+  pub acted_answers : (old now : State) → Rests 1 old M → IsCommitted (Turns (tables_after 1 (change_by id command planned)) old.now) now
+      → Answers now M id (step M id (command_meant command)) (Rattle.std.proofs.Common.Ok (Now planned.kept planned.summary))
+  acted_answers old now rests done = (
+    new,
+    ap (λ (o : Outcome). o.reply) acted ∙ ap accepted (sym (planned_here.1.kept ∙ reply_to_as (λ (edition : Edition). edition.title) (command_meant command) (holdings M))),
+    ap (λ (o : Outcome). summary_of o.catalogue) acted ∙ sym (planned_here.1.after ∙ effect_with M id (command_meant command)),
+    record { is_open = done.is_open; settled = done.settled; holds = holds_after old.now now.committed (holds_now old M rests) done.holds },
+    λ trees left. left_after old trees rests (done.only trees left),
+  )
+
+-- ---- what the next command needs
+
+answered_by : (new : State) (M : Catalogue) (id : List ℕ) (outcome : Outcome) (summary : Holdings (List ℕ)) (result : Result Applied Fault) → IsTrue new.is_open → summary_of M ≡ summary → Answers new M id outcome result
+    → (N : Catalogue) × Rests 1 new N × (summary_of N ≡ summary_after summary result)
+answered_by new M id outcome summary (Ok (Before kept)) lives is h = (M, h.2, is)
+answered_by new M id outcome summary (Ok (Now kept after)) lives is h = (outcome.catalogue, h.3, h.2)
+answered_by new M id outcome summary (Err (Refused refusal)) lives is h = (M, h.1, is)
+answered_by new M id outcome summary (Err Memory) lives is h = (M, h lives, is)
+answered_by new M id outcome summary (Err Disk) lives is h = (M, h lives, is)
+answered_by new M id outcome summary (Err Closed) lives is h = absurd h
+answered_by new M id outcome summary (Err NotACatalogue) lives is h = absurd h
+answered_by new M id outcome summary (Err Damaged) lives is h = absurd h
+answered_by new M id outcome summary (Err NewerSchema) lives is h = absurd h
+
+pub holds_again : (summary : Holdings (List ℕ)) (id : List ℕ) (command : Command Edition) (old new : State) (result : Result Applied Fault) → HoldsBy summary old → (HasCleanDisk new → HasCleanDisk old) → (HasCleanDisk new → IsTrue new.is_open → IsTrue old.is_open)
+    → (HasCleanDisk new → (M : Catalogue) → Rests 1 old M → summary_of M ≡ summary → Answers new M id (step M id command) result) → HoldsBy (summary_after summary result) new
+holds_again summary id command old new result holds early was value = λ clean lives.
+    let it = holds (early clean) (was clean lives) in
+    answered_by new it.0 id (step it.0 id command) summary result lives it.2 (value clean it.0 it.1 it.2)

@@ -1,0 +1,59 @@
+use Rattle.std.proofs.Common.{◌≡◌, rules, sym, ap, subst, ◌∙◌}
+use Rattle.sqlite.specs.Effect.{Database, IsDatabase}
+use Rattle.sqlite.specs.State.{HasCleanDisk, Survives}
+use Rattle.sqlite.specs.Held.{state}
+use Rattle.dict_rows.specs.After.{tables_after}
+use Rattle.dict_file.proofs.CommitLemmas.{leaves, done, only_left}
+use Rattle.dict_commands.specs.Kept.{Turns}
+use Rattle.dict_commands.specs.Changes.{change_by}
+use Rattle.dict_commands.specs.Committed.{IsCommitted, IsTreesOf}
+use Rattle.dict_commands.proofs.committing.commit_change.Goals as goal
+
+pub returns-in-Ok-clause-made : goal.returns-in-Ok-clause-made
+returns-in-Ok-clause-made g c clean =
+    let old = c.args.conn.now in
+    let begun = c.transaction-tx.result.conn.now in
+    let mid = c.write_all.new.tx.conn.now in
+    let end = c.commit.new.tx.0 in
+    let same : end ≡ c.conn-2-1.given.0 = search rules in
+    let f = tables_after 1 (change_by c.args.id.now c.args.command.now c.args.change.now) in
+    let made : HasCleanDisk (state g.S.Store mid) → Turns f (state g.S.Store old).now (state g.S.Store mid).now × IsDatabase (state g.S.Store mid).now =
+    λ clean. (subst (λ d. Turns f d (state g.S.Store mid).now) (ap (λ h. (state g.S.Store h).now) c.transaction-tx.ensures.begun) (c.in_default.ensures.made clean).0, (c.in_default.ensures.made clean).1) in
+    let late : HasCleanDisk (state g.S.Store end) = search rules in
+    let shown = (c.in-Ok.ensures.committed late).1 in
+    let P = λ (db : Database). Turns f (state g.S.Store old).now db in
+    let settled : IsCommitted P (state g.S.Store end) = record {
+      is_open = shown.is_open;
+      settled = shown.now_is ∙ sym shown.committed_is;
+      holds = done g.S.Store old begun mid end P c.transaction-tx.ensures.begun c.write_all.ensures.survives c.commit.ensures.survives made late shown;
+      only = only_left g.S.Store old begun mid end P c.transaction-tx.ensures.begun c.write_all.ensures.survives c.commit.ensures.survives made late shown (c.in-Ok.ensures.only late);
+    } in
+    subst (λ h. IsCommitted P (state g.S.Store h)) same settled
+
+pub returns-in-Ok-clause-crash : goal.returns-in-Ok-clause-crash
+returns-in-Ok-clause-crash g c =
+    let old = c.args.conn.now in
+    let begun = c.transaction-tx.result.conn.now in
+    let mid = c.write_all.new.tx.conn.now in
+    let end = c.commit.new.tx.0 in
+    let same : end ≡ c.conn-2-1.given.0 = search rules in
+    let f = tables_after 1 (change_by c.args.id.now c.args.command.now c.args.change.now) in
+    let made : HasCleanDisk (state g.S.Store mid) → Turns f (state g.S.Store old).now (state g.S.Store mid).now × IsDatabase (state g.S.Store mid).now =
+    λ clean. (subst (λ d. Turns f d (state g.S.Store mid).now) (ap (λ h. (state g.S.Store h).now) c.transaction-tx.ensures.begun) (c.in_default.ensures.made clean).0, (c.in_default.ensures.made clean).1) in
+    let P = λ (db : Database). Turns f (state g.S.Store old).now db in
+    let there = leaves g.S.Store old begun mid end P c.transaction-tx.ensures.begun c.write_all.ensures.survives c.commit.ensures.survives made in
+    subst (λ h. Survives (state g.S.Store old) (state g.S.Store h) (IsTreesOf P)) same there
+
+pub returns-in-Err-commit-clause-crash : goal.returns-in-Err-commit-clause-crash
+returns-in-Err-commit-clause-crash g c =
+    let old = c.args.conn.now in
+    let begun = c.transaction-tx.result.conn.now in
+    let mid = c.write_all.new.tx.conn.now in
+    let end = c.commit.new.tx.0 in
+    let same : end ≡ c.conn-2-1.given.0 = search rules in
+    let f = tables_after 1 (change_by c.args.id.now c.args.command.now c.args.change.now) in
+    let made : HasCleanDisk (state g.S.Store mid) → Turns f (state g.S.Store old).now (state g.S.Store mid).now × IsDatabase (state g.S.Store mid).now =
+    λ clean. (subst (λ d. Turns f d (state g.S.Store mid).now) (ap (λ h. (state g.S.Store h).now) c.transaction-tx.ensures.begun) (c.in_default.ensures.made clean).0, (c.in_default.ensures.made clean).1) in
+    let P = λ (db : Database). Turns f (state g.S.Store old).now db in
+    let there = leaves g.S.Store old begun mid end P c.transaction-tx.ensures.begun c.write_all.ensures.survives c.commit.ensures.survives made in
+    subst (λ h. Survives (state g.S.Store old) (state g.S.Store h) (IsTreesOf P)) same there

@@ -1,0 +1,27 @@
+use Rattle.std.proofs.Common.{subst, arith, take, ◌++◌, map, ◌∙◌, ◌<◌, length}
+use Rattle.std.proofs.lemmas.List.{take_all}
+use Rattle.dict_sql.specs.Effects.{seen}
+use Rattle.dict_index.specs.Views.{line_of}
+use Rattle.dict_rows.specs.Written.{numbered, entry_record}
+use Rattle.dict_commands.specs.Kept.{HasRecords}
+use Rattle.dict_commands.proofs.LoopLemmas.{clean_before, keeps_then, none_then, numbered_next}
+use Rattle.dict_commands.proofs.editions.add_entries.Goals as goal
+
+pub loop-ord-preserved : goal.loop-ord-preserved
+loop-ord-preserved g c =
+    let first = seen g.S.Store c.args.tx.now in
+    let mid = seen g.S.Store c.loop-ord.tx in
+    let new = seen g.S.Store c.add_entry.new.tx in
+    let low : c.loop-ord.ord < length c.args.entries.now = omega arith in
+    record {
+      same_reference = c.add_entry.ensures.same_reference ∙ c.loop-ord.invariant.same_reference;
+      turns = λ clean tables it. subst (λ l. HasRecords new.now (record tables { entries = l })) (numbered_next line_of c.args.entries.now c.loop-ord.ord c.index-entries-ord.result low c.index-entries-ord.is (entry_record c.args.number) tables.entries)
+          (c.in_ok-add_entry.ensures.turns clean (record tables { entries = tables.entries ++ numbered (entry_record c.args.number) 0 (map line_of (take c.loop-ord.ord c.args.entries.now)) }) (c.loop-ord.invariant.turns (clean_before mid new c.add_entry.ensures.survives clean) tables it));
+      usable = c.in_ok-add_entry.ensures.usable;
+      keeps = λ clean. keeps_then first mid new (c.loop-ord.invariant.keeps (clean_before mid new c.add_entry.ensures.survives clean)) (c.add_entry.ensures.keeps clean);
+      survives = none_then first mid new c.loop-ord.invariant.survives c.add_entry.ensures.survives;
+    }
+
+pub returns-clause-turns : goal.returns-clause-turns
+returns-clause-turns g c = λ clean tables it.
+    subst (λ l. HasRecords (seen g.S.Store c.loop-ord.tx).now (record tables { entries = tables.entries ++ numbered (entry_record c.args.number) 0 (map line_of l) })) (take_all c.loop-ord.ord c.args.entries.now (omega arith)) (c.loop-ord.invariant.turns clean tables it)

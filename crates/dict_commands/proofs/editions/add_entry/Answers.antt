@@ -1,0 +1,17 @@
+use Rattle.std.proofs.Common.{codes, subst}
+use Rattle.dict_sql.specs.Effects.{seen, IsAdded}
+use Rattle.dict_sql.specs.Encodings.{entry_row}
+use Rattle.dict_records.specs.Records.{Entry}
+use Rattle.dict_commands.proofs.TableLemmas.{entry_added}
+use Rattle.dict_commands.proofs.LoopLemmas.{usable_then}
+use Rattle.dict_commands.proofs.editions.add_entry.Goals as goal
+
+pub returns-clause-turns : goal.returns-clause-turns
+returns-clause-turns g c = λ clean.
+    let old = seen g.S.Store c.args.tx.now in
+    let new = seen g.S.Store c.insert_entry.new.tx in
+    entry_added old.now new.now _ (subst (λ (r : Entry). IsAdded (codes "entry") (entry_row r) old.now new.now) c.entry_row-row.ensures (c.in_ok-insert_entry.ensures.added clean).0)
+
+pub returns-clause-usable : goal.returns-clause-usable
+returns-clause-usable g c =
+    usable_then (seen g.S.Store c.args.tx.now) (seen g.S.Store c.insert_entry.new.tx) c.requires.usable c.insert_entry.ensures.survives (λ clean. (c.in_ok-insert_entry.ensures.added clean).1.was_open) (returns-clause-turns g c)

@@ -1,0 +1,13 @@
+use Rattle.dict_sql.specs.Effects.{seen}
+use Rattle.std.proofs.Common.{filter, not, [], ◌∷◌}
+use Rattle.dict_rows.specs.After.{is_gone}
+use Rattle.dict_commands.proofs.LoopLemmas.{clean_before, none_then}
+use Rattle.dict_commands.proofs.editions.take_edition.Goals as goal
+
+pub returns-clause-turns : goal.returns-clause-turns
+returns-clause-turns g c = λ clean tables it.
+    c.in_ok-take_row.ensures.turns clean (record tables { entries = filter (λ row. not (is_gone (c.args.number ∷ []) row.edition)) tables.entries })
+    (c.in_ok-take_entries.ensures.turns (clean_before (seen g.S.Store c.take_entries.new.tx) (seen g.S.Store c.take_row.new.tx) c.take_row.ensures.survives clean) tables it)
+
+pub returns-clause-survives : goal.returns-clause-survives
+returns-clause-survives g c = none_then (seen g.S.Store c.args.tx.now) (seen g.S.Store c.take_entries.new.tx) (seen g.S.Store c.take_row.new.tx) c.take_entries.ensures.survives c.take_row.ensures.survives

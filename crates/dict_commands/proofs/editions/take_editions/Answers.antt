@@ -1,0 +1,35 @@
+use Rattle.std.proofs.Common.{subst, take, refl, ◌∙◌}
+use Rattle.std.proofs.lemmas.List.{take_all}
+use Rattle.dict_sql.specs.Effects.{seen}
+use Rattle.dict_commands.specs.Kept.{HasRecords}
+use Rattle.dict_commands.specs.Changes.{without_editions}
+use Rattle.dict_commands.proofs.GoneLemmas.{none_gone, next_gone}
+use Rattle.dict_commands.proofs.LoopLemmas.{clean_before, keeps_then, keeps_all, none_then, none_more}
+use Rattle.dict_commands.proofs.editions.take_editions.Goals as goal
+
+pub each-init : goal.each-init
+each-init g c = record {
+  same_reference = refl;
+  turns = λ clean tables it. none_gone (seen g.S.Store c.args.tx.now).now tables it;
+  usable = c.requires.usable;
+  keeps = λ clean. keeps_all (seen g.S.Store c.args.tx.now);
+  survives = none_more (seen g.S.Store c.args.tx.now);
+}
+
+pub each-preserved : goal.each-preserved
+each-preserved g c =
+    let first = seen g.S.Store c.args.tx.now in
+    let mid = seen g.S.Store c.each.tx in
+    let new = seen g.S.Store c.take_edition.new.tx in
+    record {
+      same_reference = c.take_edition.ensures.same_reference ∙ c.each.invariant.same_reference;
+      turns = λ clean tables it. next_gone new.now c.args.gone.now c.each.number-index c.each-test.true tables
+          (c.in_ok-take_edition.ensures.turns clean (without_editions (take c.each.number-index c.args.gone.now) tables) (c.each.invariant.turns (clean_before mid new c.take_edition.ensures.survives clean) tables it));
+      usable = c.in_ok-take_edition.ensures.usable;
+      keeps = λ clean. keeps_then first mid new (c.each.invariant.keeps (clean_before mid new c.take_edition.ensures.survives clean)) (c.take_edition.ensures.keeps clean);
+      survives = none_then first mid new c.each.invariant.survives c.take_edition.ensures.survives;
+    }
+
+pub returns-clause-turns : goal.returns-clause-turns
+returns-clause-turns g c = λ clean tables it.
+    subst (λ l. HasRecords (seen g.S.Store c.each.tx).now (without_editions l tables)) (take_all c.each.number-index c.args.gone.now c.each-test.false) (c.each.invariant.turns clean tables it)

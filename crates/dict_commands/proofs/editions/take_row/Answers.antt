@@ -1,0 +1,15 @@
+use Rattle.std.proofs.Common.{codes, subst}
+use Rattle.dict_sql.specs.Effects.{seen, IsRemoved, equals_number}
+use Rattle.dict_commands.proofs.GoneLemmas.{handed, edition_gone}
+use Rattle.dict_commands.proofs.LoopLemmas.{usable_then}
+use Rattle.dict_commands.proofs.editions.take_row.Goals as goal
+
+pub returns-clause-turns : goal.returns-clause-turns
+returns-clause-turns g c = λ clean.
+    let old = seen g.S.Store c.args.tx.now in
+    let new = seen g.S.Store c.delete_edition.new.tx in
+    edition_gone old.now new.now c.args.number (subst (λ n. IsRemoved (codes "edition") (equals_number 1 n) old.now new.now) (handed c.args.number c.requires.number) (c.in_ok-delete_edition.ensures.removed clean).0)
+
+pub returns-clause-usable : goal.returns-clause-usable
+returns-clause-usable g c =
+    usable_then (seen g.S.Store c.args.tx.now) (seen g.S.Store c.delete_edition.new.tx) c.requires.usable c.delete_edition.ensures.survives (λ clean. (c.in_ok-delete_edition.ensures.removed clean).1.was_open) (returns-clause-turns g c)

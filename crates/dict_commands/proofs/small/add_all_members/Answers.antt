@@ -1,0 +1,29 @@
+use Rattle.std.proofs.Common.{subst, arith, take, ◌++◌, map, ◌∙◌, ◌<◌, length}
+use Rattle.std.proofs.lemmas.List.{take_all}
+use Rattle.dict_sql.specs.Effects.{seen}
+use Rattle.dict_catalogue.specs.Views.{item_shown}
+use Rattle.dict_catalogue.specs.Items.{name_of, members_of}
+use Rattle.dict_rows.specs.Written.{numbered, member_record}
+use Rattle.dict_rows.specs.After.{all_members}
+use Rattle.dict_commands.specs.Kept.{HasRecords}
+use Rattle.dict_commands.proofs.LoopLemmas.{clean_before, keeps_then, none_then, joined_next}
+use Rattle.dict_commands.proofs.small.add_all_members.Goals as goal
+
+pub each-preserved : goal.each-preserved
+each-preserved g c =
+    let first = seen g.S.Store c.args.tx.now in
+    let mid = seen g.S.Store c.each.tx in
+    let new = seen g.S.Store c.add_members_of.new.tx in
+    let low : c.each.item-index < length c.args.items.now = omega arith in
+    record {
+      same_reference = c.add_members_of.ensures.same_reference ∙ c.each.invariant.same_reference;
+      turns = λ clean tables it. subst (λ l. HasRecords new.now (record tables { members = l })) (joined_next item_shown c.args.items.now c.each.item-index c.item-item.result low c.item-item.is (λ item. numbered (member_record (name_of item)) 0 (members_of item)) tables.members)
+          (c.in_ok-add_members_of.ensures.turns clean (record tables { members = tables.members ++ all_members (map item_shown (take c.each.item-index c.args.items.now)) }) (c.each.invariant.turns (clean_before mid new c.add_members_of.ensures.survives clean) tables it));
+      usable = c.in_ok-add_members_of.ensures.usable;
+      keeps = λ clean. keeps_then first mid new (c.each.invariant.keeps (clean_before mid new c.add_members_of.ensures.survives clean)) (c.add_members_of.ensures.keeps clean);
+      survives = none_then first mid new c.each.invariant.survives c.add_members_of.ensures.survives;
+    }
+
+pub returns-clause-turns : goal.returns-clause-turns
+returns-clause-turns g c = λ clean tables it.
+    subst (λ l. HasRecords (seen g.S.Store c.each.tx).now (record tables { members = tables.members ++ all_members (map item_shown l) })) (take_all c.each.item-index c.args.items.now c.each-test.false) (c.each.invariant.turns clean tables it)

@@ -1,0 +1,17 @@
+use Rattle.std.proofs.Common.{codes, subst}
+use Rattle.dict_sql.specs.Effects.{seen, IsAdded}
+use Rattle.dict_sql.specs.Encodings.{item_row}
+use Rattle.dict_records.specs.Records.{Item}
+use Rattle.dict_commands.proofs.TableLemmas.{item_added}
+use Rattle.dict_commands.proofs.LoopLemmas.{usable_then}
+use Rattle.dict_commands.proofs.small.add_item.Goals as goal
+
+pub returns-clause-turns : goal.returns-clause-turns
+returns-clause-turns g c = λ clean.
+    let old = seen g.S.Store c.args.tx.now in
+    let new = seen g.S.Store c.insert_item.new.tx in
+    item_added old.now new.now _ (subst (λ (r : Item). IsAdded (codes "item") (item_row r) old.now new.now) c.item_row-row.ensures (c.in_ok-insert_item.ensures.added clean).0)
+
+pub returns-clause-usable : goal.returns-clause-usable
+returns-clause-usable g c =
+    usable_then (seen g.S.Store c.args.tx.now) (seen g.S.Store c.insert_item.new.tx) c.requires.usable c.insert_item.ensures.survives (λ clean. (c.in_ok-insert_item.ensures.added clean).1.was_open) (returns-clause-turns g c)

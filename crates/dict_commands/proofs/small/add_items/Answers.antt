@@ -1,0 +1,27 @@
+use Rattle.std.proofs.Common.{subst, arith, take, ◌++◌, map, ◌∙◌, ◌<◌, length}
+use Rattle.std.proofs.lemmas.List.{take_all}
+use Rattle.dict_sql.specs.Effects.{seen}
+use Rattle.dict_catalogue.specs.Views.{item_shown}
+use Rattle.dict_rows.specs.Written.{numbered, item_record}
+use Rattle.dict_commands.specs.Kept.{HasRecords}
+use Rattle.dict_commands.proofs.LoopLemmas.{clean_before, keeps_then, none_then, numbered_next}
+use Rattle.dict_commands.proofs.small.add_items.Goals as goal
+
+pub loop-place-preserved : goal.loop-place-preserved
+loop-place-preserved g c =
+    let first = seen g.S.Store c.args.tx.now in
+    let mid = seen g.S.Store c.loop-place.tx in
+    let new = seen g.S.Store c.add_item.new.tx in
+    let low : c.loop-place.place < length c.args.items.now = omega arith in
+    record {
+      same_reference = c.add_item.ensures.same_reference ∙ c.loop-place.invariant.same_reference;
+      turns = λ clean tables it. subst (λ l. HasRecords new.now (record tables { items = l })) (numbered_next item_shown c.args.items.now c.loop-place.place c.index-items-place.result low c.index-items-place.is item_record tables.items)
+          (c.in_ok-add_item.ensures.turns clean (record tables { items = tables.items ++ numbered item_record 0 (map item_shown (take c.loop-place.place c.args.items.now)) }) (c.loop-place.invariant.turns (clean_before mid new c.add_item.ensures.survives clean) tables it));
+      usable = c.in_ok-add_item.ensures.usable;
+      keeps = λ clean. keeps_then first mid new (c.loop-place.invariant.keeps (clean_before mid new c.add_item.ensures.survives clean)) (c.add_item.ensures.keeps clean);
+      survives = none_then first mid new c.loop-place.invariant.survives c.add_item.ensures.survives;
+    }
+
+pub returns-clause-turns : goal.returns-clause-turns
+returns-clause-turns g c = λ clean tables it.
+    subst (λ l. HasRecords (seen g.S.Store c.loop-place.tx).now (record tables { items = tables.items ++ numbered item_record 0 (map item_shown l) })) (take_all c.loop-place.place c.args.items.now (omega arith)) (c.loop-place.invariant.turns clean tables it)

@@ -1,0 +1,17 @@
+use Rattle.std.proofs.Common.{codes, subst}
+use Rattle.dict_sql.specs.Effects.{seen, IsAdded}
+use Rattle.dict_sql.specs.Encodings.{member_row}
+use Rattle.dict_records.specs.Records.{Member}
+use Rattle.dict_commands.proofs.TableLemmas.{member_added}
+use Rattle.dict_commands.proofs.LoopLemmas.{usable_then}
+use Rattle.dict_commands.proofs.small.add_member.Goals as goal
+
+pub returns-clause-turns : goal.returns-clause-turns
+returns-clause-turns g c = λ clean.
+    let old = seen g.S.Store c.args.tx.now in
+    let new = seen g.S.Store c.insert_member.new.tx in
+    member_added old.now new.now _ (subst (λ (r : Member). IsAdded (codes "member") (member_row r) old.now new.now) c.member_row-row.ensures (c.in_ok-insert_member.ensures.added clean).0)
+
+pub returns-clause-usable : goal.returns-clause-usable
+returns-clause-usable g c =
+    usable_then (seen g.S.Store c.args.tx.now) (seen g.S.Store c.insert_member.new.tx) c.requires.usable c.insert_member.ensures.survives (λ clean. (c.in_ok-insert_member.ensures.added clean).1.was_open) (returns-clause-turns g c)

@@ -1,0 +1,28 @@
+use Rattle.std.proofs.Common.{subst, arith, take, ◌++◌, ◌∙◌, ◌<◌, length}
+use Rattle.std.proofs.lemmas.List.{take_all}
+use Rattle.dict_sql.specs.Effects.{seen}
+use Rattle.dict_catalogue.specs.Views.{texts_shown}
+use Rattle.std.proofs.Common.{string_bytes}
+use Rattle.dict_rows.specs.Written.{numbered, member_record}
+use Rattle.dict_commands.specs.Kept.{HasRecords}
+use Rattle.dict_commands.proofs.LoopLemmas.{clean_before, keeps_then, none_then, numbered_next}
+use Rattle.dict_commands.proofs.small.add_members.Goals as goal
+
+pub loop-ord-preserved : goal.loop-ord-preserved
+loop-ord-preserved g c =
+    let first = seen g.S.Store c.args.tx.now in
+    let mid = seen g.S.Store c.loop-ord.tx in
+    let new = seen g.S.Store c.add_member.new.tx in
+    let low : c.loop-ord.ord < length c.args.members.now = omega arith in
+    record {
+      same_reference = c.add_member.ensures.same_reference ∙ c.loop-ord.invariant.same_reference;
+      turns = λ clean tables it. subst (λ l. HasRecords new.now (record tables { members = l })) (numbered_next string_bytes c.args.members.now c.loop-ord.ord c.index-members-ord.result low c.index-members-ord.is (member_record c.args.owner.now) tables.members)
+          (rw c.deref.ensures at (c.in_ok-add_member.ensures.turns clean (record tables { members = tables.members ++ numbered (member_record c.args.owner.now) 0 (texts_shown (take c.loop-ord.ord c.args.members.now)) }) (c.loop-ord.invariant.turns (clean_before mid new c.add_member.ensures.survives clean) tables it)));
+      usable = c.in_ok-add_member.ensures.usable;
+      keeps = λ clean. keeps_then first mid new (c.loop-ord.invariant.keeps (clean_before mid new c.add_member.ensures.survives clean)) (c.add_member.ensures.keeps clean);
+      survives = none_then first mid new c.loop-ord.invariant.survives c.add_member.ensures.survives;
+    }
+
+pub returns-clause-turns : goal.returns-clause-turns
+returns-clause-turns g c = λ clean tables it.
+    subst (λ l. HasRecords (seen g.S.Store c.loop-ord.tx).now (record tables { members = tables.members ++ numbered (member_record c.args.owner.now) 0 (texts_shown l) })) (take_all c.loop-ord.ord c.args.members.now (omega arith)) (c.loop-ord.invariant.turns clean tables it)

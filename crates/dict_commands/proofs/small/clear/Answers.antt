@@ -1,0 +1,14 @@
+use Rattle.dict_sql.specs.Effects.{seen}
+use Rattle.dict_commands.proofs.TableLemmas.{usable_to_remove, all_cleared}
+use Rattle.dict_commands.proofs.LoopLemmas.{usable_then}
+use Rattle.dict_commands.proofs.small.clear.Goals as goal
+
+pub clear_table-requires : goal.clear_table-requires
+clear_table-requires g c = λ clean lives. usable_to_remove c.args.table (seen g.S.Store c.args.tx.now).now (c.requires clean lives)
+
+pub returns-clause-turns : goal.returns-clause-turns
+returns-clause-turns g c = λ clean. all_cleared c.args.table (seen g.S.Store c.args.tx.now).now (seen g.S.Store c.clear_table.new.tx).now (c.in_ok-clear_table.ensures.removed clean).0
+
+pub returns-clause-usable : goal.returns-clause-usable
+returns-clause-usable g c =
+    usable_then (seen g.S.Store c.args.tx.now) (seen g.S.Store c.clear_table.new.tx) c.requires c.clear_table.ensures.survives (λ clean. (c.in_ok-clear_table.ensures.removed clean).1.was_open) (returns-clause-turns g c)

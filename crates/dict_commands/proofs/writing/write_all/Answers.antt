@@ -1,0 +1,39 @@
+use Rattle.std.proofs.Common.{map}
+use Rattle.sqlite.specs.State.{HasCleanDisk}
+use Rattle.dict_sql.specs.Effects.{seen}
+use Rattle.dict_catalogue.specs.Views.{item_shown}
+use Rattle.dict_commands.specs.Changes.{with_mark, with_items, with_members, without_editions, with_installed, installed_by}
+use Rattle.dict_commands.proofs.LoopLemmas.{clean_before, none_then}
+use Rattle.dict_commands.proofs.writing.write_all.Goals as goal
+
+pub returns-in_err-add_reply-clause-survives : goal.returns-in_err-add_reply-clause-survives
+returns-in_err-add_reply-clause-survives g c =
+    let first = seen g.S.Store c.args.tx.now in
+    let one = seen g.S.Store c.write_summary.new.tx in
+    let two = seen g.S.Store c.write_editions.new.tx in
+    let new = seen g.S.Store c.add_reply.new.tx in
+    none_then first two new (none_then first one two c.write_summary.ensures.survives c.write_editions.ensures.survives) c.add_reply.ensures.survives
+
+pub returns-clause-made : goal.returns-clause-made
+returns-clause-made g c = λ clean.
+    let one = seen g.S.Store c.write_summary.new.tx in
+    let two = seen g.S.Store c.write_editions.new.tx in
+    let new = seen g.S.Store c.add_reply.new.tx in
+    let late : HasCleanDisk two = clean_before two new c.add_reply.ensures.survives clean in
+    let items = map item_shown c.args.change.now.summary.items.items in (
+      λ tables it.
+          let first = with_members items (with_items items (with_mark c.args.change.now.summary.installs tables)) in
+          rw c.deref.ensures.value at
+          (c.in_ok-add_reply.ensures.turns clean (with_installed (installed_by c.args.change.now.summary.installs c.args.command.now) (without_editions c.deref.result.now first))
+          (c.in_ok-write_editions.ensures.turns late first
+          (c.in_ok-write_summary.ensures.turns (clean_before one two c.write_editions.ensures.survives late) tables it))),
+      c.in_ok-add_reply.ensures.sound clean,
+    )
+
+pub returns-clause-survives : goal.returns-clause-survives
+returns-clause-survives g c =
+    let first = seen g.S.Store c.args.tx.now in
+    let one = seen g.S.Store c.write_summary.new.tx in
+    let two = seen g.S.Store c.write_editions.new.tx in
+    let new = seen g.S.Store c.add_reply.new.tx in
+    none_then first two new (none_then first one two c.write_summary.ensures.survives c.write_editions.ensures.survives) c.add_reply.ensures.survives

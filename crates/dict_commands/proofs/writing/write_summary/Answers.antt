@@ -1,0 +1,35 @@
+use Rattle.std.proofs.Common.{map}
+use Rattle.sqlite.specs.State.{HasCleanDisk}
+use Rattle.dict_sql.specs.Effects.{seen}
+use Rattle.dict_catalogue.specs.Views.{item_shown}
+use Rattle.dict_commands.specs.Changes.{with_mark, with_items}
+use Rattle.dict_commands.proofs.LoopLemmas.{clean_before, none_then}
+use Rattle.dict_commands.proofs.writing.write_summary.Goals as goal
+
+pub returns-in_err-write_members-clause-survives : goal.returns-in_err-write_members-clause-survives
+returns-in_err-write_members-clause-survives g c =
+    let first = seen g.S.Store c.args.tx.now in
+    let one = seen g.S.Store c.write_mark.new.tx in
+    let two = seen g.S.Store c.write_items.new.tx in
+    let new = seen g.S.Store c.write_members.new.tx in
+    none_then first two new (none_then first one two c.write_mark.ensures.survives c.write_items.ensures.survives) c.write_members.ensures.survives
+
+pub returns-clause-turns : goal.returns-clause-turns
+returns-clause-turns g c = λ clean tables it.
+    let one = seen g.S.Store c.write_mark.new.tx in
+    let two = seen g.S.Store c.write_items.new.tx in
+    let new = seen g.S.Store c.write_members.new.tx in
+    let late : HasCleanDisk two = clean_before two new c.write_members.ensures.survives clean in
+    let marked = with_mark c.args.summary.now.installs tables in
+    rw (c.deref.ensures.value, c.deref-2.ensures.value) at
+    (c.in_ok-write_members.ensures.turns clean (with_items (map item_shown c.deref.result.now) marked)
+    (c.in_ok-write_items.ensures.turns late marked
+    (c.in_ok-write_mark.ensures.turns (clean_before one two c.write_items.ensures.survives late) tables it)))
+
+pub returns-clause-survives : goal.returns-clause-survives
+returns-clause-survives g c =
+    let first = seen g.S.Store c.args.tx.now in
+    let one = seen g.S.Store c.write_mark.new.tx in
+    let two = seen g.S.Store c.write_items.new.tx in
+    let new = seen g.S.Store c.write_members.new.tx in
+    none_then first two new (none_then first one two c.write_mark.ensures.survives c.write_items.ensures.survives) c.write_members.ensures.survives

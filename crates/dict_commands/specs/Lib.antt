@@ -1,0 +1,5 @@
+pub mod Kept
+pub mod Changes
+pub mod Decided
+pub mod Committed
+pub mod Answers

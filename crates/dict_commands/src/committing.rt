@@ -1,0 +1,49 @@
+// One transaction, and its commit.
+ghost use Rattle.std.specs.Prelude.{◌≡◌, false, IsTrue, IfErr, OnErr, OnOk};
+ghost use Rattle.sqlite.specs.State.{HasCleanDisk, Survives};
+ghost use Rattle.sqlite.specs.Held.{state};
+ghost use Rattle.dict_sql.specs.Effects.{WhileOpen};
+ghost use Rattle.dict_desk.specs.Faults.{is_disk};
+ghost use Rattle.dict_rows.specs.After.{tables_after};
+ghost use Rattle.dict_commands.specs.Kept.{Turns, IsUsable};
+ghost use Rattle.dict_commands.specs.Changes.{change_by, IsWritable};
+ghost use Rattle.dict_commands.specs.Committed.{IsCommitted, IsTreesOf, Stays, IsOfStore};
+
+use crate::writing::write_all;
+use dict_catalogue::{Change, Command};
+use dict_desk::Fault;
+use dict_file::fault_of;
+use dict_sql::commit::commit;
+use sqlite::{Alter, Connection};
+
+/// Makes what was planned of a command by one commit, with its reply for the id of its request.
+///
+/// `Memory` tells that a growth was refused before the commit: all is as it was. `Disk` tells that the store failed, or
+/// the commit did, for whatever cause: only the next opening knows what it left. While the store is open, it shows what it
+/// did before.
+pub(crate) fn commit_change<S: Alter>(
+    conn: &mut Connection<S>,
+    id: &str,
+    command: &Command,
+    change: &Change,
+) -> Result<(), Fault>
+    requires autocommit { conn.old.in_transaction ≡ false }
+    requires usable { WhileOpen (state S.Store conn.old) IsUsable }
+    requires writable { IsWritable change.now }
+    ensures made { HasCleanDisk (state S.Store conn.new) → OnOk result (IsCommitted (Turns (tables_after 1 (change_by id.now command.now change.now)) (state S.Store conn.old).now) (state S.Store conn.new)) }
+    ensures lives { HasCleanDisk (state S.Store conn.new) → IsTrue (state S.Store conn.new).is_open → IsTrue (state S.Store conn.old).is_open }
+    ensures stays { HasCleanDisk (state S.Store conn.new) → OnErr result (Stays (state S.Store conn.old) (state S.Store conn.new)) }
+    ensures adds_none { IfErr result (λ fault. is_disk fault ≡ false → Survives (state S.Store conn.old) (state S.Store conn.new) (λ _. ⊥)) }
+    ensures kinds { IfErr result IsOfStore }
+    ensures autocommit { (state S.Store conn.new).in_transaction ≡ false }
+    ensures crash { Survives (state S.Store conn.old) (state S.Store conn.new) (IsTreesOf (Turns (tables_after 1 (change_by id.now command.now change.now)) (state S.Store conn.old).now)) }
+{
+    let mut tx = conn.transaction();
+    if let Err(error) = write_all(&mut tx, id, command, change) {
+        return Err(fault_of(error));
+    }
+    match commit(tx) {
+        Ok(()) => Ok(()),
+        Err(_) => Err(Fault::Disk),
+    }
+}

@@ -1,0 +1,189 @@
+// The editions that go, and the one that is installed.
+ghost use Rattle.std.specs.Prelude.{◌≡◌, ◌≤◌, ◌++◌, [], ◌∷◌, OnOk, map, not, filter};
+ghost use Rattle.std.specs.List.{AllByRecursion};
+ghost use Rattle.sqlite.specs.State.{HasCleanDisk, KeepsCommit, Survives};
+ghost use Rattle.dict_sql.specs.Effects.{WhileOpen, seen};
+ghost use Rattle.dict_index.specs.Views.{line_of};
+ghost use Rattle.dict_rows.specs.Written.{numbered, edition_record, entry_record};
+ghost use Rattle.dict_rows.specs.After.{is_gone};
+ghost use Rattle.dict_commands.specs.Kept.{Turns, IsUsable, IsStorable, AreStorable};
+ghost use Rattle.dict_commands.specs.Changes.{without_editions, with_edition, with_installed, installed_by, IsShort};
+
+use dict_catalogue::Command;
+use dict_index::{Edition, Entry};
+use dict_rows::{edition_row, entry_row};
+use dict_sql::delete::{delete_edition, delete_entries};
+use dict_sql::insert::{insert_edition, insert_entry};
+use sqlite::{Alter, Error, Transaction};
+
+// Takes out the entries of the edition of this number.
+fn take_entries<S: Alter>(tx: &mut Transaction<'_, S>, number: u64) -> Result<(), Error>
+    requires number { IsStorable number }
+    requires usable { WhileOpen (seen S.Store tx.old) IsUsable }
+    ensures same_reference { tx.new.conn.ghost_name ≡ tx.old.conn.ghost_name }
+    ensures turns { HasCleanDisk (seen S.Store tx.new) → OnOk result (Turns (λ tables. record tables { entries = filter (λ row. not (is_gone (number ∷ []) row.edition)) tables.entries }) (seen S.Store tx.old).now (seen S.Store tx.new).now) }
+    ensures usable { OnOk result (WhileOpen (seen S.Store tx.new) IsUsable) }
+    ensures keeps { HasCleanDisk (seen S.Store tx.new) → KeepsCommit (seen S.Store tx.old) (seen S.Store tx.new) }
+    ensures survives { Survives (seen S.Store tx.old) (seen S.Store tx.new) (λ _. ⊥) }
+{
+    delete_entries(tx, number as i64)?;
+    Ok(())
+}
+
+// Takes out the record of the edition of this number.
+fn take_row<S: Alter>(tx: &mut Transaction<'_, S>, number: u64) -> Result<(), Error>
+    requires number { IsStorable number }
+    requires usable { WhileOpen (seen S.Store tx.old) IsUsable }
+    ensures same_reference { tx.new.conn.ghost_name ≡ tx.old.conn.ghost_name }
+    ensures turns { HasCleanDisk (seen S.Store tx.new) → OnOk result (Turns (λ tables. record tables { editions = filter (λ row. not (is_gone (number ∷ []) row.number)) tables.editions }) (seen S.Store tx.old).now (seen S.Store tx.new).now) }
+    ensures usable { OnOk result (WhileOpen (seen S.Store tx.new) IsUsable) }
+    ensures keeps { HasCleanDisk (seen S.Store tx.new) → KeepsCommit (seen S.Store tx.old) (seen S.Store tx.new) }
+    ensures survives { Survives (seen S.Store tx.old) (seen S.Store tx.new) (λ _. ⊥) }
+{
+    delete_edition(tx, number as i64)?;
+    Ok(())
+}
+
+// Takes out the edition of this number, with its entries.
+fn take_edition<S: Alter>(tx: &mut Transaction<'_, S>, number: u64) -> Result<(), Error>
+    requires number { IsStorable number }
+    requires usable { WhileOpen (seen S.Store tx.old) IsUsable }
+    ensures same_reference { tx.new.conn.ghost_name ≡ tx.old.conn.ghost_name }
+    ensures turns { HasCleanDisk (seen S.Store tx.new) → OnOk result (Turns (without_editions (number ∷ [])) (seen S.Store tx.old).now (seen S.Store tx.new).now) }
+    ensures usable { OnOk result (WhileOpen (seen S.Store tx.new) IsUsable) }
+    ensures keeps { HasCleanDisk (seen S.Store tx.new) → KeepsCommit (seen S.Store tx.old) (seen S.Store tx.new) }
+    ensures survives { Survives (seen S.Store tx.old) (seen S.Store tx.new) (λ _. ⊥) }
+{
+    take_entries(tx, number)?;
+    take_row(tx, number)?;
+    Ok(())
+}
+
+/// Takes out the editions of these numbers, with their entries.
+pub(crate) fn take_editions<S: Alter>(
+    tx: &mut Transaction<'_, S>,
+    gone: &[u64],
+) -> Result<(), Error>
+    requires numbers { AreStorable gone.now }
+    requires usable { WhileOpen (seen S.Store tx.old) IsUsable }
+    ensures same_reference { tx.new.conn.ghost_name ≡ tx.old.conn.ghost_name }
+    ensures turns { HasCleanDisk (seen S.Store tx.new) → OnOk result (Turns (without_editions gone.now) (seen S.Store tx.old).now (seen S.Store tx.new).now) }
+    ensures usable { OnOk result (WhileOpen (seen S.Store tx.new) IsUsable) }
+    ensures keeps { HasCleanDisk (seen S.Store tx.new) → KeepsCommit (seen S.Store tx.old) (seen S.Store tx.new) }
+    ensures survives { Survives (seen S.Store tx.old) (seen S.Store tx.new) (λ _. ⊥) }
+{
+    'each: for number in gone {
+        take_edition(tx, *number)?;
+    }
+    Ok(())
+}
+
+// Adds the record of an edition under its number.
+fn add_row<S: Alter>(
+    tx: &mut Transaction<'_, S>,
+    owner: &str,
+    number: u64,
+    edition: &Edition,
+) -> Result<(), Error>
+    requires number { IsStorable number }
+    requires usable { WhileOpen (seen S.Store tx.old) IsUsable }
+    ensures same_reference { tx.new.conn.ghost_name ≡ tx.old.conn.ghost_name }
+    ensures turns { HasCleanDisk (seen S.Store tx.new) → OnOk result (Turns (λ tables. record tables { editions = tables.editions ++ edition_record owner.now number edition.now ∷ [] }) (seen S.Store tx.old).now (seen S.Store tx.new).now) }
+    ensures usable { OnOk result (WhileOpen (seen S.Store tx.new) IsUsable) }
+    ensures keeps { HasCleanDisk (seen S.Store tx.new) → KeepsCommit (seen S.Store tx.old) (seen S.Store tx.new) }
+    ensures survives { Survives (seen S.Store tx.old) (seen S.Store tx.new) (λ _. ⊥) }
+{
+    let row = edition_row(owner, number, edition);
+    insert_edition(tx, &row)?;
+    Ok(())
+}
+
+// Adds the record of an entry at its place.
+fn add_entry<S: Alter>(
+    tx: &mut Transaction<'_, S>,
+    number: u64,
+    ord: u64,
+    entry: &Entry,
+) -> Result<(), Error>
+    requires number { IsStorable number }
+    requires ord { IsStorable ord }
+    requires short { IsShort (line_of entry.now) }
+    requires usable { WhileOpen (seen S.Store tx.old) IsUsable }
+    ensures same_reference { tx.new.conn.ghost_name ≡ tx.old.conn.ghost_name }
+    ensures turns { HasCleanDisk (seen S.Store tx.new) → OnOk result (Turns (λ tables. record tables { entries = tables.entries ++ entry_record number ord (line_of entry.now) ∷ [] }) (seen S.Store tx.old).now (seen S.Store tx.new).now) }
+    ensures usable { OnOk result (WhileOpen (seen S.Store tx.new) IsUsable) }
+    ensures keeps { HasCleanDisk (seen S.Store tx.new) → KeepsCommit (seen S.Store tx.old) (seen S.Store tx.new) }
+    ensures survives { Survives (seen S.Store tx.old) (seen S.Store tx.new) (λ _. ⊥) }
+{
+    let row = entry_row(number, ord, entry);
+    insert_entry(tx, &row)?;
+    Ok(())
+}
+
+// Adds the records of entries, each at its place.
+fn add_entries<S: Alter>(
+    tx: &mut Transaction<'_, S>,
+    number: u64,
+    entries: &[Entry],
+) -> Result<(), Error>
+    requires number { IsStorable number }
+    requires short { AllByRecursion (λ entry. IsShort (line_of entry)) entries.now }
+    requires usable { WhileOpen (seen S.Store tx.old) IsUsable }
+    ensures same_reference { tx.new.conn.ghost_name ≡ tx.old.conn.ghost_name }
+    ensures turns { HasCleanDisk (seen S.Store tx.new) → OnOk result (Turns (λ tables. record tables { entries = tables.entries ++ numbered (entry_record number) 0 (map line_of entries.now) }) (seen S.Store tx.old).now (seen S.Store tx.new).now) }
+    ensures usable { OnOk result (WhileOpen (seen S.Store tx.new) IsUsable) }
+    ensures keeps { HasCleanDisk (seen S.Store tx.new) → KeepsCommit (seen S.Store tx.old) (seen S.Store tx.new) }
+    ensures survives { Survives (seen S.Store tx.old) (seen S.Store tx.new) (λ _. ⊥) }
+{
+    for (ord, entry) in entries.iter().enumerate() {
+        add_entry(tx, number, ord as u64, entry)?;
+    }
+    Ok(())
+}
+
+// Adds an edition of this owner under its number, with its entries.
+fn add_edition<S: Alter>(
+    tx: &mut Transaction<'_, S>,
+    owner: &str,
+    number: u64,
+    edition: &Edition,
+) -> Result<(), Error>
+    requires number { IsStorable number }
+    requires usable { WhileOpen (seen S.Store tx.old) IsUsable }
+    ensures same_reference { tx.new.conn.ghost_name ≡ tx.old.conn.ghost_name }
+    ensures turns { HasCleanDisk (seen S.Store tx.new) → OnOk result (Turns (with_edition (record { owner = owner.now; number = number; reading = edition.now })) (seen S.Store tx.old).now (seen S.Store tx.new).now) }
+    ensures usable { OnOk result (WhileOpen (seen S.Store tx.new) IsUsable) }
+    ensures keeps { HasCleanDisk (seen S.Store tx.new) → KeepsCommit (seen S.Store tx.old) (seen S.Store tx.new) }
+    ensures survives { Survives (seen S.Store tx.old) (seen S.Store tx.new) (λ _. ⊥) }
+{
+    let _text = edition.text();
+    add_row(tx, owner, number, edition)?;
+    add_entries(tx, number, edition.entries())?;
+    Ok(())
+}
+
+/// Adds the edition that the command installs, if it installs one, under its number.
+pub(crate) fn add_installed<S: Alter>(
+    tx: &mut Transaction<'_, S>,
+    number: u64,
+    command: &Command,
+) -> Result<(), Error>
+    requires number { IsStorable number }
+    requires usable { WhileOpen (seen S.Store tx.old) IsUsable }
+    ensures same_reference { tx.new.conn.ghost_name ≡ tx.old.conn.ghost_name }
+    ensures turns { HasCleanDisk (seen S.Store tx.new) → OnOk result (Turns (with_installed (installed_by number command.now)) (seen S.Store tx.old).now (seen S.Store tx.new).now) }
+    ensures usable { OnOk result (WhileOpen (seen S.Store tx.new) IsUsable) }
+    ensures keeps { HasCleanDisk (seen S.Store tx.new) → KeepsCommit (seen S.Store tx.old) (seen S.Store tx.new) }
+    ensures survives { Survives (seen S.Store tx.old) (seen S.Store tx.new) (λ _. ⊥) }
+{
+    match command {
+        Command::Install { name, edition } => {
+            add_edition(tx, name, number, edition)?;
+            Ok(())
+        }
+        Command::Rollback { .. }
+        | Command::Retire { .. }
+        | Command::PutVirtual { .. }
+        | Command::Place { .. } => Ok(()),
+    }
+}

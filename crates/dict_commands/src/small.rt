@@ -1,0 +1,203 @@
+// The small tables, which are written anew where they change.
+ghost use Rattle.std.specs.Prelude.{◌≡◌, ◌≤◌, ◌++◌, [], ◌∷◌, OnOk, map};
+ghost use Rattle.std.specs.List.{AllByRecursion};
+ghost use Rattle.sqlite.specs.State.{HasCleanDisk, KeepsCommit, Survives};
+ghost use Rattle.dict_sql.specs.Effects.{WhileOpen, seen};
+ghost use Rattle.dict_catalogue.specs.Items.{name_of, members_of, numbers_of};
+ghost use Rattle.dict_catalogue.specs.Views.{item_shown, texts_shown};
+ghost use Rattle.dict_rows.specs.Written.{numbered, mark_record, item_record, member_record};
+ghost use Rattle.dict_rows.specs.After.{all_members};
+ghost use Rattle.dict_commands.specs.Kept.{Turns, IsUsable, IsStorable, AreStorable};
+ghost use Rattle.dict_commands.specs.Changes.{cleared, with_mark, with_items, with_members};
+
+use dict_catalogue::Item;
+use dict_rows::{item_row, mark_row, member_row};
+use dict_sql::delete::clear_table;
+use dict_sql::insert::{insert_item, insert_mark, insert_member};
+use dict_tables::StoreTable;
+use sqlite::{Alter, Error, Transaction};
+
+/// The version of the schema that is written.
+const VERSION: u64 = 1;
+
+// Takes all records out of the table.
+fn clear<S: Alter>(tx: &mut Transaction<'_, S>, table: StoreTable) -> Result<(), Error>
+    requires { WhileOpen (seen S.Store tx.old) IsUsable }
+    ensures same_reference { tx.new.conn.ghost_name ≡ tx.old.conn.ghost_name }
+    ensures turns { HasCleanDisk (seen S.Store tx.new) → OnOk result (Turns (cleared table) (seen S.Store tx.old).now (seen S.Store tx.new).now) }
+    ensures usable { OnOk result (WhileOpen (seen S.Store tx.new) IsUsable) }
+    ensures keeps { HasCleanDisk (seen S.Store tx.new) → KeepsCommit (seen S.Store tx.old) (seen S.Store tx.new) }
+    ensures survives { Survives (seen S.Store tx.old) (seen S.Store tx.new) (λ _. ⊥) }
+{
+    clear_table(tx, table)?;
+    Ok(())
+}
+
+// Adds a mark with the count of installs.
+fn add_mark<S: Alter>(tx: &mut Transaction<'_, S>, installs: u64) -> Result<(), Error>
+    requires storable { IsStorable installs }
+    requires usable { WhileOpen (seen S.Store tx.old) IsUsable }
+    ensures same_reference { tx.new.conn.ghost_name ≡ tx.old.conn.ghost_name }
+    ensures turns { HasCleanDisk (seen S.Store tx.new) → OnOk result (Turns (λ tables. record tables { marks = tables.marks ++ mark_record 1 installs ∷ [] }) (seen S.Store tx.old).now (seen S.Store tx.new).now) }
+    ensures usable { OnOk result (WhileOpen (seen S.Store tx.new) IsUsable) }
+    ensures keeps { HasCleanDisk (seen S.Store tx.new) → KeepsCommit (seen S.Store tx.old) (seen S.Store tx.new) }
+    ensures survives { Survives (seen S.Store tx.old) (seen S.Store tx.new) (λ _. ⊥) }
+{
+    let mark = mark_row(VERSION, installs);
+    insert_mark(tx, &mark)?;
+    Ok(())
+}
+
+/// Writes the mark anew, with the count of installs.
+pub(crate) fn write_mark<S: Alter>(tx: &mut Transaction<'_, S>, installs: u64) -> Result<(), Error>
+    requires storable { IsStorable installs }
+    requires usable { WhileOpen (seen S.Store tx.old) IsUsable }
+    ensures same_reference { tx.new.conn.ghost_name ≡ tx.old.conn.ghost_name }
+    ensures turns { HasCleanDisk (seen S.Store tx.new) → OnOk result (Turns (with_mark installs) (seen S.Store tx.old).now (seen S.Store tx.new).now) }
+    ensures usable { OnOk result (WhileOpen (seen S.Store tx.new) IsUsable) }
+    ensures keeps { HasCleanDisk (seen S.Store tx.new) → KeepsCommit (seen S.Store tx.old) (seen S.Store tx.new) }
+    ensures survives { Survives (seen S.Store tx.old) (seen S.Store tx.new) (λ _. ⊥) }
+{
+    clear(tx, StoreTable::Mark)?;
+    add_mark(tx, installs)?;
+    Ok(())
+}
+
+// Adds the record of an item at its place.
+fn add_item<S: Alter>(tx: &mut Transaction<'_, S>, place: u64, item: &Item) -> Result<(), Error>
+    requires place { IsStorable place }
+    requires numbers { AreStorable (numbers_of (item_shown item.now)) }
+    requires usable { WhileOpen (seen S.Store tx.old) IsUsable }
+    ensures same_reference { tx.new.conn.ghost_name ≡ tx.old.conn.ghost_name }
+    ensures turns { HasCleanDisk (seen S.Store tx.new) → OnOk result (Turns (λ tables. record tables { items = tables.items ++ item_record place (item_shown item.now) ∷ [] }) (seen S.Store tx.old).now (seen S.Store tx.new).now) }
+    ensures usable { OnOk result (WhileOpen (seen S.Store tx.new) IsUsable) }
+    ensures keeps { HasCleanDisk (seen S.Store tx.new) → KeepsCommit (seen S.Store tx.old) (seen S.Store tx.new) }
+    ensures survives { Survives (seen S.Store tx.old) (seen S.Store tx.new) (λ _. ⊥) }
+{
+    let row = item_row(place, item);
+    insert_item(tx, &row)?;
+    Ok(())
+}
+
+// Adds the records of items, each at its place.
+fn add_items<S: Alter>(tx: &mut Transaction<'_, S>, items: &[Item]) -> Result<(), Error>
+    requires numbers { AllByRecursion (λ item. AreStorable (numbers_of (item_shown item))) items.now }
+    requires usable { WhileOpen (seen S.Store tx.old) IsUsable }
+    ensures same_reference { tx.new.conn.ghost_name ≡ tx.old.conn.ghost_name }
+    ensures turns { HasCleanDisk (seen S.Store tx.new) → OnOk result (Turns (λ tables. record tables { items = tables.items ++ numbered item_record 0 (map item_shown items.now) }) (seen S.Store tx.old).now (seen S.Store tx.new).now) }
+    ensures usable { OnOk result (WhileOpen (seen S.Store tx.new) IsUsable) }
+    ensures keeps { HasCleanDisk (seen S.Store tx.new) → KeepsCommit (seen S.Store tx.old) (seen S.Store tx.new) }
+    ensures survives { Survives (seen S.Store tx.old) (seen S.Store tx.new) (λ _. ⊥) }
+{
+    for (place, item) in items.iter().enumerate() {
+        add_item(tx, place as u64, item)?;
+    }
+    Ok(())
+}
+
+/// Writes the items anew, in their order.
+pub(crate) fn write_items<S: Alter>(
+    tx: &mut Transaction<'_, S>,
+    items: &[Item],
+) -> Result<(), Error>
+    requires numbers { AllByRecursion (λ item. AreStorable (numbers_of (item_shown item))) items.now }
+    requires usable { WhileOpen (seen S.Store tx.old) IsUsable }
+    ensures same_reference { tx.new.conn.ghost_name ≡ tx.old.conn.ghost_name }
+    ensures turns { HasCleanDisk (seen S.Store tx.new) → OnOk result (Turns (with_items (map item_shown items.now)) (seen S.Store tx.old).now (seen S.Store tx.new).now) }
+    ensures usable { OnOk result (WhileOpen (seen S.Store tx.new) IsUsable) }
+    ensures keeps { HasCleanDisk (seen S.Store tx.new) → KeepsCommit (seen S.Store tx.old) (seen S.Store tx.new) }
+    ensures survives { Survives (seen S.Store tx.old) (seen S.Store tx.new) (λ _. ⊥) }
+{
+    clear(tx, StoreTable::Item)?;
+    add_items(tx, items)?;
+    Ok(())
+}
+
+// Adds the record of a member of this owner at its place.
+fn add_member<S: Alter>(
+    tx: &mut Transaction<'_, S>,
+    owner: &str,
+    ord: u64,
+    name: &str,
+) -> Result<(), Error>
+    requires ord { IsStorable ord }
+    requires usable { WhileOpen (seen S.Store tx.old) IsUsable }
+    ensures same_reference { tx.new.conn.ghost_name ≡ tx.old.conn.ghost_name }
+    ensures turns { HasCleanDisk (seen S.Store tx.new) → OnOk result (Turns (λ tables. record tables { members = tables.members ++ member_record owner.now ord name.now ∷ [] }) (seen S.Store tx.old).now (seen S.Store tx.new).now) }
+    ensures usable { OnOk result (WhileOpen (seen S.Store tx.new) IsUsable) }
+    ensures keeps { HasCleanDisk (seen S.Store tx.new) → KeepsCommit (seen S.Store tx.old) (seen S.Store tx.new) }
+    ensures survives { Survives (seen S.Store tx.old) (seen S.Store tx.new) (λ _. ⊥) }
+{
+    let row = member_row(owner, ord, name);
+    insert_member(tx, &row)?;
+    Ok(())
+}
+
+// Adds the records of the members of this owner, each at its place.
+fn add_members<S: Alter>(
+    tx: &mut Transaction<'_, S>,
+    owner: &str,
+    members: &[String],
+) -> Result<(), Error>
+    requires usable { WhileOpen (seen S.Store tx.old) IsUsable }
+    ensures same_reference { tx.new.conn.ghost_name ≡ tx.old.conn.ghost_name }
+    ensures turns { HasCleanDisk (seen S.Store tx.new) → OnOk result (Turns (λ tables. record tables { members = tables.members ++ numbered (member_record owner.now) 0 (texts_shown members.now) }) (seen S.Store tx.old).now (seen S.Store tx.new).now) }
+    ensures usable { OnOk result (WhileOpen (seen S.Store tx.new) IsUsable) }
+    ensures keeps { HasCleanDisk (seen S.Store tx.new) → KeepsCommit (seen S.Store tx.old) (seen S.Store tx.new) }
+    ensures survives { Survives (seen S.Store tx.old) (seen S.Store tx.new) (λ _. ⊥) }
+{
+    for (ord, name) in members.iter().enumerate() {
+        add_member(tx, owner, ord as u64, name)?;
+    }
+    Ok(())
+}
+
+// Adds the records of the item's members; a regular item has none.
+fn add_members_of<S: Alter>(tx: &mut Transaction<'_, S>, item: &Item) -> Result<(), Error>
+    requires usable { WhileOpen (seen S.Store tx.old) IsUsable }
+    ensures same_reference { tx.new.conn.ghost_name ≡ tx.old.conn.ghost_name }
+    ensures turns { HasCleanDisk (seen S.Store tx.new) → OnOk result (Turns (λ tables. record tables { members = tables.members ++ numbered (member_record (name_of (item_shown item.now))) 0 (members_of (item_shown item.now)) }) (seen S.Store tx.old).now (seen S.Store tx.new).now) }
+    ensures usable { OnOk result (WhileOpen (seen S.Store tx.new) IsUsable) }
+    ensures keeps { HasCleanDisk (seen S.Store tx.new) → KeepsCommit (seen S.Store tx.old) (seen S.Store tx.new) }
+    ensures survives { Survives (seen S.Store tx.old) (seen S.Store tx.new) (λ _. ⊥) }
+{
+    match item {
+        Item::Regular { .. } => Ok(()),
+        Item::Virtual { name, members, .. } => {
+            add_members(tx, name, members)?;
+            Ok(())
+        }
+    }
+}
+
+// Adds the records of the members of all items, owner after owner.
+fn add_all_members<S: Alter>(tx: &mut Transaction<'_, S>, items: &[Item]) -> Result<(), Error>
+    requires usable { WhileOpen (seen S.Store tx.old) IsUsable }
+    ensures same_reference { tx.new.conn.ghost_name ≡ tx.old.conn.ghost_name }
+    ensures turns { HasCleanDisk (seen S.Store tx.new) → OnOk result (Turns (λ tables. record tables { members = tables.members ++ all_members (map item_shown items.now) }) (seen S.Store tx.old).now (seen S.Store tx.new).now) }
+    ensures usable { OnOk result (WhileOpen (seen S.Store tx.new) IsUsable) }
+    ensures keeps { HasCleanDisk (seen S.Store tx.new) → KeepsCommit (seen S.Store tx.old) (seen S.Store tx.new) }
+    ensures survives { Survives (seen S.Store tx.old) (seen S.Store tx.new) (λ _. ⊥) }
+{
+    'each: for item in items {
+        add_members_of(tx, item)?;
+    }
+    Ok(())
+}
+
+/// Writes the members of all items anew, owner after owner.
+pub(crate) fn write_members<S: Alter>(
+    tx: &mut Transaction<'_, S>,
+    items: &[Item],
+) -> Result<(), Error>
+    requires usable { WhileOpen (seen S.Store tx.old) IsUsable }
+    ensures same_reference { tx.new.conn.ghost_name ≡ tx.old.conn.ghost_name }
+    ensures turns { HasCleanDisk (seen S.Store tx.new) → OnOk result (Turns (with_members (map item_shown items.now)) (seen S.Store tx.old).now (seen S.Store tx.new).now) }
+    ensures usable { OnOk result (WhileOpen (seen S.Store tx.new) IsUsable) }
+    ensures keeps { HasCleanDisk (seen S.Store tx.new) → KeepsCommit (seen S.Store tx.old) (seen S.Store tx.new) }
+    ensures survives { Survives (seen S.Store tx.old) (seen S.Store tx.new) (λ _. ⊥) }
+{
+    clear(tx, StoreTable::Member)?;
+    add_all_members(tx, items)?;
+    Ok(())
+}

@@ -1,0 +1,94 @@
+// All that one command writes, inside an open transaction.
+ghost use Rattle.std.specs.Prelude.{◌≡◌, ◌++◌, ◌∷◌, [], true, OnOk, IfSome, map};
+ghost use Rattle.std.specs.List.{AllByRecursion};
+ghost use Rattle.sqlite.specs.Effect.{IsDatabase};
+ghost use Rattle.sqlite.specs.State.{HasCleanDisk, KeepsCommit, Survives};
+ghost use Rattle.dict_sql.specs.Effects.{WhileOpen, seen};
+ghost use Rattle.dict_catalogue.specs.Items.{numbers_of};
+ghost use Rattle.dict_catalogue.specs.Views.{item_shown, kept_shown};
+ghost use Rattle.dict_rows.specs.After.{tables_after};
+ghost use Rattle.dict_commands.specs.Kept.{Turns, IsUsable, IsStorable, AreStorable};
+ghost use Rattle.dict_commands.specs.Changes.{with_mark, with_items, with_members, without_editions, with_installed, with_reply, installed_by, change_by, IsWritable};
+
+use crate::editions::{add_installed, take_editions};
+use crate::small::{write_items, write_mark, write_members};
+use dict_catalogue::{Change, Command, Kept, Summary};
+use dict_rows::kept_row;
+use dict_sql::insert::insert_kept;
+use sqlite::{Alter, Error, Transaction};
+
+// Writes the mark, the items and the members of a summary anew.
+fn write_summary<S: Alter>(tx: &mut Transaction<'_, S>, summary: &Summary) -> Result<(), Error>
+    requires installs { IsStorable summary.now.installs }
+    requires numbers { AllByRecursion (λ item. AreStorable (numbers_of (item_shown item))) summary.now.items.items }
+    requires usable { WhileOpen (seen S.Store tx.old) IsUsable }
+    ensures same_reference { tx.new.conn.ghost_name ≡ tx.old.conn.ghost_name }
+    ensures turns { HasCleanDisk (seen S.Store tx.new) → OnOk result (Turns (λ tables. with_members (map item_shown summary.now.items.items) (with_items (map item_shown summary.now.items.items) (with_mark summary.now.installs tables))) (seen S.Store tx.old).now (seen S.Store tx.new).now) }
+    ensures usable { OnOk result (WhileOpen (seen S.Store tx.new) IsUsable) }
+    ensures keeps { HasCleanDisk (seen S.Store tx.new) → KeepsCommit (seen S.Store tx.old) (seen S.Store tx.new) }
+    ensures survives { Survives (seen S.Store tx.old) (seen S.Store tx.new) (λ _. ⊥) }
+{
+    write_mark(tx, summary.installs)?;
+    write_items(tx, &summary.items)?;
+    write_members(tx, &summary.items)?;
+    Ok(())
+}
+
+// Takes out the editions that go, and adds the one that the command installs.
+fn write_editions<S: Alter>(
+    tx: &mut Transaction<'_, S>,
+    gone: &[u64],
+    installs: u64,
+    command: &Command,
+) -> Result<(), Error>
+    requires gone { AreStorable gone.now }
+    requires installs { IsStorable installs }
+    requires usable { WhileOpen (seen S.Store tx.old) IsUsable }
+    ensures same_reference { tx.new.conn.ghost_name ≡ tx.old.conn.ghost_name }
+    ensures turns { HasCleanDisk (seen S.Store tx.new) → OnOk result (Turns (λ tables. with_installed (installed_by installs command.now) (without_editions gone.now tables)) (seen S.Store tx.old).now (seen S.Store tx.new).now) }
+    ensures usable { OnOk result (WhileOpen (seen S.Store tx.new) IsUsable) }
+    ensures keeps { HasCleanDisk (seen S.Store tx.new) → KeepsCommit (seen S.Store tx.old) (seen S.Store tx.new) }
+    ensures survives { Survives (seen S.Store tx.old) (seen S.Store tx.new) (λ _. ⊥) }
+{
+    take_editions(tx, gone)?;
+    add_installed(tx, installs, command)?;
+    Ok(())
+}
+
+// Adds the reply that is kept for an id. It comes last, so it tells that the database is sound.
+fn add_reply<S: Alter>(tx: &mut Transaction<'_, S>, id: &str, reply: &Kept) -> Result<(), Error>
+    requires number { IsStorable reply.now.number }
+    requires edition { IfSome reply.now.edition IsStorable }
+    requires usable { WhileOpen (seen S.Store tx.old) IsUsable }
+    ensures same_reference { tx.new.conn.ghost_name ≡ tx.old.conn.ghost_name }
+    ensures turns { HasCleanDisk (seen S.Store tx.new) → OnOk result (Turns (with_reply (record { id = id.now; reply = kept_shown reply.now })) (seen S.Store tx.old).now (seen S.Store tx.new).now) }
+    ensures sound { HasCleanDisk (seen S.Store tx.new) → OnOk result (IsDatabase (seen S.Store tx.new).now) }
+    ensures inside { HasCleanDisk (seen S.Store tx.new) → OnOk result ((seen S.Store tx.new).in_transaction ≡ true) }
+    ensures keeps { HasCleanDisk (seen S.Store tx.new) → KeepsCommit (seen S.Store tx.old) (seen S.Store tx.new) }
+    ensures survives { Survives (seen S.Store tx.old) (seen S.Store tx.new) (λ _. ⊥) }
+{
+    let row = kept_row(id, reply);
+    insert_kept(tx, &row)?;
+    Ok(())
+}
+
+/// Writes all that a planned command does, and its reply for the id of its request.
+pub(crate) fn write_all<S: Alter>(
+    tx: &mut Transaction<'_, S>,
+    id: &str,
+    command: &Command,
+    change: &Change,
+) -> Result<(), Error>
+    requires writable { IsWritable change.now }
+    requires usable { WhileOpen (seen S.Store tx.old) IsUsable }
+    ensures same_reference { tx.new.conn.ghost_name ≡ tx.old.conn.ghost_name }
+    ensures made { HasCleanDisk (seen S.Store tx.new) → OnOk result (Turns (tables_after 1 (change_by id.now command.now change.now)) (seen S.Store tx.old).now (seen S.Store tx.new).now × IsDatabase (seen S.Store tx.new).now) }
+    ensures inside { HasCleanDisk (seen S.Store tx.new) → OnOk result ((seen S.Store tx.new).in_transaction ≡ true) }
+    ensures keeps { HasCleanDisk (seen S.Store tx.new) → KeepsCommit (seen S.Store tx.old) (seen S.Store tx.new) }
+    ensures survives { Survives (seen S.Store tx.old) (seen S.Store tx.new) (λ _. ⊥) }
+{
+    write_summary(tx, &change.summary)?;
+    write_editions(tx, &change.gone, change.summary.installs, command)?;
+    add_reply(tx, id, &change.kept)?;
+    Ok(())
+}
