@@ -59,7 +59,7 @@ id_twice taken id e once =
 
 -- ---- all
 
-neighbours_apart : {X : Type 0} (R : X → X → Type 0) → ((a b : X) → R a b → R b a → a ≡ b) → (xs : List X) → HaveApartNeighbours xs → InOrder R xs → InOrder (λ a b. a ≡ b → ⊥) xs
+pub neighbours_apart : {X : Type 0} (R : X → X → Type 0) → ((a b : X) → R a b → R b a → a ≡ b) → (xs : List X) → HaveApartNeighbours xs → InOrder R xs → InOrder (λ a b. a ≡ b → ⊥) xs
 neighbours_apart R both [] h order = tt
 neighbours_apart R both (x ∷ []) h order = (tt, tt)
 neighbours_apart R both (x ∷ y ∷ ys) h order =
@@ -73,7 +73,7 @@ absent x (y ∷ ys) h = differ (bytes_eq y x) refl ∙ absent x ys h.1
     differ true e = absurd (h.0 (sym (same_text y x e)))
     differ false e = ap (λ b. b || is_among ys x) e
 
-apart_once : (xs : List (List ℕ)) → InOrder (λ a b. a ≡ b → ⊥) xs → has_once xs ≡ true
+pub apart_once : (xs : List (List ℕ)) → InOrder (λ a b. a ≡ b → ⊥) xs → has_once xs ≡ true
 apart_once [] h = refl
 apart_once (x ∷ xs) h = and_from (not (is_among xs x)) (has_once xs) (not_from_false (is_among xs x) (absent x xs h.0)) (apart_once xs h.1)
 

@@ -36,7 +36,7 @@ all_in : {X : Type 0} (xs ys : List X) → ((x : X) → IsIn x ys → IsIn x xs)
 all_in xs [] h = tt
 all_in xs (y ∷ ys) h = (h y (inl refl), all_in xs ys (λ x i. h x (inr i)))
 
-in_all : {X : Type 0} (P : X → Type 0) (x : X) (ys : List X) → AllByRecursion P ys → IsIn x ys → P x
+pub in_all : {X : Type 0} (P : X → Type 0) (x : X) (ys : List X) → AllByRecursion P ys → IsIn x ys → P x
 in_all P x [] h i = absurd i
 in_all P x (y ∷ ys) h (inl e) = subst P (sym e) h.0
 in_all P x (y ∷ ys) h (inr i) = in_all P x ys h.1 i
@@ -109,25 +109,25 @@ order_step : {X : Type 0} (R : X → X → Type 0) (p : X → Bool) (y : X) (ys 
 order_step R p y ys true all rest = (all_filter (R y) p ys all, rest)
 order_step R p y ys false all rest = rest
 
-order_passed : {X : Type 0} (R : X → X → Type 0) (p : X → Bool) (xs : List X) → InOrder R xs → InOrder R (filter p xs)
+pub order_passed : {X : Type 0} (R : X → X → Type 0) (p : X → Bool) (xs : List X) → InOrder R xs → InOrder R (filter p xs)
 order_passed R p [] h = tt
 order_passed R p (y ∷ ys) h = order_step R p y ys (p y) h.0 (order_passed R p ys h.1)
 
-all_with : {X : Type 0} (P Q T : X → Type 0) → ((x : X) → P x → Q x → T x) → (xs : List X) → AllByRecursion P xs → AllByRecursion Q xs → AllByRecursion T xs
+pub all_with : {X : Type 0} (P Q T : X → Type 0) → ((x : X) → P x → Q x → T x) → (xs : List X) → AllByRecursion P xs → AllByRecursion Q xs → AllByRecursion T xs
 all_with P Q T f [] h g = tt
 all_with P Q T f (x ∷ xs) h g = (f x h.0 g.0, all_with P Q T f xs h.1 g.1)
 
-order_given : {X : Type 0} (Q : X → Type 0) (R T : X → X → Type 0) → ((a b : X) → Q a → Q b → R a b → T a b) → (xs : List X) → AllByRecursion Q xs → InOrder R xs → InOrder T xs
+pub order_given : {X : Type 0} (Q : X → Type 0) (R T : X → X → Type 0) → ((a b : X) → Q a → Q b → R a b → T a b) → (xs : List X) → AllByRecursion Q xs → InOrder R xs → InOrder T xs
 order_given Q R T f [] q h = tt
 order_given Q R T f (x ∷ xs) q h = (all_with Q (R x) (T x) (λ y qy r. f x y q.0 qy r) xs q.1 h.0, order_given Q R T f xs q.1 h.1)
 
-order_both : {X : Type 0} (R S T : X → X → Type 0) → ((a b : X) → R a b → S a b → T a b) → (xs : List X) → InOrder R xs → InOrder S xs → InOrder T xs
+pub order_both : {X : Type 0} (R S T : X → X → Type 0) → ((a b : X) → R a b → S a b → T a b) → (xs : List X) → InOrder R xs → InOrder S xs → InOrder T xs
 order_both R S T f [] h g = tt
 order_both R S T f (x ∷ xs) h g = (all_with (R x) (S x) (T x) (f x) xs h.0 g.0, order_both R S T f xs h.1 g.1)
 
 -- ---- numbers that rise
 
-abbrev Below : ℤ → ℤ → Type 0
+abbrev pub Below : ℤ → ℤ → Type 0
 Below m n = (m ≤ℤ n) × (m ≡ n → ⊥)
 
 below_itself : (m n : ℤ) → Below m n → m ≡ n → ⊥
@@ -256,7 +256,7 @@ kept_from n (one ∷ replies) h = (
   all_weaker (λ (row : spec.Kept). (m : ℕ) × (row.number ≡ pos m) × (n + 1 ≤ m)) (λ row. (m : ℕ) × (row.number ≡ pos m) × (n ≤ m)) (λ row g. (g.0, g.1, let above : n + 1 ≤ g.0 = g.2 in omega arith)) (map kept_record replies) (kept_from (n + 1) replies h.1),
 )
 
-kept_rise : (n : ℕ) (replies : List KeptFor) → IsNumberedFrom n replies → InOrder (λ (a b : spec.Kept). Below a.number b.number) (map kept_record replies)
+pub kept_rise : (n : ℕ) (replies : List KeptFor) → IsNumberedFrom n replies → InOrder (λ (a b : spec.Kept). Below a.number b.number) (map kept_record replies)
 kept_rise n [] h = tt
 kept_rise n (one ∷ replies) h = (
   all_weaker (λ (row : spec.Kept). (m : ℕ) × (row.number ≡ pos m) × (n + 1 ≤ m)) (λ row. Below (pos one.reply.number) row.number) (λ row g. below_from (pos one.reply.number) n row.number (ap pos h.0) g) (map kept_record replies) (kept_from (n + 1) replies h.1),
@@ -265,11 +265,11 @@ kept_rise n (one ∷ replies) h = (
 
 -- ---- the tables
 
-item_placed : {A : Type 0} (n : ℕ) (item : Item A) → (item_record n item).place ≡ pos n
+pub item_placed : {A : Type 0} (n : ℕ) (item : Item A) → (item_record n item).place ≡ pos n
 item_placed n (regular name current former) = refl
 item_placed n (virtual name title members) = refl
 
-members_same : {A : Type 0} (old new : List spec.Member) (item : Item A) → Same old new → InOrder (λ (a b : spec.Member). a.owner ≡ b.owner → a.ord ≤ℤ b.ord) new → HoldsMembers old item → HoldsMembers new item
+pub members_same : {A : Type 0} (old new : List spec.Member) (item : Item A) → Same old new → InOrder (λ (a b : spec.Member). a.owner ≡ b.owner → a.ord ≤ℤ b.ord) new → HoldsMembers old item → HoldsMembers new item
 members_same old new item same order h =
     let owner = name_of item in
     let mine = same_passed (λ (row : spec.Member). bytes_eq row.owner owner) old new same in
@@ -297,7 +297,7 @@ edition_same old new owner stored editions entries order h =
       entries = sym (ordered_once (λ (row : spec.Entry). row.ord) (entries_of number old.entries) (entries_of number new.entries) mine strict rising) ∙ h.entries;
     }
 
-all_same : {X : Type 0} (P : X → Type 0) (xs ys : List X) → IsPermutation xs ys → AllByRecursion P xs → AllByRecursion P ys
+pub all_same : {X : Type 0} (P : X → Type 0) (xs ys : List X) → IsPermutation xs ys → AllByRecursion P xs → AllByRecursion P ys
 all_same P xs ys same h = recursion_from_All P ys (All-permutation P xs ys same (All-from_recursion P xs h))
 
 pub ordered_stands : (version : ℕ) (old new : Tables) (M : Catalogue) → HaveSame old new → AreOrdered new → Stands version old M → Stands version new M

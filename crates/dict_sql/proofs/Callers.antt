@@ -64,7 +64,7 @@ apart_removed name test old new gone apart = subst HasApartRowids (sym gone.rows
 
 -- ---- a row that is put in under a free rowid is apart from the others
 
-differs : (id : ℤ) (v : Value) → (n : ℤ) × (v ≡ Int n) → v ≢ Int id → same_value (Int id) v ≡ false
+pub differs : (id : ℤ) (v : Value) → (n : ℤ) × (v ≡ Int n) → v ≢ Int id → same_value (Int id) v ≡ false
 differs id v n other = elim (cases_Bool (same_value (Int id) v)) [
   | inl tie ↦ absurd (let m = n.1 in let both : is_eq (int_cmp id n.0) ≡ true = sym (ap is_eq (value_cmp-Int id n.0)) ∙ subst (λ w. same_value (Int id) w ≡ true) m tie in other (m ∙ ap Int (sym (tied id n.0 both))))
   | inr apart ↦ apart
@@ -103,7 +103,7 @@ apart_added name row old new one apart =
 
 -- ---- a listing has the rows of its table, so what is tested of it holds of them
 
-apart_same : (xs ys : List Row) → IsPermutation xs ys → HasApartRowids xs → HasApartRowids ys
+pub apart_same : (xs ys : List Row) → IsPermutation xs ys → HasApartRowids xs → HasApartRowids ys
 apart_same xs ys same apart = record {
   integers = from_all _ _ (All-permutation (λ r. (n : ℤ) × (column r 0 ≡ Int n)) xs ys same (to_all _ xs apart.integers));
   apart = IsDistinct-IsPermutation same_value same_flips _ _ (IsPermutation-map (λ r. column r 0) xs ys same) apart.apart;

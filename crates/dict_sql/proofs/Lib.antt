@@ -10,6 +10,7 @@ pub mod ReadTexts
 pub mod ListingLemmas
 pub mod SilentLemmas
 pub mod ReadFaults
+pub mod RowidTexts
 pub mod StreamLemmas
 pub mod DeleteLemmas
 pub mod RowLemmas

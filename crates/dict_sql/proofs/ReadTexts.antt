@@ -38,7 +38,7 @@ sort_by digits = roll-Sort (record { key = roll-Expr (Expr-F.Integer digits); de
 abbrev pub key_at : ℕ → Term × Key
 key_at place = (col 1 place, record { collation = Binary; descending = false })
 
-abbrev of_column : Carried
+abbrev pub of_column : Carried
 of_column = record { collation = Some Binary; is_written = false }
 
 -- the text reads the rows of this table that pass these tests, in this order, in whatever tree it is

@@ -19,18 +19,20 @@ use Rattle.sqlite.proofs.StateLemmas.{survives_weaker}
 use Rattle.sqlite.proofs.Callers.{IsPlain, EndsIn, begins_shown, given_begin, begun_plain}
 use Rattle.sqlite_trees.specs.declared.store.Store.{Ghosts}
 use Rattle.sqlite_resolve.specs.declared.compiled.Compiled.{Compiled}
-use Rattle.dict_tables.specs.Tables.{edition, entry, kept}
+use Rattle.dict_tables.specs.declared.tables.StoreTable.TheVariants.{Mark, Item, Member, Edition, Entry, Kept}
+use Rattle.dict_tables.specs.Tables.{mark, item, member, edition, entry, kept}
 use Rattle.dict_sql.specs.Effects.{Has, WhileOpen, equals_number, rows_of}
 use Rattle.dict_sql.specs.Columns.{Content}
 use Rattle.dict_sql.specs.declared.records.ReadError.{ReadError}
 use Rattle.dict_sql.specs.declared.records.ReadError.TheVariants.{NoRecord, Store}
 use Rattle.dict_sql.proofs.SilentLemmas.{commits_none, never_returns}
-use Rattle.dict_sql.specs.Reads.{IsListing, IsSelection, FailsToRead, FailsToList, FailsToDecode, FailsToDecodeAll, HasNoRecord, select_edition, select_entry, select_some_entries, select_kept}
+use Rattle.dict_sql.specs.Reads.{IsListing, IsSelection, FailsToRead, FailsToList, FailsToDecode, FailsToDecodeAll, HasNoRecord, select_edition, select_entry, select_some_entries, select_kept, select_kept_by_id, select_by_rowid}
 use Rattle.dict_sql.specs.Streams.{Scan, scan_table, scan_text, scan_values, IsWhole, IsFront, HasGiven, GivesOn, Passes, FailsToGive, FailsToMove, IsNotBegun}
-use Rattle.dict_sql.specs.Streams.Scan.{AllEditions, AllEntries, EntriesOf, AllKept}
+use Rattle.dict_sql.specs.Streams.Scan.{AllEditions, AllEntries, EntriesOf, AllKept, KeptById, ByRowid}
 use Rattle.dict_sql.proofs.Callers.{still_has}
 use Rattle.dict_sql.proofs.ReadTexts.{read_edition, reads_edition, read_entry, reads_entry, read_some_entries, reads_some_entries, read_kept, reads_kept}
 use Rattle.dict_sql.proofs.ReadFaults.{nothing, a_number, takes_edition, takes_entry, takes_some_entries, takes_kept, ends_at, fails_read}
+use Rattle.dict_sql.proofs.RowidTexts.{read_kept_by_id, reads_kept_by_id, takes_kept_by_id, read_mark_by_rowid, reads_mark_by_rowid, takes_mark_by_rowid, read_item_by_rowid, reads_item_by_rowid, takes_item_by_rowid, read_member_by_rowid, reads_member_by_rowid, takes_member_by_rowid, read_edition_by_rowid, reads_edition_by_rowid, takes_edition_by_rowid, read_entry_by_rowid, reads_entry_by_rowid, takes_entry_by_rowid, read_kept_by_rowid, reads_kept_by_rowid, takes_kept_by_rowid}
 use Rattle.dict_sql.proofs.ListingLemmas.{all_pass, shown_selects, reads_plain, entry_read}
 
 whole : (name : List ℕ) (columns : List ℕ) (db : Database) (rows : List Row) → IsSelection name (λ _. true) columns db rows → IsListing name columns db rows
@@ -41,24 +43,52 @@ shows AllEditions old new rows has h = whole (codes "edition") _ old.now rows (s
 shows AllEntries old new rows has h = whole (codes "entry") _ old.now rows (shown_selects select_entry read_entry entry _ _ _ _ _ _ _ _ reads_entry (λ tree. refl) [] (λ _. true) (λ tree row. refl) old new rows has h).0
 shows (EntriesOf n) old new rows has h = (shown_selects select_some_entries read_some_entries entry _ _ _ _ _ _ _ _ reads_some_entries (λ tree. refl) (Int n ∷ []) (equals_number 1 n) (λ tree row. entry_read tree n row) old new rows has h).0
 shows AllKept old new rows has h = whole (codes "kept") _ old.now rows (shown_selects select_kept read_kept kept _ _ _ _ _ _ _ _ reads_kept (λ tree. refl) [] (λ _. true) (λ tree row. refl) old new rows has h).0
+shows KeptById old new rows has h = whole (codes "kept") _ old.now rows (shown_selects select_kept_by_id read_kept_by_id kept _ _ _ _ _ _ _ _ reads_kept_by_id (λ tree. refl) [] (λ _. true) (λ tree row. refl) old new rows has h).0
+shows (ByRowid Mark) old new rows has h = whole (codes "mark") _ old.now rows (shown_selects (select_by_rowid Mark) read_mark_by_rowid mark _ _ _ _ _ _ _ _ reads_mark_by_rowid (λ tree. refl) [] (λ _. true) (λ tree row. refl) old new rows has h).0
+shows (ByRowid Item) old new rows has h = whole (codes "item") _ old.now rows (shown_selects (select_by_rowid Item) read_item_by_rowid item _ _ _ _ _ _ _ _ reads_item_by_rowid (λ tree. refl) [] (λ _. true) (λ tree row. refl) old new rows has h).0
+shows (ByRowid Member) old new rows has h = whole (codes "member") _ old.now rows (shown_selects (select_by_rowid Member) read_member_by_rowid member _ _ _ _ _ _ _ _ reads_member_by_rowid (λ tree. refl) [] (λ _. true) (λ tree row. refl) old new rows has h).0
+shows (ByRowid Edition) old new rows has h = whole (codes "edition") _ old.now rows (shown_selects (select_by_rowid Edition) read_edition_by_rowid edition _ _ _ _ _ _ _ _ reads_edition_by_rowid (λ tree. refl) [] (λ _. true) (λ tree row. refl) old new rows has h).0
+shows (ByRowid Entry) old new rows has h = whole (codes "entry") _ old.now rows (shown_selects (select_by_rowid Entry) read_entry_by_rowid entry _ _ _ _ _ _ _ _ reads_entry_by_rowid (λ tree. refl) [] (λ _. true) (λ tree row. refl) old new rows has h).0
+shows (ByRowid Kept) old new rows has h = whole (codes "kept") _ old.now rows (shown_selects (select_by_rowid Kept) read_kept_by_rowid kept _ _ _ _ _ _ _ _ reads_kept_by_rowid (λ tree. refl) [] (λ _. true) (λ tree row. refl) old new rows has h).0
 
 plainly : (what : Scan) (db : Database) → Has (scan_table what) db → IsPlain (understood db.schema (scan_text what))
 plainly AllEditions db has = reads_plain select_edition read_edition edition _ _ _ _ _ _ _ _ reads_edition db.schema has.0 has.1 has.2
 plainly AllEntries db has = reads_plain select_entry read_entry entry _ _ _ _ _ _ _ _ reads_entry db.schema has.0 has.1 has.2
 plainly (EntriesOf n) db has = reads_plain select_some_entries read_some_entries entry _ _ _ _ _ _ _ _ reads_some_entries db.schema has.0 has.1 has.2
 plainly AllKept db has = reads_plain select_kept read_kept kept _ _ _ _ _ _ _ _ reads_kept db.schema has.0 has.1 has.2
+plainly KeptById db has = reads_plain select_kept_by_id read_kept_by_id kept _ _ _ _ _ _ _ _ reads_kept_by_id db.schema has.0 has.1 has.2
+plainly (ByRowid Mark) db has = reads_plain (select_by_rowid Mark) read_mark_by_rowid mark _ _ _ _ _ _ _ _ reads_mark_by_rowid db.schema has.0 has.1 has.2
+plainly (ByRowid Item) db has = reads_plain (select_by_rowid Item) read_item_by_rowid item _ _ _ _ _ _ _ _ reads_item_by_rowid db.schema has.0 has.1 has.2
+plainly (ByRowid Member) db has = reads_plain (select_by_rowid Member) read_member_by_rowid member _ _ _ _ _ _ _ _ reads_member_by_rowid db.schema has.0 has.1 has.2
+plainly (ByRowid Edition) db has = reads_plain (select_by_rowid Edition) read_edition_by_rowid edition _ _ _ _ _ _ _ _ reads_edition_by_rowid db.schema has.0 has.1 has.2
+plainly (ByRowid Entry) db has = reads_plain (select_by_rowid Entry) read_entry_by_rowid entry _ _ _ _ _ _ _ _ reads_entry_by_rowid db.schema has.0 has.1 has.2
+plainly (ByRowid Kept) db has = reads_plain (select_by_rowid Kept) read_kept_by_rowid kept _ _ _ _ _ _ _ _ reads_kept_by_rowid db.schema has.0 has.1 has.2
 
 ends : (what : Scan) (now : Database) → Has (scan_table what) now → (c : Compiled) → understood now.schema (scan_text what) ≡ Ok c → (db : Database) (params : Row) → EndsIn c.command db params
 ends AllEditions now has = ends_at select_edition read_edition edition _ _ _ _ _ _ _ _ reads_edition now.schema has
 ends AllEntries now has = ends_at select_entry read_entry entry _ _ _ _ _ _ _ _ reads_entry now.schema has
 ends (EntriesOf n) now has = ends_at select_some_entries read_some_entries entry _ _ _ _ _ _ _ _ reads_some_entries now.schema has
 ends AllKept now has = ends_at select_kept read_kept kept _ _ _ _ _ _ _ _ reads_kept now.schema has
+ends KeptById now has = ends_at select_kept_by_id read_kept_by_id kept _ _ _ _ _ _ _ _ reads_kept_by_id now.schema has
+ends (ByRowid Mark) now has = ends_at (select_by_rowid Mark) read_mark_by_rowid mark _ _ _ _ _ _ _ _ reads_mark_by_rowid now.schema has
+ends (ByRowid Item) now has = ends_at (select_by_rowid Item) read_item_by_rowid item _ _ _ _ _ _ _ _ reads_item_by_rowid now.schema has
+ends (ByRowid Member) now has = ends_at (select_by_rowid Member) read_member_by_rowid member _ _ _ _ _ _ _ _ reads_member_by_rowid now.schema has
+ends (ByRowid Edition) now has = ends_at (select_by_rowid Edition) read_edition_by_rowid edition _ _ _ _ _ _ _ _ reads_edition_by_rowid now.schema has
+ends (ByRowid Entry) now has = ends_at (select_by_rowid Entry) read_entry_by_rowid entry _ _ _ _ _ _ _ _ reads_entry_by_rowid now.schema has
+ends (ByRowid Kept) now has = ends_at (select_by_rowid Kept) read_kept_by_rowid kept _ _ _ _ _ _ _ _ reads_kept_by_rowid now.schema has
 
 pub fails_to_read : (what : Scan) (old new : State) → (IsTrue old.is_open → Has (scan_table what) old.now) → (e : Error) → FailsToQuery (scan_text what) (scan_values what) old new e → FailsToRead old new e
 fails_to_read AllEditions old new has = fails_read select_edition read_edition edition _ _ _ _ _ _ _ _ reads_edition nothing takes_edition tt old new has
 fails_to_read AllEntries old new has = fails_read select_entry read_entry entry _ _ _ _ _ _ _ _ reads_entry nothing takes_entry tt old new has
 fails_to_read (EntriesOf n) old new has = fails_read select_some_entries read_some_entries entry _ _ _ _ _ _ _ _ reads_some_entries a_number takes_some_entries n old new has
 fails_to_read AllKept old new has = fails_read select_kept read_kept kept _ _ _ _ _ _ _ _ reads_kept nothing takes_kept tt old new has
+fails_to_read KeptById old new has = fails_read select_kept_by_id read_kept_by_id kept _ _ _ _ _ _ _ _ reads_kept_by_id nothing takes_kept_by_id tt old new has
+fails_to_read (ByRowid Mark) old new has = fails_read (select_by_rowid Mark) read_mark_by_rowid mark _ _ _ _ _ _ _ _ reads_mark_by_rowid nothing takes_mark_by_rowid tt old new has
+fails_to_read (ByRowid Item) old new has = fails_read (select_by_rowid Item) read_item_by_rowid item _ _ _ _ _ _ _ _ reads_item_by_rowid nothing takes_item_by_rowid tt old new has
+fails_to_read (ByRowid Member) old new has = fails_read (select_by_rowid Member) read_member_by_rowid member _ _ _ _ _ _ _ _ reads_member_by_rowid nothing takes_member_by_rowid tt old new has
+fails_to_read (ByRowid Edition) old new has = fails_read (select_by_rowid Edition) read_edition_by_rowid edition _ _ _ _ _ _ _ _ reads_edition_by_rowid nothing takes_edition_by_rowid tt old new has
+fails_to_read (ByRowid Entry) old new has = fails_read (select_by_rowid Entry) read_entry_by_rowid entry _ _ _ _ _ _ _ _ reads_entry_by_rowid nothing takes_entry_by_rowid tt old new has
+fails_to_read (ByRowid Kept) old new has = fails_read (select_by_rowid Kept) read_kept_by_rowid kept _ _ _ _ _ _ _ _ reads_kept_by_rowid nothing takes_kept_by_rowid tt old new has
 
 pub still : (old new : State) → IsUnchanged old new → IsUnchanged new new
 still old new same = (record { was_open = same.0.is_open; is_open = same.0.is_open; now_is = refl; committed_is = refl; mode = refl }, record { changes = refl; last_rowid = refl }, refl)
@@ -68,12 +98,26 @@ none_committed AllEditions = commits_none select_edition read_edition _ reads_ed
 none_committed AllEntries = commits_none select_entry read_entry _ reads_entry.read (reads_entry.statement 0)
 none_committed (EntriesOf n) = commits_none select_some_entries read_some_entries _ reads_some_entries.read (reads_some_entries.statement 0)
 none_committed AllKept = commits_none select_kept read_kept _ reads_kept.read (reads_kept.statement 0)
+none_committed KeptById = commits_none select_kept_by_id read_kept_by_id _ reads_kept_by_id.read (reads_kept_by_id.statement 0)
+none_committed (ByRowid Mark) = commits_none (select_by_rowid Mark) read_mark_by_rowid _ reads_mark_by_rowid.read (reads_mark_by_rowid.statement 0)
+none_committed (ByRowid Item) = commits_none (select_by_rowid Item) read_item_by_rowid _ reads_item_by_rowid.read (reads_item_by_rowid.statement 0)
+none_committed (ByRowid Member) = commits_none (select_by_rowid Member) read_member_by_rowid _ reads_member_by_rowid.read (reads_member_by_rowid.statement 0)
+none_committed (ByRowid Edition) = commits_none (select_by_rowid Edition) read_edition_by_rowid _ reads_edition_by_rowid.read (reads_edition_by_rowid.statement 0)
+none_committed (ByRowid Entry) = commits_none (select_by_rowid Entry) read_entry_by_rowid _ reads_entry_by_rowid.read (reads_entry_by_rowid.statement 0)
+none_committed (ByRowid Kept) = commits_none (select_by_rowid Kept) read_kept_by_rowid _ reads_kept_by_rowid.read (reads_kept_by_rowid.statement 0)
 
 none_returned : (what : Scan) (schema : Schema) → ¬ Returns (understood schema (scan_text what))
 none_returned AllEditions = never_returns select_edition read_edition _ reads_edition.read (reads_edition.statement 0)
 none_returned AllEntries = never_returns select_entry read_entry _ reads_entry.read (reads_entry.statement 0)
 none_returned (EntriesOf n) = never_returns select_some_entries read_some_entries _ reads_some_entries.read (reads_some_entries.statement 0)
 none_returned AllKept = never_returns select_kept read_kept _ reads_kept.read (reads_kept.statement 0)
+none_returned KeptById = never_returns select_kept_by_id read_kept_by_id _ reads_kept_by_id.read (reads_kept_by_id.statement 0)
+none_returned (ByRowid Mark) = never_returns (select_by_rowid Mark) read_mark_by_rowid _ reads_mark_by_rowid.read (reads_mark_by_rowid.statement 0)
+none_returned (ByRowid Item) = never_returns (select_by_rowid Item) read_item_by_rowid _ reads_item_by_rowid.read (reads_item_by_rowid.statement 0)
+none_returned (ByRowid Member) = never_returns (select_by_rowid Member) read_member_by_rowid _ reads_member_by_rowid.read (reads_member_by_rowid.statement 0)
+none_returned (ByRowid Edition) = never_returns (select_by_rowid Edition) read_edition_by_rowid _ reads_edition_by_rowid.read (reads_edition_by_rowid.statement 0)
+none_returned (ByRowid Entry) = never_returns (select_by_rowid Entry) read_entry_by_rowid _ reads_entry_by_rowid.read (reads_entry_by_rowid.statement 0)
+none_returned (ByRowid Kept) = never_returns (select_by_rowid Kept) read_kept_by_rowid _ reads_kept_by_rowid.read (reads_kept_by_rowid.statement 0)
 
 commits_nothing : (what : Scan) (old new : State) → Survives old new (CommitsShowing (scan_text what) (scan_values what) old) → Survives old new (λ _. ⊥)
 commits_nothing what old new s = survives_weaker old new _ _ (λ clean db. none_committed what (scan_values what) old db) s

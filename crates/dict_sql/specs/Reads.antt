@@ -10,6 +10,8 @@ use Rattle.sqlite.specs.State.{State, IsUnchanged, Fails}
 use Rattle.sqlite.specs.declared.error.Error.{Error}
 use Rattle.sqlite.specs.declared.error.Error.TheVariants.{SqliteFailure}
 use Rattle.sqlite.specs.declared.error.ErrorCode.TheVariants.{OutOfMemory, OperationInterrupted}
+use Rattle.dict_tables.specs.declared.tables.StoreTable.{StoreTable}
+use Rattle.dict_tables.specs.declared.tables.StoreTable.TheVariants.{Mark, Item, Member, Edition, Entry, Kept}
 use Rattle.dict_sql.specs.Effects.{rows_of}
 use Rattle.dict_sql.specs.Columns.{Content, HasColumns}
 use Rattle.dict_sql.specs.declared.records.ReadError.{ReadError}
@@ -32,6 +34,18 @@ select_entry = codes "SELECT rowid, * FROM entry ORDER BY 2, 3"
 
 abbrev pub select_kept : List ℕ
 select_kept = codes "SELECT rowid, * FROM kept ORDER BY 3"
+
+abbrev pub select_kept_by_id : List ℕ
+select_kept_by_id = codes "SELECT rowid, * FROM kept ORDER BY 2"
+
+-- a table in the order of its rowids
+abbrev pub select_by_rowid : StoreTable → List ℕ
+select_by_rowid Mark = codes "SELECT rowid, * FROM mark ORDER BY 1"
+select_by_rowid Item = codes "SELECT rowid, * FROM item ORDER BY 1"
+select_by_rowid Member = codes "SELECT rowid, * FROM member ORDER BY 1"
+select_by_rowid Edition = codes "SELECT rowid, * FROM edition ORDER BY 1"
+select_by_rowid Entry = codes "SELECT rowid, * FROM entry ORDER BY 1"
+select_by_rowid Kept = codes "SELECT rowid, * FROM kept ORDER BY 1"
 
 -- the order of rows by these columns, where the rowid is column 0
 abbrev pub by_columns : List ℕ → Row → Row → Ordering

@@ -11,12 +11,13 @@ use Rattle.sqlite.specs.State.{HasCleanDisk, IsUnchanged, Survives}
 use Rattle.sqlite.specs.Held.{Held, state}
 use Rattle.sqlite.specs.Given as kit
 use Rattle.sqlite_trees.specs.declared.store.Store.{Ghosts}
-use Rattle.dict_tables.specs.Tables.{edition, entry, kept}
+use Rattle.dict_tables.specs.declared.tables.StoreTable.{StoreTable}
+use Rattle.dict_tables.specs.Tables.{edition, entry, kept, table_of}
 use Rattle.dict_sql.specs.Effects.{Has, equals_number}
 use Rattle.dict_sql.specs.Columns.{Content, HasColumns}
 use Rattle.dict_sql.specs.declared.records.ReadError.{ReadError}
 use Rattle.dict_sql.specs.declared.records.ReadError.TheVariants.{NoRecord, Store}
-use Rattle.dict_sql.specs.Reads.{IsListing, IsSelection, FailsToRead, select_edition, select_entry, select_some_entries, select_kept}
+use Rattle.dict_sql.specs.Reads.{IsListing, IsSelection, FailsToRead, select_edition, select_entry, select_some_entries, select_kept, select_kept_by_id, select_by_rowid}
 
 -- which rows of a large table are read, one at a time
 pub data Scan : Type 0 where
@@ -24,12 +25,16 @@ pub data Scan : Type 0 where
   AllEntries : Scan
   EntriesOf : ℤ → Scan
   AllKept : Scan
+  KeptById : Scan
+  ByRowid : StoreTable → Scan
 
 abbrev pub scan_table : Scan → ℕ → Table
 scan_table AllEditions = edition
 scan_table AllEntries = entry
 scan_table (EntriesOf number) = entry
 scan_table AllKept = kept
+scan_table KeptById = kept
+scan_table (ByRowid table) = table_of table
 
 -- the text that is run, and the values that it is given
 abbrev pub scan_text : Scan → List ℕ
@@ -37,6 +42,8 @@ scan_text AllEditions = select_edition
 scan_text AllEntries = select_entry
 scan_text (EntriesOf number) = select_some_entries
 scan_text AllKept = select_kept
+scan_text KeptById = select_kept_by_id
+scan_text (ByRowid table) = select_by_rowid table
 
 abbrev pub scan_values : Scan → Row
 scan_values (EntriesOf number) = Int number ∷ []
@@ -48,6 +55,8 @@ IsWhole AllEditions db rows = IsListing (codes "edition") (1 ∷ []) db rows
 IsWhole AllEntries db rows = IsListing (codes "entry") (1 ∷ 2 ∷ []) db rows
 IsWhole (EntriesOf number) db rows = IsSelection (codes "entry") (equals_number 1 number) (2 ∷ []) db rows
 IsWhole AllKept db rows = IsListing (codes "kept") (2 ∷ []) db rows
+IsWhole KeptById db rows = IsListing (codes "kept") (1 ∷ []) db rows
+IsWhole (ByRowid table) db rows = IsListing (table_of table 0).name (0 ∷ []) db rows
 
 -- the first of these rows
 abbrev pub IsFront : Scan → Database → List Row → Type 0

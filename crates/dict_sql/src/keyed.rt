@@ -42,6 +42,10 @@ impl Record for Stored<KeyedEntry<String, Vec<u8>>> {
         let value = keyed_entry(row)?;
         Ok(Stored { rowid, value })
     }
+
+    fn rowid(&self) -> i64 {
+        self.rowid
+    }
 }
 
 impl Record for Stored<Word<Vec<u8>>> {
@@ -62,6 +66,10 @@ impl Record for Stored<Word<Vec<u8>>> {
             },
         })
     }
+
+    fn rowid(&self) -> i64 {
+        self.rowid
+    }
 }
 
 impl Record for Stored<Gram<Vec<u8>>> {
@@ -81,5 +89,9 @@ impl Record for Stored<Gram<Vec<u8>>> {
                 ord: cell(row, 3)?,
             },
         })
+    }
+
+    fn rowid(&self) -> i64 {
+        self.rowid
     }
 }

@@ -3,6 +3,7 @@
 ghost use Rattle.std.specs.Prelude.{◌≡◌, ◌≢◌, ◌<◌, ◌↔◌, IsTrue, List, length, IfOk, IfErr, OnOk};
 ghost use Rattle.sqlite.specs.declared.error.ErrorCode.TheVariants.{OutOfMemory as Refused};
 ghost use Rattle.sqlite.specs.declared.types.Value.{Value as SqlValue};
+ghost use Rattle.sqlite.specs.declared.types.Value.TheVariants.{Int};
 ghost use Rattle.sqlite.specs.Order.{column};
 ghost use Rattle.dict_sql.specs.Encodings.{stored_mark, stored_item, stored_member, stored_edition, stored_entry, stored_kept};
 ghost use Rattle.dict_sql.specs.Columns.{Content, HasColumns, mark_columns, item_columns, member_columns, edition_columns, entry_columns, kept_columns};
@@ -73,6 +74,10 @@ pub trait Record: Sized {
         ensures read { IfOk result (λ r. row.now ≡ stored r) }
         ensures lawful { OnOk result (HasColumns columns row.now) }
         ensures refused { IfErr result (FailsToDecode columns row.now) };
+
+    /// The rowid of the row that it stands in.
+    fn rowid(&self) -> i64
+        ensures { column (stored self.now) 0 ≡ Int result };
 }
 
 // Whether memory was refused.
@@ -119,6 +124,10 @@ impl Record for Stored<Mark<String>> {
             },
         })
     }
+
+    fn rowid(&self) -> i64 {
+        self.rowid
+    }
 }
 
 impl Record for Stored<Item<String>> {
@@ -142,6 +151,10 @@ impl Record for Stored<Item<String>> {
             },
         })
     }
+
+    fn rowid(&self) -> i64 {
+        self.rowid
+    }
 }
 
 impl Record for Stored<Member<String>> {
@@ -161,6 +174,10 @@ impl Record for Stored<Member<String>> {
                 name: cell(row, 3)?,
             },
         })
+    }
+
+    fn rowid(&self) -> i64 {
+        self.rowid
     }
 }
 
@@ -184,6 +201,10 @@ impl Record for Stored<Edition<String, Vec<u8>>> {
             },
         })
     }
+
+    fn rowid(&self) -> i64 {
+        self.rowid
+    }
 }
 
 impl Record for Stored<Entry<String>> {
@@ -206,6 +227,10 @@ impl Record for Stored<Entry<String>> {
             },
         })
     }
+
+    fn rowid(&self) -> i64 {
+        self.rowid
+    }
 }
 
 impl Record for Stored<Kept<String>> {
@@ -227,5 +252,9 @@ impl Record for Stored<Kept<String>> {
                 edition: cell(row, 5)?,
             },
         })
+    }
+
+    fn rowid(&self) -> i64 {
+        self.rowid
     }
 }

@@ -9,12 +9,14 @@ ghost use Rattle.sqlite.specs.State.{HasCleanDisk, IsUnchanged, Survives};
 ghost use Rattle.sqlite.specs.Held.{state};
 ghost use Rattle.sqlite.specs.Given.{IsEnded, Advances};
 ghost use Rattle.sqlite.specs.contracts.connection.Connection.{the_row};
-ghost use Rattle.dict_tables.specs.Tables.{edition as edition_table, entry, kept};
+ghost use Rattle.dict_tables.specs.Tables.{edition as edition_table, entry, kept, table_of};
+ghost use Rattle.dict_sql.specs.Reads.{select_by_rowid};
 ghost use Rattle.dict_sql.specs.Effects.{Has, WhileOpen};
 ghost use Rattle.dict_sql.specs.Streams.{Scan, HasGiven, GivesOn, FailsToGive, FailsToMove, IsNotBegun};
-ghost use Rattle.dict_sql.specs.Streams.Scan.{AllEditions, AllEntries, EntriesOf, AllKept};
+ghost use Rattle.dict_sql.specs.Streams.Scan.{AllEditions, AllEntries, EntriesOf, AllKept, KeptById, ByRowid};
 
 use crate::records::{ReadError, Record};
+use dict_tables::StoreTable;
 use sqlite::{Alter, Connection, Error, Rows, params};
 
 /// Begins to read all editions with their whole texts, in the order of their numbers.
@@ -77,6 +79,50 @@ pub fn read_kept_replies<S: Alter>(conn: &mut Connection<S>) -> Result<Rows<'_, 
     ensures survives { IfOk result (λ rows. Survives (state S.Store conn.old) (state S.Store rows.conn.now) (λ _. ⊥)) }
 {
     conn.query("SELECT rowid, * FROM kept ORDER BY 3", &[])
+}
+
+/// Begins to read all kept replies, in the order of their ids.
+///
+/// An error is the store's, or tells that the limit on steps was met.
+pub fn read_kept_by_id<S: Alter>(conn: &mut Connection<S>) -> Result<Rows<'_, S>, Error>
+    requires { WhileOpen (state S.Store conn.old) (Has kept) }
+    ensures* refused { sem 𝓛 (RestsIfErr (the_row S.row S.Store) conn.entry (λ rows. rows.conn.ghost_name) result (IsNotBegun S.Store conn.old result)) }
+    ensures same_reference { IfOk result (λ rows. rows.conn.ghost_name ≡ conn.entry.ghost_name) }
+    ensures begun { IfOk result (λ rows. HasCleanDisk (state S.Store rows.conn.now) → HasGiven S.Store KeptById rows.conn.now [] × IsUnchanged (state S.Store conn.old) (state S.Store rows.conn.now)) }
+    ensures mode { IfOk result (λ rows. conn.old.in_transaction ≡ false → rows.conn.now.in_transaction ≡ false) }
+    ensures survives { IfOk result (λ rows. Survives (state S.Store conn.old) (state S.Store rows.conn.now) (λ _. ⊥)) }
+{
+    conn.query("SELECT rowid, * FROM kept ORDER BY 2", &[])
+}
+
+fn text_by_rowid(table: StoreTable) -> &'static str
+    ensures { result.now ≡ select_by_rowid table }
+{
+    match table {
+        StoreTable::Mark => "SELECT rowid, * FROM mark ORDER BY 1",
+        StoreTable::Item => "SELECT rowid, * FROM item ORDER BY 1",
+        StoreTable::Member => "SELECT rowid, * FROM member ORDER BY 1",
+        StoreTable::Edition => "SELECT rowid, * FROM edition ORDER BY 1",
+        StoreTable::Entry => "SELECT rowid, * FROM entry ORDER BY 1",
+        StoreTable::Kept => "SELECT rowid, * FROM kept ORDER BY 1",
+    }
+}
+
+/// Begins to read all rows of a table, in the order of their rowids.
+///
+/// An error is the store's, or tells that the limit on steps was met.
+pub fn read_by_rowid<S: Alter>(
+    conn: &mut Connection<S>,
+    table: StoreTable,
+) -> Result<Rows<'_, S>, Error>
+    requires { WhileOpen (state S.Store conn.old) (Has (table_of table)) }
+    ensures* refused { sem 𝓛 (RestsIfErr (the_row S.row S.Store) conn.entry (λ rows. rows.conn.ghost_name) result (IsNotBegun S.Store conn.old result)) }
+    ensures same_reference { IfOk result (λ rows. rows.conn.ghost_name ≡ conn.entry.ghost_name) }
+    ensures begun { IfOk result (λ rows. HasCleanDisk (state S.Store rows.conn.now) → HasGiven S.Store (ByRowid table) rows.conn.now [] × IsUnchanged (state S.Store conn.old) (state S.Store rows.conn.now)) }
+    ensures mode { IfOk result (λ rows. conn.old.in_transaction ≡ false → rows.conn.now.in_transaction ≡ false) }
+    ensures survives { IfOk result (λ rows. Survives (state S.Store conn.old) (state S.Store rows.conn.now) (λ _. ⊥)) }
+{
+    conn.query(text_by_rowid(table), &[])
 }
 
 /// The next record, or none after the last.

@@ -1,5 +1,4 @@
-use Rattle.std.proofs.Common.{◌≡◌, ◌∷◌, drop, sym, ◌∙◌, ap, subst, arith, length}
-use Rattle.sqlite.specs.Order.{Row, column}
+use Rattle.std.proofs.Common.{◌≡◌, sym, subst, arith, length}
 use Rattle.dict_sql.specs.Columns.{HasColumns}
 use Rattle.dict_sql.specs.Keyed.{keyed_entry_columns}
 use Rattle.dict_sql.proofs.RowLemmas.{first_and_rest}

@@ -1,0 +1,148 @@
+-- All records were read.
+use Rattle.std.proofs.Common.{◌≡◌, ℕ, ◌+◌, ℤ, pos, Bool, true, false, ◌||◌, List, [], ◌∷◌, ◌++◌, map, drop, filter, codes, refl, sym, ap, subst, ◌∙◌, arith, append-nil}
+use Rattle.std.specs.Prelude.{IsTrue}
+use Rattle.std.specs.List.{AllByRecursion, list_any}
+use Rattle.std.specs.List.Sorted.{IsPermutation}
+use Rattle.std.proofs.lemmas.Bool.{false≢true}
+use Rattle.std.proofs.lemmas.List.Sorted.{IsPermutation-map, IsPermutation-sym, IsPermutation-trans}
+use Rattle.sqlite.specs.Effect.{Database}
+use Rattle.sqlite.specs.Order.{Row, column}
+use Rattle.sqlite.specs.declared.types.Value.{Value}
+use Rattle.sqlite.specs.declared.types.Value.TheVariants.{Int}
+use Rattle.dict_text.proofs.AllLemmas.{all_weaker}
+use Rattle.dict_records.specs.Records as spec
+use Rattle.dict_sql.specs.Effects.{rows_of, same_value, equals_number}
+use Rattle.dict_sql.specs.Encodings.{mark_row, item_row, member_row, edition_row, entry_row, kept_row, stored_edition, stored_entry, stored_kept}
+use Rattle.dict_sql.specs.Reads.{IsListing}
+use Rattle.dict_file.specs.Holds.{Keeps}
+use Rattle.dict_catalogue.specs.Items.{name_of, editions_of, edition_numbers, is_known}
+use Rattle.dict_catalogue.specs.Steps.{Catalogue}
+use Rattle.dict_catalogue.specs.WellFormed.{total, IsEachOnce}
+use Rattle.dict_catalogue.proofs.ListLemmas.{sum_append}
+use Rattle.dict_rows.specs.Tables.{Tables, same_number, editions_numbered, entries_of}
+use Rattle.dict_rows.specs.Given.{kept_given}
+use Rattle.dict_rows.specs.Stands.{Stands, HoldsMembers, HoldsEdition, HoldsEditions, has_number}
+use Rattle.dict_rows.specs.Taken.{BeginsWith, items_in}
+use Rattle.dict_rows.specs.Whole.{with_replies}
+use Rattle.dict_rows.specs.declared.reader.Reader.{Reader}
+use Rattle.dict_rows.proofs.OrderLemmas.{Same, same_from, same_passed, all_same}
+use Rattle.dict_rows.proofs.PartLemmas.{filter_whole}
+use Rattle.dict_rows.proofs.TakenLemmas.{holds_same, same_number_is, same_itself}
+use Rattle.dict_opening.specs.Opens.{Keeping, KeepsNone, Fits, KeepsRows, HasBegun, HasNamed, AreAllKnown, HasReplies, HasAll, one_of}
+use Rattle.dict_opening.specs.Takers.{KeptRow, edition_number, entry_edition}
+use Rattle.dict_opening.proofs.CodecLemmas.{Codec, edition_codec, entry_codec, kept_codec}
+use Rattle.dict_opening.proofs.FindLemmas.{same_int}
+use Rattle.dict_opening.proofs.FitLemmas.{fits_replies}
+use Rattle.dict_opening.proofs.WrongLemmas.{rows_listed}
+
+-- ---- no strays, so the editions of the items are all
+
+turn : (a b : ℤ) → same_number a b ≡ true → same_number b a ≡ true
+turn a b e = subst (λ z. same_number z a ≡ true) (same_number_is a b e) (same_itself a)
+
+second : (b : Bool) → (b || true) ≡ true
+second true = refl
+second false = refl
+
+numbered_row : (row : Row) (k : ℤ) (ns : List ℕ) → column row 1 ≡ Int k → list_any (λ one. same_number (pos one) k) ns ≡ true → one_of (map pos ns) row ≡ true
+numbered_row row k [] is h = absurd (false≢true h)
+numbered_row row k (n ∷ ns) is h = split (same_number (pos n) k) refl h (numbered_row row k ns is)
+  where
+    split : (b : Bool) → same_number (pos n) k ≡ b → (b || list_any (λ one. same_number (pos one) k) ns) ≡ true → (list_any (λ one. same_number (pos one) k) ns ≡ true → one_of (map pos ns) row ≡ true) → (equals_number 1 (pos n) row || one_of (map pos ns) row) ≡ true
+    split true p q rest = ap (λ b. b || one_of (map pos ns) row) (ap (λ (v : Value). same_value v (Int (pos n))) is ∙ same_int k (pos n) ∙ turn (pos n) k p)
+    split false p q rest = ap (λ b. equals_number 1 (pos n) row || b) (rest q) ∙ second (equals_number 1 (pos n) row)
+
+rows_known : {R : Type 0} (stored : R → Row) (number : R → ℤ) → ((r : R) → column (stored r) 1 ≡ Int (number r)) → (ns : List ℕ) (given : List R) → AllByRecursion (λ r. list_any (λ one. same_number (pos one) (number r)) ns ≡ true) given → AllByRecursion (λ row. one_of (map pos ns) row ≡ true) (map stored given)
+rows_known stored number is ns [] h = tt
+rows_known stored number is ns (r ∷ given) h = (numbered_row (stored r) (number r) ns (is r) h.0, rows_known stored number is ns given h.1)
+
+module _ (db : Database) (reader : Reader) (front taken : Tables) (all : AreAllKnown db reader) (named : HasNamed db reader front taken) where
+  whole : {R : Type 0} (stored : R → Row) (number : R → ℤ) → ((r : R) → column (stored r) 1 ≡ Int (number r)) → (name : List ℕ) (given : List R) → IsPermutation (rows_of name db) (map stored given) → AllByRecursion (λ r. IsTrue (has_number (items_in reader) (number r))) given → filter (one_of named.numbers) (rows_of name db) ≡ rows_of name db
+  whole stored number is name given same known =
+      filter_whole (one_of named.numbers) (rows_of name db)
+      (subst (λ ns. AllByRecursion (λ row. one_of ns row ≡ true) (rows_of name db)) (sym named.are)
+      (all_same (λ row. one_of (map pos (edition_numbers (items_in reader))) row ≡ true) (map stored given) (rows_of name db) (IsPermutation-sym _ _ same) (rows_known stored number is (edition_numbers (items_in reader)) given known)))
+
+  pub editions_all : IsPermutation (map edition_row taken.editions) (map (drop 1) (rows_of (codes "edition") db))
+  editions_all =
+      let same = subst (λ rows. IsPermutation rows named.read.edition_rows) (whole stored_edition edition_number (λ r. refl) (codes "edition") all.editions.0 all.editions.1.same all.editions.2) named.read.editions in
+      subst (λ xs. IsPermutation xs (map (drop 1) (rows_of (codes "edition") db))) named.read.editions_are (IsPermutation-map (drop 1) _ _ (IsPermutation-sym _ _ same))
+
+  pub entries_all : IsPermutation (map entry_row taken.entries) (map (drop 1) (rows_of (codes "entry") db))
+  entries_all =
+      let same = subst (λ rows. IsPermutation rows named.read.entry_rows) (whole stored_entry entry_edition (λ r. refl) (codes "entry") all.entries.0 all.entries.1.same all.entries.2) named.read.entries in
+      subst (λ xs. IsPermutation xs (map (drop 1) (rows_of (codes "entry") db))) named.read.entries_are (IsPermutation-map (drop 1) _ _ (IsPermutation-sym _ _ same))
+
+  module _ (begun : HasBegun db front) (after : Tables) (replies : HasReplies db taken after) where
+    none_yet : taken.kept ≡ []
+    none_yet = named.read.kept ∙ begun.no_kept
+
+    abbrev given : List KeptRow
+    given = replies.given
+
+    kept_is : taken.kept ++ kept_given given ≡ kept_given given
+    kept_is = ap (λ l. l ++ kept_given given) none_yet
+
+    all_read : HasAll db front (with_replies taken (kept_given given))
+    all_read = record {
+      keeps = record {
+        marks = subst (λ ms. IsPermutation (map mark_row ms) (map (drop 1) (rows_of (codes "mark") db))) (sym named.read.marks) begun.marks;
+        items = subst (λ is. IsPermutation (map item_row is) (map (drop 1) (rows_of (codes "item") db))) (sym named.read.items) begun.items;
+        members = subst (λ ms. IsPermutation (map member_row ms) (map (drop 1) (rows_of (codes "member") db))) (sym named.read.members) begun.members;
+        editions = editions_all;
+        entries = entries_all;
+        kept = subst (λ ks. IsPermutation (map kept_row ks) (map (drop 1) (rows_of (codes "kept") db))) (sym kept_is) (rows_listed kept_codec (codes "kept") (2 ∷ []) db given replies.listing);
+      };
+      members = named.read.members;
+      fits = fits_replies db taken named.read.fits none_yet given ([], subst (λ rows. IsListing (codes "kept") (2 ∷ []) db rows) (sym (append-nil (map stored_kept given))) replies.listing);
+      ids = subst (λ ks. IsEachOnce (map (λ (row : spec.Kept). row.id) ks)) (sym kept_is) replies.ids;
+    }
+
+    pub has_all : HasAll db front after
+    has_all = subst (HasAll db front) (sym replies.after_is) all_read
+
+-- ---- tables that stand for a catalogue are those that were read
+
+records_back : {R W : Type 0} (k : Codec R W) (name : List ℕ) (db : Database) (ws vs : List W) → Keeps name k.encode db ws → IsPermutation (map k.encode vs) (map (drop 1) (rows_of name db)) → IsPermutation ws vs
+records_back k name db ws vs keeps rows =
+    subst (λ xs. IsPermutation xs vs) (back ws) (subst (IsPermutation (map k.decode (map k.encode ws))) (back vs) (IsPermutation-map k.decode _ _ (IsPermutation-trans (map k.encode ws) (map (drop 1) (rows_of name db)) (map k.encode vs) keeps.rows (IsPermutation-sym _ _ rows))))
+  where
+    back : (ws : List _) → map k.decode (map k.encode ws) ≡ ws
+    back [] = refl
+    back (w ∷ ws) = λ i. k.undo w i ∷ back ws i
+
+no_more : {X : Type 0} (more : List X) → total (λ x. 1) more ≡ 0 → more ≡ []
+no_more [] e = refl
+no_more (x ∷ more) e = absurd (omega (arith, e))
+
+nothing_more : {X : Type 0} (xs ys : List X) → BeginsWith xs ys → Same xs ys → xs ≡ ys
+nothing_more xs ys b s =
+    let one = s.counts (λ x. true) in
+    let two : total (λ x. 1) xs ≡ total (λ x. 1) ys + total (λ x. 1) b.0 = ap (total (λ x. 1)) b.1 ∙ sum_append (λ x. 1) ys b.0 in
+    let none : b.0 ≡ [] = no_more b.0 (omega (arith, one, two)) in
+    b.1 ∙ ap (λ l. ys ++ l) none ∙ append-nil ys
+
+module _ (db : Database) (after : Tables) (keeps : KeepsRows db after) (fits : Fits db after) where
+  stands_after : (T : Tables) (M : Catalogue) → Keeping db after.members T M → Stands 1 after M
+  stands_after T M K =
+      let goes = fits T M K in
+      let s = K.stands in
+      let editions = records_back edition_codec (codes "edition") db T.editions after.editions K.keeps.editions keeps.editions in
+      let entries = records_back entry_codec (codes "entry") db T.entries after.entries K.keeps.entries keeps.entries in
+      let kept = records_back kept_codec (codes "kept") db T.kept after.kept K.keeps.kept keeps.kept in
+      let one : (n : ℤ) → editions_numbered n T.editions ≡ editions_numbered n after.editions = λ n. nothing_more _ _ (goes.editions n) (same_passed (λ row. same_number row.number n) T.editions after.editions (same_from T.editions after.editions editions)) in
+      let each : (n : ℤ) → entries_of n T.entries ≡ entries_of n after.entries = λ n. nothing_more _ _ (goes.entries n) (same_passed (λ row. same_number row.edition n) T.entries after.entries (same_from T.entries after.entries entries)) in
+      record {
+        well_formed = s.well_formed;
+        marks = sym goes.marks ∙ s.marks;
+        items = sym goes.items ∙ s.items;
+        members = subst (λ ms. AllByRecursion (HoldsMembers ms) M.items) goes.members s.members;
+        owners = subst (AllByRecursion (λ (row : spec.Member). IsTrue (is_known M.items row.owner))) goes.members s.owners;
+        editions = all_weaker (HoldsEditions T) (HoldsEditions after) (λ item g. all_weaker (HoldsEdition T (name_of item)) (HoldsEdition after (name_of item)) (λ stored h. holds_same T after (name_of item) stored (record { editions = sym (one (pos stored.number)); entries = sym (each (pos stored.number)) }) h) (editions_of item) g) M.items s.editions;
+        numbers = all_same (λ (row : spec.Edition). IsTrue (has_number M.items row.number)) T.editions after.editions editions s.numbers;
+        entries = all_same (λ (row : spec.Entry). IsTrue (has_number M.items row.edition)) T.entries after.entries entries s.entries;
+        kept = sym (nothing_more T.kept after.kept goes.kept (same_from T.kept after.kept kept)) ∙ s.kept;
+      }
+
+  pub finish_wrong : ((M : Catalogue) → Stands 1 after M → ⊥) → KeepsNone db after.members
+  finish_wrong none T M K = none M (stands_after T M K)

@@ -1,0 +1,14 @@
+pub mod StateLemmas
+pub mod ScanLemmas
+pub mod TakerLemmas
+pub mod BeginLemmas
+pub mod RowidLemmas
+pub mod TestLemmas
+pub mod CodecLemmas
+pub mod FindLemmas
+pub mod FitLemmas
+pub mod NoneLemmas
+pub mod ReadLemmas
+pub mod WrongLemmas
+pub mod CloseLemmas
+pub mod MarkLemmas

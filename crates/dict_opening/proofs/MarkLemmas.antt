@@ -1,0 +1,134 @@
+-- The mark of a file, and what a whole file holds.
+use Rattle.std.proofs.Common.{◌≡◌, true, nat_lt, inl, inr, ℕ, ◌≤◌, ℤ, pos, List, [], ◌∷◌, map, drop, codes, Option, Some, None, Result, Ok, Err, IfSome, IfNone, IsErrAnd, refl, sym, ap, subst, ◌∙◌, arith, String}
+use Rattle.std.specs.declared.alloc.Global.{Global}
+use Rattle.std.proofs.lemmas.List.Sorted.{IsPermutation-sym}
+use Rattle.std.specs.List.{AllByRecursion, list_all}
+use Rattle.std.proofs.lemmas.Bool.{cases_Bool, ltb-true}
+use Rattle.std.proofs.lemmas.Str.{IsUtf8-from_ascii}
+use Rattle.std.proofs.lemmas.Str.Ascii.{IsAscii-nil, IsAscii-cons}
+use Rattle.std.specs.Str.{IsAscii, IsUtf8}
+use Rattle.sqlite.specs.Effect.{Database}
+use Rattle.sqlite.specs.Order.{Row, column}
+use Rattle.std.specs.List.Sorted.{IsPermutation}
+use Rattle.sqlite.specs.declared.types.Value.TheVariants.{Int}
+use Rattle.dict_records.specs.Records as spec
+use Rattle.dict_records.specs.Typed.{owned_mark}
+use Rattle.dict_records.specs.declared.records as typed
+use Rattle.dict_records.specs.declared.records.Stored.{Stored}
+use Rattle.dict_tables.specs.Found.{HasOwn}
+use Rattle.dict_tables.specs.Tables.{mark}
+use Rattle.dict_sql.specs.Columns.{HasColumns, mark_columns}
+use Rattle.dict_sql.specs.Effects.{rows_of}
+use Rattle.dict_sql.specs.Encodings.{mark_row, stored_mark}
+use Rattle.dict_sql.specs.Reads.{IsListing, HasNoRecord}
+use Rattle.dict_catalogue.specs.Steps.{Catalogue, summary_of}
+use Rattle.dict_catalogue.specs.Tests.{Holdings}
+use Rattle.dict_file.specs.Holds.{Holds}
+use Rattle.dict_rows.specs.Given.{marks_given}
+use Rattle.dict_rows.proofs.OrderLemmas.{Same, same_from, one_once}
+use Rattle.dict_opening.specs.Opens.{HasTables, HasRowidsApart, HasSummary, HasMark, IsMarked, marked}
+use Rattle.dict_desk.specs.declared.fault.Fault.TheVariants as desk
+use Rattle.dict_opening.specs.declared.fault.ReadingFault.{ReadingFault}
+use Rattle.dict_opening.specs.declared.fault.ReadingFault.TheVariants.{Damaged, Memory, Disk}
+use Rattle.dict_opening.specs.Reading.{fault_told}
+use Rattle.dict_opening.proofs.CodecLemmas.{decode_mark, mark_back}
+use Rattle.dict_opening.proofs.NoneLemmas.{all_contains}
+
+abbrev pub MarkRow : Type 0
+MarkRow = Stored (typed.Mark.Mark (String Global))
+
+pub told_marked : (o : Option ℕ) (marks : List MarkRow) (m : spec.Mark) (i : ℤ) → marks_given marks ≡ m ∷ [] → IfSome o (λ v. (m ≡ marked v i) × (1 ≤ v)) → IfSome o (λ v. IsMarked marks v)
+told_marked None marks m i e h = tt
+told_marked (Some v) marks m i e h = (i, e ∙ ap (λ x. x ∷ []) h.0, h.1)
+
+pub none_marked : (o : Option ℕ) (marks : List MarkRow) (m : spec.Mark) → marks_given marks ≡ m ∷ [] → IfNone o ((v : ℕ) (i : ℤ) → m ≡ marked v i → 1 ≤ v → ⊥) → IfNone o ((v : ℕ) → IsMarked marks v → ⊥)
+none_marked (Some v) marks m e h = tt
+none_marked None marks m e h = λ v is. h v is.0 (first (sym e ∙ is.1)) is.2
+  where
+    first : {a b : spec.Mark} → a ∷ [] ≡ b ∷ [] → a ≡ b
+    first {a} {b} e = cc
+
+pub has_mark : (db : Database) (marks : List MarkRow) (v : ℕ) → HasOwn db.schema mark → IsListing (codes "mark") (1 ∷ []) db (map stored_mark marks) → IsMarked marks v → HasMark db v
+has_mark db [] v own l is = absurd (let e = is.1 in cc)
+has_mark db (r ∷ []) v own l is =
+    let owned : owned_mark r.value ≡ marked v is.0 = let e = is.1 in cc in
+    let rows = one_once (stored_mark r) (rows_of (codes "mark") db) (same_from (stored_mark r ∷ []) (rows_of (codes "mark") db) (IsPermutation-sym _ _ l.same)) in
+    record { own = own; rowid = r.rowid; installs = is.0; rows = rows ∙ ap (λ m. (Int r.rowid ∷ mark_row m) ∷ []) owned; counted = is.2 }
+has_mark db (r ∷ s ∷ marks) v own l is = absurd (let e = is.1 in cc)
+
+pub is_marked : (db : Database) (marks : List MarkRow) (v : ℕ) → IsListing (codes "mark") (1 ∷ []) db (map stored_mark marks) → HasMark db v → IsMarked marks v
+is_marked db marks v l h =
+    let x : Row = Int h.rowid ∷ mark_row (marked v h.installs) in
+    let rows = one_once x (map stored_mark marks) (subst (λ rows. Same rows (map stored_mark marks)) h.rows (same_from (rows_of (codes "mark") db) (map stored_mark marks) l.same)) in
+    (h.installs, only marks rows, h.counted)
+  where
+    only : (marks : List MarkRow) → map stored_mark marks ≡ (Int h.rowid ∷ mark_row (marked v h.installs)) ∷ [] → marks_given marks ≡ marked v h.installs ∷ []
+    only [] e = absurd (cc)
+    only (r ∷ []) e = ap (λ m. m ∷ []) (sym (mark_back (owned_mark r.value)) ∙ ap (λ row. decode_mark (drop 1 row)) (let same : stored_mark r ≡ Int h.rowid ∷ mark_row (marked v h.installs) = cc in same) ∙ mark_back (marked v h.installs))
+    only (r ∷ s ∷ marks) e = absurd (cc)
+
+pub err_is : {X E : Type 0} (result : Result X E) (e f : E) → IsErrAnd result (λ g. g ≡ e) → result ≡ Err f → e ≡ f
+err_is (Ok x) e f h is = absurd (cc)
+err_is (Err g) e f h is = sym h ∙ (let same : g ≡ f = cc in same)
+
+pub holds_of : (db : Database) (shown : Holdings (List ℕ)) → HasTables db → HasRowidsApart db → HasSummary db shown → (M : Catalogue) × Holds 1 db M × (summary_of M ≡ shown)
+holds_of db shown own apart s = (
+  s.catalogue,
+  record {
+    own = own;
+    tables = s.tables;
+    keeps = record {
+      marks = record { rows = s.keeps.marks; apart = apart.marks };
+      items = record { rows = s.keeps.items; apart = apart.items };
+      members = record { rows = s.keeps.members; apart = apart.members };
+      editions = record { rows = s.keeps.editions; apart = apart.editions };
+      entries = record { rows = s.keeps.entries; apart = apart.entries };
+      kept = record { rows = s.keeps.kept; apart = apart.kept };
+    };
+    stands = s.stands;
+  },
+  s.summary,
+)
+
+ascii_text : (bs : List ℕ) → list_all (λ b. nat_lt b 128) bs ≡ true → IsAscii bs
+ascii_text [] h = IsAscii-nil
+ascii_text (b ∷ bs) h = elim (cases_Bool (nat_lt b 128)) [
+  | inl low ↦ IsAscii-cons b bs (ltb-true b 128 low) (ascii_text bs (rw low at h))
+  | inr high ↦ absurd (let e = rw high at h in cc)
+]
+
+small_text : (bs : List ℕ) → list_all (λ b. nat_lt b 128) bs ≡ true → IsUtf8 bs
+small_text bs h = IsUtf8-from_ascii bs (ascii_text bs h)
+
+pub no_record : (db : Database) (v : ℕ) → HasMark db v → HasNoRecord mark_columns (rows_of (codes "mark") db) → ⊥
+no_record db v h n = n.2 (all_contains (HasColumns mark_columns) (rows_of (codes "mark") db) n.0 (subst (λ rows. AllByRecursion (HasColumns mark_columns) rows) (sym h.rows) (((h.rowid, refl), ((pos 1, refl), ((codes "dictcat", refl, word), ((pos v, refl), ((h.installs, refl), tt))))), tt)) n.1)
+  where
+    word : IsUtf8 (codes "dictcat")
+    word = small_text (codes "dictcat") refl
+
+pub told_damaged : (fault : ReadingFault) → fault_told fault ≡ desk.Damaged → fault ≡ Damaged
+told_damaged Damaged e = refl
+told_damaged Memory e = absurd (cc)
+told_damaged Disk e = absurd (cc)
+
+-- ---- a database that holds a catalogue has the mark
+
+one_row : (row : Row) (rows : List Row) → (row ≡ [] → ⊥) → map (drop 1) rows ≡ row ∷ [] → AllByRecursion (λ r. (n : ℤ) × (column r 0 ≡ Int n)) rows → (n : ℤ) × (rows ≡ (Int n ∷ row) ∷ [])
+one_row row [] some e all = absurd (cc)
+one_row row ([] ∷ rows) some e all = absurd (some (let same : row ≡ [] = cc in same))
+one_row row ((x ∷ r) ∷ []) some e all = (all.0.0, λ i. (all.0.1 i ∷ (let same : r ≡ row = cc in same) i) ∷ [])
+one_row row ((x ∷ r) ∷ s ∷ rows) some e all = absurd (cc)
+
+pub held_mark : (db : Database) (M : Catalogue) → Holds 1 db M → HasMark db 1
+held_mark db M h =
+    let row = mark_row (marked 1 (pos M.installs)) in
+    let written = subst (λ (ms : List spec.Mark). IsPermutation (map mark_row ms) (map (drop 1) (rows_of (codes "mark") db))) h.stands.marks h.keeps.marks.rows in
+    let only = one_once row (map (drop 1) (rows_of (codes "mark") db)) (same_from (row ∷ []) (map (drop 1) (rows_of (codes "mark") db)) written) in
+    let found = one_row row (rows_of (codes "mark") db) (λ e. let wrong : ⊥ = cc in wrong) only h.keeps.marks.apart.integers in
+    record { own = h.own.0; rowid = found.0; installs = pos M.installs; rows = found.1; counted = (let le : 1 ≤ 1 = omega arith in le) }
+
+pub held_once : (db : Database) (M : Catalogue) (version : ℕ) → Holds 1 db M → HasMark db version → version ≡ 1
+held_once db M version h m =
+    let one = held_mark db M h in
+    let same : (Int m.rowid ∷ mark_row (marked version m.installs)) ∷ [] ≡ (Int one.rowid ∷ mark_row (marked 1 one.installs)) ∷ [] = sym m.rows ∙ one.rows in
+    (let e : version ≡ 1 = cc in e)

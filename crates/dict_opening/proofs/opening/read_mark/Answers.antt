@@ -1,0 +1,36 @@
+use Rattle.std.proofs.Common.{◌≡◌, ℕ, ◌<◌, List, IfNone, IfSome, rules, arith, sym, subst}
+use Rattle.sqlite.specs.Held.{state}
+use Rattle.dict_tables.specs.Found.{HasOwn}
+use Rattle.dict_tables.specs.Tables.{mark}
+use Rattle.dict_opening.specs.Opens.{HasMark, IsMarked}
+use Rattle.dict_opening.proofs.MarkLemmas.{has_mark, is_marked, no_record, MarkRow}
+use Rattle.dict_opening.proofs.opening.read_mark.Goals as goal
+
+pub returns-in-Err-NoRecord-clause-none : goal.returns-in-Err-NoRecord-clause-none
+returns-in-Err-NoRecord-clause-none g c clean is v h =
+    let failed = rw c.in-Err-NoRecord.field-0-is at (c.in-Err-NoRecord.ensures.failed clean) in
+    no_record (state g.S.Store c.args.conn.now).now v h failed.1
+
+pub returns-in-None-clause-none : goal.returns-in-None-clause-none
+returns-in-None-clause-none g c clean is v h =
+    let old = state g.S.Store c.args.conn.now in
+    let none = subst (λ o. IfNone o ((version : ℕ) → IsMarked c.deref.result.now version → ⊥)) c.in-None.is c.version_of.ensures.none in
+    none v (subst (λ (l : List MarkRow). IsMarked l v) (sym c.deref.ensures.value) (is_marked old.now c.in-Ok.marks.items v (c.in-Ok.ensures.listed clean).0 h))
+
+pub returns-then-version-ne1-clause-newer : goal.returns-then-version-ne1-clause-newer
+returns-then-version-ne1-clause-newer g c clean is =
+    let old = state g.S.Store c.args.conn.now in
+    let own : HasOwn old.now.schema mark = search rules in
+    let told = subst (λ o. IfSome o (λ version. IsMarked c.deref.result.now version)) c.in-Some.is c.version_of.ensures.told in
+    let marked = subst (λ (l : List MarkRow). IsMarked l c.in-Some.version) c.deref.ensures.value told in
+    let above : 1 < c.in-Some.version = omega (arith, marked.2) in
+    (c.in-Some.version, has_mark old.now c.in-Ok.marks.items c.in-Some.version own (c.in-Ok.ensures.listed clean).0 marked, above)
+
+pub returns-clause-marked : goal.returns-clause-marked
+returns-clause-marked g c clean =
+    let old = state g.S.Store c.args.conn.now in
+    let own : HasOwn old.now.schema mark = search rules in
+    let told = subst (λ o. IfSome o (λ version. IsMarked c.deref.result.now version)) c.in-Some.is c.version_of.ensures.told in
+    let marked = subst (λ (l : List MarkRow). IsMarked l c.in-Some.version) c.deref.ensures.value told in
+    let one : c.in-Some.version ≡ 1 = omega arith in
+    ((c.in-Ok.ensures.listed clean).0, subst (HasMark old.now) one (has_mark old.now c.in-Ok.marks.items c.in-Some.version own (c.in-Ok.ensures.listed clean).0 marked))

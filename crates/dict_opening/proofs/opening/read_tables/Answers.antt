@@ -1,0 +1,40 @@
+use Rattle.std.proofs.Common.{[], ◌∷◌, map, codes, rules, sym, subst}
+use Rattle.std.specs.Prelude.{IsTrue}
+use Rattle.std.specs.List.{AllByRecursion}
+use Rattle.sqlite.specs.Schema.{Schema}
+use Rattle.dict_tables.specs.Found.{HasOwn}
+use Rattle.dict_tables.specs.Tables.{table_of, store_tables}
+use Rattle.sqlite.specs.Effect.{Database}
+use Rattle.sqlite.specs.State.{HasCleanDisk}
+use Rattle.sqlite.specs.Held.{state}
+use Rattle.dict_sql.specs.Encodings.{stored_mark}
+use Rattle.dict_sql.specs.Reads.{IsListing}
+use Rattle.dict_opening.specs.Opens.{HasTables, HoldsNone}
+use Rattle.dict_opening.proofs.StateLemmas.{clean_before, reads_then, while_same}
+use Rattle.dict_opening.proofs.TakerLemmas.{if_err_then}
+use Rattle.dict_opening.proofs.opening.read_tables.Goals as goal
+
+pub test_all_rowids-requires : goal.test_all_rowids-requires
+test_all_rowids-requires g c = λ clean o.
+    let yes : IsTrue c.has_tables.result = search rules in
+    subst (λ (s : Schema). AllByRecursion (λ t. HasOwn s (table_of t)) store_tables) c.schema.ensures.value (c.has_tables.ensures.0 yes)
+
+pub read_records-requires : goal.read_records-requires
+read_records-requires g c =
+    let yes : IsTrue c.has_tables.result = search rules in
+    while_same HasTables (state g.S.Store c.args.conn.now) (state g.S.Store c.test_all_rowids.new.conn) c.test_all_rowids.ensures.reads.survives c.in_ok-test_all_rowids.ensures.same
+    (λ clean o. subst (λ (s : Schema). AllByRecursion (λ t. HasOwn s (table_of t)) store_tables) c.schema.ensures.value (c.has_tables.ensures.0 yes))
+
+pub returns-clause-reads : goal.returns-clause-reads
+returns-clause-reads g c = reads_then (state g.S.Store c.args.conn.now) (state g.S.Store c.test_all_rowids.new.conn) (state g.S.Store c.read_records.new.conn) c.test_all_rowids.ensures.reads c.read_records.ensures.reads
+
+pub returns-clause-damaged : goal.returns-clause-damaged
+returns-clause-damaged g c clean =
+    let old = state g.S.Store c.args.conn.now in
+    let mid = state g.S.Store c.test_all_rowids.new.conn in
+    let new = state g.S.Store c.read_records.new.conn in
+    let early : HasCleanDisk mid = clean_before old mid new c.read_records.ensures.reads.survives clean in
+    let same = (c.in_ok-test_all_rowids.ensures.same early).now in
+    if_err_then _ _ c.read_records.result
+    (λ fault wrong is lm. subst HoldsNone same (wrong is (subst (λ (d : Database). IsListing (codes "mark") (1 ∷ []) d (map stored_mark c.args.marks.now)) (sym same) lm)))
+    (c.read_records.ensures.damaged clean)

@@ -1,0 +1,43 @@
+use Rattle.std.proofs.Common.{List, [], ◌∷◌, map, codes, sym, subst, ◌∙◌}
+use Rattle.sqlite.specs.Effect.{Database}
+use Rattle.sqlite.specs.State.{HasCleanDisk}
+use Rattle.sqlite.specs.Held.{state}
+use Rattle.dict_rows.specs.Taken.{HasTaken}
+use Rattle.dict_opening.proofs.StateLemmas.{clean_before}
+use Rattle.dict_opening.proofs.TakerLemmas.{on_damage}
+use Rattle.std.specs.declared.alloc.Global.{Global}
+use Rattle.std.proofs.Common.{String}
+use Rattle.dict_records.specs.declared.records as typed
+use Rattle.dict_records.specs.declared.records.Stored.{Stored}
+use Rattle.dict_sql.specs.Encodings.{stored_member}
+use Rattle.dict_sql.specs.Reads.{IsListing}
+use Rattle.dict_rows.specs.Given.{marks_given, items_given, members_given}
+use Rattle.dict_rows.specs.Taken.{StandsForNone, begun}
+use Rattle.dict_opening.proofs.ScanLemmas.{rows_damaged}
+use Rattle.dict_opening.proofs.WrongLemmas.{has_begun, begin_wrong}
+use Rattle.dict_opening.proofs.records.begin.Goals as goal
+
+pub returns-in-Ok-begin-clause-begun : goal.returns-in-Ok-begin-clause-begun
+returns-in-Ok-begin-clause-begun g c clean lm =
+    let old = state g.S.Store c.args.conn.now in
+    let mid = state g.S.Store c.items.new.conn in
+    let new = state g.S.Store c.members.new.conn in
+    let early : HasCleanDisk mid = clean_before old mid new c.members.ensures.survives clean in
+    let li = c.in-Ok.ensures.listed early in
+    let lo = subst (λ (d : Database). IsListing (codes "member") (1 ∷ 2 ∷ []) d (map stored_member c.in-Ok-members.members.items)) li.1.0.now_is (c.in-Ok-members.ensures.listed clean).0 in
+    let taken = subst (λ (l : List (Stored (typed.Member.Member (String Global)))). HasTaken 1 c.in-Ok-begin.reader (begun (marks_given c.args.marks.now) (items_given c.in-Ok.items.items) (members_given l))) c.deref-2.ensures.value
+    (subst (λ (l : List (Stored (typed.Item.Item (String Global)))). HasTaken 1 c.in-Ok-begin.reader (begun (marks_given c.args.marks.now) (items_given l) (members_given c.deref-2.result.now))) c.deref.ensures.value c.in-Ok-begin.ensures.taken) in
+    (begun (marks_given c.args.marks.now) (items_given c.in-Ok.items.items) (members_given c.in-Ok-members.members.items), taken, has_begun old.now c.args.marks.now c.in-Ok.items.items c.in-Ok-members.members.items lm li.0 lo)
+
+pub returns-clause-damaged : goal.returns-clause-damaged
+returns-clause-damaged g c clean is lm =
+    let old = state g.S.Store c.args.conn.now in
+    let mid = state g.S.Store c.items.new.conn in
+    let new = state g.S.Store c.members.new.conn in
+    let early : HasCleanDisk mid = clean_before old mid new c.members.ensures.survives clean in
+    let li = c.in-Ok.ensures.listed early in
+    let lo = subst (λ (d : Database). IsListing (codes "member") (1 ∷ 2 ∷ []) d (map stored_member c.in-Ok-members.members.items)) li.1.0.now_is (c.in-Ok-members.ensures.listed clean).0 in
+    let none = on_damage c.in-Err-begin.fault _ c.in-Err-begin.ensures.damaged (rows_damaged c.in-Err-begin.fault (sym c.fault_of_rows.ensures ∙ is)) in
+    begin_wrong old.now c.args.marks.now c.in-Ok.items.items c.in-Ok-members.members.items lm li.0 lo
+    (subst (λ (l : List (Stored (typed.Member.Member (String Global)))). StandsForNone 1 (begun (marks_given c.args.marks.now) (items_given c.in-Ok.items.items) (members_given l))) c.deref-2.ensures.value
+    (subst (λ (l : List (Stored (typed.Item.Item (String Global)))). StandsForNone 1 (begun (marks_given c.args.marks.now) (items_given l) (members_given c.deref-2.result.now))) c.deref.ensures.value none))

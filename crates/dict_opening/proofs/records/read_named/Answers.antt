@@ -1,0 +1,25 @@
+use Rattle.std.proofs.Common.{sym, subst, ◌∙◌}
+use Rattle.std.proofs.lemmas.Result.{on_ok_weaker}
+use Rattle.sqlite.specs.Held.{state}
+use Rattle.dict_opening.proofs.TakerLemmas.{if_err_then}
+use Rattle.dict_opening.specs.Opens.{CanRead}
+use Rattle.dict_opening.proofs.WrongLemmas.{can_read}
+use Rattle.dict_opening.proofs.records.read_named.Goals as goal
+
+pub returns-clause-named : goal.returns-clause-named
+returns-clause-named g c clean =
+    let old = state g.S.Store c.args.conn.now in
+    let are = c.deref.ensures.value ∙ c.in-Ok.ensures.numbers in
+    on_ok_weaker c.read_numbers.result
+    (λ read front h b.
+    let got = read front (subst (λ ns. CanRead old.now c.args.reader.now ns front) (sym are) (can_read old.now c.args.reader.now front h b)) in
+    (got.0, got.1, record { numbers = c.deref.result.now; are = are; read = got.2 }))
+    (c.read_numbers.ensures.whole clean)
+
+pub returns-clause-damaged : goal.returns-clause-damaged
+returns-clause-damaged g c clean =
+    let old = state g.S.Store c.args.conn.now in
+    let are = c.deref.ensures.value ∙ c.in-Ok.ensures.numbers in
+    if_err_then _ _ c.read_numbers.result
+    (λ fault wrong is front h b. b.none (wrong is front (subst (λ ns. CanRead old.now c.args.reader.now ns front) (sym are) (can_read old.now c.args.reader.now front h b))))
+    (c.read_numbers.ensures.damaged clean)

@@ -1,0 +1,15 @@
+//! Opening of a catalogue file: it is read whole, and nothing is written.
+#![tactic(auto)]
+
+mod editions;
+mod fault;
+mod laws;
+mod opening;
+mod records;
+mod rowids;
+mod scan;
+mod tables;
+mod takers;
+
+pub use laws::held_is_marked;
+pub use opening::read_catalogue;

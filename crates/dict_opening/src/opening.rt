@@ -1,0 +1,174 @@
+// A file is opened.
+ghost use Rattle.std.specs.Prelude.{◌≡◌, ◌≢◌, ◌<◌, ◌≤◌, ◌↔◌, ℕ, ℤ, pos, false, IsTrue, map, codes, [], ◌∷◌, IfOk, IfErr, IfSome, IfNone, OnOk, Err};
+ghost use Rattle.std.specs.List.{AllByRecursion};
+ghost use Rattle.sqlite.specs.State.{HasCleanDisk, Survives};
+ghost use Rattle.sqlite.specs.Held.{state};
+ghost use Rattle.dict_tables.specs.Found.{HasOwn};
+ghost use Rattle.dict_tables.specs.Tables.{table_of, store_tables};
+ghost use Rattle.dict_records.specs.Typed.{owned_mark};
+ghost use Rattle.dict_sql.specs.Encodings.{stored_mark};
+ghost use Rattle.dict_sql.specs.Reads.{IsListing};
+ghost use Rattle.dict_catalogue.specs.Steps.{Catalogue, summary_of};
+ghost use Rattle.dict_catalogue.specs.Views.{summary_shown};
+ghost use Rattle.dict_file.specs.Holds.{Holds, Rests};
+ghost use Rattle.dict_opening.specs.Reading.{Same, OnlyReads, IsOfOpening, fault_told};
+ghost use Rattle.dict_opening.specs.Opens.{HoldsNone, HasMark, IsMarked, marked};
+
+use crate::fault::ReadingFault;
+use crate::records::read_records;
+use crate::rowids::test_all_rowids;
+use dict_catalogue::Summary;
+use dict_desk::Fault;
+use dict_file::fault_of;
+use dict_records::{Mark, Stored};
+use dict_sql::read::marks;
+use dict_sql::records::ReadError;
+use dict_tables::{StoreTable, has_table};
+use sqlite::{Alter, Connection};
+use sqlite_schema::schema::Schema;
+use std::alloc::Global;
+
+/// Whether a schema has all tables.
+fn has_tables(schema: &Schema) -> bool
+    ensures { IsTrue result ↔ AllByRecursion (λ t. HasOwn schema.now (table_of t)) store_tables }
+{
+    has_table(schema, StoreTable::Mark)
+        && has_table(schema, StoreTable::Item)
+        && has_table(schema, StoreTable::Member)
+        && has_table(schema, StoreTable::Edition)
+        && has_table(schema, StoreTable::Entry)
+        && has_table(schema, StoreTable::Kept)
+}
+
+/// The summary of the catalogue that the tables hold, where these are the records of the mark.
+fn read_tables<S: Alter>(
+    alloc: Global,
+    conn: &mut Connection<S>,
+    marks: &[Stored<Mark<String>>],
+) -> Result<Summary, ReadingFault>
+    ensures reads { OnlyReads (state S.Store conn.old) (state S.Store conn.new) }
+    ensures same { HasCleanDisk (state S.Store conn.new) → OnOk result (Same (state S.Store conn.old) (state S.Store conn.new)) }
+    ensures holds { HasCleanDisk (state S.Store conn.new) → IfOk result (λ summary. IsListing (codes "mark") (1 ∷ []) (state S.Store conn.old).now (map stored_mark marks.now) → (M : Catalogue) × Holds 1 (state S.Store conn.old).now M × (summary_of M ≡ summary_shown summary)) }
+    ensures damaged { HasCleanDisk (state S.Store conn.new) → IfErr result (λ fault. fault ≡ ReadingFault.Damaged → IsListing (codes "mark") (1 ∷ []) (state S.Store conn.old).now (map stored_mark marks.now) → HoldsNone (state S.Store conn.old).now) }
+{
+    if !has_tables(conn.schema()) {
+        return Err(ReadingFault::Damaged);
+    }
+    test_all_rowids(alloc, conn)?;
+    read_records(alloc, conn, marks)
+}
+
+/// The number in a column, where it isn't below 0.
+fn number_of(found: &i64) -> Option<u64>
+    ensures number { IfSome result (λ number. found.now ≡ pos number) }
+    ensures below { IfNone result ((number : ℕ) → found.now ≢ pos number) }
+{
+    if *found < 0 {
+        return None;
+    }
+    Some(*found as u64)
+}
+
+fn is_one(found: &i64) -> bool
+    ensures { IsTrue result ↔ (found.now ≡ pos 1) }
+{
+    *found == 1
+}
+
+/// The version that a mark tells.
+fn version_in(mark: &Mark<String>) -> Option<u64>
+    ensures told { IfSome result (λ version. (owned_mark mark.now ≡ marked version mark.now.installs) × (1 ≤ version)) }
+    ensures none { IfNone result ((version : ℕ) (installs : ℤ) → owned_mark mark.now ≡ marked version installs → 1 ≤ version → ⊥) }
+{
+    if !is_one(&mark.id) || mark.magic.as_str() != "dictcat" {
+        return None;
+    }
+    let version = number_of(&mark.version)?;
+    if version == 0 {
+        return None;
+    }
+    Some(version)
+}
+
+/// The version that a readable mark tells.
+fn version_of(marks: &[Stored<Mark<String>>]) -> Option<u64>
+    ensures told { IfSome result (λ version. IsMarked marks.now version) }
+    ensures none { IfNone result ((version : ℕ) → IsMarked marks.now version → ⊥) }
+{
+    if marks.len() != 1 {
+        return None;
+    }
+    version_in(&marks[0].value)
+}
+
+/// The records of the mark, where it is readable and of the version that is known.
+fn read_mark<S: Alter>(
+    alloc: Global,
+    conn: &mut Connection<S>,
+) -> Result<Vec<Stored<Mark<String>>>, Fault>
+    ensures reads { OnlyReads (state S.Store conn.old) (state S.Store conn.new) }
+    ensures same { HasCleanDisk (state S.Store conn.new) → OnOk result (Same (state S.Store conn.old) (state S.Store conn.new) × IsTrue (state S.Store conn.new).is_open) }
+    ensures marked { HasCleanDisk (state S.Store conn.new) → IfOk result (λ marks. IsListing (codes "mark") (1 ∷ []) (state S.Store conn.old).now (map stored_mark marks.items) × HasMark (state S.Store conn.old).now 1) }
+    ensures newer { HasCleanDisk (state S.Store conn.new) → result ≡ Err Fault.NewerSchema → (version : ℕ) × HasMark (state S.Store conn.old).now version × (1 < version) }
+    ensures none { HasCleanDisk (state S.Store conn.new) → result ≡ Err Fault.NotACatalogue → (version : ℕ) → HasMark (state S.Store conn.old).now version → ⊥ }
+    ensures sound { result ≡ Err Fault.Damaged → ⊥ }
+    ensures kinds { IfErr result IsOfOpening }
+{
+    if !has_table(conn.schema(), StoreTable::Mark) {
+        return Err(Fault::NotACatalogue);
+    }
+    let marks = match marks(alloc, conn) {
+        Ok(marks) => marks,
+        Err(ReadError::NoRecord) => return Err(Fault::NotACatalogue),
+        Err(ReadError::Store(error)) => return Err(fault_of(error)),
+    };
+    let version = match version_of(&marks) {
+        Some(version) => version,
+        None => return Err(Fault::NotACatalogue),
+    };
+    if version != 1 {
+        return Err(Fault::NewerSchema);
+    }
+    Ok(marks)
+}
+
+/// The fault as it is told.
+fn told(fault: ReadingFault) -> Fault
+    ensures is { result ≡ fault_told fault }
+    ensures kind { IsOfOpening result }
+{
+    match fault {
+        ReadingFault::Damaged => Fault::Damaged,
+        ReadingFault::Memory => Fault::Memory,
+        ReadingFault::Disk => Fault::Disk,
+    }
+}
+
+/// Reads a file whole, and gives the summary of the catalogue that it holds. Nothing is written. It takes memory by the
+/// largest edition, and not by their sum.
+///
+/// `NotACatalogue` tells that there is no readable mark, `NewerSchema` that the mark is of a version above the known one,
+/// and `Damaged` that the mark is readable and of the known version, and the tables hold no catalogue: they are tested in
+/// this order. `Memory` tells that a growth was refused, and `Disk` that the store failed.
+pub fn read_catalogue<S: Alter>(alloc: Global, conn: &mut Connection<S>) -> Result<Summary, Fault>
+    requires { conn.old.in_transaction ≡ false }
+    ensures rests { HasCleanDisk (state S.Store conn.new) → IfOk result (λ summary. (M : Catalogue) × Rests 1 (state S.Store conn.new) M × (summary_of M ≡ summary_shown summary)) }
+    ensures damaged { HasCleanDisk (state S.Store conn.new) → result ≡ Err Fault.Damaged → HasMark (state S.Store conn.old).now 1 × HoldsNone (state S.Store conn.old).now }
+    ensures newer { HasCleanDisk (state S.Store conn.new) → result ≡ Err Fault.NewerSchema → (version : ℕ) × HasMark (state S.Store conn.old).now version × (1 < version) }
+    ensures none { HasCleanDisk (state S.Store conn.new) → result ≡ Err Fault.NotACatalogue → (version : ℕ) → HasMark (state S.Store conn.old).now version → ⊥ }
+    ensures lives { HasCleanDisk (state S.Store conn.new) → IsTrue (state S.Store conn.new).is_open → IsTrue (state S.Store conn.old).is_open }
+    ensures kinds { IfErr result IsOfOpening }
+    ensures now { HasCleanDisk (state S.Store conn.new) → IsTrue (state S.Store conn.new).is_open → (state S.Store conn.new).now ≡ (state S.Store conn.old).now }
+    ensures committed { HasCleanDisk (state S.Store conn.new) → IsTrue (state S.Store conn.new).is_open → (state S.Store conn.new).committed ≡ (state S.Store conn.old).committed }
+    ensures autocommit { (state S.Store conn.new).in_transaction ≡ false }
+    ensures survives { Survives (state S.Store conn.old) (state S.Store conn.new) (λ _. ⊥) }
+{
+    if !conn.is_autocommit() {
+        return Err(Fault::Disk);
+    }
+    let marks = read_mark(alloc, conn)?;
+    match read_tables(alloc, conn, &marks) {
+        Ok(summary) => Ok(summary),
+        Err(fault) => Err(told(fault)),
+    }
+}
