@@ -1,37 +1,75 @@
 // A desk over one database.
-ghost use Rattle.std.specs.Prelude.{◌≡◌, ◌≢◌, false, IfOk, IfErr};
+ghost use Rattle.std.specs.Prelude.{◌≡◌, ◌≢◌, ◌∷◌, [], Some, true, false, IfOk, IfErr};
 ghost use Rattle.sqlite.specs.State.{HasCleanDisk, Survives};
 ghost use Rattle.sqlite.specs.Held.{state};
-ghost use Rattle.dict_catalogue.specs.Steps.{empty_catalogue, summary_of};
+ghost use Rattle.dict_catalogue.specs.Steps.{Catalogue, empty_catalogue, summary_of};
 ghost use Rattle.dict_catalogue.specs.Views.{summary_shown};
+ghost use Rattle.dict_catalogue.specs.WellFormed.{IsWellFormed};
 ghost use Rattle.dict_desk.specs.Faults.{is_disk};
 ghost use Rattle.dict_file.specs.Holds.{Rests, IsLeft, HasPlace};
+ghost use Rattle.dict_commands.specs.Changes.{IsInRange};
+ghost use Rattle.dict_commands.specs.Answers.{HoldsBy};
+ghost use Rattle.dict_store.specs.Desk.{Shows, LeavesOneOf, is_closed};
 
-use dict_file::create;
+use crate::last::Last;
 use dict_catalogue::Summary;
 use dict_desk::Fault;
+use dict_file::create;
 use sqlite::{Alter, Connection};
 use std::alloc::Global;
+use std::marker::Model;
 
 /// A desk over one database: the connection to it, and the summary of the catalogue that it holds.
 #[derive(Drop)]
 pub struct Desk<S: Alter + Drop> {
+    pub(crate) alloc: Global,
     pub(crate) conn: Connection<S>,
     pub(crate) summary: Summary,
-    pub(crate) closed: bool,
+    pub(crate) last: Last,
+}
+
+impl<S: Alter + Drop> Model for Desk<S> {
+    ghost use Rattle.dict_catalogue.specs.Views.{summary_shown};
+    ghost use Rattle.std.specs.Coded.{codes};
+    ghost use Rattle.sqlite.specs.Held.{held_code};
+    ghost use Rattle.dict_store.specs.Desk.{DeskState, IsAtRest};
+
+    ghost Value = { DeskState S };
+
+    ghost coded = { Prim.hlevel (codes, held_code S.code) };
+
+    ghost view = { λ d. record { conn = d.conn; summary = summary_shown d.summary; last = d.last } };
+
+    ghost invariant = { λ d. IsAtRest S.Store d.last (summary_shown d.summary) d.conn };
 }
 
 impl<S: Alter + Drop> Desk<S> {
+    // The desk over a database at rest that holds a catalogue of this summary.
+    pub(crate) fn over(alloc: Global, conn: Connection<S>, summary: Summary) -> Desk<S>
+        requires autocommit { conn.in_transaction ≡ false }
+        requires range { IsInRange (summary_shown summary) }
+        requires holds { HoldsBy (summary_shown summary) (state S.Store conn) }
+        ensures is { result ≡ record { conn = conn; summary = summary_shown summary; last = Last.Fine } }
+        ensures shows { (M : Catalogue) → summary_shown summary ≡ summary_of M → IsWellFormed M → (HasCleanDisk (state S.Store conn) → Rests 1 (state S.Store conn) M) → Shows S.Store result M }
+    {
+        Desk {
+            alloc,
+            conn,
+            summary,
+            last: Last::Fine,
+        }
+    }
+
     /// A desk over a database in which the tables of the empty catalogue are made by one commit.
     ///
     /// At a fault the connection is handed back. `NotACatalogue`: there is no place for the tables. `Memory`: a growth was
     /// refused before the commit. After both all is as it was. `Disk`: the store failed.
     pub fn create(alloc: Global, conn: Connection<S>) -> Result<Desk<S>, (Connection<S>, Fault)>
         requires { conn.in_transaction ≡ false }
+        ensures shows { IfOk result (λ desk. Shows S.Store desk empty_catalogue) }
         ensures rests { IfOk result (λ desk. HasCleanDisk (state S.Store desk.conn) → Rests 1 (state S.Store desk.conn) empty_catalogue) }
-        ensures summary { IfOk result (λ desk. summary_shown desk.summary ≡ summary_of empty_catalogue) }
-        ensures open { IfOk result (λ desk. (desk.closed ≡ false) × (desk.conn.in_transaction ≡ false)) }
-        ensures only { IfOk result (λ desk. HasCleanDisk (state S.Store desk.conn) → (trees : _) → (state S.Store desk.conn).may_leave trees → IsLeft 1 empty_catalogue trees) }
+        ensures open { IfOk result (λ desk. (desk.last ≡ Last.Fine) × (desk.conn.in_transaction ≡ false)) }
+        ensures only { IfOk result (λ desk. LeavesOneOf S.Store desk (Some empty_catalogue ∷ [])) }
         ensures made { IfOk result (λ desk. Survives (state S.Store conn) (state S.Store desk.conn) (IsLeft 1 empty_catalogue)) }
         ensures place { IfOk result (λ desk. HasPlace (state S.Store conn).now.schema) }
         ensures handed { IfErr result (λ left. left.0.in_transaction ≡ false) }
@@ -41,25 +79,22 @@ impl<S: Alter + Drop> Desk<S> {
     {
         let mut conn = conn;
         match create(&mut conn) {
-            Ok(()) => Ok(Desk {
-                conn,
-                summary: Summary::new(alloc),
-                closed: false,
-            }),
+            Ok(()) => Ok(Desk::over(alloc, conn, Summary::new(alloc))),
             Err(fault) => Err((conn, fault)),
         }
     }
 
     /// Whether the store failed in an earlier call, so that each call answers `Closed`.
     pub fn is_closed(&self) -> bool
-        ensures { result ≡ self.now.closed }
+        ensures { result ≡ is_closed self.now.last }
     {
-        self.closed
+        self.last == Last::Closed
     }
 
-    /// The connection, as the desk left it.
+    /// The connection, as the desk left it, in no transaction.
     pub fn into_connection(self) -> Connection<S>
-        ensures { result ≡ self.conn }
+        ensures same { result ≡ self.conn }
+        ensures autocommit { result.in_transaction ≡ false }
     {
         let Desk { conn, .. } = self;
         conn

@@ -1,6 +1,13 @@
 //! A desk over one file: what readers ask of its catalogue, and what editors change.
 #![tactic(auto)]
 
+mod adopting;
 mod desk;
+mod keeper;
+mod last;
+mod lookups;
+mod promise;
 
 pub use desk::Desk;
+pub use last::Last;
+pub use promise::apply_to_file;

@@ -1,8 +1,8 @@
 //! A store is made, or refused.
 
 use dict_desk::Fault;
-use dict_sql::read::marks;
 use dict_file::create;
+use dict_sql::read::marks;
 use dict_store::Desk;
 use dict_tables::{StoreTable, has_table};
 use sqlite::{Alter, Connection, Error};

@@ -4,6 +4,12 @@
 #[cfg(test)]
 mod creating;
 #[cfg(test)]
+mod editing;
+#[cfg(test)]
 mod hiccup;
 #[cfg(test)]
+mod looking;
+#[cfg(test)]
 mod stops;
+#[cfg(test)]
+mod sweeping;

@@ -1,0 +1,23 @@
+use Rattle.std.proofs.Common.{Err, ap, arith}
+use Rattle.std.proofs.lemmas.Result.{err_from_is_err_and}
+use Rattle.sqlite.specs.Held.{state}
+use Rattle.dict_store.proofs.adopting.read.Goals as goal
+
+pub returns-in_err-summary-clause-told : goal.returns-in_err-summary-clause-told
+returns-in_err-summary-clause-told g c = λ clean.
+    let p = err_from_is_err_and c.from_residual.result c.from_residual.ensures.1 in
+    rw (p.1, p.2) (record {
+      none = λ is. c.in_err-summary.ensures.none clean (ap Err is);
+      newer = λ is. c.in_err-summary.ensures.newer clean (ap Err is);
+      damaged = λ is. c.in_err-summary.ensures.damaged clean (ap Err is);
+    })
+
+pub returns-in_err-summary-clause-not_held : goal.returns-in_err-summary-clause-not_held
+returns-in_err-summary-clause-not_held g c = λ clean.
+    let p = err_from_is_err_and c.from_residual.result c.from_residual.ensures.1 in
+    let db = (state g.S.Store c.args.conn.now).now in
+    rw (p.1, p.2) (record {
+      none = λ is M holds. c.in_err-summary.ensures.none clean (ap Err is) 1 (c.held_is_marked.ensures.marked db M holds);
+      newer = λ is M holds. let it = c.in_err-summary.ensures.newer clean (ap Err is) in let once = c.held_is_marked.ensures.once db M it.0 holds it.1 in let more = it.2 in absurd (omega (arith, once, more));
+      damaged = λ is M holds records. (c.in_err-summary.ensures.damaged clean (ap Err is)).1 M holds records;
+    })

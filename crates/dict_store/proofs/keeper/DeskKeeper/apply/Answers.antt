@@ -1,0 +1,37 @@
+use Rattle.std.proofs.Common.{◌≡◌, false, sym, subst, ap, ◌∙◌, rules}
+use Rattle.std.specs.Prelude.{is_some}
+use Rattle.dict_catalogue.specs.Steps.{kept_under, step}
+use Rattle.dict_catalogue.specs.Views.{summary_shown, command_meant}
+use Rattle.dict_desk.specs.Faults.{has_failed_by}
+use Rattle.dict_desk.specs.Applying.{Leaves}
+use Rattle.dict_store.specs.Desk.{Shows, LeavesOneOf, is_closed, has_failed}
+use Rattle.dict_store.proofs.KeeperLemmas.{told_applies, told_leaves, told_spares, failed_by}
+use Rattle.dict_store.proofs.keeper.DeskKeeper.apply.Goals as goal
+
+pub returns-clause-value : goal.returns-clause-value
+returns-clause-value g c = λ clean M shown.
+    let before : is_closed c.self.inside.last ≡ false = search rules in
+    told_applies g.S.Store c.self.inside.conn c.apply-outcome.new.conn (summary_shown c.self.inside.summary) c.self.inside.last c.args.id.now (command_meant c.args.command.now) c.apply-outcome.result before c.self.invariant
+    c.apply-outcome.ensures.value c.apply-outcome.ensures.spares c.apply-outcome.ensures.crash c.apply-outcome.ensures.lives c.apply-outcome.ensures.shut
+    (summary_shown c.take_over.new.summary) c.last_by-self-inside.result c.take_over.result c.take_over.ensures.after c.last_by-self-inside.ensures c.take_over.ensures.reply
+    clean M (subst (λ desk. Shows g.S.Store desk M) (sym c.self.view_is) shown)
+
+pub returns-clause-leaves : goal.returns-clause-leaves
+returns-clause-leaves g c = λ clean M shown.
+    let before : is_closed c.self.inside.last ≡ false = search rules in
+    subst (λ desk. Leaves (LeavesOneOf g.S.Store desk) (LeavesOneOf g.S.Store (record { conn = c.apply-outcome.new.conn; summary = summary_shown c.take_over.new.summary; last = c.last_by-self-inside.result }))
+    (is_some (kept_under M.kept c.args.id.now)) (step M c.args.id.now (command_meant c.args.command.now)).catalogue c.take_over.result) c.self.view_is (told_leaves g.S.Store c.self.inside.conn c.apply-outcome.new.conn (summary_shown c.self.inside.summary) c.self.inside.last c.args.id.now (command_meant c.args.command.now) c.apply-outcome.result before c.self.invariant
+    c.apply-outcome.ensures.value c.apply-outcome.ensures.spares c.apply-outcome.ensures.crash c.apply-outcome.ensures.lives c.apply-outcome.ensures.shut
+    (summary_shown c.take_over.new.summary) c.last_by-self-inside.result c.take_over.result c.take_over.ensures.after c.last_by-self-inside.ensures c.take_over.ensures.reply
+    clean M (subst (λ desk. Shows g.S.Store desk M) (sym c.self.view_is) shown))
+
+pub returns-clause-spares : goal.returns-clause-spares
+returns-clause-spares g c = λ ms left.
+    let before : is_closed c.self.inside.last ≡ false = search rules in
+    told_spares g.S.Store c.self.inside.conn c.apply-outcome.new.conn (summary_shown c.self.inside.summary) c.self.inside.last c.args.id.now (command_meant c.args.command.now) c.apply-outcome.result before c.self.invariant
+    c.apply-outcome.ensures.value c.apply-outcome.ensures.spares c.apply-outcome.ensures.crash c.apply-outcome.ensures.lives c.apply-outcome.ensures.shut
+    (summary_shown c.take_over.new.summary) c.last_by-self-inside.result c.take_over.result c.take_over.ensures.after c.last_by-self-inside.ensures c.take_over.ensures.reply
+    ms (subst (λ desk. LeavesOneOf g.S.Store desk ms) (sym c.self.view_is) left)
+
+pub returns-clause-failed : goal.returns-clause-failed
+returns-clause-failed g c = ap has_failed c.last_by-self-inside.ensures ∙ failed_by c.apply-outcome.result ∙ ap has_failed_by (sym c.take_over.ensures.reply)

@@ -1,0 +1,29 @@
+use Rattle.std.proofs.Common.{◌≡◌, false, sym, subst, rules}
+use Rattle.sqlite.specs.Held.{state}
+use Rattle.dict_catalogue.specs.Views.{summary_shown}
+use Rattle.dict_store.specs.Desk.{Shows, is_closed}
+use Rattle.dict_store.proofs.DeskLemmas.{stays_by, rests_on, shows_on, held, handed_by}
+use Rattle.dict_desk.specs.Found.{found}
+use Rattle.dict_store.proofs.lookups.DeskLookup.find.Goals as goal
+
+pub invariant_of-self : goal.invariant_of-self
+invariant_of-self g c =
+    let before : is_closed c.self.inside.last ≡ false = search rules in
+    rests_on g.S.Store c.self.inside.conn c.find-outcome.new.conn (summary_shown c.self.inside.summary) c.self.inside.last c.last_by-self-inside.result before c.self.invariant c.find-outcome.ensures.survives
+    (λ clean. stays_by (state g.S.Store c.self.inside.conn) (state g.S.Store c.find-outcome.new.conn) c.find-outcome.result (c.find-outcome.ensures.same clean) (c.find-outcome.ensures.failed clean)) c.find-outcome.ensures.mode
+
+pub returns-clause-shows : goal.returns-clause-shows
+returns-clause-shows g c = λ clean M shown.
+    let before : is_closed c.self.inside.last ≡ false = search rules in
+    shows_on g.S.Store c.self.inside.conn c.find-outcome.new.conn (summary_shown c.self.inside.summary) c.self.inside.last c.last_by-self-inside.result before c.self.invariant c.find-outcome.ensures.survives
+    (λ clean. stays_by (state g.S.Store c.self.inside.conn) (state g.S.Store c.find-outcome.new.conn) c.find-outcome.result (c.find-outcome.ensures.same clean) (c.find-outcome.ensures.failed clean))
+    M (subst (λ desk. Shows g.S.Store desk M) (sym c.self.view_is) shown)
+
+pub returns-clause-value : goal.returns-clause-value
+returns-clause-value g c = λ clean M edition shown has.
+    let before : is_closed c.self.inside.last ≡ false = search rules in
+    let holds = held g.S.Store c.self.inside.conn c.find-outcome.new.conn (summary_shown c.self.inside.summary) c.self.inside.last c.last_by-self-inside.result before c.self.invariant c.find-outcome.ensures.survives
+    (λ clean. stays_by (state g.S.Store c.self.inside.conn) (state g.S.Store c.find-outcome.new.conn) c.find-outcome.result (c.find-outcome.ensures.same clean) (c.find-outcome.ensures.failed clean))
+    M (subst (λ desk. Shows g.S.Store desk M) (sym c.self.view_is) shown) clean in
+    handed_by g.T.RowSink.takes g.T.RowSink.stops c.args.sink.now c.find-outcome.new.sink (found c.args.strategy c.args.query.now edition) c.find-outcome.result (state g.S.Store c.self.inside.conn).is_open
+    (λ live. c.find-outcome.ensures.value clean M edition (holds live) has) (c.find-outcome.ensures.shut clean) (g.met.T.RowSink.none c.args.sink.now)

@@ -1,0 +1,47 @@
+// What editors change of a desk.
+ghost use Rattle.std.specs.Prelude.{◌≡◌};
+ghost use Rattle.dict_catalogue.specs.Views.{summary_shown};
+ghost use Rattle.dict_commands.specs.Answers.{summary_after};
+ghost use Rattle.dict_store.specs.Desk.{reply_of};
+
+use crate::desk::Desk;
+use crate::last::{Last, last_by};
+use dict_catalogue::{Command, Kept, Summary};
+use dict_commands::{Applied, apply, kept_reply};
+use dict_desk::{Fault, Keeper};
+use sqlite::Alter;
+
+// The reply that was answered; the summary after it is taken over.
+fn take_over(summary: &mut Summary, outcome: Result<Applied, Fault>) -> Result<Kept, Fault>
+    ensures reply { result ≡ reply_of outcome }
+    ensures after { summary_shown summary.new ≡ summary_after (summary_shown summary.old) outcome }
+{
+    match outcome {
+        Ok(Applied::Before(kept)) => Ok(kept),
+        Ok(Applied::Now(kept, after)) => {
+            *summary = after;
+            Ok(kept)
+        }
+        Err(fault) => Err(fault),
+    }
+}
+
+impl<S: Alter + Drop> Keeper for Desk<S> {
+    fn kept(&mut self, id: &str) -> Result<Option<Kept>, Fault> {
+        if self.last == Last::Closed {
+            return Err(Fault::Closed);
+        }
+        let outcome = kept_reply(self.alloc, &mut self.conn, id);
+        self.last = last_by(&outcome);
+        outcome
+    }
+
+    fn apply(&mut self, id: &str, command: &Command) -> Result<Kept, Fault> {
+        if self.last == Last::Closed {
+            return Err(Fault::Closed);
+        }
+        let outcome = apply(self.alloc, &mut self.conn, &self.summary, id, command);
+        self.last = last_by(&outcome);
+        take_over(&mut self.summary, outcome)
+    }
+}
