@@ -1,6 +1,6 @@
 -- What a piece does, by whether its connection is open.
 use Rattle.std.proofs.Common.{◌≡◌, ◌++◌, ℕ, Bool, List, refl, sym, subst}
-use Rattle.std.specs.Prelude.{Option, Some, None, Result, Ok, Err, IfOk}
+use Rattle.std.specs.Prelude.{Option, Some, None, Result, Err, IfOk}
 use Rattle.dict_io.specs.Streams.{Stream}
 use Rattle.dict_catalogue.specs.Steps.{Catalogue}
 use Rattle.dict_hub.specs.Holding.{Holding, left_by}

@@ -1,5 +1,5 @@
 -- What stands beside an id once connections are opened, closed or changed.
-use Rattle.std.proofs.Common.{◌≡◌, ◌≢◌, ◌==◌, ◌+◌, ◌-◌, ◌<◌, ◌≤◌, ◌++◌, [], ◌∷◌, ℕ, Bool, true, false, List, All, length, get_or, refl, sym, ap, ◌∙◌, subst, inl, inr, arith}
+use Rattle.std.proofs.Common.{◌≡◌, ◌≢◌, ◌==◌, ◌+◌, ◌-◌, ◌<◌, ◌++◌, [], ◌∷◌, ℕ, true, List, All, length, get_or, refl, sym, ap, ◌∙◌, subst, inl, inr, arith}
 use Rattle.std.specs.Prelude.{Option, Some, None, Result, Ok, Err, OnErr, not, slice_set}
 use Rattle.std.specs.List.{AllPairs, remove, position_or_len}
 use Rattle.std.proofs.Math.Seq.{get_or-append_seam}
@@ -9,7 +9,7 @@ use Rattle.std.proofs.lemmas.List.{get_or_append_left, get_or-set_same, get_or-s
 use Rattle.std.proofs.lemmas.List.Sums.{prefix_len_passes}
 use Rattle.std.proofs.lemmas.List.Edits.{get_or-remove_below, get_or-remove_above, length-remove}
 use Rattle.std.proofs.lemmas.List.Quantifiers.{position-Some}
-use Rattle.dict_hub.specs.Books.{place_of, opening, is_new, is_given}
+use Rattle.dict_hub.specs.Books.{place_of, opening, is_given}
 use Rattle.dict_hub.specs.Holding.{Holding}
 use Rattle.dict_hub.specs.Lines.{Holds}
 use Rattle.dict_hub.specs.Hubs.{HoldsAt, IsAbsent, StandsAt}

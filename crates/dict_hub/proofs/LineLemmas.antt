@@ -1,5 +1,5 @@
 -- What a piece gives a reader or an editor.
-use Rattle.std.proofs.Common.{◌≡◌, ◌++◌, ℕ, Bool, true, List, refl, sym, subst, inl, inr}
+use Rattle.std.proofs.Common.{◌≡◌, ℕ, Bool, true, List, refl, sym, subst, inl, inr}
 use Rattle.std.specs.Prelude.{Option, Result, Ok, Err, IfOk}
 use Rattle.dict_io.specs.Streams.{Stream}
 use Rattle.dict_line.specs.Meaning.{Meaning}

@@ -1,5 +1,5 @@
 -- What a piece of an editor's request leaves.
-use Rattle.std.specs.Prelude.{◌≡◌, ◌⊎◌, ◌++◌, ℕ, List, Option}
+use Rattle.std.specs.Prelude.{◌≡◌, ◌⊎◌, ℕ, List, Option}
 use Rattle.dict_io.specs.Streams.{Stream, PutsAll, PutsFront}
 use Rattle.dict_catalogue.specs.Steps.{Catalogue}
 use Rattle.dict_head.specs.Heads.{Needs}

@@ -1,6 +1,6 @@
 -- What an event gives its connection: a function of the host, the connection's id and kind, the octets that have come on it
 -- and the catalogue.
-use Rattle.std.specs.Prelude.{◌≡◌, ◌⊎◌, ℕ, List, [], Bool, true, false, Option}
+use Rattle.std.specs.Prelude.{◌≡◌, ◌⊎◌, ℕ, List, Bool, true, false, Option}
 use Rattle.dict_io.specs.Streams.{Stream, PutsAll, PutsFront}
 use Rattle.dict_catalogue.specs.Steps.{Catalogue}
 use Rattle.dict_desk.specs.Applying.{LeavesNoMore}

@@ -5,3 +5,6 @@ pub mod Given
 pub mod Lines
 pub mod Hubs
 pub mod Events
+pub mod Undisturbed
+pub mod Runs
+pub mod Turns

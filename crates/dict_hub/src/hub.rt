@@ -43,12 +43,15 @@ pub struct Hub<'h> {
 impl<'h> Hub<'h> {
     ghost use Rattle.dict_hub.specs.Hubs.{Has, host_of, greatest_of, count_of};
     ghost use Rattle.dict_hub.specs.Events.{happening, id_of, admitted, takes_memory, greatest_after, held_after, Serves};
+    ghost use Rattle.dict_hub.specs.Runs.{State, Standing, Accepted, IsAt, Leads, LeadsOn, beginning};
+    ghost use Rattle.dict_io.specs.Streams.{change};
 
     /// No connection is open, and no id was given.
     pub fn new(alloc: Global, host: &'h str) -> Result<Hub<'h>, AllocError>
         ensures none { IfOk result (λ hub. (id : ℕ) → Has hub id None) }
         ensures greatest { IfOk result (λ hub. greatest_of hub ≡ None) }
         ensures host { IfOk result (λ hub. host_of hub ≡ host.now) }
+        ensures beginning { IfOk result (λ hub. IsAt hub (beginning host.now)) }
     {
         Ok(Hub {
             alloc,
@@ -60,8 +63,9 @@ impl<'h> Hub<'h> {
     }
 
     /// Takes an event. Only its own connection is served, at the catalogue that the desk shows now; a reader's is closed by
-    /// a QUIT or where the sink or the desk failed, an editor's by its answer. An event that is refused changes nothing and
-    /// puts nothing. The sink is the connection's own.
+    /// a QUIT or where the sink or the desk failed, an editor's by its answer. So where a list of accepted events has led
+    /// to this hub and this desk, that list with this event leads to what both are then. An event that is refused changes
+    /// nothing and puts nothing. The sink is the connection's own.
     pub fn event<K: Keeper, S: Sink>(
         &mut self,
         desk: &mut K,
@@ -84,6 +88,10 @@ impl<'h> Hub<'h> {
         ensures given { OnErr result (greatest_of self.new ≡ greatest_of self.old) }
         ensures desk { OnErr result (desk.new ≡ desk.old) }
         ensures sink { OnErr result (sink.new ≡ sink.old) }
+        ensures leads { K.is_trusted desk.new → (origin : State) (start : Standing) (events : List Accepted) (state : State) (stands : Standing) → Leads origin start events state stands
+            → IsAt self.old state → K.shows desk.old stands.catalogue → K.leaves_one_of desk.old stands.leaves
+            → IfOk result (λ out. LeadsOn (K.shows desk.new) (K.leaves_one_of desk.new) origin start events state stands (happening event.entry) out (K.has_failed desk.new) (change S.stream sink.old sink.new) self.new) }
+        ensures state { OnErr result ((state : State) → IsAt self.old state → IsAt self.new state) }
     {
         match event {
             Event::Opened(id, kind) => self.opened(id, kind, sink),

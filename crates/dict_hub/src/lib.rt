@@ -6,6 +6,7 @@ mod book;
 mod fault;
 mod hub;
 mod kind;
+mod laws;
 mod line;
 
 pub use asking::{Out, take_piece};
@@ -13,6 +14,7 @@ pub use book::Book;
 pub use fault::HubFault;
 pub use hub::{Event, Hub};
 pub use kind::Kind;
+pub use laws::{one_served, same_by_turns, same_for_both, undisturbed_or_not};
 
 #[cfg(test)]
 mod tests;

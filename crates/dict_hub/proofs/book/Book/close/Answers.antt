@@ -1,4 +1,4 @@
-use Rattle.std.proofs.Common.{◌≡◌, ◌<◌, true, List, ℕ, All, sym, subst, arith}
+use Rattle.std.proofs.Common.{◌≡◌, ◌<◌, true, All, sym, subst, arith}
 use Rattle.std.specs.List.{AllPairs}
 use Rattle.dict_hub.specs.Books.{is_given}
 use Rattle.dict_hub.proofs.BookLemmas.{rising_remove, all_remove}

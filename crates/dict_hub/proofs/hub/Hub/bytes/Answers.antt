@@ -1,8 +1,8 @@
-use Rattle.std.proofs.Common.{◌≡◌, ◌++◌, ℕ, List, length, refl, sym, ap, ◌∙◌, subst, arith}
-use Rattle.std.specs.Prelude.{Option, Some, None, slice_set}
+use Rattle.std.proofs.Common.{◌≡◌, ◌++◌, ℕ, List, length, sym, subst, arith}
+use Rattle.std.specs.Prelude.{slice_set}
 use Rattle.std.proofs.lemmas.List.{length-set}
 use Rattle.dict_hub.specs.Given.{Gets}
-use Rattle.dict_hub.specs.Holding.{Holding, left_by}
+use Rattle.dict_hub.specs.Holding.{left_by}
 use Rattle.dict_hub.specs.Lines.{Holds, IsLeft}
 use Rattle.dict_hub.specs.Hubs.{IsAbsent}
 use Rattle.dict_hub.proofs.HubLemmas.{found_at, not_found, holds_there, set_own, set_others, remove_own, remove_others, stands_as, on_err, set_same}

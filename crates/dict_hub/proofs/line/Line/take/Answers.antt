@@ -1,11 +1,10 @@
-use Rattle.std.proofs.Common.{◌≡◌, ◌++◌, ℕ, List, sym, ap, ◌∙◌, subst}
-use Rattle.dict_line.specs.Meaning.{Meaning}
+use Rattle.std.proofs.Common.{◌++◌, ℕ, List, sym, ◌∙◌, subst}
 use Rattle.dict_session.specs.Lines.{cut}
 use Rattle.dict_session.specs.Answers.{answer_to}
-use Rattle.dict_session.specs.Session.{host_of, course_of}
+use Rattle.dict_session.specs.Session.{course_of}
 use Rattle.dict_session.specs.Ending.{Wrote}
 use Rattle.dict_hub.specs.Asking.{Awaits, Answers}
-use Rattle.dict_hub.specs.Given.{Gets, Replies}
+use Rattle.dict_hub.specs.Given.{Gets}
 use Rattle.dict_hub.specs.Lines.{Holds, IsReader, IsEditor}
 use Rattle.dict_hub.proofs.LineLemmas.{replies_from, asks_from}
 use Rattle.dict_hub.proofs.line.Line.take.Goals as goal

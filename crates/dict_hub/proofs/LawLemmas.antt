@@ -1,0 +1,226 @@
+-- What events give where nothing fails, and that it is a function of what one connection sees.
+use Rattle.std.proofs.Common.{◌≡◌, ◌==◌, ◌||◌, ℕ, Bool, true, false, List, [], ◌∷◌, ◌++◌, append_assoc, refl, sym, ap, ◌∙◌, subst, inl, inr}
+use Rattle.std.specs.Prelude.{◌⊎◌, Option, Some, None, MatchBool, map, if◌then◌else◌}
+use Rattle.std.proofs.KnownBytes.{Appends-nil}
+use Rattle.std.proofs.lemmas.Bool.{eqb-true}
+use Rattle.dict_io.specs.Streams.{Stream, HasFailed, PutsAll}
+use Rattle.dict_catalogue.specs.Steps.{Catalogue}
+use Rattle.dict_line.specs.Meaning.{Meaning, meaning}
+use Rattle.dict_proto.specs.Replies.{unavailable_octets}
+use Rattle.dict_head.specs.Heads.{Needs}
+use Rattle.dict_head.specs.declared.kinds.Need.TheVariants.{More as NeedsMore}
+use Rattle.dict_http.specs.Answers.{unavailable_text}
+use Rattle.dict_http.specs.Responding.Ends.{answered, unchanged, unknown}
+use Rattle.dict_http.specs.Responding.Responds.{ended as responded, failed as unresponded}
+use Rattle.dict_http.specs.Settling.{Settled, Settles}
+use Rattle.dict_session.specs.Lines.{cut}
+use Rattle.dict_session.specs.Answers.{answer_to, is_quit}
+use Rattle.dict_session.specs.Spoken.{Speaks, answers, has_quit}
+use Rattle.dict_hub.specs.Asking.{Answers}
+use Rattle.dict_hub.specs.Holding.{Holding}
+use Rattle.dict_hub.specs.Given.{Replies, Gets}
+use Rattle.dict_hub.specs.Events.{Happening, opened, came, ended, id_of, held_after, Serves}
+use Rattle.dict_hub.specs.Undisturbed.{Served, greeting, to_editor, IsServedOctets, IsServed, HasUnavailable, Lacks, IsDisturbed}
+use Rattle.dict_hub.specs.Runs.{State, Standing, Accepted, Asked, asked, state_after, IsStep, Leads, IsUndisturbed, HasDisturbance, GoWell, events_of, GotSame}
+use Rattle.dict_hub.specs.declared.kind.Kind.{Kind}
+use Rattle.dict_hub.specs.declared.kind.Kind.TheVariants.{Dict, Http}
+use Rattle.dict_hub.specs.declared.asking.Out.{Out}
+use Rattle.dict_hub.specs.declared.asking.Out.TheVariants.{More, Close}
+
+-- a whole answer, or one that isn't, to the lines of a reader
+Spoken : (Meaning → List ℕ) → List (List ℕ) → List ℕ → Bool → Type 0
+Spoken answer ls o quits = ((o ≡ answers answer ls) × (quits ≡ has_quit ls)) ⊎ HasUnavailable answer ls o
+
+spoken_behind : (answer : Meaning → List ℕ) (l : List ℕ) (ls : List (List ℕ)) (o rest : List ℕ) (quits quit : Bool) → is_quit l ≡ quit → o ≡ answer (meaning l) ++ rest
+    → MatchBool quit ((rest ≡ []) × (quits ≡ true)) (Speaks answer ls rest quits) → (Speaks answer ls rest quits → Spoken answer ls rest quits) → Spoken answer (l ∷ ls) o quits
+unfolding Spoken
+spoken_behind answer l ls o rest quits true q is m cases = inl (
+  is ∙ ap (λ r. answer (meaning l) ++ r) (m.0 ∙ sym (ap (λ (v : Bool). if v then [] else answers answer ls) q)),
+  m.1 ∙ sym (ap (λ (v : Bool). v || has_quit ls) q),
+)
+spoken_behind answer l ls o rest quits false q is m cases = elim (cases m) [
+  | inl all ↦ inl (
+    is ∙ ap (λ r. answer (meaning l) ++ r) (all.0 ∙ sym (ap (λ (v : Bool). if v then [] else answers answer ls) q)),
+    all.1 ∙ sym (ap (λ (v : Bool). v || has_quit ls) q),
+  )
+  | inr some ↦ inr (record {
+    front = l ∷ some.front;
+    line = some.line;
+    behind = some.behind;
+    rest = some.rest;
+    are = ap (λ x. l ∷ x) some.are;
+    no_quit = ap (λ (v : Bool). v || has_quit some.front) q ∙ some.no_quit;
+    needs = some.needs;
+    is = is ∙ (ap (λ r. answer (meaning l) ++ r) some.is
+        ∙ (sym (append_assoc (answer (meaning l)) (answers answer some.front) (unavailable_octets ++ some.rest))
+        ∙ sym (ap (λ (v : Bool). (answer (meaning l) ++ (if v then [] else answers answer some.front)) ++ (unavailable_octets ++ some.rest)) q)));
+  })
+]
+
+spoken : (answer : Meaning → List ℕ) (ls : List (List ℕ)) (o : List ℕ) (quits : Bool) → Speaks answer ls o quits → Spoken answer ls o quits
+unfolding Spoken
+spoken answer [] o quits speaks = inl speaks
+spoken answer (l ∷ ls) o quits (rest, inl said) = spoken_behind answer l ls o rest quits (is_quit l) refl said.0 said.1 (λ behind. spoken answer ls rest quits behind)
+spoken answer (l ∷ ls) o quits (rest, inr un) =
+    inr (record { front = []; line = l; behind = ls; rest = rest; are = refl; no_quit = refl; needs = un.0; is = un.1 })
+
+-- an answer as it is, and the octets, are what is served
+Gave : List ℕ → Catalogue → Option Holding → Happening → Out → Catalogue → Stream → Stream → Type 0
+Gave host before held what out after old new = (octets : List ℕ) × IsServed host before held what (record { out = out; octets = octets; catalogue = after }) × PutsAll old new octets
+
+puts_nothing : (old new : Stream) → new ≡ old → PutsAll old new []
+puts_nothing old new same = subst (λ at. PutsAll old at []) (sym same) (record { octets = Appends-nil old.octets; failures = refl })
+
+served_as : (out out' : Out) (octets octets' : List ℕ) (M M' : Catalogue) → out ≡ out' → octets ≡ octets' → M ≡ M'
+    → let a : Served = record { out = out; octets = octets; catalogue = M } in let b : Served = record { out = out'; octets = octets'; catalogue = M' } in a ≡ b
+served_as out out' octets octets' M M' eo es em =
+    ap (λ (x : Out). let s : Served = record { out = x; octets = octets; catalogue = M } in s) eo
+    ∙ (ap (λ (x : List ℕ). let s : Served = record { out = out'; octets = x; catalogue = M } in s) es
+    ∙ ap (λ (x : Catalogue). let s : Served = record { out = out'; octets = octets'; catalogue = x } in s) em)
+
+-- the lines of a reader
+replies_gave : (host : List ℕ) (failed : Bool) (before after : Catalogue) (octets : List ℕ) (out : Out) (old new : Stream) → before ≡ after
+    → Replies (answer_to before host) failed (cut octets).lines out old new
+    → ((put : List ℕ) × IsServedOctets host before Dict octets (record { out = out; octets = put; catalogue = after }) × PutsAll old new put)
+    ⊎ (HasFailed old.failures new.failures ⊎ Lacks host failed before Dict octets out old new)
+unfolding Spoken
+replies_gave host failed before after octets More old new same replies = elim (spoken (answer_to before host) (cut octets).lines replies.0 false replies.1) [
+  | inl all ↦ inl (replies.0, served_as _ _ _ _ _ _ (ap (λ (v : Bool). if v then Close else More) all.1) all.0 (sym same), replies.2)
+  | inr some ↦ inr (inr (inr (replies.0, some, replies.2)))
+]
+replies_gave host failed before after octets Close old new same (put, quits, speaks, inl quit) = elim (spoken (answer_to before host) (cut octets).lines put quits speaks) [
+  | inl all ↦ inl (put, served_as _ _ _ _ _ _ (ap (λ (v : Bool). if v then Close else More) (sym quit.0 ∙ all.1)) all.0 (sym same), quit.1)
+  | inr some ↦ inr (inr (inr (put, some, quit.1)))
+]
+replies_gave host failed before after octets Close old new same (put, quits, speaks, inr (inl front)) = inr (inl front.failures)
+replies_gave host failed before after octets Close old new same (put, quits, speaks, inr (inr desk)) = inr (inr (inl (refl, desk.0)))
+
+-- an editor's request
+answers_gave : (host : List ℕ) (failed : Bool) (before after : Catalogue) (l k : List (Option Catalogue)) (octets : List ℕ) (old new : Stream)
+    → Answers (λ M. M ≡ after) (λ ms. ms ≡ l) (λ ms. ms ≡ k) before octets old new
+    → ((put : List ℕ) × IsServedOctets host before Http octets (record { out = Close; octets = put; catalogue = after }) × PutsAll old new put)
+    ⊎ (HasFailed old.failures new.failures ⊎ Lacks host failed before Http octets Close old new)
+answers_gave host failed before after l k octets old new given =
+    let unavailable : given.answer ≡ unavailable_text → PutsAll old new given.answer → PutsAll old new unavailable_text = λ e puts. subst (λ (o : List ℕ). PutsAll old new o) e puts in
+    elim given.puts [
+      | inl puts ↦ elim given.responds [
+        | responded settled is (answered text shows leaves) ↦ inl (given.answer, inr (settled, is, served_as _ _ _ _ _ _ refl text (sym shows)), puts)
+        | responded settled is (unchanged text shows leaves) ↦ inr (inr (unavailable text puts))
+        | responded settled is (unknown text shows leaves) ↦ inr (inr (unavailable text puts))
+        | unresponded text shows leaves ↦ inr (inr (unavailable text puts))
+      ]
+      | inr front ↦ inr (inl front.failures)
+    ]
+
+-- octets of a connection of this kind
+gets_gave : (host : List ℕ) (failed : Bool) (before after : Catalogue) (l k : List (Option Catalogue)) (kind : Kind) (octets : List ℕ) (out : Out) (old new : Stream)
+    → Gets host failed (λ M. M ≡ after) (λ ms. ms ≡ l) (λ ms. ms ≡ k) before kind octets out old new
+    → ((put : List ℕ) × IsServedOctets host before kind octets (record { out = out; octets = put; catalogue = after }) × PutsAll old new put)
+    ⊎ (HasFailed old.failures new.failures ⊎ Lacks host failed before kind octets out old new)
+gets_gave host failed before after l k Dict octets out old new gets = replies_gave host failed before after octets out old new gets.1.shows gets.0
+gets_gave host failed before after l k Http octets More old new gets =
+    inl ([], inl (gets.0, served_as _ _ _ _ _ _ refl refl (sym gets.2.shows)), puts_nothing old new gets.1)
+gets_gave host failed before after l k Http octets Close old new gets = answers_gave host failed before after l k octets old new gets
+
+serves_gave : (host : List ℕ) (failed : Bool) (before after : Catalogue) (l k : List (Option Catalogue)) (held : Option Holding) (what : Happening) (out : Out) (old new : Stream)
+    → Serves host failed (λ M. M ≡ after) (λ ms. ms ≡ l) (λ ms. ms ≡ k) before held what out old new
+    → Gave host before held what out after old new ⊎ IsDisturbed host failed before held what out old new
+unfolding Gave
+serves_gave host failed before after l k held (opened id Dict) More old new serves =
+    inl (greeting host id Dict, served_as _ _ _ _ _ _ refl refl (sym serves.1.shows), serves.0)
+serves_gave host failed before after l k held (opened id Dict) Close old new serves = inr (inl serves.0.failures)
+serves_gave host failed before after l k held (opened id Http) More old new serves =
+    inl ([], served_as _ _ _ _ _ _ refl refl (sym serves.1.shows), puts_nothing old new serves.0)
+serves_gave host failed before after l k held (opened id Http) Close old new serves = absurd serves.0
+serves_gave host failed before after l k None (came id piece) out old new serves = absurd serves
+serves_gave host failed before after l k (Some held) (came id piece) out old new serves = gets_gave host failed before after l k held.kind (held.octets ++ piece) out old new serves
+serves_gave host failed before after l k held (ended id) out old new serves =
+    inl ([], served_as _ _ _ _ _ _ serves.no_close refl (sym serves.stays.shows), puts_nothing old new serves.nothing)
+
+pub undisturbed_or : (state : State) (one : Accepted) → IsStep state one → IsUndisturbed state one ⊎ HasDisturbance state one
+unfolding Gave
+undisturbed_or state one step = serves_gave state.host one.failed one.before.catalogue one.after.catalogue one.before.leaves one.after.leaves (state.held (id_of one.what)) one.what one.out one.put.old one.put.new step
+
+-- octets that are served so are served in one way
+one_of_octets : ((M : Catalogue) (x : List ℕ) (a b : Settled) → Settles M x a → Settles M x b → a ≡ b) → ((M : Catalogue) (x : List ℕ) (a : Settled) → Needs x NeedsMore → Settles M x a → ⊥)
+    → (host : List ℕ) (M : Catalogue) (kind : Kind) (octets : List ℕ) (a b : Served) → IsServedOctets host M kind octets a → IsServedOctets host M kind octets b → a ≡ b
+one_of_octets one none host M Dict octets a b x y = x ∙ sym y
+one_of_octets one none host M Http octets a b (inl x) (inl y) = x.1 ∙ sym y.1
+one_of_octets one none host M Http octets a b (inl x) (inr y) = absurd (none M octets y.0 x.0 y.1)
+one_of_octets one none host M Http octets a b (inr x) (inl y) = absurd (none M octets x.0 y.0 x.1)
+one_of_octets one none host M Http octets a b (inr x) (inr y) = x.2 ∙ (ap (λ s. to_editor s) (one M octets x.0 y.0 x.1 y.1) ∙ sym y.2)
+
+pub one_of_served : ((M : Catalogue) (x : List ℕ) (a b : Settled) → Settles M x a → Settles M x b → a ≡ b) → ((M : Catalogue) (x : List ℕ) (a : Settled) → Needs x NeedsMore → Settles M x a → ⊥)
+    → (host : List ℕ) (M : Catalogue) (held : Option Holding) (what : Happening) (a b : Served) → IsServed host M held what a → IsServed host M held what b → a ≡ b
+one_of_served one none host M held (opened id kind) a b x y = x ∙ sym y
+one_of_served one none host M None (came id piece) a b x y = absurd x
+one_of_served one none host M (Some held) (came id piece) a b x y = one_of_octets one none host M held.kind (held.octets ++ piece) a b x y
+one_of_served one none host M held (ended id) a b x y = x ∙ sym y
+
+-- the events of one connection, each undisturbed, from what is held of it to what is held in the end
+Alone : List ℕ → Option Holding → List Accepted → Option Holding → Type 0
+Alone host held [] end = end ≡ held
+Alone host held (one ∷ events) end = ((octets : List ℕ)
+    × IsServed host one.before.catalogue held one.what (record { out = one.out; octets = octets; catalogue = one.after.catalogue })
+    × PutsAll one.put.old one.put.new octets) × Alone host (held_after held one.what one.out) events end
+
+-- an event of a run, where the others are alone
+alone_with : (host : List ℕ) (held : ℕ → Option Holding) (id : ℕ) (one : Accepted) (events : List Accepted) (end : Option Holding) (own : Bool) → (id == id_of one.what) ≡ own
+    → (id ≡ id_of one.what → (octets : List ℕ) × IsServed host one.before.catalogue (held (id_of one.what)) one.what (record { out = one.out; octets = octets; catalogue = one.after.catalogue }) × PutsAll one.put.old one.put.new octets)
+    → Alone host (if own then held_after (held (id_of one.what)) one.what one.out else held id) events end
+    → Alone host (held id) (if own then one ∷ events else events) end
+unfolding Alone
+alone_with host held id one events end true e gave rest =
+    let same = eqb-true id (id_of one.what) e in
+    subst (λ (i : ℕ). Alone host (held i) (one ∷ events) end) (sym same) (gave same, rest)
+alone_with host held id one events end false e gave rest = rest
+
+alone : (id : ℕ) (a a' : State) (p p' : Standing) (events : List Accepted) → Leads a p events a' p' → GoWell id a events → Alone a.host (a.held id) (events_of id events) (a'.held id)
+unfolding Alone
+alone id a a' p p' [] leads well = ap (λ s. s.held id) leads.0
+alone id a a' p p' (one ∷ events) leads well =
+    alone_with a.host a.held id one (events_of id events) (a'.held id) (id == id_of one.what) refl
+    (λ same. well.0 (sym same))
+    (alone id (state_after a one.what one.out) a' one.after p' events leads.2 well.1)
+
+tail : List Asked → List Asked
+tail [] = []
+tail (x ∷ xs) = xs
+
+head : Asked → List Asked → Asked
+head d [] = d
+head d (x ∷ xs) = x
+
+-- two connections that see the same
+same_alone : ((host : List ℕ) (M : Catalogue) (held : Option Holding) (what : Happening) (a b : Served) → IsServed host M held what a → IsServed host M held what b → a ≡ b)
+    → (host : List ℕ) (held end end' : Option Holding) (events others : List Accepted) → Alone host held events end → Alone host held others end'
+    → map asked events ≡ map asked others → GotSame events others × (end ≡ end')
+unfolding Alone tail head
+same_alone one host held end end' [] [] x y e = (tt, x ∙ sym y)
+same_alone one host held end end' [] (other ∷ others) x y e = cc e
+same_alone one host held end end' (first ∷ events) [] x y e = cc e
+same_alone one host held end end' (first ∷ events) (other ∷ others) x y e =
+    let h : asked first ≡ asked other = ap (λ l. head (asked first) l) e in
+    let what : first.what ≡ other.what = ap (λ s. s.what) h in
+    let before : first.before.catalogue ≡ other.before.catalogue = ap (λ s. s.catalogue) h in
+    let b : Served = record { out = other.out; octets = y.0.0; catalogue = other.after.catalogue } in
+    let there = subst (λ (w : Happening). IsServed host first.before.catalogue held w b) (sym what) (subst (λ (M : Catalogue). IsServed host M held other.what b) (sym before) y.0.1) in
+    let served = one host first.before.catalogue held first.what (record { out = first.out; octets = x.0.0; catalogue = first.after.catalogue }) b x.0.1 there in
+    let out : first.out ≡ other.out = ap (λ s. s.out) served in
+    let octets : x.0.0 ≡ y.0.0 = ap (λ s. s.octets) served in
+    let after : first.after.catalogue ≡ other.after.catalogue = ap (λ s. s.catalogue) served in
+    let rest = same_alone one host (held_after held first.what first.out) end end' events others x.1
+    (subst (λ (w : Happening). Alone host (held_after held w first.out) others end') (sym what) (subst (λ (o : Out). Alone host (held_after held other.what o) others end') (sym out) y.1))
+    (ap tail e) in
+    ((out, (x.0.0, x.0.2, subst (λ (o : List ℕ). PutsAll other.put.old other.put.new o) (sym octets) y.0.2), after, rest.0), rest.1)
+
+pub same_in_both : ((host : List ℕ) (M : Catalogue) (held : Option Holding) (what : Happening) (a b : Served) → IsServed host M held what a → IsServed host M held what b → a ≡ b)
+    → (id : ℕ) (a b a' b' : State) (p q p' q' : Standing) (events others : List Accepted) → Leads a p events a' p' → Leads b q others b' q'
+    → a.host ≡ b.host → a.held id ≡ b.held id → GoWell id a events → GoWell id b others
+    → map asked (events_of id events) ≡ map asked (events_of id others) → GotSame (events_of id events) (events_of id others) × (a'.held id ≡ b'.held id)
+same_in_both one id a b a' b' p q p' q' events others leads leads' host held well well' same =
+    same_alone one a.host (a.held id) (a'.held id) (b'.held id) (events_of id events) (events_of id others)
+    (alone id a a' p p' events leads well)
+    (subst (λ (h : List ℕ). Alone h (a.held id) (events_of id others) (b'.held id)) (sym host)
+    (subst (λ (o : Option Holding). Alone b.host o (events_of id others) (b'.held id)) (sym held)
+    (alone id b b' q q' others leads' well'))) same
