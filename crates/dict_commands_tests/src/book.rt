@@ -14,7 +14,7 @@ use sqlite::{Alter, Connection};
 use std::alloc::Global;
 
 /// Makes the tables of the empty catalogue, and gives its summary.
-pub fn begin<S: Alter>(alloc: Global, conn: &mut Connection<S>) -> Result<Summary, Fault>
+pub(crate) fn begin<S: Alter>(alloc: Global, conn: &mut Connection<S>) -> Result<Summary, Fault>
     ensures autocommit { IfOk result (λ _. conn.new.in_transaction ≡ false) }
     ensures holds { IfOk result (λ summary. HoldsBy (summary_shown summary) (state S.Store conn.new)) }
     ensures range { IfOk result (λ summary. IsInRange (summary_shown summary)) }
@@ -27,7 +27,7 @@ pub fn begin<S: Alter>(alloc: Global, conn: &mut Connection<S>) -> Result<Summar
 }
 
 /// Applies a command, and keeps the summary after it.
-pub fn run<S: Alter>(
+pub(crate) fn run<S: Alter>(
     alloc: Global,
     conn: &mut Connection<S>,
     summary: &mut Summary,

@@ -81,7 +81,7 @@ module _ (db : Database) (marks : List (Beside (typed.Mark.Mark (String Global))
   stands_so : (T : Tables) (M : Catalogue) → KeepsAll db T → Stands 1 T M → Stands 1 (record T { members = members_given members }) M
   stands_so T M keeps s =
       let new = members_given members in
-      let T1 : Tables = record T { members = new } in
+      let changed : Tables = record T { members = new } in
       let same : IsPermutation T.members new = subst (IsPermutation T.members) (read_stored member_codec members) (listed_records member_codec (codes "member") db T.members keeps.members (map stored_member members) lo.same).0 in
       record {
         well_formed = s.well_formed;
@@ -89,7 +89,7 @@ module _ (db : Database) (marks : List (Beside (typed.Mark.Mark (String Global))
         items = s.items;
         members = all_weaker (HoldsMembers T.members) (HoldsMembers new) (λ item g. members_same T.members new item (same_from T.members new same) (members_order db members lo) g) M.items s.members;
         owners = all_same (λ (row : spec.Member). IsTrue (is_known M.items row.owner)) T.members new same s.owners;
-        editions = all_weaker (HoldsEditions T) (HoldsEditions T1) (λ item g. all_weaker (HoldsEdition T (name_of item)) (HoldsEdition T1 (name_of item)) (λ stored h. holds_same T T1 (name_of item) stored (record { editions = refl; entries = refl }) h) (editions_of item) g) M.items s.editions;
+        editions = all_weaker (HoldsEditions T) (HoldsEditions changed) (λ item g. all_weaker (HoldsEdition T (name_of item)) (HoldsEdition changed (name_of item)) (λ stored h. holds_same T changed (name_of item) stored (record { editions = refl; entries = refl }) h) (editions_of item) g) M.items s.editions;
         numbers = s.numbers;
         entries = s.entries;
         kept = s.kept;
