@@ -15,7 +15,7 @@ pub struct Hiccup<D: Disk> {
 }
 
 impl<D: Disk> Hiccup<D> {
-    pub fn new(inner: D, calls: u64) -> Hiccup<D>
+    pub(crate) fn new(inner: D, calls: u64) -> Hiccup<D>
         ensures inner { result.inner ≡ inner }
         ensures fresh { (result.refused ≡ 0) × (result.sync_refused ≡ false) }
     {
@@ -27,7 +27,7 @@ impl<D: Disk> Hiccup<D> {
         }
     }
 
-    pub fn refused(&self) -> u64 {
+    pub(crate) fn refused(&self) -> u64 {
         self.refused
     }
 }
