@@ -16,6 +16,3 @@ pub use changing::kept_json;
 pub use dict_head::{Need, Status, need};
 pub use laws::one_answer;
 pub use service::Service;
-
-#[cfg(test)]
-mod tests;

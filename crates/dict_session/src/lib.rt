@@ -21,8 +21,6 @@ mod rows;
 mod session;
 mod show;
 mod step;
-#[cfg(test)]
-mod tests;
 
 pub use host::is_host;
 pub use session::Session;

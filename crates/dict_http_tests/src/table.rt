@@ -1,5 +1,5 @@
 // Requests one after another, each with its answer.
-use super::{answers, response};
+use crate::answers::{answers, response};
 use dict_desk::{Keeper, PlainDesk};
 use std::alloc::Global;
 use std::process::Abort;
@@ -7,7 +7,7 @@ use std::test::Fail;
 
 /// A method and a path; the header lines that say the id; a body; and the status and the body of the answer.
 #[derive(Clone, Copy)]
-pub struct Row(
+pub(crate) struct Row(
     pub &'static str,
     pub &'static str,
     pub &'static str,
@@ -50,7 +50,7 @@ const THIRD_ID: &str = "Request-Id: r3\r\n";
 const INSTALLED: &str = "{\"edition\":1,\"name\":\"gem\",\"number\":1,\"verb\":\"install\"}";
 
 /// An install of `gem`, and its answer.
-pub const INSTALL: Row = Row("PUT /databases/gem", FIRST_ID, GEM_BODY, OK, INSTALLED);
+pub(crate) const INSTALL: Row = Row("PUT /databases/gem", FIRST_ID, GEM_BODY, OK, INSTALLED);
 
 const ONE: &str =
     "[{\"current\":1,\"former\":null,\"kind\":\"regular\",\"name\":\"gem\",\"title\":\"Gems\"}]";
@@ -228,14 +228,14 @@ static RETIRED: [Row; 5] = [
 ];
 
 /// The octets of a row's request.
-pub fn request_of(alloc: Global, row: Row) -> Result<String, Fail> {
+pub(crate) fn request_of(alloc: Global, row: Row) -> Result<String, Fail> {
     let Row(asked, ids, body, _, _) = row;
     let len = body.len();
     Ok(format!(in alloc; "{asked} HTTP/1.1\r\n{ids}Content-Length: {len}\r\n\r\n{body}")?)
 }
 
 /// The requests of a table one after another, each answered as its row says.
-pub fn run<K: Keeper>(
+pub(crate) fn run<K: Keeper>(
     rt: &impl Abort,
     alloc: Global,
     desk: &mut K,

@@ -1,108 +1,15 @@
 // Desks, readers and writers that fail.
-ghost use Rattle.std.specs.Prelude.{◌≡◌, false, true};
 
-use super::files::{GEM, STONES, desk_of};
-use crate::{Session, SessionFault, Step, run};
-use dict_catalogue::Summary;
-use dict_desk::{End, Fault, Lookup, PlainDesk, RowSink, What};
+use crate::files::{GEM, STONES, desk_of};
+use dict_failing_desk::FailingDesk;
 use dict_io::{LimitedSink, OverRead};
-use dict_match::{Key, Strategy};
+use dict_session::{Session, SessionFault, Step, run};
 use std::alloc::Global;
 use std::io::{Error, ErrorKind, Read, Result as IoResult};
 use std::test::Fail;
 
-// A desk that refuses memory at the call after so many, once.
-#[derive(Drop)]
-struct Failing {
-    desk: PlainDesk,
-    calls_left: usize,
-    has_failed: bool,
-}
-
-impl Failing {
-    // Counts a call, and tells whether it is the one that fails.
-    fn count_call(&mut self) -> bool
-        ensures desk { self.new.desk ≡ self.old.desk }
-        ensures failed { self.new.has_failed ≡ result }
-    {
-        self.has_failed = self.calls_left == 0;
-        self.calls_left = self.calls_left.checked_sub(1).unwrap_or(usize::MAX);
-        self.has_failed
-    }
-}
-
-impl Lookup for Failing {
-    ghost use Rattle.std.specs.Prelude.{◌||◌, refl};
-
-    ghost shows = { λ s M. ⟦<PlainDesk as Lookup>⟧.shows s.desk M };
-
-    ghost leaves_one_of = { λ s ms. ⟦<PlainDesk as Lookup>⟧.leaves_one_of s.desk ms };
-
-    ghost is_trusted = { λ s. ⟦<PlainDesk as Lookup>⟧.is_trusted s.desk };
-
-    ghost is_closed = { λ s. ⟦<PlainDesk as Lookup>⟧.is_closed s.desk };
-
-    ghost has_failed = { λ s. s.has_failed || ⟦<PlainDesk as Lookup>⟧.has_failed s.desk };
-
-    fn summary(&self) -> Result<&Summary, Fault> {
-        self.desk.summary()
-    }
-
-    fn info<T: RowSink>(&mut self, number: u64, sink: &mut T) -> Result<End, Fault> {
-        if self.count_call() {
-            return Err(Fault::Memory);
-        }
-        self.desk.info(number, sink)
-    }
-
-    fn count(
-        &mut self,
-        number: u64,
-        strategy: Strategy,
-        query: &Key,
-        what: What,
-    ) -> Result<u64, Fault> {
-        if self.count_call() {
-            return Err(Fault::Memory);
-        }
-        self.desk.count(number, strategy, query, what)
-    }
-
-    fn find<T: RowSink>(
-        &mut self,
-        number: u64,
-        strategy: Strategy,
-        query: &Key,
-        sink: &mut T,
-    ) -> Result<End, Fault> {
-        if self.count_call() {
-            return Err(Fault::Memory);
-        }
-        self.desk.find(number, strategy, query, sink)
-    }
-
-    fn heads<T: RowSink>(
-        &mut self,
-        number: u64,
-        strategy: Strategy,
-        query: &Key,
-        sink: &mut T,
-    ) -> Result<End, Fault> {
-        if self.count_call() {
-            return Err(Fault::Memory);
-        }
-        self.desk.heads(number, strategy, query, sink)
-    }
-
-    ghost well_formed = { λ s M h. h.1 };
-
-    ghost wider = { λ s ms ns h left. left };
-
-    ghost still_open = { λ s h. refl };
-}
-
 // A line, after how many of its calls the desk fails, what the session comes to, and what is answered.
-type Row = (&'static str, usize, Step, &'static str);
+type Row = (&'static str, u64, Step, &'static str);
 
 static ROWS: [Row; 13] = [
     (
@@ -189,11 +96,7 @@ static ROWS: [Row; 13] = [
 fn a_desk_fails_at_each_of_its_calls(rt: HostRuntime) -> Result<(), Fail> {
     let alloc = rt.alloc();
     for (line, calls_left, want, answers) in &ROWS {
-        let mut desk = Failing {
-            desk: desk_of(alloc, &[STONES, GEM])?,
-            calls_left: *calls_left,
-            has_failed: false,
-        };
+        let mut desk = FailingDesk::new(desk_of(alloc, &[STONES, GEM])?, *calls_left, false);
         let mut session = Session::new(alloc, "gems.test", 7)?;
         let mut writer = LimitedSink::new(alloc, 1000)?;
         session.feed(alloc, line.as_bytes(), &mut desk, &mut writer);
@@ -207,11 +110,7 @@ fn a_desk_fails_at_each_of_its_calls(rt: HostRuntime) -> Result<(), Fail> {
 #[test]
 fn a_failed_desk_ends_a_run(rt: HostRuntime) -> Result<(), Fail> {
     let alloc = rt.alloc();
-    let mut desk = Failing {
-        desk: desk_of(alloc, &[GEM])?,
-        calls_left: 1,
-        has_failed: false,
-    };
+    let mut desk = FailingDesk::new(desk_of(alloc, &[GEM])?, 1, false);
     let mut reader = OverRead::new(b"DEFINE gem opal\r\nSTATUS\r\n".as_slice());
     let mut writer = LimitedSink::new(alloc, 1000)?;
     let end = run(alloc, &mut reader, &mut writer, &mut desk, "gems.test", 7);

@@ -1,5 +1,5 @@
 // The octets that `curl` 7.88.1 sends for the commands in `docs/FORMATS.md`, taken down at a socket.
-use super::{answers, response};
+use crate::answers::{answers, response};
 use dict_desk::PlainDesk;
 use std::test::Fail;
 

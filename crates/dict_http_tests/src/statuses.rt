@@ -1,5 +1,5 @@
 // Which methods and which paths are served.
-use super::{answers, response};
+use crate::answers::{answers, response};
 use dict_desk::PlainDesk;
 use std::alloc::Global;
 use std::test::Fail;

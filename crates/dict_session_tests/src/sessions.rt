@@ -1,8 +1,10 @@
 // Sessions over catalogues in memory.
-use super::files::{GEM, STONES, desk_of, ore_gem_all};
-use crate::{End, Session, Step, is_host, one_cut, run, session_lines_are_short, spoken_answers};
+use crate::files::{GEM, STONES, desk_of, ore_gem_all};
 use dict_desk::PlainDesk;
 use dict_io::{LimitedSink, OverRead};
+use dict_session::{
+    End, Session, Step, is_host, one_cut, run, session_lines_are_short, spoken_answers,
+};
 use std::alloc::Global;
 use std::process::Abort;
 use std::test::Fail;

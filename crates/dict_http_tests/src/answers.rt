@@ -1,12 +1,8 @@
-//! Requests over a desk in memory, answered octet for octet.
-mod curl;
-mod failing;
-mod statuses;
-mod table;
+// Requests over a desk in memory, answered octet for octet.
 
-use crate::{Answer, Need, Service, Status, kept_json, need};
 use dict_catalogue::{Kept, Verb};
 use dict_desk::{Keeper, PlainDesk};
+use dict_http::{Answer, Need, Service, Status, kept_json, need};
 use dict_io::{LimitedSink, Sink};
 use memchr::memmem;
 use std::alloc::Global;
@@ -56,7 +52,7 @@ fn is_framed(alloc: Global, answer: &[u8]) -> Result<bool, Fail> {
 }
 
 // Whether the request is whole, or refused, and is answered so, with the length of its body.
-fn answers<K: Keeper>(
+pub(crate) fn answers<K: Keeper>(
     alloc: Global,
     desk: &mut K,
     request: &[u8],
@@ -71,7 +67,7 @@ fn answers<K: Keeper>(
 }
 
 // The octets of an answer with this status and this body.
-fn response(alloc: Global, status: &str, body: &str) -> Result<String, Fail> {
+pub(crate) fn response(alloc: Global, status: &str, body: &str) -> Result<String, Fail> {
     let len = body.len();
     Ok(format!(in alloc;
         "HTTP/1.1 {status}\r\nContent-Type: application/json\r\nContent-Length: {len}\r\nConnection: close\r\n\r\n{body}"

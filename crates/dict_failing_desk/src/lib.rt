@@ -1,23 +1,18 @@
-// A keeper that fails at one of its calls.
+//! A desk in memory that fails at one of its calls, for runs of what stands over a desk.
+#![tactic(auto)]
+
 ghost use Rattle.std.specs.Prelude.{◌≡◌, ◌↔◌, true, false, ◌||◌, IfErr, OnOk, OnErr, Err};
 ghost use Rattle.dict_desk.specs.Faults.{IsOfLookup, has_closed_by, has_failed_by};
 ghost use Rattle.dict_desk.specs.declared.fault.Fault.TheVariants as faults;
 
-use super::answers;
-use super::table::{INSTALL, Row, request_of, run};
 use dict_catalogue::{Command, Kept, Summary};
 use dict_desk::{End, Fault, Keeper, Lookup, PlainDesk, RowSink, What};
 use dict_match::{Key, Strategy};
-use std::alloc::Global;
-use std::test::Fail;
-
-const UNAVAILABLE: &[u8] =
-    b"HTTP/1.1 503 Service Unavailable\r\nContent-Type: application/json\r\nContent-Length: 23\r\nConnection: close\r\n\r\n{\"error\":\"unavailable\"}";
 
 /// A desk in memory that fails at one call: for memory, and goes on, or as a store does, and is closed. Contracts say
 /// nothing of what it shows; it is there to be run.
 #[derive(Drop)]
-struct FailingDesk {
+pub struct FailingDesk {
     desk: PlainDesk,
     // How many calls come before the one that fails.
     left: u64,
@@ -37,9 +32,14 @@ fn failed_by<T>(answer: &Result<T, Fault>) -> bool
 }
 
 impl FailingDesk {
-    fn new(alloc: Global, left: u64, by_disk: bool) -> Self {
+    /// This desk, which answers so many calls by `&mut self` before one fails: by a fault of the disk, after which it is
+    /// closed, or for memory, after which it goes on.
+    pub fn new(desk: PlainDesk, left: u64, by_disk: bool) -> Self
+        ensures open { ⟦<FailingDesk as Lookup>⟧.is_closed result ≡ false }
+        ensures fails_not { ⟦<FailingDesk as Lookup>⟧.has_failed result ≡ false }
+    {
         FailingDesk {
-            desk: PlainDesk::new(alloc),
+            desk,
             left,
             by_disk,
             is_closed: false,
@@ -160,81 +160,4 @@ impl Keeper for FailingDesk {
         self.has_failed = failed_by(&answer);
         answer
     }
-}
-
-static ROWS: [Row; 5] = [
-    INSTALL,
-    Row(
-        "POST /databases/gem/rollback",
-        "Request-Id: r2\r\n",
-        "",
-        "409 Conflict",
-        "{\"reason\":\"NoFormer\",\"refusal\":23}",
-    ),
-    Row(
-        "POST /databases/gem/place",
-        "Request-Id: r3\r\n",
-        "{\"place\":0}",
-        "200 OK",
-        "{\"edition\":null,\"name\":\"gem\",\"number\":2,\"verb\":\"place\"}",
-    ),
-    Row(
-        "PUT /virtual/all",
-        "Request-Id: r4\r\n",
-        "{\"members\":[\"gem\"],\"title\":\"All\"}",
-        "200 OK",
-        "{\"edition\":null,\"name\":\"all\",\"number\":3,\"verb\":\"virtual\"}",
-    ),
-    Row(
-        "DELETE /databases/all",
-        "Request-Id: r5\r\n",
-        "",
-        "200 OK",
-        "{\"edition\":null,\"name\":\"all\",\"number\":4,\"verb\":\"retire\"}",
-    ),
-];
-
-// For memory: the request is answered 503, and sent again it is answered as ever.
-#[test]
-fn a_call_finds_no_memory(rt: HostRuntime) -> Result<(), Fail> {
-    let alloc = rt.alloc();
-    for failing in 0..10u64 {
-        let mut desk = FailingDesk::new(alloc, failing, false);
-        let which = (failing / 2) as usize;
-        run(&rt, alloc, &mut desk, &ROWS[..which])?;
-        let request = request_of(alloc, ROWS[which])?;
-        assert!(rt;
-            answers(alloc, &mut desk, request.as_bytes(), UNAVAILABLE)?,
-            "{failing}"
-        );
-        run(&rt, alloc, &mut desk, &ROWS[which..])?;
-    }
-    Ok(())
-}
-
-// As a store fails: the request and all after it are answered 503, the list too.
-#[test]
-fn a_call_finds_no_store(rt: HostRuntime) -> Result<(), Fail> {
-    let alloc = rt.alloc();
-    for failing in 0..10u64 {
-        let mut desk = FailingDesk::new(alloc, failing, true);
-        let which = (failing / 2) as usize;
-        run(&rt, alloc, &mut desk, &ROWS[..which])?;
-        for row in &ROWS[which..] {
-            let request = request_of(alloc, *row)?;
-            assert!(rt;
-                answers(alloc, &mut desk, request.as_bytes(), UNAVAILABLE)?,
-                "{failing}"
-            );
-        }
-        assert!(rt;
-            answers(
-                alloc,
-                &mut desk,
-                b"GET /databases HTTP/1.1\r\n\r\n",
-                UNAVAILABLE
-            )?
-        );
-    }
-    Ok(())
 }

@@ -1,10 +1,10 @@
 // Sessions at the limits: lines of the greatest lengths, keys with the last character, catalogues that become empty.
-use super::files::{EDGE, STONES, apply, desk_of, ore_gem_all};
-use super::sessions::{Row, feed_rows, run_rows};
-use crate::{End, run};
+use crate::files::{EDGE, STONES, apply, desk_of, ore_gem_all};
+use crate::sessions::{Row, feed_rows, run_rows};
 use dict_catalogue::Command;
 use dict_desk::{Fault, Keeper};
 use dict_io::{LimitedSink, OverRead};
+use dict_session::{End, run};
 use std::alloc::Global;
 use std::test::Fail;
 

@@ -1,0 +1,14 @@
+//! Runs of the editors' requests: over a desk in memory, whose answers are compared octet for octet, and over desks that
+//! fail. A library with tests alone.
+#![tactic(auto)]
+
+#[cfg(test)]
+mod answers;
+#[cfg(test)]
+mod curl;
+#[cfg(test)]
+mod failing;
+#[cfg(test)]
+mod statuses;
+#[cfg(test)]
+mod table;

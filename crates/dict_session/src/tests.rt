@@ -1,4 +1,0 @@
-mod faults;
-mod files;
-mod limits;
-mod sessions;

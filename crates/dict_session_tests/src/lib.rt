@@ -1,0 +1,12 @@
+//! Runs of sessions: whole, in pieces, over several databases, at the limits, and over readers, writers and desks that
+//! fail. A library with tests alone.
+#![tactic(auto)]
+
+#[cfg(test)]
+mod faults;
+#[cfg(test)]
+mod files;
+#[cfg(test)]
+mod limits;
+#[cfg(test)]
+mod sessions;
