@@ -2,6 +2,7 @@
 use Rattle.std.proofs.Common.{◌≡◌, ℕ, ◌+◌, ◌≤◌, Bool, true, false, ◌||◌, ◌&&◌, List, [], ◌∷◌, ◌++◌, length, refl, ap, sym, subst, ◌∙◌, arith}
 use Rattle.std.specs.Prelude.{map, not, cond, nat_lt, nat_le, IsTrue, bytes_eq, is_some, Some, None}
 use Rattle.std.specs.List.{list_any, AllByRecursion}
+use Rattle.std.specs.Str.{IsUtf8}
 use Rattle.std.proofs.lemmas.List.{length-append, map-append}
 use Rattle.std.proofs.lemmas.Bool.{and_parts, not-true, not_from_false}
 use Rattle.std.proofs.lemmas.Bool.Decides.{nat_tests}
@@ -39,22 +40,22 @@ lawful_put name title members (virtual n t ms) new h = new
 at_least : (a b : ℕ) → nat_le a b ≡ true → a ≤ b
 at_least a b h = grind (arith, nat_tests)
 
-lawful_virtual : (before : Holdings Edition) (name title : List ℕ) (members : List (List ℕ)) → AllHold (tests_of before (put_virtual name title members)) → IsLawfulItem (virtual name title members)
-lawful_virtual before name title members tests =
+lawful_virtual : (before : Holdings Edition) (name title : List ℕ) (members : List (List ℕ)) → AllHold (tests_of before (put_virtual name title members)) → IsUtf8 title → IsLawfulItem (virtual name title members)
+lawful_virtual before name title members tests utf8 =
     let counted = and_parts (nat_le 1 (length members)) (nat_le (length members) 64) tests.1.1.1.0 in
-    (tests.0, tests.1.1.0, at_least 1 (length members) counted.0, at_least (length members) 64 counted.1, tested_once before.items members _ tests.1.1.1.1)
+    (tests.0, (utf8, tests.1.1.0), at_least 1 (length members) counted.0, at_least (length members) 64 counted.1, tested_once before.items members _ tests.1.1.1.1)
 
-items_lawful : (number : ℕ) (command : Command Edition) (before : Holdings Edition) → AllHold (tests_of before command) → AllByRecursion IsLawfulItem before.items → AllByRecursion IsLawfulItem (items_after number command before.items)
-items_lawful number (install name content) before tests h =
+items_lawful : (number : ℕ) (command : Command Edition) (before : Holdings Edition) → AllHold (tests_of before command) → IsLawfulCommand command → AllByRecursion IsLawfulItem before.items → AllByRecursion IsLawfulItem (items_after number command before.items)
+items_lawful number (install name content) before tests l h =
     all_after IsLawfulItem IsLawfulItem number (install name content) before.items (λ item p. p) (λ item p. lawful_installed (record { number = number; content = content }) item p) tests.0 h
-items_lawful number (rollback name) before tests h =
+items_lawful number (rollback name) before tests l h =
     all_after IsLawfulItem IsLawfulItem number (rollback name) before.items (λ item p. p) (λ item p. lawful_swapped item p) tt h
-items_lawful number (retire name) before tests h =
+items_lawful number (retire name) before tests l h =
     all_after IsLawfulItem IsLawfulItem number (retire name) before.items (λ item p. p) (λ item p. p) tt h
-items_lawful number (put_virtual name title members) before tests h =
-    let new : IsLawfulItem (virtual name title members) = lawful_virtual before name title members tests in
+items_lawful number (put_virtual name title members) before tests l h =
+    let new : IsLawfulItem (virtual name title members) = lawful_virtual before name title members tests l in
     all_after IsLawfulItem IsLawfulItem number (put_virtual name title members) before.items (λ item p. p) (λ item p. lawful_put name title members item new p) new h
-items_lawful number (place name at) before tests h =
+items_lawful number (place name at) before tests l h =
     all_after IsLawfulItem IsLawfulItem number (place name at) before.items (λ item p. p) (λ item p. p) tt h
 
 -- lawful editions, and numbers in their range: what holds of each edition
@@ -302,7 +303,7 @@ well_formed_effect M id command lawful new tests l w =
     let reply : KeptFor = record { id = id; reply = reply_to command (effect command (holdings M)) } in
     record {
       item_limit = limit_after (M.installs + 1) command (holdings M) tests w.item_limit;
-      items = items_lawful (M.installs + 1) command (holdings M) tests w.items;
+      items = items_lawful (M.installs + 1) command (holdings M) tests l w.items;
       editions = editions_lawful (M.installs + 1) command M.items l w.editions;
       names = names_after (M.installs + 1) command M.items w.names;
       members = members_after (M.installs + 1) command (holdings M) tests w.members;

@@ -1,9 +1,10 @@
 -- When a catalogue is well formed.
 use Rattle.std.specs.Prelude.{◌≡◌, ℕ, ◌+◌, ◌≤◌, Bool, true, false, IsTrue, ◌==◌, List, [], ◌∷◌, length, map, if◌then◌else◌, is_some, bytes_eq}
 use Rattle.std.specs.List.{AllByRecursion}
+use Rattle.std.specs.Str.{IsUtf8}
 use Rattle.dict_index.specs.Edition.{Edition}
-use Rattle.dict_index.specs.WellFormed.{IsWellFormedEdition}
-use Rattle.dict_name.specs.Names.{is_name, is_title, is_request_id}
+use Rattle.dict_index.specs.WellFormed.{IsEditionTitle, IsWellFormedEdition}
+use Rattle.dict_name.specs.Names.{is_name, is_request_id}
 use Rattle.dict_catalogue.specs.Items.{Item, regular, virtual, name_of, members_of, editions_of, names_regular, edition_numbers}
 use Rattle.dict_catalogue.specs.Commands.{Command, install, rollback, retire, put_virtual, place}
 use Rattle.dict_catalogue.specs.Steps.{KeptFor, Catalogue}
@@ -25,10 +26,10 @@ IsEachOnce texts = (text : List ℕ) → how_many (λ one. bytes_eq one text) te
 abbrev pub IsEachNumberOnce : List ℕ → Type 0
 IsEachNumberOnce numbers = (number : ℕ) → how_many (λ one. one == number) numbers ≤ 1
 
--- a lawful name, and for a virtual item a lawful title and 1 to 64 members, each once
+-- a lawful name, and for a virtual item a title as an edition's and 1 to 64 members, each once
 abbrev pub IsLawfulItem : Item Edition → Type 0
 IsLawfulItem (regular name current former) = IsTrue (is_name name)
-IsLawfulItem (virtual name title members) = IsTrue (is_name name) × IsTrue (is_title title) × (1 ≤ length members) × (length members ≤ 64) × IsEachOnce members
+IsLawfulItem (virtual name title members) = IsTrue (is_name name) × IsEditionTitle title × (1 ≤ length members) × (length members ≤ 64) × IsEachOnce members
 
 -- each edition keeps the limits of editions
 abbrev pub HasWellFormedEditions : Item Edition → Type 0
@@ -76,10 +77,10 @@ pub record IsWellFormed (catalogue : Catalogue) : Type 0 where
   pub edition_range : AllByRecursion (λ number. (1 ≤ number) × (number ≤ catalogue.installs)) (edition_numbers catalogue.items)
   pub edition_once : IsEachNumberOnce (edition_numbers catalogue.items)
 
--- an installed edition keeps the limits of editions
+-- an installed edition keeps the limits of editions, and a virtual item's title is UTF-8
 abbrev pub IsLawfulCommand : Command Edition → Type 0
 IsLawfulCommand (install name edition) = IsWellFormedEdition edition
 IsLawfulCommand (rollback name) = Unit {0}
 IsLawfulCommand (retire name) = Unit {0}
-IsLawfulCommand (put_virtual name title members) = Unit {0}
+IsLawfulCommand (put_virtual name title members) = IsUtf8 title
 IsLawfulCommand (place name at) = Unit {0}

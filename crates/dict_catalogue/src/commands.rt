@@ -63,14 +63,18 @@ impl<'a> Command<'a> {
             Command::Place { .. } => Verb::Place,
         }
     }
-    /// An installed edition is well formed, so a well formed catalogue stays so.
+    /// An installed edition is well formed, and a virtual item's title is UTF-8, so a well formed catalogue stays so.
     ///
     /// It does nothing. Its clause is what holds of every command.
     pub fn is_lawful(&self)
         ensures { IsLawfulCommand (command_meant self.now) }
     {
-        if let Command::Install { edition, .. } = self {
-            edition.is_well_formed();
+        match self {
+            Command::Install { edition, .. } => edition.is_well_formed(),
+            Command::PutVirtual { title, .. } => {
+                let _octets = title.as_bytes();
+            }
+            Command::Rollback { .. } | Command::Retire { .. } | Command::Place { .. } => {}
         }
     }
 }

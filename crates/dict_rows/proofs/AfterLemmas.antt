@@ -1,27 +1,21 @@
 -- The tables after a command stand for the catalogue after it.
-use Rattle.std.proofs.Common.{◌≡◌, ℕ, ◌+◌, ◌≤◌, ◌<◌, Bool, true, false, ◌&&◌, ◌||◌, ◌⊎◌, inl, inr, List, [], ◌∷◌, ◌++◌, length, take, drop, refl, ap, sym, subst, ◌∙◌, arith, append-nil, Option, Some, None}
-use Rattle.std.specs.Prelude.{ℤ, pos, map, filter, cond, flat_map, not, ◌==◌, IsTrue}
+use Rattle.std.proofs.Common.{◌≡◌, ℕ, ◌+◌, ◌≤◌, ◌<◌, Bool, true, false, ◌&&◌, ◌||◌, ◌⊎◌, inl, inr, List, [], ◌∷◌, ◌++◌, refl, ap, sym, subst, ◌∙◌, arith, Some, None}
+use Rattle.std.specs.Prelude.{ℤ, pos, map, filter, cond, not, ◌==◌}
 use Rattle.std.specs.List.{AllByRecursion, list_any}
-use Rattle.std.proofs.lemmas.Bool.{false≢true, and_parts, not-true, not_from_false}
-use Rattle.std.proofs.lemmas.Bool.Decides.{nat_tests}
-use Rattle.std.proofs.lemmas.List.{map-append}
-use Rattle.std.proofs.lemmas.List.Elements.{filter-append}
+use Rattle.std.proofs.lemmas.Bool.{false≢true, not_from_false}
 use Rattle.std.proofs.lemmas.Grind.{flat_map-append}
-use Rattle.dict_text.proofs.AllLemmas.{all_weaker, all_append, all_filter, all_map, all_flat_map_parts}
-use Rattle.dict_records.specs.Records as spec
-use Rattle.dict_index.specs.Edition.{Edition, edition_of}
+use Rattle.dict_text.proofs.AllLemmas.{all_weaker, all_append, all_map}
+use Rattle.dict_index.specs.Edition.{Edition}
 use Rattle.dict_catalogue.specs.Items.{Stored, Item, regular, virtual, name_of, is_virtual, editions_of, is_named, is_known, names_virtual, numbers_of, edition_numbers}
-use Rattle.dict_catalogue.specs.Commands.{Command, install, rollback, retire, put_virtual, place}
-use Rattle.dict_catalogue.specs.Effects.{installed, swapped, put_anew, changed, changed_in_place, items_after, editions_gone}
-use Rattle.dict_catalogue.proofs.ListLemmas.{any_append_left, any_append_right, any_false_parts, by_test}
-use Rattle.dict_catalogue.proofs.ItemLemmas.{same_text, all_after}
-use Rattle.dict_rows.specs.Tables.{Tables, same_number, editions_numbered, entries_of}
-use Rattle.dict_rows.specs.Written.{numbered, edition_record, entry_record}
-use Rattle.dict_rows.specs.Stands.{IsWithin, HoldsEdition, HoldsEditions, has_number}
-use Rattle.dict_rows.specs.After.{Installed, is_gone, installed_editions, installed_entries}
-use Rattle.dict_rows.proofs.TakenLemmas.{SameAt, holds_same, same_number_is, same_itself, nat_same, nat_itself}
-use Rattle.dict_rows.proofs.LawfulLemmas.{pos_same}
-use Rattle.dict_rows.proofs.MemberLemmas.{all_with}
+use Rattle.dict_catalogue.specs.Commands.{install}
+use Rattle.dict_catalogue.specs.Effects.{installed, swapped, put_anew, changed_in_place, items_after}
+use Rattle.dict_catalogue.proofs.ListLemmas.{any_append_right, any_false_parts, by_test}
+use Rattle.dict_catalogue.proofs.ItemLemmas.{same_text}
+use Rattle.dict_rows.specs.Tables.{Tables, same_number}
+use Rattle.dict_rows.specs.Written.{numbered}
+use Rattle.dict_rows.specs.Stands.{HoldsEdition}
+use Rattle.dict_rows.specs.After.{is_gone}
+use Rattle.dict_rows.proofs.TakenLemmas.{same_number_is, same_itself, nat_same, nat_itself}
 use Rattle.dict_rows.proofs.PartLemmas.{filter_filter}
 
 -- ---- an edition is one of those before, or the one that is installed

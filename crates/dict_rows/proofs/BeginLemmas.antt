@@ -1,11 +1,11 @@
 -- What a reader begins with, and when no catalogue has it.
-use Rattle.std.proofs.Common.{◌≡◌, ℕ, ◌+◌, ◌≤◌, ◌<◌, Bool, true, false, ◌&&◌, ◌⊎◌, inl, inr, List, [], ◌∷◌, ◌++◌, length, refl, ap, sym, subst, ◌∙◌, arith, append-nil, Option, Some, None}
-use Rattle.std.specs.Prelude.{ℤ, pos, map, bytes_eq, IsTrue}
-use Rattle.std.specs.List.{AllByRecursion, list_any, list_all}
+use Rattle.std.proofs.Common.{◌≡◌, ℕ, true, false, ◌&&◌, inl, List, [], ◌∷◌, refl, ap, sym, subst, ◌∙◌, arith, Some, None}
+use Rattle.std.specs.Prelude.{map, IsTrue}
+use Rattle.std.specs.List.{AllByRecursion, list_all}
 use Rattle.std.proofs.lemmas.Bool.{false≢true}
 use Rattle.dict_records.specs.Records as spec
 use Rattle.dict_index.specs.Edition.{Edition}
-use Rattle.dict_catalogue.specs.Items.{Stored, Item, regular, virtual, editions_of, is_known}
+use Rattle.dict_catalogue.specs.Items.{Item, regular, virtual, is_known}
 use Rattle.dict_catalogue.specs.Steps.{Catalogue}
 use Rattle.dict_catalogue.specs.WellFormed.{IsWellFormed}
 use Rattle.dict_rows.specs.Tables.{Tables}

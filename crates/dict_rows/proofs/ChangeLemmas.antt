@@ -1,5 +1,5 @@
 -- A command's change of the tables, as a whole.
-use Rattle.std.proofs.Common.{◌≡◌, ℕ, ◌+◌, ◌≤◌, ◌<◌, Bool, true, false, ◌||◌, ◌⊎◌, inl, inr, List, [], ◌∷◌, ◌++◌, length, refl, ap, sym, subst, ◌∙◌, arith, append-nil, Option, Some, None}
+use Rattle.std.proofs.Common.{◌≡◌, ℕ, ◌+◌, ◌≤◌, ◌<◌, Bool, true, false, ◌||◌, ◌⊎◌, inl, inr, List, [], ◌∷◌, ◌++◌, refl, ap, sym, subst, ◌∙◌, arith, append-nil, Option, Some, None}
 use Rattle.std.specs.Prelude.{ℤ, pos, map, filter, cond, not, ◌==◌, IsTrue}
 use Rattle.std.specs.List.{AllByRecursion, list_any}
 use Rattle.std.proofs.lemmas.Bool.{false≢true, not-true}
@@ -12,8 +12,8 @@ use Rattle.dict_name.specs.Names.{is_request_id}
 use Rattle.dict_catalogue.specs.Items.{Stored, Item, name_of, editions_of, numbers_of, edition_numbers, is_known, names_virtual}
 use Rattle.dict_catalogue.specs.Commands.{Command, install, rollback, retire, put_virtual, place}
 use Rattle.dict_catalogue.specs.Tests.{tests_of, refusal_of}
-use Rattle.dict_catalogue.specs.Effects.{items_after, editions_gone, effect, reply_to}
-use Rattle.dict_catalogue.specs.Steps.{KeptFor, Catalogue, holdings, with_effect, kept_under, answered, decided, refused, step}
+use Rattle.dict_catalogue.specs.Effects.{items_after, effect, reply_to}
+use Rattle.dict_catalogue.specs.Steps.{Catalogue, holdings, with_effect, kept_under, answered, decided, refused, step}
 use Rattle.dict_catalogue.specs.declared.fault.Refusal.TheVariants.{BadRequestId}
 use Rattle.dict_catalogue.specs.WellFormed.{IsLawfulCommand, IsWellFormed}
 use Rattle.dict_catalogue.proofs.ItemLemmas.{all_after}

@@ -1,23 +1,23 @@
 -- An edition's record is taken.
-use Rattle.std.proofs.Common.{◌≡◌, ℕ, suc, ◌+◌, ◌≤◌, ◌<◌, Bool, true, false, ◌&&◌, ◌||◌, ◌⊎◌, inl, inr, List, [], ◌∷◌, ◌++◌, length, refl, ap, sym, subst, ◌∙◌, arith, append-nil, append_assoc, Option, Some, None}
-use Rattle.std.specs.Prelude.{ℤ, pos, negsuc, map, filter, flat_map, cond, bytes_eq, ◌==◌, option_map, IsTrue}
-use Rattle.std.specs.List.{AllByRecursion, list_any}
+use Rattle.std.proofs.Common.{◌≡◌, ℕ, ◌+◌, ◌≤◌, Bool, true, false, ◌&&◌, ◌||◌, inr, List, [], ◌∷◌, ◌++◌, length, refl, ap, sym, subst, ◌∙◌, arith, Option, Some, None}
+use Rattle.std.specs.Prelude.{pos, cond, bytes_eq, ◌==◌, option_map}
+use Rattle.std.specs.List.{AllByRecursion}
 use Rattle.std.proofs.lemmas.Bool.{false≢true, and_parts, and_from}
 use Rattle.std.proofs.lemmas.Grind.{flat_map-append}
 use Rattle.dict_records.specs.Records as spec
-use Rattle.dict_index.specs.Edition.{Edition, ReadEdition, edition_of}
-use Rattle.dict_catalogue.specs.Items.{Stored, Item, regular, virtual, name_of, editions_of, members_of, numbers_of, edition_numbers}
-use Rattle.dict_catalogue.specs.WellFormed.{total, how_many, IsEachNumberOnce}
+use Rattle.dict_index.specs.Edition.{ReadEdition, edition_of}
+use Rattle.dict_catalogue.specs.Items.{Stored, Item, regular, virtual, name_of, members_of, numbers_of, edition_numbers}
+use Rattle.dict_catalogue.specs.WellFormed.{how_many, IsEachNumberOnce}
 use Rattle.dict_text.proofs.AllLemmas.{all_append, all_append_parts, all_flat_map_parts, all_weaker}
 use Rattle.dict_catalogue.proofs.ListLemmas.{sum_append, none_passes, by_test}
 use Rattle.dict_catalogue.proofs.ItemLemmas.{same_text}
 use Rattle.dict_index.specs.WellFormed.{IsWellFormedEdition}
-use Rattle.dict_rows.specs.Tables.{Tables, same_number, editions_numbered, entries_of}
+use Rattle.dict_rows.specs.Tables.{Tables, same_number}
 use Rattle.dict_rows.specs.Written.{numbered, item_record, edition_record, entry_record}
 use Rattle.dict_rows.specs.Stands.{HoldsEdition}
 use Rattle.dict_rows.specs.Titles.{is_awaited, awaits, with_title, item_titled}
 use Rattle.dict_rows.specs.Taken.{HasNone, IsTaken, HoldsTitle, HoldsTitles, with_edition}
-use Rattle.dict_rows.proofs.LawfulLemmas.{bare, none_of_sum}
+use Rattle.dict_rows.proofs.LawfulLemmas.{none_of_sum}
 use Rattle.dict_rows.proofs.TakenLemmas.{nat_same, nat_itself, filter_passes, filter_passes_not, SameAt, titles_same, title_same, none_held, length_none}
 
 -- ---- the item that has the number

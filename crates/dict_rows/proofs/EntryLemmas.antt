@@ -1,16 +1,15 @@
 -- One record of an entry more.
-use Rattle.std.proofs.Common.{◌≡◌, ℕ, suc, ◌+◌, ◌≤◌, ◌<◌, Bool, true, false, ◌⊎◌, inl, inr, List, [], ◌∷◌, ◌++◌, length, refl, ap, sym, subst, ◌∙◌, arith, append-nil, append_assoc, zero-add, Option, Some, None}
-use Rattle.std.specs.Prelude.{ℤ, pos, map, filter, ◌==◌, IsTrue}
+use Rattle.std.proofs.Common.{◌≡◌, ℕ, ◌+◌, ◌≤◌, ◌<◌, Bool, true, false, ◌⊎◌, inl, inr, List, [], ◌∷◌, ◌++◌, length, refl, ap, sym, subst, ◌∙◌, arith, append_assoc, Some, None}
+use Rattle.std.specs.Prelude.{pos, map, ◌==◌, IsTrue}
 use Rattle.std.specs.List.{AllByRecursion}
 use Rattle.std.proofs.lemmas.Bool.{false≢true}
 use Rattle.std.proofs.lemmas.List.{length-append, length-map, map-append}
 use Rattle.dict_records.specs.Records as spec
 use Rattle.dict_index.specs.Line.{Line}
-use Rattle.dict_index.specs.Edition.{Entry, Edition, ReadEdition, edition_of, entry_in}
+use Rattle.dict_index.specs.Edition.{Edition, ReadEdition, edition_of, entry_in}
 use Rattle.dict_index.specs.WellFormed.{IsWellFormedEntry, IsWellFormedEdition}
 use Rattle.dict_text.proofs.AllLemmas.{all_push}
 use Rattle.dict_catalogue.specs.Items.{Stored, Item, regular, virtual, name_of}
-use Rattle.dict_catalogue.specs.Steps.{Catalogue}
 use Rattle.dict_text.proofs.AllLemmas.{all_append, all_append_parts}
 use Rattle.dict_rows.specs.Tables.{Tables, same_number, editions_numbered, entries_of}
 use Rattle.dict_rows.specs.Written.{numbered, edition_record, entry_record}
@@ -22,7 +21,7 @@ use Rattle.dict_rows.specs.declared.reader.InHand.{InHand}
 use Rattle.dict_rows.proofs.OnceLemmas.{head_same}
 use Rattle.dict_rows.proofs.ListLemmas.{numbered_length, numbered_push, next_of_all}
 use Rattle.dict_rows.proofs.LawfulLemmas.{pos_same}
-use Rattle.dict_rows.proofs.TakenLemmas.{same_itself, nat_same, nat_itself, filter_passes, filter_passes_not, SameAt, title_same}
+use Rattle.dict_rows.proofs.TakenLemmas.{same_itself, nat_same, filter_passes, filter_passes_not, SameAt, title_same}
 use Rattle.dict_rows.proofs.FoundLemmas.{row_found}
 
 -- ---- an entry of the edition in hand

@@ -1,26 +1,24 @@
 -- What stands for all records that were taken.
-use Rattle.std.proofs.Common.{◌≡◌, ℕ, suc, ◌+◌, ◌≤◌, ◌<◌, Bool, true, false, ◌&&◌, ◌⊎◌, inl, inr, List, [], ◌∷◌, ◌++◌, length, refl, ap, sym, subst, ◌∙◌, arith, Option, Some, None}
-use Rattle.std.specs.Prelude.{ℤ, pos, map, not, IsTrue, ◌==◌, option_map}
+use Rattle.std.proofs.Common.{◌≡◌, ℕ, ◌+◌, ◌≤◌, Bool, true, false, inl, inr, List, [], ◌∷◌, length, refl, ap, sym, subst, ◌∙◌, Some, None}
+use Rattle.std.specs.Prelude.{ℤ, pos, map, not, IsTrue, ◌==◌}
 use Rattle.std.specs.List.{AllByRecursion, list_any, list_all}
 use Rattle.std.proofs.lemmas.Bool.{false≢true, and_parts, and_from}
 use Rattle.dict_records.specs.Records as spec
-use Rattle.dict_index.specs.Edition.{Edition, edition_of}
+use Rattle.dict_index.specs.Edition.{Edition}
 use Rattle.dict_index.specs.WellFormed.{IsWellFormedEdition}
-use Rattle.dict_catalogue.specs.Items.{Stored, Item, regular, virtual, name_of, members_of, editions_of, numbers_of, edition_numbers, is_known, item_as}
-use Rattle.dict_catalogue.specs.Tests.{Holdings}
+use Rattle.dict_catalogue.specs.Items.{Stored, Item, regular, virtual, name_of, members_of, numbers_of, edition_numbers, is_known, item_as}
 use Rattle.dict_catalogue.specs.Steps.{KeptFor, Catalogue, summary_of}
 use Rattle.dict_catalogue.specs.WellFormed.{HasWellFormedEditions, IsEachOnce, how_many, is_install}
-use Rattle.dict_text.proofs.AllLemmas.{all_append, all_flat_map, all_flat_map_parts, all_weaker}
+use Rattle.dict_text.proofs.AllLemmas.{all_flat_map, all_flat_map_parts, all_weaker}
 use Rattle.dict_rows.specs.Tables.{Tables, editions_numbered}
-use Rattle.dict_rows.specs.Written.{numbered, item_record, member_record, edition_record, kept_record}
+use Rattle.dict_rows.specs.Written.{numbered, item_record, member_record, kept_record}
 use Rattle.dict_rows.specs.Stands.{HoldsMembers, HoldsEdition, HoldsEditions, has_number, Stands}
-use Rattle.dict_rows.specs.Tests.{has_lawful_items}
 use Rattle.dict_rows.specs.Titles.{is_titled}
-use Rattle.dict_rows.specs.Taken.{HasNone, IsTaken, HoldsTitle, HoldsTitles, HasIdsOnce, items_in, HasTaken}
+use Rattle.dict_rows.specs.Taken.{HoldsTitle, HoldsTitles, HasIdsOnce, items_in, HasTaken}
 use Rattle.dict_rows.specs.declared.reader.Reader.{Reader}
 use Rattle.dict_rows.proofs.OnceLemmas.{map_same, kept_same}
 use Rattle.dict_rows.proofs.LawfulLemmas.{bare, items_bare, lawful_alike, known_alike, numbers_alike, lawful_true}
-use Rattle.dict_rows.proofs.TakenLemmas.{no_empty_title, nat_itself, length_none}
+use Rattle.dict_rows.proofs.TakenLemmas.{no_empty_title, length_none}
 use Rattle.dict_rows.proofs.BeginLemmas.{bare_of, installs_of}
 
 -- ---- the items with the editions that were taken

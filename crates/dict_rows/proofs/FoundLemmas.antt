@@ -1,25 +1,25 @@
 -- The edition of a number, where tables stand for a catalogue.
-use Rattle.std.proofs.Common.{◌≡◌, ℕ, suc, ◌+◌, ◌≤◌, ◌<◌, Bool, true, false, ◌&&◌, ◌||◌, ◌⊎◌, inl, inr, List, [], ◌∷◌, ◌++◌, length, refl, ap, sym, subst, ◌∙◌, arith, append-nil, append_assoc, Option, Some, None}
-use Rattle.std.specs.Prelude.{ℤ, pos, negsuc, map, filter, flat_map, cond, bytes_eq, ◌==◌, IsTrue}
+use Rattle.std.proofs.Common.{◌≡◌, ℕ, Bool, true, false, ◌&&◌, ◌||◌, ◌⊎◌, inl, inr, List, [], ◌∷◌, ◌++◌, length, refl, ap, sym, subst, ◌∙◌, Some, None}
+use Rattle.std.specs.Prelude.{ℤ, pos, map, bytes_eq, ◌==◌, IsTrue}
 use Rattle.std.specs.List.{AllByRecursion, list_any}
 use Rattle.std.proofs.lemmas.Bool.{false≢true, and_parts, and_from}
 use Rattle.std.proofs.lemmas.List.Folds.{list_any-append}
 use Rattle.dict_records.specs.Records as spec
-use Rattle.dict_index.specs.Edition.{Edition, ReadEdition, edition_of}
+use Rattle.dict_index.specs.Edition.{Edition}
 use Rattle.dict_index.specs.WellFormed.{IsWellFormedEdition}
-use Rattle.dict_catalogue.specs.Items.{Stored, Item, regular, virtual, name_of, editions_of, numbers_of, edition_numbers, item_as}
+use Rattle.dict_catalogue.specs.Items.{Stored, Item, regular, virtual, name_of, numbers_of, edition_numbers}
 use Rattle.dict_catalogue.specs.Steps.{Catalogue}
 use Rattle.dict_catalogue.specs.WellFormed.{HasWellFormedEditions}
-use Rattle.dict_catalogue.proofs.ItemLemmas.{same_text, text_itself}
+use Rattle.dict_catalogue.proofs.ItemLemmas.{text_itself}
 use Rattle.dict_text.proofs.AllLemmas.{all_filter, all_append_parts}
 use Rattle.dict_catalogue.proofs.ListLemmas.{any_same}
-use Rattle.dict_rows.specs.Tables.{Tables, same_number, editions_numbered, entries_of}
-use Rattle.dict_rows.specs.Written.{numbered, edition_record, entry_record}
+use Rattle.dict_rows.specs.Tables.{Tables, same_number, editions_numbered}
+use Rattle.dict_rows.specs.Written.{edition_record}
 use Rattle.dict_rows.specs.Stands.{HoldsEdition, HoldsEditions, has_number, Stands}
 use Rattle.dict_rows.specs.Titles.{is_awaited, awaits}
-use Rattle.dict_rows.specs.Taken.{BeginsWith, GoesOn, HasNone, IsTaken, HoldsTitle, HoldsTitles, with_edition}
+use Rattle.dict_rows.specs.Taken.{GoesOn, HoldsTitle, HoldsTitles, with_edition}
 use Rattle.dict_rows.proofs.OnceLemmas.{head_same}
-use Rattle.dict_rows.proofs.LawfulLemmas.{bare, pos_same}
+use Rattle.dict_rows.proofs.LawfulLemmas.{bare}
 use Rattle.dict_rows.proofs.TakenLemmas.{same_number_is, same_itself, nat_same, nat_itself, filter_passes}
 
 pub or_split : (a b : Bool) → (a || b) ≡ true → (a ≡ true) ⊎ (b ≡ true)

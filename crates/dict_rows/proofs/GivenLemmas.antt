@@ -1,8 +1,7 @@
 -- Records that are given one after another.
-use Rattle.std.proofs.Common.{◌≡◌, ℕ, suc, pos, ◌+◌, ◌<◌, Bool, true, false, List, [], ◌∷◌, ◌++◌, length, take, drop, get_or, refl, ap, sym, ◌∙◌, append-nil}
-use Rattle.std.specs.Prelude.{map, string_bytes, bytes_eq, String}
+use Rattle.std.proofs.Common.{◌≡◌, ℕ, suc, pos, ◌+◌, ◌<◌, true, false, List, [], ◌∷◌, ◌++◌, length, take, drop, get_or, ap, sym, ◌∙◌, append-nil}
+use Rattle.std.specs.Prelude.{string_bytes, bytes_eq, String}
 use Rattle.std.specs.declared.alloc.Global.{Global}
-use Rattle.std.proofs.lemmas.List.{length-map}
 use Rattle.dict_records.specs.Records as spec
 use Rattle.dict_records.specs.Typed.{owned_member}
 use Rattle.dict_records.specs.declared.records.Member.{Member}

@@ -1,17 +1,15 @@
 -- What the records of the items tell, one after another.
-use Rattle.std.proofs.Common.{◌≡◌, ◌≢◌, ℕ, suc, pos, ◌+◌, ◌<◌, List, [], ◌∷◌, ◌++◌, length, take, drop, get_or, refl, ap, sym, subst, ◌∙◌, Option, Some, None}
-use Rattle.std.specs.Prelude.{map, option_map, string_bytes, String}
-use Rattle.std.specs.List.{AllByRecursion}
+use Rattle.std.proofs.Common.{◌≡◌, ℕ, suc, pos, ◌+◌, ◌<◌, List, [], ◌∷◌, ◌++◌, length, take, drop, get_or, refl, ap, sym, subst, ◌∙◌, Option, Some, None}
+use Rattle.std.specs.Prelude.{option_map, String}
 use Rattle.std.specs.declared.alloc.Global.{Global}
 use Rattle.std.proofs.lemmas.List.{length-map}
 use Rattle.dict_records.specs.Records as spec
 use Rattle.dict_records.specs.Typed.{owned_item}
 use Rattle.dict_records.specs.declared.records.Item.{Item as ItemRow}
-use Rattle.dict_records.specs.declared.records.Member.{Member}
 use Rattle.dict_records.specs.declared.records.Stored.{Stored as Row}
 use Rattle.dict_index.specs.Edition.{Edition}
 use Rattle.dict_text.proofs.AllLemmas.{all_push}
-use Rattle.dict_catalogue.specs.Items.{Stored, Item, regular, virtual, name_of, members_of}
+use Rattle.dict_catalogue.specs.Items.{Stored, Item, regular, virtual}
 use Rattle.dict_rows.specs.Tables.{members_of_owner}
 use Rattle.dict_rows.specs.Written.{numbered, item_record, member_record}
 use Rattle.dict_rows.specs.Stands.{HoldsMembers}

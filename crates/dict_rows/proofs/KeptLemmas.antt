@@ -1,12 +1,12 @@
 -- One record of a kept reply more.
-use Rattle.std.proofs.Common.{◌≡◌, ℕ, suc, ◌+◌, ◌≤◌, ◌<◌, Bool, true, false, ◌⊎◌, inl, inr, List, [], ◌∷◌, ◌++◌, length, refl, ap, sym, subst, ◌∙◌, arith, append-nil, append_assoc, Option, Some, None}
+use Rattle.std.proofs.Common.{◌≡◌, ℕ, suc, ◌+◌, ◌≤◌, ◌<◌, Bool, ◌⊎◌, inl, inr, List, [], ◌∷◌, ◌++◌, length, refl, ap, sym, subst, ◌∙◌, arith, append_assoc, Option, Some, None}
 use Rattle.std.specs.Prelude.{map, cond}
 use Rattle.std.specs.List.{AllByRecursion}
 use Rattle.std.proofs.lemmas.List.{length-append, length-map, map-append}
 use Rattle.dict_records.specs.Records as spec
 use Rattle.dict_text.proofs.AllLemmas.{all_push}
-use Rattle.dict_catalogue.specs.Steps.{KeptFor, Catalogue}
-use Rattle.dict_catalogue.specs.WellFormed.{how_many, total, is_install, IsLawfulReply, IsNumberedFrom}
+use Rattle.dict_catalogue.specs.Steps.{KeptFor}
+use Rattle.dict_catalogue.specs.WellFormed.{is_install, IsLawfulReply, IsNumberedFrom}
 use Rattle.dict_catalogue.specs.declared.reply.Verb.{Verb}
 use Rattle.dict_catalogue.proofs.ListLemmas.{sum_append}
 use Rattle.dict_rows.specs.Tables.{Tables}

@@ -1,14 +1,16 @@
 -- The test of the items, whatever is kept of their editions, and what a well formed catalogue asks of them.
-use Rattle.std.proofs.Common.{◌≡◌, ℕ, suc, pos, ◌+◌, ◌≤◌, ◌<◌, Bool, true, false, ◌||◌, ◌&&◌, List, [], ◌∷◌, ◌++◌, length, refl, ap, sym, subst, ◌∙◌, arith, Option, Some, None}
-use Rattle.std.specs.Prelude.{map, flat_map, not, cond, nat_le, nat_lt, IsTrue, bytes_eq, option_map, ◌==◌}
+use Rattle.std.proofs.Common.{◌≡◌, ℕ, pos, ◌+◌, ◌≤◌, Bool, true, false, ◌&&◌, List, [], ◌∷◌, ◌++◌, length, refl, ap, sym, subst, ◌∙◌, arith, Option, Some, None}
+use Rattle.std.specs.Prelude.{map, not, cond, nat_le, nat_lt, bytes_eq, option_map, ◌==◌}
 use Rattle.std.specs.List.{list_any, list_all, AllByRecursion}
-use Rattle.std.proofs.lemmas.List.{length-map, length-append}
-use Rattle.std.proofs.lemmas.Bool.{false≢true, and_parts, and_from, not-true, not_from_false}
+use Rattle.std.specs.Str.{is_utf8}
+use Rattle.std.proofs.lemmas.List.{length-map}
+use Rattle.std.proofs.lemmas.Str.{IsUtf8-from_is_utf8, is_utf8-from_IsUtf8}
+use Rattle.std.proofs.lemmas.Bool.{and_parts, and_from, not-true, not_from_false}
 use Rattle.std.proofs.lemmas.Bool.Decides.{nat_tests}
 use Rattle.dict_name.specs.Names.{is_name, is_title}
 use Rattle.dict_records.specs.Records as spec
 use Rattle.dict_index.specs.Edition.{Edition}
-use Rattle.dict_catalogue.specs.Items.{Stored, Item, regular, virtual, name_of, is_regular, members_of, editions_of, is_named, is_among, is_known, names_regular, numbers_of, edition_numbers, stored_as, item_as}
+use Rattle.dict_catalogue.specs.Items.{Stored, Item, regular, virtual, name_of, is_regular, members_of, is_named, is_among, is_known, names_regular, numbers_of, edition_numbers, stored_as, item_as}
 use Rattle.dict_catalogue.specs.Tests.{has_member_count}
 use Rattle.dict_catalogue.specs.WellFormed.{total, how_many, IsEachOnce, IsEachNumberOnce, IsLawfulItem, HasKnownMembers}
 use Rattle.dict_catalogue.proofs.ListLemmas.{any_same, any_sum, none_sum}
@@ -218,18 +220,19 @@ itself_each p xs h = true_each p (λ x. p x ≡ true) (λ x e. e) xs h
 item_true : (item : Item Edition) → is_lawful_item item ≡ true → IsLawfulItem item
 item_true (regular name current former) h = h
 item_true (virtual name title members) h =
-    let a = and_parts (is_name name && is_title title && has_member_count members) (has_once members) h in
-    let b = and_parts (is_name name && is_title title) (has_member_count members) a.0 in
-    let d = and_parts (is_name name) (is_title title) b.0 in
+    let a = and_parts (is_name name && (is_utf8 title && is_title title) && has_member_count members) (has_once members) h in
+    let b = and_parts (is_name name && (is_utf8 title && is_title title)) (has_member_count members) a.0 in
+    let d = and_parts (is_name name) (is_utf8 title && is_title title) b.0 in
+    let t = and_parts (is_utf8 title) (is_title title) d.1 in
     let n = and_parts (nat_le 1 (length members)) (nat_le (length members) 64) b.1 in
-    (d.0, d.1, le_true 1 (length members) n.0, le_true (length members) 64 n.1, once_true members a.1)
+    (d.0, (IsUtf8-from_is_utf8 title t.0, t.1), le_true 1 (length members) n.0, le_true (length members) 64 n.1, once_true members a.1)
 
 true_item : (item : Item Edition) → IsLawfulItem item → is_lawful_item item ≡ true
 true_item (regular name current former) h = h
 true_item (virtual name title members) h =
-    and_from (is_name name && is_title title && has_member_count members) (has_once members)
-    (and_from (is_name name && is_title title) (has_member_count members)
-    (and_from (is_name name) (is_title title) h.0 h.1)
+    and_from (is_name name && (is_utf8 title && is_title title) && has_member_count members) (has_once members)
+    (and_from (is_name name && (is_utf8 title && is_title title)) (has_member_count members)
+    (and_from (is_name name) (is_utf8 title && is_title title) h.0 (and_from (is_utf8 title) (is_title title) (is_utf8-from_IsUtf8 title h.1.0) h.1.1))
     (and_from (nat_le 1 (length members)) (nat_le (length members) 64) (true_le 1 (length members) h.2) (true_le (length members) 64 h.3)))
     (true_once members h.4)
 

@@ -1,11 +1,11 @@
 -- Lists whose elements have their places, filters, and what comes next in them.
-use Rattle.std.proofs.Common.{◌≡◌, ℕ, zero, suc, ◌+◌, ◌≤◌, ◌<◌, ◌||◌, Bool, true, false, List, [], ◌∷◌, ◌++◌, length, take, drop, get_or, refl, ap, sym, subst, ◌∙◌, arith, append_assoc, zero-add, add_assoc}
+use Rattle.std.proofs.Common.{◌≡◌, ℕ, suc, ◌+◌, ◌≤◌, ◌<◌, ◌||◌, Bool, true, false, List, [], ◌∷◌, ◌++◌, length, take, drop, get_or, refl, ap, sym, ◌∙◌, arith, zero-add}
 use Rattle.std.specs.Prelude.{map, filter, cond}
 use Rattle.std.specs.List.{AllByRecursion, list_any}
 use Rattle.std.proofs.Math.ListN.{set}
 use Rattle.std.proofs.lemmas.Bool.{false≢true}
 use Rattle.std.proofs.Math.Seq.{split_at}
-use Rattle.std.proofs.lemmas.List.{map-append, length-append, length-map, length-take-le, take_more, take-append-drop, take-map, set_split}
+use Rattle.std.proofs.lemmas.List.{map-append, length-map, length-take-le, take_more, take-append-drop, take-map, set_split}
 use Rattle.std.proofs.lemmas.List.Elements.{filter-append}
 use Rattle.dict_rows.specs.Written.{numbered}
 use Rattle.dict_rows.proofs.OnceLemmas.{head_same, tail_same}

@@ -1,10 +1,10 @@
 -- The members of all items, and the items' records, as they are written.
-use Rattle.std.proofs.Common.{◌≡◌, ℕ, ◌+◌, Bool, true, false, ◌||◌, List, [], ◌∷◌, ◌++◌, refl, ap, sym, subst, ◌∙◌}
-use Rattle.std.specs.Prelude.{map, filter, cond, flat_map, not, bytes_eq, IsTrue, Option, Some, None, option_map, pos}
-use Rattle.std.specs.List.{AllByRecursion, list_any}
+use Rattle.std.proofs.Common.{◌≡◌, ℕ, ◌+◌, Bool, true, false, ◌||◌, List, [], ◌∷◌, ◌++◌, refl, ap, sym, ◌∙◌}
+use Rattle.std.specs.Prelude.{map, cond, not, bytes_eq, IsTrue, Option, Some, None, option_map, pos}
+use Rattle.std.specs.List.{AllByRecursion}
 use Rattle.std.proofs.lemmas.Bool.{false≢true, and_parts, not-true}
 use Rattle.std.proofs.lemmas.List.Elements.{filter-append}
-use Rattle.dict_text.proofs.AllLemmas.{all_weaker, all_flat_map, all_of}
+use Rattle.dict_text.proofs.AllLemmas.{all_weaker, all_flat_map}
 use Rattle.dict_records.specs.Records as spec
 use Rattle.dict_catalogue.specs.Items.{Stored, Item, regular, virtual, name_of, members_of, is_named, is_known, item_as, stored_as}
 use Rattle.dict_catalogue.proofs.ListLemmas.{none_passes}

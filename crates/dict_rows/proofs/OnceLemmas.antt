@@ -1,18 +1,17 @@
 -- Tables stand for one catalogue at most.
-use Rattle.std.proofs.Common.{◌≡◌, ℕ, ◌+◌, ◌*◌, Bool, true, false, List, [], ◌∷◌, length, refl, ap, sym, ◌∙◌, subst, arith, Option, Some, None, get_or, eqb, eq-eqb}
+use Rattle.std.proofs.Common.{◌≡◌, ℕ, ◌+◌, ◌*◌, false, List, [], ◌∷◌, length, refl, ap, sym, ◌∙◌, subst, Option, Some, None, get_or, eqb, eq-eqb}
 use Rattle.std.proofs.lemmas.Bool.{false≢true}
-use Rattle.std.specs.Prelude.{pos, map, option_map, codes}
+use Rattle.std.specs.Prelude.{pos, map, option_map}
 use Rattle.std.specs.List.{AllByRecursion}
 use Rattle.dict_records.specs.Records.{Mark, Item as ItemRecord, Member, Edition as EditionRecord, Entry as EntryRecord, Kept}
 use Rattle.dict_index.specs.Line.{Line}
 use Rattle.dict_index.specs.Edition.{Edition, ReadEdition, edition_of}
-use Rattle.dict_catalogue.specs.Items.{Stored, Item, regular, virtual, name_of, members_of, editions_of}
-use Rattle.dict_catalogue.specs.Effects.{KeptReply}
+use Rattle.dict_catalogue.specs.Items.{Stored, Item, regular, virtual, editions_of}
 use Rattle.dict_catalogue.specs.Steps.{KeptFor, Catalogue}
 use Rattle.dict_catalogue.specs.declared.reply.Verb.{Verb}
 use Rattle.dict_catalogue.specs.declared.reply.Verb.TheVariants.{Install, Rollback, Retire, Virtual, Place}
 use Rattle.dict_rows.specs.Tables.{Tables}
-use Rattle.dict_rows.specs.Written.{numbered, mark_record, item_record, member_record, edition_record, entry_record, verb_name, kept_record}
+use Rattle.dict_rows.specs.Written.{numbered, item_record, member_record, edition_record, entry_record, verb_name, kept_record}
 use Rattle.dict_rows.specs.Stands.{HoldsMembers, HoldsEdition, HoldsEditions, Stands}
 
 -- lists

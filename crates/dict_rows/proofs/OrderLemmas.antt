@@ -1,7 +1,7 @@
 -- The same records in another order stand for the same catalogue.
-use Rattle.std.proofs.Common.{◌≡◌, add_assoc, ℕ, suc, ◌+◌, ◌≤◌, ◌<◌, Bool, true, false, ◌&&◌, ◌⊎◌, inl, inr, List, [], ◌∷◌, ◌++◌, length, get_or, refl, ap, sym, subst, ◌∙◌, arith, zero-add}
+use Rattle.std.proofs.Common.{◌≡◌, add_assoc, ℕ, ◌+◌, ◌≤◌, ◌<◌, Bool, true, false, ◌&&◌, ◌⊎◌, inl, inr, List, [], ◌∷◌, refl, ap, sym, subst, ◌∙◌, arith, zero-add}
 use Rattle.std.specs.Prelude.{ℤ, pos, ◌≤ℤ◌, map, filter, cond, bytes_eq, IsPermutation, IsTrue}
-use Rattle.std.specs.List.{AllByRecursion, All, sum_by, fold}
+use Rattle.std.specs.List.{AllByRecursion, sum_by, fold}
 use Rattle.std.proofs.lemmas.Bool.{false≢true}
 use Rattle.std.proofs.lemmas.Int.{ints}
 use Rattle.std.proofs.lemmas.List.Sorted.{All-permutation, sum_by-IsPermutation, IsPermutation-sym}
@@ -74,7 +74,7 @@ behind_in : {X : Type 0} (p : X → Bool) (x y : X) (ys : List X) (b : Bool) →
 behind_in p x y ys true i = inr i
 behind_in p x y ys false i = i
 
-passed_in : {X : Type 0} (p : X → Bool) (x : X) (xs : List X) → p x ≡ true → IsIn x xs → IsIn x (filter p xs)
+pub passed_in : {X : Type 0} (p : X → Bool) (x : X) (xs : List X) → p x ≡ true → IsIn x xs → IsIn x (filter p xs)
 passed_in p x [] pass i = absurd i
 passed_in p x (y ∷ ys) pass (inl e) = subst (λ b. IsIn x (cond b (y ∷ filter p ys) (filter p ys))) (sym pass ∙ ap p e) (inl e)
 passed_in p x (y ∷ ys) pass (inr i) = behind_in p x y ys (p y) (passed_in p x ys pass i)

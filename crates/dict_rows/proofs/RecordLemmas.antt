@@ -1,8 +1,7 @@
 -- What one record tells.
-use Rattle.std.proofs.Common.{◌≡◌, ◌≢◌, ℕ, suc, ◌+◌, ◌≤◌, ◌<◌, Bool, true, false, List, [], ◌∷◌, ◌++◌, length, take, drop, get_or, refl, ap, sym, subst, ◌∙◌, arith, Option, Some, None}
-use Rattle.std.specs.Prelude.{ℤ, pos, map, option_map, is_some, string_bytes, String}
+use Rattle.std.proofs.Common.{◌≡◌, ℕ, ◌+◌, ◌≤◌, true, List, [], ◌∷◌, length, take, drop, get_or, refl, sym, subst, ◌∙◌, arith, Option}
+use Rattle.std.specs.Prelude.{pos, option_map, is_some, String}
 use Rattle.std.specs.declared.alloc.Global.{Global}
-use Rattle.std.specs.List.{AllByRecursion, list_all}
 use Rattle.dict_name.specs.Names.{is_name, is_request_id}
 use Rattle.dict_records.specs.Records as spec
 use Rattle.dict_records.specs.Typed.{owned_mark}
@@ -11,7 +10,7 @@ use Rattle.dict_records.specs.declared.records.Stored.{Stored as Row}
 use Rattle.dict_index.specs.WellFormed.{IsEntryHeadword, IsEditionText}
 use Rattle.dict_catalogue.specs.WellFormed.{tells_edition}
 use Rattle.dict_catalogue.specs.declared.reply.Verb.{Verb}
-use Rattle.dict_rows.specs.Written.{mark_record, verb_name, entry_record, kept_record}
+use Rattle.dict_rows.specs.Written.{mark_record, verb_name}
 use Rattle.dict_rows.specs.Given.{marks_given, OnDamage, IsEntry, IsReply}
 use Rattle.dict_rows.specs.declared.fault.RowsFault.{RowsFault}
 use Rattle.dict_rows.specs.declared.fault.RowsFault.TheVariants.{Damaged, Memory}

@@ -1,19 +1,17 @@
 -- One record of an edition more: what the reader has taken then, and when no tables have it.
-use Rattle.std.proofs.Common.{◌≡◌, ℕ, suc, ◌+◌, ◌≤◌, ◌<◌, Bool, true, false, ◌&&◌, ◌||◌, ◌⊎◌, inl, inr, List, [], ◌∷◌, ◌++◌, length, refl, ap, sym, subst, ◌∙◌, arith, append-nil, append_assoc, Option, Some, None}
-use Rattle.std.specs.Prelude.{ℤ, pos, map, flat_map, bytes_eq, ◌==◌, IsTrue, IsUtf8, IfSome, IsSome}
+use Rattle.std.proofs.Common.{◌≡◌, ℕ, ◌+◌, true, false, ◌||◌, ◌⊎◌, inl, inr, List, [], ◌∷◌, ◌++◌, length, refl, ap, sym, subst, ◌∙◌, arith, Option, Some, None}
+use Rattle.std.specs.Prelude.{ℤ, pos, map, bytes_eq, ◌==◌, IsTrue, IsUtf8, IfSome, IsSome}
 use Rattle.std.specs.List.{AllByRecursion, list_any}
 use Rattle.std.proofs.lemmas.Bool.{false≢true, and_parts}
-use Rattle.std.proofs.lemmas.List.Folds.{list_any-append}
 use Rattle.std.proofs.lemmas.Grind.{flat_map-append}
 use Rattle.dict_name.specs.Names.{is_title}
 use Rattle.dict_records.specs.Records as spec
-use Rattle.dict_index.specs.Edition.{Edition, ReadEdition, edition_of}
-use Rattle.dict_index.specs.WellFormed.{IsWellFormedEdition, IsEditionText}
-use Rattle.dict_catalogue.specs.Items.{Stored, Item, regular, virtual, name_of, members_of, numbers_of, edition_numbers, is_known}
+use Rattle.dict_index.specs.Edition.{Edition}
+use Rattle.dict_index.specs.WellFormed.{IsEditionText}
+use Rattle.dict_catalogue.specs.Items.{Item, regular, virtual, numbers_of, edition_numbers, is_known}
 use Rattle.dict_catalogue.specs.Steps.{Catalogue}
 use Rattle.dict_text.proofs.AllLemmas.{all_append, all_append_parts, all_weaker}
 use Rattle.dict_catalogue.proofs.ListLemmas.{any_append_left, any_append_right}
-use Rattle.dict_catalogue.proofs.ItemLemmas.{same_text}
 use Rattle.dict_rows.specs.Tables.{Tables, same_number, editions_numbered, entries_of}
 use Rattle.dict_rows.specs.Written.{numbered, item_record, member_record, edition_record}
 use Rattle.dict_rows.specs.Stands.{HoldsMembers, has_number, Stands}
@@ -22,7 +20,6 @@ use Rattle.dict_rows.specs.Titles.{is_awaited, awaits, item_titled}
 use Rattle.dict_rows.specs.Taken.{GoesOn, StandsForNone, HasNone, HoldsTitle, HoldsTitles, IsInHand, items_in, HasTaken, with_edition}
 use Rattle.dict_rows.specs.declared.reader.Reader.{Reader}
 use Rattle.dict_rows.specs.declared.reader.InHand.{InHand}
-use Rattle.dict_rows.proofs.OnceLemmas.{head_same}
 use Rattle.dict_rows.proofs.ListLemmas.{numbered_append}
 use Rattle.dict_rows.proofs.LawfulLemmas.{bare, pos_same, items_bare, lawful_alike, known_alike, numbers_alike, lawful_true_numbers}
 use Rattle.dict_rows.proofs.TakenLemmas.{nat_same, none_held, length_none}

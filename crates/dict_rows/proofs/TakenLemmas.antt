@@ -1,25 +1,17 @@
 -- What is held of the tables that were taken, as one more record is taken.
-use Rattle.std.proofs.Common.{◌≡◌, ℕ, suc, ◌+◌, ◌≤◌, ◌<◌, Bool, true, false, ◌&&◌, ◌||◌, ◌⊎◌, inl, inr, List, [], ◌∷◌, ◌++◌, length, refl, ap, sym, subst, ◌∙◌, arith, append-nil, append_assoc, Option, Some, None}
-use Rattle.std.specs.Prelude.{ℤ, pos, negsuc, map, filter, flat_map, cond, bytes_eq, ◌==◌, option_map}
-use Rattle.std.specs.List.{AllByRecursion, list_any}
-use Rattle.std.proofs.lemmas.Bool.{false≢true, and_parts, and_from}
+use Rattle.std.proofs.Common.{◌≡◌, ℕ, suc, Bool, true, false, inl, inr, List, [], ◌∷◌, ◌++◌, length, refl, ap, subst, ◌∙◌, arith, append-nil, Some, None}
+use Rattle.std.specs.Prelude.{ℤ, pos, negsuc, filter, cond, ◌==◌}
+use Rattle.std.specs.List.{AllByRecursion}
+use Rattle.std.proofs.lemmas.Bool.{false≢true}
 use Rattle.std.proofs.lemmas.Bool.Decides.{nat_tests}
 use Rattle.std.proofs.lemmas.List.Elements.{filter-append}
 use Rattle.dict_name.specs.Names.{is_title}
-use Rattle.dict_records.specs.Records as spec
-use Rattle.dict_index.specs.Edition.{Edition, ReadEdition, edition_of}
-use Rattle.dict_catalogue.specs.Items.{Stored, Item, regular, virtual, name_of, editions_of, numbers_of, edition_numbers}
-use Rattle.dict_catalogue.specs.WellFormed.{total, how_many, IsEachNumberOnce}
-use Rattle.dict_text.proofs.AllLemmas.{all_append, all_append_parts, all_flat_map_parts}
-use Rattle.dict_catalogue.proofs.ListLemmas.{sum_append, none_passes, by_test}
-use Rattle.dict_catalogue.proofs.ItemLemmas.{same_text}
+use Rattle.dict_index.specs.Edition.{Edition}
+use Rattle.dict_catalogue.specs.Items.{Stored, Item, regular, virtual, numbers_of}
 use Rattle.dict_index.specs.WellFormed.{IsWellFormedEdition}
 use Rattle.dict_rows.specs.Tables.{Tables, same_number, editions_numbered, entries_of}
-use Rattle.dict_rows.specs.Written.{numbered, edition_record, entry_record}
 use Rattle.dict_rows.specs.Stands.{HoldsEdition}
-use Rattle.dict_rows.specs.Titles.{is_awaited, awaits, with_title, item_titled}
 use Rattle.dict_rows.specs.Taken.{HasNone, IsTaken, HoldsTitle, HoldsTitles}
-use Rattle.dict_rows.proofs.LawfulLemmas.{none_of_sum}
 
 -- numbers
 

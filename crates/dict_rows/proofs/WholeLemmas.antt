@@ -1,6 +1,6 @@
 -- Lists of records, one after another.
-use Rattle.std.proofs.Common.{◌≡◌, ℕ, suc, ◌+◌, ◌≤◌, ◌<◌, Bool, true, false, List, [], ◌∷◌, ◌++◌, length, take, drop, get_or, refl, ap, sym, subst, ◌∙◌, arith, append-nil, append_assoc}
-use Rattle.std.specs.Prelude.{ℤ, map, filter, flat_map, String, Vec}
+use Rattle.std.proofs.Common.{◌≡◌, ℕ, suc, ◌+◌, ◌<◌, Bool, false, List, [], ◌∷◌, ◌++◌, length, take, drop, get_or, refl, ap, sym, subst, ◌∙◌, append-nil, append_assoc}
+use Rattle.std.specs.Prelude.{map, filter, flat_map, String}
 use Rattle.std.specs.List.{AllByRecursion}
 use Rattle.std.specs.declared.alloc.Global.{Global}
 use Rattle.std.proofs.lemmas.Bool.{false≢true}
@@ -9,19 +9,17 @@ use Rattle.std.proofs.lemmas.List.{map-append, take_more}
 use Rattle.std.proofs.lemmas.List.Elements.{filter-append}
 use Rattle.std.proofs.lemmas.Grind.{flat_map-append}
 use Rattle.dict_records.specs.Records as spec
-use Rattle.dict_records.specs.Typed.{owned_entry, owned_kept, owned_edition}
+use Rattle.dict_records.specs.Typed.{owned_entry, owned_kept}
 use Rattle.dict_records.specs.declared.records.Entry.{Entry}
 use Rattle.dict_records.specs.declared.records.Kept.{Kept}
 use Rattle.dict_records.specs.declared.records.Stored.{Stored as Row}
-use Rattle.dict_catalogue.specs.Steps.{KeptFor, Catalogue}
-use Rattle.dict_catalogue.specs.WellFormed.{IsEachOnce}
+use Rattle.dict_catalogue.specs.Steps.{Catalogue}
 use Rattle.dict_text.proofs.AllLemmas.{all_append_parts}
 use Rattle.dict_rows.specs.Tables.{Tables, same_number, editions_numbered, entries_of}
-use Rattle.dict_rows.specs.Written.{kept_record}
 use Rattle.dict_rows.specs.Stands.{Stands}
 use Rattle.dict_rows.specs.Tests.{has_once}
 use Rattle.dict_rows.specs.Given.{entries_given, kept_given, OnDamage}
-use Rattle.dict_rows.specs.Taken.{BeginsWith, GoesOn, StandsForNone, IsOfLast, HasIdsOnce, HasTaken, begun, with_edition, with_entry, with_kept}
+use Rattle.dict_rows.specs.Taken.{BeginsWith, GoesOn, StandsForNone, IsOfLast, HasTaken, begun, with_edition, with_entry, with_kept}
 use Rattle.dict_rows.specs.Whole.{with_entries, with_replies, with_group, with_groups, edition_in, entries_in, AreOf, AreAllOf, tables_given}
 use Rattle.dict_rows.specs.declared.reader.Reader.{Reader}
 use Rattle.dict_rows.specs.declared.summary.EditionRows.{EditionRows}

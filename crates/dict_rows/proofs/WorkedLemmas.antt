@@ -1,19 +1,18 @@
 -- The worked records stand for the worked catalogue.
-use Rattle.std.proofs.Common.{◌≡◌, ℕ, ◌+◌, ◌≤◌, inl, inr, Bool, true, false, ◌||◌, ◌&&◌, List, [], ◌∷◌, length, refl, arith, eqb-true}
+use Rattle.std.proofs.Common.{◌≡◌, ℕ, ◌≤◌, inl, inr, Bool, true, false, ◌||◌, List, [], ◌∷◌, length, refl, arith, eqb-true}
 use Rattle.std.specs.Prelude.{◌==◌, not, nat_le, codes, IsTrue, map}
 use Rattle.std.specs.List.{AllByRecursion, list_all}
 use Rattle.std.specs.Str.{is_utf8, chars}
 use lib.Utf8.{encode}
-use Rattle.std.proofs.lemmas.Bool.{and_parts, or_cases, leb-true, not-true}
+use Rattle.std.proofs.lemmas.Bool.{and_parts, or_cases, leb-true}
 use Rattle.std.proofs.lemmas.Str.{IsUtf8-from_is_utf8}
 use Rattle.dict_name.specs.Names.{is_name, is_title, is_request_id}
-use Rattle.dict_text.specs.Characters.{is_control, has_control}
+use Rattle.dict_text.specs.Characters.{is_control}
 use Rattle.dict_text.specs.Lines.{text_lines}
 use Rattle.dict_match.specs.Key.{key_of}
 use Rattle.dict_index.specs.Edition.{edition_of}
 use Rattle.dict_index.specs.Worked.{worked_index, worked_text, worked_reading}
-use Rattle.dict_index.specs.Reserved.{is_reserved}
-use Rattle.dict_index.specs.Tests.{IsText, IsTextOctet, HasShortLines}
+use Rattle.dict_index.specs.Tests.{IsTextOctet}
 use Rattle.dict_index.specs.WellFormed.{IsEditionText, IsWellFormedEntry, IsWellFormedEdition}
 use Rattle.dict_index.proofs.WellFormedLemmas.{said_well_formed}
 use Rattle.dict_index.proofs.WorkedLemmas.{worked}
@@ -59,7 +58,7 @@ gems : IsWellFormedEdition (edition_of worked_reading)
 gems = said_well_formed worked_index worked_text (edition_of worked_reading) (worked_reading, worked, refl)
 
 lawful : AreLawful 2 worked_catalogue.items
-unfolding is_name is_title
+unfolding chars encode is_utf8 is_name is_title
 lawful = lawful_true 2 worked_catalogue.items refl
 
 well : IsWellFormed worked_catalogue

@@ -1,5 +1,5 @@
 -- Which records the tables hold after a command, from those before.
-use Rattle.std.specs.Prelude.{◌≡◌, ℕ, pos, ◌+◌, ℤ, Bool, not, List, [], ◌∷◌, ◌++◌, filter, flat_map, map, Option, Some, None}
+use Rattle.std.specs.Prelude.{◌≡◌, ℕ, pos, ◌+◌, ℤ, Bool, not, List, [], ◌∷◌, ◌++◌, filter, flat_map, Option, Some, None}
 use Rattle.std.specs.List.{AllByRecursion, list_any}
 use Rattle.dict_records.specs.Records.{Member, Edition as EditionRecord, Entry as EntryRecord}
 use Rattle.dict_index.specs.Edition.{Edition, ReadEdition, edition_of}

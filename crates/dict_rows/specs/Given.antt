@@ -1,13 +1,12 @@
 -- The records that are given, and what is read of them.
-use Rattle.std.specs.Prelude.{◌≡◌, ℕ, pos, Bool, true, false, IsTrue, List, [], ◌∷◌, Option, map, String, Vec}
+use Rattle.std.specs.Prelude.{◌≡◌, ℕ, List, [], Option, map, String}
 use Rattle.std.specs.List.{AllByRecursion}
 use Rattle.std.specs.declared.alloc.Global.{Global}
 use Rattle.dict_records.specs.Records as spec
-use Rattle.dict_records.specs.Typed.{owned_mark, owned_item, owned_member, owned_edition, owned_entry, owned_kept}
+use Rattle.dict_records.specs.Typed.{owned_mark, owned_item, owned_member, owned_entry, owned_kept}
 use Rattle.dict_records.specs.declared.records.Mark.{Mark}
 use Rattle.dict_records.specs.declared.records.Item.{Item as ItemRow}
 use Rattle.dict_records.specs.declared.records.Member.{Member}
-use Rattle.dict_records.specs.declared.records.Edition.{Edition as EditionRow}
 use Rattle.dict_records.specs.declared.records.Entry.{Entry}
 use Rattle.dict_records.specs.declared.records.Kept.{Kept}
 use Rattle.dict_records.specs.declared.records.Stored.{Stored as Row}
@@ -17,7 +16,7 @@ use Rattle.dict_index.specs.WellFormed.{IsWellFormedEntry}
 use Rattle.dict_catalogue.specs.Steps.{KeptFor}
 use Rattle.dict_catalogue.specs.WellFormed.{IsLawfulReply}
 use Rattle.dict_catalogue.specs.declared.reply.Verb.{Verb}
-use Rattle.dict_catalogue.specs.Items.{Stored, Item, regular, virtual, editions_of, is_known}
+use Rattle.dict_catalogue.specs.Items.{Stored, Item, regular, virtual, editions_of}
 use Rattle.dict_rows.specs.Written.{numbered, item_record, entry_record, kept_record}
 use Rattle.dict_rows.specs.Stands.{HoldsMembers, IsWithin}
 use Rattle.dict_rows.specs.declared.fault.RowsFault.{RowsFault}

@@ -1,7 +1,7 @@
 -- The same records in another order, and records in the order of their keys.
 use Rattle.std.specs.Prelude.{◌≡◌, ◌≤ℤ◌, ℤ, Bool, List, [], ◌∷◌, filter, IsPermutation}
 use Rattle.std.specs.List.{AllByRecursion, list_any}
-use Rattle.dict_records.specs.Records.{Mark, Item, Member, Edition, Entry, Kept}
+use Rattle.dict_records.specs.Records.{Edition, Entry}
 use Rattle.dict_rows.specs.Tables.{Tables, same_number}
 
 -- each element has the relation to each later one

@@ -1,5 +1,5 @@
 -- What a reader of records has taken so far, and which tables go on from there.
-use Rattle.std.specs.Prelude.{◌≡◌, ◌⊎◌, ℕ, pos, ℤ, ◌+◌, ◌≤◌, Bool, IsTrue, List, [], ◌∷◌, ◌++◌, length, map, Option, Some, None}
+use Rattle.std.specs.Prelude.{◌≡◌, ◌⊎◌, ℕ, pos, ℤ, ◌≤◌, IsTrue, List, [], ◌∷◌, ◌++◌, length, map, Option, Some, None}
 use Rattle.std.specs.List.{AllByRecursion}
 use Rattle.dict_records.specs.Records as spec
 use Rattle.dict_index.specs.Edition.{Edition}

@@ -1,6 +1,7 @@
 -- What is tested of the items and their members, whatever is kept of the editions.
-use Rattle.std.specs.Prelude.{ℕ, Bool, true, not, ◌&&◌, ◌==◌, nat_le, List, [], ◌∷◌, length, map}
+use Rattle.std.specs.Prelude.{ℕ, Bool, true, not, ◌&&◌, ◌==◌, nat_le, List, [], ◌∷◌, length}
 use Rattle.std.specs.List.{list_all, list_any}
+use Rattle.std.specs.Str.{is_utf8}
 use Rattle.dict_name.specs.Names.{is_name, is_title}
 use Rattle.dict_catalogue.specs.Items.{Item, regular, virtual, name_of, members_of, is_among, is_known, names_regular, edition_numbers}
 use Rattle.dict_catalogue.specs.Tests.{has_member_count}
@@ -19,10 +20,10 @@ abbrev pub has_names_once : {A : Type 0} → List (Item A) → Bool
 has_names_once [] = true
 has_names_once (item ∷ items) = not (is_known items (name_of item)) && has_names_once items
 
--- a lawful name, and for a virtual item a lawful title and 1 to 64 members, each once
+-- a lawful name, and for a virtual item a lawful title in UTF-8 and 1 to 64 members, each once
 abbrev pub is_lawful_item : {A : Type 0} → Item A → Bool
 is_lawful_item (regular name current former) = is_name name
-is_lawful_item (virtual name title members) = is_name name && is_title title && has_member_count members && has_once members
+is_lawful_item (virtual name title members) = is_name name && (is_utf8 title && is_title title) && has_member_count members && has_once members
 
 -- each member is the name of a regular item
 abbrev pub has_known_members : {A : Type 0} → List (Item A) → Item A → Bool

@@ -1,5 +1,5 @@
 -- Where the title of an edition goes that was read.
-use Rattle.std.specs.Prelude.{ℕ, Bool, true, false, not, ◌&&◌, ◌||◌, ◌==◌, List, length, Option, Some, None, option_map, bytes_eq, if◌then◌else◌}
+use Rattle.std.specs.Prelude.{ℕ, Bool, true, false, not, ◌&&◌, ◌||◌, ◌==◌, List, length, Some, None, option_map, bytes_eq, if◌then◌else◌}
 use Rattle.dict_catalogue.specs.Items.{Stored, Item, regular, virtual}
 
 -- an edition of this number that was not read

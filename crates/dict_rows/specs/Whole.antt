@@ -1,12 +1,11 @@
 -- The records of all tables, each edition with its entries.
-use Rattle.std.specs.Prelude.{◌≡◌, ℕ, List, [], ◌∷◌, ◌++◌, map, flat_map, String, Vec}
+use Rattle.std.specs.Prelude.{◌≡◌, List, ◌++◌, map, flat_map}
 use Rattle.std.specs.List.{AllByRecursion}
-use Rattle.std.specs.declared.alloc.Global.{Global}
 use Rattle.dict_records.specs.Records as spec
-use Rattle.dict_records.specs.Typed.{owned_edition, owned_entry, owned_kept}
+use Rattle.dict_records.specs.Typed.{owned_edition}
 use Rattle.dict_rows.specs.Tables.{Tables}
 use Rattle.dict_rows.specs.Given.{marks_given, items_given, members_given, entries_given, kept_given}
-use Rattle.dict_rows.specs.Taken.{begun, with_edition, IsOfLast}
+use Rattle.dict_rows.specs.Taken.{with_edition, IsOfLast}
 use Rattle.dict_rows.specs.declared.summary.EditionRows.{EditionRows}
 use Rattle.dict_rows.specs.declared.summary.Tables.{Tables as AllRows}
 

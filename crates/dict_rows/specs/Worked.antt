@@ -1,5 +1,5 @@
 -- A small catalogue and its records, worked by hand: the databases `ore` and `gem`, and the virtual database `all`.
-use Rattle.std.specs.Prelude.{ℕ, pos, List, [], ◌∷◌, codes, Some, None}
+use Rattle.std.specs.Prelude.{pos, [], ◌∷◌, codes, Some, None}
 use Rattle.dict_index.specs.Edition.{ReadEdition, edition_of}
 use Rattle.dict_index.specs.Worked.{worked_reading}
 use Rattle.dict_catalogue.specs.Items.{regular, virtual}

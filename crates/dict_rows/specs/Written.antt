@@ -1,5 +1,5 @@
 -- Which records the parts of a catalogue are written as.
-use Rattle.std.specs.Prelude.{ℕ, pos, ◌+◌, List, [], ◌∷◌, codes, Option, Some, None, option_map}
+use Rattle.std.specs.Prelude.{ℕ, pos, ◌+◌, List, [], ◌∷◌, codes, Some, None, option_map}
 use Rattle.dict_records.specs.Records.{Mark, Item as ItemRecord, Member, Edition as EditionRecord, Entry as EntryRecord, Kept}
 use Rattle.dict_index.specs.Line.{Line}
 use Rattle.dict_index.specs.Edition.{ReadEdition}

@@ -1,6 +1,8 @@
 // Whether the items of a catalogue are lawful, whatever is known of their editions.
-ghost use Rattle.std.specs.Prelude.{◌≡◌, IfOk, map};
+ghost use Rattle.std.specs.Prelude.{◌≡◌, ◌&&◌, IfOk, map};
 ghost use Rattle.std.specs.List.{list_all};
+ghost use Rattle.std.specs.Str.{is_utf8};
+ghost use Rattle.dict_name.specs.Names.{is_title};
 ghost use Rattle.dict_catalogue.specs.Items.{names_regular};
 ghost use Rattle.dict_catalogue.specs.Views.{item_shown, texts_shown};
 ghost use Rattle.dict_rows.specs.Tests.{has_once, has_numbers_once, has_names_once, is_lawful_item, has_known_members, is_from_one_to, has_lawful_numbers, has_lawful_items};
@@ -63,6 +65,13 @@ fn are_from_one_to(installs: u64, numbers: &[u64]) -> bool
     true
 }
 
+/// Whether a text is a lawful title. UTF-8 it is, as each text.
+fn is_text_title(title: &str) -> bool
+    ensures { result ≡ (is_utf8 title.now && is_title title.now) }
+{
+    is_title(title)
+}
+
 /// Whether an item has a lawful name and, where it is virtual, a lawful title and 1 to 64 members, each once.
 fn is_lawful_item(item: &Item) -> bool
     ensures { result ≡ is_lawful_item (item_shown item.now) }
@@ -75,7 +84,7 @@ fn is_lawful_item(item: &Item) -> bool
             members,
         } => {
             is_name(name.as_str())
-                && is_title(title.as_str())
+                && is_text_title(title.as_str())
                 && (1 <= members.len() && members.len() <= MAX_MEMBERS)
                 && has_once(members)
         }

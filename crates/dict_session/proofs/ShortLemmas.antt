@@ -156,7 +156,7 @@ current_title name current former h = (current_well name current former h).title
 
 item-short : (item : Item Edition) → IsLawfulItem item → HasWellFormedEditions item → AreShortLines (item_line item)
 item-short (regular name current former) lawful well = line-short name current.content.title lawful (longer current.content.title (title-short current.content.title (current_title name current former well)))
-item-short (virtual name title members) lawful well = line-short name title lawful.0 (longer title (title-short title lawful.1))
+item-short (virtual name title members) lawful well = line-short name title lawful.0 (longer title (title-short title lawful.1.1))
 
 items-short : (items : List (Item Edition)) → AllByRecursion IsLawfulItem items → AllByRecursion HasWellFormedEditions items → AreShortLines (flat_map item_line items)
 items-short [] lawful well = short_none

@@ -1,5 +1,4 @@
-use Rattle.std.proofs.Common.{rules, ◌≡◌, arith}
-use Rattle.std.proofs.lemmas.Grind.{common_steps}
+use Rattle.std.proofs.Common.{rules}
 use Rattle.dict_index.specs.WellFormed.{IsEntryHeadword, IsEditionText}
 use Rattle.dict_records.specs.Typed.{owned_entry}
 use Rattle.dict_rows.proofs.RecordLemmas.{entry_told}

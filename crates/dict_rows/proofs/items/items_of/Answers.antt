@@ -1,8 +1,8 @@
-use Rattle.std.proofs.Common.{rules, ◌≡◌, ◌++◌, ◌∷◌, [], ℕ, ◌+◌, ◌<◌, ◌≤◌, length, take, arith, ap, sym, ◌∙◌}
+use Rattle.std.proofs.Common.{◌≡◌, ◌++◌, ◌∷◌, [], ◌+◌, ◌≤◌, length, arith, ap, ◌∙◌}
 use Rattle.std.specs.Prelude.{map}
 use Rattle.std.proofs.lemmas.Grind.{common_steps}
 use Rattle.std.proofs.lemmas.Result.{err_from_is_err_and}
-use Rattle.std.proofs.lemmas.List.{length-take-le, length-append, map-append}
+use Rattle.std.proofs.lemmas.List.{length-take-le, length-append}
 use Rattle.dict_catalogue.specs.Views.{item_shown}
 use Rattle.dict_rows.specs.Given.{members_given}
 use Rattle.dict_rows.proofs.ItemLemmas.{no_item_told, next_item}

@@ -1,7 +1,6 @@
-use Rattle.std.proofs.Common.{rules, ◌≡◌, ◌≢◌, ◌++◌, ◌∷◌, [], ℕ, pos, List, string_bytes, vec_len, length, true, false, sym, ◌∙◌, ap, subst, arith}
+use Rattle.std.proofs.Common.{rules, ◌≡◌, string_bytes, true, false, ◌∙◌}
 use Rattle.std.specs.Prelude.{bytes_eq}
 use Rattle.std.proofs.lemmas.Result.{err_from_is_err_and}
-use Rattle.std.proofs.lemmas.List.{length-map}
 use Rattle.dict_catalogue.specs.Views.{texts_shown}
 use Rattle.dict_catalogue.proofs.ItemLemmas.{same_text}
 use Rattle.dict_rows.proofs.GivenLemmas.{other_owner, next_member, wrong_member_told}

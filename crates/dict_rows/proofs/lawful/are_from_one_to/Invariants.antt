@@ -1,10 +1,7 @@
 -- the elements so far don't settle it
 use Rattle.std.proofs.Common.{◌≡◌, drop}
-use Rattle.std.specs.Prelude.{map}
 use Rattle.std.specs.List.{list_all}
-use Rattle.dict_catalogue.specs.Items.{names_regular}
-use Rattle.dict_catalogue.specs.Views.{item_shown, texts_shown}
-use Rattle.dict_rows.specs.Tests.{has_once, has_numbers_once, has_names_once, is_lawful_item, has_known_members, is_from_one_to}
+use Rattle.dict_rows.specs.Tests.{is_from_one_to}
 use Rattle.dict_rows.proofs.lawful.are_from_one_to.Given as goal
 
 abbrev pub invariant-loop-number : goal.invariant-loop-number

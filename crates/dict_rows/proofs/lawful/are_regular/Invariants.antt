@@ -4,7 +4,6 @@ use Rattle.std.specs.Prelude.{map}
 use Rattle.std.specs.List.{list_all}
 use Rattle.dict_catalogue.specs.Items.{names_regular}
 use Rattle.dict_catalogue.specs.Views.{item_shown, texts_shown}
-use Rattle.dict_rows.specs.Tests.{has_once, has_numbers_once, has_names_once, is_lawful_item, has_known_members, is_from_one_to}
 use Rattle.dict_rows.proofs.lawful.are_regular.Given as goal
 
 abbrev pub invariant-loop-name : goal.invariant-loop-name

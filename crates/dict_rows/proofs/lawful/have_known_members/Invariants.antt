@@ -2,9 +2,8 @@
 use Rattle.std.proofs.Common.{◌≡◌, drop}
 use Rattle.std.specs.Prelude.{map}
 use Rattle.std.specs.List.{list_all}
-use Rattle.dict_catalogue.specs.Items.{names_regular}
-use Rattle.dict_catalogue.specs.Views.{item_shown, texts_shown}
-use Rattle.dict_rows.specs.Tests.{has_once, has_numbers_once, has_names_once, is_lawful_item, has_known_members, is_from_one_to}
+use Rattle.dict_catalogue.specs.Views.{item_shown}
+use Rattle.dict_rows.specs.Tests.{has_known_members}
 use Rattle.dict_rows.proofs.lawful.have_known_members.Given as goal
 
 abbrev pub invariant-loop-item : goal.invariant-loop-item

@@ -1,4 +1,3 @@
-use Rattle.std.specs.Prelude.{ℤ, List}
 use Rattle.dict_records.specs.Records as spec
 use Rattle.dict_rows.specs.Order.{is_of}
 use Rattle.dict_rows.proofs.PartLemmas.{editions_more, entries_more, filter_whole}

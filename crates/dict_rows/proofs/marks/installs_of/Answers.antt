@@ -1,4 +1,4 @@
-use Rattle.std.proofs.Common.{rules, ◌≡◌, ◌≢◌, ℕ, [], ◌∷◌, arith, length, get_or}
+use Rattle.std.proofs.Common.{◌≡◌, ℕ, [], ◌∷◌, arith, length, get_or}
 use Rattle.std.proofs.lemmas.Result.{IfErr-weaker}
 use Rattle.dict_records.specs.Typed.{owned_mark}
 use Rattle.dict_rows.specs.Written.{mark_record}

@@ -1,6 +1,5 @@
-use Rattle.std.proofs.Common.{rules, ◌≡◌, arith, true}
+use Rattle.std.proofs.Common.{rules, ◌≡◌, true}
 use Rattle.std.specs.Prelude.{is_some}
-use Rattle.std.proofs.lemmas.Grind.{common_steps}
 use Rattle.dict_name.specs.Names.{is_name, is_request_id}
 use Rattle.dict_catalogue.specs.WellFormed.{tells_edition}
 use Rattle.dict_records.specs.Typed.{owned_kept}

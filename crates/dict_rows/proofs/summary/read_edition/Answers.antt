@@ -1,8 +1,6 @@
-use Rattle.std.proofs.Common.{◌≡◌, ℕ, subst}
+use Rattle.std.proofs.Common.{subst}
 use Rattle.std.proofs.lemmas.Result.{err_from_is_err_and, IfErr-weaker, on_ok_weaker}
 use Rattle.dict_records.specs.Records as spec
-use Rattle.dict_rows.specs.Tables.{Tables}
-use Rattle.dict_rows.specs.Given.{OnDamage}
 use Rattle.dict_rows.specs.Taken.{HasTaken, with_edition}
 use Rattle.dict_rows.specs.Whole.{edition_in}
 use Rattle.dict_rows.proofs.WholeLemmas.{edition_damage, group_damage}

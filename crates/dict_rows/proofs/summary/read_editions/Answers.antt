@@ -1,4 +1,4 @@
-use Rattle.std.proofs.Common.{◌≡◌, ◌≤◌, ℕ, length, take, arith, ap, subst, ◌∙◌}
+use Rattle.std.proofs.Common.{◌≤◌, length, arith, subst}
 use Rattle.std.proofs.lemmas.Result.{err_from_is_err_and}
 use Rattle.std.proofs.lemmas.List.{take_all}
 use Rattle.dict_rows.specs.Taken.{HasTaken}

@@ -1,6 +1,5 @@
-use Rattle.std.proofs.Common.{◌≡◌, ℕ, subst, sym, ◌∙◌}
+use Rattle.std.proofs.Common.{sym, ◌∙◌}
 use Rattle.std.proofs.lemmas.Result.{err_from_is_err_and, IfErr-weaker, IfOk-weaker}
-use Rattle.dict_rows.specs.Given.{OnDamage}
 use Rattle.dict_rows.specs.Whole.{tables_given}
 use Rattle.dict_rows.proofs.LawfulLemmas.{once_true}
 use Rattle.dict_rows.proofs.WholeLemmas.{any_damage, StandForNone, begin_damage, editions_damage, goes_same, ids_refused}

@@ -1,10 +1,10 @@
-use Rattle.std.proofs.Common.{rules, ◌≡◌, Bool, true, false, ◌&&◌, arith, refl, ap, sym, ◌∙◌, List}
+use Rattle.std.proofs.Common.{◌≡◌, Bool, true, false, ◌&&◌, refl, sym, ◌∙◌}
 use Rattle.std.specs.Prelude.{map}
 use Rattle.std.specs.List.{list_all}
 use Rattle.dict_records.specs.Records as spec
 use Rattle.dict_catalogue.specs.Items.{is_known}
 use Rattle.dict_catalogue.specs.Views.{item_shown}
-use Rattle.dict_rows.specs.Given.{marks_given, items_given, members_given, AreRead}
+use Rattle.dict_rows.specs.Given.{marks_given, items_given, members_given}
 use Rattle.dict_rows.specs.Tests.{has_lawful_items}
 use Rattle.dict_rows.proofs.BeginLemmas.{begun_refused, begun_taken}
 use Rattle.dict_rows.proofs.reader.Reader.begin.Goals as goal

@@ -1,13 +1,11 @@
-use Rattle.std.proofs.Common.{rules, ◌≡◌, ◌<◌, ◌++◌, ◌∷◌, Bool, true, false, arith, refl, ap, sym, ◌∙◌, List, length, take, drop, ℕ, string_bytes}
+use Rattle.std.proofs.Common.{rules, ◌≡◌, ◌<◌, ◌++◌, ◌∷◌, true, false, refl, sym, ◌∙◌, length, take, drop, string_bytes}
 use Rattle.std.specs.Prelude.{map, IsUtf8}
 use Rattle.std.specs.List.{list_any}
 use Rattle.std.proofs.lemmas.Bool.{false≢true}
 use Rattle.std.proofs.lemmas.Result.{err_from_is_err_and}
 use Rattle.dict_name.specs.Names.{is_title}
-use Rattle.dict_index.specs.WellFormed.{IsEditionText}
 use Rattle.dict_records.specs.Typed.{owned_edition}
 use Rattle.dict_catalogue.specs.Views.{item_shown}
-use Rattle.dict_rows.specs.Given.{OnDamage}
 use Rattle.dict_rows.specs.Titles.{awaits, item_titled}
 use Rattle.dict_rows.proofs.ListLemmas.{map_found}
 use Rattle.dict_rows.proofs.StepLemmas.{number_refused, place_refused, title_refused, info_refused, edition_taken}

@@ -1,10 +1,9 @@
-use Rattle.std.proofs.Common.{rules, ◌≡◌, ◌+◌, ◌<◌, ◌≤◌, ◌⊎◌, inl, inr, ℕ, arith, refl, ap, sym, ◌∙◌, subst, Some, None}
+use Rattle.std.proofs.Common.{refl, subst, Some}
 use Rattle.std.specs.Prelude.{OnOk}
-use Rattle.std.proofs.lemmas.Result.{IfOk-weaker, IfErr-weaker}
+use Rattle.std.proofs.lemmas.Result.{IfErr-weaker}
 use Rattle.dict_records.specs.Typed.{owned_entry}
-use Rattle.dict_rows.specs.Tables.{Tables}
-use Rattle.dict_rows.specs.Given.{OnDamage, IsEntry, IsNoEntry}
-use Rattle.dict_rows.specs.Taken.{IsInHand, HasTaken, IsOfLast, StandsForNone, with_entry}
+use Rattle.dict_rows.specs.Given.{OnDamage}
+use Rattle.dict_rows.specs.Taken.{IsInHand}
 use Rattle.dict_rows.specs.declared.fault.RowsFault.{RowsFault}
 use Rattle.dict_rows.specs.declared.fault.RowsFault.TheVariants.{Damaged, Memory}
 use Rattle.dict_rows.proofs.EntryLemmas.{entry_taken, entry_refused}

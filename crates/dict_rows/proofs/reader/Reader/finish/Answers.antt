@@ -1,9 +1,5 @@
-use Rattle.std.proofs.Common.{rules, ◌≡◌, ◌+◌, ◌<◌, ◌≤◌, Bool, true, false, arith, refl, ap, sym, ◌∙◌, subst}
-use Rattle.std.specs.Prelude.{map}
-use Rattle.std.specs.List.{list_all}
+use Rattle.std.proofs.Common.{◌≡◌, arith, sym, ◌∙◌}
 use Rattle.std.proofs.lemmas.Bool.{false≢true}
-use Rattle.dict_catalogue.specs.Views.{item_shown}
-use Rattle.dict_rows.specs.Titles.{is_titled}
 use Rattle.dict_rows.proofs.FinishLemmas.{standing, standing_summary, finish_refused}
 use Rattle.dict_rows.proofs.reader.Reader.finish.Goals as goal
 use Rattle.dict_rows.proofs.reader.Reader.finish.Goals.{then-self-via-then-self, then-self-via-else-self+then-not-are_titled}

@@ -1,7 +1,5 @@
-use Rattle.std.proofs.Common.{rules, ◌≡◌, ◌+◌, ◌<◌, ◌≤◌, ◌⊎◌, inl, inr, Bool, true, false, arith, refl, ap, sym, ◌∙◌, ◌++◌, ◌∷◌, [], subst}
-use Rattle.std.specs.Prelude.{cond}
+use Rattle.std.proofs.Common.{◌≡◌, ◌+◌, ◌<◌, inl, true, false, arith, refl, sym, ◌∙◌, ◌++◌, ◌∷◌, [], subst}
 use Rattle.std.proofs.lemmas.Result.{err_from_is_err_and}
-use Rattle.dict_catalogue.specs.WellFormed.{is_install}
 use Rattle.dict_records.specs.Typed.{owned_kept}
 use Rattle.dict_rows.specs.Taken.{AreKept}
 use Rattle.dict_rows.proofs.KeptLemmas.{kept_more, kept_taken, kept_refused}

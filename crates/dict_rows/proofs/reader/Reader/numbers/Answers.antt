@@ -1,9 +1,7 @@
-use Rattle.std.proofs.Common.{◌≡◌, ◌≤◌, ℕ, sym, ap, ◌∙◌, subst, List}
+use Rattle.std.proofs.Common.{◌≤◌, ℕ, subst, List}
 use Rattle.std.specs.List.{AllByRecursion}
 use Rattle.std.proofs.lemmas.Result.{IfErr-weaker}
-use Rattle.dict_catalogue.specs.Items.{edition_numbers}
 use Rattle.dict_rows.specs.Given.{OnDamage}
-use Rattle.dict_rows.specs.Taken.{items_in}
 use Rattle.dict_rows.proofs.StrayLemmas.{numbers_fit}
 use Rattle.dict_rows.proofs.reader.Reader.numbers.Goals as goal
 
