@@ -59,7 +59,7 @@ pub record Found (tables : Tables) (n : ℤ) : Type 0 where
   pub holds : HoldsEdition tables owner edition
   pub number : pos edition.number ≡ n
 
-or_second : (a b : Bool) → (a || b) ≡ true → a ≡ false → b ≡ true
+pub or_second : (a b : Bool) → (a || b) ≡ true → a ≡ false → b ≡ true
 or_second true b e f = absurd (false≢true (sym f))
 or_second false b e f = e
 

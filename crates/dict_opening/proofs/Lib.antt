@@ -6,6 +6,8 @@ pub mod RowidLemmas
 pub mod TestLemmas
 pub mod CodecLemmas
 pub mod FindLemmas
+pub mod ReadableLemmas
+pub mod HeldLemmas
 pub mod FitLemmas
 pub mod NoneLemmas
 pub mod ReadLemmas

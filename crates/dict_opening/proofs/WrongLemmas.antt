@@ -55,6 +55,7 @@ use Rattle.dict_opening.specs.Takers.{KeptRow, ids_given, HasStray, HasIdsApart,
 use Rattle.dict_opening.proofs.CodecLemmas.{Codec, read, read_stored, stored_rows, listed_records, member_codec, edition_codec, entry_codec, kept_codec, mark_codec, item_codec}
 use Rattle.dict_opening.proofs.FitLemmas.{front_read, fits_begun, fits_replies, none_kept}
 use Rattle.dict_opening.proofs.NoneLemmas.{last_holds}
+use Rattle.dict_opening.proofs.ReadableLemmas.{held_rows}
 
 -- ---- rowids
 
@@ -107,7 +108,7 @@ module _ (db : Database) (marks : List (Beside (typed.Mark.Mark (String Global))
     no_entries = refl;
     no_kept = refl;
     fits = fits_begun db marks items members lm li;
-    none = (λ none M h records. none (record h.tables { members = members_given members }) M (record { keeps = keeps_so h.tables h.keeps; same_members = refl; stands = stands_so h.tables M h.keeps h.stands; records = records }));
+    none = (λ none M h. none (record h.tables { members = members_given members }) M (record { keeps = keeps_so h.tables h.keeps; same_members = refl; stands = stands_so h.tables M h.keeps h.stands; records = held_rows db M h }));
   }
 
   pub begin_wrong : StandsForNone 1 (begun (marks_given marks) (items_given items) (members_given members)) → HoldsNone db

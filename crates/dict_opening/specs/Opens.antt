@@ -32,7 +32,7 @@ use Rattle.dict_rows.specs.Taken.{GoesOn, HasTaken, HasIdsOnce, items_in, with_e
 use Rattle.dict_file.specs.Holds.{KeepsAll, Holds}
 
 -- each row of each table stands for a record: above all, each text is UTF-8
-pub record HasRecords (db : Database) : Type 0 where
+pub record HasReadableRows (db : Database) : Type 0 where
   pub marks : AllByRecursion (HasColumns mark_columns) (rows_of (codes "mark") db)
   pub items : AllByRecursion (HasColumns item_columns) (rows_of (codes "item") db)
   pub members : AllByRecursion (HasColumns member_columns) (rows_of (codes "member") db)
@@ -45,7 +45,7 @@ pub record Keeping (db : Database) (members : List Member) (tables : Tables) (M 
   pub keeps : KeepsAll db tables
   pub same_members : tables.members ≡ members
   pub stands : Stands 1 tables M
-  pub records : HasRecords db
+  pub records : HasReadableRows db
 
 -- it keeps none that stand for a catalogue
 abbrev pub KeepsNone : Database → List Member → Type 0
@@ -131,9 +131,9 @@ pub record HasRowidsApart (db : Database) : Type 0 where
   pub entries : HasApartRowids (rows_of (codes "entry") db)
   pub kept : HasApartRowids (rows_of (codes "kept") db)
 
--- The database, whose rows stand for records, holds no catalogue.
+-- The database holds no catalogue.
 abbrev pub HoldsNone : Database → Type 0
-HoldsNone db = (M : Catalogue) → Holds 1 db M → HasRecords db → ⊥
+HoldsNone db = (M : Catalogue) → Holds 1 db M → ⊥
 
 -- the mark, the items and the members were read
 pub record HasBegun (db : Database) (front : Tables) : Type 0 where

@@ -11,5 +11,5 @@ mod scan;
 mod tables;
 mod takers;
 
-pub use laws::held_is_marked;
+pub use laws::{held_is_marked, one_is_held};
 pub use opening::read_catalogue;

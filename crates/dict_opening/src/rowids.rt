@@ -8,7 +8,7 @@ ghost use Rattle.dict_sql.specs.Reads.{IsListing};
 ghost use Rattle.dict_rows.specs.Tables.{Tables};
 ghost use Rattle.dict_rows.specs.Taken.{HasTaken};
 ghost use Rattle.dict_opening.specs.Reading.{Same, OnlyReads};
-ghost use Rattle.dict_opening.specs.Opens.{HasTables, HasRecords, HasRowidsApart, IsApartFirst, IsApartLast};
+ghost use Rattle.dict_opening.specs.Opens.{HasTables, HasReadableRows, HasRowidsApart, IsApartFirst, IsApartLast};
 
 use crate::fault::ReadingFault;
 use crate::tables::test_rowids;
@@ -23,7 +23,7 @@ fn test_small<S: Alter>(alloc: Global, conn: &mut Connection<S>) -> Result<(), R
     ensures reads { OnlyReads (state S.Store conn.old) (state S.Store conn.new) }
     ensures same { HasCleanDisk (state S.Store conn.new) → OnOk result (Same (state S.Store conn.old) (state S.Store conn.new)) }
     ensures apart { HasCleanDisk (state S.Store conn.new) → OnOk result (IsApartFirst (state S.Store conn.old).now) }
-    ensures damaged { HasCleanDisk (state S.Store conn.new) → IfErr result (λ fault. fault ≡ ReadingFault.Damaged → HasRecords (state S.Store conn.old).now → IsApartFirst (state S.Store conn.old).now → ⊥) }
+    ensures damaged { HasCleanDisk (state S.Store conn.new) → IfErr result (λ fault. fault ≡ ReadingFault.Damaged → HasReadableRows (state S.Store conn.old).now → IsApartFirst (state S.Store conn.old).now → ⊥) }
 {
     test_rowids::<S, Stored<Mark<String>>>(alloc, conn, StoreTable::Mark)?;
     test_rowids::<S, Stored<Item<String>>>(alloc, conn, StoreTable::Item)?;
@@ -36,7 +36,7 @@ fn test_large<S: Alter>(alloc: Global, conn: &mut Connection<S>) -> Result<(), R
     ensures reads { OnlyReads (state S.Store conn.old) (state S.Store conn.new) }
     ensures same { HasCleanDisk (state S.Store conn.new) → OnOk result (Same (state S.Store conn.old) (state S.Store conn.new)) }
     ensures apart { HasCleanDisk (state S.Store conn.new) → OnOk result (IsApartLast (state S.Store conn.old).now) }
-    ensures damaged { HasCleanDisk (state S.Store conn.new) → IfErr result (λ fault. fault ≡ ReadingFault.Damaged → HasRecords (state S.Store conn.old).now → IsApartLast (state S.Store conn.old).now → ⊥) }
+    ensures damaged { HasCleanDisk (state S.Store conn.new) → IfErr result (λ fault. fault ≡ ReadingFault.Damaged → HasReadableRows (state S.Store conn.old).now → IsApartLast (state S.Store conn.old).now → ⊥) }
 {
     test_rowids::<S, Stored<Edition<String, Vec<u8>>>>(alloc, conn, StoreTable::Edition)?;
     test_rowids::<S, Stored<Entry<String>>>(alloc, conn, StoreTable::Entry)?;
@@ -52,7 +52,7 @@ pub(crate) fn test_all_rowids<S: Alter>(
     ensures reads { OnlyReads (state S.Store conn.old) (state S.Store conn.new) }
     ensures same { HasCleanDisk (state S.Store conn.new) → OnOk result (Same (state S.Store conn.old) (state S.Store conn.new)) }
     ensures apart { HasCleanDisk (state S.Store conn.new) → OnOk result (HasRowidsApart (state S.Store conn.old).now) }
-    ensures damaged { HasCleanDisk (state S.Store conn.new) → IfErr result (λ fault. fault ≡ ReadingFault.Damaged → HasRecords (state S.Store conn.old).now → HasRowidsApart (state S.Store conn.old).now → ⊥) }
+    ensures damaged { HasCleanDisk (state S.Store conn.new) → IfErr result (λ fault. fault ≡ ReadingFault.Damaged → HasReadableRows (state S.Store conn.old).now → HasRowidsApart (state S.Store conn.old).now → ⊥) }
 {
     test_small(alloc, conn)?;
     test_large(alloc, conn)

@@ -1,4 +1,4 @@
-use Rattle.std.proofs.Common.{[], ◌∷◌, map, codes, rules, sym, subst}
+use Rattle.std.proofs.Common.{◌≡◌, [], ◌∷◌, map, codes, rules, sym, subst}
 use Rattle.std.specs.Prelude.{IsTrue}
 use Rattle.std.specs.List.{AllByRecursion}
 use Rattle.sqlite.specs.Schema.{Schema}
@@ -9,7 +9,11 @@ use Rattle.sqlite.specs.State.{HasCleanDisk}
 use Rattle.sqlite.specs.Held.{state}
 use Rattle.dict_sql.specs.Encodings.{stored_mark}
 use Rattle.dict_sql.specs.Reads.{IsListing}
+use Rattle.dict_sql.proofs.StreamLemmas.{passed_on}
+use Rattle.dict_opening.specs.declared.fault.ReadingFault.{ReadingFault}
+use Rattle.dict_opening.specs.declared.fault.ReadingFault.TheVariants.{Damaged}
 use Rattle.dict_opening.specs.Opens.{HasTables, HoldsNone}
+use Rattle.dict_opening.proofs.ReadableLemmas.{held_rows}
 use Rattle.dict_opening.proofs.StateLemmas.{clean_before, reads_then, while_same}
 use Rattle.dict_opening.proofs.TakerLemmas.{if_err_then}
 use Rattle.dict_opening.proofs.opening.read_tables.Goals as goal
@@ -18,6 +22,14 @@ pub test_all_rowids-requires : goal.test_all_rowids-requires
 test_all_rowids-requires g c = λ clean o.
     let yes : IsTrue c.has_tables.result = search rules in
     subst (λ (s : Schema). AllByRecursion (λ t. HasOwn s (table_of t)) store_tables) c.schema.ensures.value (c.has_tables.ensures.0 yes)
+
+pub returns-in_err-test_all_rowids-clause-damaged : goal.returns-in_err-test_all_rowids-clause-damaged
+returns-in_err-test_all_rowids-clause-damaged g c clean =
+    let old = state g.S.Store c.args.conn.now in
+    let wrong : (fault : ReadingFault) → Type 0 = λ fault. fault ≡ Damaged → IsListing (codes "mark") (1 ∷ []) old.now (map stored_mark c.args.marks.now) → HoldsNone old.now in
+    passed_on wrong c.in_err-test_all_rowids.field-0.0 c.from_residual.result c.from_residual.ensures.1
+    (λ is lm M h. c.in_err-test_all_rowids.ensures.damaged clean is (held_rows old.now M h)
+    (record { marks = h.keeps.marks.apart; items = h.keeps.items.apart; members = h.keeps.members.apart; editions = h.keeps.editions.apart; entries = h.keeps.entries.apart; kept = h.keeps.kept.apart }))
 
 pub read_records-requires : goal.read_records-requires
 read_records-requires g c =

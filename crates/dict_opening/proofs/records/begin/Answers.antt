@@ -9,11 +9,15 @@ use Rattle.std.specs.declared.alloc.Global.{Global}
 use Rattle.std.proofs.Common.{String}
 use Rattle.dict_records.specs.declared.records as typed
 use Rattle.dict_records.specs.declared.records.Stored.{Stored}
+use Rattle.dict_sql.specs.Columns.{item_columns, member_columns}
+use Rattle.dict_sql.specs.Effects.{rows_of}
 use Rattle.dict_sql.specs.Encodings.{stored_member}
 use Rattle.dict_sql.specs.Reads.{IsListing}
+use Rattle.dict_file.specs.Holds.{Holds}
 use Rattle.dict_rows.specs.Given.{marks_given, items_given, members_given}
 use Rattle.dict_rows.specs.Taken.{StandsForNone, begun}
 use Rattle.dict_opening.proofs.ScanLemmas.{rows_damaged}
+use Rattle.dict_opening.proofs.ReadableLemmas.{held_rows, none_listed}
 use Rattle.dict_opening.proofs.WrongLemmas.{has_begun, begin_wrong}
 use Rattle.dict_opening.proofs.records.begin.Goals as goal
 
@@ -28,6 +32,21 @@ returns-in-Ok-begin-clause-begun g c clean lm =
     let taken = subst (λ (l : List (Stored (typed.Member.Member (String Global)))). HasTaken 1 c.in-Ok-begin.reader (begun (marks_given c.args.marks.now) (items_given c.in-Ok.items.items) (members_given l))) c.deref-2.ensures.value
     (subst (λ (l : List (Stored (typed.Item.Item (String Global)))). HasTaken 1 c.in-Ok-begin.reader (begun (marks_given c.args.marks.now) (items_given l) (members_given c.deref-2.result.now))) c.deref.ensures.value c.in-Ok-begin.ensures.taken) in
     (begun (marks_given c.args.marks.now) (items_given c.in-Ok.items.items) (members_given c.in-Ok-members.members.items), taken, has_begun old.now c.args.marks.now c.in-Ok.items.items c.in-Ok-members.members.items lm li.0 lo)
+
+pub returns-in-Err-clause-damaged : goal.returns-in-Err-clause-damaged
+returns-in-Err-clause-damaged g c clean is lm M h =
+    let old = state g.S.Store c.args.conn.now in
+    none_listed item_columns (rows_of (codes "item") old.now) old (state g.S.Store c.items.new.conn) c.in-Err.error (c.in-Err.ensures.failed clean) (sym c.fault_of_read.ensures ∙ is) (held_rows old.now M h).items
+
+pub returns-in-Err-members-clause-damaged : goal.returns-in-Err-members-clause-damaged
+returns-in-Err-members-clause-damaged g c clean is lm M h =
+    let old = state g.S.Store c.args.conn.now in
+    let mid = state g.S.Store c.items.new.conn in
+    let new = state g.S.Store c.members.new.conn in
+    let early : HasCleanDisk mid = clean_before old mid new c.members.ensures.survives clean in
+    let same = (c.in-Ok.ensures.listed early).1.0.now_is in
+    none_listed member_columns (rows_of (codes "member") mid.now) mid new c.in-Err-members.error (c.in-Err-members.ensures.failed clean) (sym c.fault_of_read-in-Err-members.ensures ∙ is)
+    (held_rows mid.now M (subst (λ (d : Database). Holds 1 d M) (sym same) h)).members
 
 pub returns-clause-damaged : goal.returns-clause-damaged
 returns-clause-damaged g c clean is lm =

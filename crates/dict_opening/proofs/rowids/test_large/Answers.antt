@@ -14,7 +14,7 @@ use Rattle.dict_sql.specs.Columns.{edition_columns, entry_columns, kept_columns}
 use Rattle.dict_sql.specs.Encodings.{stored_edition, stored_entry, stored_kept}
 use Rattle.dict_sql.specs.Effects.{HasApartRowids, rows_of}
 use Rattle.dict_sql.specs.Streams.Scan.{ByRowid}
-use Rattle.dict_opening.specs.Opens.{HasRecords, IsApartLast}
+use Rattle.dict_opening.specs.Opens.{HasReadableRows, IsApartLast}
 use Rattle.dict_opening.specs.Scans.{HasNoRecordIn}
 use Rattle.dict_opening.proofs.StateLemmas.{same_then}
 use Rattle.dict_opening.proofs.WrongLemmas.{wrong_rowids}
@@ -23,7 +23,7 @@ use Rattle.dict_opening.proofs.rowids.test_large.Goals as goal
 pub returns-in_err-test_rowids-clause-damaged : goal.returns-in_err-test_rowids-clause-damaged
 returns-in_err-test_rowids-clause-damaged g c clean =
     let old = state g.S.Store c.args.conn.now in
-    let wrong : (fault : ReadingFault) → Type 0 = λ fault. fault ≡ Damaged → HasRecords old.now → IsApartLast old.now → ⊥ in
+    let wrong : (fault : ReadingFault) → Type 0 = λ fault. fault ≡ Damaged → HasReadableRows old.now → IsApartLast old.now → ⊥ in
     passed_on wrong c.in_err-test_rowids.field-0.0 c.from_residual.result c.from_residual.ensures.1
     (λ is records apart. wrong_rowids stored_edition edition_columns Edition old.now records.editions apart.0 (c.in_err-test_rowids.ensures.damaged clean is))
 
@@ -34,7 +34,7 @@ returns-in_err-test_rowids-2-clause-damaged g c clean =
     let new = state g.S.Store c.test_rowids-2.new.conn in
     let early : HasCleanDisk mid = clean_before old mid new c.test_rowids-2.ensures.reads.survives clean in
     let same = (c.in_ok-test_rowids.ensures.same early).now in
-    let wrong : (fault : ReadingFault) → Type 0 = λ fault. fault ≡ Damaged → HasRecords old.now → IsApartLast old.now → ⊥ in
+    let wrong : (fault : ReadingFault) → Type 0 = λ fault. fault ≡ Damaged → HasReadableRows old.now → IsApartLast old.now → ⊥ in
     passed_on wrong c.in_err-test_rowids-2.field-0.0 c.from_residual-in_err-test_rowids-2.result c.from_residual-in_err-test_rowids-2.ensures.1
     (λ is records apart. wrong_rowids stored_entry entry_columns Entry old.now records.entries apart.1
     (subst (λ (d : Database). HasNoRecordIn stored_entry entry_columns (ByRowid Entry) d ⊎ (HasApartRowids (rows_of (table_of Entry 0).name d) → ⊥)) same (c.in_err-test_rowids-2.ensures.damaged clean is)))
