@@ -17,7 +17,8 @@ use Rattle.dict_desk.specs.declared.fault.Fault.TheVariants as fault
 use Rattle.dict_desk.specs.declared.keeper.Halted.{Halted}
 use Rattle.dict_file.specs.Holds.{IsLeft}
 use Rattle.dict_store.specs.Desk.{DeskState, Shows, LeavesOneOf, StandsFor}
-use Rattle.dict_store.specs.Promise.{HoldsFront, KeepsAlone, KeepsFront}
+use Rattle.dict_opening.proofs.HeldLemmas.{one_left}
+use Rattle.dict_store.specs.Promise.{IsLeftAlone, HoldsFront, KeepsAlone, KeepsFront}
 
 -- commands of which none acts leave the catalogue
 
@@ -55,8 +56,11 @@ module _ {S : Type 0} (g : Ghosts S) (old new : DeskState S) (M : Catalogue) (re
   pub left_after : (front : List Request) → LeftAfter (LeavesOneOf g old) M front (Some (after M front) ∷ [])
   left_after front = left_by front (has_acted M front) refl
 
-  one_left : (N : Catalogue) → LeavesOneOf g new (Some N ∷ []) → HasCleanDisk (state g new.conn) → (trees : Trees) → (state g new.conn).may_leave trees → IsLeft 1 N trees
-  one_left N left clean trees may = let it = left clean trees may in subst (λ m. StandsFor g m trees) (sym (only (Some N) it.0 it.1)) it.2
+  alone_left : (N : Catalogue) (trees : Trees) → IsLeft 1 N trees → IsLeftAlone N trees
+  alone_left N trees left = record { left = left; alone = λ other found. one_left 1 trees other N found left }
+
+  sole_left : (N : Catalogue) → LeavesOneOf g new (Some N ∷ []) → HasCleanDisk (state g new.conn) → (trees : Trees) → (state g new.conn).may_leave trees → IsLeft 1 N trees
+  sole_left N left clean trees may = let it = left clean trees may in subst (λ m. StandsFor g m trees) (sym (only (Some N) it.0 it.1)) it.2
 
   two_left : (N P : Catalogue) → LeavesOneOf g new (Some N ∷ Some P ∷ []) → HasCleanDisk (state g new.conn) → (trees : Trees) → (state g new.conn).may_leave trees → IsLeft 1 N trees ⊎ IsLeft 1 P trees
   two_left N P left clean trees may = let it = left clean trees may in
@@ -66,15 +70,15 @@ module _ {S : Type 0} (g : Ghosts S) (old new : DeskState S) (M : Catalogue) (re
       ]
 
   so_many : (answered : ℕ) → LeavesOneOf g new (Some (after M (take answered requests)) ∷ []) → HasCleanDisk (state g new.conn) → (trees : Trees) → (state g new.conn).may_leave trees → HoldsFront M requests answered trees
-  so_many answered left clean trees may = (answered, omega arith, omega arith, one_left (after M (take answered requests)) left clean trees may)
+  so_many answered left clean trees may = (answered, omega arith, omega arith, alone_left (after M (take answered requests)) trees (sole_left (after M (take answered requests)) left clean trees may))
 
   pub halts_keeps : (stand : ℕ) (fault : Fault) → HaltsAt (Shows g new) (LeavesOneOf g old) (LeavesOneOf g new) M requests stand fault → HasCleanDisk (state g new.conn) → (trees : Trees) → (state g new.conn).may_leave trees → HoldsFront M requests stand trees
   halts_keeps stand (fault.Refused refusal) h clean trees may = absurd h
   halts_keeps stand fault.Memory h clean trees may = so_many stand (h.left (Some (after M (take stand requests)) ∷ []) (left_after (take stand requests))) clean trees may
   halts_keeps stand fault.Disk h clean trees may =
       elim (two_left (after M (take (stand + 1) requests)) (after M (take stand requests)) (h.left (Some (after M (take stand requests)) ∷ []) (left_after (take stand requests))) clean trees may) as (λ _. HoldsFront M requests stand trees) [
-        | inl more ↦ (stand + 1, omega arith, omega arith, more)
-        | inr same ↦ (stand, omega arith, omega arith, same)
+        | inl more ↦ (stand + 1, omega arith, omega arith, alone_left (after M (take (stand + 1) requests)) trees more)
+        | inr same ↦ (stand, omega arith, omega arith, alone_left (after M (take stand requests)) trees same)
       ]
   halts_keeps stand fault.Closed h clean trees may = so_many stand (h.left (Some (after M (take stand requests)) ∷ []) (left_after (take stand requests))) clean trees may
   halts_keeps stand fault.NotACatalogue h clean trees may = absurd h

@@ -1,5 +1,5 @@
 -- The promise: no acknowledged command is lost, and none is there in part.
-use Rattle.std.specs.Prelude.{ℕ, ◌+◌, ◌≤◌, List, [], ◌∷◌, take, Some}
+use Rattle.std.specs.Prelude.{◌≡◌, ℕ, ◌+◌, ◌≤◌, List, [], ◌∷◌, take, Some}
 use Rattle.sqlite.specs.Tree.{Trees}
 use Rattle.sqlite.specs.State.{HasCleanDisk}
 use Rattle.sqlite.specs.Held.{state}
@@ -8,10 +8,15 @@ use Rattle.dict_catalogue.specs.Steps.{Catalogue, Request, after}
 use Rattle.dict_file.specs.Holds.{IsLeft}
 use Rattle.dict_store.specs.Desk.{DeskState, Shows, LeavesOneOf}
 
--- these trees are of a database that holds the catalogue after a front of the commands, which has every one of so many that
--- were answered, and at most one more
+-- these trees are of a database that holds this catalogue, and no other
+pub record IsLeftAlone (M : Catalogue) (trees : Trees) : Type 0 where
+  pub left : IsLeft 1 M trees
+  pub alone : (N : Catalogue) → IsLeft 1 N trees → N ≡ M
+
+-- these trees are of a database that holds the catalogue after a front of the commands, and no other; the front has every one
+-- of so many that were answered, and at most one more
 abbrev pub HoldsFront : Catalogue → List Request → ℕ → Trees → Type 0
-HoldsFront before requests answered trees = (front : ℕ) × (answered ≤ front) × (front ≤ answered + 1) × IsLeft 1 (after before (take front requests)) trees
+HoldsFront before requests answered trees = (front : ℕ) × (answered ≤ front) × (front ≤ answered + 1) × IsLeftAlone (after before (take front requests)) trees
 
 module _ {S : Type 0} (g : Ghosts S) where
   -- a catalogue is shown, and a stop leaves that one alone

@@ -4,17 +4,17 @@ ghost use Rattle.sqlite.specs.State.{HasCleanDisk, Survives};
 ghost use Rattle.sqlite.specs.Held.{state};
 ghost use Rattle.dict_catalogue.specs.Steps.{Catalogue, summary_of};
 ghost use Rattle.dict_catalogue.specs.Views.{summary_shown};
-ghost use Rattle.dict_file.specs.Holds.{Rests};
+ghost use Rattle.dict_file.specs.Holds.{Holds, IsLeft, Rests};
 ghost use Rattle.dict_commands.specs.Changes.{IsInRange};
 ghost use Rattle.dict_desk.specs.Faults.{has_closed_by, has_failed_by};
 ghost use Rattle.dict_store.specs.Desk.{Shows, is_closed, has_failed};
-ghost use Rattle.dict_store.specs.Opened.{IsTold, IsNotHeld};
+ghost use Rattle.dict_store.specs.Opened.{IsTold, IsNotHeld, IsNotLeft, HoldsItsTrees};
 
 use crate::desk::Desk;
 use crate::last::{Last, last_by};
 use dict_catalogue::{Summary, edition_numbers};
 use dict_desk::Fault;
-use dict_opening::{held_is_marked, read_catalogue};
+use dict_opening::{held_is_marked, one_is_held, read_catalogue};
 use sqlite::{Alter, Connection};
 use std::alloc::{AllocError, Global};
 
@@ -27,10 +27,19 @@ fn is_in_range(alloc: Global, summary: &Summary) -> Result<bool, AllocError>
     Ok(numbers.iter().all(|number| *number <= installs))
 }
 
+// What the trees of a store that is open hold, the store holds.
+fn is_whole<S: Alter>(conn: &Connection<S>)
+    ensures { IsTrue (state S.Store conn.now).is_open → HoldsItsTrees (state S.Store conn.now) }
+{
+    one_is_held();
+    let _schema = conn.schema();
+}
+
 // Reads a database whole: the summary of the catalogue that it holds. Nothing is written.
 fn read<S: Alter>(alloc: Global, conn: &mut Connection<S>) -> Result<Summary, Fault>
     requires { conn.old.in_transaction ≡ false }
     ensures rests { HasCleanDisk (state S.Store conn.new) → IfOk result (λ summary. (M : Catalogue) × Rests 1 (state S.Store conn.new) M × (summary_of M ≡ summary_shown summary)) }
+    ensures every { HasCleanDisk (state S.Store conn.new) → IfOk result (λ summary. (M : Catalogue) → Holds 1 (state S.Store conn.old).committed M → Rests 1 (state S.Store conn.new) M × (summary_of M ≡ summary_shown summary)) }
     ensures range { IfOk result (λ summary. IsInRange (summary_shown summary)) }
     ensures told { HasCleanDisk (state S.Store conn.new) → IfErr result (IsTold (state S.Store conn.old).now) }
     ensures not_held { HasCleanDisk (state S.Store conn.new) → IfErr result (IsNotHeld (state S.Store conn.old).now) }
@@ -41,6 +50,7 @@ fn read<S: Alter>(alloc: Global, conn: &mut Connection<S>) -> Result<Summary, Fa
     ensures survives { Survives (state S.Store conn.old) (state S.Store conn.new) (λ _. ⊥) }
 {
     held_is_marked();
+    one_is_held();
     let summary = read_catalogue(alloc, conn)?;
     if !is_in_range(alloc, &summary)? {
         return Err(Fault::Disk);
@@ -49,7 +59,7 @@ fn read<S: Alter>(alloc: Global, conn: &mut Connection<S>) -> Result<Summary, Fa
 }
 
 impl<S: Alter + Drop> Desk<S> {
-    /// A desk over a database that holds a catalogue. It is read whole, and nothing is written.
+    /// A desk over a database that holds a catalogue, the only one that it holds. It is read whole, and nothing is written.
     ///
     /// At a fault the connection is handed back. `NotACatalogue`: there is no readable mark. `NewerSchema`: the mark's
     /// version is above the one that is known. `Damaged`: the tables hold no catalogue. They are tested in this order. `Memory`:
@@ -57,15 +67,19 @@ impl<S: Alter + Drop> Desk<S> {
     pub fn adopt(alloc: Global, conn: Connection<S>) -> Result<Desk<S>, (Connection<S>, Fault)>
         requires { conn.in_transaction ≡ false }
         ensures rests { IfOk result (λ desk. HasCleanDisk (state S.Store desk.conn) → (M : Catalogue) × Rests 1 (state S.Store desk.conn) M × Shows S.Store desk M) }
+        ensures held { IfOk result (λ desk. HasCleanDisk (state S.Store desk.conn) → (M : Catalogue) → Holds 1 (state S.Store conn).committed M → Shows S.Store desk M) }
+        ensures left { IfOk result (λ desk. HasCleanDisk (state S.Store desk.conn) → (M : Catalogue) → IsLeft 1 M (state S.Store conn).committed.trees → Shows S.Store desk M) }
         ensures open { IfOk result (λ desk. (desk.last ≡ Last.Fine) × (desk.conn.in_transaction ≡ false)) }
         ensures same { IfOk result (λ desk. HasCleanDisk (state S.Store desk.conn) → (state S.Store desk.conn).committed ≡ (state S.Store conn).committed) }
         ensures spares { IfOk result (λ desk. Survives (state S.Store (record conn { step_limit = None })) (state S.Store desk.conn) (λ _. ⊥)) }
         ensures handed { IfErr result (λ left. left.0.in_transaction ≡ false) }
         ensures told { IfErr result (λ left. HasCleanDisk (state S.Store left.0) → IsTold (state S.Store conn).now left.1) }
         ensures not_held { IfErr result (λ left. HasCleanDisk (state S.Store left.0) → IsNotHeld (state S.Store conn).now left.1) }
+        ensures not_left { IfErr result (λ left. HasCleanDisk (state S.Store left.0) → IsTrue (state S.Store conn).is_open → IsNotLeft (state S.Store conn).now.trees left.1) }
         ensures adds_none { IfErr result (λ left. Survives (state S.Store (record conn { step_limit = None })) (state S.Store left.0) (λ _. ⊥)) }
     {
         let mut conn = conn;
+        is_whole(&conn);
         conn.set_step_limit(None);
         match read(alloc, &mut conn) {
             Ok(summary) => Ok(Desk::over(alloc, conn, summary)),

@@ -7,7 +7,9 @@ mod keeper;
 mod last;
 mod lookups;
 mod promise;
+mod reopening;
 
 pub use desk::Desk;
 pub use last::Last;
 pub use promise::apply_to_file;
+pub use reopening::{Unopened, stopped_files};

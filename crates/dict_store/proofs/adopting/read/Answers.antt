@@ -1,6 +1,9 @@
-use Rattle.std.proofs.Common.{Err, ap, arith}
+use Rattle.std.proofs.Common.{◌≡◌, Err, ap, sym, subst, ◌∙◌, arith}
 use Rattle.std.proofs.lemmas.Result.{err_from_is_err_and}
+use Rattle.sqlite.specs.Effect.{Database}
 use Rattle.sqlite.specs.Held.{state}
+use Rattle.dict_catalogue.specs.Steps.{summary_of}
+use Rattle.dict_file.specs.Holds.{Holds, Rests}
 use Rattle.dict_store.proofs.adopting.read.Goals as goal
 
 pub returns-in_err-summary-clause-told : goal.returns-in_err-summary-clause-told
@@ -19,5 +22,13 @@ returns-in_err-summary-clause-not_held g c = λ clean.
     rw (p.1, p.2) (record {
       none = λ is M holds. c.in_err-summary.ensures.none clean (ap Err is) 1 (c.held_is_marked.ensures.marked db M holds);
       newer = λ is M holds. let it = c.in_err-summary.ensures.newer clean (ap Err is) in let once = c.held_is_marked.ensures.once db M it.0 holds it.1 in let more = it.2 in absurd (omega (arith, once, more));
-      damaged = λ is M holds records. (c.in_err-summary.ensures.damaged clean (ap Err is)).1 M holds records;
+      damaged = λ is M holds. (c.in_err-summary.ensures.damaged clean (ap Err is)).1 M holds;
     })
+
+pub returns-clause-every : goal.returns-clause-every
+returns-clause-every g c = λ clean M held.
+    let new = state g.S.Store c.read_catalogue.new.conn in
+    let found = c.in_ok-summary.ensures.rests clean in
+    let kept = c.read_catalogue.ensures.committed clean found.1.is_open in
+    let same : found.0 ≡ M = c.one_is_held.ensures.held 1 new.committed found.0 M found.1.holds (subst (λ (db : Database). Holds 1 db M) (sym kept) held) in
+    (subst (Rests 1 new) same found.1, ap summary_of (sym same) ∙ found.2)

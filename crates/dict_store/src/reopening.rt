@@ -1,0 +1,98 @@
+// A desk over files that are opened, and over what a stop left of them.
+ghost use Rattle.std.specs.Prelude.{◌≡◌, ℕ, List, IfOk, IsTrue};
+ghost use Rattle.sqlite.specs.State.{HasCleanDisk};
+ghost use Rattle.sqlite.specs.Files.{file_state, over_files};
+ghost use Rattle.sqlite.specs.FileStore as store;
+ghost use Rattle.sqlite.specs.FileStore.{view, recovers};
+ghost use Rattle.sqlite.specs.Recovery.{Image};
+ghost use Rattle.sqlite.specs.Tree.{Trees};
+ghost use Rattle.sqlite_store.specs.declared.store.FileStore.{FileStore};
+ghost use Rattle.sqlite.specs.WalFiles.{image_at};
+ghost use Rattle.dict_catalogue.specs.Steps.{Catalogue, Request};
+ghost use Rattle.dict_file.specs.Holds.{Rests};
+ghost use Rattle.dict_store.specs.Desk.{Shows};
+ghost use Rattle.dict_store.specs.Promise.{HoldsFront};
+ghost use Rattle.dict_store.specs.Reopened.{fault_of_files, IsIn, HoldsFrontIn, LeavesFront, ShowsFront};
+
+use crate::desk::Desk;
+use dict_desk::Fault;
+use sqlite::{Connection, Error, ErrorCode, FileFrom, FileStore, Leftover, Options, Start};
+use sqlite_disk::{Crash, Disk};
+
+/// What is handed back where no desk was opened.
+#[derive(Drop)]
+pub enum Unopened<D: Disk + Drop> {
+    /// No connection was opened, and this is left of the files, where they were opened.
+    Files(Option<Leftover<D>>),
+    /// The connection, in no transaction, whose database is none of a catalogue, or couldn't be read.
+    Database(Connection<FileStore<D>>),
+}
+
+// The fault that tells that no connection was opened.
+fn fault_of_files(error: &Error) -> Fault
+    ensures { result ≡ fault_of_files error.now }
+{
+    match error {
+        Error::SqliteFailure(ErrorCode::OutOfMemory) => Fault::Memory,
+        _ => Fault::NotACatalogue,
+    }
+}
+
+impl<S: Start> Desk<FileStore<FileFrom<S>>> {
+    /// A desk over the files at a path, of which the last commit is recovered. It takes what `Connection::open_from` takes, and
+    /// `S` stands for the octets that the files hold.
+    ///
+    /// Where no connection is opened, the fault is `Memory` for memory and else `NotACatalogue`. The others are those of `adopt`.
+    pub fn open_from(
+        rt: &HostRuntime,
+        path: &str,
+        new_has_sums: bool,
+        start: S,
+    ) -> Result<Desk<FileStore<FileFrom<S>>>, (Unopened<FileFrom<S>>, Fault)>
+        ensures rests { IfOk result (λ desk. HasCleanDisk (file_state desk.conn) → (M : Catalogue) × Rests 1 (file_state desk.conn) M × Shows over_files desk M) }
+        ensures shows { IfOk result (λ desk. HasCleanDisk (file_state desk.conn) → (M : Catalogue) → IsIn M (image_at S.Start) → Shows over_files desk M) }
+    {
+        let conn = match Connection::open_from(rt, path, new_has_sums, start) {
+            Ok(conn) => conn,
+            Err((error, left)) => return Err((Unopened::Files(left), fault_of_files(&error))),
+        };
+        match Desk::adopt(rt.alloc(), conn) {
+            Ok(desk) => Ok(desk),
+            Err((conn, fault)) => Err((Unopened::Database(conn), fault)),
+        }
+    }
+}
+
+impl<D: Crash + Drop> Desk<FileStore<D>> {
+    /// Stops the desk, and opens it again over what its two files hold after the stop: for runs that span a stop.
+    ///
+    /// What wasn't committed is lost. Where no connection is opened, the fault is `Memory` for memory and else `NotACatalogue`;
+    /// the others are those of `adopt`.
+    pub fn restart(self, options: Options) -> Result<Desk<FileStore<D>>, (Unopened<D>, Fault)>
+        ensures shows { IfOk result (λ desk. HasCleanDisk (file_state desk.conn) → (before : Catalogue) (requests : List Request) (answered : ℕ) → LeavesFront over_files self before requests answered → ∥ ShowsFront over_files desk before requests answered ∥₁) }
+    {
+        let alloc = self.alloc;
+        let mut files = self.into_connection().into_store().close();
+        files.log.crash();
+        files.db.crash();
+        let conn = match Connection::open_files(alloc, files, options) {
+            Ok(conn) => conn,
+            Err((error, left)) => {
+                return Err((Unopened::Files(Some(left)), fault_of_files(&error)));
+            }
+        };
+        match Desk::adopt(alloc, conn) {
+            Ok(desk) => Ok(desk),
+            Err((conn, fault)) => Err((Unopened::Database(conn), fault)),
+        }
+    }
+}
+
+/// What a stop leaves of two files is opened as the catalogue after a front of some commands, where each of the trees that the
+/// stop may leave stands for such a catalogue, as `apply_to_file` promises. It is said of a store as a connection gives it back.
+///
+/// It does nothing. Its clause is the law.
+pub fn stopped_files<D: Disk>()
+    ensures { (it : FileStore D D.Disk) (before : Catalogue) (requests : List Request) (answered : ℕ) (left : Image) → IsTrue (view it).is_numbered →
+        ((trees : Trees) → recovers it trees → HoldsFront before requests answered trees) → (store.state it).may_leave left → ∥ HoldsFrontIn before requests answered left ∥₁ }
+{}
