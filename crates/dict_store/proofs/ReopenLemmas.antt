@@ -1,5 +1,6 @@
 -- From one run to the next: what is opened over the files that a stop left.
 use Rattle.std.proofs.Common.{◌≡◌, ℕ, List, IsTrue, sym, subst, ◌∙◌, arith}
+use Rattle.std.proofs.lemmas.Bool.{and_parts, and_from}
 use Rattle.std.proofs.Math.Logic.{∥∥₁_map}
 use Rattle.sqlite_disk.specs.declared.Disk.{Ghosts}
 use Rattle.sqlite_disk.specs.declared.Files.{Files}
@@ -21,19 +22,22 @@ use Rattle.dict_catalogue.specs.Steps.{Catalogue, Request}
 use Rattle.dict_store.specs.Promise.{HoldsFront}
 use Rattle.dict_store.specs.Reopened.{HoldsFrontIn}
 
--- a database that is opened over what a stop left of a store was one that the stop could leave
-pub restarted : {D : Type 0} {g : Ghosts D} (before : Held (FileStore D g)) (it : FileStore D g) (stopped : Files D) (conn : Held (FileStore D g))
-    → (IsClean (view it) → IsTrue (view it).is_numbered) → (IsClean (view it) → AreDatabases (recovers it)) → IsQuiet view faults recovers is_shielded before.store it
-    → (AreClean g stopped.log stopped.db → AreClean g (files it).0 (files it).1) → outcomes g (files it).0 (files it).1 (image_of g stopped)
-    → (HasCleanDisk (file_state conn) → Finds stopped conn) → HasCleanDisk (file_state conn)
-    → ∥ HasCleanDisk (file_state before) × (file_state before).may_leave (file_state conn).committed.trees ∥₁
-restarted {g} before it stopped conn numbered sound quiet clean left finds honest =
-    let found = finds honest in
-    let sure = clean found.honest in
-    let none : IsClean (view it) = no_doubt _ (clean_is it.pool ∙ sure) in
-    let image = image_of g stopped in
-    ∥∥₁_map (next_run it (numbered none) (sound none) image (may_leave_is it.pool image sure left) (file_state conn) (record { holds = found.holds; reads = found.reads }))
-    (λ trees. (let early : HasCleanDisk (file_state before) = omega (arith, quiet.clean, none) in early, quiet.outcomes (file_state conn).committed.trees trees))
+-- what is opened over two files after a stop was one that the stop could leave
+module _ {D : Type 0} {g : Ghosts D} (before : Held (FileStore D g)) (it : FileStore D g) (was stopped : Files D) (conn : Held (FileStore D g))
+    (numbered : IsClean (view it) → IsTrue (view it).is_numbered) (sound : IsClean (view it) → AreDatabases (recovers it)) (quiet : IsQuiet view faults recovers is_shielded before.store it)
+    (closed : (was.log, was.db) ≡ files it) (log_clean : IsTrue (g.is_clean stopped.log) → IsTrue (g.is_clean was.log)) (db_clean : IsTrue (g.is_clean stopped.db) → IsTrue (g.is_clean was.db))
+    (log_left : g.may_leave was.log (g.seen stopped.log)) (db_left : g.may_leave was.db (g.seen stopped.db)) (finds : HasCleanDisk (file_state conn) → Finds stopped conn) (honest : HasCleanDisk (file_state conn)) where
+  pub restarted : ∥ HasCleanDisk (file_state before) × (file_state before).may_leave (file_state conn).committed.trees ∥₁
+  restarted =
+      let found = finds honest in
+      let image = image_of g stopped in
+      let parts = and_parts (g.is_clean stopped.log) (g.is_clean stopped.db) found.honest in
+      let both : AreClean g was.log was.db = and_from (g.is_clean was.log) (g.is_clean was.db) (log_clean parts.0) (db_clean parts.1) in
+      let sure = subst (λ p. AreClean g p.0 p.1) closed both in
+      let left = subst (λ p. outcomes g p.0 p.1 image) closed (log_left, db_left) in
+      let none : IsClean (view it) = no_doubt _ (clean_is it.pool ∙ sure) in
+      ∥∥₁_map (next_run it (numbered none) (sound none) image (may_leave_is it.pool image sure left) (file_state conn) (record { holds = found.holds; reads = found.reads }))
+      (λ trees. (let early : HasCleanDisk (file_state before) = omega (arith, quiet.clean, none) in early, quiet.outcomes (file_state conn).committed.trees trees))
 
 -- what a stop leaves of two files is a database that holds what its trees stand for
 pub front_in : {D : Type 0} {g : Ghosts D} (it : FileStore D g) (before : Catalogue) (requests : List Request) (answered : ℕ) (left : Image)

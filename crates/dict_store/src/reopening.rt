@@ -1,5 +1,5 @@
 // A desk over files that are opened, and over what a stop left of them.
-ghost use Rattle.std.specs.Prelude.{◌≡◌, ℕ, List, IfOk, IsTrue};
+ghost use Rattle.std.specs.Prelude.{◌≡◌, ◌⊎◌, ℕ, List, IfOk, IfErr, IsTrue};
 ghost use Rattle.sqlite.specs.State.{HasCleanDisk};
 ghost use Rattle.sqlite.specs.Files.{file_state, over_files};
 ghost use Rattle.sqlite.specs.FileStore as store;
@@ -12,7 +12,7 @@ ghost use Rattle.dict_catalogue.specs.Steps.{Catalogue, Request};
 ghost use Rattle.dict_file.specs.Holds.{Rests};
 ghost use Rattle.dict_store.specs.Desk.{Shows};
 ghost use Rattle.dict_store.specs.Promise.{HoldsFront};
-ghost use Rattle.dict_store.specs.Reopened.{fault_of_files, IsIn, HoldsFrontIn, LeavesFront, ShowsFront};
+ghost use Rattle.dict_store.specs.Reopened.{fault_of_files, IsIn, HoldsFrontIn, IsUnopened, IsUnopenedFrom, LeavesFront, ShowsFront};
 
 use crate::desk::Desk;
 use dict_desk::Fault;
@@ -30,7 +30,8 @@ pub enum Unopened<D: Disk + Drop> {
 
 // The fault that tells that no connection was opened.
 fn fault_of_files(error: &Error) -> Fault
-    ensures { result ≡ fault_of_files error.now }
+    ensures value { result ≡ fault_of_files error.now }
+    ensures kinds { (result ≡ Fault.Memory) ⊎ (result ≡ Fault.NotACatalogue) }
 {
     match error {
         Error::SqliteFailure(ErrorCode::OutOfMemory) => Fault::Memory,
@@ -51,6 +52,7 @@ impl<S: Start> Desk<FileStore<FileFrom<S>>> {
     ) -> Result<Desk<FileStore<FileFrom<S>>>, (Unopened<FileFrom<S>>, Fault)>
         ensures rests { IfOk result (λ desk. HasCleanDisk (file_state desk.conn) → (M : Catalogue) × Rests 1 (file_state desk.conn) M × Shows over_files desk M) }
         ensures shows { IfOk result (λ desk. HasCleanDisk (file_state desk.conn) → (M : Catalogue) → IsIn M (image_at S.Start) → Shows over_files desk M) }
+        ensures unopened { IfErr result (λ left. IsUnopened (image_at S.Start) left.0 left.1) }
     {
         let conn = match Connection::open_from(rt, path, new_has_sums, start) {
             Ok(conn) => conn,
@@ -70,6 +72,7 @@ impl<D: Crash + Drop> Desk<FileStore<D>> {
     /// the others are those of `adopt`.
     pub fn restart(self, options: Options) -> Result<Desk<FileStore<D>>, (Unopened<D>, Fault)>
         ensures shows { IfOk result (λ desk. HasCleanDisk (file_state desk.conn) → (before : Catalogue) (requests : List Request) (answered : ℕ) → LeavesFront over_files self before requests answered → ∥ ShowsFront over_files desk before requests answered ∥₁) }
+        ensures unopened { IfErr result (λ left. IsUnopenedFrom over_files self left.0 left.1) }
     {
         let alloc = self.alloc;
         let mut files = self.into_connection().into_store().close();
