@@ -1,18 +1,18 @@
 -- What comes of a session over a database.
-use Rattle.std.specs.Prelude.{◌≡◌, ℕ, Bool, List, Option, Contains, Result, Ok, Err, ⊤}
+use Rattle.std.specs.Prelude.{◌≡◌, ℕ, Bool, IsTrue, List, Option, Contains, Result, Ok, Err, ⊤}
 use Rattle.sqlite.specs.State.{State, HasCleanDisk}
 use Rattle.sqlite.specs.Tree.{Trees}
 use Rattle.sqlite.specs.Held.{Held, state}
 use Rattle.sqlite_trees.specs.declared.store.Store.{Ghosts}
 use Rattle.dict_catalogue.specs.Steps.{Catalogue}
-use Rattle.dict_file.specs.Holds.{Holds}
+use Rattle.dict_file.specs.Holds.{Holds, IsLeft}
 use Rattle.dict_io.specs.Streams.{Change}
 use Rattle.dict_session.specs.Run.{Ends}
 use Rattle.dict_session.specs.declared.session.run.End.{End}
 use Rattle.dict_session.specs.declared.session.run.SessionFault.{SessionFault}
 use Rattle.dict_session.specs.declared.session.run.SessionFault.TheVariants.{Memory}
 use Rattle.dict_store.specs.Desk.{StandsFor}
-use Rattle.dict_store.specs.Opened.{IsTold, IsNotHeld}
+use Rattle.dict_store.specs.Opened.{IsTold, IsNotHeld, IsNotLeft}
 use Rattle.dict_file_session.specs.declared.fault.FileFault.{FileFault}
 use Rattle.dict_file_session.specs.declared.fault.FileFault.TheVariants.{Opening, Session}
 
@@ -20,12 +20,17 @@ use Rattle.dict_file_session.specs.declared.fault.FileFault.TheVariants.{Opening
 abbrev pub IsUntouched : Change → Type 0
 IsUntouched change = change.new ≡ change.old
 
--- A session over the catalogue that was committed ended so, greeted under this host and number.
+-- a session over this catalogue ended so, greeted under this host and number
+abbrev pub EndsOver : List ℕ → ℕ → Result End SessionFault → Change → Change → Catalogue → Type 0
+EndsOver host number end reader writer M = (failed : Bool) × Ends M host number failed end reader writer
+
+-- The database that was committed holds a catalogue, and whichever it holds, the session is one over that; so it is where a
+-- stop left its trees.
 pub record HasRun (old : State) (host : List ℕ) (number : ℕ) (end : Result End SessionFault) (reader writer : Change) : Type 0 where
   pub catalogue : Catalogue
   pub held : Holds 1 old.committed catalogue
-  pub failed : Bool
-  pub ends : Ends catalogue host number failed end reader writer
+  pub over : (M : Catalogue) → Holds 1 old.committed M → EndsOver host number end reader writer M
+  pub left : (M : Catalogue) → IsLeft 1 M old.committed.trees → EndsOver host number end reader writer M
 
 -- how a session over an opened database ended
 abbrev pub told : Result End SessionFault → Result End FileFault
@@ -36,7 +41,7 @@ told (Err fault) = Err (Session fault)
 abbrev pub IsOver : State → List ℕ → ℕ → Result End FileFault → Change → Change → Type 0
 IsOver old host number (Ok end) reader writer = HasRun old host number (Ok end) reader writer
 IsOver old host number (Err (Session fault)) reader writer = HasRun old host number (Err fault) reader writer
-IsOver old host number (Err (Opening fault)) reader writer = IsTold old.now fault × IsNotHeld old.now fault
+IsOver old host number (Err (Opening fault)) reader writer = IsTold old.now fault × IsNotHeld old.now fault × (IsTrue old.is_open → IsNotLeft old.now.trees fault)
 
 -- where the database wasn't opened, or memory ran out before the greeting, nothing was read or written
 abbrev pub IsSpared : Result End FileFault → Change → Change → Type 0

@@ -213,10 +213,10 @@ member_rows version tables M s =
     all_with IsLawfulItem (λ (item : Item Edition). HoldsMembers members item × HasKnownMembers M.items item) (λ item. AllByRecursion MemberRow (members_of_owner (name_of item) members))
     (owned_rows M.items members lawful) M.items lawful (all_with (HoldsMembers members) (HasKnownMembers M.items) (λ (item : Item Edition). HoldsMembers members item × HasKnownMembers M.items item) (λ item a b. (a, b)) M.items s.members s.well_formed.members) in
     each_in MemberRow members (λ row i.
-        any_holds (is_named row.owner) (λ item. AllByRecursion MemberRow (members_of_owner (name_of item) members)) (MemberRow row)
-        (λ (item : Item Edition) named all. in_all MemberRow row (members_of_owner (name_of item) members) all
-        (passed_in (λ (r : spec.Member). bytes_eq r.owner (name_of item)) row members (subst (λ name. bytes_eq row.owner name ≡ true) (sym (same_text (name_of item) row.owner named)) (text_itself row.owner)) i))
-        M.items (in_all (λ (r : spec.Member). IsTrue (is_known M.items r.owner)) row members s.owners i) owned)
+    any_holds (is_named row.owner) (λ item. AllByRecursion MemberRow (members_of_owner (name_of item) members)) (MemberRow row)
+    (λ (item : Item Edition) named all. in_all MemberRow row (members_of_owner (name_of item) members) all
+    (passed_in (λ (r : spec.Member). bytes_eq r.owner (name_of item)) row members (subst (λ name. bytes_eq row.owner name ≡ true) (sym (same_text (name_of item) row.owner named)) (text_itself row.owner)) i))
+    M.items (in_all (λ (r : spec.Member). IsTrue (is_known M.items r.owner)) row members s.owners i) owned)
 
 -- ---- editions and their entries
 

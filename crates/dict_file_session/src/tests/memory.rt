@@ -6,13 +6,14 @@ use dict_index::{Edition, read_edition};
 use dict_io::{LimitedSink, OverRead};
 use dict_session::End;
 use dict_store::Desk;
-use sqlite::{Connection, MemStore};
+use sqlite::{Alter, Connection, MemStore};
 use std::alloc::Global;
 use std::test::Fail;
 
-const GEM_INDEX: &[u8] = b"00-database-short\tA\tZ\nopal\tZ\tP\nFire Opal\tZ\tP\ndot\to\tF\n";
+pub(crate) const GEM_INDEX: &[u8] =
+    b"00-database-short\tA\tZ\nopal\tZ\tP\nFire Opal\tZ\tP\ndot\to\tF\n";
 
-const GEM_TEXT: &[u8] = b"00-database-short\n  Gems\nopal\n  a stone\n.dot\n";
+pub(crate) const GEM_TEXT: &[u8] = b"00-database-short\n  Gems\nopal\n  a stone\n.dot\n";
 
 // A connection whose database holds a catalogue with gem.
 fn filled(alloc: Global) -> Result<Connection<MemStore>, Fail> {
@@ -29,7 +30,11 @@ fn filled(alloc: Global) -> Result<Connection<MemStore>, Fail> {
 }
 
 // Installs an edition under the name, which is the request's id too.
-fn install(desk: &mut Desk<MemStore>, name: &str, edition: &Edition) -> Result<(), Fail> {
+pub(crate) fn install<S: Alter + Drop>(
+    desk: &mut Desk<S>,
+    name: &str,
+    edition: &Edition,
+) -> Result<(), Fail> {
     let command = Command::Install { name, edition };
     desk.apply(name, &command)?;
     Ok(())

@@ -17,8 +17,16 @@ returns-clause-over g c = λ clean.
     let writer = change g.K.Sink.stream c.args.writer.now c.run-end.new.writer in
     let old = state g.S.Store c.args.connection in
     let ran : HasRun old c.args.host.now c.args.number c.run-end.result reader writer =
-    record { catalogue = is.0; held = subst (λ db. Holds 1 db is.0) (c.in-Ok.ensures.same opened) is.1.holds; failed = has_failed c.run-end.new.desk.last; ends = c.run-end.ensures.answers trusted is.0 is.2 } in
+    record {
+      catalogue = is.0;
+      held = subst (λ db. Holds 1 db is.0) (c.in-Ok.ensures.same opened) is.1.holds;
+      over = λ M held. (has_failed c.run-end.new.desk.last, c.run-end.ensures.answers trusted M (c.in-Ok.ensures.held opened M held));
+      left = λ M left. (has_failed c.run-end.new.desk.last, c.run-end.ensures.answers trusted M (c.in-Ok.ensures.left opened M left));
+    } in
     subst (λ end. IsOver old c.args.host.now c.args.number end reader writer) (sym c.told.ensures) (over_by old c.args.host.now c.args.number c.run-end.result reader writer ran)
+
+pub returns-in-Err-clause-over : goal.returns-in-Err-clause-over
+returns-in-Err-clause-over g c = λ clean. (c.in-Err.ensures.told clean, c.in-Err.ensures.not_held clean, c.in-Err.ensures.not_left clean)
 
 pub returns-clause-leaves : goal.returns-clause-leaves
 returns-clause-leaves g c = λ ms before.

@@ -11,8 +11,11 @@ returns-in-Ok-adopt-clause-shows g c = λ clean M held.
     c.in-Ok-adopt.ensures.left clean M (subst (IsLeft 1 M) (sym (found.holds held.0 held.1)) held.2)
 
 pub returns-in-Err-adopt-clause-unopened : goal.returns-in-Err-adopt-clause-unopened
-returns-in-Err-adopt-clause-unopened g c = (c.in-Err-adopt.ensures.handed, λ clean M held.
-    let early : HasCleanDisk (file_state c.in-Ok.conn) = omega (arith, c.in-Err-adopt.ensures.adds_none.clean, clean) in
-    let opened = (c.in-Ok.ensures.opened early).0 in
-    let found = c.in-Ok.ensures.found early in
-    c.in-Err-adopt.ensures.not_left clean opened.is_open M (subst (λ db. IsLeft 1 M db.trees) (sym opened.clean) (subst (IsLeft 1 M) (sym (found.holds held.0 held.1)) held.2)))
+returns-in-Err-adopt-clause-unopened g c = (
+  c.in-Err-adopt.ensures.handed,
+  λ clean M held.
+      let early : HasCleanDisk (file_state c.in-Ok.conn) = omega (arith, c.in-Err-adopt.ensures.adds_none.clean, clean) in
+      let opened = (c.in-Ok.ensures.opened early).0 in
+      let found = c.in-Ok.ensures.found early in
+      c.in-Err-adopt.ensures.not_left clean opened.is_open M (subst (λ db. IsLeft 1 M db.trees) (sym opened.clean) (subst (IsLeft 1 M) (sym (found.holds held.0 held.1)) held.2)),
+)
