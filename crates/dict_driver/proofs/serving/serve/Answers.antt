@@ -1,0 +1,41 @@
+use Rattle.std.proofs.Common.{refl, sym, subst}
+use Rattle.dict_hub.specs.Runs.{IsAt}
+use Rattle.dict_driver.specs.Rounds.{Moves}
+use Rattle.dict_driver.proofs.LeadLemmas.{led_joined, led_none, led_still}
+use Rattle.dict_driver.proofs.RoundLemmas.{moves_same, moves_joined}
+use Rattle.dict_driver.proofs.serving.serve.Goals as goal
+
+pub loop-made-init : goal.loop-made-init
+loop-made-init g c = record { trust = λ trusted. trusted; led = led_still (moves_same c.args.driver.now.connections c.args.driver.now.connections refl (λ id octets now. now)) }
+
+pub returns-in_err-has_moved-clause-led : goal.returns-in_err-has_moved-clause-led
+returns-in_err-has_moved-clause-led g c =
+    led_joined c.loop-made.invariant.led c.round.ensures.led c.round.ensures.trust
+    (λ es fs before then. moves_joined c.args.driver.now.connections c.loop-made.driver.connections c.round.new.self.connections es fs before then)
+
+pub returns-then-is_err-clause-led : goal.returns-then-is_err-clause-led
+returns-then-is_err-clause-led g c =
+    led_joined c.loop-made.invariant.led c.round.ensures.led c.round.ensures.trust
+    (λ es fs before then. moves_joined c.args.driver.now.connections c.loop-made.driver.connections c.round.new.self.connections es fs before then)
+
+pub returns-in_err-wait_if-clause-led : goal.returns-in_err-wait_if-clause-led
+returns-in_err-wait_if-clause-led g c =
+    led_joined
+    (led_joined {R = λ events. Moves c.args.driver.now.connections c.round.new.self.connections events} c.loop-made.invariant.led c.round.ensures.led c.round.ensures.trust
+      (λ es fs before then. moves_joined c.args.driver.now.connections c.loop-made.driver.connections c.round.new.self.connections es fs before then))
+    (led_none {P = λ events. Moves c.round.new.self.connections c.wait_if.new.driver.connections events} (λ state at. subst (λ h. IsAt h state) (sym c.wait_if.ensures.hub) at)
+      (moves_same c.round.new.self.connections c.wait_if.new.driver.connections c.wait_if.ensures.last c.wait_if.ensures.waits))
+    (λ trusted. trusted)
+    (λ es fs before then. moves_joined c.args.driver.now.connections c.round.new.self.connections c.wait_if.new.driver.connections es fs before then)
+
+pub loop-made-preserved : goal.loop-made-preserved
+loop-made-preserved g c = record {
+  trust = λ trusted. c.loop-made.invariant.trust (c.round.ensures.trust trusted);
+  led = led_joined
+      (led_joined {R = λ events. Moves c.args.driver.now.connections c.round.new.self.connections events} c.loop-made.invariant.led c.round.ensures.led c.round.ensures.trust
+        (λ es fs before then. moves_joined c.args.driver.now.connections c.loop-made.driver.connections c.round.new.self.connections es fs before then))
+      (led_none {P = λ events. Moves c.round.new.self.connections c.wait_if.new.driver.connections events} (λ state at. subst (λ h. IsAt h state) (sym c.wait_if.ensures.hub) at)
+        (moves_same c.round.new.self.connections c.wait_if.new.driver.connections c.wait_if.ensures.last c.wait_if.ensures.waits))
+      (λ trusted. trusted)
+      (λ es fs before then. moves_joined c.args.driver.now.connections c.round.new.self.connections c.wait_if.new.driver.connections es fs before then);
+}

@@ -1,0 +1,10 @@
+use Rattle.dict_driver.specs.Leading.{HasLedOn}
+use Rattle.dict_driver.specs.Rounds.{Moves}
+use Rattle.dict_driver.proofs.serving.serve.Given as goal
+
+abbrev pub invariant-loop-made : goal.invariant-loop-made
+invariant-loop-made g l = record {
+  trust : g.K.Lookup.is_trusted l.desk → g.K.Lookup.is_trusted l.fn.desk;
+  led : HasLedOn (g.K.Lookup.is_trusted l.desk) (g.K.Lookup.shows l.fn.desk) (g.K.Lookup.leaves_one_of l.fn.desk) (g.K.Lookup.shows l.desk) (g.K.Lookup.leaves_one_of l.desk) l.fn.driver.hub l.driver.hub
+      (λ events. Moves l.fn.driver.connections l.driver.connections events);
+}

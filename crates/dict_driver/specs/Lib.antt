@@ -1,0 +1,9 @@
+pub mod Queues
+pub mod Stages
+pub mod Events
+pub mod Leading
+pub mod Telling
+pub mod Turns
+pub mod Turning
+pub mod Rounds
+pub mod Serving

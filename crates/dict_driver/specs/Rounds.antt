@@ -1,0 +1,41 @@
+-- What a round does with the octets that wait for each connection.
+use Rattle.std.specs.Prelude.{◌≡◌, ◌⊎◌, ◌<◌, ◌≤◌, ℕ, List, [], ◌∷◌, ◌++◌}
+use Rattle.dict_hub.specs.Runs.{Accepted, events_of}
+use Rattle.dict_driver.specs.Queues.{waiting}
+use Rattle.dict_driver.specs.Events.{ArePut}
+use Rattle.dict_driver.specs.declared.connection.Connection.{Connection}
+use Rattle.dict_driver.specs.declared.connections.Connections.{Connections}
+use Rattle.dict_driver.specs.declared.transport.Transport.{Ghosts}
+
+-- one of these connections has this id, and these octets wait for it
+abbrev pub WaitsAmong : {T : Type 0} → List (Connection T) → ℕ → List ℕ → Type 0
+WaitsAmong [] id octets = ⊥
+WaitsAmong (one ∷ others) id octets = ((one.id ≡ id) × (waiting one.queue ≡ octets)) ⊎ WaitsAmong others id octets
+
+-- a connection of this id is open or departs, and these octets wait for it
+abbrev pub Waits : {T : Type 0} {G : Ghosts T} → Connections T G → ℕ → List ℕ → Type 0
+Waits all id octets = WaitsAmong all.opened.items id octets ⊎ WaitsAmong all.departing.items id octets
+
+-- of what waited before and what the events put: a front is sent, and the rest waits
+pub record Flows (before : List ℕ) (events : List Accepted) (after : List ℕ) : Type 0 where
+  pub sent : List ℕ
+  pub put : List ℕ
+  pub are_put : ArePut events put
+  pub order : sent ++ after ≡ before ++ put
+
+-- the connection was there before, with these octets, or it has a new id and nothing waited
+abbrev pub WasWaiting : {T : Type 0} {G : Ghosts T} → Connections T G → ℕ → List ℕ → Type 0
+WasWaiting all id octets = Waits all id octets ⊎ ((all.last < id) × (octets ≡ []))
+
+-- The octets that wait for a connection are those that waited before and those that its own events put, in this order, without a
+-- front that was sent
+pub record HasWaited {T : Type 0} {G : Ghosts T} (old : Connections T G) (events : List Accepted) (id : ℕ) (octets : List ℕ) : Type 0 where
+  pub before : List ℕ
+  pub was : WasWaiting old id before
+  pub flows : Flows before (events_of id events) octets
+
+-- So it is for each connection, and no event is of an id that wasn't given
+pub record Moves {T : Type 0} {G : Ghosts T} (old new : Connections T G) (events : List Accepted) : Type 0 where
+  pub last : old.last ≤ new.last
+  pub given : (id : ℕ) → new.last < id → events_of id events ≡ []
+  pub waits : (id : ℕ) (octets : List ℕ) → Waits new id octets → HasWaited old events id octets

@@ -1,0 +1,187 @@
+// The connections of a driver.
+ghost use Rattle.std.specs.Prelude.{◌≡◌, ◌≢◌, ◌⊎◌, ◌≤◌, ◌<◌, ◌+◌, ℕ, List, [], false, All, IfOk, IfSome, vec_len, vec_capacity};
+ghost use Rattle.std.specs.List.{AllPairs};
+ghost use Rattle.dict_driver.specs.Stages.{is_open};
+
+use crate::connection::Connection;
+use crate::stage::Stage;
+use crate::transport::Transport;
+use crate::turning::{depart_all, mark_all, mark_one, turn_all};
+use dict_desk::Keeper;
+use dict_hub::{Hub, Kind};
+use std::alloc::{AllocError, Global};
+
+/// The most connections that are open at once.
+pub const MOST_OPEN: usize = 64;
+
+/// The most connections that are no longer open and still held, since octets wait for them or all that comes is not
+/// read yet.
+pub const MOST_DEPARTING: usize = 128;
+
+/// The connections of a driver, in the order of their ids. Its room is taken when it is made, and never grows.
+#[derive(Drop)]
+pub struct Connections<T: Transport> {
+    alloc: Global,
+    opened: Vec<Connection<T>>,
+    departing: Vec<Connection<T>>,
+    // The last id that was given.
+    last: u64,
+    ghost few_open: { vec_len opened ≤ 64 },
+    ghost few_departing: { vec_len departing ≤ 128 },
+    ghost room_open: { 64 ≤ vec_capacity opened },
+    ghost room_departing: { 128 ≤ vec_capacity departing },
+    ghost rising: { AllPairs (λ a b. a.id < b.id) opened.items },
+    ghost given_open: { All (λ one. one.id ≤ last) opened.items },
+    ghost given_departing: { All (λ one. one.id ≤ last) departing.items },
+    ghost closed: { All (λ one. is_open one.stage ≡ false) departing.items },
+    ghost apart: { All (λ b. All (λ a. a.id ≢ b.id) opened.items) departing.items },
+}
+
+impl<T: Transport> Connections<T> {
+    ghost use Rattle.dict_driver.specs.Leading.{HasLedOn};
+    ghost use Rattle.dict_driver.specs.Queues.{waiting};
+    ghost use Rattle.dict_driver.specs.Rounds.{WaitsAmong, Waits, Moves};
+
+    /// No connection was there yet.
+    pub fn new(alloc: Global) -> Result<Self, AllocError>
+        ensures opened { IfOk result (λ all. all.opened.items ≡ []) }
+        ensures departing { IfOk result (λ all. all.departing.items ≡ []) }
+        ensures last { IfOk result (λ all. all.last ≡ 0) }
+    {
+        Ok(Connections {
+            alloc,
+            opened: Vec::with_capacity(alloc, MOST_OPEN)?,
+            departing: Vec::with_capacity(alloc, MOST_DEPARTING)?,
+            last: 0,
+        })
+    }
+
+    /// How many are open.
+    pub fn open_count(&self) -> usize
+        ensures value { result ≡ vec_len self.now.opened }
+        ensures most { result ≤ 64 }
+    {
+        self.opened.len()
+    }
+
+    /// How many are held and no longer open.
+    pub fn departing_count(&self) -> usize
+        ensures value { result ≡ vec_len self.now.departing }
+        ensures most { result ≤ 128 }
+    {
+        self.departing.len()
+    }
+
+    /// The id of the next connection. `None` where 64 are open, or each id was given.
+    pub fn next_id(&self) -> Option<u64>
+        ensures value { IfSome result (λ id. id ≡ self.now.last + 1) }
+        ensures room { IfSome result (λ id. vec_len self.now.opened < 64) }
+    {
+        if self.opened.len() >= MOST_OPEN {
+            return None;
+        }
+        self.last.checked_add(1)
+    }
+
+    /// Opens a connection, or drops its transport where there is no place for it or the hub refuses it. Its id is then
+    /// that of the next one.
+    pub fn admit<K: Keeper>(&mut self, transport: T, kind: Kind, hub: &mut Hub, desk: &mut K)
+        ensures led { HasLedOn (K.is_trusted desk.new) (K.shows desk.old) (K.leaves_one_of desk.old) (K.shows desk.new) (K.leaves_one_of desk.new) hub.old hub.new
+            (λ events. Moves self.old self.new events) }
+        ensures trust { K.is_trusted desk.new → K.is_trusted desk.old }
+    {
+        let Some(id) = self.next_id() else {
+            return;
+        };
+        if let Some(one) = Connection::open(self.alloc, id, kind, transport, hub, desk) {
+            self.last = id;
+            self.opened.push_reserved(one);
+        }
+    }
+
+    /// A turn of each connection: those that are no longer open, and then the open ones in the order of their ids. Those
+    /// that are over are dropped. Whether anything happened.
+    pub fn turn<K: Keeper>(&mut self, hub: &mut Hub, desk: &mut K) -> bool
+        ensures led { HasLedOn (K.is_trusted desk.new) (K.shows desk.old) (K.leaves_one_of desk.old) (K.shows desk.new) (K.leaves_one_of desk.new) hub.old hub.new
+            (λ events. Moves self.old self.new events) }
+        ensures trust { K.is_trusted desk.new → K.is_trusted desk.old }
+    {
+        let departed = depart_all(&mut self.departing);
+        self.departing.retain(|one| one.stage().is_held());
+        let turned = turn_all(&mut self.opened, hub, desk);
+        self.settle();
+        departed || turned
+    }
+
+    /// Notes that a reading of the connection of this id may give something, where it is held.
+    pub fn mark(&mut self, id: u64)
+        ensures waits { (other : ℕ) (octets : List ℕ) → Waits self.new other octets → Waits self.old other octets }
+        ensures last { self.new.last ≡ self.old.last }
+    {
+        mark_one(&mut self.opened, id);
+        mark_one(&mut self.departing, id);
+    }
+
+    /// Notes that a reading of each connection may give something.
+    pub fn mark_all(&mut self)
+        ensures waits { (other : ℕ) (octets : List ℕ) → Waits self.new other octets → Waits self.old other octets }
+        ensures last { self.new.last ≡ self.old.last }
+    {
+        mark_all(&mut self.opened);
+        mark_all(&mut self.departing);
+    }
+
+    // Parts those that are no longer open from those that are.
+    fn settle(&mut self)
+        ensures waits { (id : ℕ) (octets : List ℕ) → Waits self.new id octets → Waits self.old id octets }
+        ensures last { self.new.last ≡ self.old.last }
+    {
+        let mut place = 0;
+        while place < self.opened.len() {
+            if self.opened[place].stage().is_open() {
+                place += 1;
+            } else {
+                self.close(place);
+            }
+        }
+    }
+
+    // Takes the connection at this place out of the open ones, and holds it where something is still to be sent or read.
+    fn close(&mut self, place: usize)
+        requires { place < vec_len self.old.opened }
+        ensures waits { (id : ℕ) (octets : List ℕ) → Waits self.new id octets → Waits self.old id octets }
+        ensures len { vec_len self.new.opened + 1 ≡ vec_len self.old.opened }
+        ensures last { self.new.last ≡ self.old.last }
+    {
+        let one = self.opened.remove(place);
+        match one.stage() {
+            Stage::Closing | Stage::Parting | Stage::Draining => self.keep(one),
+            Stage::Open | Stage::Over => {}
+        }
+    }
+
+    // Holds a connection that is no longer open, in place of the oldest one where all places are held.
+    fn keep(&mut self, one: Connection<T>)
+        requires closed { is_open one.stage ≡ false }
+        requires given { one.id ≤ self.old.last }
+        requires apart { All (λ other. other.id ≢ one.id) self.old.opened.items }
+        ensures opened { self.new.opened ≡ self.old.opened }
+        ensures waits { (id : ℕ) (octets : List ℕ) → WaitsAmong self.new.departing.items id octets → WaitsAmong self.old.departing.items id octets ⊎ ((one.id ≡ id) × (waiting one.queue ≡ octets)) }
+        ensures last { self.new.last ≡ self.old.last }
+    {
+        self.make_room();
+        self.departing.push_reserved(one);
+    }
+
+    // Where all places are held, lets go the oldest connection that is no longer open.
+    fn make_room(&mut self)
+        ensures room { vec_len self.new.departing < 128 }
+        ensures opened { self.new.opened ≡ self.old.opened }
+        ensures waits { (id : ℕ) (octets : List ℕ) → WaitsAmong self.new.departing.items id octets → WaitsAmong self.old.departing.items id octets }
+        ensures last { self.new.last ≡ self.old.last }
+    {
+        if self.departing.len() >= MOST_DEPARTING {
+            self.departing.remove(0);
+        }
+    }
+}

@@ -1,0 +1,26 @@
+//! Two listening sockets and their connections in one thread, in rounds: what comes goes to a hub, and what the hub puts is
+//! sent.
+#![tactic(auto)]
+
+mod connection;
+mod connections;
+mod driver;
+mod fault;
+mod queue;
+mod serving;
+mod stage;
+mod telling;
+mod transport;
+mod turning;
+
+pub use connection::Connection;
+pub use connections::{Connections, MOST_DEPARTING, MOST_OPEN};
+pub use driver::Driver;
+pub use fault::BindFault;
+pub use queue::{MOST_WAITING, Queue};
+pub use serving::{Served, pace, serve};
+pub use stage::{Received, Sent, Stage};
+pub use transport::Transport;
+
+
+

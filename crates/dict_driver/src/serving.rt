@@ -1,0 +1,70 @@
+// Rounds, one after another.
+ghost use Rattle.std.specs.Prelude.{◌≡◌, ℕ, List};
+ghost use Rattle.dict_driver.specs.Leading.{HasLedOn};
+ghost use Rattle.dict_driver.specs.Rounds.{Waits, Moves};
+ghost use Rattle.dict_driver.specs.Serving.{IsClosedBy, rounds_of};
+
+use crate::driver::Driver;
+use dict_desk::Keeper;
+use std::io;
+use std::time::Duration;
+
+// How long a wait for the sockets lasts at most, in milliseconds: where the count of rounds is given, and where it isn't.
+const SHORT_WAIT: u64 = 50;
+const LONG_WAIT: u64 = 1_000;
+
+/// Why the rounds ended.
+#[derive(Clone, Copy, Debug, PartialEq, Eq)]
+pub enum Served {
+    /// All of them were made.
+    Whole,
+    /// The store of the desk failed, and it answers no more. So many rounds are left.
+    Closed(u64),
+}
+
+/// How many rounds are made, and how long a wait lasts at most, where so many rounds are asked for, or no number is
+/// given.
+pub fn pace(rounds: Option<u32>) -> (u64, Duration)
+    ensures { result.0 ≡ rounds_of rounds }
+{
+    match rounds {
+        Some(count) => (u64::from(count), Duration::from_millis(SHORT_WAIT)),
+        None => (u64::MAX, Duration::from_millis(LONG_WAIT)),
+    }
+}
+
+/// So many rounds over a desk, fewer where it is closed. After a round in which nothing happened, and that isn't the
+/// last, the sockets are waited for, at most as long as `wait`. An error is one of waiting for sockets; the driver and
+/// the desk may be used again.
+pub fn serve<K: Keeper>(
+    driver: &mut Driver,
+    desk: &mut K,
+    rounds: u64,
+    wait: Duration,
+) -> io::Result<Served>
+    ensures led { HasLedOn (K.is_trusted desk.new) (K.shows desk.old) (K.leaves_one_of desk.old) (K.shows desk.new) (K.leaves_one_of desk.new) driver.old.hub driver.new.hub
+        (λ events. Moves driver.old.connections driver.new.connections events) }
+    ensures trust { K.is_trusted desk.new → K.is_trusted desk.old }
+    ensures closed { IsClosedBy (K.is_closed desk.new) rounds result }
+{
+    for made in 0..rounds {
+        let has_moved = driver.round(desk)?;
+        if desk.summary().is_err() {
+            return Ok(Served::Closed(rounds - made - 1));
+        }
+        wait_if(driver, !has_moved && made + 1 < rounds, wait)?;
+    }
+    Ok(Served::Whole)
+}
+
+// Waits for the sockets, where it is asked to.
+fn wait_if(driver: &mut Driver, is_asked: bool, most: Duration) -> io::Result<()>
+    ensures hub { driver.new.hub ≡ driver.old.hub }
+    ensures waits { (id : ℕ) (octets : List ℕ) → Waits driver.new.connections id octets → Waits driver.old.connections id octets }
+    ensures last { driver.new.connections.last ≡ driver.old.connections.last }
+{
+    if is_asked {
+        driver.wait(most)?;
+    }
+    Ok(())
+}

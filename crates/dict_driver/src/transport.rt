@@ -1,0 +1,53 @@
+// What carries a connection's octets.
+ghost use Rattle.std.specs.Prelude.{ℕ, List, Option, None};
+ghost use Rattle.std.specs.Io.{ReadsAtMost, WritesAtMost};
+ghost use Rattle.std.specs.Io.KnownBytes.{Keeps, ReadConsumes, WriteAppends};
+
+use mio::net::TcpStream;
+use std::io::{Read, Result, Write};
+use std::net::Shutdown;
+
+/// Carries octets to a peer and from it. No call waits: one that would is an error of the kind `WouldBlock`.
+pub trait Transport: Drop {
+    /// The octets that it took for the peer, where they are known.
+    ghost taken: { Self → Option (List ℕ) };
+
+    /// The octets of the peer that it will give from here on, where they are known.
+    ghost coming: { Self → Option (List ℕ) };
+
+    /// Takes a front of the octets, and tells how many.
+    fn send(&mut self, octets: &[u8]) -> Result<usize>
+        ensures bound { WritesAtMost result octets.now }
+        ensures taken { WriteAppends (taken self.old) (taken self.new) result octets.now }
+        ensures coming { Keeps (coming self.old) (coming self.new) };
+
+    /// Puts the peer's next octets at the front of the room, and tells how many. Where there is room, 0 means their end.
+    fn receive(&mut self, room: &mut [u8]) -> Result<usize>
+        ensures bound { ReadsAtMost result room.new }
+        ensures taken { Keeps (taken self.old) (taken self.new) }
+        ensures coming { ReadConsumes (coming self.old) (coming self.new) result room.new };
+
+    /// Tells the peer that nothing more is sent.
+    fn end_sending(&mut self) -> Result<()>
+        ensures taken { Keeps (taken self.old) (taken self.new) }
+        ensures coming { Keeps (coming self.old) (coming self.new) };
+}
+
+// Of a socket no octet is known.
+impl Transport for TcpStream {
+    ghost taken = { λ _. None };
+
+    ghost coming = { λ _. None };
+
+    fn send(&mut self, octets: &[u8]) -> Result<usize> {
+        self.write(octets)
+    }
+
+    fn receive(&mut self, room: &mut [u8]) -> Result<usize> {
+        self.read(room)
+    }
+
+    fn end_sending(&mut self) -> Result<()> {
+        self.shutdown(Shutdown::Write)
+    }
+}
