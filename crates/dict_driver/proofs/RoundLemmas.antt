@@ -54,22 +54,22 @@ turn_all_more {T} taken coming old now i one after es fs rising within ids is tu
             let id : one.id ≡ (get_or old k d).id = sym (own_id d) ∙ ap (λ (j : ℕ). (get_or old j d).id) (sym same.1) in
             let own : AreOf (get_or old k d).id fs = subst (λ (j : ℕ). AreOf j fs) id turns.own in
             let events : events_of (get_or old k d).id es ++ fs ≡ events_of (get_or old k d).id (es ++ fs)
-                = sym (events_joined (get_or old k d).id es fs ∙ ap (λ l. events_of (get_or old k d).id es ++ l) (own_all (get_or old k d).id fs own)) in
+            = sym (events_joined (get_or old k d).id es fs ∙ ap (λ l. events_of (get_or old k d).id es ++ l) (own_all (get_or old k d).id fs own)) in
             flows_as (waiting (get_or old k d).queue) (waiting (get_or old k d).queue) (events_of (get_or old k d).id es ++ fs) (events_of (get_or old k d).id (es ++ fs))
-                (waiting after.queue) (waiting (get_or (set now i after) k d).queue)
-                refl events (ap (λ it. waiting it.queue) (sym (get_or-set_at now i k after d same.1 in_now)))
-                (flows_joined (waiting (get_or old k d).queue) (events_of (get_or old k d).id es) (waiting one.queue) fs (waiting after.queue)
-                (subst (λ it. Flows (waiting (get_or old k d).queue) (events_of (get_or old k d).id es) (waiting it.queue)) at (all.flows k d below)) (flows_turn taken coming one after fs turns))
+            (waiting after.queue) (waiting (get_or (set now i after) k d).queue)
+            refl events (ap (λ it. waiting it.queue) (sym (get_or-set_at now i k after d same.1 in_now)))
+            (flows_joined (waiting (get_or old k d).queue) (events_of (get_or old k d).id es) (waiting one.queue) fs (waiting after.queue)
+            (subst (λ it. Flows (waiting (get_or old k d).queue) (events_of (get_or old k d).id es) (waiting it.queue)) at (all.flows k d below)) (flows_turn taken coming one after fs turns))
         | inr other ↦
             let apart : one.id ≢ (get_or old k d).id = λ same. elim (leb_tells i k) [
               | inl above ↦ let lt = rising i k d (omega (arith, above.1, other.1)) below in let e = own_id d in absurd (omega (arith, lt, e, same))
               | inr under ↦ let lt = rising k i d under.1 within in let e = own_id d in absurd (omega (arith, lt, e, same))
             ] in
             let events : events_of (get_or old k d).id es ≡ events_of (get_or old k d).id (es ++ fs)
-                = sym (events_joined (get_or old k d).id es fs ∙ ap (λ l. events_of (get_or old k d).id es ++ l) (own_none one.id (get_or old k d).id fs turns.own apart) ∙ append-nil (events_of (get_or old k d).id es)) in
+            = sym (events_joined (get_or old k d).id es fs ∙ ap (λ l. events_of (get_or old k d).id es ++ l) (own_none one.id (get_or old k d).id fs turns.own apart) ∙ append-nil (events_of (get_or old k d).id es)) in
             flows_as (waiting (get_or old k d).queue) (waiting (get_or old k d).queue) (events_of (get_or old k d).id es) (events_of (get_or old k d).id (es ++ fs))
-                (waiting (get_or now k d).queue) (waiting (get_or (set now i after) k d).queue)
-                refl events (ap (λ it. waiting it.queue) (sym (get_or-set_other now i k after d other.1))) (all.flows k d below)
+            (waiting (get_or now k d).queue) (waiting (get_or (set now i after) k d).queue)
+            refl events (ap (λ it. waiting it.queue) (sym (get_or-set_other now i k after d other.1))) (all.flows k d below)
       ];
       no_other = λ id apart.
           let here : one.id ≢ id = λ same. apart i one within (own_id one ∙ same) in
@@ -93,7 +93,7 @@ depart_all_more taken coming old now i one after len within is turns closed all 
             turns.id ∙ ap (λ it. it.id) (sym at) ∙ before.0,
             λ was. closed (ap (λ it. is_open it.stage) (sym at) ∙ before.1 was),
             flows_joined (waiting (get_or old k d).queue) [] (waiting one.queue) [] (waiting after.queue)
-            (subst (λ it. Flows (waiting (get_or old k d).queue) [] (waiting it.queue)) at before.2) (flows_turn taken coming one after [] turns),
+                (subst (λ it. Flows (waiting (get_or old k d).queue) [] (waiting it.queue)) at before.2) (flows_turn taken coming one after [] turns),
           )
       | inr other ↦ rw (get_or-set_other now i k after d other.1) (all k d below)
     ]

@@ -76,7 +76,7 @@ told_one one old new was is (octets, grows) = record {
 -- an event that was accepted
 pub told_accepted : (T : Type 0) (S0 S1 : Catalogue → Type 0) (L0 L1 : List (Option Catalogue) → Type 0) (a b : Hub) (what : Happening) (out : Out) (failed : Bool) (old new : Queue)
     → (T → (origin : State) (start : Standing) (events : List Accepted) (state : State) (stands : Standing) → Leads origin start events state stands → IsAt a state → S0 stands.catalogue → L0 stands.leaves
-      → LeadsOn S1 L1 origin start events state stands what out failed (record { old = stream_of old; new = stream_of new }) b)
+    → LeadsOn S1 L1 origin start events state stands what out failed (record { old = stream_of old; new = stream_of new }) b)
     → HasLedOn T S0 L0 S1 L1 a b (λ events. IsTold what true old new events)
 told_accepted T S0 S1 L0 L1 a b what out failed old new leads = record {
   led = λ trusted origin start at shown left.

@@ -21,6 +21,3 @@ pub use queue::{MOST_WAITING, Queue};
 pub use serving::{Served, pace, serve};
 pub use stage::{Received, Sent, Stage};
 pub use transport::Transport;
-
-
-

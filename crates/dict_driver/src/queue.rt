@@ -5,8 +5,7 @@ ghost use Rattle.std.specs.Io.KnownBytes.{Keeps};
 use crate::transport::Transport;
 use dict_io::{Sink, SinkFault};
 use std::alloc::Global;
-use std::io;
-use std::mem;
+use std::{io, mem};
 
 /// The most octets that wait for one peer.
 pub const MOST_WAITING: usize = 1_048_576;

@@ -11,6 +11,7 @@ use std::time::Duration;
 
 // How long a wait for the sockets lasts at most, in milliseconds: where the count of rounds is given, and where it isn't.
 const SHORT_WAIT: u64 = 50;
+
 const LONG_WAIT: u64 = 1_000;
 
 /// Why the rounds ended.

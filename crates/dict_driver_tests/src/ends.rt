@@ -1,121 +1,113 @@
 // Peers that don't read, and peers that end their side early.
-use super::serving::{Client, Server, serve};
-use std::alloc::Global;
-use std::net::TcpStream;
+use super::serving::Play;
+use std::net::{Net, TcpStream};
 use std::test::Fail;
 
 // So many lines in one piece of at most 4,096 octets.
 const LINES: usize = 512;
 
-// The octets of the answer to one HELP.
-const HELP_OCTETS: usize = 165;
+// The octets of the answers to these lines.
+const ANSWERS: usize = 512 * 165;
 
-fn piece(alloc: Global) -> Result<Vec<u8>, Fail> {
-    let mut octets = Vec::new(alloc);
+// A client asks many times at once.
+fn ask_for_help(play: &mut Play, who: usize) -> Result<(), Fail> {
     for _ in 0..LINES {
-        octets.extend_from_slice(b"HELP\r\n")?;
+        if play.send(who, b"HELP\r\n").is_err() {
+            return Ok(());
+        }
     }
-    Ok(octets)
+    Ok(play.settle()?)
 }
 
-// Sends pieces and reads nothing until the connection is lost, and tells how many were sent.
-fn drown(alloc: Global, server: &mut Server, client: &mut Client) -> Result<usize, Fail> {
-    let octets = piece(alloc)?;
-    for sent in 0..10_000usize {
-        if server.driver.open_count() < 2 {
-            return Ok(sent);
+// Client 1 asks and reads nothing until its connection is lost. How often it asked.
+fn drown(play: &mut Play) -> Result<usize, Fail> {
+    for asked in 0..1_000usize {
+        if play.driver.open_count() < 2 {
+            return Ok(asked);
         }
-        let _ = client.send(&octets);
-        server.settle()?;
+        ask_for_help(play, 1)?;
     }
-    Ok(10_000)
+    Ok(1_000)
+}
+
+// Client 2 asks so often, ends its side, and then reads. How many octets came to it.
+fn end_early(play: &mut Play, asked: usize) -> Result<usize, Fail> {
+    for _ in 0..asked {
+        ask_for_help(play, 2)?;
+    }
+    play.end_sending(2)?;
+    play.settle()?;
+    if play.driver.departing_count() != 1 {
+        return Err(Fail::new("nothing waits"));
+    }
+    for _ in 0..10_000u32 {
+        let came = play.receive(2)?;
+        if play.has_ended(2) {
+            return Ok(came);
+        }
+        play.settle()?;
+    }
+    Err(Fail::new("no end came"))
+}
+
+fn begin(net: &impl Net<Stream = TcpStream>, play: &mut Play) -> Result<(), Fail> {
+    play.read_at(net)?;
+    play.look(0, b"220 localhost dictcat ready <1@localhost>\r\n")?;
+    play.read_at(net)
 }
 
 // A peer that never reads loses its connection, and the others are answered meanwhile. One that asks a little less and
 // then ends its side gets every answer.
 #[test]
 fn a_peer_that_never_reads(rt: HostRuntime) -> Result<(), Fail> {
-    let alloc = rt.alloc();
-    let mut server = serve(&rt, alloc)?;
-    let mut other = Client::new(alloc, TcpStream::connect(&rt, server.dict)?)?;
-    other.ask(&mut server, b"")?;
-    let mut deaf = Client::new(alloc, TcpStream::connect(&rt, server.dict)?)?;
-    server.settle()?;
-    assert_eq!(rt; server.driver.open_count(), 2);
-    let count = drown(alloc, &mut server, &mut deaf)?;
-    assert!(rt; count > 10);
-    assert!(rt; count < 10_000);
-    other.ask(&mut server, b"STATUS\r\n")?;
-    assert_eq!(rt; other.got.as_slice(), b"210 0 databases\r\n".as_slice());
-    let mut early = Client::new(alloc, TcpStream::connect(&rt, server.dict)?)?;
-    server.settle()?;
-    early.read()?;
-    let octets = piece(alloc)?;
-    let asked = count.saturating_sub(5);
-    for _ in 0..asked {
-        assert_eq!(rt; early.send(&octets)?, octets.len());
-        server.settle()?;
-    }
-    early.end_sending()?;
-    server.settle()?;
-    // It waits, and is no longer open.
-    assert_eq!(rt; server.driver.open_count(), 1);
-    assert_eq!(rt; server.driver.departing_count(), 1);
-    early.got.clear();
-    for _ in 0..10_000u32 {
-        early.read()?;
-        if early.has_ended {
-            break;
-        }
-        server.settle()?;
-    }
-    assert!(rt; early.has_ended);
-    assert_eq!(rt; early.got.len(), asked * LINES * HELP_OCTETS);
+    let mut play = Play::new(&rt, rt.alloc())?;
+    begin(&rt, &mut play)?;
+    let asked = drown(&mut play)?;
+    assert!(rt; asked > 12);
+    assert!(rt; asked < 1_000);
+    play.ask(0, b"STATUS\r\n", b"210 0 databases\r\n")?;
+    play.read_at(&rt)?;
+    play.look(2, b"220 localhost dictcat ready <3@localhost>\r\n")?;
+    let less = asked.saturating_sub(5);
+    let came = end_early(&mut play, less)?;
+    assert_eq!(rt; came, less.saturating_mul(ANSWERS));
     Ok(())
 }
 
 // A client that ends its side behind its last line gets the answer.
 #[test]
 fn an_end_behind_the_last_line(rt: HostRuntime) -> Result<(), Fail> {
-    let alloc = rt.alloc();
-    let mut server = serve(&rt, alloc)?;
-    let mut reader = Client::new(alloc, TcpStream::connect(&rt, server.dict)?)?;
-    reader.send(b"STATUS\r\nSTATUS\r\nunfinished")?;
-    reader.end_sending()?;
-    server.settle()?;
-    reader.read()?;
-    assert_eq!(rt;
-        reader.got.as_slice(),
-        b"220 localhost dictcat ready <1@localhost>\r\n210 0 databases\r\n210 0 databases\r\n".as_slice()
-    );
-    assert!(rt; reader.has_ended);
-    assert_eq!(rt; server.driver.open_count() + server.driver.departing_count(), 0);
+    let mut play = Play::new(&rt, rt.alloc())?;
+    play.read_at(&rt)?;
+    play.look(0, b"220 localhost dictcat ready <1@localhost>\r\n")?;
+    play.send(0, b"STATUS\r\nSTATUS\r\nunfinished")?;
+    play.end_sending(0)?;
+    play.look(0, b"210 0 databases\r\n210 0 databases\r\n")?;
+    assert!(rt; play.has_ended(0));
+    assert_eq!(rt; play.driver.open_count(), 0);
+    assert_eq!(rt; play.driver.departing_count(), 0);
     Ok(())
 }
 
 // An editor that sends on behind a request gets its answer whole, and a clean end.
 #[test]
 fn octets_behind_a_request(rt: HostRuntime) -> Result<(), Fail> {
-    let alloc = rt.alloc();
-    let mut server = serve(&rt, alloc)?;
-    let mut editor = Client::new(alloc, TcpStream::connect(&rt, server.http)?)?;
-    server.settle()?;
+    let mut play = Play::new(&rt, rt.alloc())?;
+    play.edit_at(&rt)?;
     let more = [b'x'; 4_096];
-    editor.send(b"GET /databases HTTP/1.1\r\n\r\n")?;
+    play.send(0, b"GET /databases HTTP/1.1\r\n\r\n")?;
     for _ in 0..100u32 {
-        editor.send(&more)?;
-        server.driver.round(&mut server.desk)?;
+        play.send(0, &more)?;
+        play.round()?;
     }
-    server.settle()?;
-    editor.read()?;
-    assert!(rt; editor.has_ended);
-    assert_eq!(rt;
-        editor.got.as_slice(),
-        b"HTTP/1.1 200 OK\r\nContent-Type: application/json\r\nContent-Length: 2\r\nConnection: close\r\n\r\n[]".as_slice()
-    );
-    assert_eq!(rt; server.driver.departing_count(), 1);
-    editor.end_sending()?;
-    server.settle()?;
-    assert_eq!(rt; server.driver.departing_count(), 0);
+    play.look(
+        0,
+        b"HTTP/1.1 200 OK\r\nContent-Type: application/json\r\nContent-Length: 2\r\nConnection: close\r\n\r\n[]",
+    )?;
+    assert!(rt; play.has_ended(0));
+    assert_eq!(rt; play.driver.departing_count(), 1);
+    play.end_sending(0)?;
+    play.settle()?;
+    assert_eq!(rt; play.driver.departing_count(), 0);
     Ok(())
 }

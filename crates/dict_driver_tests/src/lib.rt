@@ -8,6 +8,8 @@ mod limits;
 #[cfg(test)]
 mod memory;
 #[cfg(test)]
+mod rounds;
+#[cfg(test)]
 mod serving;
 #[cfg(test)]
 mod talks;

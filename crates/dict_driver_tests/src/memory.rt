@@ -35,7 +35,11 @@ impl Transport for InMemory {
     fn receive(&mut self, room: &mut [u8]) -> IoResult<usize> {
         let count = self.coming.len().min(room.len());
         if count == 0 {
-            return if self.has_end { Ok(0) } else { Err(Error::from(ErrorKind::WouldBlock)) };
+            return if self.has_end {
+                Ok(0)
+            } else {
+                Err(Error::from(ErrorKind::WouldBlock))
+            };
         }
         let (front, rest) = self.coming.split_at(count);
         room[..count].copy_from_slice(front);
@@ -81,7 +85,8 @@ fn an_answer_by_tens(rt: HostRuntime) -> Result<(), Fail> {
     assert_eq!(rt; one.stage(), Stage::Open);
     assert!(rt; one.turn(&mut hub, &mut desk, &mut room));
     assert_eq!(rt; one.stage(), Stage::Parting);
-    for _ in 0..4u32 {
+    // Of the greeting 23 octets wait, and then the answer, put later, by calls of its own.
+    for _ in 0..5u32 {
         assert_eq!(rt; one.stage(), Stage::Parting);
         one.depart(&mut room);
     }
@@ -95,7 +100,8 @@ fn a_closed_connection_drains(rt: HostRuntime) -> Result<(), Fail> {
     let alloc = rt.alloc();
     let mut hub = Hub::new(alloc, "localhost")?;
     let mut desk = PlainDesk::new(alloc);
-    let Some(mut one) = connection(alloc, b"QUIT\r\nSTATUS\r\n", true, 100, &mut hub, &mut desk) else {
+    let Some(mut one) = connection(alloc, b"QUIT\r\nSTATUS\r\n", true, 100, &mut hub, &mut desk)
+    else {
         panic!(rt; "refused");
     };
     let mut room = [0u8; 6];

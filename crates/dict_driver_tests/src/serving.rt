@@ -1,8 +1,8 @@
-// A driver over a catalogue in memory, and clients of it.
+// A driver over a catalogue in memory, and clients of it, in one thread.
 use dict_desk::PlainDesk;
 use dict_driver::Driver;
 use std::alloc::Global;
-use std::io::{ErrorKind, Read, Write};
+use std::io::{ErrorKind, Read, Result as IoResult, Write};
 use std::net::{IpAddr, Ipv4Addr, Net, Shutdown, SocketAddr, TcpStream};
 use std::test::Fail;
 
@@ -15,50 +15,21 @@ pub(crate) const INSTALLED: &str =
 pub(crate) const FOUND: &str =
     "150 1 definitions retrieved\r\n151 \"opal\" gem \"Gems\"\r\nopal\r\n  a stone\r\n.\r\n250 ok\r\n";
 
-/// A driver and its desk.
-#[derive(Drop)]
-pub(crate) struct Server {
-    pub(crate) driver: Driver<'static>,
-    pub(crate) desk: PlainDesk,
-    pub(crate) dict: SocketAddr,
-    pub(crate) http: SocketAddr,
-}
-
-/// A driver at two free ports of loopback, over an empty catalogue.
-pub(crate) fn serve(net: &impl Net, alloc: Global) -> Result<Server, Fail> {
-    let any = SocketAddr::new(IpAddr::V4(Ipv4Addr::LOCALHOST), 0);
-    let driver = Driver::bind(net, alloc, any, any, "localhost")?;
-    let (dict, http) = driver.addresses()?;
-    Ok(Server {
-        driver,
-        desk: PlainDesk::new(alloc),
-        dict,
-        http,
-    })
-}
-
-impl Server {
-    /// Rounds until nothing happens in one.
-    pub(crate) fn settle(&mut self) -> Result<(), Fail> {
-        for _ in 0..100_000u32 {
-            if !self.driver.round(&mut self.desk)? {
-                return Ok(());
-            }
-        }
-        Ok(())
-    }
-}
-
 /// One end of a connection, and what came to it.
 #[derive(Drop)]
 pub(crate) struct Client {
     stream: TcpStream,
-    pub(crate) got: Vec<u8>,
-    pub(crate) has_ended: bool,
+    got: Vec<u8>,
+    has_ended: bool,
 }
 
 impl Client {
-    pub(crate) fn new(alloc: Global, stream: TcpStream) -> Result<Client, Fail> {
+    fn new(
+        net: &impl Net<Stream = TcpStream>,
+        alloc: Global,
+        address: SocketAddr,
+    ) -> Result<Client, Fail> {
+        let stream = TcpStream::connect(net, address)?;
         stream.set_nonblocking(true)?;
         stream.set_nodelay(true)?;
         Ok(Client {
@@ -68,22 +39,17 @@ impl Client {
         })
     }
 
-    /// Sends octets, as many as the system takes, and tells how many.
-    pub(crate) fn send(&mut self, octets: &[u8]) -> Result<usize, Fail> {
+    // Sends octets, as many as the system takes, and tells how many.
+    fn send(&mut self, octets: &[u8]) -> IoResult<usize> {
         match self.stream.write(octets) {
             Ok(count) => Ok(count),
             Err(error) if error.kind() == ErrorKind::WouldBlock => Ok(0),
-            Err(error) => Err(error)?,
+            Err(error) => Err(error),
         }
     }
 
-    /// Sends nothing more.
-    pub(crate) fn end_sending(&mut self) -> Result<(), Fail> {
-        Ok(self.stream.shutdown(Shutdown::Write)?)
-    }
-
-    /// Reads what has come. A reset counts as an end.
-    pub(crate) fn read(&mut self) -> Result<(), Fail> {
+    // Reads what has come. A reset counts as an end.
+    fn read(&mut self) -> IoResult<()> {
         let mut room = [0u8; 65_536];
         for _ in 0..1_000u32 {
             match self.stream.read(&mut room) {
@@ -97,17 +63,123 @@ impl Client {
                     self.has_ended = true;
                     return Ok(());
                 }
-                Err(error) => return Err(error)?,
+                Err(error) => return Err(error),
+            }
+        }
+        Ok(())
+    }
+}
+
+/// A driver at two free ports of loopback over an empty catalogue, and clients, in the order in which they came.
+#[derive(Drop)]
+pub(crate) struct Play {
+    alloc: Global,
+    pub(crate) driver: Driver<'static>,
+    pub(crate) desk: PlainDesk,
+    pub(crate) dict: SocketAddr,
+    pub(crate) http: SocketAddr,
+    clients: Vec<Client>,
+}
+
+impl Play {
+    pub(crate) fn new(net: &impl Net<Stream = TcpStream>, alloc: Global) -> Result<Play, Fail> {
+        let free = SocketAddr::new(IpAddr::V4(Ipv4Addr::LOCALHOST), 0);
+        let driver = Driver::bind(net, alloc, free, free, "localhost")?;
+        let (dict, http) = driver.addresses()?;
+        Ok(Play {
+            alloc,
+            driver,
+            desk: PlainDesk::new(alloc),
+            dict,
+            http,
+            clients: Vec::new(alloc),
+        })
+    }
+
+    /// One round. Whether anything happened.
+    pub(crate) fn round(&mut self) -> IoResult<bool> {
+        self.driver.round(&mut self.desk)
+    }
+
+    /// Rounds until nothing happens in one.
+    pub(crate) fn settle(&mut self) -> IoResult<()> {
+        for _ in 0..100_000u32 {
+            if !self.round()? {
+                return Ok(());
             }
         }
         Ok(())
     }
 
-    /// Sends octets, and reads what has come of them once the server has nothing more to do. What came before is let go.
-    pub(crate) fn ask(&mut self, server: &mut Server, octets: &[u8]) -> Result<(), Fail> {
-        self.got.clear();
-        self.send(octets)?;
-        server.settle()?;
-        self.read()
+    /// A client at the socket for readers.
+    pub(crate) fn read_at(&mut self, net: &impl Net<Stream = TcpStream>) -> Result<(), Fail> {
+        self.clients.push(Client::new(net, self.alloc, self.dict)?)?;
+        Ok(self.settle()?)
+    }
+
+    /// A client at the socket for editors.
+    pub(crate) fn edit_at(&mut self, net: &impl Net<Stream = TcpStream>) -> Result<(), Fail> {
+        self.clients.push(Client::new(net, self.alloc, self.http)?)?;
+        Ok(self.settle()?)
+    }
+
+    /// Lets the last client go.
+    pub(crate) fn leave(&mut self) -> IoResult<()> {
+        drop(self.clients.pop());
+        self.settle()
+    }
+
+    /// Sends octets from a client, and tells how many the system took.
+    pub(crate) fn send(&mut self, who: usize, octets: &[u8]) -> IoResult<usize> {
+        match self.clients.get_mut(who) {
+            Some(client) => client.send(octets),
+            None => Ok(0),
+        }
+    }
+
+    /// A client sends nothing more.
+    pub(crate) fn end_sending(&mut self, who: usize) -> IoResult<()> {
+        match self.clients.get_mut(who) {
+            Some(client) => client.stream.shutdown(Shutdown::Write),
+            None => Ok(()),
+        }
+    }
+
+    /// Reads what has come to a client, and tells how many octets came in all.
+    pub(crate) fn receive(&mut self, who: usize) -> IoResult<usize> {
+        match self.clients.get_mut(who) {
+            Some(client) => {
+                client.read()?;
+                Ok(client.got.len())
+            }
+            None => Ok(0),
+        }
+    }
+
+    /// Whether the end of what is sent to a client was read.
+    pub(crate) fn has_ended(&self, who: usize) -> bool {
+        match self.clients.get(who) {
+            Some(client) => client.has_ended,
+            None => false,
+        }
+    }
+
+    /// Rounds until nothing happens, and then these octets alone have come to a client since the last look.
+    pub(crate) fn look(&mut self, who: usize, want: &[u8]) -> Result<(), Fail> {
+        self.settle()?;
+        self.receive(who)?;
+        match self.clients.get_mut(who) {
+            Some(client) if client.got.as_slice() == want => {
+                client.got.clear();
+                Ok(())
+            }
+            _ => Err(Fail::new("other octets came")),
+        }
+    }
+
+    /// Sends octets from a client, and then has a look.
+    pub(crate) fn ask(&mut self, who: usize, octets: &[u8], want: &[u8]) -> Result<(), Fail> {
+        self.send(who, octets)?;
+        self.look(who, want)
     }
 }

@@ -22,9 +22,9 @@ pub returns-in_err-wait_if-clause-led : goal.returns-in_err-wait_if-clause-led
 returns-in_err-wait_if-clause-led g c =
     led_joined
     (led_joined {R = λ events. Moves c.args.driver.now.connections c.round.new.self.connections events} c.loop-made.invariant.led c.round.ensures.led c.round.ensures.trust
-      (λ es fs before then. moves_joined c.args.driver.now.connections c.loop-made.driver.connections c.round.new.self.connections es fs before then))
+    (λ es fs before then. moves_joined c.args.driver.now.connections c.loop-made.driver.connections c.round.new.self.connections es fs before then))
     (led_none {P = λ events. Moves c.round.new.self.connections c.wait_if.new.driver.connections events} (λ state at. subst (λ h. IsAt h state) (sym c.wait_if.ensures.hub) at)
-      (moves_same c.round.new.self.connections c.wait_if.new.driver.connections c.wait_if.ensures.last c.wait_if.ensures.waits))
+    (moves_same c.round.new.self.connections c.wait_if.new.driver.connections c.wait_if.ensures.last c.wait_if.ensures.waits))
     (λ trusted. trusted)
     (λ es fs before then. moves_joined c.args.driver.now.connections c.round.new.self.connections c.wait_if.new.driver.connections es fs before then)
 
@@ -33,9 +33,9 @@ loop-made-preserved g c = record {
   trust = λ trusted. c.loop-made.invariant.trust (c.round.ensures.trust trusted);
   led = led_joined
       (led_joined {R = λ events. Moves c.args.driver.now.connections c.round.new.self.connections events} c.loop-made.invariant.led c.round.ensures.led c.round.ensures.trust
-        (λ es fs before then. moves_joined c.args.driver.now.connections c.loop-made.driver.connections c.round.new.self.connections es fs before then))
+      (λ es fs before then. moves_joined c.args.driver.now.connections c.loop-made.driver.connections c.round.new.self.connections es fs before then))
       (led_none {P = λ events. Moves c.round.new.self.connections c.wait_if.new.driver.connections events} (λ state at. subst (λ h. IsAt h state) (sym c.wait_if.ensures.hub) at)
-        (moves_same c.round.new.self.connections c.wait_if.new.driver.connections c.wait_if.ensures.last c.wait_if.ensures.waits))
+      (moves_same c.round.new.self.connections c.wait_if.new.driver.connections c.wait_if.ensures.last c.wait_if.ensures.waits))
       (λ trusted. trusted)
       (λ es fs before then. moves_joined c.args.driver.now.connections c.round.new.self.connections c.wait_if.new.driver.connections es fs before then);
 }
