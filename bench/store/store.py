@@ -12,13 +12,16 @@ HERE = pathlib.Path(__file__).resolve().parent
 
 
 def run(program, *words):
-    """What the program told, by its words, and its peak memory in MB."""
+    """Seconds by the clock and by the processor, by the program's words, and its peak memory in MB."""
     process = subprocess.Popen([program, *map(str, words)], stdout=subprocess.PIPE, text=True)
     told = process.stdout.read()
     _, status, usage = os.wait4(process.pid, 0)
     assert status == 0 and "fault" not in told, (words, status, told)
-    lines = dict(line.split()[:2] for line in told.splitlines())
-    return {word: int(time) / 1e6 for word, time in lines.items()}, usage.ru_maxrss / 1024
+    times, used = {}, 0
+    for word, clock, processor in (line.split() for line in told.splitlines()):
+        times[word] = f"{int(clock) / 1e6:.3f} s ({(int(processor) - used) / 1e6:.3f} s)"
+        used = int(processor)
+    return times, usage.ru_maxrss / 1024
 
 
 def sizes(path):
@@ -54,24 +57,29 @@ def beside(path, made):
     return inserted, time.monotonic() - start, checked
 
 
+def opened(program, path, what):
+    """Prints what an opening takes, by `sqlite` alone and by the desk with it."""
+    alone, least = run(program, "connect", path)
+    told, memory = run(program, "open", path)
+    print(f"{what}: connected in {alone['connected']}, {least:.0f} MB; opened in {told['opened']}, {memory:.0f} MB", flush=True)
+
+
 def measure(program, work, lines, octets):
-    """Makes a database of so many lines, installs it three times into a new file and opens that."""
+    """Makes a database of so many lines, installs it five times into a new file, under two names, and opens that."""
     path, index, text = work / f"{lines}.db", work / "made.index", work / "made.dict"
     subprocess.run([sys.executable, HERE.parent / "make_database.py", str(lines), str(octets), index, text], check=True)
     told, memory = run(program, "create", path)
-    print(f"{lines} lines: made in {told['opened']:.3f} s, {memory:.0f} MB")
-    for number in (1, 2, 3):
-        told, memory = run(program, "install", path, f"r{number}", index, text)
-        print(
-            f"{lines} lines: install {number} in {told['installed']:.3f} s, after opening in {told['opened']:.3f} s; "
-            f"{memory:.0f} MB; file and log in MB: {', '.join(sizes(path))}",
-            flush=True,
-        )
-        told, memory = run(program, "open", path)
-        print(f"{lines} lines: opened with {min(number, 2)} editions in {told['opened']:.3f} s, {memory:.0f} MB", flush=True)
+    print(f"{lines} lines: made in {told['opened']}, {memory:.0f} MB")
+    for number, name in enumerate(("made", "made", "made", "more", "more"), 1):
+        told, memory = run(program, "install", path, name, f"r{number}", index, text)
+        print(f"{lines} lines: install {number} in {told['installed']}, {memory:.0f} MB; file and log in MB: {', '.join(sizes(path))}")
+        if number != 3:
+            opened(program, path, f"{lines} lines, {min(number, 2) if number < 4 else number - 1} editions")
         if number == 1:
             inserted, read, checked = beside(path, work / f"{lines}.beside.db")
             print(f"{lines} lines: sqlite3: inserted in {inserted:.3f} s, read in {read:.3f} s, checked in {checked:.3f} s")
+    told, memory = run(program, "install", path, "made", "r6", index, text, 10)
+    print(f"{lines} lines: ten installs by one process in {told['installed']}, {memory:.0f} MB; file and log in MB: {', '.join(sizes(path))}")
 
 
 def main():

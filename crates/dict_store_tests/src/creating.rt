@@ -1,9 +1,9 @@
 //! A store is made, or refused.
 
+use crate::desks::{desk_over, new_desk};
 use dict_desk::Fault;
 use dict_file::create;
 use dict_sql::read::marks;
-use dict_store::Desk;
 use dict_tables::{StoreTable, has_table};
 use sqlite::{Alter, Connection, Error};
 use std::alloc::Global;
@@ -15,7 +15,7 @@ fn number<S: Alter>(conn: &mut Connection<S>, text: &str) -> Result<i64, Error> 
 }
 
 /// Makes a store where the connection is in no transaction.
-pub(crate) fn make<S: Alter>(conn: &mut Connection<S>) -> Result<(), Fault> {
+fn make<S: Alter>(conn: &mut Connection<S>) -> Result<(), Fault> {
     if !conn.is_autocommit() {
         return Err(Fault::Closed);
     }
@@ -83,20 +83,11 @@ fn names_in_use(rt: HostRuntime) -> Result<(), Fail> {
 #[test]
 fn desk_over_memory(rt: HostRuntime) -> Result<(), Fail> {
     let alloc = rt.alloc();
-    let conn = Connection::open_in_memory(alloc)?;
-    if !conn.is_autocommit() {
-        return Err("in a transaction")?;
-    }
-    let Ok(desk) = Desk::create(alloc, conn) else {
-        return Err("not made")?;
-    };
+    let desk = new_desk(alloc)?;
     assert!(rt; !desk.is_closed());
     let mut conn = desk.into_connection();
     assert!(rt; has_mark(alloc, &mut conn)?);
-    if !conn.is_autocommit() {
-        return Err("in a transaction")?;
-    }
-    let Err((_, fault)) = Desk::create(alloc, conn) else {
+    let Err((_, fault)) = desk_over(alloc, conn, true) else {
         return Err("made twice")?;
     };
     assert_eq!(rt; fault, Fault::NotACatalogue);

@@ -2,14 +2,20 @@
 #![tactic(auto)]
 
 #[cfg(test)]
+mod asked;
+#[cfg(test)]
+mod commands;
+#[cfg(test)]
 mod creating;
 #[cfg(test)]
-mod editing;
+mod damaged;
 #[cfg(test)]
-mod hiccup;
+mod desks;
+#[cfg(test)]
+mod fails_once;
 #[cfg(test)]
 mod looking;
 #[cfg(test)]
-mod stops;
+mod shown;
 #[cfg(test)]
-mod sweeping;
+mod stops;

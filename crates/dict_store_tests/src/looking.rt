@@ -1,56 +1,15 @@
 //! What readers ask of a desk, and of one edition whose rows a text puts into the tables.
 
-use dict_desk::{End, Fault, Lookup, RowSink, Turn, What};
+use crate::desks::new_desk;
+use crate::shown::Rows;
+use dict_desk::{End, Fault, Lookup, What};
 use dict_lookup::{count, find, heads, info};
 use dict_match::{Strategy, key_of};
-use dict_store::Desk;
 use dict_tables::{StoreTable, has_table};
 use sqlite::{Alter, Connection};
-use std::alloc::{AllocError, Global};
+use std::alloc::Global;
 use std::process::Abort;
 use std::test::Fail;
-
-// Collects rows, and stops at the last of so many.
-#[derive(Drop)]
-struct Rows {
-    text: String,
-    left: usize,
-}
-
-impl RowSink for Rows {
-    ghost takes = { λ _ _ _. Unit {0} };
-
-    ghost stops = { λ _ _ _. Unit {0} };
-
-    fn take(&mut self, headword: &str, body: &[u8]) -> Turn {
-        self.left = self.left.saturating_sub(1);
-        if push_row(&mut self.text, headword, body).is_err() || self.left == 0 {
-            Turn::Stop
-        } else {
-            Turn::More
-        }
-    }
-
-    ghost none = { λ s. tt };
-
-    ghost joined = { λ a b c rows more h k. tt };
-
-    ghost stopped = { λ a b c rows more rest h k. tt };
-}
-
-fn push_row(text: &mut String, headword: &str, body: &[u8]) -> Result<(), AllocError> {
-    text.push_str(headword)?;
-    text.push('=')?;
-    text.push_str(str::from_utf8(body).unwrap_or("not UTF-8"))?;
-    text.push(';')
-}
-
-fn collector(alloc: Global, most: usize) -> Rows {
-    Rows {
-        text: String::new(alloc),
-        left: most,
-    }
-}
 
 // The edition with number 2 has three entries, and a record of another edition stands before them.
 static EDITIONS: &str = "
@@ -64,14 +23,7 @@ static EDITIONS: &str = "
 ";
 
 fn filled(alloc: Global) -> Result<Connection<sqlite::MemStore>, Fail> {
-    let conn = Connection::open_in_memory(alloc)?;
-    if !conn.is_autocommit() {
-        return Err("in a transaction")?;
-    }
-    let Ok(desk) = Desk::create(alloc, conn) else {
-        return Err("not made")?;
-    };
-    let mut conn = desk.into_connection();
+    let mut conn = new_desk(alloc)?.into_connection();
     conn.execute_batch(EDITIONS)?;
     Ok(conn)
 }
@@ -86,15 +38,14 @@ fn found<S: Alter>(
     most: usize,
 ) -> Result<(String, End), Fault> {
     let query = key_of(alloc, query)?;
-    let mut rows = collector(alloc, most);
+    let mut rows = Rows::new(alloc, most);
     if !has_table(conn.schema(), StoreTable::Edition)
         || !has_table(conn.schema(), StoreTable::Entry)
     {
         return Err(Fault::Damaged);
     }
     let end = find(alloc, conn, number, strategy, &query, &mut rows)?;
-    let Rows { text, left: _ } = rows;
-    Ok((text, end))
+    Ok((rows.into_text(), end))
 }
 
 #[test]
@@ -120,7 +71,7 @@ fn headwords_of_an_edition(rt: HostRuntime) -> Result<(), Fail> {
     let alloc = rt.alloc();
     let mut conn = filled(alloc)?;
     let query = key_of(alloc, "o")?;
-    let mut listed = collector(alloc, 9);
+    let mut listed = Rows::new(alloc, 9);
     if !has_table(conn.schema(), StoreTable::Edition)
         || !has_table(conn.schema(), StoreTable::Entry)
     {
@@ -134,7 +85,7 @@ fn headwords_of_an_edition(rt: HostRuntime) -> Result<(), Fail> {
         &query,
         &mut listed,
     )?;
-    assert_eq!(rt; listed.text.as_str(), "opal=;Fire Opal=;dot=;");
+    assert_eq!(rt; listed.into_text().as_str(), "opal=;Fire Opal=;dot=;");
     assert_eq!(rt; end, End::All);
     Ok(())
 }
@@ -187,14 +138,14 @@ fn headwords_are_counted_once(rt: HostRuntime) -> Result<(), Fail> {
 fn info_of_an_edition(rt: HostRuntime) -> Result<(), Fail> {
     let alloc = rt.alloc();
     let mut conn = filled(alloc)?;
-    let mut told = collector(alloc, 9);
+    let mut told = Rows::new(alloc, 9);
     if !has_table(conn.schema(), StoreTable::Edition)
         || !has_table(conn.schema(), StoreTable::Entry)
     {
         return Err("no tables")?;
     }
     let end = info(alloc, &mut conn, 2, &mut told)?;
-    assert_eq!(rt; told.text.as_str(), "=of gems;");
+    assert_eq!(rt; told.into_text().as_str(), "=of gems;");
     assert_eq!(rt; end, End::All);
     Ok(())
 }
@@ -202,7 +153,7 @@ fn info_of_an_edition(rt: HostRuntime) -> Result<(), Fail> {
 // Nothing is found in a desk of no editions.
 fn finds_nothing<L: Lookup>(rt: &impl Abort, alloc: Global, desk: &mut L) -> Result<(), Fault> {
     let query = key_of(alloc, "opal")?;
-    let mut none = collector(alloc, 9);
+    let mut none = Rows::new(alloc, 9);
     assert_eq!(rt; desk.summary()?.items.len(), 0);
     assert_eq!(rt; desk.find(1, Strategy::Exact, &query, &mut none)?, End::All);
     assert_eq!(rt;
@@ -211,20 +162,14 @@ fn finds_nothing<L: Lookup>(rt: &impl Abort, alloc: Global, desk: &mut L) -> Res
     );
     assert_eq!(rt; desk.info(1, &mut none)?, End::All);
     assert_eq!(rt; desk.count(1, Strategy::Exact, &query, What::Headwords)?, 0);
-    assert_eq!(rt; none.text.as_str(), "");
+    assert_eq!(rt; none.into_text().as_str(), "");
     Ok(())
 }
 
 #[test]
 fn empty_desk(rt: HostRuntime) -> Result<(), Fail> {
     let alloc = rt.alloc();
-    let conn = Connection::open_in_memory(alloc)?;
-    if !conn.is_autocommit() {
-        return Err("in a transaction")?;
-    }
-    let Ok(mut desk) = Desk::create(alloc, conn) else {
-        return Err("not made")?;
-    };
+    let mut desk = new_desk(alloc)?;
     finds_nothing(&rt, alloc, &mut desk)?;
     assert!(rt; !desk.is_closed());
     Ok(())

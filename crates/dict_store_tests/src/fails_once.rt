@@ -1,4 +1,4 @@
-//! A disk that fails one call, and goes on.
+//! A disk that fails one call, and goes on. It counts its calls.
 ghost use Rattle.std.specs.Prelude.{◌≡◌, ◌+◌, ◌&&◌, false, not};
 ghost use Rattle.sqlite_disk.specs.Disk.{CountsFault};
 ghost use Rattle.sqlite_disk.specs.Refusal.{finds_no_room};
@@ -7,45 +7,49 @@ use sqlite_disk::{Crash, Disk, Tally};
 use std::io;
 
 #[derive(Drop)]
-pub struct Hiccup<D: Disk> {
+pub struct FailsOnce<D: Disk> {
     inner: D,
-    calls_left: u64,
+    fails_at: u64,
+    calls: u64,
     refused: u64,
     sync_refused: bool,
 }
 
-impl<D: Disk> Hiccup<D> {
-    pub(crate) fn new(inner: D, calls: u64) -> Hiccup<D>
+impl<D: Disk> FailsOnce<D> {
+    /// Calls are counted from 0.
+    pub(crate) fn new(inner: D, fails_at: u64) -> FailsOnce<D>
         ensures inner { result.inner ≡ inner }
         ensures fresh { (result.refused ≡ 0) × (result.sync_refused ≡ false) }
     {
-        Hiccup {
+        FailsOnce {
             inner,
-            calls_left: calls,
+            fails_at,
+            calls: 0,
             refused: 0,
             sync_refused: false,
         }
     }
 
-    pub(crate) fn refused(&self) -> u64 {
-        self.refused
+    /// How many calls there were, the one that failed counted.
+    pub(crate) fn calls(&self) -> u64 {
+        self.calls
     }
 }
 
-fn spend(calls_left: &mut u64, refused: &mut u64) -> io::Result<()>
+fn count(fails_at: u64, calls: &mut u64, refused: &mut u64) -> io::Result<()>
     ensures faults { CountsFault result refused.old refused.new }
     ensures kind { finds_no_room result ≡ false }
 {
-    if *calls_left == 0 {
-        *calls_left = u64::MAX;
+    let call = *calls;
+    *calls = call.saturating_add(1);
+    if call == fails_at {
         *refused = refused.saturating_add(1);
         return Err(io::Error::other("one call fails"));
     }
-    *calls_left -= 1;
     Ok(())
 }
 
-impl<D: Disk> Disk for Hiccup<D> {
+impl<D: Disk> Disk for FailsOnce<D> {
     ghost seen = { λ f. D.Disk.seen f.inner };
 
     ghost may_leave = { λ f. D.Disk.may_leave f.inner };
@@ -87,32 +91,32 @@ impl<D: Disk> Disk for Hiccup<D> {
     }
 
     fn len(&mut self) -> io::Result<usize> {
-        spend(&mut self.calls_left, &mut self.refused)?;
+        count(self.fails_at, &mut self.calls, &mut self.refused)?;
         self.inner.len()
     }
 
     fn read_at(&mut self, at: usize, buf: &mut [u8]) -> io::Result<()> {
-        spend(&mut self.calls_left, &mut self.refused)?;
+        count(self.fails_at, &mut self.calls, &mut self.refused)?;
         self.inner.read_at(at, buf)
     }
 
     fn read_checked(&mut self, key: u64, want: u64, at: usize, buf: &mut [u8]) -> io::Result<()> {
-        spend(&mut self.calls_left, &mut self.refused)?;
+        count(self.fails_at, &mut self.calls, &mut self.refused)?;
         self.inner.read_checked(key, want, at, buf)
     }
 
     fn write_at(&mut self, at: usize, bytes: &[u8]) -> io::Result<()> {
-        spend(&mut self.calls_left, &mut self.refused)?;
+        count(self.fails_at, &mut self.calls, &mut self.refused)?;
         self.inner.write_at(at, bytes)
     }
 
     fn set_len(&mut self, len: usize) -> io::Result<()> {
-        spend(&mut self.calls_left, &mut self.refused)?;
+        count(self.fails_at, &mut self.calls, &mut self.refused)?;
         self.inner.set_len(len)
     }
 
     fn sync(&mut self) -> io::Result<()> {
-        if let Err(error) = spend(&mut self.calls_left, &mut self.refused) {
+        if let Err(error) = count(self.fails_at, &mut self.calls, &mut self.refused) {
             self.sync_refused = true;
             return Err(error);
         }
@@ -120,10 +124,10 @@ impl<D: Disk> Disk for Hiccup<D> {
     }
 }
 
-impl<D: Crash> Crash for Hiccup<D> {
+impl<D: Crash> Crash for FailsOnce<D> {
     fn crash(&mut self) {
         self.inner.crash();
-        self.calls_left = u64::MAX;
+        self.fails_at = u64::MAX;
         self.sync_refused = false;
     }
 }

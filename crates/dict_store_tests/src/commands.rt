@@ -1,0 +1,379 @@
+//! The same commands over a catalogue in memory and over one file.
+
+use crate::asked::{Asked, Editions, read_editions, told};
+use crate::desks::{accept_all, adopted, dumped, new_desk};
+use crate::shown::{listed, shown};
+use dict_catalogue::Command;
+use dict_desk::{Keeper, PlainDesk};
+use std::alloc::{AllocError, Global};
+use std::process::Abort;
+use std::test::Fail;
+
+/// An id, a command, its answer, and the items after it.
+#[derive(Clone, Copy)]
+struct Row(&'static str, Asked, &'static str, &'static str);
+
+// What the desk answers to a command under this id.
+fn answer<K: Keeper>(
+    alloc: Global,
+    desk: &mut K,
+    editions: &Editions,
+    id: &str,
+    asked: Asked,
+) -> Result<String, AllocError> {
+    let answer = desk.apply(id, &asked.command(editions));
+    told(alloc, &answer)
+}
+
+/// An id, a command and its answer.
+type Answered = (&'static str, Asked, &'static str);
+
+fn answer_all<K: Keeper>(
+    rt: &impl Abort,
+    alloc: Global,
+    desk: &mut K,
+    editions: &Editions,
+    asked: &[Answered],
+) -> Result<(), Fail> {
+    for (id, one, wanted) in asked {
+        let told = answer(alloc, desk, editions, id, *one)?;
+        assert_eq!(rt; told.as_str(), *wanted);
+    }
+    Ok(())
+}
+
+fn play<K: Keeper>(
+    rt: &impl Abort,
+    alloc: Global,
+    desk: &mut K,
+    editions: &Editions,
+    rows: &[Row],
+) -> Result<(), Fail> {
+    for Row(id, asked, wanted, after) in rows {
+        let told = answer(alloc, desk, editions, id, *asked)?;
+        assert_eq!(rt; told.as_str(), *wanted, "{id:?}");
+        let items = listed(alloc, desk.summary()?)?;
+        assert_eq!(rt; items.as_str(), *after, "{id:?}");
+    }
+    Ok(())
+}
+
+// Plays the rows over lists and over a file, which show the same then, the file opened anew too.
+fn play_on_both(
+    rt: &impl Abort,
+    alloc: Global,
+    editions: &Editions,
+    rows: &[Row],
+) -> Result<(), Fail> {
+    let mut plain = PlainDesk::new(alloc);
+    play(rt, alloc, &mut plain, editions, rows)?;
+    let wanted = shown(alloc, &mut plain)?;
+    let mut desk = new_desk(alloc)?;
+    play(rt, alloc, &mut desk, editions, rows)?;
+    assert_eq!(rt; shown(alloc, &mut desk)?.as_str(), wanted.as_str());
+    assert_eq!(rt; desk.audit(), Ok(()));
+    let mut again = adopted(alloc, desk.into_connection())?;
+    assert_eq!(rt; shown(alloc, &mut again)?.as_str(), wanted.as_str());
+    Ok(())
+}
+
+static SWAPPED: [Row; 7] = [
+    Row(
+        "a",
+        Asked::Gems("gem"),
+        "1 Install gem Some(1)",
+        "gem Gems 1; ",
+    ),
+    Row("x", Asked::Rollback("gem"), "23", "gem Gems 1; "),
+    Row(
+        "b",
+        Asked::Gems("gem"),
+        "2 Install gem Some(2)",
+        "gem Gems 2/1; ",
+    ),
+    Row(
+        "c",
+        Asked::Rollback("gem"),
+        "3 Rollback gem Some(1)",
+        "gem Gems 1/2; ",
+    ),
+    Row(
+        "d",
+        Asked::Rollback("gem"),
+        "4 Rollback gem Some(2)",
+        "gem Gems 2/1; ",
+    ),
+    Row(
+        "e",
+        Asked::Ores("gem"),
+        "5 Install gem Some(3)",
+        "gem Ores 3/2; ",
+    ),
+    Row(
+        "a",
+        Asked::Retire("gem"),
+        "1 Install gem Some(1)",
+        "gem Ores 3/2; ",
+    ),
+];
+
+static ONCE: [Row; 5] = [
+    Row(
+        "a",
+        Asked::Gems("gem"),
+        "1 Install gem Some(1)",
+        "gem Gems 1; ",
+    ),
+    Row(
+        "a",
+        Asked::Ores("ore"),
+        "1 Install gem Some(1)",
+        "gem Gems 1; ",
+    ),
+    Row("e", Asked::Rollback("gem"), "23", "gem Gems 1; "),
+    Row("e", Asked::Retire("gem"), "2 Retire gem None", ""),
+    Row("e", Asked::Rollback("gem"), "2 Retire gem None", ""),
+];
+
+static ORDERED: [Row; 9] = [
+    Row(
+        "a",
+        Asked::Ores("ore"),
+        "1 Install ore Some(1)",
+        "ore Ores 1; ",
+    ),
+    Row(
+        "b",
+        Asked::Gems("gem"),
+        "2 Install gem Some(2)",
+        "ore Ores 1; gem Gems 2; ",
+    ),
+    Row(
+        "c",
+        Asked::Put("all", "All", &["ore", "gem"]),
+        "3 Virtual all None",
+        "ore Ores 1; gem Gems 2; all All +ore +gem; ",
+    ),
+    Row(
+        "d",
+        Asked::Retire("gem"),
+        "24",
+        "ore Ores 1; gem Gems 2; all All +ore +gem; ",
+    ),
+    Row(
+        "d",
+        Asked::Place("gem", 0),
+        "4 Place gem None",
+        "gem Gems 2; ore Ores 1; all All +ore +gem; ",
+    ),
+    Row(
+        "e",
+        Asked::Put("all", "Gems alone", &["gem"]),
+        "5 Virtual all None",
+        "gem Gems 2; ore Ores 1; all Gems alone +gem; ",
+    ),
+    Row(
+        "f",
+        Asked::Retire("all"),
+        "6 Retire all None",
+        "gem Gems 2; ore Ores 1; ",
+    ),
+    Row(
+        "g",
+        Asked::Retire("gem"),
+        "7 Retire gem None",
+        "ore Ores 1; ",
+    ),
+    Row("h", Asked::Retire("ore"), "8 Retire ore None", ""),
+];
+
+#[test]
+fn commands_on_both_desks(rt: HostRuntime) -> Result<(), Fail> {
+    let alloc = rt.alloc();
+    let editions = read_editions(alloc)?;
+    play_on_both(&rt, alloc, &editions, &SWAPPED)?;
+    play_on_both(&rt, alloc, &editions, &ONCE)?;
+    play_on_both(&rt, alloc, &editions, &ORDERED)
+}
+
+static CATALOGUE: [(&str, Asked); 3] = [
+    ("a", Asked::Ores("ore")),
+    ("b", Asked::Gems("gem")),
+    ("c", Asked::Put("all", "All", &["ore", "gem"])),
+];
+
+static REFUSED: [Answered; 19] = [
+    ("x", Asked::Gems("Gem"), "20"),
+    ("x", Asked::Gems("all"), "22"),
+    ("x", Asked::Rollback("Gem"), "20"),
+    ("x", Asked::Rollback("tin"), "21"),
+    ("x", Asked::Rollback("all"), "22"),
+    ("x", Asked::Rollback("gem"), "23"),
+    ("x", Asked::Retire("Gem"), "20"),
+    ("x", Asked::Retire("tin"), "21"),
+    ("x", Asked::Retire("gem"), "24"),
+    ("x", Asked::Put("Gem", "Gem", &["gem"]), "20"),
+    ("x", Asked::Put("gem", "Gem", &["gem"]), "32"),
+    ("x", Asked::Put("all", " All", &["gem"]), "29"),
+    ("x", Asked::Put("all", "All", &[]), "28"),
+    ("x", Asked::Put("all", "All", &["zz"; 65]), "28"),
+    ("x", Asked::Put("mix", "Mix", &["all"]), "26"),
+    ("x", Asked::Put("all", "All", &["gem", "gem"]), "27"),
+    ("x", Asked::Place("tin", 0), "21"),
+    ("x", Asked::Place("gem", 3), "30"),
+    ("no id", Asked::Retire("all"), "31"),
+];
+
+#[test]
+fn refusals_leave_all_rows(rt: HostRuntime) -> Result<(), Fail> {
+    let alloc = rt.alloc();
+    let editions = read_editions(alloc)?;
+    let mut plain = PlainDesk::new(alloc);
+    accept_all(&mut plain, &editions, &CATALOGUE)?;
+    answer_all(&rt, alloc, &mut plain, &editions, &REFUSED)?;
+    assert!(rt; matches!(plain.kept("x"), Ok(None)));
+    let mut desk = new_desk(alloc)?;
+    accept_all(&mut desk, &editions, &CATALOGUE)?;
+    let mut conn = desk.into_connection();
+    let before = dumped(alloc, &mut conn)?;
+    let mut desk = adopted(alloc, conn)?;
+    answer_all(&rt, alloc, &mut desk, &editions, &REFUSED)?;
+    assert!(rt; matches!(desk.kept("x"), Ok(None)));
+    let mut conn = desk.into_connection();
+    assert_eq!(rt; dumped(alloc, &mut conn)?.as_str(), before.as_str());
+    Ok(())
+}
+
+static FIRST: [Answered; 1] = [("a", Asked::Gems("gem"), "1 Install gem Some(1)")];
+
+static FULL: [Answered; 3] = [
+    ("x", Asked::Ores("ore"), "25"),
+    ("x", Asked::Put("more", "More", &["gem"]), "25"),
+    (
+        "x",
+        Asked::Put("all9", "Gems", &["gem"]),
+        "65 Virtual all9 None",
+    ),
+];
+
+// One database, and 63 lists of it: a new name finds no place, and one that is there does.
+fn fill<K: Keeper>(
+    rt: &impl Abort,
+    alloc: Global,
+    desk: &mut K,
+    editions: &Editions,
+) -> Result<(), Fail> {
+    answer_all(rt, alloc, desk, editions, &FIRST)?;
+    for place in 1..64u64 {
+        let name = format!(in alloc; "all{place}")?;
+        let put = Command::PutVirtual {
+            name: name.as_str(),
+            title: "All",
+            members: &["gem"],
+        };
+        let _kept = desk.apply(name.as_str(), &put)?;
+    }
+    answer_all(rt, alloc, desk, editions, &FULL)
+}
+
+#[test]
+fn sixty_four_items(rt: HostRuntime) -> Result<(), Fail> {
+    let alloc = rt.alloc();
+    let editions = read_editions(alloc)?;
+    fill(&rt, alloc, &mut PlainDesk::new(alloc), &editions)?;
+    let mut desk = new_desk(alloc)?;
+    fill(&rt, alloc, &mut desk, &editions)?;
+    assert_eq!(rt; desk.audit(), Ok(()));
+    Ok(())
+}
+
+static KEPT: [Row; 6] = [
+    Row(
+        "a",
+        Asked::Gems("gem"),
+        "1 Install gem Some(1)",
+        "gem Gems 1; ",
+    ),
+    Row(
+        "b",
+        Asked::Ores("gem"),
+        "2 Install gem Some(2)",
+        "gem Ores 2/1; ",
+    ),
+    Row(
+        "c",
+        Asked::Rollback("gem"),
+        "3 Rollback gem Some(1)",
+        "gem Gems 1/2; ",
+    ),
+    Row(
+        "d",
+        Asked::Put("all", "All", &["gem"]),
+        "4 Virtual all None",
+        "gem Gems 1/2; all All +gem; ",
+    ),
+    Row(
+        "e",
+        Asked::Place("all", 0),
+        "5 Place all None",
+        "all All +gem; gem Gems 1/2; ",
+    ),
+    Row(
+        "f",
+        Asked::Retire("all"),
+        "6 Retire all None",
+        "gem Gems 1/2; ",
+    ),
+];
+
+#[test]
+fn kept_replies_are_given_again(rt: HostRuntime) -> Result<(), Fail> {
+    let alloc = rt.alloc();
+    let editions = read_editions(alloc)?;
+    let mut desk = new_desk(alloc)?;
+    play(&rt, alloc, &mut desk, &editions, &KEPT)?;
+    let mut conn = desk.into_connection();
+    let before = dumped(alloc, &mut conn)?;
+    let mut desk = adopted(alloc, conn)?;
+    for Row(id, asked, wanted, _) in &KEPT {
+        for repeated in [*asked, Asked::Retire("gem")] {
+            let told = answer(alloc, &mut desk, &editions, id, repeated)?;
+            assert_eq!(rt; told.as_str(), *wanted);
+        }
+    }
+    let mut conn = desk.into_connection();
+    assert_eq!(rt; dumped(alloc, &mut conn)?.as_str(), before.as_str());
+    Ok(())
+}
+
+// An edition goes at the third install.
+static INSTALLED: [(&str, Asked); 4] = [
+    ("a", Asked::Gems("gem")),
+    ("b", Asked::Ores("gem")),
+    ("c", Asked::Rollback("gem")),
+    ("d", Asked::Ores("gem")),
+];
+
+static ROWS: [(&str, i64); 8] = [
+    ("SELECT installs FROM mark", 3),
+    ("SELECT current FROM item", 3),
+    ("SELECT former FROM item", 1),
+    ("SELECT count(*) FROM edition", 2),
+    ("SELECT count(*) FROM entry WHERE edition = 1", 3),
+    ("SELECT count(*) FROM entry WHERE edition = 3", 1),
+    ("SELECT count(*) FROM entry", 4),
+    ("SELECT count(*) FROM kept", 4),
+];
+
+#[test]
+fn rows_of_editions(rt: HostRuntime) -> Result<(), Fail> {
+    let alloc = rt.alloc();
+    let mut desk = new_desk(alloc)?;
+    accept_all(&mut desk, &read_editions(alloc)?, &INSTALLED)?;
+    let mut conn = desk.into_connection();
+    for (query, wanted) in &ROWS {
+        let found: i64 = conn.query_row(query, &[])?.get(0)?;
+        assert_eq!(rt; found, *wanted, "{query:?}");
+    }
+    Ok(())
+}

@@ -1,0 +1,81 @@
+//! Desks over databases that are made or found, and the rows of their tables.
+
+use crate::asked::{Asked, Editions};
+use dict_desk::{Fault, Keeper};
+use dict_store::Desk;
+use sqlite::{Alter, Connection, MemStore};
+use std::alloc::{AllocError, Global};
+use std::test::Fail;
+
+/// A desk over a database that is made, or over one that is found.
+pub(crate) fn desk_over<S: Alter + Drop>(
+    alloc: Global,
+    conn: Connection<S>,
+    is_new: bool,
+) -> Result<Desk<S>, (Connection<S>, Fault)> {
+    if !conn.is_autocommit() {
+        return Err((conn, Fault::Closed));
+    }
+    if is_new {
+        Desk::create(alloc, conn)
+    } else {
+        Desk::adopt(alloc, conn)
+    }
+}
+
+/// A desk over a new database in memory.
+pub(crate) fn new_desk(alloc: Global) -> Result<Desk<MemStore>, Fail> {
+    let conn = Connection::open_in_memory(alloc)?;
+    let Ok(desk) = desk_over(alloc, conn, true) else {
+        return Err("not made")?;
+    };
+    Ok(desk)
+}
+
+/// The desk again, once its connection was opened anew.
+pub(crate) fn adopted<S: Alter + Drop>(
+    alloc: Global,
+    conn: Connection<S>,
+) -> Result<Desk<S>, Fail> {
+    let Ok(desk) = desk_over(alloc, conn, false) else {
+        return Err("not adopted")?;
+    };
+    Ok(desk)
+}
+
+/// Applies commands, each of which has to be accepted.
+pub(crate) fn accept_all<K: Keeper>(
+    desk: &mut K,
+    editions: &Editions,
+    asked: &[(&'static str, Asked)],
+) -> Result<(), Fault> {
+    for (id, one) in asked {
+        let _kept = desk.apply(id, &one.command(editions))?;
+    }
+    Ok(())
+}
+
+// All rows of the tables.
+static TABLES: [&str; 6] = [
+    "SELECT rowid, * FROM mark ORDER BY 1",
+    "SELECT rowid, * FROM item ORDER BY 1",
+    "SELECT rowid, * FROM member ORDER BY 1",
+    "SELECT rowid, * FROM edition ORDER BY 1",
+    "SELECT rowid, * FROM entry ORDER BY 1",
+    "SELECT rowid, * FROM kept ORDER BY 1",
+];
+
+/// The rows of all tables that are there, as text.
+pub(crate) fn dumped<S: Alter>(
+    alloc: Global,
+    conn: &mut Connection<S>,
+) -> Result<String, AllocError> {
+    let mut text = String::new(alloc);
+    for table in &TABLES {
+        if let Ok(rows) = conn.query_all(table, &[]) {
+            text.push_str(format!(in alloc; "{rows:?}")?.as_str())?;
+        }
+        text.push(';')?;
+    }
+    Ok(text)
+}
