@@ -244,14 +244,14 @@ fn crashed(files: Files<Failing>) -> Files<Failing> {
     files
 }
 
-// One run with a failure at this call of one file, and whether there was one. Without one no command fails.
+// One run with a failure at this call of one file, and how it ended, where there was a failure. Without one no command fails.
 fn fails_at(
     rt: &impl Abort,
     alloc: Global,
     sweep: &Sweep<'_>,
     mode: Mode,
     call: u64,
-) -> Result<bool, Fail> {
+) -> Result<Option<Ended>, Fail> {
     let (log_call, db_call) = if mode.in_log {
         (call, u64::MAX)
     } else {
@@ -290,20 +290,24 @@ fn fails_at(
         return Err("not opened again")?;
     };
     is_kept(rt, alloc, conn, sweep, ended)?;
-    Ok(has_failed)
+    if has_failed {
+        Ok(Some(ended))
+    } else {
+        Ok(None)
+    }
 }
 
-// A failure at each call of one file, until there is none.
+// A failure at each call of one file, until there is none. Some of those of the log are in the middle of a command.
 fn sweep_all(rt: &impl Abort, alloc: Global, sweep: &Sweep<'_>, mode: Mode) -> Result<(), Fail> {
-    let mut has_failed = true;
+    let mut halted = sweep.requests.is_empty() || !mode.in_log;
     for call in 0..5_000u64 {
-        has_failed = fails_at(rt, alloc, sweep, mode, call)?;
-        if !has_failed {
-            break;
-        }
+        let Some(ended) = fails_at(rt, alloc, sweep, mode, call)? else {
+            assert!(rt; halted);
+            return Ok(());
+        };
+        halted = halted || (ended.is_open && ended.fault.is_some());
     }
-    assert!(rt; !has_failed);
-    Ok(())
+    Err("each run failed")?
 }
 
 // The two files, the log written into the other one.

@@ -1,5 +1,0 @@
-//! Files that are opened, whole and damaged. A library with tests alone.
-#![tactic(auto)]
-
-#[cfg(test)]
-mod opening;
