@@ -18,7 +18,7 @@ fn main(rt: HostRuntime) -> ExitCode {
     let mut faults = OverWrite::new(rt.stderr());
     let status = match words(&rt) {
         Ok(words) => command(
-            rt.alloc(),
+            &rt,
             words.as_slice(),
             &OverFiles::new(&rt),
             &mut reader,

@@ -1,157 +1,215 @@
 -- What each status tells of how the program ended.
-use Rattle.std.proofs.Common.{◌≡◌, ℕ, ◌≤◌, List, Option, Ok, Err, inl, inr, arith}
+use Rattle.std.proofs.Common.{◌≡◌, ℕ, ◌≤◌, List, Option, Ok, Err, inl, inr, arith, ap}
+use Rattle.std.specs.Prelude.{Result}
+use Rattle.sqlite.specs.Held.{Held}
+use Rattle.sqlite_trees.specs.declared.store.Store.{Ghosts}
 use Rattle.dict_io.specs.Streams.{Change}
-use Rattle.dictcat_lib.specs.Faults.{status_of}
-use Rattle.dictcat_lib.specs.Plain.{IsUntouched}
-use Rattle.dictcat_lib.specs.Program.{CommandEnds, IsDone, IsFailed, Shows, TaskEnds}
-use Rattle.dictcat_lib.specs.declared.fault.Fault.{Fault}
-use Rattle.dictcat_lib.specs.declared.fault.Fault.TheVariants.{Line, Edition, Refused, CannotRead, SessionEnded, CannotWrite, Memory}
-use Rattle.dictcat_lib.specs.declared.task.Task.{Task}
-use Rattle.dictcat_lib.specs.declared.task.Task.TheVariants.{Plain}
+use Rattle.dict_session.specs.declared.session.run.End.{End}
+use Rattle.dict_session.specs.declared.session.run.SessionFault.TheVariants as session_faults
+use Rattle.dict_file_session.specs.Over.{IsSpared}
+use Rattle.dict_file_session.specs.declared.fault.FileFault.{FileFault}
+use Rattle.dict_file_session.specs.declared.fault.FileFault.TheVariants.{Opening, Session}
+use Rattle.dict_words.specs.declared.task.Task.{Task}
+use Rattle.dict_words.specs.declared.task.Task.TheVariants.{Plain, Create, Session as SpeaksOver}
+use Rattle.dict_printed.specs.Faults.{status_of}
+use Rattle.dict_printed.specs.declared.fault.Fault.{Fault}
+use Rattle.dict_printed.specs.declared.fault.Fault.TheVariants.{Line, Edition, Refused, Store, CannotRead, SessionEnded, CannotWrite, Memory}
+use Rattle.dictcat_lib.specs.Plain.{IsUntouched, FilesEnd}
+use Rattle.dictcat_lib.specs.Opening.{over_told, HasSpoken}
+use Rattle.dictcat_lib.specs.Program.{CommandEnds, IsDone, IsFailed, IsBroken, Shows, TaskEnds}
 
--- a status is at most 4
-pub statuses : (files : List ℕ → Option (List ℕ)) (words : List (List ℕ)) (status : ℕ) (reader writer faults : Change)
-    → CommandEnds files words status reader writer faults → status ≤ 4
-statuses files words status reader writer faults (inl (Ok end, h, closes)) = omega (arith, closes.0)
-statuses files words status reader writer faults (inl (Err (Line refusal line), h, closes)) = omega (arith, closes.0)
-statuses files words status reader writer faults (inl (Err (Edition refusal), h, closes)) = omega (arith, closes.0)
-statuses files words status reader writer faults (inl (Err (Refused refusal), h, closes)) = omega (arith, closes.0)
-statuses files words status reader writer faults (inl (Err (CannotRead path), h, closes)) = omega (arith, closes.0)
-statuses files words status reader writer faults (inl (Err SessionEnded, h, closes)) = omega (arith, closes.0)
-statuses files words status reader writer faults (inl (Err CannotWrite, h, closes)) = omega (arith, closes.0)
-statuses files words status reader writer faults (inl (Err Memory, h, closes)) = omega (arith, closes.0)
-statuses files words status reader writer faults (inr h) = omega (arith, h.0)
+status_at_most_4 : (fault : Fault) → status_of fault ≤ 4
+status_at_most_4 (Line refusal line) = omega arith
+status_at_most_4 (Edition refusal) = omega arith
+status_at_most_4 (Refused refusal) = omega arith
+status_at_most_4 (Store fault) = omega arith
+status_at_most_4 (CannotRead path) = omega arith
+status_at_most_4 SessionEnded = omega arith
+status_at_most_4 CannotWrite = omega arith
+status_at_most_4 Memory = omega arith
 
--- no fault has status 0
+-- no fault has status 0 or 2
 never_0 : (fault : Fault) → 0 ≡ status_of fault → ⊥
 never_0 (Line refusal line) e = omega (arith, e)
 never_0 (Edition refusal) e = omega (arith, e)
 never_0 (Refused refusal) e = omega (arith, e)
+never_0 (Store fault) e = omega (arith, e)
 never_0 (CannotRead path) e = omega (arith, e)
 never_0 SessionEnded e = omega (arith, e)
 never_0 CannotWrite e = omega (arith, e)
 never_0 Memory e = omega (arith, e)
 
--- with 0 it was done
-pub done : (files : List ℕ → Option (List ℕ)) (words : List (List ℕ)) (reader writer faults : Change)
-    → CommandEnds files words 0 reader writer faults → IsDone files words reader writer × IsUntouched faults
-done files words reader writer faults (inl (Ok end, inl task, closes)) = (inl task, closes.1)
-done files words reader writer faults (inl (Ok end, inr (inl (asks, r, (text, put))), closes)) = (inr (asks, r, (text, put)), closes.1)
-done files words reader writer faults (inl (Ok end, inr (inr memory), closes)) = cc
-done files words reader writer faults (inl (Err fault, h, closes)) = absurd (never_0 fault closes.0)
-done files words reader writer faults (inr h) = absurd (omega (arith, h.0))
-
--- a refused task touches nothing
-task_refused : (files : List ℕ → Option (List ℕ)) (task : Task) (fault : Fault) (reader writer : Change)
-    → TaskEnds files task (Err fault) reader writer → 1 ≡ status_of fault → IsUntouched reader × IsUntouched writer
-unfolding Rattle.dictcat_lib.specs.Plain.FilesEnd
-task_refused files (Plain name index text) (Line refusal line) reader writer (inl h) e = (h.4.1, h.4.2)
-task_refused files (Plain name index text) (Line refusal line) reader writer (inr h) e = (h.1, h.2)
-task_refused files (Plain name index text) (Edition refusal) reader writer (inl h) e = (h.4.1, h.4.2)
-task_refused files (Plain name index text) (Edition refusal) reader writer (inr h) e = (h.1, h.2)
-task_refused files (Plain name index text) (Refused refusal) reader writer (inl h) e = (h.4.3, h.4.4)
-task_refused files (Plain name index text) (Refused refusal) reader writer (inr h) e = (h.1, h.2)
-task_refused files task (CannotRead path) reader writer h e = absurd (omega (arith, e))
-task_refused files task SessionEnded reader writer h e = absurd (omega (arith, e))
-task_refused files task CannotWrite reader writer h e = absurd (omega (arith, e))
-task_refused files task Memory reader writer h e = absurd (omega (arith, e))
+never_2 : (fault : Fault) → 2 ≡ status_of fault → ⊥
+never_2 (Line refusal line) e = omega (arith, e)
+never_2 (Edition refusal) e = omega (arith, e)
+never_2 (Refused refusal) e = omega (arith, e)
+never_2 (Store fault) e = omega (arith, e)
+never_2 (CannotRead path) e = omega (arith, e)
+never_2 SessionEnded e = omega (arith, e)
+never_2 CannotWrite e = omega (arith, e)
+never_2 Memory e = omega (arith, e)
 
 -- no text that is shown is refused
 never_refused : (fault : Fault) (writer : Change) → Shows (Err fault) writer → 1 ≡ status_of fault → ⊥
 never_refused (Line refusal line) writer h e = h
 never_refused (Edition refusal) writer h e = h
 never_refused (Refused refusal) writer h e = h
+never_refused (Store fault) writer h e = h
 never_refused (CannotRead path) writer h e = h
 never_refused SessionEnded writer h e = h
 never_refused CannotWrite writer h e = omega (arith, e)
 never_refused Memory writer h e = omega (arith, e)
-
-never_2 : (fault : Fault) → 2 ≡ status_of fault → ⊥
-never_2 (Line refusal line) e = omega (arith, e)
-never_2 (Edition refusal) e = omega (arith, e)
-never_2 (Refused refusal) e = omega (arith, e)
-never_2 (CannotRead path) e = omega (arith, e)
-never_2 SessionEnded e = omega (arith, e)
-never_2 CannotWrite e = omega (arith, e)
-never_2 Memory e = omega (arith, e)
-
--- with 1 or 2 nothing was touched
-pub refused : (files : List ℕ → Option (List ℕ)) (words : List (List ℕ)) (reader writer faults : Change)
-    → CommandEnds files words 1 reader writer faults → IsUntouched reader × IsUntouched writer
-refused files words reader writer faults (inl (Ok end, h, closes)) = absurd (omega (arith, closes.0))
-refused files words reader writer faults (inl (Err fault, inl (task, asks, ends), closes)) = task_refused files task fault reader writer ends closes.0
-refused files words reader writer faults (inl (Err fault, inr (inl shown), closes)) = absurd (never_refused fault writer shown.2 closes.0)
-refused files words reader writer faults (inl (Err fault, inr (inr memory), closes)) = (memory.1, memory.2)
-refused files words reader writer faults (inr h) = (h.2, h.3)
-
-pub misread : (files : List ℕ → Option (List ℕ)) (words : List (List ℕ)) (reader writer faults : Change)
-    → CommandEnds files words 2 reader writer faults → IsUntouched reader × IsUntouched writer
-misread files words reader writer faults (inl (Ok end, h, closes)) = absurd (omega (arith, closes.0))
-misread files words reader writer faults (inl (Err fault, h, closes)) = absurd (never_2 fault closes.0)
-misread files words reader writer faults (inr h) = (h.2, h.3)
-
--- a task that failed
-task_failed : (files : List ℕ → Option (List ℕ)) (task : Task) (fault : Fault) (reader writer : Change)
-    → TaskEnds files task (Err fault) reader writer → 3 ≡ status_of fault → IsFailed reader writer
-unfolding Rattle.dictcat_lib.specs.Plain.FilesEnd
-task_failed files task (Line refusal line) reader writer h e = absurd (omega (arith, e))
-task_failed files task (Edition refusal) reader writer h e = absurd (omega (arith, e))
-task_failed files task (Refused refusal) reader writer h e = absurd (omega (arith, e))
-task_failed files (Plain name index text) (CannotRead path) reader writer (inl h) e = absurd h.4
-task_failed files (Plain name index text) (CannotRead path) reader writer (inr h) e = inl (h.1, h.2)
-task_failed files (Plain name index text) SessionEnded reader writer (inl h) e = inr (inl (name.now, h.0, h.1, h.4.0, h.4.1, h.4.2))
-task_failed files (Plain name index text) SessionEnded reader writer (inr h) e = inl (h.1, h.2)
-task_failed files (Plain name index text) CannotWrite reader writer (inl h) e = absurd h.4
-task_failed files (Plain name index text) CannotWrite reader writer (inr h) e = inl (h.1, h.2)
-task_failed files task Memory reader writer h e = absurd (omega (arith, e))
-
--- a text that was not shown
-shown_failed : (fault : Fault) (reader writer : Change) → IsUntouched reader → Shows (Err fault) writer → 3 ≡ status_of fault → IsFailed reader writer
-shown_failed (Line refusal line) reader writer r h e = absurd h
-shown_failed (Edition refusal) reader writer r h e = absurd h
-shown_failed (Refused refusal) reader writer r h e = absurd h
-shown_failed (CannotRead path) reader writer r h e = absurd h
-shown_failed SessionEnded reader writer r h e = absurd h
-shown_failed CannotWrite reader writer r (text, put) e = inr (inr (r, put.failures))
-shown_failed Memory reader writer r h e = absurd (omega (arith, e))
-
--- with 3 a file, an output or a session failed
-pub failed : (files : List ℕ → Option (List ℕ)) (words : List (List ℕ)) (reader writer faults : Change)
-    → CommandEnds files words 3 reader writer faults → IsFailed reader writer
-failed files words reader writer faults (inl (Ok end, h, closes)) = absurd (omega (arith, closes.0))
-failed files words reader writer faults (inl (Err fault, inl (task, asks, ends), closes)) = task_failed files task fault reader writer ends closes.0
-failed files words reader writer faults (inl (Err fault, inr (inl shown), closes)) = shown_failed fault reader writer shown.1 shown.2 closes.0
-failed files words reader writer faults (inl (Err fault, inr (inr memory), closes)) = inl (memory.1, memory.2)
-failed files words reader writer faults (inr h) = absurd (omega (arith, h.0))
-
--- memory ran out in a task
-task_memory : (files : List ℕ → Option (List ℕ)) (task : Task) (fault : Fault) (reader writer : Change)
-    → TaskEnds files task (Err fault) reader writer → 4 ≡ status_of fault → IsUntouched reader × IsUntouched writer
-unfolding Rattle.dictcat_lib.specs.Plain.FilesEnd
-task_memory files task (Line refusal line) reader writer h e = absurd (omega (arith, e))
-task_memory files task (Edition refusal) reader writer h e = absurd (omega (arith, e))
-task_memory files task (Refused refusal) reader writer h e = absurd (omega (arith, e))
-task_memory files task (CannotRead path) reader writer h e = absurd (omega (arith, e))
-task_memory files task SessionEnded reader writer h e = absurd (omega (arith, e))
-task_memory files task CannotWrite reader writer h e = absurd (omega (arith, e))
-task_memory files (Plain name index text) Memory reader writer (inl h) e = h.4
-task_memory files (Plain name index text) Memory reader writer (inr h) e = (h.1, h.2)
 
 -- memory ran out before a text was shown
 shown_memory : (fault : Fault) (reader writer : Change) → IsUntouched reader → Shows (Err fault) writer → 4 ≡ status_of fault → IsUntouched reader × IsUntouched writer
 shown_memory (Line refusal line) reader writer r h e = absurd h
 shown_memory (Edition refusal) reader writer r h e = absurd h
 shown_memory (Refused refusal) reader writer r h e = absurd h
+shown_memory (Store fault) reader writer r h e = absurd h
 shown_memory (CannotRead path) reader writer r h e = absurd h
 shown_memory SessionEnded reader writer r h e = absurd h
 shown_memory CannotWrite reader writer r h e = absurd (omega (arith, e))
 shown_memory Memory reader writer r h e = (r, h)
 
--- with 4 nothing was touched
-pub memory : (files : List ℕ → Option (List ℕ)) (words : List (List ℕ)) (reader writer faults : Change)
-    → CommandEnds files words 4 reader writer faults → IsUntouched reader × IsUntouched writer
-memory files words reader writer faults (inl (Ok end, h, closes)) = absurd (omega (arith, closes.0))
-memory files words reader writer faults (inl (Err fault, inl (task, asks, ends), closes)) = task_memory files task fault reader writer ends closes.0
-memory files words reader writer faults (inl (Err fault, inr (inl shown), closes)) = shown_memory fault reader writer shown.1 shown.2 closes.0
-memory files words reader writer faults (inl (Err fault, inr (inr early), closes)) = (early.1, early.2)
-memory files words reader writer faults (inr h) = absurd (omega (arith, h.0))
+-- a session over a file that didn't end by its reader, its writer or its desk touched nothing
+spoken_spared : (fault : Fault) (end : Result End FileFault) (reader writer : Change) → Err fault ≡ over_told end → (3 ≡ status_of fault → ⊥)
+    → IsSpared end reader writer → IsUntouched reader × IsUntouched writer
+spoken_spared fault (Ok end) reader writer is other h = cc
+spoken_spared fault (Err (Opening why)) reader writer is other h = h
+spoken_spared fault (Err (Session session_faults.Memory)) reader writer is other h = h
+spoken_spared fault (Err (Session session_faults.Read)) reader writer is other h =
+    let same : fault ≡ SessionEnded = cc in absurd (other (omega (arith, ap status_of same)))
+spoken_spared fault (Err (Session session_faults.Write)) reader writer is other h =
+    let same : fault ≡ SessionEnded = cc in absurd (other (omega (arith, ap status_of same)))
+spoken_spared fault (Err (Session session_faults.Broken)) reader writer is other h =
+    let same : fault ≡ SessionEnded = cc in absurd (other (omega (arith, ap status_of same)))
+
+module _ {S : Type 0} (g : Ghosts S) where
+  -- a status is at most 4
+  pub statuses : (files : List ℕ → Option (List ℕ)) (words : List (List ℕ)) (status : ℕ) (reader writer faults : Change)
+      → CommandEnds g files words status reader writer faults → status ≤ 4
+  statuses files words status reader writer faults (inl (Ok end, h, closes)) = omega (arith, closes.0)
+  statuses files words status reader writer faults (inl (Err fault, h, closes)) = omega (arith, closes.0, status_at_most_4 fault)
+  statuses files words status reader writer faults (inr h) = omega (arith, h.0)
+
+  -- with 0 it was done
+  pub done : (files : List ℕ → Option (List ℕ)) (words : List (List ℕ)) (reader writer faults : Change)
+      → CommandEnds g files words 0 reader writer faults → IsDone g files words reader writer × IsUntouched faults
+  done files words reader writer faults (inl (Ok end, inl task, closes)) = (inl task, closes.1)
+  done files words reader writer faults (inl (Ok end, inr (inl (asks, r, (text, put))), closes)) = (inr (asks, r, (text, put)), closes.1)
+  done files words reader writer faults (inl (Ok end, inr (inr memory), closes)) = cc
+  done files words reader writer faults (inl (Err fault, h, closes)) = absurd (never_0 fault closes.0)
+  done files words reader writer faults (inr h) = absurd (omega (arith, h.0))
+
+  -- a refused task touches nothing
+  task_refused : (files : List ℕ → Option (List ℕ)) (task : Task) (fault : Fault) (reader writer : Change)
+      → TaskEnds g files task (Err fault) reader writer → 1 ≡ status_of fault → IsUntouched reader × IsUntouched writer
+  unfolding Rattle.dictcat_lib.specs.Plain.FilesEnd Rattle.dictcat_lib.specs.Opening.SessionEnds
+  task_refused files (Plain name index text) (Line refusal line) reader writer (inl h) e = (h.4.1, h.4.2)
+  task_refused files (Plain name index text) (Line refusal line) reader writer (inr h) e = (h.1, h.2)
+  task_refused files (Plain name index text) (Edition refusal) reader writer (inl h) e = (h.4.1, h.4.2)
+  task_refused files (Plain name index text) (Edition refusal) reader writer (inr h) e = (h.1, h.2)
+  task_refused files (Plain name index text) (Refused refusal) reader writer (inl h) e = (h.4.3, h.4.4)
+  task_refused files (Plain name index text) (Refused refusal) reader writer (inr h) e = (h.1, h.2)
+  task_refused files (Plain name index text) (Store fault) reader writer h e = absurd (omega (arith, e))
+  task_refused files (Plain name index text) (CannotRead path) reader writer h e = absurd (omega (arith, e))
+  task_refused files (Plain name index text) SessionEnded reader writer h e = absurd (omega (arith, e))
+  task_refused files (Plain name index text) CannotWrite reader writer h e = absurd (omega (arith, e))
+  task_refused files (Plain name index text) Memory reader writer h e = absurd (omega (arith, e))
+  task_refused files (Create file) fault reader writer h e = (h.1, h.2)
+  task_refused files (SpeaksOver file) fault reader writer (inl h) e = (h.1, h.2)
+  task_refused files (SpeaksOver file) fault reader writer (inr (conn, (left, end, is, spoken))) e =
+      spoken_spared fault end reader writer is (λ f. omega (arith, e, f)) spoken.unopened
+
+  -- with 1 or 2 nothing was touched
+  pub refused : (files : List ℕ → Option (List ℕ)) (words : List (List ℕ)) (reader writer faults : Change)
+      → CommandEnds g files words 1 reader writer faults → IsUntouched reader × IsUntouched writer
+  refused files words reader writer faults (inl (Ok end, h, closes)) = absurd (omega (arith, closes.0))
+  refused files words reader writer faults (inl (Err fault, inl (task, asks, ends), closes)) = task_refused files task fault reader writer ends closes.0
+  refused files words reader writer faults (inl (Err fault, inr (inl shown), closes)) = absurd (never_refused fault writer shown.2 closes.0)
+  refused files words reader writer faults (inl (Err fault, inr (inr memory), closes)) = (memory.1, memory.2)
+  refused files words reader writer faults (inr h) = (h.2, h.3)
+
+  pub misread : (files : List ℕ → Option (List ℕ)) (words : List (List ℕ)) (reader writer faults : Change)
+      → CommandEnds g files words 2 reader writer faults → IsUntouched reader × IsUntouched writer
+  misread files words reader writer faults (inl (Ok end, h, closes)) = absurd (omega (arith, closes.0))
+  misread files words reader writer faults (inl (Err fault, h, closes)) = absurd (never_2 fault closes.0)
+  misread files words reader writer faults (inr h) = (h.2, h.3)
+
+  -- a session over a file that was told as broken
+  spoken_failed : (conn left : Held S) (fault : Fault) (end : Result End FileFault) (reader writer : Change)
+      → Err fault ≡ over_told end → HasSpoken g conn left end reader writer → IsFailed g reader writer
+  spoken_failed conn left fault (Ok end) reader writer is h = cc
+  spoken_failed conn left fault (Err (Opening why)) reader writer is h = inl h.unopened
+  spoken_failed conn left fault (Err (Session session_faults.Memory)) reader writer is h = inl h.unopened
+  spoken_failed conn left fault (Err (Session session_faults.Read)) reader writer is h = inr (inl (inr (conn, left, session_faults.Read, (λ e. cc), h)))
+  spoken_failed conn left fault (Err (Session session_faults.Write)) reader writer is h = inr (inl (inr (conn, left, session_faults.Write, (λ e. cc), h)))
+  spoken_failed conn left fault (Err (Session session_faults.Broken)) reader writer is h = inr (inl (inr (conn, left, session_faults.Broken, (λ e. cc), h)))
+
+  -- a task that failed
+  task_failed : (files : List ℕ → Option (List ℕ)) (task : Task) (fault : Fault) (reader writer : Change)
+      → TaskEnds g files task (Err fault) reader writer → 3 ≡ status_of fault → IsFailed g reader writer
+  unfolding Rattle.dictcat_lib.specs.Plain.FilesEnd Rattle.dictcat_lib.specs.Opening.SessionEnds
+  task_failed files (Plain name index text) (Line refusal line) reader writer h e = absurd (omega (arith, e))
+  task_failed files (Plain name index text) (Edition refusal) reader writer h e = absurd (omega (arith, e))
+  task_failed files (Plain name index text) (Refused refusal) reader writer h e = absurd (omega (arith, e))
+  task_failed files (Plain name index text) (Store fault) reader writer (inl h) e = absurd h.4
+  task_failed files (Plain name index text) (Store fault) reader writer (inr h) e = inl (h.1, h.2)
+  task_failed files (Plain name index text) (CannotRead path) reader writer (inl h) e = absurd h.4
+  task_failed files (Plain name index text) (CannotRead path) reader writer (inr h) e = inl (h.1, h.2)
+  task_failed files (Plain name index text) SessionEnded reader writer (inl h) e = inr (inl (inl (name.now, h.0, h.1, h.4.0, h.4.1, h.4.2)))
+  task_failed files (Plain name index text) SessionEnded reader writer (inr h) e = inl (h.1, h.2)
+  task_failed files (Plain name index text) CannotWrite reader writer (inl h) e = absurd h.4
+  task_failed files (Plain name index text) CannotWrite reader writer (inr h) e = inl (h.1, h.2)
+  task_failed files (Plain name index text) Memory reader writer h e = absurd (omega (arith, e))
+  task_failed files (Create file) fault reader writer h e = inl (h.1, h.2)
+  task_failed files (SpeaksOver file) fault reader writer (inl h) e = inl (h.1, h.2)
+  task_failed files (SpeaksOver file) fault reader writer (inr (conn, (left, end, is, spoken))) e = spoken_failed conn left fault end reader writer is spoken
+
+  -- a text that was not shown
+  shown_failed : (fault : Fault) (reader writer : Change) → IsUntouched reader → Shows (Err fault) writer → 3 ≡ status_of fault
+      → IsFailed g reader writer
+  shown_failed (Line refusal line) reader writer r h e = absurd h
+  shown_failed (Edition refusal) reader writer r h e = absurd h
+  shown_failed (Refused refusal) reader writer r h e = absurd h
+  shown_failed (Store fault) reader writer r h e = absurd h
+  shown_failed (CannotRead path) reader writer r h e = absurd h
+  shown_failed SessionEnded reader writer r h e = absurd h
+  shown_failed CannotWrite reader writer r (text, put) e = inr (inr (r, put.failures))
+  shown_failed Memory reader writer r h e = absurd (omega (arith, e))
+
+  -- with 3 a file, an output or a session failed
+  pub failed : (files : List ℕ → Option (List ℕ)) (words : List (List ℕ)) (reader writer faults : Change)
+      → CommandEnds g files words 3 reader writer faults → IsFailed g reader writer
+  failed files words reader writer faults (inl (Ok end, h, closes)) = absurd (omega (arith, closes.0))
+  failed files words reader writer faults (inl (Err fault, inl (task, asks, ends), closes)) = task_failed files task fault reader writer ends closes.0
+  failed files words reader writer faults (inl (Err fault, inr (inl shown), closes)) = shown_failed fault reader writer shown.1 shown.2 closes.0
+  failed files words reader writer faults (inl (Err fault, inr (inr memory), closes)) = inl (memory.1, memory.2)
+  failed files words reader writer faults (inr h) = absurd (omega (arith, h.0))
+
+  -- memory ran out in a task
+  task_memory : (files : List ℕ → Option (List ℕ)) (task : Task) (fault : Fault) (reader writer : Change)
+      → TaskEnds g files task (Err fault) reader writer → 4 ≡ status_of fault → IsUntouched reader × IsUntouched writer
+  unfolding Rattle.dictcat_lib.specs.Plain.FilesEnd Rattle.dictcat_lib.specs.Opening.SessionEnds
+  task_memory files (Plain name index text) (Line refusal line) reader writer h e = absurd (omega (arith, e))
+  task_memory files (Plain name index text) (Edition refusal) reader writer h e = absurd (omega (arith, e))
+  task_memory files (Plain name index text) (Refused refusal) reader writer h e = absurd (omega (arith, e))
+  task_memory files (Plain name index text) (Store fault) reader writer h e = absurd (omega (arith, e))
+  task_memory files (Plain name index text) (CannotRead path) reader writer h e = absurd (omega (arith, e))
+  task_memory files (Plain name index text) SessionEnded reader writer h e = absurd (omega (arith, e))
+  task_memory files (Plain name index text) CannotWrite reader writer h e = absurd (omega (arith, e))
+  task_memory files (Plain name index text) Memory reader writer (inl h) e = h.4
+  task_memory files (Plain name index text) Memory reader writer (inr h) e = (h.1, h.2)
+  task_memory files (Create file) fault reader writer h e = (h.1, h.2)
+  task_memory files (SpeaksOver file) fault reader writer (inl h) e = (h.1, h.2)
+  task_memory files (SpeaksOver file) fault reader writer (inr (conn, (left, end, is, spoken))) e =
+      spoken_spared fault end reader writer is (λ f. omega (arith, e, f)) spoken.unopened
+
+  -- with 4 nothing was touched
+  pub memory : (files : List ℕ → Option (List ℕ)) (words : List (List ℕ)) (reader writer faults : Change)
+      → CommandEnds g files words 4 reader writer faults → IsUntouched reader × IsUntouched writer
+  memory files words reader writer faults (inl (Ok end, h, closes)) = absurd (omega (arith, closes.0))
+  memory files words reader writer faults (inl (Err fault, inl (task, asks, ends), closes)) = task_memory files task fault reader writer ends closes.0
+  memory files words reader writer faults (inl (Err fault, inr (inl shown), closes)) = shown_memory fault reader writer shown.1 shown.2 closes.0
+  memory files words reader writer faults (inl (Err fault, inr (inr early), closes)) = (early.1, early.2)
+  memory files words reader writer faults (inr h) = absurd (omega (arith, h.0))

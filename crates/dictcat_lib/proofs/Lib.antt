@@ -1,3 +1,2 @@
 pub mod EndLemmas
-pub mod LineLemmas
 pub mod PlainLemmas

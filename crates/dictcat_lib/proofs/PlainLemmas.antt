@@ -7,8 +7,8 @@ use Rattle.dict_session.specs.declared.session.run.SessionFault.{SessionFault}
 use Rattle.dict_session.specs.declared.session.run.SessionFault.TheVariants.{Read, Write, Broken, Memory}
 use Rattle.dict_catalogue.specs.Steps.{Catalogue}
 use Rattle.dictcat_lib.specs.Plain.{catalogue_of, told_by, IsUntouched, RunEnds, IsInstalled, Installs, PlainEnds}
-use Rattle.dictcat_lib.specs.declared.fault.Fault.{Fault}
-use Rattle.dictcat_lib.specs.declared.fault.Fault.TheVariants as faults
+use Rattle.dict_printed.specs.declared.fault.Fault.{Fault}
+use Rattle.dict_printed.specs.declared.fault.Fault.TheVariants as faults
 use Rattle.dict_name.specs.Names.{is_name, is_request_id}
 use Rattle.dict_index.specs.Edition.{Edition}
 use Rattle.dict_catalogue.specs.Commands.{install}
@@ -49,6 +49,7 @@ installed_ends Shows name index text (Err faults.Memory) reader writer done h = 
 installed_ends Shows name index text (Err (faults.Refused refusal)) reader writer done h = absurd h
 installed_ends Shows name index text (Err (faults.Line refusal line)) reader writer done h = absurd h
 installed_ends Shows name index text (Err (faults.Edition refusal)) reader writer done h = absurd h
+installed_ends Shows name index text (Err (faults.Store fault)) reader writer done h = h
 installed_ends Shows name index text (Err (faults.CannotRead path)) reader writer done h = h
 installed_ends Shows name index text (Err faults.CannotWrite) reader writer done h = h
 
@@ -60,5 +61,6 @@ not_installed A B Shows name index text faults.SessionEnded reader writer r w h 
 not_installed A B Shows name index text faults.Memory reader writer r w h = (r, w)
 not_installed A B Shows name index text (faults.Line refusal line) reader writer r w h = (h, r, w)
 not_installed A B Shows name index text (faults.Edition refusal) reader writer r w h = (h, r, w)
+not_installed A B Shows name index text (faults.Store fault) reader writer r w h = h
 not_installed A B Shows name index text (faults.CannotRead path) reader writer r w h = h
 not_installed A B Shows name index text faults.CannotWrite reader writer r w h = h

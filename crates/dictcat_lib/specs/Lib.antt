@@ -1,5 +1,4 @@
-pub mod Faults
 pub mod Files
+pub mod Opening
 pub mod Plain
 pub mod Program
-pub mod Words

@@ -12,8 +12,8 @@ use Rattle.dict_session.specs.declared.session.run.End.{End}
 use Rattle.dict_session.specs.declared.session.run.SessionFault.{SessionFault}
 use Rattle.dict_session.specs.declared.session.run.SessionFault.TheVariants as session_faults
 use Rattle.dictcat_lib.specs.Files.{IsReadFrom}
-use Rattle.dictcat_lib.specs.declared.fault.Fault.{Fault}
-use Rattle.dictcat_lib.specs.declared.fault.Fault.TheVariants as faults
+use Rattle.dict_printed.specs.declared.fault.Fault.{Fault}
+use Rattle.dict_printed.specs.declared.fault.Fault.TheVariants as faults
 
 -- a reader or a writer was left alone
 abbrev pub IsUntouched : Change → Type 0
@@ -45,6 +45,7 @@ RunEnds M (Err faults.Memory) reader writer = IsUntouched reader × IsUntouched 
 RunEnds M (Err (faults.Line refusal line)) reader writer = ⊥
 RunEnds M (Err (faults.Edition refusal)) reader writer = ⊥
 RunEnds M (Err (faults.Refused refusal)) reader writer = ⊥
+RunEnds M (Err (faults.Store fault)) reader writer = ⊥
 RunEnds M (Err (faults.CannotRead path)) reader writer = ⊥
 RunEnds M (Err faults.CannotWrite) reader writer = ⊥
 
@@ -63,6 +64,7 @@ Installs Shows name index text (Err (faults.Edition refusal)) = IsFault index te
 Installs Shows name index text (Err (faults.Refused refusal)) = (refusal ≡ BadName) × (is_name name ≡ false) × ((edition : Edition) × IsEdition index text edition)
 Installs Shows name index text (Err faults.Memory) = Unit {0}
 Installs Shows name index text (Err faults.SessionEnded) = ⊥
+Installs Shows name index text (Err (faults.Store fault)) = ⊥
 Installs Shows name index text (Err (faults.CannotRead path)) = ⊥
 Installs Shows name index text (Err faults.CannotWrite) = ⊥
 
@@ -76,6 +78,7 @@ PlainEnds name index text (Err (faults.Refused refusal)) reader writer =
 PlainEnds name index text (Err faults.SessionEnded) reader writer =
     (fault : SessionFault) × (fault ≢ session_faults.Memory) × EndsOver name index text (Err fault) reader writer
 PlainEnds name index text (Err faults.Memory) reader writer = IsUntouched reader × IsUntouched writer
+PlainEnds name index text (Err (faults.Store fault)) reader writer = ⊥
 PlainEnds name index text (Err (faults.CannotRead path)) reader writer = ⊥
 PlainEnds name index text (Err faults.CannotWrite) reader writer = ⊥
 

@@ -1,20 +1,23 @@
 -- How the program ends.
 use Rattle.std.specs.Prelude.{◌≡◌, ◌≢◌, ℕ, ◌⊎◌, List, ◌++◌, Option, Result, Ok, Err, codes}
+use Rattle.clap.specs.Kinds.{IsAmong}
+use Rattle.clap.specs.declared.error.kind.ErrorKind.{ErrorKind}
+use Rattle.clap.specs.declared.error.kind.ErrorKind.TheVariants as kinds
+use Rattle.sqlite.specs.Held.{Held}
+use Rattle.sqlite_trees.specs.declared.store.Store.{Ghosts}
 use Rattle.dict_io.specs.Streams.{Change, HasFailed, Puts, PutsAll, PutsFront}
 use Rattle.dict_io.specs.declared.sink.SinkFault.{SinkFault}
 use Rattle.dict_session.specs.declared.session.run.SessionFault.{SessionFault}
 use Rattle.dict_session.specs.declared.session.run.SessionFault.TheVariants as session_faults
-use Rattle.dictcat_lib.specs.Faults.{line_of, status_of}
+use Rattle.dict_file_session.specs.declared.fault.FileFault.TheVariants.{Session}
+use Rattle.dict_words.specs.Asked.{Asks, Fails, mistakes_in}
+use Rattle.dict_words.specs.declared.task.Task.{Task}
+use Rattle.dict_words.specs.declared.task.Task.TheVariants as tasks
+use Rattle.dict_printed.specs.Faults.{line_of, status_of}
+use Rattle.dict_printed.specs.declared.fault.Fault.{Fault}
+use Rattle.dict_printed.specs.declared.fault.Fault.TheVariants as faults
 use Rattle.dictcat_lib.specs.Plain.{IsUntouched, EndsOver, FilesEnd}
-use Rattle.dictcat_lib.specs.Words.{Asks, AsksForText, IsMisread}
-use Rattle.dictcat_lib.specs.declared.fault.Fault.{Fault}
-use Rattle.dictcat_lib.specs.declared.fault.Fault.TheVariants as faults
-use Rattle.dictcat_lib.specs.declared.task.Task.{Task}
-use Rattle.dictcat_lib.specs.declared.task.Task.TheVariants as tasks
-
--- a task ends so, over files of these octets by their paths
-abbrev pub TaskEnds : (List ℕ → Option (List ℕ)) → Task → Result (Unit {0}) Fault → Change → Change → Type 0
-TaskEnds files (tasks.Plain name index text) end reader writer = FilesEnd files name.now index.now text.now end reader writer
+use Rattle.dictcat_lib.specs.Opening.{CreateEnds, SessionEnds, HasSpoken}
 
 -- a text was put, or a front of it where the sink failed
 abbrev pub IsTold : List ℕ → Change → Type 0
@@ -36,12 +39,21 @@ Shows (Err faults.CannotWrite) writer = (text : List ℕ) × PutsFront writer.ol
 Shows (Err faults.Memory) writer = IsUntouched writer
 Shows (Err fault) writer = ⊥
 
--- what was asked for was done or not: a task, or help or the version; or memory ran out before
-abbrev pub Attempts : (List ℕ → Option (List ℕ)) → List (List ℕ) → Result (Unit {0}) Fault → Change → Change → Type 0
-Attempts files words end reader writer =
-    ((task : Task) × Asks words task × TaskEnds files task end reader writer)
-    ⊎ ((AsksForText words × IsUntouched reader × Shows end writer)
-    ⊎ ((end ≡ Err faults.Memory) × IsUntouched reader × IsUntouched writer))
+-- help or the version was asked for
+abbrev pub AsksForText : List (List ℕ) → Type 0
+AsksForText words = IsAmong kinds.DisplayHelp (mistakes_in words) ⊎ IsAmong kinds.DisplayVersion (mistakes_in words)
+
+-- it is a mistake, and neither memory nor help nor the version
+abbrev pub IsMistake : ErrorKind → Type 0
+IsMistake kind = (kind ≢ kinds.OutOfMemory) × (kind ≢ kinds.DisplayHelp) × (kind ≢ kinds.DisplayVersion)
+
+-- the words have a mistake, or ask for nothing
+abbrev pub IsMisread : List (List ℕ) → Type 0
+IsMisread words = (kind : ErrorKind) × IsMistake kind × Fails words kind
+
+-- what is told of words that are no texts
+abbrev pub not_text : List ℕ
+not_text = codes "error: invalid UTF-8 was detected in one or more arguments\n\nUsage: dictcat <COMMAND>\n\nFor more information, try '--help'.\n"
 
 -- a mistake in the words is told in a text, with status 2, or memory for it ran out
 abbrev pub TellsMistake : ℕ → Change → Type 0
@@ -52,20 +64,50 @@ abbrev pub Misreads : List (List ℕ) → ℕ → Change → Change → Change �
 Misreads words status reader writer faults =
     (status ≡ 2) × IsMisread words × IsUntouched reader × IsUntouched writer × ((text : List ℕ) × IsTold text faults)
 
--- how the program ends on words, of which the first is its own name, over files of these octets by their paths
-abbrev pub CommandEnds : (List ℕ → Option (List ℕ)) → List (List ℕ) → ℕ → Change → Change → Change → Type 0
-CommandEnds files words status reader writer faults =
-    ((end : Result (Unit {0}) Fault) × Attempts files words end reader writer × Closes end status faults)
+-- help or the version was asked for, and shown or not; or memory ran out before
+abbrev pub IsShown : List (List ℕ) → Result (Unit {0}) Fault → Change → Change → Type 0
+IsShown words end reader writer =
+    (AsksForText words × IsUntouched reader × Shows end writer)
+    ⊎ ((end ≡ Err faults.Memory) × IsUntouched reader × IsUntouched writer)
+
+-- how the program ends on words that ask for no task
+abbrev pub AnswerEnds : List (List ℕ) → ℕ → Change → Change → Change → Type 0
+AnswerEnds words status reader writer faults =
+    ((end : Result (Unit {0}) Fault) × IsShown words end reader writer × Closes end status faults)
     ⊎ Misreads words status reader writer faults
 
--- a task was done, or help or the version was shown
-abbrev pub IsDone : (List ℕ → Option (List ℕ)) → List (List ℕ) → Change → Change → Type 0
-IsDone files words reader writer = ((task : Task) × Asks words task × TaskEnds files task (Ok tt) reader writer)
-    ⊎ (AsksForText words × IsUntouched reader × ((text : List ℕ) × PutsAll writer.old writer.new text))
+module _ {S : Type 0} (g : Ghosts S) where
+  -- a session over a lawful database, or over a file's catalogue, was ended by a fault of its reader, its writer or its desk
+  abbrev pub IsBroken : Change → Change → Type 0
+  IsBroken reader writer =
+      ((name : List ℕ) × (index : List ℕ) × (text : List ℕ) × (fault : SessionFault) × (fault ≢ session_faults.Memory) × EndsOver name index text (Err fault) reader writer)
+      ⊎ ((conn : Held S) × (left : Held S) × (fault : SessionFault) × (fault ≢ session_faults.Memory) × HasSpoken g conn left (Err (Session fault)) reader writer)
 
--- nothing was read or written, or a session over a lawful database ended by a fault of its reader or its writer, or the writer failed
--- where nothing was read
-abbrev pub IsFailed : Change → Change → Type 0
-IsFailed reader writer = (IsUntouched reader × IsUntouched writer)
-    ⊎ (((name : List ℕ) × (index : List ℕ) × (text : List ℕ) × (fault : SessionFault) × (fault ≢ session_faults.Memory) × EndsOver name index text (Err fault) reader writer)
-    ⊎ (IsUntouched reader × HasFailed writer.old.failures writer.new.failures))
+  -- nothing was read or written, or a session was broken, or the writer failed where nothing was read
+  abbrev pub IsFailed : Change → Change → Type 0
+  IsFailed reader writer = (IsUntouched reader × IsUntouched writer)
+      ⊎ (IsBroken reader writer ⊎ (IsUntouched reader × HasFailed writer.old.failures writer.new.failures))
+
+-- Over files of these octets, by their paths.
+module _ {S : Type 0} (g : Ghosts S) (files : List ℕ → Option (List ℕ)) where
+  -- a task ends so
+  abbrev pub TaskEnds : Task → Result (Unit {0}) Fault → Change → Change → Type 0
+  TaskEnds (tasks.Plain name index text) end reader writer = FilesEnd files name.now index.now text.now end reader writer
+  TaskEnds (tasks.Create file) end reader writer = CreateEnds g file.now end × IsUntouched reader × IsUntouched writer
+  TaskEnds (tasks.Session file) end reader writer = SessionEnds g file.now end reader writer
+
+  -- what was asked for was done or not: a task, or help or the version; or memory ran out before
+  abbrev pub Attempts : List (List ℕ) → Result (Unit {0}) Fault → Change → Change → Type 0
+  Attempts words end reader writer =
+      ((task : Task) × Asks words task × TaskEnds task end reader writer) ⊎ IsShown words end reader writer
+
+  -- how the program ends on words, of which the first is its own name
+  abbrev pub CommandEnds : List (List ℕ) → ℕ → Change → Change → Change → Type 0
+  CommandEnds words status reader writer faults =
+      ((end : Result (Unit {0}) Fault) × Attempts words end reader writer × Closes end status faults)
+      ⊎ Misreads words status reader writer faults
+
+  -- a task was done, or help or the version was shown
+  abbrev pub IsDone : List (List ℕ) → Change → Change → Type 0
+  IsDone words reader writer = ((task : Task) × Asks words task × TaskEnds task (Ok tt) reader writer)
+      ⊎ (AsksForText words × IsUntouched reader × ((text : List ℕ) × PutsAll writer.old writer.new text))

@@ -8,16 +8,17 @@ ghost use Rattle.dict_catalogue.specs.Commands.{install};
 ghost use Rattle.dict_catalogue.specs.Steps.{Catalogue, empty_catalogue, step};
 ghost use Rattle.dict_desk.specs.Applying.{Applies};
 
-use crate::fault::Fault;
 use crate::files::{InputFiles, ReadFault};
 use dict_catalogue::{Command, Kept};
 use dict_desk::{Fault as DeskFault, Keeper, PlainDesk};
 use dict_index::{Edition, read_edition};
 use dict_io::{Sink, Source};
+use dict_printed::Fault;
 use dict_session::{SessionFault, run};
 use std::alloc::Global;
 
-const HOST: &str = "localhost";
+/// The host that the program's sessions are greeted by.
+pub(crate) const HOST: &str = "localhost";
 
 /// The id under which the database is installed.
 const INSTALL_ID: &str = "plain";

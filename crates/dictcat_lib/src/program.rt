@@ -1,20 +1,22 @@
 // The program but for its standard streams.
-ghost use Rattle.std.specs.Prelude.{◌≡◌, ◌≢◌, ℕ, List, Option, map};
+ghost use Rattle.std.specs.Prelude.{◌≡◌, ◌≢◌, ℕ, List, map};
 ghost use Rattle.std.specs.IoError.{error_kind};
 ghost use Rattle.std.specs.declared.io.ErrorKind.TheVariants.{OutOfMemory};
 ghost use Rattle.clap.specs.Values.{kind_of};
-ghost use Rattle.dictcat_lib.specs.Program.{CommandEnds, Closes, IsTold, Shows, Tells, TellsMistake};
+ghost use Rattle.dict_words.specs.Asked.{Fails};
+ghost use Rattle.dictcat_lib.specs.Program.{AnswerEnds, CommandEnds, Closes, IsTold, Shows, Tells, TellsMistake, not_text};
 ghost use Rattle.dictcat_lib.specs.Plain.{IsUntouched};
-ghost use Rattle.dictcat_lib.specs.Words.{Fails, not_text};
 ghost use Rattle.dict_io.specs.Streams.{Change, change};
 
-use crate::fault::Fault;
 use crate::files::InputFiles;
 use crate::task::perform;
-use crate::words::read_words;
 use clap::Error;
 use clap::error::ErrorKind;
 use dict_io::{Sink, Source};
+use dict_printed::Fault;
+use dict_words::read_words;
+use sqlite::{File, FileStore};
+use sqlite_trees::store::Store;
 use std::alloc::Global;
 use std::convert::AsStr;
 use std::io;
@@ -23,22 +25,22 @@ use std::io;
 /// where it is done, 1 for a refusal, 2 for words that it can't make out, 3 for a file, an output or a session
 /// that failed, and 4 where memory ran out. Nothing goes to `faults` where the status is 0, and else one text.
 pub fn command<I: InputFiles, W: AsStr, S: Source, K: Sink, F: Sink>(
-    alloc: Global,
+    rt: &HostRuntime,
     words: &[W],
     files: &I,
     reader: &mut S,
     writer: &mut K,
     faults: &mut F,
 ) -> u8
-    ensures { CommandEnds (I.octets files.now) (map W.text words.now) result
+    ensures { CommandEnds ⟦<FileStore<File> as Store>⟧ (I.octets files.now) (map W.text words.now) result
         (change S.stream reader.old reader.new) (change K.stream writer.old writer.new) (change F.stream faults.old faults.new) }
 {
-    match read_words(alloc, words) {
+    match read_words(rt.alloc(), words) {
         Ok(task) => {
-            let end = perform(alloc, &task, files, reader, writer);
+            let end = perform(rt, &task, files, reader, writer);
             close(&end, faults)
         }
-        Err(error) => answer_words(alloc, &error, writer, faults),
+        Err(error) => answer_words(rt.alloc(), &error, writer, faults),
     }
 }
 
@@ -65,8 +67,8 @@ fn answer_words<K: Sink, F: Sink>(
     writer: &mut K,
     faults: &mut F,
 ) -> u8
-    ensures { (files : List ℕ → Option (List ℕ)) → (words : List (List ℕ)) → Fails words (kind_of error.now) → (reader : Change) → IsUntouched reader
-        → CommandEnds files words result reader (change K.stream writer.old writer.new) (change F.stream faults.old faults.new) }
+    ensures { (words : List (List ℕ)) → Fails words (kind_of error.now) → (reader : Change) → IsUntouched reader
+        → AnswerEnds words result reader (change K.stream writer.old writer.new) (change F.stream faults.old faults.new) }
 {
     match error.kind() {
         ErrorKind::OutOfMemory => tell(&Fault::Memory, faults),

@@ -1,3 +1,4 @@
+mod catalogues;
 mod faults;
 mod fixtures;
 mod sessions;

@@ -1,9 +1,9 @@
 use super::fixtures::{BANNER, FilesInMemory, GEM_INDEX, GEM_TEXT, OPAL, outcome, taken};
-use crate::{Fault, Task, perform};
-use dict_catalogue::Refusal as CommandRefusal;
+use crate::perform;
 use dict_index::Refusal;
-use dict_io::{LimitedSink, OverRead, SinkFault};
-use std::alloc::Global;
+use dict_io::{LimitedSink, OverRead};
+use dict_printed::Fault;
+use dict_words::Task;
 use std::fs;
 use std::test::Fail;
 
@@ -72,51 +72,6 @@ fn tells_why_a_command_was_not_done(rt: HostRuntime) -> Result<(), Fail> {
 }
 
 #[test]
-fn each_fault_has_a_line_and_a_status(rt: HostRuntime) -> Result<(), Fail> {
-    let line = Fault::Line {
-        refusal: Refusal::ReservedTwice,
-        line: 65536,
-    };
-    let rows = [
-        (line, "refused 9 ReservedTwice line 65536\n", 1),
-        (
-            Fault::Edition(Refusal::TextTooLong),
-            "refused 13 TextTooLong\n",
-            1,
-        ),
-        (
-            Fault::Refused(CommandRefusal::BadName),
-            "refused 20 BadName\n",
-            1,
-        ),
-        (Fault::CannotRead("a b"), "cannot read a b\n", 3),
-        (Fault::SessionEnded, "session ended by a fault\n", 3),
-        (Fault::CannotWrite, "cannot write output\n", 3),
-        (Fault::Memory, "fault 40 Memory\n", 4),
-    ];
-    for (fault, text, status) in rows {
-        let shown = format!(in rt.alloc(); "{fault}\n")?;
-        assert_eq!(rt; shown.as_str(), text);
-        assert_eq!(rt; fault.status(), status);
-        let (end, octets) = line_into(rt.alloc(), fault, 100)?;
-        assert_eq!(rt; end, Ok(()));
-        assert_eq!(rt; octets.as_str(), text);
-    }
-    Ok(())
-}
-
-// What a sink with this room has of a fault's line.
-fn line_into(
-    alloc: Global,
-    fault: Fault<'_>,
-    room: usize,
-) -> Result<(Result<(), SinkFault>, String), Fail> {
-    let mut sink = LimitedSink::new(alloc, room)?;
-    let end = fault.put_line(&mut sink);
-    Ok((end, taken(alloc, &sink)?))
-}
-
-#[test]
 fn does_a_task_over_files_in_memory(rt: HostRuntime) -> Result<(), Fail> {
     let alloc = rt.alloc();
     let files = FilesInMemory {
@@ -146,10 +101,7 @@ fn does_a_task_over_files_in_memory(rt: HostRuntime) -> Result<(), Fail> {
             index,
             text,
         };
-        assert_eq!(rt;
-            perform(alloc, &task, &files, &mut reader, &mut writer),
-            end
-        );
+        assert_eq!(rt; perform(&rt, &task, &files, &mut reader, &mut writer), end);
         let banner = if end.is_ok() { BANNER } else { "" };
         let want = format!(in alloc; "{banner}{answer}")?;
         assert_eq!(rt; taken(alloc, &writer)?.as_str(), want.as_str());

@@ -5,10 +5,9 @@ ghost use Rattle.std.specs.Str.{bytes_eq};
 use crate::{InputFiles, OverFiles, ReadFault, command};
 use dict_io::{LimitedSink, OverRead};
 use std::alloc::Global;
-use std::io;
 use std::io::Read;
-use std::rt::Files;
 use std::test::Fail;
+use std::{fs, io};
 
 pub const GEM_INDEX: &[u8] = b"00-database-short\tA\tZ\nopal\tZ\tP\nFire Opal\tZ\tP\ndot\to\tF\n";
 
@@ -88,8 +87,8 @@ impl InputFiles for FilesInMemory<'_> {
 pub type Outcome = (u8, String, String);
 
 /// What comes of these words with this input, where standard output takes so many octets.
-pub fn outcome<R: Files + AllocGlobal>(
-    rt: &R,
+pub fn outcome(
+    rt: &HostRuntime,
     words: &[&str],
     input: &[u8],
     room: usize,
@@ -97,11 +96,10 @@ pub fn outcome<R: Files + AllocGlobal>(
     let mut reader = OverRead::new(input);
     let mut writer = LimitedSink::new(rt.alloc(), room)?;
     let mut faults = LimitedSink::new(rt.alloc(), 1000)?;
-    let files = OverFiles::new(rt);
     let status = command(
-        rt.alloc(),
+        rt,
         words,
-        &files,
+        &OverFiles::new(rt),
         &mut reader,
         &mut writer,
         &mut faults,
@@ -116,4 +114,14 @@ pub fn outcome<R: Files + AllocGlobal>(
 /// What a sink took, as text.
 pub fn taken(alloc: Global, sink: &LimitedSink) -> Result<String, Fail> {
     String::from_utf8(sink.taken().to_vec(alloc)?).map_err(|_| Fail::from("no text"))
+}
+
+/// Removes a file, and its log where there is one.
+pub fn remove(rt: &HostRuntime, path: &str) -> Result<(), Fail> {
+    let log = format!(in rt.alloc(); "{path}-wal")?;
+    if fs::exists(rt, log.as_str())? {
+        fs::remove_file(rt, log.as_str())?;
+    }
+    fs::remove_file(rt, path)?;
+    Ok(())
 }

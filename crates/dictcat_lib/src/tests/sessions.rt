@@ -2,8 +2,9 @@ use super::fixtures::{
     BANNER, CLOSING, DOT, EDGE_INDEX, EDGE_TEXT, GEM_INDEX, GEM_TEXT, OPAL, PLUS_INDEX, PLUS_TEXT,
     Pieces, taken,
 };
-use crate::{Fault, run_plain};
+use crate::run_plain;
 use dict_io::{LimitedSink, OverRead};
+use dict_printed::Fault;
 use std::alloc::Global;
 use std::test::Fail;
 

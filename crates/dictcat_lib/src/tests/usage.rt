@@ -1,9 +1,9 @@
 use super::fixtures::{outcome, taken};
 use crate::program::NOT_TEXT;
 use crate::refuse_words;
-use crate::words::command_line;
 use clap::error::ErrorKind;
 use dict_io::LimitedSink;
+use dict_words::command_line;
 use std::io;
 use std::test::Fail;
 
@@ -12,8 +12,10 @@ const HELP: &str = "A DICT server (RFC 2229) whose answers are proved
 Usage: dictcat <COMMAND>
 
 Commands:
-  plain  Runs a DICT session on standard input and output over one database
-  help   Print this message or the help of the given subcommand(s)
+  plain    Runs a DICT session on standard input and output over one database
+  create   Makes an empty catalogue in FILE
+  session  Runs a DICT session on standard input and output over a catalogue
+  help     Print this message or the help of the given subcommand(s)
 
 Options:
   -h, --help     Print help
@@ -60,7 +62,7 @@ fn tells_what_is_wrong_with_the_words(rt: HostRuntime) -> Result<(), Fail> {
     let rows: [(&[&str], &str, &str); 5] = [
         (
             &["dictcat"],
-            "error: 'dictcat' requires a subcommand but one was not provided\n  [subcommands: plain, help]",
+            "error: 'dictcat' requires a subcommand but one was not provided\n  [subcommands: plain, create, session, help]",
             "<COMMAND>",
         ),
         (

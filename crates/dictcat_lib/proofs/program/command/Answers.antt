@@ -1,5 +1,10 @@
-use Rattle.std.proofs.Common.{refl}
+use Rattle.std.proofs.Common.{refl, inl, inr}
 use Rattle.dictcat_lib.proofs.program.command.Goals as goal
 
 pub returns-in-Err : goal.returns-in-Err
-returns-in-Err g c = c.answer_words.ensures _ _ c.in-Err.ensures.err _ refl
+returns-in-Err g c =
+    let reader = g.S.Source.stream c.args.reader.now in
+    elim (c.answer_words.ensures _ c.in-Err.ensures.err (record { old = reader; new = reader }) refl) [
+      | inl (end, shown, closes) ↦ inl (end, inr shown, closes)
+      | inr misread ↦ inr misread
+    ]

@@ -1,0 +1,21 @@
+-- What is written to standard output.
+use Rattle.std.specs.Prelude.{◌≡◌, ℕ, List, Result, Ok, Err}
+use Rattle.dict_io.specs.Streams.{Change, PutsAll, PutsFront}
+use Rattle.dict_printed.specs.declared.fault.Fault.{Fault}
+use Rattle.dict_printed.specs.declared.fault.Fault.TheVariants as faults
+
+-- a reader or a writer was left alone
+abbrev pub IsUntouched : Change → Type 0
+IsUntouched change = change.new ≡ change.old
+
+-- a text was written; or where the writer failed a front of it; or memory for it ran out
+abbrev pub Writes : List ℕ → Result (Unit {0}) Fault → Change → Type 0
+Writes text (Ok _) writer = PutsAll writer.old writer.new text
+Writes text (Err faults.CannotWrite) writer = PutsFront writer.old writer.new text
+Writes text (Err faults.Memory) writer = IsUntouched writer
+Writes text (Err (faults.Line refusal line)) writer = ⊥
+Writes text (Err (faults.Edition refusal)) writer = ⊥
+Writes text (Err (faults.Refused refusal)) writer = ⊥
+Writes text (Err (faults.Store fault)) writer = ⊥
+Writes text (Err (faults.CannotRead path)) writer = ⊥
+Writes text (Err faults.SessionEnded) writer = ⊥

@@ -1,0 +1,11 @@
+//! What the program prints, and the statuses that it ends with.
+#![tactic(auto)]
+
+mod fault;
+mod listing;
+
+pub use fault::{Fault, StoreFault};
+pub use listing::put_list;
+
+#[cfg(test)]
+mod tests;

@@ -1,0 +1,62 @@
+-- What the words of a command line ask for.
+use Rattle.std.specs.Prelude.{◌≡◌, ◌⊎◌, List, [], Option, None, Some, codes, option_and_then, bytes_eq, if◌then◌else◌}
+use Rattle.clap.specs.Simple.{subcommand_of}
+use Rattle.clap.specs.Walk.{Row, Text, first_of}
+use Rattle.clap.specs.Kinds.{Kinds, IsAmong}
+use Rattle.clap.specs.Faults.{fault_of}
+use Rattle.clap.specs.declared.error.kind.ErrorKind.{ErrorKind}
+use Rattle.clap.specs.declared.error.kind.ErrorKind.TheVariants as kinds
+use Rattle.dict_words.specs.Line.{command_line}
+use Rattle.dict_words.specs.declared.task.Task.{Task}
+use Rattle.dict_words.specs.declared.task.Task.TheVariants as tasks
+
+-- what is asked for, by its words: the name, the index and the text of a database, or a file
+pub data Asked : Type 0 where
+  plain : Text → Text → Text → Asked
+  create : Text → Asked
+  session : Text → Asked
+
+-- the same of a task
+abbrev pub task_shown : Task → Asked
+task_shown (tasks.Plain name index text) = plain name.now index.now text.now
+task_shown (tasks.Create file) = create file.now
+task_shown (tasks.Session file) = session file.now
+
+-- with the text of a word, where it is there
+abbrev pub with_text : {A : Type 0} → Text → List Row → (Text → Option A) → Option A
+with_text id rows next = option_and_then next (first_of id rows)
+
+abbrev pub on_file : List Row → (Text → Asked) → Option Asked
+on_file rows of = with_text (codes "FILE") rows (λ file. Some (of file))
+
+abbrev pub plain_asked : List Row → Option Asked
+plain_asked rows = with_text (codes "NAME") rows (λ name. with_text (codes "INDEX") rows (λ index. with_text (codes "DICT") rows (λ text. Some (plain name index text))))
+
+-- what a subcommand of this name asks for, by its words
+abbrev pub asked_by : Text → List Row → Option Asked
+asked_by name rows =
+    if bytes_eq name (codes "plain") then plain_asked rows
+    else (if bytes_eq name (codes "create") then on_file rows create
+    else (if bytes_eq name (codes "session") then on_file rows session
+    else None))
+
+-- the same of the subcommand that was used, if one was
+abbrev pub found_asked : Option (Text × List Row) → Option Asked
+found_asked None = None
+found_asked (Some used) = asked_by used.0 used.1
+
+-- what is wrong with the words, or that they ask for help or for the version
+abbrev pub mistakes_in : List Text → Kinds
+mistakes_in words = fault_of command_line words
+
+-- the words, of which the first is the program's name, ask for the task
+abbrev pub Asks : List Text → Task → Type 0
+Asks words task = (mistakes_in words ≡ []) × (found_asked (subcommand_of command_line words) ≡ Some (task_shown task))
+
+-- they ask for nothing
+abbrev pub AskNothing : List Text → Type 0
+AskNothing words = (mistakes_in words ≡ []) × (found_asked (subcommand_of command_line words) ≡ None)
+
+-- why there is no task: memory, a mistake, help or the version, or nothing is asked
+abbrev pub Fails : List Text → ErrorKind → Type 0
+Fails words kind = (kind ≡ kinds.OutOfMemory) ⊎ (IsAmong kind (mistakes_in words) ⊎ ((kind ≡ kinds.MissingSubcommand) × AskNothing words))

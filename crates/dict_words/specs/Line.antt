@@ -1,0 +1,41 @@
+-- The command line that the program declares, as clap's definitions read it. What words mean on a command line is clap's matter.
+use Rattle.std.specs.Prelude.{◌≡◌, List, [], ◌∷◌, ◌++◌, map, codes, true, false}
+use Rattle.clap.specs.Simple.{App, Shape, app_of, new_shape, new_rule}
+use Rattle.clap.specs.Walk.{Rule, Text}
+use Rattle.clap.specs.declared.builder.command.Command.{Command}
+use Rattle.clap.specs.declared.builder.command.Command.TheViews.{out-Command}
+
+-- a word that has to be there
+abbrev pub word : Text → Rule
+word id = record (new_rule id) { required = true }
+
+-- a subcommand that takes these words, in this order
+abbrev pub leaf : Text → List Text → Shape
+leaf name words = record (new_shape name) { rules = map word words }
+
+-- a command without subcommands
+abbrev pub alone : Shape → App
+alone shape = record { top = shape; subs = [] }
+
+-- a command with these subcommands behind its own
+abbrev pub with_all : App → List Shape → App
+with_all app added = record { top = record app.top { is_leaf = false }; subs = app.subs ++ added }
+
+-- the subcommands: a session over two files, a catalogue that is made in a file, a session over a file's catalogue
+abbrev pub subcommands : List Shape
+subcommands =
+    leaf (codes "plain") (codes "NAME" ∷ codes "INDEX" ∷ codes "DICT" ∷ [])
+    ∷ leaf (codes "create") (codes "FILE" ∷ [])
+    ∷ leaf (codes "session") (codes "FILE" ∷ []) ∷ []
+
+-- the program's name and its version; words have to name a subcommand
+abbrev pub required : Shape
+required = record (new_shape (codes "dictcat")) { has_version = true; subcommand_required = true }
+
+-- the command line that the program reads
+unfoldable pub command_line : App
+command_line = with_all (alone required) subcommands
+
+-- what clap reads by this command is what the app says
+abbrev pub Reads : App → Command → Type 0
+Reads app c = (app_of c ≡ app) × ((out-Command c).has_globals ≡ false)

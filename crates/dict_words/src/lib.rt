@@ -1,0 +1,10 @@
+//! What the words of the program's command line ask for.
+#![tactic(auto)]
+
+mod line;
+mod reading;
+mod task;
+
+pub use line::command_line;
+pub use reading::read_words;
+pub use task::Task;

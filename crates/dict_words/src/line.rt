@@ -1,0 +1,69 @@
+// The command line, as it is declared.
+ghost use Rattle.std.specs.Prelude.{◌≡◌, IfOk, false, map};
+ghost use Rattle.clap.specs.Walk.{rule_of};
+ghost use Rattle.dict_words.specs.Line.{word, leaf, alone, required, command_line, Reads};
+
+use clap::{Arg, Command};
+use std::alloc::{AllocError, Global};
+
+// A word that has to be there.
+fn word<'w>(alloc: Global, id: &'w str, help: &'w str) -> Arg<'w>
+    ensures rule { rule_of result ≡ word id.entry.now }
+    ensures local { result.global ≡ false }
+{
+    Arg::new(alloc, id).required(true).help(help)
+}
+
+// A subcommand that takes these words, each with its help.
+fn leaf<'w>(
+    alloc: Global,
+    name: &'w str,
+    about: &'w str,
+    words: &[(&'w str, &'w str)],
+) -> Result<Command<'w>, AllocError>
+    ensures { IfOk result (Reads (alone (leaf name.entry.now (map (λ one. one.0.now) words.now)))) }
+{
+    let mut line = Command::new(alloc, name).about(about);
+    for (id, help) in words {
+        line = line.arg(word(alloc, *id, *help))?;
+    }
+    Ok(line)
+}
+
+const FILE: (&str, &str) = ("FILE", "The catalogue's file");
+
+const NAME: (&str, &str) = ("NAME", "The database's name");
+
+const INDEX: (&str, &str) = ("INDEX", "The database's index file");
+
+const DICT: (&str, &str) = ("DICT", "The database's text file");
+
+/// The command line that the program reads.
+pub fn command_line<'w>(alloc: Global) -> Result<Command<'w>, AllocError>
+    ensures { IfOk result (Reads command_line) }
+{
+    let line = Command::new(alloc, "dictcat")
+        .about("A DICT server (RFC 2229) whose answers are proved")
+        .version("0.1.0")
+        .subcommand_required(true);
+    with_subcommands(alloc, line)
+}
+
+// Adds the subcommands.
+fn with_subcommands<'w>(alloc: Global, line: Command<'w>) -> Result<Command<'w>, AllocError>
+    ensures { Reads (alone required) line.entry → IfOk result (Reads command_line) }
+{
+    line.subcommand(leaf(
+        alloc,
+        "plain",
+        "Runs a DICT session on standard input and output over one database",
+        &[NAME, INDEX, DICT],
+    )?)?
+    .subcommand(leaf(alloc, "create", "Makes an empty catalogue in FILE", &[FILE])?)?
+    .subcommand(leaf(
+        alloc,
+        "session",
+        "Runs a DICT session on standard input and output over a catalogue",
+        &[FILE],
+    )?)
+}
