@@ -1,5 +1,5 @@
 -- A database holds one catalogue at most, and so do trees that are left of one.
-use Rattle.std.proofs.Common.{◌≡◌, ℕ, ℤ, pos, Bool, true, false, List, [], ◌∷◌, map, codes, refl, sym, ap, subst, ◌∙◌}
+use Rattle.std.proofs.Common.{◌≡◌, ℕ, ℤ, pos, Bool, true, false, List, [], ◌∷◌, map, codes, refl, sym, subst, ◌∙◌}
 use Rattle.std.specs.Prelude.{◌≤ℤ◌, bytes_eq, cond, filter, IsTrue}
 use Rattle.std.specs.List.{AllByRecursion}
 use Rattle.std.specs.List.Sorted.{IsPermutation}

@@ -1,6 +1,6 @@
 -- Each row of a database that holds a catalogue stands for a record.
-use Rattle.std.proofs.Common.{◌≡◌, ◌⊎◌, inl, inr, ℕ, ◌+◌, ◌<◌, ℤ, pos, Bool, true, false, ◌||◌, ◌&&◌, ◌==◌, List, [], ◌∷◌, map, drop, codes, Option, Some, None, refl, sym, subst, ◌∙◌, arith, eqb-true}
-use Rattle.std.specs.Prelude.{filter, bytes_eq, nat_le, IsTrue, option_map}
+use Rattle.std.proofs.Common.{◌≡◌, ◌⊎◌, inl, inr, ℕ, ◌+◌, ◌<◌, ℤ, pos, Bool, true, false, ◌||◌, ◌&&◌, ◌==◌, List, [], ◌∷◌, map, drop, codes, Option, Some, None, refl, sym, subst, arith, eqb-true}
+use Rattle.std.specs.Prelude.{bytes_eq, nat_le, IsTrue, option_map}
 use Rattle.std.specs.List.{AllByRecursion, list_all, list_any}
 use Rattle.std.specs.Str.{IsAscii, IsUtf8}
 use Rattle.std.proofs.lemmas.Bool.{false≢true, and_parts, or_cases, leb-true}
@@ -29,7 +29,7 @@ use Rattle.dict_catalogue.specs.declared.reply.Verb.{Verb}
 use Rattle.dict_catalogue.specs.declared.reply.Verb.TheVariants.{Install, Rollback, Retire, Virtual, Place}
 use Rattle.dict_catalogue.proofs.ItemLemmas.{same_text, text_itself}
 use Rattle.dict_rows.specs.Tables.{Tables, same_number, members_of_owner, editions_numbered, entries_of}
-use Rattle.dict_rows.specs.Written.{numbered, mark_record, item_record, member_record, entry_record, verb_name, kept_record}
+use Rattle.dict_rows.specs.Written.{numbered, item_record, member_record, entry_record, verb_name, kept_record}
 use Rattle.dict_rows.specs.Stands.{HoldsMembers, HoldsEdition, HoldsEditions, has_number, Stands}
 use Rattle.dict_rows.proofs.OrderLemmas.{IsIn, in_all, all_same, all_with, passed_in}
 use Rattle.dict_rows.proofs.TakenLemmas.{same_number_is, same_itself}

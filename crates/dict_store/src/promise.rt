@@ -16,7 +16,7 @@ use std::alloc::Global;
 /// Applies commands to a file one after another, each under the id of its request, and tells what each was answered.
 ///
 /// Wherever it is stopped, and however the store fails: what is left on the disk holds the catalogue after a front of the
-/// commands, and this front has every command that was answered. A refusal doesn't stop it; the first failure does.
+/// commands, and no other; this front has every command that was answered, and at most one more. A refusal doesn't stop it; the first failure does.
 pub fn apply_to_file<S: Alter + Drop>(
     alloc: Global,
     desk: &mut Desk<S>,

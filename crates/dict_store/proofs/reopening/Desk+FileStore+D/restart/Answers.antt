@@ -1,4 +1,4 @@
-use Rattle.std.proofs.Common.{take, subst, sym, ◌∙◌, arith}
+use Rattle.std.proofs.Common.{take, subst, sym, arith}
 use Rattle.std.proofs.Math.Logic.{∥∥₁_map, ∥∥₁_elim}
 use Rattle.sqlite_disk.specs.declared.Files.{Files}
 use Rattle.sqlite.specs.Tree.{Trees}
