@@ -7,22 +7,15 @@ counts its replies, and the program itself opens the file. It prints how many fi
 """
 
 import pathlib
-import shutil
 import sqlite3
 import subprocess
 import sys
 import tempfile
 import time
 
+from store import copied
+
 HERE = pathlib.Path(__file__).resolve().parent
-
-
-def copied(path, to):
-    """A copy of the file and its log."""
-    for end in ("", "-wal"):
-        if pathlib.Path(f"{path}{end}").exists():
-            shutil.copyfile(f"{path}{end}", f"{to}{end}")
-    return to
 
 
 def accepted(path):
