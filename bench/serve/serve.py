@@ -43,8 +43,17 @@ def opened(address):
     it.setsockopt(socket.IPPROTO_TCP, socket.TCP_NODELAY, 1)
     greeting = b""
     while not greeting.endswith(b"\r\n"):
-        greeting += it.recv(4096)
+        more = it.recv(4096)
+        assert more, "no greeting"
+        greeting += more
     return it
+
+
+def closed(held):
+    """Closes connections, and leaves the server time to see it: while 64 are open it takes no other."""
+    for it in held:
+        it.close()
+    time.sleep(0.2)
 
 
 def install(address, folder):
@@ -80,8 +89,7 @@ def measure(pid, address, count, question, end):
                 partial[it], began[it] = b"", now
                 it.sendall(question)
     passed, used = time.perf_counter() - start, spent(pid) - before
-    for it in held:
-        it.close()
+    closed(held)
     micro = 1e6
     return len(taken) / passed, statistics.median(taken) * micro, max(taken) * micro, used / len(taken) * micro
 
@@ -102,8 +110,7 @@ def main():
             before = spent(server.pid)
             time.sleep(IDLE_SECONDS)
             print(f"idle, {count:2} connections: {(spent(server.pid) - before) * 1000:.0f} ms of the processor in {IDLE_SECONDS:.0f} s, {memory(server.pid)} kB of memory")
-            for it in held:
-                it.close()
+            closed(held)
         late = opened(dict_address)
         time.sleep(1.5)
         start = time.perf_counter()

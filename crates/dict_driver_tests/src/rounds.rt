@@ -1,6 +1,6 @@
 // So many rounds, one after another.
 use super::serving::Play;
-use dict_driver::{Served, pace, serve};
+use dict_driver::{Served, pace};
 use std::test::Fail;
 
 #[test]
@@ -11,7 +11,7 @@ fn three_rounds(rt: HostRuntime) -> Result<(), Fail> {
     play.send(0, b"STATUS\r\n")?;
     let (rounds, wait) = pace(Some(3));
     assert_eq!(rt; rounds, 3);
-    let end = serve(&mut play.driver, &mut play.desk, rounds, wait)?;
+    let end = play.serve(rounds, wait)?;
     assert_eq!(rt; end, Served::Whole);
     play.look(0, b"210 0 databases\r\n")?;
     assert_eq!(rt; pace(None).0, u64::MAX);

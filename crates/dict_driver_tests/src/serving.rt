@@ -1,10 +1,11 @@
 // A driver over a catalogue in memory, and clients of it, in one thread.
 use dict_desk::PlainDesk;
-use dict_driver::Driver;
+use dict_driver::{Driver, Served, serve};
 use std::alloc::Global;
 use std::io::{ErrorKind, Read, Result as IoResult, Write};
 use std::net::{IpAddr, Ipv4Addr, Net, Shutdown, SocketAddr, TcpStream};
 use std::test::Fail;
+use std::time::Duration;
 
 pub(crate) const PUT: &str =
     "PUT /databases/gem HTTP/1.1\r\nRequest-Id: r1\r\nContent-Length: 101\r\n\r\n53\n00-database-short\tA\tZ\nopal\tZ\tP\nFire Opal\tZ\tP\ndot\to\tF\n00-database-short\n  Gems\nopal\n  a stone\n.dot\n";
@@ -99,6 +100,11 @@ impl Play {
     /// One round. Whether anything happened.
     pub(crate) fn round(&mut self) -> IoResult<bool> {
         self.driver.round(&mut self.desk)
+    }
+
+    /// So many rounds.
+    pub(crate) fn serve(&mut self, rounds: u64, wait: Duration) -> IoResult<Served> {
+        serve(&mut self.driver, &mut self.desk, rounds, wait)
     }
 
     /// Rounds until nothing happens in one.
