@@ -1,4 +1,6 @@
--- What a turn of one connection does.
+-- What a turn of one connection does. Of a transport in memory the octets that it took and that it gives are known. Of a socket they
+-- aren't (`None`), so nothing is claimed of them: that a socket carries what it took, and gives what its peer sent, is shown by tests
+-- alone.
 use Rattle.std.specs.Prelude.{◌≡◌, ℕ, true, List, ◌++◌, Option}
 use Rattle.std.specs.Io.KnownBytes.{Appends, Consumes}
 use Rattle.dict_hub.specs.Runs.{Accepted}
