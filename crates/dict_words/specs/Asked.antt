@@ -1,5 +1,5 @@
 -- What the words of a command line ask for.
-use Rattle.std.specs.Prelude.{◌≡◌, ◌⊎◌, List, [], Option, None, Some, codes, option_and_then, bytes_eq, if◌then◌else◌}
+use Rattle.std.specs.Prelude.{◌≡◌, ◌⊎◌, List, [], Option, None, Some, codes, option_map, option_and_then, bytes_eq, if◌then◌else◌}
 use Rattle.clap.specs.Simple.{subcommand_of}
 use Rattle.clap.specs.Walk.{Row, Text, first_of}
 use Rattle.clap.specs.Kinds.{Kinds, IsAmong}
@@ -7,20 +7,40 @@ use Rattle.clap.specs.Faults.{fault_of}
 use Rattle.clap.specs.declared.error.kind.ErrorKind.{ErrorKind}
 use Rattle.clap.specs.declared.error.kind.ErrorKind.TheVariants as kinds
 use Rattle.dict_words.specs.Line.{command_line}
+use Rattle.dict_words.specs.declared.task.Change.{Change}
+use Rattle.dict_words.specs.declared.task.Change.TheVariants as changes
 use Rattle.dict_words.specs.declared.task.Task.{Task}
 use Rattle.dict_words.specs.declared.task.Task.TheVariants as tasks
 
--- what is asked for, by its words: the name, the index and the text of a database, or a file
+-- what is changed: an edition of these two files is installed, the current edition rolled back, the item retired
+pub data AskedChange : Type 0 where
+  install : Text → Text → AskedChange
+  rollback : AskedChange
+  retire : AskedChange
+
+-- what is asked for, by its words: the name, the index and the text of a database; or a file; or a file, a name, the id of
+-- a request, and a change
 pub data Asked : Type 0 where
   plain : Text → Text → Text → Asked
   create : Text → Asked
+  list : Text → Asked
+  audit : Text → Asked
   session : Text → Asked
+  change : Text → Text → Text → AskedChange → Asked
 
 -- the same of a task
+abbrev pub change_shown : Change → AskedChange
+change_shown (changes.Install index text) = install index.now text.now
+change_shown changes.Rollback = rollback
+change_shown changes.Retire = retire
+
 abbrev pub task_shown : Task → Asked
 task_shown (tasks.Plain name index text) = plain name.now index.now text.now
 task_shown (tasks.Create file) = create file.now
+task_shown (tasks.List file) = list file.now
+task_shown (tasks.Audit file) = audit file.now
 task_shown (tasks.Session file) = session file.now
+task_shown (tasks.Change file name id what) = change file.now name.now id.now (change_shown what)
 
 -- with the text of a word, where it is there
 abbrev pub with_text : {A : Type 0} → Text → List Row → (Text → Option A) → Option A
@@ -32,13 +52,26 @@ on_file rows of = with_text (codes "FILE") rows (λ file. Some (of file))
 abbrev pub plain_asked : List Row → Option Asked
 plain_asked rows = with_text (codes "NAME") rows (λ name. with_text (codes "INDEX") rows (λ index. with_text (codes "DICT") rows (λ text. Some (plain name index text))))
 
+abbrev pub install_asked : List Row → Option AskedChange
+install_asked rows = with_text (codes "INDEX") rows (λ index. with_text (codes "DICT") rows (λ text. Some (install index text)))
+
+abbrev pub change_asked : List Row → Option AskedChange → Option Asked
+change_asked rows what =
+    with_text (codes "FILE") rows (λ file. with_text (codes "NAME") rows (λ name. with_text (codes "ID") rows (λ id.
+    option_map (change file name id) what)))
+
 -- what a subcommand of this name asks for, by its words
 abbrev pub asked_by : Text → List Row → Option Asked
 asked_by name rows =
     if bytes_eq name (codes "plain") then plain_asked rows
     else (if bytes_eq name (codes "create") then on_file rows create
+    else (if bytes_eq name (codes "list") then on_file rows list
+    else (if bytes_eq name (codes "audit") then on_file rows audit
     else (if bytes_eq name (codes "session") then on_file rows session
-    else None))
+    else (if bytes_eq name (codes "install") then change_asked rows (install_asked rows)
+    else (if bytes_eq name (codes "rollback") then change_asked rows (Some rollback)
+    else (if bytes_eq name (codes "retire") then change_asked rows (Some retire)
+    else None)))))))
 
 -- the same of the subcommand that was used, if one was
 abbrev pub found_asked : Option (Text × List Row) → Option Asked

@@ -21,12 +21,21 @@ alone shape = record { top = shape; subs = [] }
 abbrev pub with_all : App → List Shape → App
 with_all app added = record { top = record app.top { is_leaf = false }; subs = app.subs ++ added }
 
--- the subcommands: a session over two files, a catalogue that is made in a file, a session over a file's catalogue
-abbrev pub subcommands : List Shape
-subcommands =
+-- what makes or reads a file, or serves a session
+abbrev pub readings : List Shape
+readings =
     leaf (codes "plain") (codes "NAME" ∷ codes "INDEX" ∷ codes "DICT" ∷ [])
     ∷ leaf (codes "create") (codes "FILE" ∷ [])
+    ∷ leaf (codes "list") (codes "FILE" ∷ [])
+    ∷ leaf (codes "audit") (codes "FILE" ∷ [])
     ∷ leaf (codes "session") (codes "FILE" ∷ []) ∷ []
+
+-- what changes a file's catalogue
+abbrev pub changes : List Shape
+changes =
+    leaf (codes "install") (codes "FILE" ∷ codes "NAME" ∷ codes "ID" ∷ codes "INDEX" ∷ codes "DICT" ∷ [])
+    ∷ leaf (codes "rollback") (codes "FILE" ∷ codes "NAME" ∷ codes "ID" ∷ [])
+    ∷ leaf (codes "retire") (codes "FILE" ∷ codes "NAME" ∷ codes "ID" ∷ []) ∷ []
 
 -- the program's name and its version; words have to name a subcommand
 abbrev pub required : Shape
@@ -34,7 +43,7 @@ required = record (new_shape (codes "dictcat")) { has_version = true; subcommand
 
 -- the command line that the program reads
 unfoldable pub command_line : App
-command_line = with_all (alone required) subcommands
+command_line = with_all (with_all (alone required) readings) changes
 
 -- what clap reads by this command is what the app says
 abbrev pub Reads : App → Command → Type 0

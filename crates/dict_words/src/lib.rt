@@ -7,4 +7,4 @@ mod task;
 
 pub use line::command_line;
 pub use reading::read_words;
-pub use task::Task;
+pub use task::{Change, Task};

@@ -1,7 +1,7 @@
 // The command line, as it is declared.
 ghost use Rattle.std.specs.Prelude.{◌≡◌, IfOk, false, map};
 ghost use Rattle.clap.specs.Walk.{rule_of};
-ghost use Rattle.dict_words.specs.Line.{word, leaf, alone, required, command_line, Reads};
+ghost use Rattle.dict_words.specs.Line.{word, leaf, alone, required, command_line, with_all, readings, Reads};
 
 use clap::{Arg, Command};
 use std::alloc::{AllocError, Global};
@@ -34,6 +34,11 @@ const FILE: (&str, &str) = ("FILE", "The catalogue's file");
 
 const NAME: (&str, &str) = ("NAME", "The database's name");
 
+const ID: (&str, &str) = (
+    "ID",
+    "The request's id: 1 to 64 letters, digits and hyphens; the same for a retry, and a new one for a new request",
+);
+
 const INDEX: (&str, &str) = ("INDEX", "The database's index file");
 
 const DICT: (&str, &str) = ("DICT", "The database's text file");
@@ -46,12 +51,12 @@ pub fn command_line<'w>(alloc: Global) -> Result<Command<'w>, AllocError>
         .about("A DICT server (RFC 2229) whose answers are proved")
         .version("0.1.0")
         .subcommand_required(true);
-    with_subcommands(alloc, line)
+    with_changes(alloc, with_readings(alloc, line)?)
 }
 
-// Adds the subcommands.
-fn with_subcommands<'w>(alloc: Global, line: Command<'w>) -> Result<Command<'w>, AllocError>
-    ensures { Reads (alone required) line.entry → IfOk result (Reads command_line) }
+// Adds what makes or reads a file, or serves a session.
+fn with_readings<'w>(alloc: Global, line: Command<'w>) -> Result<Command<'w>, AllocError>
+    ensures { Reads (alone required) line.entry → IfOk result (Reads (with_all (alone required) readings)) }
 {
     line.subcommand(leaf(
         alloc,
@@ -60,10 +65,41 @@ fn with_subcommands<'w>(alloc: Global, line: Command<'w>) -> Result<Command<'w>,
         &[NAME, INDEX, DICT],
     )?)?
     .subcommand(leaf(alloc, "create", "Makes an empty catalogue in FILE", &[FILE])?)?
+    .subcommand(leaf(alloc, "list", "Lists the items of a catalogue", &[FILE])?)?
+    .subcommand(leaf(
+        alloc,
+        "audit",
+        "Reads a catalogue whole, and tells whether it is sound",
+        &[FILE],
+    )?)?
     .subcommand(leaf(
         alloc,
         "session",
         "Runs a DICT session on standard input and output over a catalogue",
         &[FILE],
+    )?)
+}
+
+// Adds what changes a catalogue.
+fn with_changes<'w>(alloc: Global, line: Command<'w>) -> Result<Command<'w>, AllocError>
+    ensures { Reads (with_all (alone required) readings) line.entry → IfOk result (Reads command_line) }
+{
+    line.subcommand(leaf(
+        alloc,
+        "install",
+        "Makes an edition the current one of a database",
+        &[FILE, NAME, ID, INDEX, DICT],
+    )?)?
+    .subcommand(leaf(
+        alloc,
+        "rollback",
+        "Swaps the current and the former edition of a database",
+        &[FILE, NAME, ID],
+    )?)?
+    .subcommand(leaf(
+        alloc,
+        "retire",
+        "Takes a database out of the catalogue",
+        &[FILE, NAME, ID],
     )?)
 }

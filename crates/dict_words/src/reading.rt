@@ -4,10 +4,10 @@ ghost use Rattle.clap.specs.Values.{kind_of};
 ghost use Rattle.clap.specs.Walk.{rows_of, first_of};
 ghost use Rattle.clap.specs.Simple.{subcommand_rows_of};
 ghost use Rattle.clap.specs.Matches.{found_of};
-ghost use Rattle.dict_words.specs.Asked.{Asks, Fails, task_shown, found_asked, asked_by, plain_asked};
+ghost use Rattle.dict_words.specs.Asked.{Asks, Fails, task_shown, change_shown, found_asked, asked_by, plain_asked, on_file, change_asked, install_asked};
 
 use crate::line::command_line;
-use crate::task::Task;
+use crate::task::{Change, Task};
 use clap::error::ErrorKind;
 use clap::{ArgMatches, Error};
 use std::alloc::Global;
@@ -43,9 +43,18 @@ fn task_by<'w>(name: &str, found: &ArgMatches<'w>) -> Option<Task<'w>>
         "create" => Some(Task::Create {
             file: file_of(found)?,
         }),
+        "list" => Some(Task::List {
+            file: file_of(found)?,
+        }),
+        "audit" => Some(Task::Audit {
+            file: file_of(found)?,
+        }),
         "session" => Some(Task::Session {
             file: file_of(found)?,
         }),
+        "install" => change_task(found, install_of(found)),
+        "rollback" => change_task(found, Some(Change::Rollback)),
+        "retire" => change_task(found, Some(Change::Retire)),
         _ => None,
     }
 }
@@ -58,6 +67,32 @@ fn plain_task<'w>(found: &ArgMatches<'w>) -> Option<Task<'w>>
         name: value_of(found, "NAME")?,
         index: value_of(found, "INDEX")?,
         text: value_of(found, "DICT")?,
+    })
+}
+
+// The files of an edition that is to be installed.
+fn install_of<'w>(found: &ArgMatches<'w>) -> Option<Change<'w>>
+    ensures { option_map change_shown result ≡ install_asked (rows_of (found_of found.now)) }
+{
+    Some(Change::Install {
+        index: value_of(found, "INDEX")?,
+        text: value_of(found, "DICT")?,
+    })
+}
+
+// What the words of a change ask for.
+fn change_task<'w>(found: &ArgMatches<'w>, change: Option<Change<'w>>) -> Option<Task<'w>>
+    ensures { option_map task_shown result ≡ change_asked (rows_of (found_of found.now)) (option_map change_shown change.entry) }
+{
+    let file = file_of(found)?;
+    let name = value_of(found, "NAME")?;
+    let id = value_of(found, "ID")?;
+    let change = change?;
+    Some(Task::Change {
+        file,
+        name,
+        id,
+        change,
     })
 }
 

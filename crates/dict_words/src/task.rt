@@ -13,8 +13,34 @@ pub enum Task<'w> {
     Create {
         file: &'w str,
     },
+    /// A list of the items of a file's catalogue.
+    List {
+        file: &'w str,
+    },
+    /// A test whether a file holds a catalogue.
+    Audit {
+        file: &'w str,
+    },
     /// A session on the standard streams over a file's catalogue.
     Session {
         file: &'w str,
     },
+    /// A change of a file's catalogue, about the item of this name, under the id of its request.
+    Change {
+        file: &'w str,
+        name: &'w str,
+        id: &'w str,
+        change: Change<'w>,
+    },
+}
+
+/// What is changed of the item.
+#[derive(Clone, Copy, Debug, PartialEq, Eq)]
+pub enum Change<'w> {
+    /// The edition that an index and a text make becomes the current one.
+    Install { index: &'w str, text: &'w str },
+    /// The current and the former edition are swapped.
+    Rollback,
+    /// The item is taken out.
+    Retire,
 }

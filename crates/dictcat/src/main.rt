@@ -2,7 +2,8 @@
 #![tactic(auto)]
 
 use dict_io::{OverRead, OverWrite};
-use dictcat_lib::{OverFiles, command, refuse_words};
+use dict_tasks::OverFiles;
+use dictcat_lib::{command, refuse_words};
 use std::process::ExitCode;
 use std::rt::Env;
 use std::{env, io};

@@ -10,12 +10,13 @@ use Rattle.dict_file_session.specs.Over.{IsSpared}
 use Rattle.dict_file_session.specs.declared.fault.FileFault.{FileFault}
 use Rattle.dict_file_session.specs.declared.fault.FileFault.TheVariants.{Opening, Session}
 use Rattle.dict_words.specs.declared.task.Task.{Task}
-use Rattle.dict_words.specs.declared.task.Task.TheVariants.{Plain, Create, Session as SpeaksOver}
+use Rattle.dict_words.specs.declared.task.Task.TheVariants.{Plain, Create, List as Lists, Audit, Session as SpeaksOver, Change as Changes}
 use Rattle.dict_printed.specs.Faults.{status_of}
 use Rattle.dict_printed.specs.declared.fault.Fault.{Fault}
 use Rattle.dict_printed.specs.declared.fault.Fault.TheVariants.{Line, Edition, Refused, Store, CannotRead, SessionEnded, CannotWrite, Memory}
-use Rattle.dictcat_lib.specs.Plain.{IsUntouched, FilesEnd}
+use Rattle.dict_printed.specs.Writing.{IsUntouched}
 use Rattle.dictcat_lib.specs.Opening.{over_told, HasSpoken}
+use Rattle.dictcat_lib.proofs.WritingLemmas.{list_spoils, audit_spoils, task_spoils, spoils_not_3, spoiled_failed}
 use Rattle.dictcat_lib.specs.Program.{CommandEnds, IsDone, IsFailed, IsBroken, Shows, TaskEnds}
 
 status_at_most_4 : (fault : Fault) → status_of fault ≤ 4
@@ -117,6 +118,9 @@ module _ {S : Type 0} (g : Ghosts S) where
   task_refused files (Plain name index text) CannotWrite reader writer h e = absurd (omega (arith, e))
   task_refused files (Plain name index text) Memory reader writer h e = absurd (omega (arith, e))
   task_refused files (Create file) fault reader writer h e = (h.1, h.2)
+  task_refused files (Lists file) fault reader writer h e = (h.1, spoils_not_3 fault writer (λ f. omega (arith, e, f)) (list_spoils g file.now fault writer h.0))
+  task_refused files (Audit file) fault reader writer h e = (h.1, spoils_not_3 fault writer (λ f. omega (arith, e, f)) (audit_spoils g file.now fault writer h.0))
+  task_refused files (Changes file name id what) fault reader writer h e = (h.1, spoils_not_3 fault writer (λ f. omega (arith, e, f)) (task_spoils g files file.now name.now id.now what fault writer h.0))
   task_refused files (SpeaksOver file) fault reader writer (inl h) e = (h.1, h.2)
   task_refused files (SpeaksOver file) fault reader writer (inr (conn, (left, end, is, spoken))) e =
       spoken_spared fault end reader writer is (λ f. omega (arith, e, f)) spoken.unopened
@@ -163,6 +167,9 @@ module _ {S : Type 0} (g : Ghosts S) where
   task_failed files (Plain name index text) CannotWrite reader writer (inr h) e = inl (h.1, h.2)
   task_failed files (Plain name index text) Memory reader writer h e = absurd (omega (arith, e))
   task_failed files (Create file) fault reader writer h e = inl (h.1, h.2)
+  task_failed files (Lists file) fault reader writer h e = spoiled_failed g fault reader writer h.1 (list_spoils g file.now fault writer h.0)
+  task_failed files (Audit file) fault reader writer h e = spoiled_failed g fault reader writer h.1 (audit_spoils g file.now fault writer h.0)
+  task_failed files (Changes file name id what) fault reader writer h e = spoiled_failed g fault reader writer h.1 (task_spoils g files file.now name.now id.now what fault writer h.0)
   task_failed files (SpeaksOver file) fault reader writer (inl h) e = inl (h.1, h.2)
   task_failed files (SpeaksOver file) fault reader writer (inr (conn, (left, end, is, spoken))) e = spoken_failed conn left fault end reader writer is spoken
 
@@ -201,6 +208,9 @@ module _ {S : Type 0} (g : Ghosts S) where
   task_memory files (Plain name index text) Memory reader writer (inl h) e = h.4
   task_memory files (Plain name index text) Memory reader writer (inr h) e = (h.1, h.2)
   task_memory files (Create file) fault reader writer h e = (h.1, h.2)
+  task_memory files (Lists file) fault reader writer h e = (h.1, spoils_not_3 fault writer (λ f. omega (arith, e, f)) (list_spoils g file.now fault writer h.0))
+  task_memory files (Audit file) fault reader writer h e = (h.1, spoils_not_3 fault writer (λ f. omega (arith, e, f)) (audit_spoils g file.now fault writer h.0))
+  task_memory files (Changes file name id what) fault reader writer h e = (h.1, spoils_not_3 fault writer (λ f. omega (arith, e, f)) (task_spoils g files file.now name.now id.now what fault writer h.0))
   task_memory files (SpeaksOver file) fault reader writer (inl h) e = (h.1, h.2)
   task_memory files (SpeaksOver file) fault reader writer (inr (conn, (left, end, is, spoken))) e =
       spoken_spared fault end reader writer is (λ f. omega (arith, e, f)) spoken.unopened

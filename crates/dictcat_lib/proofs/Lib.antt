@@ -1,2 +1,3 @@
 pub mod EndLemmas
 pub mod PlainLemmas
+pub mod WritingLemmas

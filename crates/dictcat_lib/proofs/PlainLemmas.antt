@@ -6,7 +6,8 @@ use Rattle.dict_session.specs.Run.{Ends}
 use Rattle.dict_session.specs.declared.session.run.SessionFault.{SessionFault}
 use Rattle.dict_session.specs.declared.session.run.SessionFault.TheVariants.{Read, Write, Broken, Memory}
 use Rattle.dict_catalogue.specs.Steps.{Catalogue}
-use Rattle.dictcat_lib.specs.Plain.{catalogue_of, told_by, IsUntouched, RunEnds, IsInstalled, Installs, PlainEnds}
+use Rattle.dict_printed.specs.Writing.{IsUntouched}
+use Rattle.dictcat_lib.specs.Plain.{catalogue_of, told_by, RunEnds, IsInstalled, Installs, PlainEnds}
 use Rattle.dict_printed.specs.declared.fault.Fault.{Fault}
 use Rattle.dict_printed.specs.declared.fault.Fault.TheVariants as faults
 use Rattle.dict_name.specs.Names.{is_name, is_request_id}

@@ -1,4 +1,4 @@
-pub mod Files
+pub mod Desks
 pub mod Opening
 pub mod Plain
 pub mod Program

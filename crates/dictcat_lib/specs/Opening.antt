@@ -18,7 +18,7 @@ use Rattle.dict_file_session.specs.declared.fault.FileFault.TheVariants as file_
 use Rattle.dict_printed.specs.Faults.{told_of}
 use Rattle.dict_printed.specs.declared.fault.Fault.{Fault}
 use Rattle.dict_printed.specs.declared.fault.Fault.TheVariants as faults
-use Rattle.dictcat_lib.specs.Plain.{IsUntouched}
+use Rattle.dict_printed.specs.Writing.{IsUntouched}
 
 -- the file with this path can't be had, or memory ran out
 abbrev pub IsUnopened : List ℕ → Fault → Type 0

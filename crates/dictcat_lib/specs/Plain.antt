@@ -11,13 +11,10 @@ use Rattle.dict_session.specs.Run.{Ends}
 use Rattle.dict_session.specs.declared.session.run.End.{End}
 use Rattle.dict_session.specs.declared.session.run.SessionFault.{SessionFault}
 use Rattle.dict_session.specs.declared.session.run.SessionFault.TheVariants as session_faults
-use Rattle.dictcat_lib.specs.Files.{IsReadFrom}
+use Rattle.dict_printed.specs.Writing.{IsUntouched}
+use Rattle.dict_tasks.specs.Files.{IsReadFrom, IsUnread}
 use Rattle.dict_printed.specs.declared.fault.Fault.{Fault}
 use Rattle.dict_printed.specs.declared.fault.Fault.TheVariants as faults
-
--- a reader or a writer was left alone
-abbrev pub IsUntouched : Change → Type 0
-IsUntouched change = change.new ≡ change.old
 
 -- the catalogue whose one command installed this edition under this name
 unfoldable pub catalogue_of : List ℕ → Edition → Catalogue
@@ -82,13 +79,7 @@ PlainEnds name index text (Err (faults.Store fault)) reader writer = ⊥
 PlainEnds name index text (Err (faults.CannotRead path)) reader writer = ⊥
 PlainEnds name index text (Err faults.CannotWrite) reader writer = ⊥
 
--- neither of two files was read whole: one can't be read, which none can be said of whose octets are known, or memory ran out
-abbrev pub IsUnread : {A : Type 0} → (List ℕ → Option (List ℕ)) → List ℕ → List ℕ → Result A Fault → Type 0
-IsUnread files index text (Err (faults.CannotRead path)) = ((path.now ≡ index) ⊎ (path.now ≡ text)) × (files path.now ≡ None)
-IsUnread files index text (Err faults.Memory) = Unit {0}
-IsUnread files index text _ = ⊥
-
--- the same of two files, by their paths
+-- what comes of two files, by their paths, and a name
 unfoldable pub FilesEnd : {A : Type 0} → (List ℕ → Option (List ℕ)) → List ℕ → List ℕ → List ℕ → Result A Fault → Change → Change → Type 0
 FilesEnd files name index text result reader writer =
     ((i : List ℕ) × (t : List ℕ) × IsReadFrom (files index) i × IsReadFrom (files text) t × PlainEnds name i t result reader writer)

@@ -5,18 +5,23 @@ use Rattle.clap.specs.declared.error.kind.ErrorKind.{ErrorKind}
 use Rattle.clap.specs.declared.error.kind.ErrorKind.TheVariants as kinds
 use Rattle.sqlite.specs.Held.{Held}
 use Rattle.sqlite_trees.specs.declared.store.Store.{Ghosts}
+use Rattle.dict_catalogue.specs.Commands.{rollback, retire}
 use Rattle.dict_io.specs.Streams.{Change, HasFailed, Puts, PutsAll, PutsFront}
 use Rattle.dict_io.specs.declared.sink.SinkFault.{SinkFault}
 use Rattle.dict_session.specs.declared.session.run.SessionFault.{SessionFault}
 use Rattle.dict_session.specs.declared.session.run.SessionFault.TheVariants as session_faults
 use Rattle.dict_file_session.specs.declared.fault.FileFault.TheVariants.{Session}
 use Rattle.dict_words.specs.Asked.{Asks, Fails, mistakes_in}
+use Rattle.dict_words.specs.declared.task.Change.{Change as AskedChange}
+use Rattle.dict_words.specs.declared.task.Change.TheVariants as changes
 use Rattle.dict_words.specs.declared.task.Task.{Task}
 use Rattle.dict_words.specs.declared.task.Task.TheVariants as tasks
 use Rattle.dict_printed.specs.Faults.{line_of, status_of}
 use Rattle.dict_printed.specs.declared.fault.Fault.{Fault}
 use Rattle.dict_printed.specs.declared.fault.Fault.TheVariants as faults
-use Rattle.dictcat_lib.specs.Plain.{IsUntouched, EndsOver, FilesEnd}
+use Rattle.dict_printed.specs.Writing.{IsUntouched}
+use Rattle.dictcat_lib.specs.Desks.{ListEnds, AuditEnds, ChangeEnds, InstallsOn}
+use Rattle.dictcat_lib.specs.Plain.{EndsOver, FilesEnd}
 use Rattle.dictcat_lib.specs.Opening.{CreateEnds, SessionEnds, HasSpoken}
 
 -- a text was put, or a front of it where the sink failed
@@ -90,11 +95,20 @@ module _ {S : Type 0} (g : Ghosts S) where
 
 -- Over files of these octets, by their paths.
 module _ {S : Type 0} (g : Ghosts S) (files : List ℕ → Option (List ℕ)) where
+  -- a change of a file's catalogue ends so
+  abbrev pub ChangeTaskEnds : List ℕ → List ℕ → List ℕ → AskedChange → Result (Unit {0}) Fault → Change → Type 0
+  ChangeTaskEnds file name id (changes.Install index text) end writer = InstallsOn g files file name id index.now text.now end writer
+  ChangeTaskEnds file name id changes.Rollback end writer = ChangeEnds g file id (rollback name) end writer
+  ChangeTaskEnds file name id changes.Retire end writer = ChangeEnds g file id (retire name) end writer
+
   -- a task ends so
   abbrev pub TaskEnds : Task → Result (Unit {0}) Fault → Change → Change → Type 0
   TaskEnds (tasks.Plain name index text) end reader writer = FilesEnd files name.now index.now text.now end reader writer
   TaskEnds (tasks.Create file) end reader writer = CreateEnds g file.now end × IsUntouched reader × IsUntouched writer
+  TaskEnds (tasks.List file) end reader writer = ListEnds g file.now end writer × IsUntouched reader
+  TaskEnds (tasks.Audit file) end reader writer = AuditEnds g file.now end writer × IsUntouched reader
   TaskEnds (tasks.Session file) end reader writer = SessionEnds g file.now end reader writer
+  TaskEnds (tasks.Change file name id what) end reader writer = ChangeTaskEnds file.now name.now id.now what end writer × IsUntouched reader
 
   -- what was asked for was done or not: a task, or help or the version; or memory ran out before
   abbrev pub Attempts : List (List ℕ) → Result (Unit {0}) Fault → Change → Change → Type 0

@@ -1,7 +1,7 @@
 // What each status tells.
 ghost use Rattle.std.specs.Prelude.{◌≤◌, ℕ, List, Option};
 ghost use Rattle.dict_io.specs.Streams.{Change};
-ghost use Rattle.dictcat_lib.specs.Plain.{IsUntouched};
+ghost use Rattle.dict_printed.specs.Writing.{IsUntouched};
 ghost use Rattle.dictcat_lib.specs.Program.{CommandEnds, IsDone, IsFailed};
 
 use sqlite::Alter;

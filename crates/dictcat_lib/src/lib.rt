@@ -1,7 +1,7 @@
 //! What the program dictcat does with the words that it is given.
 #![tactic(auto)]
 
-mod files;
+mod desks;
 mod laws;
 mod making;
 mod plain;
@@ -10,7 +10,6 @@ mod session;
 mod stores;
 mod task;
 
-pub use files::{InputFiles, OverFiles, ReadFault};
 pub use laws::status_laws;
 pub use plain::run_plain;
 pub use program::{command, refuse_words};

@@ -1,20 +1,19 @@
 // A session over one database in lists.
 ghost use Rattle.dict_io.specs.Streams.{change};
-ghost use Rattle.dictcat_lib.specs.Plain.{PlainEnds, RunEnds, Installs, FilesEnd, IsUnread, told_by};
-ghost use Rattle.dictcat_lib.specs.Files.{IsReadFrom};
-ghost use Rattle.std.specs.Prelude.{◌≡◌, MatchResult, codes};
+ghost use Rattle.dictcat_lib.specs.Plain.{PlainEnds, RunEnds, Installs, FilesEnd, told_by};
+ghost use Rattle.std.specs.Prelude.{◌≡◌, codes};
 ghost use Rattle.dict_index.specs.Edition.{edition_of};
 ghost use Rattle.dict_catalogue.specs.Commands.{install};
 ghost use Rattle.dict_catalogue.specs.Steps.{Catalogue, empty_catalogue, step};
 ghost use Rattle.dict_desk.specs.Applying.{Applies};
 
-use crate::files::{InputFiles, ReadFault};
 use dict_catalogue::{Command, Kept};
 use dict_desk::{Fault as DeskFault, Keeper, PlainDesk};
 use dict_index::{Edition, read_edition};
 use dict_io::{Sink, Source};
 use dict_printed::Fault;
 use dict_session::{SessionFault, run};
+use dict_tasks::{InputFiles, read_file};
 use std::alloc::Global;
 
 /// The host that the program's sessions are greeted by.
@@ -118,16 +117,4 @@ pub(crate) fn run_files<'w, I: InputFiles, S: Source, K: Sink>(
     let index = read_file(files, index)?;
     let text = read_file(files, text)?;
     run_plain(alloc, name, index, text, reader, writer)
-}
-
-// The octets of the file with this path.
-fn read_file<'w, I: InputFiles>(files: &I, path: &'w str) -> Result<Vec<u8>, Fault<'w>>
-    ensures { MatchResult result (λ read. IsReadFrom (I.octets files.now path.entry.now) read.items)
-        (λ _. IsUnread (I.octets files.now) path.entry.now path.entry.now result) }
-{
-    match files.read(path) {
-        Ok(octets) => Ok(octets),
-        Err(ReadFault::Unreadable) => Err(Fault::CannotRead(path)),
-        Err(ReadFault::Memory) => Err(Fault::Memory),
-    }
 }

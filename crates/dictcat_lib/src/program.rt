@@ -5,15 +5,15 @@ ghost use Rattle.std.specs.declared.io.ErrorKind.TheVariants.{OutOfMemory};
 ghost use Rattle.clap.specs.Values.{kind_of};
 ghost use Rattle.dict_words.specs.Asked.{Fails};
 ghost use Rattle.dictcat_lib.specs.Program.{AnswerEnds, CommandEnds, Closes, IsTold, Shows, Tells, TellsMistake, not_text};
-ghost use Rattle.dictcat_lib.specs.Plain.{IsUntouched};
+ghost use Rattle.dict_printed.specs.Writing.{IsUntouched};
 ghost use Rattle.dict_io.specs.Streams.{Change, change};
 
-use crate::files::InputFiles;
 use crate::task::perform;
 use clap::Error;
 use clap::error::ErrorKind;
 use dict_io::{Sink, Source};
 use dict_printed::Fault;
+use dict_tasks::InputFiles;
 use dict_words::read_words;
 use sqlite::{File, FileStore};
 use sqlite_trees::store::Store;

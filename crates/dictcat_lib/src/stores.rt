@@ -2,7 +2,6 @@
 ghost use Rattle.std.specs.Prelude.{◌≡◌, false, IfOk, IfErr};
 ghost use Rattle.dictcat_lib.specs.Opening.{IsUnopened};
 
-use crate::files::ReadFault;
 use dict_printed::Fault;
 use sqlite::{Connection, Error, ErrorCode, File, FileStore};
 use std::fs;

@@ -1,14 +1,16 @@
 // What is done of what the program is asked for.
 ghost use Rattle.dict_io.specs.Streams.{change};
-ghost use Rattle.dictcat_lib.specs.Program.{TaskEnds};
+ghost use Rattle.dictcat_lib.specs.Program.{TaskEnds, ChangeTaskEnds};
 
-use crate::files::InputFiles;
+use crate::desks::{audit_file, change_file, install_file, list_file};
 use crate::making::create_file;
 use crate::plain::run_files;
 use crate::session::run_session;
+use dict_catalogue::Command;
 use dict_io::{Sink, Source};
 use dict_printed::Fault;
-use dict_words::Task;
+use dict_tasks::{InputFiles, Wanted};
+use dict_words::{Change, Task};
 use sqlite::{File, FileStore};
 use sqlite_trees::store::Store;
 
@@ -28,6 +30,37 @@ pub fn perform<'w, I: InputFiles, S: Source, K: Sink>(
             run_files(rt.alloc(), name, index, text, files, reader, writer)
         }
         Task::Create { file } => create_file(rt, file),
+        Task::List { file } => list_file(rt, file, writer),
+        Task::Audit { file } => audit_file(rt, file, writer),
         Task::Session { file } => run_session(rt, file, reader, writer),
+        Task::Change {
+            file,
+            name,
+            id,
+            change,
+        } => perform_change(rt, file, name, id, change, files, writer),
+    }
+}
+
+// Changes the catalogue of a file.
+fn perform_change<'w, I: InputFiles, K: Sink>(
+    rt: &HostRuntime,
+    file: &'w str,
+    name: &'w str,
+    id: &'w str,
+    what: Change<'w>,
+    files: &I,
+    writer: &mut K,
+) -> Result<(), Fault<'w>>
+    ensures { ChangeTaskEnds ⟦<FileStore<File> as Store>⟧ (I.octets files.now) file.entry.now name.entry.now id.entry.now what.entry result
+        (change K.stream writer.old writer.new) }
+{
+    match what {
+        Change::Install { index, text } => {
+            let wanted = Wanted { name, index, text };
+            install_file(rt, file, id, wanted, files, writer)
+        }
+        Change::Rollback => change_file(rt, file, id, &Command::Rollback { name }, writer),
+        Change::Retire => change_file(rt, file, id, &Command::Retire { name }, writer),
     }
 }

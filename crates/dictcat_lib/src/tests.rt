@@ -1,4 +1,5 @@
 mod catalogues;
+mod editing;
 mod faults;
 mod fixtures;
 mod sessions;

@@ -2,8 +2,9 @@
 ghost use Rattle.std.specs.Prelude.{None, Some, codes, if◌then◌else◌};
 ghost use Rattle.std.specs.Str.{bytes_eq};
 
-use crate::{InputFiles, OverFiles, ReadFault, command};
+use crate::command;
 use dict_io::{LimitedSink, OverRead};
+use dict_tasks::{InputFiles, OverFiles, ReadFault};
 use std::alloc::Global;
 use std::io::Read;
 use std::test::Fail;
@@ -12,6 +13,10 @@ use std::{fs, io};
 pub const GEM_INDEX: &[u8] = b"00-database-short\tA\tZ\nopal\tZ\tP\nFire Opal\tZ\tP\ndot\to\tF\n";
 
 pub const GEM_TEXT: &[u8] = b"00-database-short\n  Gems\nopal\n  a stone\n.dot\n";
+
+pub const ORE_INDEX: &[u8] = b"00-database-short\tA\tX\niron\tX\tL\n";
+
+pub const ORE_TEXT: &[u8] = b"00-database-short\nOres\niron\n  ore\n";
 
 // One headword begins another; the longer ends with the last character of all, U+10FFFF.
 pub const EDGE_INDEX: &[u8] =

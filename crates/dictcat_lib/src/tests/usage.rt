@@ -12,10 +12,15 @@ const HELP: &str = "A DICT server (RFC 2229) whose answers are proved
 Usage: dictcat <COMMAND>
 
 Commands:
-  plain    Runs a DICT session on standard input and output over one database
-  create   Makes an empty catalogue in FILE
-  session  Runs a DICT session on standard input and output over a catalogue
-  help     Print this message or the help of the given subcommand(s)
+  plain     Runs a DICT session on standard input and output over one database
+  create    Makes an empty catalogue in FILE
+  list      Lists the items of a catalogue
+  audit     Reads a catalogue whole, and tells whether it is sound
+  session   Runs a DICT session on standard input and output over a catalogue
+  install   Makes an edition the current one of a database
+  rollback  Swaps the current and the former edition of a database
+  retire    Takes a database out of the catalogue
+  help      Print this message or the help of the given subcommand(s)
 
 Options:
   -h, --help     Print help
@@ -62,7 +67,7 @@ fn tells_what_is_wrong_with_the_words(rt: HostRuntime) -> Result<(), Fail> {
     let rows: [(&[&str], &str, &str); 5] = [
         (
             &["dictcat"],
-            "error: 'dictcat' requires a subcommand but one was not provided\n  [subcommands: plain, create, session, help]",
+            "error: 'dictcat' requires a subcommand but one was not provided\n  [subcommands: plain, create, list, audit, session, install, rollback, retire, help]",
             "<COMMAND>",
         ),
         (

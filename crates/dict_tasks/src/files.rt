@@ -1,7 +1,8 @@
 // Files as a whole.
-ghost use Rattle.std.specs.Prelude.{◌≡◌, ℕ, List, Option, None, IfOk};
-ghost use Rattle.dictcat_lib.specs.Files.{IsReadFrom, IsUnreadable};
+ghost use Rattle.std.specs.Prelude.{◌≡◌, ℕ, List, Option, None, IfOk, MatchResult};
+ghost use Rattle.dict_tasks.specs.Files.{IsReadFrom, IsUnread, IsUnreadable};
 
+use dict_printed::Fault;
 use std::fs;
 use std::io::ErrorKind;
 use std::rt::Files;
@@ -47,5 +48,17 @@ impl<R: Files + AllocGlobal> InputFiles for OverFiles<'_, R> {
             Err(fault) if fault.kind() == ErrorKind::OutOfMemory => Err(ReadFault::Memory),
             Err(_) => Err(ReadFault::Unreadable),
         }
+    }
+}
+
+/// The octets of the file with this path.
+pub fn read_file<'w, I: InputFiles>(files: &I, path: &'w str) -> Result<Vec<u8>, Fault<'w>>
+    ensures { MatchResult result (λ read. IsReadFrom (I.octets files.now path.entry.now) read.items)
+        (λ _. IsUnread (I.octets files.now) path.entry.now path.entry.now result) }
+{
+    match files.read(path) {
+        Ok(octets) => Ok(octets),
+        Err(ReadFault::Unreadable) => Err(Fault::CannotRead(path)),
+        Err(ReadFault::Memory) => Err(Fault::Memory),
     }
 }

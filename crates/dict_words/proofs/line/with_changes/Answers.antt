@@ -1,7 +1,7 @@
 use Rattle.std.proofs.lemmas.Result.{IfOk-weaker}
 use Rattle.dict_words.specs.Line.{command_line}
 use Rattle.dict_words.proofs.LineLemmas.{adds_subcommand}
-use Rattle.dict_words.proofs.line.with_subcommands.Goals as goal
+use Rattle.dict_words.proofs.line.with_changes.Goals as goal
 
 pub returns : goal.returns
 unfolding command_line

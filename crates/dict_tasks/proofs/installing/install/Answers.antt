@@ -1,0 +1,33 @@
+use Rattle.std.proofs.Common.{Err, refl, ap, inl, inr}
+use Rattle.dict_tasks.specs.Installing.{InstallEnds}
+use Rattle.dict_tasks.proofs.installing.install.Goals as goal
+
+pub returns-in-Ok-Some : goal.returns-in-Ok-Some
+unfolding InstallEnds
+returns-in-Ok-Some g c = inl (record {
+  reply = c.in-Ok-Some.kept;
+  kept = rw c.in-Ok-Some.field-0-is at c.in-Ok-Some.ensures.value;
+  stays = record { trust = c.in-Ok-Some.ensures.trust; shows = c.in-Ok-Some.ensures.shows; leaves = c.in-Ok-Some.ensures.leaves };
+  line = c.tell_kept.ensures;
+})
+
+pub returns-in-Ok-None : goal.returns-in-Ok-None
+unfolding InstallEnds
+returns-in-Ok-None g c = inr (inr (
+  c.kept.new.self,
+  record {
+    none = rw c.in-Ok-None.field-0-is at c.in-Ok-None.ensures.value;
+    stays = record { trust = c.in-Ok-None.ensures.trust; shows = c.in-Ok-None.ensures.shows; leaves = c.in-Ok-None.ensures.leaves };
+  },
+  c.install_files.ensures,
+))
+
+pub returns-in-Err : goal.returns-in-Err
+unfolding InstallEnds
+returns-in-Err g c = inr (inl (record {
+  fault = c.in-Err.fault;
+  kind = c.in-Err.ensures.kinds;
+  told = ap Err c.from.ensures;
+  stays = record { trust = c.in-Err.ensures.trust; shows = c.in-Err.ensures.shows; leaves = c.in-Err.ensures.leaves };
+  untouched = refl;
+}))

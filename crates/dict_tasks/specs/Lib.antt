@@ -1,0 +1,4 @@
+pub mod Changing
+pub mod Files
+pub mod Installing
+pub mod Listed

@@ -1,0 +1,97 @@
+// An install of an edition that two files make.
+ghost use Rattle.dict_io.specs.Streams.{change};
+ghost use Rattle.dict_index.specs.Edition.{edition_of};
+ghost use Rattle.dict_catalogue.specs.Commands.{install};
+ghost use Rattle.dict_tasks.specs.Changing.{IsChanged};
+ghost use Rattle.dict_tasks.specs.Installing.{InstallEnds, InstallsFiles, InstallsRead};
+
+use crate::changing::{change, tell_kept};
+use crate::files::{InputFiles, read_file};
+use dict_catalogue::Command;
+use dict_desk::Keeper;
+use dict_index::{Edition, read_edition};
+use dict_io::Sink;
+use dict_printed::Fault;
+use std::alloc::Global;
+
+/// What is installed: the paths of an index and of a text, and the name that the database has.
+#[derive(Clone, Copy, Debug, PartialEq, Eq)]
+pub struct Wanted<'w> {
+    pub name: &'w str,
+    pub index: &'w str,
+    pub text: &'w str,
+}
+
+/// Installs the edition that an index and a text make, under the id of its request, and writes the reply as a line of JSON.
+///
+/// Where a reply is kept under the id, it is written again, and neither file is read.
+pub fn install<'w, K: Keeper, I: InputFiles, W: Sink>(
+    alloc: Global,
+    desk: &mut K,
+    id: &str,
+    wanted: Wanted<'w>,
+    files: &I,
+    writer: &mut W,
+) -> Result<(), Fault<'w>>
+    ensures { InstallEnds K.shows K.leaves_one_of K.is_trusted (I.octets files.now) desk.old desk.new wanted.entry.name.now id.now
+        wanted.entry.index.now wanted.entry.text.now result (change W.stream writer.old writer.new) }
+{
+    match desk.kept(id) {
+        Ok(Some(kept)) => tell_kept(alloc, &kept, writer),
+        Ok(None) => install_files(alloc, desk, id, wanted, files, writer),
+        Err(fault) => Err(Fault::from(fault)),
+    }
+}
+
+// Installs the edition that two files make.
+fn install_files<'w, K: Keeper, I: InputFiles, W: Sink>(
+    alloc: Global,
+    desk: &mut K,
+    id: &str,
+    wanted: Wanted<'w>,
+    files: &I,
+    writer: &mut W,
+) -> Result<(), Fault<'w>>
+    ensures { InstallsFiles K.shows K.leaves_one_of K.is_trusted (I.octets files.now) desk.old desk.new wanted.entry.name.now id.now
+        wanted.entry.index.now wanted.entry.text.now result (change W.stream writer.old writer.new) }
+{
+    let index = read_file(files, wanted.index)?;
+    let text = read_file(files, wanted.text)?;
+    install_octets(alloc, desk, id, wanted.name, index, text, writer)
+}
+
+// Installs the edition that an index and a text say.
+fn install_octets<K: Keeper, W: Sink>(
+    alloc: Global,
+    desk: &mut K,
+    id: &str,
+    name: &str,
+    index: Vec<u8>,
+    text: Vec<u8>,
+    writer: &mut W,
+) -> Result<(), Fault<'static>>
+    ensures { InstallsRead K.shows K.leaves_one_of K.is_trusted desk.old desk.new name.now id.now index.items text.items result
+        (change W.stream writer.old writer.new) }
+{
+    let edition = match read_edition(alloc, &index, &text) {
+        Ok(edition) => edition,
+        Err(fault) => return Err(Fault::from(fault)),
+    };
+    install_edition(alloc, desk, id, name, &edition, writer)
+}
+
+// Installs an edition.
+fn install_edition<K: Keeper, W: Sink>(
+    alloc: Global,
+    desk: &mut K,
+    id: &str,
+    name: &str,
+    edition: &Edition,
+    writer: &mut W,
+) -> Result<(), Fault<'static>>
+    ensures { IsChanged K.shows K.leaves_one_of K.is_trusted desk.old desk.new id.now (install name.now (edition_of edition.now)) result
+        (change W.stream writer.old writer.new) }
+{
+    let command = Command::Install { name, edition };
+    change(alloc, desk, id, &command, writer)
+}

@@ -1,0 +1,15 @@
+//! What the program does of a desk's catalogue.
+#![tactic(auto)]
+
+mod changing;
+mod files;
+mod installing;
+mod listing;
+
+pub use changing::change;
+pub use files::{InputFiles, OverFiles, ReadFault, read_file};
+pub use installing::{Wanted, install};
+pub use listing::list;
+
+#[cfg(test)]
+mod tests;

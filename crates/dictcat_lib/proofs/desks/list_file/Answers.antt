@@ -1,0 +1,15 @@
+use Rattle.std.proofs.Common.{refl, inl, inr, ap}
+use Rattle.std.proofs.lemmas.Result.{err_from_is_err_and}
+use Rattle.dict_store.specs.Desk.{is_closed}
+use Rattle.dictcat_lib.specs.Desks.{ListEnds}
+use Rattle.dictcat_lib.proofs.desks.list_file.Goals as goal
+
+pub returns-in_err-desk : goal.returns-in_err-desk
+unfolding ListEnds
+returns-in_err-desk g c =
+    let error = err_from_is_err_and c.from_residual.result c.from_residual.ensures.1 in
+    inl (error.0, error.1, rw error.2 c.in_err-desk.ensures, refl)
+
+pub returns : goal.returns
+unfolding ListEnds
+returns g c = inr (c.in_ok-desk.desk, c.in_ok-desk.ensures, c.list-end.ensures.listed (ap is_closed c.in_ok-desk.ensures.1.fine))

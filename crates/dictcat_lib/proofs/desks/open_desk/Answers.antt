@@ -1,0 +1,20 @@
+use Rattle.std.proofs.Common.{inl, inr}
+use Rattle.std.proofs.lemmas.Result.{err_from_is_err_and}
+use Rattle.dictcat_lib.proofs.desks.open_desk.Goals as goal
+
+pub returns-in_err-conn : goal.returns-in_err-conn
+returns-in_err-conn c =
+    let error = err_from_is_err_and c.from_residual.result c.from_residual.ensures.1 in
+    rw (error.1, error.2) (inl c.in_err-conn.ensures.unopened)
+
+pub returns-in-Ok : goal.returns-in-Ok
+returns-in-Ok c = (
+  c.in_ok-conn.conn,
+  record { fine = c.in-Ok.ensures.open.0; shows = c.in-Ok.ensures.rests; same = c.in-Ok.ensures.same; spares = c.in-Ok.ensures.spares },
+)
+
+pub returns-in-Err : goal.returns-in-Err
+returns-in-Err c = inr (
+  c.in_ok-conn.conn,
+  (c.in-Err.conn, c.in-Err.fault, c.from.ensures, record { told = c.in-Err.ensures.told; not_held = c.in-Err.ensures.not_held; adds_none = c.in-Err.ensures.adds_none }),
+)

@@ -1,0 +1,72 @@
+-- What comes of work over the desk of a file's catalogue.
+use Rattle.std.specs.Prelude.{◌≡◌, ◌⊎◌, ℕ, List, Option, None, Result, Err, codes}
+use Rattle.sqlite.specs.State.{HasCleanDisk, Survives}
+use Rattle.sqlite.specs.Held.{Held, state}
+use Rattle.sqlite_trees.specs.declared.store.Store.{Ghosts}
+use Rattle.dict_catalogue.specs.Commands.{Command}
+use Rattle.dict_catalogue.specs.Steps.{Catalogue}
+use Rattle.dict_desk.specs.declared.fault.Fault.{Fault as DeskFault}
+use Rattle.dict_file.specs.Holds.{Rests}
+use Rattle.dict_index.specs.Edition.{Edition}
+use Rattle.dict_io.specs.Streams.{Change}
+use Rattle.dict_store.specs.Desk.{DeskState, Shows, LeavesOneOf}
+use Rattle.dict_store.specs.Opened.{IsTold, IsNotHeld}
+use Rattle.dict_store.specs.declared.last.Last.TheVariants.{Fine}
+use Rattle.dict_printed.specs.Faults.{told_of}
+use Rattle.dict_printed.specs.Writing.{IsUntouched, Writes}
+use Rattle.dict_printed.specs.declared.fault.Fault.{Fault}
+use Rattle.dict_tasks.specs.Changing.{IsChanged}
+use Rattle.dict_tasks.specs.Installing.{InstallEnds}
+use Rattle.dict_tasks.specs.Listed.{IsListed}
+use Rattle.dictcat_lib.specs.Opening.{IsUnopened}
+
+module _ {S : Type 0} (g : Ghosts S) where
+  -- The database holds a catalogue, which the desk over it shows. Nothing was written.
+  pub record IsAdopted (conn : Held S) (desk : DeskState S) : Type 0 where
+    pub fine : desk.last ≡ Fine
+    pub shows : HasCleanDisk (state g desk.conn) → (M : Catalogue) × Rests 1 (state g desk.conn) M × Shows g desk M
+    pub same : HasCleanDisk (state g desk.conn) → (state g desk.conn).committed ≡ (state g conn).committed
+    pub spares : Survives (state g (record conn { step_limit = None })) (state g desk.conn) (λ _. ⊥)
+
+  -- The database holds none, and the fault tells why; or it couldn't be told. Nothing was written.
+  pub record IsNotAdopted (conn left : Held S) (fault : DeskFault) : Type 0 where
+    pub told : HasCleanDisk (state g left) → IsTold (state g conn).now fault
+    pub not_held : HasCleanDisk (state g left) → IsNotHeld (state g conn).now fault
+    pub adds_none : Survives (state g (record conn { step_limit = None })) (state g left) (λ _. ⊥)
+
+  -- the desk of the catalogue in the database that a file was opened as
+  abbrev pub IsDesk : DeskState S → Type 0
+  IsDesk desk = (conn : Held S) × IsAdopted conn desk
+
+  -- why there is none, as the program tells it
+  abbrev pub IsNoDesk : List ℕ → Fault → Type 0
+  IsNoDesk path fault = IsUnopened path fault
+      ⊎ ((conn : Held S) × ((left : Held S) × (why : DeskFault) × (fault ≡ told_of why) × IsNotAdopted conn left why))
+
+  -- what the desk stands on has returned what was written
+  abbrev pub IsTrusted : DeskState S → Type 0
+  IsTrusted desk = HasCleanDisk (state g desk.conn)
+
+  -- there is no desk of the file with a path, or this is done over it
+  abbrev pub EndsOn : List ℕ → (DeskState S → Type 0) → Result (Unit {0}) Fault → Change → Type 0
+  EndsOn path Work result writer =
+      ((fault : Fault) × (result ≡ Err fault) × IsNoDesk path fault × IsUntouched writer)
+      ⊎ ((desk : DeskState S) × IsDesk desk × Work desk)
+
+  -- the items were listed
+  unfoldable pub ListEnds : List ℕ → Result (Unit {0}) Fault → Change → Type 0
+  ListEnds path result writer = EndsOn path (λ desk. IsListed (Shows g desk) result writer) result writer
+
+  -- the catalogue was read whole, and it is sound
+  unfoldable pub AuditEnds : List ℕ → Result (Unit {0}) Fault → Change → Type 0
+  AuditEnds path result writer = EndsOn path (λ desk. Writes (codes "sound\n") result writer) result writer
+
+  -- a command was asked for
+  unfoldable pub ChangeEnds : List ℕ → List ℕ → Command Edition → Result (Unit {0}) Fault → Change → Type 0
+  ChangeEnds path id command result writer =
+      EndsOn path (λ desk. (new : DeskState S) × IsChanged (Shows g) (LeavesOneOf g) IsTrusted desk new id command result writer) result writer
+
+  -- an install of two files was asked for
+  unfoldable pub InstallsOn : (List ℕ → Option (List ℕ)) → List ℕ → List ℕ → List ℕ → List ℕ → List ℕ → Result (Unit {0}) Fault → Change → Type 0
+  InstallsOn files path name id index text result writer =
+      EndsOn path (λ desk. (new : DeskState S) × InstallEnds (Shows g) (LeavesOneOf g) IsTrusted files desk new name id index text result writer) result writer
