@@ -6,7 +6,7 @@ use std::alloc::{AllocError, Global};
 
 /// The records of all tables.
 #[derive(Drop)]
-pub struct Rows {
+pub(crate) struct Rows {
     pub marks: Vec<Stored<Mark<String>>>,
     pub items: Vec<Stored<Item<String>>>,
     pub members: Vec<Stored<Member<String>>>,
@@ -15,7 +15,7 @@ pub struct Rows {
 }
 
 impl Rows {
-    pub fn tables(&self) -> Tables<'_> {
+    pub(crate) fn tables(&self) -> Tables<'_> {
         Tables {
             marks: self.marks.as_slice(),
             items: self.items.as_slice(),

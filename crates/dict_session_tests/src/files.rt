@@ -7,36 +7,36 @@ use std::test::Fail;
 
 /// A name, an index and a text.
 #[derive(Clone, Copy)]
-pub struct Files(pub &'static str, pub &'static [u8], pub &'static [u8]);
+pub(crate) struct Files(pub &'static str, pub &'static [u8], pub &'static [u8]);
 
-pub const GEM: Files = Files(
+pub(crate) const GEM: Files = Files(
     "gem",
     b"00-database-short\tA\tZ\nopal\tZ\tP\nFire Opal\tZ\tP\ndot\to\tF\n",
     b"00-database-short\n  Gems\nopal\n  a stone\n.dot\n",
 );
 
-pub const ORE: Files = Files(
+pub(crate) const ORE: Files = Files(
     "ore",
     b"00-database-short\tA\tX\niron\tX\tL\n",
     b"00-database-short\nOres\niron\n  ore\n",
 );
 
 /// Two headwords of which one is the other with the last character of all behind it.
-pub const EDGE: Files = Files(
+pub(crate) const EDGE: Files = Files(
     "edge",
     b"00-database-short\tA\tZ\na\tZ\tC\na\xf4\x8f\xbf\xbf\tZ\tC\nb\tZ\tC\n",
     b"00-database-short\n  Gems\nx\n",
 );
 
 // Entries in another order than their headwords', with one headword twice, and what the database says of itself.
-pub const STONES: Files = Files(
+pub(crate) const STONES: Files = Files(
     "stones",
     b"00-database-short\tA\tb\n00-database-info\tf\tF\npearl\tb\tC\nopal\tb\tC\npearl\td\tC\nagate\tb\tC\n",
     b"00-database-short\n  Stones\nx\ny\n.x\ny\n",
 );
 
 ///// Applies a command, and forgets its reply.
-pub fn apply(desk: &mut PlainDesk, id: &str, command: &Command) -> Result<(), Fail> {
+pub(crate) fn apply(desk: &mut PlainDesk, id: &str, command: &Command) -> Result<(), Fail> {
     desk.apply(id, command)?;
     Ok(())
 }
@@ -54,7 +54,7 @@ fn install_files(alloc: Global, desk: &mut PlainDesk, files: Files) -> Result<()
 }
 
 /// A catalogue of these databases, in their order.
-pub fn desk_of(alloc: Global, databases: &[Files]) -> Result<PlainDesk, Fail> {
+pub(crate) fn desk_of(alloc: Global, databases: &[Files]) -> Result<PlainDesk, Fail> {
     let mut desk = PlainDesk::new(alloc);
     for files in databases {
         install_files(alloc, &mut desk, *files)?;
@@ -63,7 +63,7 @@ pub fn desk_of(alloc: Global, databases: &[Files]) -> Result<PlainDesk, Fail> {
 }
 
 /// `ore`, `gem`, and `all`, which lists these two.
-pub fn ore_gem_all(alloc: Global) -> Result<PlainDesk, Fail> {
+pub(crate) fn ore_gem_all(alloc: Global) -> Result<PlainDesk, Fail> {
     let mut desk = desk_of(alloc, &[ORE, GEM])?;
     let command = Command::PutVirtual {
         name: "all",

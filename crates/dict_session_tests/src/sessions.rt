@@ -10,7 +10,7 @@ use std::process::Abort;
 use std::test::Fail;
 
 /// What a client sends, whether a QUIT in it is answered, and the answers.
-pub type Row = (&'static str, bool, &'static str);
+pub(crate) type Row = (&'static str, bool, &'static str);
 
 const PEARLS: &str =
     "150 2 definitions retrieved\r\n151 \"pearl\" stones \"Stones\"\r\nx\r\n.\r\n151 \"pearl\" stones \"Stones\"\r\ny\r\n.\r\n250 ok\r\n";
@@ -145,7 +145,7 @@ static EMPTY_ROWS: [Row; 5] = [
 ];
 
 /// Runs the rows whole.
-pub fn run_rows(
+pub(crate) fn run_rows(
     rt: &impl Abort,
     alloc: Global,
     desk: &mut PlainDesk,
@@ -184,7 +184,7 @@ fn fed(
 }
 
 /// Feeds the rows octet by octet, and cut in two at each place.
-pub fn feed_rows(
+pub(crate) fn feed_rows(
     rt: &impl Abort,
     alloc: Global,
     desk: &mut PlainDesk,
