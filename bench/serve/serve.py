@@ -1,124 +1,143 @@
-"""Asks a server over many connections: serve.py PROGRAM EXAMPLES
+"""Asks servers over many connections: serve.py DICTCAT EXAMPLES
 
-PROGRAM prints two addresses, for readers and for editors, and serves an empty catalogue. EXAMPLES/gem is installed by HTTP.
-Each connection sends one line, waits for the whole answer and sends the next. Printed are requests a second, the median and
-the greatest time of one, and the processor's microseconds of the server for one; then its processor's time while nothing
-comes, and its memory.
+dictcat serves a file with EXAMPLES/gem, and dictd, where it is there, the same words. On each connection so many lines are
+sent at once (1, or 20), their answers awaited whole, and so on. Printed are answers in a second, the median time of one turn,
+and the processor's microseconds of the server for one answer; then what each server takes while nothing comes, with 64
+connections and with none.
 """
-import os
+import pathlib
 import selectors
-import socket
+import shutil
 import statistics
 import subprocess
 import sys
+import tempfile
 import time
 
-SECONDS = 3.0
-IDLE_SECONDS = 20.0
-TICK = os.sysconf("SC_CLK_TCK")
+from servers import Server, closed, install, opened, serve
 
+SECONDS = 2.0
+IDLE_SECONDS = 30.0
+MICRO = 1e6
+
+# a line, and what stands once in each answer to it
 QUESTIONS = {
     "STATUS": (b"STATUS\r\n", b"\r\n"),
-    "DEFINE, found": (b"DEFINE gem opal\r\n", b"250 ok\r\n"),
+    "DEFINE, found": (b"DEFINE gem opal\r\n", b"\r\n250 ok"),
     "DEFINE, not found": (b"DEFINE gem none\r\n", b"\r\n"),
-    "MATCH prefix": (b"MATCH gem prefix o\r\n", b"250 ok\r\n"),
+    "MATCH prefix": (b"MATCH gem prefix o\r\n", b"\r\n250 ok"),
 }
 
 
-def spent(pid):
-    """Seconds of the processor's time that a process took."""
-    fields = open(f"/proc/{pid}/stat").read().rsplit(")", 1)[1].split()
-    return (int(fields[11]) + int(fields[12])) / TICK
-
-
-def memory(pid):
-    """Resident memory in kilobytes."""
-    lines = open(f"/proc/{pid}/status").read().splitlines()
-    return next(int(it.split()[1]) for it in lines if it.startswith("VmRSS"))
-
-
-def opened(address):
-    """A connection whose greeting was read."""
-    it = socket.create_connection(address)
-    it.setsockopt(socket.IPPROTO_TCP, socket.TCP_NODELAY, 1)
-    greeting = b""
-    while not greeting.endswith(b"\r\n"):
-        more = it.recv(4096)
-        assert more, "no greeting"
-        greeting += more
-    return it
-
-
-def closed(held):
-    """Closes connections, and leaves the server time to see it: while 64 are open it takes no other."""
-    for it in held:
-        it.close()
-    time.sleep(0.2)
-
-
-def install(address, folder):
-    index, text = (open(f"{folder}/gem.{it}", "rb").read() for it in ("index", "dict"))
-    body = b"%d\n%s%s" % (len(index), index, text)
-    with socket.create_connection(address) as it:
-        it.sendall(b"PUT /databases/gem HTTP/1.1\r\nRequest-Id: r1\r\nContent-Length: %d\r\n\r\n%s" % (len(body), body))
-        answer = b""
-        while more := it.recv(4096):
-            answer += more
-    assert answer.startswith(b"HTTP/1.1 200 "), answer
-
-
-def measure(pid, address, count, question, end):
-    """Requests a second, the median and the greatest time of one in microseconds, and the server's for one."""
+def measure(server, count, question, mark, batch):
+    """Answers in a second, the median microseconds of a turn, and the server's microseconds of the processor for an answer."""
     chosen = selectors.DefaultSelector()
-    held = [opened(address) for _ in range(count)]
-    began = {}
+    held = [opened(server.dict_address) for _ in range(count)]
     for it in held:
         chosen.register(it, selectors.EVENT_READ)
-    before, start = spent(pid), time.perf_counter()
+    before, start = server.times(), time.perf_counter()
+    began, partial, taken = {}, {it: b"" for it in held}, []
     for it in held:
         began[it] = time.perf_counter()
-        it.sendall(question)
-    taken, partial = [], {it: b"" for it in held}
+        it.sendall(question * batch)
     while time.perf_counter() - start < SECONDS:
         for key, _ in chosen.select(1):
             it = key.fileobj
-            partial[it] += it.recv(65536)
-            if partial[it].endswith(end):
+            more = it.recv(65536)
+            assert more, "the server has closed a connection"
+            partial[it] += more
+            if partial[it].endswith(b"\r\n") and partial[it].count(mark) == batch:
                 now = time.perf_counter()
                 taken.append(now - began[it])
                 partial[it], began[it] = b"", now
-                it.sendall(question)
-    passed, used = time.perf_counter() - start, spent(pid) - before
+                it.sendall(question * batch)
+    passed, used = time.perf_counter() - start, server.spent_since(before)
     closed(held)
-    micro = 1e6
-    return len(taken) / passed, statistics.median(taken) * micro, max(taken) * micro, used / len(taken) * micro
+    answers = len(taken) * batch
+    return answers / passed, statistics.median(taken) * MICRO, used / answers * MICRO
+
+
+def dictcat(program, work, examples):
+    """dictcat over a file in which `gem` was installed by HTTP."""
+    path = work / "catalogue.db"
+    subprocess.run([program, "create", path], check=True)
+    server = serve(program, path)
+    index, text = ((examples / f"gem.{it}").read_bytes() for it in ("index", "dict"))
+    assert install(server.http_address, b"gem", b"r1", index, text)[0] == 200
+    return server
+
+
+def dictd(work, examples):
+    """dictd over the same words, sorted as it wants them, or None where it isn't there."""
+    if not shutil.which("dictd"):
+        return None
+    lines = sorted((examples / "gem.index").read_text().splitlines(True), key=lambda it: it.split("\t")[0].lower())
+    (work / "gem.index").write_text("".join(lines))
+    shutil.copy(examples / "gem.dict", work)
+    port = 26280
+    (work / "dictd.conf").write_text(
+        f'global {{ listen_to 127.0.0.1\n port {port}\n limit_queries 1000000000 }}\naccess {{ allow * }}\n'
+        f'database gem {{ data "{work}/gem.dict"\n index "{work}/gem.index" }}\n'
+    )
+    work.chmod(0o755)
+    process = subprocess.Popen(["dictd", "-d", "nodetach", "-c", work / "dictd.conf", "--pid-file", work / "pid"],
+                               stdout=subprocess.DEVNULL, stderr=subprocess.DEVNULL)
+    time.sleep(1)
+    assert process.poll() is None, "dictd has ended"
+    return Server(process, ("127.0.0.1", port))
+
+
+def ask_all(servers):
+    for name, (question, mark) in QUESTIONS.items():
+        for batch in (1, 20):
+            for count in (1, 8, 64):
+                for who, server in servers.items():
+                    rate, median, used = measure(server, count, question, mark, batch)
+                    print(f"{name:18} {count:2} connections, {batch:2} at once, {who:8}: {rate:8.0f}/s, "
+                          f"median turn {median:6.0f} us, {used:6.1f} us of the processor each", flush=True)
+
+
+def idle_all(servers):
+    for count in (0, 64):
+        for who, server in servers.items():
+            held = [opened(server.dict_address) for _ in range(count)]
+            before = server.times()
+            time.sleep(IDLE_SECONDS)
+            used, (resident, own) = server.spent_since(before), server.memory()
+            print(f"idle, {count:2} connections, {who:8}: {used * 1000:.1f} ms of the processor in {IDLE_SECONDS:.0f} s, "
+                  f"{resident} kB of memory, {own} kB of it unshared", flush=True)
+            closed(held)
+
+
+def first_after_idling(servers):
+    for who, server in servers.items():
+        late = opened(server.dict_address)
+        taken = []
+        for _ in range(10):
+            time.sleep(0.5)
+            start = time.perf_counter()
+            late.sendall(b"STATUS\r\n")
+            late.recv(4096)
+            taken.append((time.perf_counter() - start) * MICRO)
+        closed([late])
+        print(f"the first answer after 0.5 s of nothing, {who:8}: median {statistics.median(taken):.0f} us, "
+              f"at most {max(taken):.0f} us", flush=True)
 
 
 def main():
-    program, examples = sys.argv[1:3]
-    server = subprocess.Popen([program], stdout=subprocess.PIPE, text=True)
-    try:
-        hosts = [server.stdout.readline().strip().rsplit(":", 1) for _ in range(2)]
-        dict_address, http_address = ((host, int(port)) for host, port in hosts)
-        install(http_address, examples)
-        for name, (question, end) in QUESTIONS.items():
-            for count in (1, 8, 64):
-                rate, median, most, used = measure(server.pid, dict_address, count, question, end)
-                print(f"{name:18} {count:2} connections: {rate:8.0f}/s, median {median:6.0f} us, at most {most:7.0f} us, {used:5.1f} us of the processor each")
-        for count in (0, 64):
-            held = [opened(dict_address) for _ in range(count)]
-            before = spent(server.pid)
-            time.sleep(IDLE_SECONDS)
-            print(f"idle, {count:2} connections: {(spent(server.pid) - before) * 1000:.0f} ms of the processor in {IDLE_SECONDS:.0f} s, {memory(server.pid)} kB of memory")
-            closed(held)
-        late = opened(dict_address)
-        time.sleep(1.5)
-        start = time.perf_counter()
-        late.sendall(b"STATUS\r\n")
-        late.recv(4096)
-        print(f"the first answer after 1.5 s of nothing: {(time.perf_counter() - start) * 1e6:.0f} us")
-    finally:
-        server.kill()
+    program, examples = sys.argv[1], pathlib.Path(sys.argv[2])
+    with tempfile.TemporaryDirectory() as folder:
+        work = pathlib.Path(folder)
+        servers = {"dictcat": dictcat(program, work, examples)}
+        if other := dictd(work, examples):
+            servers["dictd"] = other
+        try:
+            ask_all(servers)
+            idle_all(servers)
+            first_after_idling(servers)
+        finally:
+            for server in servers.values():
+                server.kill()
 
 
 main()
