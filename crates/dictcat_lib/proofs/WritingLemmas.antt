@@ -4,7 +4,7 @@ use Rattle.std.specs.Prelude.{◌⊎◌, Result}
 use Rattle.sqlite_trees.specs.declared.store.Store.{Ghosts}
 use Rattle.dict_io.specs.Streams.{Change, HasFailed}
 use Rattle.dict_index.specs.Edition.{Edition as AnEdition}
-use Rattle.dict_catalogue.specs.Commands.{Command, rollback, retire}
+use Rattle.dict_catalogue.specs.Commands.{Command, rollback, retire, put_virtual, place}
 use Rattle.dict_store.specs.Desk.{Shows, LeavesOneOf}
 use Rattle.dict_catalogue.specs.declared.reply.Kept.{Kept}
 use Rattle.dict_catalogue.specs.Steps.{Catalogue}
@@ -15,8 +15,9 @@ use Rattle.dict_printed.specs.declared.fault.Fault.{Fault}
 use Rattle.dict_printed.specs.declared.fault.Fault.TheVariants.{Line, Edition, Refused, Store, CannotRead, SessionEnded, CannotWrite, Memory}
 use Rattle.dict_tasks.specs.Changing.{TellsAnswer}
 use Rattle.dict_tasks.specs.Installing.{InstallEnds}
+use Rattle.dict_words.specs.Asked.{words_shown}
 use Rattle.dict_words.specs.declared.task.Change.{Change as Asked}
-use Rattle.dict_words.specs.declared.task.Change.TheVariants.{Install, Rollback, Retire}
+use Rattle.dict_words.specs.declared.task.Change.TheVariants.{Install, Rollback, Retire, Virtual, Place}
 use Rattle.dictcat_lib.specs.Desks.{IsTrusted, ListEnds, AuditEnds, ChangeEnds, InstallsOn}
 use Rattle.dictcat_lib.specs.Program.{ChangeTaskEnds, IsFailed}
 
@@ -76,6 +77,8 @@ module _ {S : Type 0} (g : Ghosts S) where
   task_spoils files path name id (Install index text) fault writer h = installs_spoils files path name id index.now text.now fault writer h
   task_spoils files path name id Rollback fault writer h = change_spoils path id (rollback name) fault writer h
   task_spoils files path name id Retire fault writer h = change_spoils path id (retire name) fault writer h
+  task_spoils files path name id (Virtual title members) fault writer h = change_spoils path id (put_virtual name title.now (words_shown members.items)) fault writer h
+  task_spoils files path name id (Place at) fault writer h = change_spoils path id (place name at) fault writer h
 
   pub spoiled_failed : (fault : Fault) (reader writer : Change) → IsUntouched reader → Spoils fault writer → IsFailed g reader writer
   spoiled_failed fault reader writer r (inl h) = inl (r, h)

@@ -5,13 +5,13 @@ use Rattle.clap.specs.declared.error.kind.ErrorKind.{ErrorKind}
 use Rattle.clap.specs.declared.error.kind.ErrorKind.TheVariants as kinds
 use Rattle.sqlite.specs.Held.{Held}
 use Rattle.sqlite_trees.specs.declared.store.Store.{Ghosts}
-use Rattle.dict_catalogue.specs.Commands.{rollback, retire}
+use Rattle.dict_catalogue.specs.Commands.{rollback, retire, put_virtual, place}
 use Rattle.dict_io.specs.Streams.{Change, HasFailed, Puts, PutsAll, PutsFront}
 use Rattle.dict_io.specs.declared.sink.SinkFault.{SinkFault}
 use Rattle.dict_session.specs.declared.session.run.SessionFault.{SessionFault}
 use Rattle.dict_session.specs.declared.session.run.SessionFault.TheVariants as session_faults
 use Rattle.dict_file_session.specs.declared.fault.FileFault.TheVariants.{Session}
-use Rattle.dict_words.specs.Asked.{Asks, Fails, mistakes_in}
+use Rattle.dict_words.specs.Asked.{Asks, Fails, mistakes_in, words_shown}
 use Rattle.dict_words.specs.declared.task.Change.{Change as AskedChange}
 use Rattle.dict_words.specs.declared.task.Change.TheVariants as changes
 use Rattle.dict_words.specs.declared.task.Task.{Task}
@@ -100,6 +100,8 @@ module _ {S : Type 0} (g : Ghosts S) (files : List ℕ → Option (List ℕ)) wh
   ChangeTaskEnds file name id (changes.Install index text) end writer = InstallsOn g files file name id index.now text.now end writer
   ChangeTaskEnds file name id changes.Rollback end writer = ChangeEnds g file id (rollback name) end writer
   ChangeTaskEnds file name id changes.Retire end writer = ChangeEnds g file id (retire name) end writer
+  ChangeTaskEnds file name id (changes.Virtual title members) end writer = ChangeEnds g file id (put_virtual name title.now (words_shown members.items)) end writer
+  ChangeTaskEnds file name id (changes.Place at) end writer = ChangeEnds g file id (place name at) end writer
 
   -- a task ends so
   abbrev pub TaskEnds : Task → Result (Unit {0}) Fault → Change → Change → Type 0

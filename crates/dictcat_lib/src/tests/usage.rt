@@ -20,6 +20,8 @@ Commands:
   install   Makes an edition the current one of a database
   rollback  Swaps the current and the former edition of a database
   retire    Takes a database out of the catalogue
+  virtual   Makes a virtual database, or changes one
+  place     Puts a database at another place in the order
   help      Print this message or the help of the given subcommand(s)
 
 Options:
@@ -67,7 +69,7 @@ fn tells_what_is_wrong_with_the_words(rt: HostRuntime) -> Result<(), Fail> {
     let rows: [(&[&str], &str, &str); 5] = [
         (
             &["dictcat"],
-            "error: 'dictcat' requires a subcommand but one was not provided\n  [subcommands: plain, create, list, audit, session, install, rollback, retire, help]",
+            "error: 'dictcat' requires a subcommand but one was not provided\n  [subcommands: plain, create, list, audit, session, install, rollback, retire, virtual, place, help]",
             "<COMMAND>",
         ),
         (
