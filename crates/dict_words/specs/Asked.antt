@@ -26,7 +26,7 @@ pub data AskedChange : Type 0 where
   place : ℕ → AskedChange
 
 -- what is asked for, by its words: the name, the index and the text of a database; or a file; or a file, a name, the id of
--- a request, and a change
+-- a request, and a change; or a file, two addresses and how many rounds
 pub data Asked : Type 0 where
   plain : Text → Text → Text → Asked
   create : Text → Asked
@@ -34,6 +34,7 @@ pub data Asked : Type 0 where
   audit : Text → Asked
   session : Text → Asked
   change : Text → Text → Text → AskedChange → Asked
+  serve : Text → Text → Text → Option ℕ → Asked
 
 -- the texts of words
 abbrev pub words_shown : List (Bor Text) → List Text
@@ -54,6 +55,7 @@ task_shown (tasks.List file) = list file.now
 task_shown (tasks.Audit file) = audit file.now
 task_shown (tasks.Session file) = session file.now
 task_shown (tasks.Change file name id what) = change file.now name.now id.now (change_shown what)
+task_shown (tasks.Serve file dict http rounds) = serve file.now dict.now http.now rounds
 
 -- with the text of a word, where it is there
 abbrev pub with_text : {A : Type 0} → Text → List Row → (Text → Option A) → Option A
@@ -86,6 +88,11 @@ change_asked rows what =
     with_text (codes "FILE") rows (λ file. with_text (codes "NAME") rows (λ name. with_text (codes "ID") rows (λ id.
     option_map (change file name id) what)))
 
+abbrev pub serve_asked : List Row → Option Asked
+serve_asked rows =
+    with_text (codes "FILE") rows (λ file. with_text (codes "dict") rows (λ dict. with_text (codes "http") rows (λ http.
+    Some (serve file dict http (option_and_then number_in (one_of (codes "rounds") rows))))))
+
 -- what a subcommand of this name asks for, by its words
 abbrev pub asked_by : Text → List Row → Option Asked
 asked_by name rows =
@@ -99,7 +106,8 @@ asked_by name rows =
     else (if bytes_eq name (codes "retire") then change_asked rows (Some retire)
     else (if bytes_eq name (codes "virtual") then change_asked rows (virtual_asked rows)
     else (if bytes_eq name (codes "place") then change_asked rows (place_asked rows)
-    else None)))))))))
+    else (if bytes_eq name (codes "serve") then serve_asked rows
+    else None))))))))))
 
 -- the same of the subcommand that was used, if one was
 abbrev pub found_asked : Option (Text × List Row) → Option Asked

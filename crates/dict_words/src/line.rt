@@ -1,7 +1,7 @@
 // The command line, as it is declared.
 ghost use Rattle.std.specs.Prelude.{◌≡◌, IfOk, false, map};
 ghost use Rattle.clap.specs.Walk.{rule_of};
-ghost use Rattle.dict_words.specs.Line.{word, several, number, leaf, alone, required, command_line, with_all, readings, changes, Reads};
+ghost use Rattle.dict_words.specs.Line.{word, several, number, setting, count, leaf, alone, required, command_line, with_all, readings, changes, arrangements, Reads};
 
 use clap::{Arg, Command};
 use std::alloc::{AllocError, Global};
@@ -28,6 +28,27 @@ fn number<'w>(alloc: Global, id: &'w str, help: &'w str) -> Arg<'w>
     ensures local { result.global ≡ false }
 {
     word(alloc, id, help).value_parser(clap::value_parser!(u32))
+}
+
+// A value that has to be there, behind two hyphens and its name.
+fn setting<'w>(alloc: Global, id: &'w str, value: &'w str, help: &'w str) -> Arg<'w>
+    ensures rule { rule_of result ≡ setting id.entry.now }
+    ensures local { result.global ≡ false }
+{
+    word(alloc, id, help).long(id).value_name(value)
+}
+
+// A number of 32 bits that is not 0, behind two hyphens and its name.
+fn count<'w>(alloc: Global, id: &'w str, value: &'w str, help: &'w str) -> Arg<'w>
+    ensures rule { rule_of result ≡ count id.entry.now }
+    ensures local { result.global ≡ false }
+{
+    let numbers = clap::value_parser!(u32).range(1..);
+    Arg::new(alloc, id)
+        .long(id)
+        .value_name(value)
+        .value_parser(numbers)
+        .help(help)
 }
 
 // A subcommand that takes these words, each with its help.
@@ -69,7 +90,8 @@ pub fn command_line<'w>(alloc: Global) -> Result<Command<'w>, AllocError>
         .about("A DICT server (RFC 2229) whose answers are proved")
         .version("0.1.0")
         .subcommand_required(true);
-    with_arrangements(alloc, with_changes(alloc, with_readings(alloc, line)?)?)
+    let line = with_changes(alloc, with_readings(alloc, line)?)?;
+    with_server(alloc, with_arrangements(alloc, line)?)
 }
 
 // Adds what makes or reads a file, or serves a session.
@@ -124,7 +146,7 @@ fn with_changes<'w>(alloc: Global, line: Command<'w>) -> Result<Command<'w>, All
 
 // Adds what groups and orders the databases of a catalogue.
 fn with_arrangements<'w>(alloc: Global, line: Command<'w>) -> Result<Command<'w>, AllocError>
-    ensures { Reads (with_all (with_all (alone required) readings) changes) line.entry → IfOk result (Reads command_line) }
+    ensures { Reads (with_all (with_all (alone required) readings) changes) line.entry → IfOk result (Reads (with_all (with_all (with_all (alone required) readings) changes) arrangements)) }
 {
     let group = leaf(
         alloc,
@@ -140,4 +162,35 @@ fn with_arrangements<'w>(alloc: Global, line: Command<'w>) -> Result<Command<'w>
     )?;
     line.subcommand(group.arg(several(alloc, "MEMBER", "A database that is searched by it"))?)?
         .subcommand(place.arg(number(alloc, "PLACE", "The place, from 0"))?)
+}
+
+// Adds what serves a catalogue.
+fn with_server<'w>(alloc: Global, line: Command<'w>) -> Result<Command<'w>, AllocError>
+    ensures { Reads (with_all (with_all (with_all (alone required) readings) changes) arrangements) line.entry → IfOk result (Reads command_line) }
+{
+    let server = leaf(
+        alloc,
+        "serve",
+        "Serves a catalogue to readers over DICT, and takes requests of editors over HTTP",
+        &[FILE],
+    )?
+    .arg(setting(
+        alloc,
+        "dict",
+        "ADDR",
+        "The address for readers, as 127.0.0.1:2628",
+    ))?
+    .arg(setting(
+        alloc,
+        "http",
+        "ADDR",
+        "The address for editors, as 127.0.0.1:8080",
+    ))?
+    .arg(count(
+        alloc,
+        "rounds",
+        "N",
+        "Ends after so many rounds; else it goes on",
+    ))?;
+    line.subcommand(server)
 }

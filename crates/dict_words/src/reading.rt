@@ -4,7 +4,7 @@ ghost use Rattle.clap.specs.Values.{kind_of};
 ghost use Rattle.clap.specs.Walk.{rows_of, all_of, first_of, one_of};
 ghost use Rattle.clap.specs.Simple.{subcommand_rows_of};
 ghost use Rattle.clap.specs.Matches.{found_of};
-ghost use Rattle.dict_words.specs.Asked.{Asks, Fails, task_shown, change_shown, found_asked, asked_by, plain_asked, on_file, change_asked, install_asked, virtual_asked, place_asked, number_in, words_shown};
+ghost use Rattle.dict_words.specs.Asked.{Asks, Fails, task_shown, change_shown, found_asked, asked_by, plain_asked, on_file, change_asked, install_asked, virtual_asked, place_asked, serve_asked, number_in, words_shown};
 
 use crate::line::command_line;
 use crate::task::{Change, Task};
@@ -76,6 +76,7 @@ fn task_by<'w>(
         "retire" => change_task(found, Some(Change::Retire)),
         "virtual" => change_task(found, virtual_of(found, members)),
         "place" => change_task(found, place_of(found)),
+        "serve" => serve_task(found),
         _ => None,
     }
 }
@@ -141,6 +142,18 @@ fn change_task<'w>(found: &ArgMatches<'w>, change: Option<Change<'w>>) -> Option
         name,
         id,
         change,
+    })
+}
+
+// What the words of a server ask for.
+fn serve_task<'w>(found: &ArgMatches<'w>) -> Option<Task<'w>>
+    ensures { option_map task_shown result ≡ serve_asked (rows_of (found_of found.now)) }
+{
+    Some(Task::Serve {
+        file: file_of(found)?,
+        dict: value_of(found, "dict")?,
+        http: value_of(found, "http")?,
+        rounds: number_of(found, "rounds"),
     })
 }
 

@@ -32,6 +32,13 @@ pub enum Task<'w> {
         id: &'w str,
         change: Change<'w>,
     },
+    /// A server of a file's catalogue, at an address for readers and one for editors, for so many rounds or without end.
+    Serve {
+        file: &'w str,
+        dict: &'w str,
+        http: &'w str,
+        rounds: Option<u32>,
+    },
 }
 
 /// What is changed of the item.

@@ -1,10 +1,8 @@
 use Rattle.std.proofs.lemmas.Result.{IfOk-weaker}
-use Rattle.dict_words.specs.Line.{command_line}
 use Rattle.dict_words.proofs.LineLemmas.{adds_arg, adds_subcommand}
 use Rattle.dict_words.proofs.line.with_arrangements.Goals as goal
 
 pub returns : goal.returns
-unfolding command_line
 returns c = λ start.
     let group = adds_arg _ _ _ _ _ c.in_ok-group.ensures c.several.ensures.rule c.several.ensures.local c.in_ok-arg.ensures in
     let one = adds_subcommand _ _ _ _ _ start group c.in_ok-subcommand.ensures in
