@@ -5,10 +5,12 @@ ghost use Rattle.dictcat_lib.specs.Program.{TaskEnds, ChangeTaskEnds};
 use crate::desks::{audit_file, change_file, install_file, list_file};
 use crate::making::create_file;
 use crate::plain::run_files;
+use crate::serving::serve_file;
 use crate::session::run_session;
 use dict_catalogue::Command;
 use dict_io::{Sink, Source};
 use dict_printed::Fault;
+use dict_serving::Wanted as Served;
 use dict_tasks::{InputFiles, Wanted};
 use dict_words::{Change, Task};
 use sqlite::{File, FileStore};
@@ -39,6 +41,19 @@ pub fn perform<'w, I: InputFiles, S: Source, K: Sink>(
             id,
             change,
         } => perform_change(rt, *file, *name, *id, change, files, writer),
+        Task::Serve {
+            file,
+            dict,
+            http,
+            rounds,
+        } => {
+            let wanted = Served {
+                dict: *dict,
+                http: *http,
+                rounds: *rounds,
+            };
+            serve_file(rt, *file, &wanted, writer)
+        }
     }
 }
 
