@@ -91,7 +91,10 @@ fn serve_stretch<'w, K: Keeper + Drop, D: Desks<'w, K>>(
     ensures ends { Ends (D.is_unopened (D.path desks.old)) result }
     ensures path { D.path desks.new ≡ D.path desks.old }
 {
-    let Pending { mut desk, left: rounds } = pending;
+    let Pending {
+        mut desk,
+        left: rounds,
+    } = pending;
     match serve(driver, &mut desk, rounds, wait) {
         Ok(Served::Whole) => Ok(Pending { desk, left: 0 }),
         Ok(Served::Closed(left)) => {
