@@ -1,3 +1,4 @@
+pub mod Binding
 pub mod Queues
 pub mod Stages
 pub mod Events

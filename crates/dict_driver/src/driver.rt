@@ -1,9 +1,10 @@
 // The sockets.
-ghost use Rattle.std.specs.Prelude.{◌≡◌, ◌≤◌, IfOk, List, ℕ};
+ghost use Rattle.std.specs.Prelude.{◌≡◌, ◌≤◌, IfOk, List, MatchResult, ℕ};
+ghost use Rattle.dict_driver.specs.Binding.{Binds, IsAddress, IsUnheard};
 ghost use Rattle.dict_driver.specs.Rounds.{Waits};
 
 use crate::connections::Connections;
-use crate::fault::BindFault;
+use crate::fault::{AddressFault, BindFault};
 use dict_desk::Keeper;
 use dict_hub::{Hub, Kind};
 use mio::net::{TcpListener, TcpStream};
@@ -25,6 +26,7 @@ const MOST_EVENTS: usize = 256;
 pub struct Driver<'h> {
     dict: TcpListener,
     http: TcpListener,
+    addresses: (SocketAddr, SocketAddr),
     poll: Poll,
     events: Events,
     // Whether a connection may wait at a listening socket.
@@ -39,24 +41,27 @@ impl<'h> Driver<'h> {
     ghost use Rattle.dict_driver.specs.Leading.{HasLedOn};
     ghost use Rattle.dict_driver.specs.Rounds.{Moves};
 
-    /// Listens at the address for readers and then at that for editors. Replies name the server by `host`, of 1 to 253 of
-    /// `A-Z a-z 0-9 . -`. No connection is there yet, and the first one's id is 1.
+    /// Listens at the address for readers and then at that for editors, each an IP address and a port. The second is read
+    /// only where the first is listened at. Replies name the server by `host`, of 1 to 253 of `A-Z a-z 0-9 . -`. No
+    /// connection is there yet, and the first one's id is 1.
     pub fn bind(
         net: &impl Net,
         alloc: Global,
-        dict: SocketAddr,
-        http: SocketAddr,
+        dict: &str,
+        http: &str,
         host: &'h str,
     ) -> Result<Driver<'h>, BindFault>
         ensures beginning { IfOk result (λ driver. IsAt driver.hub (beginning host.now)) }
         ensures last { IfOk result (λ driver. driver.connections.last ≡ 0) }
+        ensures binds { Binds dict.now http.now result }
     {
-        let poll = Poll::new(net).map_err(BindFault::Dict)?;
-        let dict = listen(net, &poll, dict).map_err(BindFault::Dict)?;
-        let http = listen(net, &poll, http).map_err(BindFault::Http)?;
+        let poll = Poll::new(net).map_err(BindFault::Wait)?;
+        let (dict, dict_address) = listen(net, &poll, dict).map_err(BindFault::Dict)?;
+        let (http, http_address) = listen(net, &poll, http).map_err(BindFault::Http)?;
         Ok(Driver {
             dict,
             http,
+            addresses: (dict_address, http_address),
             poll,
             events: Events::with_capacity(alloc, MOST_EVENTS)?,
             dict_may_accept: true,
@@ -67,8 +72,10 @@ impl<'h> Driver<'h> {
     }
 
     /// The addresses that are listened at, for readers and for editors.
-    pub fn addresses(&self) -> io::Result<(SocketAddr, SocketAddr)> {
-        Ok((self.dict.local_addr()?, self.http.local_addr()?))
+    pub fn addresses(&self) -> (SocketAddr, SocketAddr)
+        ensures { result ≡ self.now.addresses }
+    {
+        self.addresses
     }
 
     /// How many connections are open.
@@ -173,12 +180,31 @@ impl<'h> Driver<'h> {
     }
 }
 
+// Listens at the address that a text says, and tells at which that is: the system chooses a port for 0.
+fn listen(
+    net: &impl Net,
+    poll: &Poll,
+    text: &str,
+) -> Result<(TcpListener, SocketAddr), AddressFault>
+    ensures { MatchResult result (λ _. IsAddress text.now) (IsUnheard text.now) }
+{
+    match text.parse::<SocketAddr>() {
+        Ok(address) => listen_at(net, poll, address).map_err(AddressFault::Unbound),
+        Err(_) => Err(AddressFault::Unread),
+    }
+}
+
 // Listens at an address.
-fn listen(net: &impl Net, poll: &Poll, address: SocketAddr) -> io::Result<TcpListener> {
+fn listen_at(
+    net: &impl Net,
+    poll: &Poll,
+    address: SocketAddr,
+) -> io::Result<(TcpListener, SocketAddr)> {
     let mut listener = TcpListener::bind(net, address)?;
     poll.registry()
         .register(&mut listener, LISTENING, Interest::READABLE)?;
-    Ok(listener)
+    let bound = listener.local_addr()?;
+    Ok((listener, bound))
 }
 
 // Has the poll tell of a connection's socket, which sends at once what it is given.

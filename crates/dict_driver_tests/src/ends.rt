@@ -1,5 +1,6 @@
 // Peers that don't read, and peers that end their side early.
 use super::serving::Play;
+use dict_desk::PlainDesk;
 use std::net::{Net, TcpStream};
 use std::test::Fail;
 
@@ -10,17 +11,17 @@ const LINES: usize = 512;
 const ANSWERS: usize = 512 * 165;
 
 // A client asks many times at once.
-fn ask_for_help(play: &mut Play, who: usize) -> Result<(), Fail> {
+fn ask_for_help(play: &mut Play<PlainDesk>, who: usize) -> Result<(), Fail> {
     for _ in 0..LINES {
         if play.send(who, b"HELP\r\n").is_err() {
             return Ok(());
         }
     }
-    Ok(play.settle()?)
+    play.settle()
 }
 
 // Client 1 asks and reads nothing until its connection is lost. How often it asked.
-fn drown(play: &mut Play) -> Result<usize, Fail> {
+fn drown(play: &mut Play<PlainDesk>) -> Result<usize, Fail> {
     for asked in 0..1_000usize {
         if play.driver.open_count() < 2 {
             return Ok(asked);
@@ -31,7 +32,7 @@ fn drown(play: &mut Play) -> Result<usize, Fail> {
 }
 
 // Client 2 asks so often, ends its side, and then reads. How many octets came to it.
-fn end_early(play: &mut Play, asked: usize) -> Result<usize, Fail> {
+fn end_early(play: &mut Play<PlainDesk>, asked: usize) -> Result<usize, Fail> {
     for _ in 0..asked {
         ask_for_help(play, 2)?;
     }
@@ -50,7 +51,7 @@ fn end_early(play: &mut Play, asked: usize) -> Result<usize, Fail> {
     Err(Fail::new("no end came"))
 }
 
-fn begin(net: &impl Net<Stream = TcpStream>, play: &mut Play) -> Result<(), Fail> {
+fn begin(net: &impl Net<Stream = TcpStream>, play: &mut Play<PlainDesk>) -> Result<(), Fail> {
     play.read_at(net)?;
     play.look(0, b"220 localhost dictcat ready <1@localhost>\r\n")?;
     play.read_at(net)

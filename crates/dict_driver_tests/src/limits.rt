@@ -1,6 +1,5 @@
 // As many connections as there may be, and more.
 use super::serving::Play;
-use dict_driver::{BindFault, Driver};
 use std::test::Fail;
 
 // 64 are open at once, and the next is closed at once. After one has left, there is a place again, and its id wasn't given.
@@ -48,18 +47,5 @@ fn peers_that_are_gone(rt: HostRuntime) -> Result<(), Fail> {
     }
     assert_eq!(rt; play.driver.open_count(), 0);
     assert_eq!(rt; play.driver.departing_count(), 0);
-    Ok(())
-}
-
-// Addresses that are in use.
-#[test]
-fn an_address_in_use(rt: HostRuntime) -> Result<(), Fail> {
-    let play = Play::new(&rt, rt.alloc())?;
-    let first = Driver::bind(&rt, rt.alloc(), play.dict, play.http, "localhost");
-    assert!(rt; matches!(&first, Err(BindFault::Dict(_))));
-    let mut free = play.dict;
-    free.set_port(0);
-    let second = Driver::bind(&rt, rt.alloc(), free, play.http, "localhost");
-    assert!(rt; matches!(&second, Err(BindFault::Http(_))));
     Ok(())
 }

@@ -1,9 +1,9 @@
 // A driver over a catalogue in memory, and clients of it, in one thread.
 use dict_desk::PlainDesk;
-use dict_driver::{Driver, Served, serve};
+use dict_driver::{Driver, Served as RoundsEnd, serve};
 use std::alloc::Global;
 use std::io::{ErrorKind, Read, Result as IoResult, Write};
-use std::net::{IpAddr, Ipv4Addr, Net, Shutdown, SocketAddr, TcpStream};
+use std::net::{Net, Shutdown, SocketAddr, TcpStream};
 use std::test::Fail;
 use std::time::Duration;
 
@@ -15,6 +15,9 @@ pub(crate) const INSTALLED: &str =
 
 pub(crate) const FOUND: &str =
     "150 1 definitions retrieved\r\n151 \"opal\" gem \"Gems\"\r\nopal\r\n  a stone\r\n.\r\n250 ok\r\n";
+
+/// A free port of loopback.
+pub(crate) const FREE: &str = "127.0.0.1:0";
 
 /// One end of a connection, and what came to it.
 #[derive(Drop)]
@@ -71,30 +74,38 @@ impl Client {
     }
 }
 
-/// A driver at two free ports of loopback over an empty catalogue, and clients, in the order in which they came.
+/// What a driver makes its rounds over.
+pub(crate) trait Served: Drop {
+    /// Rounds until nothing happens.
+    fn settle(&mut self, driver: &mut Driver<'static>) -> Result<(), Fail>;
+}
+
+impl Served for PlainDesk {
+    fn settle(&mut self, driver: &mut Driver<'static>) -> Result<(), Fail> {
+        for _ in 0..100_000u32 {
+            if !driver.round(self)? {
+                return Ok(());
+            }
+        }
+        Ok(())
+    }
+}
+
+/// A driver at two free ports of loopback over a catalogue, and clients, in the order in which they came.
 #[derive(Drop)]
-pub(crate) struct Play {
+pub(crate) struct Play<D: Served> {
     alloc: Global,
     pub(crate) driver: Driver<'static>,
-    pub(crate) desk: PlainDesk,
+    pub(crate) desk: D,
     pub(crate) dict: SocketAddr,
     pub(crate) http: SocketAddr,
     clients: Vec<Client>,
 }
 
-impl Play {
-    pub(crate) fn new(net: &impl Net<Stream = TcpStream>, alloc: Global) -> Result<Play, Fail> {
-        let free = SocketAddr::new(IpAddr::V4(Ipv4Addr::LOCALHOST), 0);
-        let driver = Driver::bind(net, alloc, free, free, "localhost")?;
-        let (dict, http) = driver.addresses()?;
-        Ok(Play {
-            alloc,
-            driver,
-            desk: PlainDesk::new(alloc),
-            dict,
-            http,
-            clients: Vec::new(alloc),
-        })
+impl Play<PlainDesk> {
+    /// Over an empty catalogue in memory.
+    pub(crate) fn new(net: &impl Net<Stream = TcpStream>, alloc: Global) -> Result<Self, Fail> {
+        Play::over(net, alloc, PlainDesk::new(alloc))
     }
 
     /// One round. Whether anything happened.
@@ -103,34 +114,48 @@ impl Play {
     }
 
     /// So many rounds.
-    pub(crate) fn serve(&mut self, rounds: u64, wait: Duration) -> IoResult<Served> {
+    pub(crate) fn serve(&mut self, rounds: u64, wait: Duration) -> IoResult<RoundsEnd> {
         serve(&mut self.driver, &mut self.desk, rounds, wait)
     }
+}
 
-    /// Rounds until nothing happens in one.
-    pub(crate) fn settle(&mut self) -> IoResult<()> {
-        for _ in 0..100_000u32 {
-            if !self.round()? {
-                return Ok(());
-            }
-        }
-        Ok(())
+impl<D: Served> Play<D> {
+    pub(crate) fn over(
+        net: &impl Net<Stream = TcpStream>,
+        alloc: Global,
+        desk: D,
+    ) -> Result<Self, Fail> {
+        let driver = Driver::bind(net, alloc, FREE, FREE, "localhost")?;
+        let (dict, http) = driver.addresses();
+        Ok(Play {
+            alloc,
+            driver,
+            desk,
+            dict,
+            http,
+            clients: Vec::new(alloc),
+        })
+    }
+
+    /// Rounds until nothing happens.
+    pub(crate) fn settle(&mut self) -> Result<(), Fail> {
+        self.desk.settle(&mut self.driver)
     }
 
     /// A client at the socket for readers.
     pub(crate) fn read_at(&mut self, net: &impl Net<Stream = TcpStream>) -> Result<(), Fail> {
         self.clients.push(Client::new(net, self.alloc, self.dict)?)?;
-        Ok(self.settle()?)
+        self.settle()
     }
 
     /// A client at the socket for editors.
     pub(crate) fn edit_at(&mut self, net: &impl Net<Stream = TcpStream>) -> Result<(), Fail> {
         self.clients.push(Client::new(net, self.alloc, self.http)?)?;
-        Ok(self.settle()?)
+        self.settle()
     }
 
     /// Lets the last client go.
-    pub(crate) fn leave(&mut self) -> IoResult<()> {
+    pub(crate) fn leave(&mut self) -> Result<(), Fail> {
         drop(self.clients.pop());
         self.settle()
     }

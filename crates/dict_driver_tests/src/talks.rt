@@ -1,5 +1,6 @@
 // Readers and editors at one driver.
 use super::serving::{FOUND, INSTALLED, PUT, Play};
+use dict_desk::PlainDesk;
 use std::net::{Net, TcpStream};
 use std::test::Fail;
 use std::time::Duration;
@@ -23,7 +24,10 @@ fn an_install_between_two_pieces(rt: HostRuntime) -> Result<(), Fail> {
     Ok(())
 }
 
-fn ask_around_an_install(net: &impl Net<Stream = TcpStream>, play: &mut Play) -> Result<(), Fail> {
+fn ask_around_an_install(
+    net: &impl Net<Stream = TcpStream>,
+    play: &mut Play<PlainDesk>,
+) -> Result<(), Fail> {
     play.read_at(net)?;
     play.look(0, FIRST)?;
     play.edit_at(net)?;
@@ -33,7 +37,7 @@ fn ask_around_an_install(net: &impl Net<Stream = TcpStream>, play: &mut Play) ->
     play.ask(1, PUT.as_bytes(), INSTALLED.as_bytes())
 }
 
-fn ask_to_the_end(play: &mut Play) -> Result<(), Fail> {
+fn ask_to_the_end(play: &mut Play<PlainDesk>) -> Result<(), Fail> {
     play.ask(0, b"al\r\n", FOUND.as_bytes())?;
     play.ask(0, b"QUIT\r\nSTATUS\r\n", b"221 closing connection\r\n")
 }
@@ -45,7 +49,10 @@ fn a_line_before_an_install(rt: HostRuntime) -> Result<(), Fail> {
     ask_before_an_install(&rt, &mut play)
 }
 
-fn ask_before_an_install(net: &impl Net<Stream = TcpStream>, play: &mut Play) -> Result<(), Fail> {
+fn ask_before_an_install(
+    net: &impl Net<Stream = TcpStream>,
+    play: &mut Play<PlainDesk>,
+) -> Result<(), Fail> {
     play.edit_at(net)?;
     play.read_at(net)?;
     play.look(1, b"220 localhost dictcat ready <2@localhost>\r\n")?;
@@ -66,7 +73,7 @@ fn an_octet_a_round(rt: HostRuntime) -> Result<(), Fail> {
     ask_by_octets(&mut play)
 }
 
-fn ask_by_octets(play: &mut Play) -> Result<(), Fail> {
+fn ask_by_octets(play: &mut Play<PlainDesk>) -> Result<(), Fail> {
     for octet in b"SHOW SERVER\r" {
         let piece = [*octet];
         play.ask(0, &piece, b"")?;
@@ -100,7 +107,7 @@ fn a_large_install_in_pieces(rt: HostRuntime) -> Result<(), Fail> {
 }
 
 // How often was asked meanwhile.
-fn ask_while_sending(play: &mut Play) -> Result<usize, Fail> {
+fn ask_while_sending(play: &mut Play<PlainDesk>) -> Result<usize, Fail> {
     let filler = [b'x'; 65_536];
     let mut left = BEHIND;
     let mut asked = 0usize;

@@ -11,7 +11,7 @@ use Rattle.dict_printed.specs.declared.fault.Fault.TheVariants as faults
 use Rattle.dict_printed.specs.declared.fault.StoreFault.{StoreFault}
 use Rattle.dict_printed.specs.declared.fault.StoreFault.TheVariants as store_faults
 
--- a refusal is 1; a file, its catalogue, an output or a session that failed is 3; memory is 4
+-- a refusal is 1; a file, its catalogue, an output, a session or a socket that failed is 3; memory is 4
 abbrev pub status_of : Fault → ℕ
 status_of (faults.Line refusal line) = 1
 status_of (faults.Edition refusal) = 1
@@ -20,6 +20,8 @@ status_of (faults.Store fault) = 3
 status_of (faults.CannotRead path) = 3
 status_of faults.SessionEnded = 3
 status_of faults.CannotWrite = 3
+status_of (faults.CannotBind address) = 3
+status_of faults.CannotWait = 3
 status_of faults.Memory = 4
 
 -- a refusal, by its number and its name
@@ -47,6 +49,8 @@ line_of (faults.Store fault) = store_line fault
 line_of (faults.CannotRead path) = codes "cannot read " ++ path.now
 line_of faults.SessionEnded = codes "session ended by a fault"
 line_of faults.CannotWrite = codes "cannot write output"
+line_of (faults.CannotBind address) = codes "cannot bind " ++ address.now
+line_of faults.CannotWait = codes "cannot wait for connections"
 line_of faults.Memory = codes "fault 40 Memory"
 
 -- why no edition was read, as the program tells it

@@ -19,3 +19,5 @@ Writes text (Err (faults.Refused refusal)) writer = ⊥
 Writes text (Err (faults.Store fault)) writer = ⊥
 Writes text (Err (faults.CannotRead path)) writer = ⊥
 Writes text (Err faults.SessionEnded) writer = ⊥
+Writes text (Err (faults.CannotBind address)) writer = ⊥
+Writes text (Err faults.CannotWait) writer = ⊥

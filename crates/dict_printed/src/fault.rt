@@ -34,6 +34,12 @@ pub enum Fault<'w> {
     /// Standard output failed outside a session.
     #[error("cannot write output")]
     CannotWrite,
+    /// This is no address of a socket, or it can't be listened at.
+    #[error("cannot bind {0}")]
+    CannotBind(&'w str),
+    /// Sockets can't be waited for.
+    #[error("cannot wait for connections")]
+    CannotWait,
     /// A growth was refused.
     #[error("fault 40 Memory")]
     Memory,
@@ -77,6 +83,7 @@ impl Fault<'_> {
         match self {
             Fault::Line { .. } | Fault::Edition(_) | Fault::Refused(_) => 1,
             Fault::Store(_) | Fault::CannotRead(_) | Fault::SessionEnded | Fault::CannotWrite => 3,
+            Fault::CannotBind(_) | Fault::CannotWait => 3,
             Fault::Memory => 4,
         }
     }
@@ -95,6 +102,10 @@ impl Fault<'_> {
             Fault::CannotRead(path) => put_all(sink, &[b"cannot read ", path.as_bytes(), b"\n"]),
             Fault::SessionEnded => sink.put(b"session ended by a fault\n"),
             Fault::CannotWrite => sink.put(b"cannot write output\n"),
+            Fault::CannotBind(address) => {
+                put_all(sink, &[b"cannot bind ", address.as_bytes(), b"\n"])
+            }
+            Fault::CannotWait => sink.put(b"cannot wait for connections\n"),
             Fault::Memory => sink.put(b"fault 40 Memory\n"),
         }
     }

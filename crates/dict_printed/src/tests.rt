@@ -39,6 +39,12 @@ fn each_fault_has_a_line_and_a_status(rt: HostRuntime) -> Result<(), Fail> {
         (Fault::CannotRead("a b"), "cannot read a b\n", 3),
         (Fault::SessionEnded, "session ended by a fault\n", 3),
         (Fault::CannotWrite, "cannot write output\n", 3),
+        (
+            Fault::CannotBind("localhost:1"),
+            "cannot bind localhost:1\n",
+            3,
+        ),
+        (Fault::CannotWait, "cannot wait for connections\n", 3),
         (Fault::Memory, "fault 40 Memory\n", 4),
     ];
     for (fault, text, status) in rows {

@@ -1,5 +1,5 @@
 -- What building a command line adds to what is read by it.
-use Rattle.std.proofs.Common.{◌≡◌, ◌⊎◌, ◌∙◌, ◌||◌, ◌+◌, ◌<◌, ℕ, length, map, take, get_or, ap, ap₂, sym, subst, refl, true, false, List, [], ◌∷◌, ◌++◌, Option, inl, inr}
+use Rattle.std.proofs.Common.{◌≡◌, ◌⊎◌, ◌∙◌, ◌||◌, ◌+◌, ◌<◌, ℕ, length, map, take, get_or, ap, ap₂, sym, subst, refl, true, false, List, [], ◌∷◌, Option, inl, inr}
 use Rattle.std.proofs.lemmas.List.{map_more, map-append}
 use Rattle.clap.specs.Simple.{App, is_simple, new_shape, subcommand_of, with_rule, with_subcommand}
 use Rattle.clap.specs.Faults.{fault_of, is_simple_and_free}

@@ -1,17 +1,39 @@
 -- The command line that the program declares, as clap's definitions read it. What words mean on a command line is clap's matter.
-use Rattle.std.specs.Prelude.{◌≡◌, List, [], ◌∷◌, ◌++◌, map, codes, true, false}
+use Rattle.std.specs.Prelude.{◌≡◌, List, [], ◌∷◌, ◌++◌, map, codes, true, false, Some, pos}
+use Rattle.clap.specs.Lexer.{usize_max}
 use Rattle.clap.specs.Simple.{App, Shape, app_of, new_shape, new_rule}
 use Rattle.clap.specs.Walk.{Rule, Text}
 use Rattle.clap.specs.declared.builder.command.Command.{Command}
 use Rattle.clap.specs.declared.builder.command.Command.TheViews.{out-Command}
+use Rattle.clap.specs.declared.builder.value_parser.ValueParser.TheVariants as parsers
 
 -- a word that has to be there
 abbrev pub word : Text → Rule
 word id = record (new_rule id) { required = true }
 
+-- a word that has to be there once or more
+abbrev pub several : Text → Rule
+several id = record (word id) { range = Some (record { start_inclusive = 1; end_inclusive = usize_max }) }
+
+-- a word that has to be there, and be a number from 0 to 4,294,967,295
+abbrev pub number : Text → Rule
+number id = record (word id) { parser = Some (parsers.Signed (pos 0) (pos 4294967295)) }
+
+-- a value that has to be there, behind two hyphens and its name
+abbrev pub setting : Text → Rule
+setting id = record (word id) { long = Some id; value_names = 1 }
+
+-- a number from 1 to 4,294,967,295, behind two hyphens and its name
+abbrev pub count : Text → Rule
+count id = record (new_rule id) { long = Some id; value_names = 1; parser = Some (parsers.Signed (pos 1) (pos 4294967295)) }
+
 -- a subcommand that takes these words, in this order
 abbrev pub leaf : Text → List Text → Shape
 leaf name words = record (new_shape name) { rules = map word words }
+
+-- a subcommand that takes these words, in this order, and what these rules take
+abbrev pub leaf_with : Text → List Text → List Rule → Shape
+leaf_with name words rules = record (new_shape name) { rules = map word words ++ rules }
 
 -- a command without subcommands
 abbrev pub alone : Shape → App
@@ -30,12 +52,22 @@ readings =
     ∷ leaf (codes "audit") (codes "FILE" ∷ [])
     ∷ leaf (codes "session") (codes "FILE" ∷ []) ∷ []
 
--- what changes a file's catalogue
+-- what changes the databases of a file's catalogue
 abbrev pub changes : List Shape
 changes =
     leaf (codes "install") (codes "FILE" ∷ codes "NAME" ∷ codes "ID" ∷ codes "INDEX" ∷ codes "DICT" ∷ [])
     ∷ leaf (codes "rollback") (codes "FILE" ∷ codes "NAME" ∷ codes "ID" ∷ [])
     ∷ leaf (codes "retire") (codes "FILE" ∷ codes "NAME" ∷ codes "ID" ∷ []) ∷ []
+
+-- what groups and orders the databases of a file's catalogue
+abbrev pub arrangements : List Shape
+arrangements =
+    leaf_with (codes "virtual") (codes "FILE" ∷ codes "NAME" ∷ codes "ID" ∷ codes "TITLE" ∷ []) (several (codes "MEMBER") ∷ [])
+    ∷ leaf_with (codes "place") (codes "FILE" ∷ codes "NAME" ∷ codes "ID" ∷ []) (number (codes "PLACE") ∷ []) ∷ []
+
+-- what serves a file's catalogue
+abbrev pub servers : List Shape
+servers = leaf_with (codes "serve") (codes "FILE" ∷ []) (setting (codes "dict") ∷ setting (codes "http") ∷ count (codes "rounds") ∷ []) ∷ []
 
 -- the program's name and its version; words have to name a subcommand
 abbrev pub required : Shape
@@ -43,7 +75,7 @@ required = record (new_shape (codes "dictcat")) { has_version = true; subcommand
 
 -- the command line that the program reads
 unfoldable pub command_line : App
-command_line = with_all (with_all (alone required) readings) changes
+command_line = with_all (with_all (with_all (with_all (alone required) readings) changes) arrangements) servers
 
 -- what clap reads by this command is what the app says
 abbrev pub Reads : App → Command → Type 0

@@ -1,7 +1,7 @@
 // The command line, as it is declared.
 ghost use Rattle.std.specs.Prelude.{◌≡◌, IfOk, false, map};
 ghost use Rattle.clap.specs.Walk.{rule_of};
-ghost use Rattle.dict_words.specs.Line.{word, leaf, alone, required, command_line, with_all, readings, Reads};
+ghost use Rattle.dict_words.specs.Line.{word, several, number, setting, count, leaf, alone, required, command_line, with_all, readings, changes, arrangements, Reads};
 
 use clap::{Arg, Command};
 use std::alloc::{AllocError, Global};
@@ -12,6 +12,43 @@ fn word<'w>(alloc: Global, id: &'w str, help: &'w str) -> Arg<'w>
     ensures local { result.global ≡ false }
 {
     Arg::new(alloc, id).required(true).help(help)
+}
+
+// A word that has to be there once or more.
+fn several<'w>(alloc: Global, id: &'w str, help: &'w str) -> Arg<'w>
+    ensures rule { rule_of result ≡ several id.entry.now }
+    ensures local { result.global ≡ false }
+{
+    word(alloc, id, help).num_args(1..)
+}
+
+// A word that has to be there, and be a number of 32 bits.
+fn number<'w>(alloc: Global, id: &'w str, help: &'w str) -> Arg<'w>
+    ensures rule { rule_of result ≡ number id.entry.now }
+    ensures local { result.global ≡ false }
+{
+    word(alloc, id, help).value_parser(clap::value_parser!(u32))
+}
+
+// A value that has to be there, behind two hyphens and its name.
+fn setting<'w>(alloc: Global, id: &'w str, value: &'w str, help: &'w str) -> Arg<'w>
+    ensures rule { rule_of result ≡ setting id.entry.now }
+    ensures local { result.global ≡ false }
+{
+    word(alloc, id, help).long(id).value_name(value)
+}
+
+// A number of 32 bits that is not 0, behind two hyphens and its name.
+fn count<'w>(alloc: Global, id: &'w str, value: &'w str, help: &'w str) -> Arg<'w>
+    ensures rule { rule_of result ≡ count id.entry.now }
+    ensures local { result.global ≡ false }
+{
+    let numbers = clap::value_parser!(u32).range(1..);
+    Arg::new(alloc, id)
+        .long(id)
+        .value_name(value)
+        .value_parser(numbers)
+        .help(help)
 }
 
 // A subcommand that takes these words, each with its help.
@@ -39,6 +76,8 @@ const ID: (&str, &str) = (
     "The request's id: 1 to 64 letters, digits and hyphens; the same for a retry, and a new one for a new request",
 );
 
+const TITLE: (&str, &str) = ("TITLE", "The title that a client is shown");
+
 const INDEX: (&str, &str) = ("INDEX", "The database's index file");
 
 const DICT: (&str, &str) = ("DICT", "The database's text file");
@@ -51,7 +90,8 @@ pub fn command_line<'w>(alloc: Global) -> Result<Command<'w>, AllocError>
         .about("A DICT server (RFC 2229) whose answers are proved")
         .version("0.1.0")
         .subcommand_required(true);
-    with_changes(alloc, with_readings(alloc, line)?)
+    let line = with_changes(alloc, with_readings(alloc, line)?)?;
+    with_server(alloc, with_arrangements(alloc, line)?)
 }
 
 // Adds what makes or reads a file, or serves a session.
@@ -80,9 +120,9 @@ fn with_readings<'w>(alloc: Global, line: Command<'w>) -> Result<Command<'w>, Al
     )?)
 }
 
-// Adds what changes a catalogue.
+// Adds what changes the databases of a catalogue.
 fn with_changes<'w>(alloc: Global, line: Command<'w>) -> Result<Command<'w>, AllocError>
-    ensures { Reads (with_all (alone required) readings) line.entry → IfOk result (Reads command_line) }
+    ensures { Reads (with_all (alone required) readings) line.entry → IfOk result (Reads (with_all (with_all (alone required) readings) changes)) }
 {
     line.subcommand(leaf(
         alloc,
@@ -102,4 +142,55 @@ fn with_changes<'w>(alloc: Global, line: Command<'w>) -> Result<Command<'w>, All
         "Takes a database out of the catalogue",
         &[FILE, NAME, ID],
     )?)
+}
+
+// Adds what groups and orders the databases of a catalogue.
+fn with_arrangements<'w>(alloc: Global, line: Command<'w>) -> Result<Command<'w>, AllocError>
+    ensures { Reads (with_all (with_all (alone required) readings) changes) line.entry → IfOk result (Reads (with_all (with_all (with_all (alone required) readings) changes) arrangements)) }
+{
+    let group = leaf(
+        alloc,
+        "virtual",
+        "Makes a virtual database, or changes one",
+        &[FILE, NAME, ID, TITLE],
+    )?;
+    let place = leaf(
+        alloc,
+        "place",
+        "Puts a database at another place in the order",
+        &[FILE, NAME, ID],
+    )?;
+    line.subcommand(group.arg(several(alloc, "MEMBER", "A database that is searched by it"))?)?
+        .subcommand(place.arg(number(alloc, "PLACE", "The place, from 0"))?)
+}
+
+// Adds what serves a catalogue.
+fn with_server<'w>(alloc: Global, line: Command<'w>) -> Result<Command<'w>, AllocError>
+    ensures { Reads (with_all (with_all (with_all (alone required) readings) changes) arrangements) line.entry → IfOk result (Reads command_line) }
+{
+    let server = leaf(
+        alloc,
+        "serve",
+        "Serves a catalogue to readers over DICT, and takes requests of editors over HTTP",
+        &[FILE],
+    )?
+    .arg(setting(
+        alloc,
+        "dict",
+        "ADDR",
+        "The address for readers, as 127.0.0.1:2628",
+    ))?
+    .arg(setting(
+        alloc,
+        "http",
+        "ADDR",
+        "The address for editors, as 127.0.0.1:8080",
+    ))?
+    .arg(count(
+        alloc,
+        "rounds",
+        "N",
+        "Ends after so many rounds; else it goes on",
+    ))?;
+    line.subcommand(server)
 }

@@ -1,16 +1,16 @@
 // What task words ask for.
-ghost use Rattle.std.specs.Prelude.{◌≡◌, IfOk, IfErr, map, option_map, codes};
+ghost use Rattle.std.specs.Prelude.{◌≡◌, IfOk, IfErr, map, option_map, option_and_then, codes};
 ghost use Rattle.clap.specs.Values.{kind_of};
-ghost use Rattle.clap.specs.Walk.{rows_of, first_of};
+ghost use Rattle.clap.specs.Walk.{rows_of, all_of, first_of, one_of};
 ghost use Rattle.clap.specs.Simple.{subcommand_rows_of};
 ghost use Rattle.clap.specs.Matches.{found_of};
-ghost use Rattle.dict_words.specs.Asked.{Asks, Fails, task_shown, change_shown, found_asked, asked_by, plain_asked, on_file, change_asked, install_asked};
+ghost use Rattle.dict_words.specs.Asked.{Asks, Fails, task_shown, change_shown, found_asked, asked_by, plain_asked, on_file, change_asked, install_asked, virtual_asked, place_asked, serve_asked, number_in, words_shown};
 
 use crate::line::command_line;
 use crate::task::{Change, Task};
 use clap::error::ErrorKind;
 use clap::{ArgMatches, Error};
-use std::alloc::Global;
+use std::alloc::{AllocError, Global};
 use std::convert::AsStr;
 
 /// What the words ask for, of which the first is the program's name.
@@ -20,22 +20,41 @@ pub fn read_words<'w, W: AsStr>(alloc: Global, words: &'w [W]) -> Result<Task<'w
 {
     let mut line = command_line(alloc)?;
     let matches = line.try_get_matches_from_mut(words)?;
-    match task_of(&matches) {
+    let asked = task_of(alloc, &matches)?;
+    match asked {
         Some(task) => Ok(task),
         None => Err(line.error(ErrorKind::MissingSubcommand, "a subcommand is required")?),
     }
 }
 
 // What the subcommand that was used asks for.
-fn task_of<'w>(matches: &ArgMatches<'w>) -> Option<Task<'w>>
-    ensures { option_map task_shown result ≡ found_asked (subcommand_rows_of matches.now) }
+fn task_of<'w>(alloc: Global, matches: &ArgMatches<'w>) -> Result<Option<Task<'w>>, AllocError>
+    ensures { IfOk result (λ task. option_map task_shown task ≡ found_asked (subcommand_rows_of matches.now)) }
 {
-    let (name, found) = matches.subcommand()?;
-    task_by(name, found)
+    let Some((name, found)) = matches.subcommand() else {
+        return Ok(None);
+    };
+    let members = members_of(alloc, found)?;
+    Ok(task_by(name, found, members))
 }
 
-// What a subcommand of this name asks for, by its words.
-fn task_by<'w>(name: &str, found: &ArgMatches<'w>) -> Option<Task<'w>>
+// The values of the argument MEMBER, where it is there.
+fn members_of<'w>(alloc: Global, found: &ArgMatches<'w>) -> Result<Option<Vec<&'w str>>, AllocError>
+    ensures { IfOk result (λ members. option_map (λ each. words_shown each.items) members ≡ all_of (codes "MEMBER") (rows_of (found_of found.now))) }
+{
+    match found.get_strs("MEMBER") {
+        Some(members) => Ok(Some(members.to_vec(alloc)?)),
+        None => Ok(None),
+    }
+}
+
+// What a subcommand of this name asks for, by its words, of which these are the members.
+fn task_by<'w>(
+    name: &str,
+    found: &ArgMatches<'w>,
+    members: Option<Vec<&'w str>>,
+) -> Option<Task<'w>>
+    requires { option_map (λ each. words_shown each.items) members ≡ all_of (codes "MEMBER") (rows_of (found_of found.now)) }
     ensures { option_map task_shown result ≡ asked_by name.now (rows_of (found_of found.now)) }
 {
     match name {
@@ -55,6 +74,9 @@ fn task_by<'w>(name: &str, found: &ArgMatches<'w>) -> Option<Task<'w>>
         "install" => change_task(found, install_of(found)),
         "rollback" => change_task(found, Some(Change::Rollback)),
         "retire" => change_task(found, Some(Change::Retire)),
+        "virtual" => change_task(found, virtual_of(found, members)),
+        "place" => change_task(found, place_of(found)),
+        "serve" => serve_task(found),
         _ => None,
     }
 }
@@ -80,6 +102,33 @@ fn install_of<'w>(found: &ArgMatches<'w>) -> Option<Change<'w>>
     })
 }
 
+// The title of a virtual item, with its members.
+fn virtual_of<'w>(found: &ArgMatches<'w>, members: Option<Vec<&'w str>>) -> Option<Change<'w>>
+    requires { option_map (λ each. words_shown each.items) members ≡ all_of (codes "MEMBER") (rows_of (found_of found.now)) }
+    ensures { option_map change_shown result ≡ virtual_asked (rows_of (found_of found.now)) }
+{
+    Some(Change::Virtual {
+        title: value_of(found, "TITLE")?,
+        members: members?,
+    })
+}
+
+// The place that an item is put at.
+fn place_of<'w>(found: &ArgMatches<'w>) -> Option<Change<'w>>
+    ensures { option_map change_shown result ≡ place_asked (rows_of (found_of found.now)) }
+{
+    Some(Change::Place {
+        place: number_of(found, "PLACE")?,
+    })
+}
+
+// The number that is the value of the argument with this name.
+fn number_of(found: &ArgMatches<'_>, id: &str) -> Option<u32>
+    ensures { result ≡ option_and_then number_in (one_of id.now (rows_of (found_of found.now))) }
+{
+    found.get_one(id)
+}
+
 // What the words of a change ask for.
 fn change_task<'w>(found: &ArgMatches<'w>, change: Option<Change<'w>>) -> Option<Task<'w>>
     ensures { option_map task_shown result ≡ change_asked (rows_of (found_of found.now)) (option_map change_shown change.entry) }
@@ -93,6 +142,18 @@ fn change_task<'w>(found: &ArgMatches<'w>, change: Option<Change<'w>>) -> Option
         name,
         id,
         change,
+    })
+}
+
+// What the words of a server ask for.
+fn serve_task<'w>(found: &ArgMatches<'w>) -> Option<Task<'w>>
+    ensures { option_map task_shown result ≡ serve_asked (rows_of (found_of found.now)) }
+{
+    Some(Task::Serve {
+        file: file_of(found)?,
+        dict: value_of(found, "dict")?,
+        http: value_of(found, "http")?,
+        rounds: number_of(found, "rounds"),
     })
 }
 

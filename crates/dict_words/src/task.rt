@@ -1,7 +1,7 @@
 // What the program can be asked for.
 
 /// What the words of a command line ask for. Files are told by their paths.
-#[derive(Clone, Copy, Debug, PartialEq, Eq)]
+#[derive(Debug, Drop, PartialEq, Eq)]
 pub enum Task<'w> {
     /// A session on the standard streams over the database that an index and a text make, under a name.
     Plain {
@@ -32,15 +32,34 @@ pub enum Task<'w> {
         id: &'w str,
         change: Change<'w>,
     },
+    /// A server of a file's catalogue, at an address for readers and one for editors, for so many rounds or without end.
+    Serve {
+        file: &'w str,
+        dict: &'w str,
+        http: &'w str,
+        rounds: Option<u32>,
+    },
 }
 
 /// What is changed of the item.
-#[derive(Clone, Copy, Debug, PartialEq, Eq)]
+#[derive(Debug, Drop, PartialEq, Eq)]
 pub enum Change<'w> {
     /// The edition that an index and a text make becomes the current one.
-    Install { index: &'w str, text: &'w str },
+    Install {
+        index: &'w str,
+        text: &'w str,
+    },
     /// The current and the former edition are swapped.
     Rollback,
     /// The item is taken out.
     Retire,
+    /// A virtual item is put there, with this title and over these members, in order.
+    Virtual {
+        title: &'w str,
+        members: Vec<&'w str>,
+    },
+    /// The item is put at this place, from 0.
+    Place {
+        place: u32,
+    },
 }

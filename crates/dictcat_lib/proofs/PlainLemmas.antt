@@ -53,6 +53,8 @@ installed_ends Shows name index text (Err (faults.Edition refusal)) reader write
 installed_ends Shows name index text (Err (faults.Store fault)) reader writer done h = h
 installed_ends Shows name index text (Err (faults.CannotRead path)) reader writer done h = h
 installed_ends Shows name index text (Err faults.CannotWrite) reader writer done h = h
+installed_ends Shows name index text (Err (faults.CannotBind address)) reader writer done h = h
+installed_ends Shows name index text (Err faults.CannotWait) reader writer done h = h
 
 -- nothing was installed, and nothing was read or written
 pub not_installed : (A B : Type 0) (Shows : Catalogue → Type 0) (name index text : List ℕ) (fault : Fault) (reader writer : Change) → IsUntouched reader → IsUntouched writer
@@ -65,3 +67,5 @@ not_installed A B Shows name index text (faults.Edition refusal) reader writer r
 not_installed A B Shows name index text (faults.Store fault) reader writer r w h = h
 not_installed A B Shows name index text (faults.CannotRead path) reader writer r w h = h
 not_installed A B Shows name index text faults.CannotWrite reader writer r w h = h
+not_installed A B Shows name index text (faults.CannotBind address) reader writer r w h = h
+not_installed A B Shows name index text faults.CannotWait reader writer r w h = h

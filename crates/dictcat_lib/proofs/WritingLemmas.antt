@@ -4,7 +4,7 @@ use Rattle.std.specs.Prelude.{◌⊎◌, Result}
 use Rattle.sqlite_trees.specs.declared.store.Store.{Ghosts}
 use Rattle.dict_io.specs.Streams.{Change, HasFailed}
 use Rattle.dict_index.specs.Edition.{Edition as AnEdition}
-use Rattle.dict_catalogue.specs.Commands.{Command, rollback, retire}
+use Rattle.dict_catalogue.specs.Commands.{Command, rollback, retire, put_virtual, place}
 use Rattle.dict_store.specs.Desk.{Shows, LeavesOneOf}
 use Rattle.dict_catalogue.specs.declared.reply.Kept.{Kept}
 use Rattle.dict_catalogue.specs.Steps.{Catalogue}
@@ -12,17 +12,28 @@ use Rattle.dict_desk.specs.declared.fault.Fault.{Fault as DeskFault}
 use Rattle.dict_printed.specs.Faults.{status_of}
 use Rattle.dict_printed.specs.Writing.{IsUntouched, Writes}
 use Rattle.dict_printed.specs.declared.fault.Fault.{Fault}
-use Rattle.dict_printed.specs.declared.fault.Fault.TheVariants.{Line, Edition, Refused, Store, CannotRead, SessionEnded, CannotWrite, Memory}
+use Rattle.dict_printed.specs.declared.fault.Fault.TheVariants.{Line, Edition, Refused, Store, CannotRead, SessionEnded, CannotWrite, CannotBind, CannotWait, Memory}
 use Rattle.dict_tasks.specs.Changing.{TellsAnswer}
 use Rattle.dict_tasks.specs.Installing.{InstallEnds}
+use Rattle.dict_words.specs.Asked.{words_shown}
 use Rattle.dict_words.specs.declared.task.Change.{Change as Asked}
-use Rattle.dict_words.specs.declared.task.Change.TheVariants.{Install, Rollback, Retire}
+use Rattle.dict_words.specs.declared.task.Change.TheVariants.{Install, Rollback, Retire, Virtual, Place}
 use Rattle.dictcat_lib.specs.Desks.{IsTrusted, ListEnds, AuditEnds, ChangeEnds, InstallsOn}
 use Rattle.dictcat_lib.specs.Program.{ChangeTaskEnds, IsFailed}
+use Rattle.dictcat_lib.specs.Serving.{HasTold, ServesOn}
 
 -- nothing was written, or the writer failed and that was told
 abbrev pub Spoils : Fault → Change → Type 0
 Spoils fault writer = IsUntouched writer ⊎ ((fault ≡ CannotWrite) × HasFailed writer.old.failures writer.new.failures)
+
+-- what each status tells of it
+pub spoils_not_3 : (fault : Fault) (writer : Change) → (3 ≡ status_of fault → ⊥) → Spoils fault writer → IsUntouched writer
+spoils_not_3 fault writer other (inl h) = h
+spoils_not_3 fault writer other (inr (is, h)) = absurd (other (omega (arith, ap status_of is)))
+
+-- nothing was written, not even the addresses of a server
+pub spared : {A B C : Type 0} → A × B → A × (B ⊎ C)
+spared h = (h.0, inl h.1)
 
 pub writes_spoils : (text : List ℕ) (fault : Fault) (writer : Change) → Writes text (Err fault) writer → Spoils fault writer
 writes_spoils text (Line refusal line) writer h = absurd h
@@ -32,6 +43,8 @@ writes_spoils text (Store fault) writer h = absurd h
 writes_spoils text (CannotRead path) writer h = absurd h
 writes_spoils text SessionEnded writer h = absurd h
 writes_spoils text CannotWrite writer h = inr (refl, h.failures)
+writes_spoils text (CannotBind address) writer h = absurd h
+writes_spoils text CannotWait writer h = absurd h
 writes_spoils text Memory writer h = inl h
 
 pub answer_spoils : (answer : Result Kept DeskFault) (fault : Fault) (writer : Change) → TellsAnswer answer (Err fault) writer → Spoils fault writer
@@ -76,12 +89,31 @@ module _ {S : Type 0} (g : Ghosts S) where
   task_spoils files path name id (Install index text) fault writer h = installs_spoils files path name id index.now text.now fault writer h
   task_spoils files path name id Rollback fault writer h = change_spoils path id (rollback name) fault writer h
   task_spoils files path name id Retire fault writer h = change_spoils path id (retire name) fault writer h
+  task_spoils files path name id (Virtual title members) fault writer h = change_spoils path id (put_virtual name title.now (words_shown members.items)) fault writer h
+  task_spoils files path name id (Place at) fault writer h = change_spoils path id (place name at) fault writer h
 
   pub spoiled_failed : (fault : Fault) (reader writer : Change) → IsUntouched reader → Spoils fault writer → IsFailed g reader writer
-  spoiled_failed fault reader writer r (inl h) = inl (r, h)
+  spoiled_failed fault reader writer r (inl h) = inl (r, inl h)
   spoiled_failed fault reader writer r (inr h) = inr (inr (r, h.1))
 
--- what each status tells of it
-pub spoils_not_3 : (fault : Fault) (writer : Change) → (3 ≡ status_of fault → ⊥) → Spoils fault writer → IsUntouched writer
-spoils_not_3 fault writer other (inl h) = h
-spoils_not_3 fault writer other (inr (is, h)) = absurd (other (omega (arith, ap status_of is)))
+  serves_spoils : (path dict http : List ℕ) (fault : Fault) (writer : Change) → ServesOn g path dict http (Err fault) writer → Spoils fault writer ⊎ HasTold writer
+  unfolding Rattle.dictcat_lib.specs.Serving.ServesOn
+  serves_spoils path dict http fault writer (inl h) = inl (inl h.3)
+  serves_spoils path dict http fault writer (inr (inl (other, is, inl h))) = inl (inl h.3)
+  serves_spoils path dict http fault writer (inr (inl (other, is, inr (inl (same, (readers, editors, put)))))) =
+      let e : fault ≡ CannotWrite = cc in inl (inr (e, put.failures))
+  serves_spoils path dict http fault writer (inr (inl (other, is, inr (inr h)))) = inl (inl h.1)
+  serves_spoils path dict http fault writer (inr (inr served)) = inr (served.readers, served.editors, served.told)
+
+  pub serves_not_3 : (path dict http : List ℕ) (fault : Fault) (writer : Change) → (3 ≡ status_of fault → ⊥) → ServesOn g path dict http (Err fault) writer
+      → IsUntouched writer ⊎ HasTold writer
+  serves_not_3 path dict http fault writer other h = elim (serves_spoils path dict http fault writer h) [
+    | inl spoils ↦ inl (spoils_not_3 fault writer other spoils)
+    | inr told ↦ inr told
+  ]
+
+  pub serves_failed : (path dict http : List ℕ) (fault : Fault) (reader writer : Change) → IsUntouched reader → ServesOn g path dict http (Err fault) writer → IsFailed g reader writer
+  serves_failed path dict http fault reader writer r h = elim (serves_spoils path dict http fault writer h) [
+    | inl spoils ↦ spoiled_failed fault reader writer r spoils
+    | inr told ↦ inl (r, inr told)
+  ]

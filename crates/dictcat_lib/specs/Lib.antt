@@ -1,4 +1,5 @@
 pub mod Desks
+pub mod Serving
 pub mod Opening
 pub mod Plain
 pub mod Program

@@ -30,6 +30,8 @@ IsUnopened path (faults.Refused refusal) = ⊥
 IsUnopened path (faults.Store fault) = ⊥
 IsUnopened path faults.SessionEnded = ⊥
 IsUnopened path faults.CannotWrite = ⊥
+IsUnopened path (faults.CannotBind address) = ⊥
+IsUnopened path faults.CannotWait = ⊥
 
 -- what is told of a session over a database
 abbrev pub over_told : Result End FileFault → Result (Unit {0}) Fault

@@ -45,6 +45,8 @@ RunEnds M (Err (faults.Refused refusal)) reader writer = ⊥
 RunEnds M (Err (faults.Store fault)) reader writer = ⊥
 RunEnds M (Err (faults.CannotRead path)) reader writer = ⊥
 RunEnds M (Err faults.CannotWrite) reader writer = ⊥
+RunEnds M (Err (faults.CannotBind address)) reader writer = ⊥
+RunEnds M (Err faults.CannotWait) reader writer = ⊥
 
 -- the edition that an index and a text say is installed under this lawful name, as the first command
 pub record IsInstalled (Shows : Catalogue → Type 0) (name index text : List ℕ) : Type 0 where
@@ -64,6 +66,8 @@ Installs Shows name index text (Err faults.SessionEnded) = ⊥
 Installs Shows name index text (Err (faults.Store fault)) = ⊥
 Installs Shows name index text (Err (faults.CannotRead path)) = ⊥
 Installs Shows name index text (Err faults.CannotWrite) = ⊥
+Installs Shows name index text (Err (faults.CannotBind address)) = ⊥
+Installs Shows name index text (Err faults.CannotWait) = ⊥
 
 -- what comes of an index, a text and a name
 abbrev pub PlainEnds : {A : Type 0} → List ℕ → List ℕ → List ℕ → Result A Fault → Change → Change → Type 0
@@ -78,6 +82,8 @@ PlainEnds name index text (Err faults.Memory) reader writer = IsUntouched reader
 PlainEnds name index text (Err (faults.Store fault)) reader writer = ⊥
 PlainEnds name index text (Err (faults.CannotRead path)) reader writer = ⊥
 PlainEnds name index text (Err faults.CannotWrite) reader writer = ⊥
+PlainEnds name index text (Err (faults.CannotBind address)) reader writer = ⊥
+PlainEnds name index text (Err faults.CannotWait) reader writer = ⊥
 
 -- what comes of two files, by their paths, and a name
 unfoldable pub FilesEnd : {A : Type 0} → (List ℕ → Option (List ℕ)) → List ℕ → List ℕ → List ℕ → Result A Fault → Change → Change → Type 0

@@ -5,13 +5,13 @@ use Rattle.clap.specs.declared.error.kind.ErrorKind.{ErrorKind}
 use Rattle.clap.specs.declared.error.kind.ErrorKind.TheVariants as kinds
 use Rattle.sqlite.specs.Held.{Held}
 use Rattle.sqlite_trees.specs.declared.store.Store.{Ghosts}
-use Rattle.dict_catalogue.specs.Commands.{rollback, retire}
+use Rattle.dict_catalogue.specs.Commands.{rollback, retire, put_virtual, place}
 use Rattle.dict_io.specs.Streams.{Change, HasFailed, Puts, PutsAll, PutsFront}
 use Rattle.dict_io.specs.declared.sink.SinkFault.{SinkFault}
 use Rattle.dict_session.specs.declared.session.run.SessionFault.{SessionFault}
 use Rattle.dict_session.specs.declared.session.run.SessionFault.TheVariants as session_faults
 use Rattle.dict_file_session.specs.declared.fault.FileFault.TheVariants.{Session}
-use Rattle.dict_words.specs.Asked.{Asks, Fails, mistakes_in}
+use Rattle.dict_words.specs.Asked.{Asks, Fails, mistakes_in, words_shown}
 use Rattle.dict_words.specs.declared.task.Change.{Change as AskedChange}
 use Rattle.dict_words.specs.declared.task.Change.TheVariants as changes
 use Rattle.dict_words.specs.declared.task.Task.{Task}
@@ -22,6 +22,7 @@ use Rattle.dict_printed.specs.declared.fault.Fault.TheVariants as faults
 use Rattle.dict_printed.specs.Writing.{IsUntouched}
 use Rattle.dictcat_lib.specs.Desks.{ListEnds, AuditEnds, ChangeEnds, InstallsOn}
 use Rattle.dictcat_lib.specs.Plain.{EndsOver, FilesEnd}
+use Rattle.dictcat_lib.specs.Serving.{HasTold, ServesOn}
 use Rattle.dictcat_lib.specs.Opening.{CreateEnds, SessionEnds, HasSpoken}
 
 -- a text was put, or a front of it where the sink failed
@@ -81,6 +82,10 @@ AnswerEnds words status reader writer faults =
     ((end : Result (Unit {0}) Fault) × IsShown words end reader writer × Closes end status faults)
     ⊎ Misreads words status reader writer faults
 
+-- nothing was read, and nothing was written but the addresses that a server listens at
+abbrev pub HasToldAtMost : Change → Change → Type 0
+HasToldAtMost reader writer = IsUntouched reader × (IsUntouched writer ⊎ HasTold writer)
+
 module _ {S : Type 0} (g : Ghosts S) where
   -- a session over a lawful database, or over a file's catalogue, was ended by a fault of its reader, its writer or its desk
   abbrev pub IsBroken : Change → Change → Type 0
@@ -88,9 +93,9 @@ module _ {S : Type 0} (g : Ghosts S) where
       ((name : List ℕ) × (index : List ℕ) × (text : List ℕ) × (fault : SessionFault) × (fault ≢ session_faults.Memory) × EndsOver name index text (Err fault) reader writer)
       ⊎ ((conn : Held S) × (left : Held S) × (fault : SessionFault) × (fault ≢ session_faults.Memory) × HasSpoken g conn left (Err (Session fault)) reader writer)
 
-  -- nothing was read or written, or a session was broken, or the writer failed where nothing was read
+  -- nothing was read or written but the addresses of a server, or a session was broken, or the writer failed where nothing was read
   abbrev pub IsFailed : Change → Change → Type 0
-  IsFailed reader writer = (IsUntouched reader × IsUntouched writer)
+  IsFailed reader writer = HasToldAtMost reader writer
       ⊎ (IsBroken reader writer ⊎ (IsUntouched reader × HasFailed writer.old.failures writer.new.failures))
 
 -- Over files of these octets, by their paths.
@@ -100,6 +105,8 @@ module _ {S : Type 0} (g : Ghosts S) (files : List ℕ → Option (List ℕ)) wh
   ChangeTaskEnds file name id (changes.Install index text) end writer = InstallsOn g files file name id index.now text.now end writer
   ChangeTaskEnds file name id changes.Rollback end writer = ChangeEnds g file id (rollback name) end writer
   ChangeTaskEnds file name id changes.Retire end writer = ChangeEnds g file id (retire name) end writer
+  ChangeTaskEnds file name id (changes.Virtual title members) end writer = ChangeEnds g file id (put_virtual name title.now (words_shown members.items)) end writer
+  ChangeTaskEnds file name id (changes.Place at) end writer = ChangeEnds g file id (place name at) end writer
 
   -- a task ends so
   abbrev pub TaskEnds : Task → Result (Unit {0}) Fault → Change → Change → Type 0
@@ -109,6 +116,7 @@ module _ {S : Type 0} (g : Ghosts S) (files : List ℕ → Option (List ℕ)) wh
   TaskEnds (tasks.Audit file) end reader writer = AuditEnds g file.now end writer × IsUntouched reader
   TaskEnds (tasks.Session file) end reader writer = SessionEnds g file.now end reader writer
   TaskEnds (tasks.Change file name id what) end reader writer = ChangeTaskEnds file.now name.now id.now what end writer × IsUntouched reader
+  TaskEnds (tasks.Serve file dict http rounds) end reader writer = ServesOn g file.now dict.now http.now end writer × IsUntouched reader
 
   -- what was asked for was done or not: a task, or help or the version; or memory ran out before
   abbrev pub Attempts : List (List ℕ) → Result (Unit {0}) Fault → Change → Change → Type 0

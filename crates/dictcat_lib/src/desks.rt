@@ -14,7 +14,10 @@ use sqlite::{File, FileStore};
 use sqlite_trees::store::Store;
 
 // The desk of the catalogue in the file with this path.
-fn open_desk<'w>(rt: &HostRuntime, file: &'w str) -> Result<Desk<FileStore<File>>, Fault<'w>>
+pub(crate) fn open_desk<'w>(
+    rt: &HostRuntime,
+    file: &'w str,
+) -> Result<Desk<FileStore<File>>, Fault<'w>>
     ensures { MatchResult result (IsDesk ⟦<FileStore<File> as Store>⟧) (IsNoDesk ⟦<FileStore<File> as Store>⟧ file.entry.now) }
 {
     let conn = open_file(rt, file)?;

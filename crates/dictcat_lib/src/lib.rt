@@ -6,6 +6,7 @@ mod laws;
 mod making;
 mod plain;
 mod program;
+mod serving;
 mod session;
 mod stores;
 mod task;

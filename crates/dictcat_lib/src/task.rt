@@ -5,10 +5,12 @@ ghost use Rattle.dictcat_lib.specs.Program.{TaskEnds, ChangeTaskEnds};
 use crate::desks::{audit_file, change_file, install_file, list_file};
 use crate::making::create_file;
 use crate::plain::run_files;
+use crate::serving::serve_file;
 use crate::session::run_session;
 use dict_catalogue::Command;
 use dict_io::{Sink, Source};
 use dict_printed::Fault;
+use dict_serving::Wanted as Served;
 use dict_tasks::{InputFiles, Wanted};
 use dict_words::{Change, Task};
 use sqlite::{File, FileStore};
@@ -25,20 +27,33 @@ pub fn perform<'w, I: InputFiles, S: Source, K: Sink>(
     ensures { TaskEnds ⟦<FileStore<File> as Store>⟧ (I.octets files.now) task.now result
         (change S.stream reader.old reader.new) (change K.stream writer.old writer.new) }
 {
-    match *task {
+    match task {
         Task::Plain { name, index, text } => {
-            run_files(rt.alloc(), name, index, text, files, reader, writer)
+            run_files(rt.alloc(), name, *index, *text, files, reader, writer)
         }
-        Task::Create { file } => create_file(rt, file),
-        Task::List { file } => list_file(rt, file, writer),
-        Task::Audit { file } => audit_file(rt, file, writer),
-        Task::Session { file } => run_session(rt, file, reader, writer),
+        Task::Create { file } => create_file(rt, *file),
+        Task::List { file } => list_file(rt, *file, writer),
+        Task::Audit { file } => audit_file(rt, *file, writer),
+        Task::Session { file } => run_session(rt, *file, reader, writer),
         Task::Change {
             file,
             name,
             id,
             change,
-        } => perform_change(rt, file, name, id, change, files, writer),
+        } => perform_change(rt, *file, *name, *id, change, files, writer),
+        Task::Serve {
+            file,
+            dict,
+            http,
+            rounds,
+        } => {
+            let wanted = Served {
+                dict: *dict,
+                http: *http,
+                rounds: *rounds,
+            };
+            serve_file(rt, *file, &wanted, writer)
+        }
     }
 }
 
@@ -48,19 +63,35 @@ fn perform_change<'w, I: InputFiles, K: Sink>(
     file: &'w str,
     name: &'w str,
     id: &'w str,
-    what: Change<'w>,
+    what: &Change<'w>,
     files: &I,
     writer: &mut K,
 ) -> Result<(), Fault<'w>>
-    ensures { ChangeTaskEnds ⟦<FileStore<File> as Store>⟧ (I.octets files.now) file.entry.now name.entry.now id.entry.now what.entry result
+    ensures { ChangeTaskEnds ⟦<FileStore<File> as Store>⟧ (I.octets files.now) file.entry.now name.entry.now id.entry.now what.now result
         (change K.stream writer.old writer.new) }
 {
     match what {
         Change::Install { index, text } => {
-            let wanted = Wanted { name, index, text };
+            let wanted = Wanted {
+                name,
+                index: *index,
+                text: *text,
+            };
             install_file(rt, file, id, wanted, files, writer)
         }
         Change::Rollback => change_file(rt, file, id, &Command::Rollback { name }, writer),
         Change::Retire => change_file(rt, file, id, &Command::Retire { name }, writer),
+        Change::Virtual { title, members } => {
+            let command = Command::PutVirtual {
+                name,
+                title: *title,
+                members: members.as_slice(),
+            };
+            change_file(rt, file, id, &command, writer)
+        }
+        Change::Place { place } => {
+            let place = u64::from(*place);
+            change_file(rt, file, id, &Command::Place { name, place }, writer)
+        }
     }
 }

@@ -2,5 +2,6 @@ mod catalogues;
 mod editing;
 mod faults;
 mod fixtures;
+mod serving;
 mod sessions;
 mod usage;

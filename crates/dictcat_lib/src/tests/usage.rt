@@ -20,6 +20,9 @@ Commands:
   install   Makes an edition the current one of a database
   rollback  Swaps the current and the former edition of a database
   retire    Takes a database out of the catalogue
+  virtual   Makes a virtual database, or changes one
+  place     Puts a database at another place in the order
+  serve     Serves a catalogue to readers over DICT, and takes requests of editors over HTTP
   help      Print this message or the help of the given subcommand(s)
 
 Options:
@@ -40,13 +43,29 @@ Options:
   -h, --help  Print help
 ";
 
+const SERVE_HELP: &str =
+    "Serves a catalogue to readers over DICT, and takes requests of editors over HTTP
+
+Usage: dictcat serve [OPTIONS] --dict <ADDR> --http <ADDR> <FILE>
+
+Arguments:
+  <FILE>  The catalogue's file
+
+Options:
+      --dict <ADDR>  The address for readers, as 127.0.0.1:2628
+      --http <ADDR>  The address for editors, as 127.0.0.1:8080
+      --rounds <N>   Ends after so many rounds; else it goes on
+  -h, --help         Print help
+";
+
 #[test]
 fn shows_help_and_version(rt: HostRuntime) -> Result<(), Fail> {
-    let rows: [(&[&str], &str); 5] = [
+    let rows: [(&[&str], &str); 6] = [
         (&["dictcat", "--help"], HELP),
         (&["dictcat", "help"], HELP),
         (&["dictcat", "plain", "--help"], PLAIN_HELP),
         (&["dictcat", "help", "plain"], PLAIN_HELP),
+        (&["dictcat", "serve", "--help"], SERVE_HELP),
         (&["dictcat", "--version"], "dictcat 0.1.0\n"),
     ];
     for (words, text) in rows {
@@ -67,7 +86,7 @@ fn tells_what_is_wrong_with_the_words(rt: HostRuntime) -> Result<(), Fail> {
     let rows: [(&[&str], &str, &str); 5] = [
         (
             &["dictcat"],
-            "error: 'dictcat' requires a subcommand but one was not provided\n  [subcommands: plain, create, list, audit, session, install, rollback, retire, help]",
+            "error: 'dictcat' requires a subcommand but one was not provided\n  [subcommands: plain, create, list, audit, session, install, rollback, retire, virtual, place, serve, help]",
             "<COMMAND>",
         ),
         (

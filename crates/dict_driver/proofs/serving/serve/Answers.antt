@@ -1,12 +1,18 @@
-use Rattle.std.proofs.Common.{refl, sym, subst}
+use Rattle.std.proofs.Common.{◌≡◌, ◌∙◌, Bool, true, false, Err, refl, sym, subst, ap, arith}
+use Rattle.std.specs.Prelude.{Result, is_err}
 use Rattle.dict_hub.specs.Runs.{IsAt}
 use Rattle.dict_driver.specs.Rounds.{Moves}
 use Rattle.dict_driver.proofs.LeadLemmas.{led_joined, led_none, led_still}
 use Rattle.dict_driver.proofs.RoundLemmas.{moves_same, moves_joined}
 use Rattle.dict_driver.proofs.serving.serve.Goals as goal
 
+-- a desk that shows its summary isn't closed
+open_by_summary : {A E : Type 0} (closed : Bool) (result : Result A E) (fault : E) (told : Bool) → (closed ≡ true → result ≡ Err fault) → told ≡ is_err result → told ≡ false → closed ≡ false
+open_by_summary true result fault told tells is fine = sym (is ∙ ap is_err (tells refl)) ∙ fine
+open_by_summary false result fault told tells is fine = refl
+
 pub loop-made-init : goal.loop-made-init
-loop-made-init g c = record { trust = λ trusted. trusted; led = led_still (moves_same c.args.driver.now.connections c.args.driver.now.connections refl (λ id octets now. now)) }
+loop-made-init g c = record { is_open = λ lt. absurd (omega (arith, lt)); trust = λ trusted. trusted; led = led_still (moves_same c.args.driver.now.connections c.args.driver.now.connections refl (λ id octets now. now)) }
 
 pub returns-in_err-has_moved-clause-led : goal.returns-in_err-has_moved-clause-led
 returns-in_err-has_moved-clause-led g c =
@@ -30,6 +36,7 @@ returns-in_err-wait_if-clause-led g c =
 
 pub loop-made-preserved : goal.loop-made-preserved
 loop-made-preserved g c = record {
+  is_open = λ lt. open_by_summary _ _ _ _ c.summary.ensures.closed c.is_err.ensures.value c.if-is_err.false;
   trust = λ trusted. c.loop-made.invariant.trust (c.round.ensures.trust trusted);
   led = led_joined
       (led_joined {R = λ events. Moves c.args.driver.now.connections c.round.new.self.connections events} c.loop-made.invariant.led c.round.ensures.led c.round.ensures.trust

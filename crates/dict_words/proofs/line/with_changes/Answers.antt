@@ -1,10 +1,8 @@
 use Rattle.std.proofs.lemmas.Result.{IfOk-weaker}
-use Rattle.dict_words.specs.Line.{command_line}
 use Rattle.dict_words.proofs.LineLemmas.{adds_subcommand}
 use Rattle.dict_words.proofs.line.with_changes.Goals as goal
 
 pub returns : goal.returns
-unfolding command_line
 returns c = λ start.
     let one = adds_subcommand _ _ _ _ _ start c.in_ok-leaf.ensures c.in_ok-subcommand.ensures in
     let two = adds_subcommand _ _ _ _ _ one c.in_ok-leaf-2.ensures c.in_ok-subcommand-2.ensures in

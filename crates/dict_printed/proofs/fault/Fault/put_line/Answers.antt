@@ -11,3 +11,6 @@ returns-in-SessionEnded g c = rw c.in-SessionEnded.is c.put.ensures.put
 
 pub returns-in-Memory : goal.returns-in-Memory
 returns-in-Memory g c = rw c.in-Memory.is c.put-in-Memory.ensures.put
+
+pub returns-in-CannotBind : goal.returns-in-CannotBind
+returns-in-CannotBind g c = rw (c.in-CannotBind.is, ← c.as_bytes-in-CannotBind.ensures.value) c.put_all-in-CannotBind.ensures

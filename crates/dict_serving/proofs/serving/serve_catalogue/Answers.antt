@@ -1,0 +1,37 @@
+use Rattle.std.proofs.Common.{inr}
+use Rattle.std.proofs.lemmas.Result.{err_from_is_err_and}
+use Rattle.dict_serving.proofs.serving.serve_catalogue.Goals as goal
+
+pub returns-in_err-desk-2-clause-ends : goal.returns-in_err-desk-2-clause-ends
+returns-in_err-desk-2-clause-ends g c =
+    let error = err_from_is_err_and c.from_residual-in_err-desk-2.result c.from_residual-in_err-desk-2.ensures.1 in
+    let ends = rw c.open.ensures.path at c.in_err-desk-2.ensures.ends in
+    let told = c.in-Ok.ensures.begins in
+    rw (error.1, error.2) (inr (inr (record {
+      readers = told.0;
+      editors = told.1;
+      told = told.2;
+      first = c.in-Ok.driver;
+      last = c.serve_rounds.new.driver;
+      begins = c.in-Ok.ensures.beginning;
+      no_id = c.in-Ok.ensures.last;
+      stretches = c.serve_rounds.ensures.served.0;
+      served = c.serve_rounds.ensures.served.1;
+      ends = ends;
+    })))
+
+pub returns-clause-ends : goal.returns-clause-ends
+returns-clause-ends g c =
+    let told = c.in-Ok.ensures.begins in
+    inr (inr (record {
+      readers = told.0;
+      editors = told.1;
+      told = told.2;
+      first = c.in-Ok.driver;
+      last = c.serve_rounds.new.driver;
+      begins = c.in-Ok.ensures.beginning;
+      no_id = c.in-Ok.ensures.last;
+      stretches = c.serve_rounds.ensures.served.0;
+      served = c.serve_rounds.ensures.served.1;
+      ends = tt;
+    }))

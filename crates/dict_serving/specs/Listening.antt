@@ -1,0 +1,39 @@
+-- How serving begins: two addresses are listened at, and told.
+use Rattle.std.specs.Prelude.{◌≡◌, ◌⊎◌, ℕ, List, ◌++◌, Result, Ok, Err, codes}
+use Rattle.std.specs.declared.net.socket_addr.SocketAddr.{SocketAddr}
+use Rattle.std.specs.Net.Text.{socket_text}
+use Rattle.dict_io.specs.Streams.{Change, PutsAll, PutsFront}
+use Rattle.dict_driver.specs.Binding.{Binds}
+use Rattle.dict_driver.specs.declared.fault.BindFault.{BindFault}
+use Rattle.dict_driver.specs.declared.fault.BindFault.TheVariants as bind_faults
+use Rattle.dict_printed.specs.Writing.{IsUntouched}
+use Rattle.dict_printed.specs.declared.fault.Fault.{Fault}
+use Rattle.dict_printed.specs.declared.fault.Fault.TheVariants as faults
+
+-- the addresses that are listened at, for readers and for editors, as they are printed
+abbrev pub lines_of : SocketAddr → SocketAddr → List ℕ
+lines_of dict http = codes "dict " ++ (socket_text dict ++ (codes "\nhttp " ++ (socket_text http ++ codes "\n")))
+
+-- sockets can't be waited for, or memory ran out
+abbrev pub IsWaitingFault : Fault → Type 0
+IsWaitingFault fault = (fault ≡ faults.CannotWait) ⊎ (fault ≡ faults.Memory)
+
+-- this address can't be listened at
+abbrev pub IsUnbound : List ℕ → Fault → Type 0
+IsUnbound address fault = (told : _) × (fault ≡ faults.CannotBind told) × (told.now ≡ address)
+
+-- what is told where it isn't listened at both
+abbrev pub TellsOf : List ℕ → List ℕ → BindFault → Fault → Type 0
+TellsOf dict http (bind_faults.Dict why) fault = IsUnbound dict fault
+TellsOf dict http (bind_faults.Http why) fault = IsUnbound http fault
+TellsOf dict http (bind_faults.Wait why) fault = IsWaitingFault fault
+TellsOf dict http bind_faults.Memory fault = fault ≡ faults.Memory
+
+-- It is listened at both, and they are written. Where it is not, the first fault is told, and nothing is written; where the
+-- writer fails a front is written, and where memory runs out nothing
+abbrev pub Begins : {D : Type 0} → List ℕ → List ℕ → Result D Fault → Change → Type 0
+Begins dict http (Ok driver) writer = (readers : SocketAddr) × (editors : SocketAddr) × PutsAll writer.old writer.new (lines_of readers editors)
+Begins dict http (Err fault) writer =
+    ((why : BindFault) × Binds {D = Unit {0}} dict http (Err why) × TellsOf dict http why fault × IsUntouched writer)
+    ⊎ (((fault ≡ faults.CannotWrite) × ((readers : SocketAddr) × (editors : SocketAddr) × PutsFront writer.old writer.new (lines_of readers editors)))
+    ⊎ ((fault ≡ faults.Memory) × IsUntouched writer))

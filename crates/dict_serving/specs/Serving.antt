@@ -1,0 +1,61 @@
+-- How serving goes: the stretches of rounds, one for each opening of the file.
+use Rattle.std.specs.Prelude.{◌≡◌, ◌⊎◌, ℕ, Bool, false, List, [], ◌∷◌, Option, Result, Ok, Err, codes, ⊤}
+use Rattle.std.specs.declared.net.socket_addr.SocketAddr.{SocketAddr}
+use Rattle.dict_catalogue.specs.Steps.{Catalogue}
+use Rattle.dict_io.specs.Streams.{Change, PutsAll}
+use Rattle.dict_hub.specs.Runs.{IsAt, beginning}
+use Rattle.dict_driver.specs.Leading.{HasLedOn}
+use Rattle.dict_driver.specs.Rounds.{Moves}
+use Rattle.dict_driver.specs.declared.driver.Driver.{Driver}
+use Rattle.dict_printed.specs.Writing.{IsUntouched}
+use Rattle.dict_printed.specs.declared.fault.Fault.{Fault}
+use Rattle.dict_serving.specs.Listening.{Begins, IsWaitingFault, lines_of}
+
+-- one opening of the file: its desk as it was opened, and as it was left
+pub record Stretch (K : Type 0) : Type 0 where
+  pub opened : K
+  pub left : K
+
+-- the desk answers: it was opened just now, or its store didn't fail
+abbrev pub IsOpen : {K : Type 0} → (K → Bool) → (K → Type 0) → K → Type 0
+IsOpen is_closed IsOpened desk = IsOpened desk ⊎ (is_closed desk ≡ false)
+
+-- all rounds were made, or sockets couldn't be waited for, or the file couldn't be opened anew
+abbrev pub Ends : {A : Type 0} → (Fault → Type 0) → Result A Fault → Type 0
+Ends Unopened (Ok _) = ⊤
+Ends Unopened (Err fault) = IsWaitingFault fault ⊎ Unopened fault
+
+-- By what a desk shows, what a stop may leave of it, that what it stands on has returned what was written, and that it was opened.
+module _ {K : Type 0} (Shows : K → Catalogue → Type 0) (LeavesOneOf : K → List (Option Catalogue) → Type 0) (IsTrusted : K → Type 0) (IsOpened : K → Type 0) where
+  -- Over the desk of one opening events led the hub from where it was to where it is, and what waits for each connection is what
+  -- waited and what its own events put, without a front that was sent
+  pub record IsOver (one : Stretch K) (old new : Driver) : Type 0 where
+    pub opened : IsOpened one.opened
+    pub led : HasLedOn (IsTrusted one.left) (Shows one.opened) (LeavesOneOf one.opened) (Shows one.left) (LeavesOneOf one.left) old.hub new.hub
+        (λ events. Moves old.connections new.connections events)
+    pub trust : IsTrusted one.left → IsTrusted one.opened
+
+  -- one stretch after the other, each from where the one before it left the hub and the connections
+  abbrev pub AreServed : List (Stretch K) → Driver → Driver → Type 0
+  AreServed [] old new = new ≡ old
+  AreServed (one ∷ others) old new = (between : Driver) × IsOver one old between × AreServed others between new
+
+  -- The addresses were told, and stretches led from a hub with no connection, of the host `localhost`, whose first id is to be 1
+  pub record HasServed (result : Result (Unit {0}) Fault) (Unopened : Fault → Type 0) (writer : Change) : Type 0 where
+    pub readers : SocketAddr
+    pub editors : SocketAddr
+    pub told : PutsAll writer.old writer.new (lines_of readers editors)
+    pub first : Driver
+    pub last : Driver
+    pub begins : IsAt first.hub (beginning (codes "localhost"))
+    pub no_id : first.connections.last ≡ 0
+    pub stretches : List (Stretch K)
+    pub served : AreServed stretches first last
+    pub ends : Ends Unopened result
+
+  -- There is no desk of the file; or there is, and it wasn't listened at both addresses, or they couldn't be told; or it was served
+  abbrev pub ServeEnds : (List ℕ → Fault → Type 0) → List ℕ → List ℕ → List ℕ → Result (Unit {0}) Fault → Change → Type 0
+  ServeEnds IsUnopened path dict http result writer =
+      ((fault : Fault) × (result ≡ Err fault) × IsUnopened path fault × IsUntouched writer)
+      ⊎ (((fault : Fault) × (result ≡ Err fault) × Begins {D = Driver} dict http (Err fault) writer)
+      ⊎ HasServed result (IsUnopened path) writer)

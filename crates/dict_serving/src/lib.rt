@@ -1,0 +1,11 @@
+//! Serving the catalogue of one file over two sockets: where its store fails, the file is opened anew, and the open
+//! connections go on.
+#![tactic(auto)]
+
+mod desks;
+mod listening;
+mod serving;
+
+pub use desks::Desks;
+pub use listening::Wanted;
+pub use serving::{serve_catalogue, serve_rounds};

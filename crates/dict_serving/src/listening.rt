@@ -1,0 +1,88 @@
+// Two addresses that are listened at, and told.
+ghost use Rattle.std.specs.Prelude.{◌≡◌, ◌≢◌, IfOk, IfErr, codes};
+ghost use Rattle.std.specs.IoError.{error_kind};
+ghost use Rattle.std.specs.declared.io.ErrorKind.TheVariants.{OutOfMemory};
+ghost use Rattle.dict_io.specs.Streams.{change};
+ghost use Rattle.dict_hub.specs.Runs.{IsAt, beginning};
+ghost use Rattle.dict_printed.specs.Writing.{Writes};
+ghost use Rattle.dict_serving.specs.Listening.{Begins, TellsOf, lines_of};
+
+use dict_driver::{BindFault, Driver};
+use dict_io::Sink;
+use dict_printed::Fault;
+use std::alloc::Global;
+use std::io::{Error, ErrorKind};
+use std::net::{Net, SocketAddr};
+
+/// The host that the replies name.
+const HOST: &str = "localhost";
+
+/// What is asked of a server: the addresses for readers and for editors, each an IP address and a port, and how many rounds
+/// are made. Without a number they are as many as there may be.
+#[derive(Clone, Copy, Debug, PartialEq, Eq)]
+pub struct Wanted<'w> {
+    pub dict: &'w str,
+    pub http: &'w str,
+    pub rounds: Option<u32>,
+}
+
+/// Listens at both addresses, and writes them in two lines.
+pub(crate) fn listen<'w, W: Sink>(
+    net: &impl Net,
+    alloc: Global,
+    wanted: &Wanted<'w>,
+    writer: &mut W,
+) -> Result<Driver<'static>, Fault<'w>>
+    ensures begins { Begins wanted.now.dict.now wanted.now.http.now result (change W.stream writer.old writer.new) }
+    ensures beginning { IfOk result (λ driver. IsAt driver.hub (beginning (codes "localhost"))) }
+    ensures last { IfOk result (λ driver. driver.connections.last ≡ 0) }
+{
+    let driver = match Driver::bind(net, alloc, wanted.dict, wanted.http, HOST) {
+        Ok(driver) => driver,
+        Err(fault) => return Err(told_of(fault, wanted.dict, wanted.http)),
+    };
+    let (dict, http) = driver.addresses();
+    put_addresses(alloc, dict, http, writer)?;
+    Ok(driver)
+}
+
+// Writes a line for each address.
+fn put_addresses<W: Sink>(
+    alloc: Global,
+    dict: SocketAddr,
+    http: SocketAddr,
+    writer: &mut W,
+) -> Result<(), Fault<'static>>
+    ensures { Writes (lines_of dict http) result (change W.stream writer.old writer.new) }
+{
+    let Ok(text) = format!(in alloc; "dict {dict}\nhttp {http}\n") else {
+        return Err(Fault::Memory);
+    };
+    match writer.put(text.as_bytes()) {
+        Ok(()) => Ok(()),
+        Err(_) => Err(Fault::CannotWrite),
+    }
+}
+
+// What is told where an address can't be listened at.
+fn told_of<'w>(fault: BindFault, dict: &'w str, http: &'w str) -> Fault<'w>
+    ensures { TellsOf dict.entry.now http.entry.now fault result }
+{
+    match fault {
+        BindFault::Dict(_) => Fault::CannotBind(dict),
+        BindFault::Http(_) => Fault::CannotBind(http),
+        BindFault::Wait(error) => waiting_fault(&error),
+        BindFault::Memory => Fault::Memory,
+    }
+}
+
+/// What is told where sockets can't be waited for.
+pub(crate) fn waiting_fault(error: &Error) -> Fault<'static>
+    ensures memory { error_kind error.now ≡ OutOfMemory → result ≡ Fault.Memory }
+    ensures waiting { error_kind error.now ≢ OutOfMemory → result ≡ Fault.CannotWait }
+{
+    if error.kind() == ErrorKind::OutOfMemory {
+        return Fault::Memory;
+    }
+    Fault::CannotWait
+}

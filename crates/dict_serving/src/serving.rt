@@ -1,0 +1,118 @@
+// Rounds over the desk of a file, which is opened anew where its store failed.
+ghost use Rattle.std.specs.Prelude.{◌≡◌, ◌<◌, IfOk, List, MatchResult};
+ghost use Rattle.dict_io.specs.Streams.{change};
+ghost use Rattle.dict_serving.specs.Serving.{AreServed, Ends, IsOpen, IsOver, ServeEnds, Stretch};
+
+use crate::desks::Desks;
+use crate::listening::{Wanted, listen, waiting_fault};
+use dict_desk::Keeper;
+use dict_driver::{Driver, Served, pace, serve};
+use dict_io::Sink;
+use dict_printed::Fault;
+use std::alloc::Global;
+use std::net::Net;
+use std::time::Duration;
+
+/// Serves the catalogue of a file: opens it, listens at two addresses, for readers and then for editors, writes which these
+/// are, and makes rounds. After a round in which its store failed the file is closed and opened anew, and the rounds that
+/// are left go on over it, with the connections that are open. In the end the file is closed.
+///
+/// The faults come in this order: of the file and its catalogue, of the address for readers, of that for editors, of the
+/// writer, of waiting for sockets or of opening the file anew.
+pub fn serve_catalogue<'w, K: Keeper + Drop, D: Desks<'w, K>, W: Sink>(
+    net: &impl Net,
+    alloc: Global,
+    desks: &mut D,
+    wanted: &Wanted<'w>,
+    writer: &mut W,
+) -> Result<(), Fault<'w>>
+    ensures ends { ServeEnds K.shows K.leaves_one_of K.is_trusted D.is_opened D.is_unopened (D.path desks.old) wanted.now.dict.now wanted.now.http.now result
+        (change W.stream writer.old writer.new) }
+    ensures path { D.path desks.new ≡ D.path desks.old }
+{
+    let desk = desks.open()?;
+    let mut driver = match listen(net, alloc, wanted, writer) {
+        Ok(driver) => driver,
+        Err(fault) => {
+            desks.close(desk);
+            return Err(fault);
+        }
+    };
+    let (rounds, wait) = pace(wanted.rounds);
+    let desk = serve_rounds(desks, &mut driver, desk, rounds, wait)?;
+    desks.close(desk);
+    Ok(())
+}
+
+/// So many rounds over a desk that was opened, and over those that are opened after it: where its store failed, it is
+/// closed, and the rounds that are left are made over the next. The desk that is open in the end is handed back; at a fault
+/// none is.
+pub fn serve_rounds<'w, K: Keeper + Drop, D: Desks<'w, K>>(
+    desks: &mut D,
+    driver: &mut Driver,
+    desk: K,
+    rounds: u64,
+    wait: Duration,
+) -> Result<K, Fault<'w>>
+    requires { D.is_opened desk }
+    ensures stands { IfOk result (IsOpen K.is_closed D.is_opened) }
+    ensures served { (stretches : List (Stretch K)) × AreServed K.shows K.leaves_one_of K.is_trusted D.is_opened stretches driver.old driver.new }
+    ensures ends { Ends (D.is_unopened (D.path desks.old)) result }
+    ensures path { D.path desks.new ≡ D.path desks.old }
+{
+    let mut pending = Pending { desk, left: rounds };
+    while pending.left > 0 {
+        pending = serve_stretch(desks, driver, pending, wait)?;
+    }
+    let Pending { desk, .. } = pending;
+    Ok(desk)
+}
+
+// A desk, and how many rounds are left.
+#[derive(Drop)]
+struct Pending<K: Drop> {
+    desk: K,
+    left: u64,
+}
+
+// Makes rounds over one opening of the file, which is opened anew where its store failed.
+fn serve_stretch<'w, K: Keeper + Drop, D: Desks<'w, K>>(
+    desks: &mut D,
+    driver: &mut Driver,
+    pending: Pending<K>,
+    wait: Duration,
+) -> Result<Pending<K>, Fault<'w>>
+    requires opened { D.is_opened pending.desk }
+    requires some { 0 < pending.left }
+    ensures served { (left : K) × IsOver K.shows K.leaves_one_of K.is_trusted D.is_opened (record { opened = pending.desk; left = left }) driver.old driver.new }
+    ensures opened { IfOk result (λ next. 0 < next.left → D.is_opened next.desk) }
+    ensures stands { IfOk result (λ next. IsOpen K.is_closed D.is_opened next.desk) }
+    ensures fewer { IfOk result (λ next. next.left < pending.left) }
+    ensures ends { Ends (D.is_unopened (D.path desks.old)) result }
+    ensures path { D.path desks.new ≡ D.path desks.old }
+{
+    let Pending {
+        mut desk,
+        left: rounds,
+    } = pending;
+    match serve(driver, &mut desk, rounds, wait) {
+        Ok(Served::Whole) => Ok(Pending { desk, left: 0 }),
+        Ok(Served::Closed(left)) => {
+            let desk = reopen(desks, desk)?;
+            Ok(Pending { desk, left })
+        }
+        Err(error) => {
+            desks.close(desk);
+            Err(waiting_fault(&error))
+        }
+    }
+}
+
+// Closes a desk, and opens the file anew.
+fn reopen<'w, K, D: Desks<'w, K>>(desks: &mut D, desk: K) -> Result<K, Fault<'w>>
+    ensures opened { MatchResult result D.is_opened (D.is_unopened (D.path desks.old)) }
+    ensures path { D.path desks.new ≡ D.path desks.old }
+{
+    desks.close(desk);
+    desks.open()
+}

@@ -1,0 +1,50 @@
+// A server over a file's catalogue.
+ghost use Rattle.dict_io.specs.Streams.{change};
+ghost use Rattle.dictcat_lib.specs.Serving.{ServesOn};
+
+use crate::desks::open_desk;
+use crate::stores::close_file;
+use dict_io::Sink;
+use dict_printed::Fault;
+use dict_serving::{Desks, Wanted, serve_catalogue};
+use dict_store::Desk;
+use sqlite::{File, FileStore};
+use sqlite_trees::store::Store;
+
+// The file of a catalogue, by its path.
+#[derive(Drop)]
+struct CatalogueFile<'r, 'w> {
+    rt: &'r HostRuntime,
+    path: &'w str,
+}
+
+impl<'w> Desks<'w, Desk<FileStore<File>>> for CatalogueFile<'_, 'w> {
+    ghost use Rattle.dictcat_lib.specs.Desks.{IsDesk, IsNoDesk};
+
+    ghost path = { λ one. one.path.now };
+
+    ghost is_opened = { λ desk. IsDesk ⟦<FileStore<File> as Store>⟧ desk };
+
+    ghost is_unopened = { λ path fault. IsNoDesk ⟦<FileStore<File> as Store>⟧ path fault };
+
+    fn open(&mut self) -> Result<Desk<FileStore<File>>, Fault<'w>> {
+        open_desk(self.rt, self.path)
+    }
+
+    fn close(&mut self, desk: Desk<FileStore<File>>) {
+        close_file(desk.into_connection());
+    }
+}
+
+// Serves the catalogue in the file with this path at two addresses, which are written.
+pub(crate) fn serve_file<'w, K: Sink>(
+    rt: &HostRuntime,
+    file: &'w str,
+    wanted: &Wanted<'w>,
+    writer: &mut K,
+) -> Result<(), Fault<'w>>
+    ensures { ServesOn ⟦<FileStore<File> as Store>⟧ file.entry.now wanted.now.dict.now wanted.now.http.now result (change K.stream writer.old writer.new) }
+{
+    let mut desks = CatalogueFile { rt, path: file };
+    serve_catalogue(rt, rt.alloc(), &mut desks, wanted, writer)
+}
