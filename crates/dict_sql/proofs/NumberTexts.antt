@@ -1,11 +1,11 @@
 -- The text that reads the rowids and the numbers of the editions, without their texts.
-use Rattle.std.proofs.Common.{◌≡◌, ◌-◌, ◌==◌, ◌^◌, ℕ, List, [], ◌∷◌, map, filter, codes, find, length, nat_lt, nat_le, true, false, Ok, Some, None, Option, refl, sym, ap, subst, subst₂, ◌∙◌, lit≤, slice_get}
+use Rattle.std.proofs.Common.{◌≡◌, ◌-◌, ◌==◌, ◌^◌, ℕ, List, [], ◌∷◌, map, filter, codes, find, nat_le, true, false, Ok, Some, None, refl, sym, ap, subst, subst₂, ◌∙◌, lit≤, slice_get}
 use Rattle.std.proofs.lemmas.Bool.{lt-leb}
 use Rattle.std.specs.List.Sorted.{IsPermutation}
 use Rattle.sqlite.specs.Order.{Row}
 use Rattle.sqlite.specs.Schema.{Schema}
 use Rattle.sqlite.specs.Table.{Table}
-use Rattle.sqlite.specs.Term.{Term, col}
+use Rattle.sqlite.specs.Term.{col}
 use Rattle.sqlite.specs.Kind.TheVariants.{Integer}
 use Rattle.sqlite.specs.Compile.{first, with_command}
 use Rattle.sqlite.specs.Listing.{understood, reads_listing}

@@ -1,5 +1,5 @@
 -- What follows of rows that are read one at a time.
-use Rattle.std.proofs.Common.{◌≡◌, ◌++◌, ℕ, List, [], ◌∷◌, codes, true, Ok, Err, Some, None, Option, Result, IfOk, IfErr, OnErr, IsErrAnd, IsTrue, inl, inr, refl, sym, ap, subst, arith, ℤ}
+use Rattle.std.proofs.Common.{◌≡◌, ◌++◌, ℕ, List, [], ◌∷◌, true, Ok, Err, Some, None, Option, Result, IfOk, IfErr, OnErr, IsErrAnd, IsTrue, inl, inr, refl, sym, ap, subst, arith, ℤ}
 use Rattle.std.proofs.lemmas.List.Sorted.{IsPermutation-sym, Contains-permutation}
 use Rattle.std.specs.List.Sorted.{IsPermutation}
 use Rattle.std.specs.List.{Contains}
@@ -33,7 +33,7 @@ use Rattle.dict_sql.specs.Columns.{Content}
 use Rattle.dict_sql.specs.declared.records.ReadError.{ReadError}
 use Rattle.dict_sql.specs.declared.records.ReadError.TheVariants.{NoRecord, Store}
 use Rattle.dict_sql.proofs.SilentLemmas.{commits_none, never_returns}
-use Rattle.dict_sql.specs.Reads.{IsListing, IsSelection, FailsToRead, FailsToList, FailsToDecode, FailsToDecodeAll, HasNoRecord, select_some_entries}
+use Rattle.dict_sql.specs.Reads.{IsListing, FailsToRead, FailsToList, FailsToDecode, FailsToDecodeAll, HasNoRecord, select_some_entries}
 use Rattle.dict_sql.specs.Streams.{Scan, scan_table, scan_text, scan_values, IsWhole, IsFront, HasGiven, GivesOn, Passes, FailsToGive, FailsToMove, IsNotBegun}
 use Rattle.dict_sql.specs.Streams.Scan.{AllEditions, AllEntries, EntriesOf, AllKept, KeptById, ByRowid, EditionNumbers}
 use Rattle.dict_sql.proofs.Callers.{still_has}

@@ -274,11 +274,11 @@ impl Record for Stored<EditionNumber> {
         if row.column_count() != 2 {
             return Err(ReadError::NoRecord);
         }
+        let rowid = cell(row, 0)?;
+        let number = cell(row, 1)?;
         Ok(Stored {
-            rowid: cell(row, 0)?,
-            value: EditionNumber {
-                number: cell(row, 1)?,
-            },
+            rowid,
+            value: EditionNumber { number },
         })
     }
 

@@ -8,4 +8,4 @@ returns-clause-lawful c =
     let row = c.args.row.now in
     let wide : length row ≡ 2 = omega (arith, c.column_count.ensures) in
     subst (HasColumns number_columns) (sym (cells row 2 wide))
-    ((_, c.in_ok-cell.ensures.ok), ((_, c.in_ok-cell-2.ensures.ok), tt))
+    ((_, c.in_ok-rowid.ensures.ok), ((_, c.in_ok-number.ensures.ok), tt))
