@@ -1,5 +1,5 @@
 -- All records were read.
-use Rattle.std.proofs.Common.{◌≡◌, ℕ, ◌+◌, ℤ, pos, Bool, true, false, ◌||◌, List, [], ◌∷◌, ◌++◌, map, drop, filter, codes, refl, sym, ap, subst, ◌∙◌, arith, append-nil}
+use Rattle.std.proofs.Common.{◌≡◌, ℕ, ◌+◌, ℤ, pos, Bool, true, false, ◌||◌, List, [], ◌∷◌, ◌++◌, map, drop, codes, refl, sym, ap, subst, ◌∙◌, arith, append-nil}
 use Rattle.std.specs.Prelude.{IsTrue}
 use Rattle.std.specs.List.{AllByRecursion, list_any}
 use Rattle.std.specs.List.Sorted.{IsPermutation}
@@ -12,8 +12,8 @@ use Rattle.sqlite.specs.declared.types.Value.TheVariants.{Int}
 use Rattle.dict_text.proofs.AllLemmas.{all_weaker}
 use Rattle.dict_records.specs.Records as spec
 use Rattle.dict_sql.specs.Effects.{rows_of, same_value, equals_number}
-use Rattle.dict_sql.specs.Encodings.{mark_row, item_row, member_row, edition_row, entry_row, kept_row, stored_edition, stored_entry, stored_kept}
-use Rattle.dict_sql.specs.Reads.{IsListing}
+use Rattle.dict_sql.specs.Encodings.{mark_row, item_row, member_row, edition_row, entry_row, kept_row, stored_entry, stored_kept, stored_number}
+use Rattle.dict_sql.specs.Reads.{IsListing, numbered}
 use Rattle.dict_file.specs.Holds.{Keeps}
 use Rattle.dict_catalogue.specs.Items.{name_of, editions_of, edition_numbers, is_known}
 use Rattle.dict_catalogue.specs.Steps.{Catalogue}
@@ -29,10 +29,11 @@ use Rattle.dict_rows.proofs.OrderLemmas.{Same, same_from, same_passed, all_same}
 use Rattle.dict_rows.proofs.PartLemmas.{filter_whole}
 use Rattle.dict_rows.proofs.TakenLemmas.{holds_same, same_number_is, same_itself}
 use Rattle.dict_opening.specs.Opens.{Keeping, KeepsNone, Fits, KeepsRows, HasBegun, HasNamed, AreAllKnown, HasReplies, HasAll, one_of}
-use Rattle.dict_opening.specs.Takers.{KeptRow, edition_number, entry_edition}
+use Rattle.dict_opening.specs.Takers.{KeptRow, number_given, entry_edition}
 use Rattle.dict_opening.proofs.CodecLemmas.{Codec, edition_codec, entry_codec, kept_codec}
 use Rattle.dict_opening.proofs.FindLemmas.{same_int}
 use Rattle.dict_opening.proofs.FitLemmas.{fits_replies}
+use Rattle.dict_opening.proofs.RowidLemmas.{all_of_map}
 use Rattle.dict_opening.proofs.WrongLemmas.{rows_listed}
 
 -- ---- no strays, so the editions of the items are all
@@ -57,20 +58,26 @@ rows_known stored number is ns [] h = tt
 rows_known stored number is ns (r ∷ given) h = (numbered_row (stored r) (number r) ns (is r) h.0, rows_known stored number is ns given h.1)
 
 module _ (db : Database) (reader : Reader) (front taken : Tables) (all : AreAllKnown db reader) (named : HasNamed db reader front taken) where
-  whole : {R : Type 0} (stored : R → Row) (number : R → ℤ) → ((r : R) → column (stored r) 1 ≡ Int (number r)) → (name : List ℕ) (given : List R) → IsPermutation (rows_of name db) (map stored given) → AllByRecursion (λ r. IsTrue (has_number (items_in reader) (number r))) given → filter (one_of named.numbers) (rows_of name db) ≡ rows_of name db
-  whole stored number is name given same known =
-      filter_whole (one_of named.numbers) (rows_of name db)
-      (subst (λ ns. AllByRecursion (λ row. one_of ns row ≡ true) (rows_of name db)) (sym named.are)
-      (all_same (λ row. one_of (map pos (edition_numbers (items_in reader))) row ≡ true) (map stored given) (rows_of name db) (IsPermutation-sym _ _ same) (rows_known stored number is (edition_numbers (items_in reader)) given known)))
+  abbrev IsNamed : Row → Type 0
+  IsNamed row = one_of named.numbers row ≡ true
+
+  all_named : {R : Type 0} (stored : R → Row) (number : R → ℤ) → ((r : R) → column (stored r) 1 ≡ Int (number r)) → (rows : List Row) (given : List R) → IsPermutation rows (map stored given) → AllByRecursion (λ r. IsTrue (has_number (items_in reader) (number r))) given → AllByRecursion IsNamed rows
+  all_named stored number is rows given same known =
+      subst (λ ns. AllByRecursion (λ row. one_of ns row ≡ true) rows) (sym named.are)
+      (all_same (λ row. one_of (map pos (edition_numbers (items_in reader))) row ≡ true) (map stored given) rows (IsPermutation-sym _ _ same) (rows_known stored number is (edition_numbers (items_in reader)) given known))
 
   pub editions_all : IsPermutation (map edition_row taken.editions) (map (drop 1) (rows_of (codes "edition") db))
   editions_all =
-      let same = subst (λ rows. IsPermutation rows named.read.edition_rows) (whole stored_edition edition_number (λ r. refl) (codes "edition") all.editions.0 all.editions.1.same all.editions.2) named.read.editions in
+      let rows = rows_of (codes "edition") db in
+      let each = all_of_map numbered IsNamed IsNamed (λ row p. p) rows (all_named stored_number number_given (λ r. refl) (map numbered rows) all.editions.0 all.editions.1.same all.editions.2) in
+      let same = subst (λ rows. IsPermutation rows named.read.edition_rows) (filter_whole (one_of named.numbers) rows each) named.read.editions in
       subst (λ xs. IsPermutation xs (map (drop 1) (rows_of (codes "edition") db))) named.read.editions_are (IsPermutation-map (drop 1) _ _ (IsPermutation-sym _ _ same))
 
   pub entries_all : IsPermutation (map entry_row taken.entries) (map (drop 1) (rows_of (codes "entry") db))
   entries_all =
-      let same = subst (λ rows. IsPermutation rows named.read.entry_rows) (whole stored_entry entry_edition (λ r. refl) (codes "entry") all.entries.0 all.entries.1.same all.entries.2) named.read.entries in
+      let rows = rows_of (codes "entry") db in
+      let each = all_named stored_entry entry_edition (λ r. refl) rows all.entries.0 all.entries.1.same all.entries.2 in
+      let same = subst (λ rows. IsPermutation rows named.read.entry_rows) (filter_whole (one_of named.numbers) rows each) named.read.entries in
       subst (λ xs. IsPermutation xs (map (drop 1) (rows_of (codes "entry") db))) named.read.entries_are (IsPermutation-map (drop 1) _ _ (IsPermutation-sym _ _ same))
 
   module _ (begun : HasBegun db front) (after : Tables) (replies : HasReplies db taken after) where

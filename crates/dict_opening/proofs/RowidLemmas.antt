@@ -1,5 +1,5 @@
 -- Rowids that come in their order.
-use Rattle.std.proofs.Common.{◌≡◌, ℤ, true, false, List, [], ◌∷◌, ◌++◌, map, refl, sym, ap, subst, ◌∙◌}
+use Rattle.std.proofs.Common.{◌≡◌, ℤ, true, false, List, [], ◌∷◌, ◌++◌, map, codes, refl, sym, ap, subst, ◌∙◌}
 use Rattle.std.specs.Prelude.{◌≤ℤ◌}
 use Rattle.std.specs.List.{AllByRecursion, IsDistinct}
 use Rattle.std.specs.Ordering.{is_lt, is_eq, ordering_then, ordering_reverse}
@@ -7,6 +7,8 @@ use Rattle.std.specs.declared.cmp.Ordering.{Ordering}
 use Rattle.std.specs.declared.cmp.Ordering.TheVariants.{Less, Equal, Greater}
 use Rattle.std.proofs.lemmas.List.{map-append}
 use Rattle.std.proofs.lemmas.Bool.{false≢true}
+use Rattle.std.proofs.lemmas.List.Sorted.{IsPermutation-sym}
+use Rattle.std.specs.List.Sorted.{IsPermutation, IsSorted}
 use Rattle.sqlite.specs.declared.types.Value.{Value}
 use Rattle.sqlite.specs.declared.types.Value.TheVariants.{Int}
 use Rattle.sqlite.specs.Effect.{Database}
@@ -14,10 +16,11 @@ use Rattle.sqlite.specs.Order.{Row, column, value_cmp}
 use Rattle.dict_tables.specs.Tables.{table_of}
 use Rattle.dict_tables.specs.declared.tables.StoreTable.{StoreTable}
 use Rattle.dict_sql.specs.Effects.{HasApartRowids, rows_of, same_value}
-use Rattle.dict_sql.specs.Reads.{by_columns}
-use Rattle.dict_sql.specs.Streams.Scan.{ByRowid}
+use Rattle.dict_sql.specs.Encodings.{stored_number}
+use Rattle.dict_sql.specs.Reads.{by_columns, numbered}
+use Rattle.dict_sql.specs.Streams.Scan.{ByRowid, EditionNumbers}
 use Rattle.dict_sql.proofs.KitLemmas.{value_cmp_total}
-use Rattle.dict_sql.proofs.Callers.{apart_listed, apart_same, differs}
+use Rattle.dict_sql.proofs.Callers.{apart_same, differs}
 use Rattle.dict_file.proofs.ReadLemmas.{sorted_order, one_le, records_order}
 use Rattle.dict_rows.specs.Order.{InOrder}
 use Rattle.dict_rows.specs.Apart.{HasTakenRowids}
@@ -63,17 +66,19 @@ columns_of : {R : Type 0} (stored : R → Row) (given : List R) → map (λ (r :
 columns_of stored [] = refl
 columns_of stored (r ∷ given) = ap (λ l. column (stored r) 0 ∷ l) (columns_of stored given)
 
+module _ {R : Type 0} (stored : R → Row) (all : List Row) (first : Rowids) (none : HasTakenRowids first []) (given : List R) where
+  all_apart : (last : Rowids) → IsPermutation all (map stored given) → IsSorted (by_columns (0 ∷ [])) (map stored given) → takes_rowids stored first given last → HasApartRowids all
+  all_apart last same sorted h =
+      let ids = h.0 in
+      let up = rising stored given ids h.1 (sorted_order (0 ∷ []) (map stored given) sorted) in
+      let apart = rowids_apart last ids (h.2 [] none) up in
+      apart_same (map stored given) all (IsPermutation-sym _ _ same) (record {
+        integers = integers_of stored given ids h.1;
+        apart = subst (IsDistinct same_value) (sym (columns_of stored given ∙ h.1)) (distinct ids apart);
+      })
+
 pub rowids_whole : {R : Type 0} (stored : R → Row) (table : StoreTable) (db : Database) (first last : Rowids) → HasTakenRowids first [] → TakesAll stored (takes_rowids stored) (ByRowid table) db first last → HasApartRowids (rows_of (table_of table 0).name db)
-rowids_whole stored table db first last none h =
-    let given = h.0 in
-    let listing = h.1 in
-    let ids = h.2.0 in
-    let up = rising stored given ids h.2.1 (sorted_order (0 ∷ []) (map stored given) listing.sorted) in
-    let apart = rowids_apart last ids (h.2.2 [] none) up in
-    apart_listed (table_of table 0).name (0 ∷ []) db (map stored given) listing (record {
-      integers = integers_of stored given ids h.2.1;
-      apart = subst (IsDistinct same_value) (sym (columns_of stored given ∙ h.2.1)) (distinct ids apart);
-    })
+rowids_whole stored table db first last none h = all_apart stored (rows_of (table_of table 0).name db) first none h.0 last h.1.same h.1.sorted h.2
 
 -- ---- rowids that aren't
 
@@ -97,11 +102,37 @@ unfolding IsDistinct
 front_apart [] vs h = tt
 front_apart (n ∷ ids) vs h = (all_unlike n ids vs h.0, front_apart ids vs h.1)
 
+all_wrong : {R : Type 0} (stored : R → Row) (all : List Row) (first : Rowids) → HasTakenRowids first [] → (given : List R) (tail : List Row) → IsPermutation all (map stored given ++ tail) → refuses_rowids stored first given → HasApartRowids all → ⊥
+all_wrong stored all first none given tail same h apart =
+    let ids = h.0 in
+    let there = apart_same all (map stored given ++ tail) same apart in
+    let columns = map-append (λ (r : Row). column r 0) (map stored given) tail ∙ ap (λ l. l ++ map (λ (r : Row). column r 0) tail) (columns_of stored given ∙ h.1) in
+    h.2 [] none (front_apart ids (map (λ (r : Row). column r 0) tail) (subst (IsDistinct same_value) columns there.apart))
+
 pub rowids_wrong : {R : Type 0} (stored : R → Row) (table : StoreTable) (db : Database) (first : Rowids) → HasTakenRowids first [] → HasRefused stored (refuses_rowids stored) (ByRowid table) db first → HasApartRowids (rows_of (table_of table 0).name db) → ⊥
-rowids_wrong stored table db first none h apart =
-    let given = h.0 in
-    let tail = h.1.0 in
-    let ids = h.2.0 in
-    let there = apart_same (rows_of (table_of table 0).name db) (map stored given ++ tail) h.1.1.same apart in
-    let columns = map-append (λ (r : Row). column r 0) (map stored given) tail ∙ ap (λ l. l ++ map (λ (r : Row). column r 0) tail) (columns_of stored given ∙ h.2.1) in
-    h.2.2 [] none (front_apart ids (map (λ (r : Row). column r 0) tail) (subst (IsDistinct same_value) columns there.apart))
+rowids_wrong stored table db first none h = all_wrong stored (rows_of (table_of table 0).name db) first none h.0 h.1.0 h.1.1.same h.2
+
+-- ---- the rowids of the editions, of which the texts aren't read
+
+abbrev HasRowid : Row → Type 0
+HasRowid r = (n : ℤ) × (column r 0 ≡ Int n)
+
+firsts : (rows : List Row) → map (λ (r : Row). column r 0) (map numbered rows) ≡ map (λ (r : Row). column r 0) rows
+firsts [] = refl
+firsts (r ∷ rows) = ap (λ l. column r 0 ∷ l) (firsts rows)
+
+pub all_numbered : (P Q : Row → Type 0) → ((r : Row) → P r → Q (numbered r)) → (rows : List Row) → AllByRecursion P rows → AllByRecursion Q (map numbered rows)
+all_numbered P Q w [] h = tt
+all_numbered P Q w (r ∷ rows) h = (w r h.0, all_numbered P Q w rows h.1)
+
+pub numbers_whole : (db : Database) (first last : Rowids) → HasTakenRowids first [] → TakesAll stored_number (takes_rowids stored_number) EditionNumbers db first last → HasApartRowids (rows_of (codes "edition") db)
+numbers_whole db first last none h =
+    let rows = rows_of (codes "edition") db in
+    let apart = all_apart stored_number (map numbered rows) first none h.0 last h.1.same h.1.sorted h.2 in
+    record { integers = all_of_map numbered HasRowid HasRowid (λ r p. p) rows apart.integers; apart = subst (IsDistinct same_value) (firsts rows) apart.apart }
+
+pub numbers_wrong : (db : Database) (first : Rowids) → HasTakenRowids first [] → HasRefused stored_number (refuses_rowids stored_number) EditionNumbers db first → HasApartRowids (rows_of (codes "edition") db) → ⊥
+numbers_wrong db first none h apart =
+    let rows = rows_of (codes "edition") db in
+    all_wrong stored_number (map numbered rows) first none h.0 h.1.0 h.1.1.same h.2
+    (record { integers = all_numbered HasRowid HasRowid (λ r p. p) rows apart.integers; apart = subst (IsDistinct same_value) (sym (firsts rows)) apart.apart })

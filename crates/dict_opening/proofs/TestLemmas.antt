@@ -1,21 +1,21 @@
 -- What the tests of the tables tell.
-use Rattle.std.proofs.Common.{◌⊎◌, ℤ, List, [], map, inl, inr, subst}
+use Rattle.std.proofs.Common.{◌⊎◌, ℤ, List, [], map, codes, inl, inr, subst}
 use Rattle.sqlite.specs.Effect.{Database}
 use Rattle.sqlite.specs.Order.{Row}
 use Rattle.dict_tables.specs.Tables.{table_of}
 use Rattle.dict_tables.specs.declared.tables.StoreTable.{StoreTable}
-use Rattle.dict_sql.specs.Columns.{Content, kept_columns}
+use Rattle.dict_sql.specs.Columns.{Content, kept_columns, number_columns}
 use Rattle.dict_sql.specs.Effects.{HasApartRowids, rows_of}
-use Rattle.dict_sql.specs.Encodings.{stored_kept}
+use Rattle.dict_sql.specs.Encodings.{stored_kept, stored_number}
 use Rattle.dict_sql.specs.Streams.{Scan, IsFront}
-use Rattle.dict_sql.specs.Streams.Scan.{ByRowid, KeptById}
+use Rattle.dict_sql.specs.Streams.Scan.{ByRowid, KeptById, EditionNumbers}
 use Rattle.dict_rows.specs.Apart.{HasTakenIds, HasTakenRowids}
 use Rattle.dict_rows.specs.declared.apart.Ids.{Ids}
 use Rattle.dict_rows.specs.declared.apart.Rowids.{Rowids}
 use Rattle.dict_opening.specs.declared.takers.Strays.{Strays}
 use Rattle.dict_opening.specs.Scans.{TakesAll, HasNoRecordIn, IsWrong}
 use Rattle.dict_opening.specs.Takers.{refuses_rowids, takes_ids, refuses_ids, takes_known, refuses_stray, AreKnown, HasStray, HasIdsApart, HasIdTwice}
-use Rattle.dict_opening.proofs.RowidLemmas.{rowids_wrong}
+use Rattle.dict_opening.proofs.RowidLemmas.{rowids_wrong, numbers_wrong}
 
 pub known_whole : {R : Type 0} (stored : R → Row) (number : R → ℤ) (what : Scan) (db : Database) (first last : Strays) → TakesAll stored (takes_known number) what db first last → AreKnown stored number what db first.reader.now
 known_whole stored number what db first last h = (h.0, h.1, h.2.1)
@@ -31,6 +31,11 @@ ids_whole db first last none h = (h.0, h.1, (h.2 [] none).apart)
 pub ids_wrong : (db : Database) (first : Ids) → HasTakenIds first [] → IsWrong stored_kept kept_columns refuses_ids KeptById db first → HasNoRecordIn stored_kept kept_columns KeptById db ⊎ HasIdTwice db
 ids_wrong db first none (inl h) = inl h
 ids_wrong db first none (inr h) = inr (h.0, h.1, h.2 [] none)
+
+pub numbers_found : (db : Database) (first : Rowids) → HasTakenRowids first [] → IsWrong stored_number number_columns (refuses_rowids stored_number) EditionNumbers db first →
+    HasNoRecordIn stored_number number_columns EditionNumbers db ⊎ (HasApartRowids (rows_of (codes "edition") db) → ⊥)
+numbers_found db first none (inl h) = inl h
+numbers_found db first none (inr h) = inr (numbers_wrong db first none h)
 
 pub rowids_found : {R : Type 0} (stored : R → Row) (columns : List Content) (table : StoreTable) (db : Database) (first : Rowids) → HasTakenRowids first [] → IsWrong stored columns (refuses_rowids stored) (ByRowid table) db first →
     HasNoRecordIn stored columns (ByRowid table) db ⊎ (HasApartRowids (rows_of (table_of table 0).name db) → ⊥)

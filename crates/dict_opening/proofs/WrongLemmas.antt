@@ -1,5 +1,5 @@
 -- What is found wrong with a table, and that then no catalogue is held.
-use Rattle.std.proofs.Common.{◌≡◌, ◌⊎◌, ℕ, ◌≤◌, pos, Bool, true, false, ◌||◌, ◌&&◌, ◌==◌, List, [], ◌∷◌, ◌++◌, map, drop, codes, inl, inr, refl, sym, ap, subst, ◌∙◌, arith}
+use Rattle.std.proofs.Common.{◌≡◌, ◌⊎◌, ℕ, ℤ, ◌≤◌, pos, Bool, true, false, ◌||◌, ◌&&◌, ◌==◌, List, [], ◌∷◌, ◌++◌, map, drop, codes, inl, inr, refl, sym, ap, subst, ◌∙◌, arith}
 use Rattle.std.specs.Prelude.{cond, not, nat_le, length, bytes_eq, ◌≤ℤ◌, IsTrue}
 use Rattle.std.specs.List.{AllByRecursion, list_any, list_all}
 use Rattle.std.specs.List.Sorted.{IsPermutation}
@@ -12,8 +12,8 @@ use Rattle.std.proofs.lemmas.List.{map-append}
 use Rattle.std.proofs.lemmas.List.Sorted.{IsPermutation-map, IsPermutation-sym, IsPermutation-trans}
 use Rattle.std.proofs.lemmas.Map.Lookups.{exact_bytes}
 use Rattle.sqlite.specs.Effect.{Database}
-use Rattle.sqlite.specs.Order.{Row, value_cmp}
-use Rattle.sqlite.specs.declared.types.Value.TheVariants.{Text}
+use Rattle.sqlite.specs.Order.{Row, column, value_cmp}
+use Rattle.sqlite.specs.declared.types.Value.TheVariants.{Int, Text}
 use Rattle.sqlite_value.proofs.OrderLemmas.{value_cmp-Text, then-Equal}
 use Rattle.dict_text.proofs.AllLemmas.{all_append_parts, all_weaker}
 use Rattle.dict_tables.specs.Tables.{table_of}
@@ -24,11 +24,11 @@ use Rattle.dict_records.specs.declared.records as typed
 use Rattle.dict_records.specs.declared.records.Stored.{Stored as Beside}
 use Rattle.std.specs.declared.alloc.Global.{Global}
 use Rattle.std.proofs.Common.{String}
-use Rattle.dict_sql.specs.Columns.{Content, HasColumns, edition_columns, entry_columns, kept_columns}
+use Rattle.dict_sql.specs.Columns.{Content, HasColumns, edition_columns, entry_columns, kept_columns, number_columns}
 use Rattle.dict_sql.specs.Effects.{HasApartRowids, rows_of}
-use Rattle.dict_sql.specs.Encodings.{stored_mark, stored_item, stored_member, stored_edition, stored_entry, stored_kept}
-use Rattle.dict_sql.specs.Reads.{IsListing, by_columns}
-use Rattle.dict_sql.specs.Streams.Scan.{AllEditions, AllEntries, AllKept, KeptById, ByRowid}
+use Rattle.dict_sql.specs.Encodings.{stored_mark, stored_item, stored_member, stored_entry, stored_kept, stored_number, edition_row}
+use Rattle.dict_sql.specs.Reads.{IsListing, by_columns, numbered}
+use Rattle.dict_sql.specs.Streams.Scan.{AllEntries, AllKept, KeptById, ByRowid, EditionNumbers}
 use Rattle.dict_sql.proofs.KitLemmas.{value_cmp_total}
 use Rattle.dict_file.specs.Holds.{Keeps, KeepsAll}
 use Rattle.dict_file.proofs.ReadLemmas.{sorted_order, second_le, records_order}
@@ -51,11 +51,12 @@ use Rattle.dict_rows.proofs.OrderLemmas.{Same, same_from, all_same, members_same
 use Rattle.dict_rows.proofs.TakenLemmas.{same_itself, holds_same}
 use Rattle.dict_opening.specs.Opens.{KeepsNone, Fits, HoldsNone, HasBegun, CanRead}
 use Rattle.dict_opening.specs.Scans.{HasNoRecordIn, IsWrong}
-use Rattle.dict_opening.specs.Takers.{KeptRow, ids_given, HasStray, HasIdsApart, HasIdTwice, refuses_replies, edition_number, entry_edition}
-use Rattle.dict_opening.proofs.CodecLemmas.{Codec, read, read_stored, stored_rows, listed_records, member_codec, edition_codec, entry_codec, kept_codec, mark_codec, item_codec}
+use Rattle.dict_opening.specs.Takers.{KeptRow, ids_given, HasStray, HasIdsApart, HasIdTwice, refuses_replies, number_given, entry_edition}
+use Rattle.dict_opening.proofs.CodecLemmas.{Codec, read, read_stored, stored_rows, listed_records, member_codec, entry_codec, kept_codec, mark_codec, item_codec}
 use Rattle.dict_opening.proofs.FitLemmas.{front_read, fits_begun, fits_replies, none_kept}
 use Rattle.dict_opening.proofs.NoneLemmas.{last_holds}
 use Rattle.dict_opening.proofs.ReadableLemmas.{held_rows}
+use Rattle.dict_opening.proofs.RowidLemmas.{all_numbered}
 
 -- ---- rowids
 
@@ -63,6 +64,20 @@ pub wrong_rowids : {R : Type 0} (stored : R → Row) (columns : List Content) (t
     HasNoRecordIn stored columns (ByRowid table) db ⊎ (HasApartRowids (rows_of (table_of table 0).name db) → ⊥) → ⊥
 wrong_rowids stored columns table db all apart (inl w) = w.3 (last_holds (HasColumns columns) (rows_of (table_of table 0).name db) (map stored w.0) w.2.0 w.1 all w.2.1.same)
 wrong_rowids stored columns table db all apart (inr w) = w apart
+
+first_two : (r : Row) → HasColumns edition_columns r → HasColumns number_columns (numbered r)
+first_two [] h = absurd h
+first_two (v ∷ []) h = absurd h.1
+first_two (v ∷ w ∷ r) h = (h.0, (h.1.0, tt))
+
+no_numbered_record : (db : Database) → AllByRecursion (HasColumns edition_columns) (rows_of (codes "edition") db) → HasNoRecordIn stored_number number_columns EditionNumbers db → ⊥
+no_numbered_record db all w =
+    w.3 (last_holds (HasColumns number_columns) (map numbered (rows_of (codes "edition") db)) (map stored_number w.0) w.2.0 w.1 (all_numbered (HasColumns edition_columns) (HasColumns number_columns) first_two (rows_of (codes "edition") db) all) w.2.1.same)
+
+pub wrong_numbers : (db : Database) → AllByRecursion (HasColumns edition_columns) (rows_of (codes "edition") db) → HasApartRowids (rows_of (codes "edition") db) →
+    HasNoRecordIn stored_number number_columns EditionNumbers db ⊎ (HasApartRowids (rows_of (codes "edition") db) → ⊥) → ⊥
+wrong_numbers db all apart (inl w) = no_numbered_record db all w
+wrong_numbers db all apart (inr w) = w apart
 
 -- ---- the mark, the items and the members
 
@@ -172,10 +187,28 @@ module _ {R W : Type 0} (k : Codec R W) (name columns : List ℕ) (db : Database
       let front = (all_append_parts P (map k.owned (given ++ next ∷ [])) (map (read k) tail) (subst (AllByRecursion P) (front_read k (given ++ next ∷ []) tail) there)).0 in
       (all_append_parts P (map k.owned given) (k.owned next ∷ []) (subst (AllByRecursion P) (map-append k.owned given (next ∷ [])) front)).1.0
 
-pub editions_stray : (db : Database) (reader : Reader) (taken : Tables) → HasTaken 1 reader taken → Fits db taken → HasNoRecordIn stored_edition edition_columns AllEditions db ⊎ HasStray stored_edition edition_number AllEditions db reader → KeepsNone db taken.members
-editions_stray db reader taken h fits (inl w) T M K = w.3 (last_holds (HasColumns edition_columns) (rows_of (codes "edition") db) (map stored_edition w.0) w.2.0 w.1 K.records.editions w.2.1.same)
+-- a number that no record has stands in no row
+no_number : (n : ℤ) (ws : List spec.Edition) → AllByRecursion (λ w. w.number ≡ n → ⊥) ws → AllByRecursion (λ r. column r 0 ≡ Int n → ⊥) (map edition_row ws)
+no_number n [] h = tt
+no_number n (w ∷ ws) h = ((λ e. h.0 (let same : w.number ≡ n = cc in same)), no_number n ws h.1)
+
+behind : (r : Row) → column (drop 1 r) 0 ≡ column r 1
+behind [] = refl
+behind (v ∷ r) = refl
+
+none_numbered : (n : ℤ) (rows : List Row) → AllByRecursion (λ r. column r 0 ≡ Int n → ⊥) (map (drop 1) rows) → AllByRecursion (λ r. column r 1 ≡ Int n → ⊥) (map numbered rows)
+none_numbered n [] h = tt
+none_numbered n (r ∷ rows) h = ((λ e. h.0 (behind r ∙ e)), none_numbered n rows h.1)
+
+pub editions_stray : (db : Database) (reader : Reader) (taken : Tables) → HasTaken 1 reader taken → Fits db taken → HasNoRecordIn stored_number number_columns EditionNumbers db ⊎ HasStray stored_number number_given EditionNumbers db reader → KeepsNone db taken.members
+editions_stray db reader taken h fits (inl w) T M K = no_numbered_record db K.records.editions w
 editions_stray db reader taken h fits (inr w) T M K =
-    last_read edition_codec (codes "edition") (1 ∷ []) db T.editions K.keeps.editions (λ row. row.number ≡ edition_number w.1 → ⊥) (w.3 1 taken T M h (fits T M K) K.stands).0 w.0 w.1 w.2.0 w.2.1 refl
+    let n = number_given w.1 in
+    let rows = rows_of (codes "edition") db in
+    let none = (w.3 1 taken T M h (fits T M K) K.stands).0 in
+    let all = none_numbered n rows (all_same (λ r. column r 0 ≡ Int n → ⊥) (map edition_row T.editions) (map (drop 1) rows) K.keeps.editions.rows (no_number n T.editions none)) in
+    last_holds (λ r. column r 1 ≡ Int n → ⊥) (map numbered rows) (map stored_number w.0) w.2.0 (stored_number w.1) all
+    (subst (λ l. IsPermutation (map numbered rows) (l ++ w.2.0)) (map-append stored_number w.0 (w.1 ∷ [])) w.2.1.same) refl
 
 pub entries_stray : (db : Database) (reader : Reader) (taken : Tables) → HasTaken 1 reader taken → Fits db taken → HasNoRecordIn stored_entry entry_columns AllEntries db ⊎ HasStray stored_entry entry_edition AllEntries db reader → KeepsNone db taken.members
 entries_stray db reader taken h fits (inl w) T M K = w.3 (last_holds (HasColumns entry_columns) (rows_of (codes "entry") db) (map stored_entry w.0) w.2.0 w.1 K.records.entries w.2.1.same)

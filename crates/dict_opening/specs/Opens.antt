@@ -8,15 +8,15 @@ use Rattle.dict_records.specs.declared.records as typed
 use Rattle.dict_records.specs.declared.records.Stored.{Stored}
 use Rattle.dict_tables.specs.Found.{HasOwn}
 use Rattle.dict_tables.specs.Tables.{mark, table_of, store_tables}
-use Rattle.dict_sql.specs.Encodings.{mark_row, item_row, member_row, edition_row, entry_row, kept_row, stored_edition, stored_entry, stored_kept}
+use Rattle.dict_sql.specs.Encodings.{mark_row, item_row, member_row, edition_row, entry_row, kept_row, stored_edition, stored_entry, stored_kept, stored_number}
 use Rattle.dict_sql.specs.Reads.{IsListing, IsSelection, HasNoRecord}
 use Rattle.dict_records.specs.Typed.{owned_edition}
 use Rattle.dict_rows.specs.Given.{entries_given, kept_given, marks_given}
 use Rattle.dict_rows.specs.Whole.{with_entries, with_replies}
 use Rattle.dict_rows.specs.Order.{InOrder, is_of}
 use Rattle.dict_rows.specs.declared.reader.Reader.{Reader}
-use Rattle.dict_opening.specs.Takers.{EditionRow, EntryRow, KeptRow, ids_given, AreKnown, edition_number, entry_edition}
-use Rattle.dict_sql.specs.Streams.Scan.{AllEditions, AllEntries}
+use Rattle.dict_opening.specs.Takers.{EditionRow, EntryRow, KeptRow, ids_given, AreKnown, number_given, entry_edition}
+use Rattle.dict_sql.specs.Streams.Scan.{AllEntries, EditionNumbers}
 use Rattle.dict_catalogue.specs.Items.{edition_numbers}
 use Rattle.sqlite.specs.Effect.{Database}
 use Rattle.dict_sql.specs.Effects.{HasApartRowids, rows_of, equals_number}
@@ -154,7 +154,7 @@ pub record HasNamed (db : Database) (reader : Reader) (front after : Tables) : T
 
 -- the numbers of all editions and entries are those of the items
 pub record AreAllKnown (db : Database) (reader : Reader) : Type 0 where
-  pub editions : AreKnown stored_edition edition_number AllEditions db reader
+  pub editions : AreKnown stored_number number_given EditionNumbers db reader
   pub entries : AreKnown stored_entry entry_edition AllEntries db reader
 
 -- the small tables, and the large ones

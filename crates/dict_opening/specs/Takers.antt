@@ -10,7 +10,8 @@ use Rattle.dict_sql.specs.Streams.{Scan, IsWhole, IsFront}
 use Rattle.dict_sql.specs.Streams.Scan.{KeptById}
 use Rattle.dict_records.specs.declared.records as typed
 use Rattle.dict_records.specs.declared.records.Stored.{Stored}
-use Rattle.dict_records.specs.Typed.{owned_edition, owned_entry}
+use Rattle.dict_records.specs.Typed.{owned_entry}
+use Rattle.dict_sql.specs.declared.records.EditionNumber.{EditionNumber}
 use Rattle.dict_catalogue.specs.Steps.{Catalogue}
 use Rattle.dict_catalogue.specs.WellFormed.{IsEachOnce}
 use Rattle.dict_rows.specs.Tables.{Tables}
@@ -27,6 +28,10 @@ use Rattle.dict_opening.specs.declared.takers.Strays.{Strays}
 
 abbrev pub EditionRow : Type 0
 EditionRow = Stored (typed.Edition.Edition (String Global) (Vec ℕ Global))
+
+-- the rowid and the number of an edition
+abbrev pub NumberRow : Type 0
+NumberRow = Stored EditionNumber
 
 abbrev pub EntryRow : Type 0
 EntryRow = Stored (typed.Entry.Entry (String Global))
@@ -91,8 +96,8 @@ takes_known number first given last = (last ≡ first) × AllByRecursion (λ r. 
 abbrev pub refuses_stray : {R : Type 0} → (R → ℤ) → Strays → List R → Type 0
 refuses_stray {R} number first given = (front : List R) × (next : R) × (given ≡ front ++ next ∷ []) × IsStray first (number next)
 
-abbrev pub edition_number : EditionRow → ℤ
-edition_number row = (owned_edition row.value).number
+abbrev pub number_given : NumberRow → ℤ
+number_given row = row.value.number
 
 abbrev pub entry_edition : EntryRow → ℤ
 entry_edition row = (owned_entry row.value).edition

@@ -11,8 +11,8 @@ ghost use Rattle.dict_opening.specs.Reading.{Same, OnlyReads};
 ghost use Rattle.dict_opening.specs.Opens.{HasTables, HasReadableRows, HasRowidsApart, IsApartFirst, IsApartLast};
 
 use crate::fault::ReadingFault;
-use crate::tables::test_rowids;
-use dict_records::{Edition, Entry, Item, Kept, Mark, Member, Stored};
+use crate::tables::{test_edition_rowids, test_rowids};
+use dict_records::{Entry, Item, Kept, Mark, Member, Stored};
 use dict_tables::StoreTable;
 use sqlite::{Alter, Connection};
 use std::alloc::Global;
@@ -38,7 +38,7 @@ fn test_large<S: Alter>(alloc: Global, conn: &mut Connection<S>) -> Result<(), R
     ensures apart { HasCleanDisk (state S.Store conn.new) → OnOk result (IsApartLast (state S.Store conn.old).now) }
     ensures damaged { HasCleanDisk (state S.Store conn.new) → IfErr result (λ fault. fault ≡ ReadingFault.Damaged → HasReadableRows (state S.Store conn.old).now → IsApartLast (state S.Store conn.old).now → ⊥) }
 {
-    test_rowids::<S, Stored<Edition<String, Vec<u8>>>>(alloc, conn, StoreTable::Edition)?;
+    test_edition_rowids(alloc, conn)?;
     test_rowids::<S, Stored<Entry<String>>>(alloc, conn, StoreTable::Entry)?;
     test_rowids::<S, Stored<Kept<String>>>(alloc, conn, StoreTable::Kept)
 }

@@ -1,24 +1,24 @@
 // The large tables, each read row by row.
-ghost use Rattle.std.specs.Prelude.{◌≡◌, ◌⊎◌, [], IfErr, OnOk};
+ghost use Rattle.std.specs.Prelude.{◌≡◌, ◌⊎◌, [], codes, IfErr, OnOk};
 ghost use Rattle.sqlite.specs.State.{HasCleanDisk};
 ghost use Rattle.sqlite.specs.Held.{state};
 ghost use Rattle.dict_tables.specs.Tables.{edition, entry, kept, table_of};
 ghost use Rattle.dict_sql.specs.Effects.{Has, HasApartRowids, WhileOpen, rows_of};
-ghost use Rattle.dict_sql.specs.Columns.{edition_columns, entry_columns, kept_columns};
-ghost use Rattle.dict_sql.specs.Encodings.{stored_edition, stored_entry, stored_kept};
-ghost use Rattle.dict_sql.specs.Streams.Scan.{AllEditions, AllEntries, EntriesOf, AllKept, KeptById, ByRowid};
+ghost use Rattle.dict_sql.specs.Columns.{entry_columns, kept_columns, number_columns};
+ghost use Rattle.dict_sql.specs.Encodings.{stored_entry, stored_kept, stored_number};
+ghost use Rattle.dict_sql.specs.Streams.Scan.{AllEntries, EntriesOf, AllKept, KeptById, ByRowid, EditionNumbers};
 ghost use Rattle.dict_opening.specs.Reading.{Same, OnlyReads};
 ghost use Rattle.dict_opening.specs.Scans.{TakesAll, HasNoRecordIn, IsWrong};
-ghost use Rattle.dict_opening.specs.Takers.{takes_entries, refuses_entries, takes_replies, refuses_replies, AreKnown, HasStray, edition_number, entry_edition, HasIdsApart, HasIdTwice};
+ghost use Rattle.dict_opening.specs.Takers.{takes_entries, refuses_entries, takes_replies, refuses_replies, AreKnown, HasStray, number_given, entry_edition, HasIdsApart, HasIdTwice};
 
 use crate::fault::{ReadingFault, fault_of_store};
 use crate::scan::take_all;
 use crate::takers::Strays;
-use dict_records::{Edition, Entry, Kept, Stored};
+use dict_records::{Entry, Kept, Stored};
 use dict_rows::{Ids, Reader, Rowids};
-use dict_sql::records::Record;
+use dict_sql::records::{EditionNumber, Record};
 use dict_sql::stream::{
-    read_by_rowid, read_editions, read_entries as read_all_entries, read_entries_of,
+    read_by_rowid, read_edition_numbers, read_entries as read_all_entries, read_entries_of,
     read_kept_by_id, read_kept_replies,
 };
 use dict_tables::StoreTable;
@@ -64,7 +64,25 @@ pub(crate) fn read_replies<S: Alter>(
     take_all::<S, Stored<Kept<String>>, Reader>(alloc, &mut rows, reader)
 }
 
-/// Tests that the number of each edition is one that an item has.
+/// Tests that no two editions have one rowid. Their texts aren't read.
+pub(crate) fn test_edition_rowids<S: Alter>(
+    alloc: Global,
+    conn: &mut Connection<S>,
+) -> Result<(), ReadingFault>
+    requires { WhileOpen (state S.Store conn.old) (Has edition) }
+    ensures reads { OnlyReads (state S.Store conn.old) (state S.Store conn.new) }
+    ensures same { HasCleanDisk (state S.Store conn.new) → OnOk result (Same (state S.Store conn.old) (state S.Store conn.new)) }
+    ensures whole { HasCleanDisk (state S.Store conn.new) → OnOk result (HasApartRowids (rows_of (codes "edition") (state S.Store conn.old).now)) }
+    ensures damaged { HasCleanDisk (state S.Store conn.new) → IfErr result (λ fault. fault ≡ ReadingFault.Damaged → HasNoRecordIn stored_number number_columns EditionNumbers (state S.Store conn.old).now ⊎ (HasApartRowids (rows_of (codes "edition") (state S.Store conn.old).now) → ⊥)) }
+{
+    let mut rows = match read_edition_numbers(conn) {
+        Ok(rows) => rows,
+        Err(error) => return Err(fault_of_store(error)),
+    };
+    take_all::<S, Stored<EditionNumber>, Rowids>(alloc, &mut rows, &mut Rowids::new())
+}
+
+/// Tests that the number of each edition is one that an item has. The editions' texts aren't read.
 pub(crate) fn test_editions<S: Alter>(
     alloc: Global,
     conn: &mut Connection<S>,
@@ -73,18 +91,14 @@ pub(crate) fn test_editions<S: Alter>(
     requires { WhileOpen (state S.Store conn.old) (Has edition) }
     ensures reads { OnlyReads (state S.Store conn.old) (state S.Store conn.new) }
     ensures same { HasCleanDisk (state S.Store conn.new) → OnOk result (Same (state S.Store conn.old) (state S.Store conn.new)) }
-    ensures whole { HasCleanDisk (state S.Store conn.new) → OnOk result (AreKnown stored_edition edition_number AllEditions (state S.Store conn.old).now reader.now) }
-    ensures damaged { HasCleanDisk (state S.Store conn.new) → IfErr result (λ fault. fault ≡ ReadingFault.Damaged → HasNoRecordIn stored_edition edition_columns AllEditions (state S.Store conn.old).now ⊎ HasStray stored_edition edition_number AllEditions (state S.Store conn.old).now reader.now) }
+    ensures whole { HasCleanDisk (state S.Store conn.new) → OnOk result (AreKnown stored_number number_given EditionNumbers (state S.Store conn.old).now reader.now) }
+    ensures damaged { HasCleanDisk (state S.Store conn.new) → IfErr result (λ fault. fault ≡ ReadingFault.Damaged → HasNoRecordIn stored_number number_columns EditionNumbers (state S.Store conn.old).now ⊎ HasStray stored_number number_given EditionNumbers (state S.Store conn.old).now reader.now) }
 {
-    let mut rows = match read_editions(conn) {
+    let mut rows = match read_edition_numbers(conn) {
         Ok(rows) => rows,
         Err(error) => return Err(fault_of_store(error)),
     };
-    take_all::<S, Stored<Edition<String, Vec<u8>>>, Strays<'_>>(
-        alloc,
-        &mut rows,
-        &mut Strays { reader },
-    )
+    take_all::<S, Stored<EditionNumber>, Strays<'_>>(alloc, &mut rows, &mut Strays { reader })
 }
 
 /// Tests that the number of each entry's edition is one that an item has.

@@ -1,12 +1,12 @@
 // What takes the records of the tables.
 ghost use Rattle.std.specs.Prelude.{◌≡◌, ◌∷◌, ◌++◌, List, IfOk, IfErr, OnOk};
-ghost use Rattle.dict_opening.specs.Takers.{takes_rowids, refuses_rowids, takes_entries, refuses_entries, takes_replies, refuses_replies, takes_ids, refuses_ids, takes_known, refuses_stray, edition_number, entry_edition, IsKnown, IsStray};
+ghost use Rattle.dict_opening.specs.Takers.{takes_rowids, refuses_rowids, takes_entries, refuses_entries, takes_replies, refuses_replies, takes_ids, refuses_ids, takes_known, refuses_stray, number_given, entry_edition, IsKnown, IsStray};
 ghost use Rattle.dict_opening.specs.TakerLaws.{no_rowids, no_entries, no_replies, no_ids};
 
 use crate::scan::Taker;
-use dict_records::{Edition, Entry, Kept, Stored};
+use dict_records::{Entry, Kept, Stored};
 use dict_rows::{Ids, Reader, Rowids, RowsFault};
-use dict_sql::records::Record;
+use dict_sql::records::{EditionNumber, Record};
 use std::alloc::Global;
 
 /// The rowids of a table, which come in their order, are to be apart.
@@ -80,18 +80,14 @@ impl Strays<'_> {
     }
 }
 
-impl Taker<Stored<Edition<String, Vec<u8>>>> for Strays<'_> {
+impl Taker<Stored<EditionNumber>> for Strays<'_> {
     ghost use Rattle.std.specs.Prelude.{refl};
 
-    ghost takes = { takes_known edition_number };
+    ghost takes = { takes_known number_given };
 
-    ghost refuses = { refuses_stray edition_number };
+    ghost refuses = { refuses_stray number_given };
 
-    fn take(
-        &mut self,
-        alloc: Global,
-        next: Stored<Edition<String, Vec<u8>>>,
-    ) -> Result<(), RowsFault> {
+    fn take(&mut self, alloc: Global, next: Stored<EditionNumber>) -> Result<(), RowsFault> {
         self.test(alloc, next.value.number)
     }
 

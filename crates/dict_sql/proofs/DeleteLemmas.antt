@@ -1,5 +1,5 @@
 -- What `DELETE FROM table` and `DELETE FROM table WHERE column = ?1` stand for, over any schema that has the table.
-use Rattle.std.proofs.Common.{◌≡◌, ℕ, suc, ◌-◌, pos, negsuc, List, [], ◌∷◌, true, false, Some, None, Option, Ok, refl, slice_get, nat_lt}
+use Rattle.std.proofs.Common.{◌≡◌, ℕ, suc, ◌-◌, pos, negsuc, List, [], ◌∷◌, Bool, true, false, Some, None, Option, Ok, refl, slice_get, nat_lt}
 use Rattle.sqlite.specs.Term.{Term, lit, col, op2}
 use Rattle.sqlite.specs.Table.{Table}
 use Rattle.sqlite.specs.Schema.{Schema}
@@ -46,7 +46,7 @@ parameter_expr = roll-Expr (Expr-F.Parameter 1)
 unfoldable pub equals_expr : Name → Expr
 equals_expr name = roll-Expr (Expr-F.Binary binary.Eq (column_expr name) parameter_expr)
 
-out_column : (name : Name) → out-Expr (column_expr name) ≡ Expr-F.Column None name
+pub out_column : (name : Name) → out-Expr (column_expr name) ≡ Expr-F.Column None name
 unfolding everything column_expr
 out_column name = refl
 
@@ -58,20 +58,21 @@ out_equals : (name : Name) → out-Expr (equals_expr name) ≡ Expr-F.Binary bin
 unfolding everything equals_expr column_expr parameter_expr
 out_equals name = refl
 
-abbrev after : ℕ → State → Carried → State
+abbrev pub after : ℕ → State → Carried → State
 after n s carried = record s { budget = s.budget - n; written = None; last = carried }
 
 module _ (schema : Schema) (at : ℕ) (table : Table) (is : slice_get schema.tables at ≡ Some table) (name : Name) (k : ℕ) (c : Column) (place : column_named table name ≡ Some k) (has : slice_get table.columns k ≡ Some c) (shows : List Output) where
+  module _ (may_aggregate may_alias : Bool) where
+    column_is : (s : State) → column (context_of schema at table shows may_aggregate may_alias) None name s ≡ Ok (col 1 (place_of table k), record s { last = declared table k c })
+    unfolding column find_name in_level only hit column_in term_of column_at is_among
+    column_is s = rw (is, place, is, has) refl
+
+    pub lower_column : (d : ℕ) (s : State) → nat_lt 1 s.budget ≡ true → s.written ≡ None → lower_to (suc d) (context_of schema at table shows may_aggregate may_alias) (column_expr name) s ≡ Ok (col 1 (place_of table k), after 1 s (declared table k c))
+    unfolding lower_to node opened spend begin finish passes
+    lower_column d s rich clear = rw (rich, out_column name, clear, column_is (record s { budget = s.budget - 1; written = None; last = nothing })) refl
+
   abbrev cx : Context
   cx = context_of schema at table shows false true
-
-  column_is : (s : State) → column cx None name s ≡ Ok (col 1 (place_of table k), record s { last = declared table k c })
-  unfolding column find_name in_level only hit column_in term_of column_at is_among
-  column_is s = rw (is, place, is, has) refl
-
-  lower_column : (d : ℕ) (s : State) → nat_lt 1 s.budget ≡ true → s.written ≡ None → lower_to (suc d) cx (column_expr name) s ≡ Ok (col 1 (place_of table k), after 1 s (declared table k c))
-  unfolding lower_to node opened spend begin finish passes
-  lower_column d s rich clear = rw (rich, out_column name, clear, column_is (record s { budget = s.budget - 1; written = None; last = nothing })) refl
 
   lower_parameter : (d : ℕ) (s : State) → nat_lt 1 s.budget ≡ true → s.written ≡ None → lower_to (suc d) cx parameter_expr s ≡ Ok (col 0 0, after 1 s nothing)
   unfolding lower_to node opened spend begin finish passes
@@ -87,7 +88,7 @@ module _ (schema : Schema) (at : ℕ) (table : Table) (is : slice_get schema.tab
 
       both_is : both (lower_to 699) cx binary.Eq (column_expr name) parameter_expr begun ≡ Ok (test, record begun { budget = b - 1 - 1 - 1; last = nothing })
       unfolding both tests_truth tests_alias combine
-      both_is = rw (lower_column 698 begun second refl, lower_parameter 698 (after 1 begun (declared table k c)) third refl, plain, compares) refl
+      both_is = rw (lower_column false true 698 begun second refl, lower_parameter 698 (after 1 begun (declared table k c)) third refl, plain, compares) refl
 
       lower_equals : lower cx (equals_expr name) (record (fresh 2 max_budget) { budget = b }) ≡ Ok (test, record (fresh 2 max_budget) { budget = b - 1 - 1 - 1 })
       unfolding lower_to node opened spend begin finish passes operation wanted_truth

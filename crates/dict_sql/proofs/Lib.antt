@@ -7,10 +7,12 @@ pub mod AddLemmas
 pub mod ReadLemmas
 pub mod ListLemmas
 pub mod ReadTexts
+pub mod QueryLemmas
 pub mod ListingLemmas
 pub mod SilentLemmas
 pub mod ReadFaults
 pub mod RowidTexts
+pub mod NumberTexts
 pub mod StreamLemmas
 pub mod DeleteLemmas
 pub mod RowLemmas

@@ -1,43 +1,39 @@
 -- What a text that reads a table whole answers.
-use Rattle.std.proofs.Common.{◌≡◌, ℕ, ◌^◌, ◌+◌, nat_le, get_or, List, [], ◌∷◌, map, filter, Bool, true, false, Ok, Err, None, Result, Option, IfOk, IsTrue, inl, inr, refl, sym, ap, subst, ◌∙◌, ℤ}
+use Rattle.std.proofs.Common.{◌≡◌, ℕ, ◌-◌, ◌^◌, List, [], ◌∷◌, map, filter, Bool, true, false, Ok, Err, None, Result, Option, IfOk, IsTrue, inl, inr, refl, sym, ap, subst, ◌∙◌, ℤ}
 use Rattle.std.proofs.lemmas.Bool.{lt-leb, cases_Bool}
-use Rattle.std.specs.List.Sorted.{IsPermutation, IsSorted}
-use Rattle.std.specs.Ordering.{is_lt}
+use Rattle.std.specs.List.Sorted.{IsPermutation}
+use Rattle.std.specs.declared.alloc.Global.{Global}
+use Rattle.std.specs.Prelude.{Vec}
 use Rattle.sqlite.specs.Order.{Row, column}
 use Rattle.sqlite.specs.Schema.{Schema}
 use Rattle.sqlite.specs.Table.{Table}
 use Rattle.sqlite.specs.Term.{Term}
-use Rattle.sqlite.specs.Query.{key_cmp, IsAnswer}
-use Rattle.sqlite.specs.Command.{Command}
-use Rattle.sqlite.specs.Command.TheVariants.{Select}
-use Rattle.sqlite.specs.declared.types.Value.TheVariants.{Null, Int, Text}
-use Rattle.sqlite.specs.Tree.{Trees}
-use Rattle.sqlite.specs.Program.{overlay}
-use Rattle.sqlite_resolve.specs.declared.scope.Output.{Output}
+use Rattle.sqlite.specs.declared.types.Value.TheVariants.{Int, Text}
 use Rattle.sqlite.specs.Compile.{with_command}
 use Rattle.sqlite.specs.Listing.{understood, reads_listing}
-use Rattle.sqlite.specs.State.{State, Shown, ShowsRows, Survives, CommitsShowing, IsUnchanged}
+use Rattle.sqlite.specs.State.{State, Shown, Survives, CommitsShowing, IsUnchanged}
 use Rattle.sqlite.specs.declared.error.Error.{Error}
 use Rattle.sqlite.proofs.StateLemmas.{survives_weaker}
-use Rattle.std.specs.declared.alloc.Global.{Global}
-use Rattle.std.specs.Prelude.{Vec, ℤ}
-use Rattle.sqlite.specs.Clock.{timed}
-use Rattle.sqlite.proofs.Callers.{IsPlain, command_of, reads_as}
-use Rattle.sqlite_resolve.specs.Lowering.{nothing}
+use Rattle.sqlite.proofs.Callers.{IsPlain}
+use Rattle.sqlite_resolve.specs.Lowering.{max_budget, nothing}
+use Rattle.sqlite_resolve.specs.declared.scope.Output.{Output}
 use Rattle.sqlite_resolve.specs.declared.state.Carried.{Carried}
 use Rattle.sqlite_value.specs.declared.keys.Key.{Key}
+use Rattle.sqlite_ast.specs.declared.Expr.{Expr}
+use Rattle.sqlite_ast.specs.declared.Select.{out-Select}
 use Rattle.sqlite_ast.specs.declared.Sort.{Sort}
+use Rattle.sqlite_ast.specs.declared.Statement.TheVariants as written
 use Rattle.sqlite_syntax.specs.declared.statement.Parsed.{Parsed}
 use Rattle.dict_tables.specs.Found.{HasTable}
-use Rattle.dict_sql.specs.Effects.{equals_number, equals_text, Has, rows_of, shown}
 use Rattle.dict_tables.specs.Tables.{edition, entry, kept}
-use Rattle.dict_sql.specs.Reads.{IsListing, IsSelection, by_columns}
+use Rattle.dict_sql.specs.Effects.{equals_number, equals_text, Has, rows_of, shown}
+use Rattle.dict_sql.specs.Reads.{IsListing, IsSelection}
 use Rattle.dict_sql.proofs.CompareLemmas.{and_true, equals_is, equals_text_is}
-use Rattle.sqlite_ast.specs.declared.Expr.{Expr}
-use Rattle.dict_sql.proofs.ReadLemmas.{text_is, listing_is, query_over, outputs_of, select_of}
-use Rattle.dict_sql.proofs.SilentLemmas.{commits_none, shown_open}
+use Rattle.dict_sql.proofs.ListLemmas.{passes}
+use Rattle.dict_sql.proofs.QueryLemmas.{IsQuery, ShowsRow, command_with, is_plain, read_rows, shown_answers}
+use Rattle.dict_sql.proofs.ReadLemmas.{select_with, select_of, select_is, starred, starred_is, understood_is, outputs_of}
 use Rattle.dict_sql.proofs.ReadTexts.{ReadsTable, test_one_edition, test_some_entries, test_one_kept}
-use Rattle.dict_sql.proofs.ListLemmas.{lists, sorts, passes}
+use Rattle.dict_sql.proofs.SilentLemmas.{commits_none, shown_open}
 
 pub all_pass : {X : Type 0} (rows : List X) → filter (λ _. true) rows ≡ rows
 all_pass [] = refl
@@ -51,47 +47,34 @@ keep_shown table p q same (r ∷ rows) = elim (cases_Bool (q (shown table r))) [
 ]
 
 module _ (text : List ℕ) (p : Parsed) (table : ℕ → Table) (condition : Option Expr) (tests' : List Term) (left : ℕ) (sorted : List Sort) (order : List (Term × Key)) (columns : List ℕ) (rest : ℕ) (last : Carried) (r : ReadsTable text p table condition tests' left sorted order columns rest last) where
+  abbrev pub outs : ℕ → ℕ → List Output
+  outs at tree = outputs_of at (table tree)
+
   module _ (schema : Schema) (at tree : ℕ) (has : HasTable schema at (table tree)) where
-    abbrev pub names : List (List ℕ)
-    names = map (λ (o : Output). o.name) (outputs_of at (table tree))
+    is_select : p.statement ≡ written.Select (select_with starred (table tree).name condition sorted)
+    is_select = r.statement tree ∙ ap (λ q. written.Select q) (select_is (table tree).name condition sorted)
 
-    abbrev pub command : Command
-    command = Select (record { lets = []; body = query_over at (table tree) tests' order }) names
+    is_ordered : (out-Select (select_with starred (table tree).name condition sorted)).order ≡ sorted
+    is_ordered = subst (λ q. (out-Select q).order ≡ sorted) (select_is (table tree).name condition sorted) (r.orders tree)
 
-    low : nat_le (2 ^ 31) (table tree).tree ≡ false
-    low = lt-leb (2 ^ 31) (table tree).tree has.stored
-
-    pub compiles : understood schema text ≡ Ok (with_command p ([], (command, None)))
+    compiles : (understood schema text ≡ Ok (with_command p ([], (command_with (table tree).tree (outs at tree) tests' order, None)))) × (reads_listing schema text ≡ false)
     compiles =
-        text_is schema at (table tree) has (r.no_rowid tree) (r.few at tree) (r.some at tree) condition tests' left nothing (r.tests schema at tree has.is) sorted order rest last (r.sorts schema at tree) (r.orders tree) (r.accepted schema at tree has.alone low) text p r.read (r.statement tree) r.formats
+        understood_is schema at (table tree) has starred (outs at tree) (max_budget - 1) condition (starred_is schema at (table tree) has (r.no_rowid tree) (r.few at tree) (r.some at tree) condition) tests' left nothing (r.tests schema at tree has.is) sorted order rest last (r.sorts schema at tree) is_ordered (r.accepted schema at tree has.alone (lt-leb (2 ^ 31) (table tree).tree has.stored)) text p r.read is_select r.formats
 
-    pub unlisted : reads_listing schema text ≡ false
-    unlisted =
-        listing_is schema at (table tree) has (r.no_rowid tree) (r.few at tree) (r.some at tree) condition tests' left nothing (r.tests schema at tree has.is) sorted order rest last (r.sorts schema at tree) (r.orders tree) (r.accepted schema at tree has.alone low) text p r.read (r.statement tree) r.formats
+  pub query : IsQuery text p table outs tests' order
+  query = record {
+    select = select_of (table 0).name condition sorted;
+    read = r.read;
+    statement = r.statement 0;
+    means = λ schema at tree has. (compiles schema at tree has).0;
+    unlisted = λ schema at tree has. (compiles schema at tree has).1;
+  }
 
-    reads_command : command_of (understood schema text) ≡ command
-    reads_command = rw compiles refl
+  pub reads_plain : (schema : Schema) (at tree : ℕ) → HasTable schema at (table tree) → IsPlain (understood schema text)
+  reads_plain = is_plain text p table outs tests' order query
 
-    pub reads_plain : IsPlain (understood schema text)
-    reads_plain = rw compiles (refl, refl)
-
-    read_rows : (trees : Trees) → rows_of (table tree).name (record { schema = schema; trees = trees }) ≡ map (shown (table tree)) (trees (table tree).tree)
-    read_rows trees = let named = has.named in let is = has.is in rw (named, is) refl
-
-    in_order : (rows : List Row) → IsSorted (λ a b. key_cmp 0 (map (λ (k : Term × Key). k.1) order) (map (column a) columns) (map (column b) columns)) rows → IsSorted (by_columns columns) rows
-    in_order rows h k d from up = subst (λ o. is_lt o ≡ false) (r.compares (get_or rows (k + 1) d) (get_or rows k d)) (h k d from up)
-
-    -- the rows that pass, in order
-    module _ (params : Row) (test : Row → Bool) (tested : (row : Row) → passes params tests' row ≡ test (shown (table tree) row)) where
-      listed : (trees : Trees) (rows : List Row) → IsAnswer (query_over at (table tree) tests' order) (overlay trees []) params rows → IsSelection (table tree).name test columns (record { schema = schema; trees = trees }) rows
-      listed trees rows a =
-          let project = (query_over at (table tree) tests' order).project in
-          let same = lists (table tree).tree tests' project order params (shown (table tree)) (λ row. map (column row) columns) (r.shows at tree params) (r.keyed tree params) trees rows a in
-          let up = sorts (table tree).tree tests' project order params (shown (table tree)) (λ row. map (column row) columns) (r.shows at tree params) (r.keyed tree params) trees rows a in
-          record {
-            same = subst (λ l. IsPermutation l rows) (keep_shown (table tree) (passes params tests') test tested (trees (table tree).tree) ∙ sym (ap (filter test) (read_rows trees))) same;
-            sorted = in_order rows up;
-          }
+  shows_row : ShowsRow table outs order columns (λ tree. shown (table tree))
+  shows_row = record { shows = r.shows; keyed = r.keyed; compares = r.compares }
 
   -- the whole answer
   module _ (named : (tree : ℕ) → (table tree).name ≡ (table 0).name) (params : Row) (test : Row → Bool) (tested : (tree : ℕ) (row : Row) → passes params tests' row ≡ test (shown (table tree) row)) (old new : State) where
@@ -99,15 +82,10 @@ module _ (text : List ℕ) (p : Parsed) (table : ℕ → Table) (condition : Opt
     SelectsIn rows = IsSelection (table 0).name test columns old.now rows × IsUnchanged old new
 
     pub shown_selects : (rows : List Row) → Has table old.now → Shown text params old new rows → SelectsIn rows
-    unfolding Shown
     shown_selects rows has h =
-        let at = has.0 in
-        let tree = has.1 in
-        let s = old.now.schema in
-        let read = reads_as text params old new s refl (command s at tree has.2) (reads_command s at tree has.2) (reads_plain s at tree has.2) (unlisted s at tree has.2) rows h in
-        let bare = subst IsPlain h.1.is (reads_plain s at tree has.2) in
-        let it = subst (ShowsRows old new text h.0 (timed params h.0.formats h.1.now) rows) bare.0 h.2 in
-        (subst (λ n. IsSelection n test columns old.now rows) (named tree) (listed s at tree has.2 params test (tested tree) old.now.trees rows (read.answer Null)), it.3)
+        let it = shown_answers text p table outs tests' order query columns (λ tree. shown (table tree)) shows_row params old new rows has h in
+        let kept = keep_shown (table has.1) (passes params tests') test (tested has.1) (old.now.trees (table has.1).tree) ∙ sym (ap (filter test) (read_rows old.now.schema has.0 (table has.1) has.2 old.now.trees)) in
+        (subst (λ n. IsSelection n test columns old.now rows) (named has.1) (record { same = subst (λ l. IsPermutation l rows) kept it.0.0; sorted = it.0.1 }), it.1)
 
     pub selects : (result : Result (Vec Row Global) Error) → (IsTrue old.is_open → Has table old.now) → IfOk result (λ rows. Shown text params old new rows.items) → IfOk result (λ rows. SelectsIn rows.items)
     selects (Err e) has h = tt

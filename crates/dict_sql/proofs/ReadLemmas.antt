@@ -1,4 +1,4 @@
--- What `SELECT rowid, * FROM table WHERE .. ORDER BY ..` stands for, over any schema that has the table, level by level of the resolver.
+-- What `SELECT columns FROM table WHERE .. ORDER BY ..` stands for, over any schema that has the table, level by level of the resolver; above all with `rowid, *`.
 use Rattle.std.proofs.Common.{◌≡◌, ℕ, ◌-◌, ◌^◌, pos, negsuc, List, [], ◌∷◌, map, length, codes, Bool, true, false, Some, None, Option, Ok, refl, slice_get, nat_lt, unwrap_or, option_map, option_and_then}
 use Rattle.std.proofs.lemmas.Bool.{lt-ltb}
 use Rattle.sqlite.specs.Term.{Term, lit, col}
@@ -56,17 +56,31 @@ all_shown = roll-Shown Shown-F.All
 unfoldable pub source_of : Name → Source
 source_of name = roll-Source (record { is_left = false; origin = Table' name; alias = None; on = None; using = [] })
 
+-- a SELECT of these columns, and of the rowid with all columns
+unfoldable pub core_with : List Shown → Name → Option Expr → Core
+core_with shows name test = roll-Core (record { distinct = false; shown = shows; from = source_of name ∷ []; filter = test; group = []; having = None })
+
+unfoldable pub select_with : List Shown → Name → Option Expr → List Sort → Select
+select_with shows name test order = roll-Select (record { with = []; first = core_with shows name test; others = []; order = order; limit = None; offset = None })
+
 unfoldable pub core_of : Name → Option Expr → Core
 core_of name test = roll-Core (record { distinct = false; shown = rowid_shown ∷ all_shown ∷ []; from = source_of name ∷ []; filter = test; group = []; having = None })
 
 unfoldable pub select_of : Name → Option Expr → List Sort → Select
 select_of name test order = roll-Select (record { with = []; first = core_of name test; others = []; order = order; limit = None; offset = None })
 
-out_rowid : out-Expr rowid_expr ≡ Expr-F.Column None (codes "rowid")
+abbrev pub starred : List Shown
+starred = rowid_shown ∷ all_shown ∷ []
+
+pub select_is : (name : Name) (test : Option Expr) (order : List Sort) → select_of name test order ≡ select_with starred name test order
+unfolding select_of core_of select_with core_with
+select_is name test order = refl
+
+pub out_rowid : out-Expr rowid_expr ≡ Expr-F.Column None (codes "rowid")
 unfolding everything rowid_expr
 out_rowid = refl
 
-out_one : out-Shown rowid_shown ≡ Shown-F.One rowid_expr None (codes "rowid")
+pub out_one : out-Shown rowid_shown ≡ Shown-F.One rowid_expr None (codes "rowid")
 unfolding everything rowid_shown
 out_one = refl
 
@@ -95,51 +109,51 @@ module _ (name : Name) where
   unfolding everything source_of
   out_left = refl
 
-module _ (name : Name) (test : Option Expr) where
-  out_distinct : (out-Core (core_of name test)).distinct ≡ false
-  unfolding everything core_of
+module _ (shows : List Shown) (name : Name) (test : Option Expr) where
+  out_distinct : (out-Core (core_with shows name test)).distinct ≡ false
+  unfolding everything core_with
   out_distinct = refl
 
-  out_shown : (out-Core (core_of name test)).shown ≡ rowid_shown ∷ all_shown ∷ []
-  unfolding everything core_of
-  out_shown = refl
-
-  out_from : (out-Core (core_of name test)).from ≡ source_of name ∷ []
-  unfolding everything core_of
+  out_from : (out-Core (core_with shows name test)).from ≡ source_of name ∷ []
+  unfolding everything core_with
   out_from = refl
 
-  out_group : (out-Core (core_of name test)).group ≡ []
-  unfolding everything core_of
+  out_group : (out-Core (core_with shows name test)).group ≡ []
+  unfolding everything core_with
   out_group = refl
 
-  out_having : (out-Core (core_of name test)).having ≡ None
-  unfolding everything core_of
+  out_having : (out-Core (core_with shows name test)).having ≡ None
+  unfolding everything core_with
   out_having = refl
 
-out_filter : (name : Name) (test : Option Expr) → (out-Core (core_of name test)).filter ≡ test
-unfolding everything core_of
-out_filter name None = refl
-out_filter name (Some e) = refl
+out_filter : (shows : List Shown) (name : Name) (test : Option Expr) → (out-Core (core_with shows name test)).filter ≡ test
+unfolding everything core_with
+out_filter shows name None = refl
+out_filter shows name (Some e) = refl
 
-module _ (name : Name) (test : Option Expr) (order : List Sort) where
-  out_with : (out-Select (select_of name test order)).with ≡ []
-  unfolding everything select_of
+out_starred : (name : Name) (test : Option Expr) → (out-Core (core_with starred name test)).shown ≡ starred
+unfolding everything core_with
+out_starred name test = refl
+
+module _ (shows : List Shown) (name : Name) (test : Option Expr) (order : List Sort) where
+  out_with : (out-Select (select_with shows name test order)).with ≡ []
+  unfolding everything select_with
   out_with = refl
 
-  out_first : (out-Select (select_of name test order)).first ≡ core_of name test
-  unfolding everything select_of
+  out_first : (out-Select (select_with shows name test order)).first ≡ core_with shows name test
+  unfolding everything select_with
   out_first = refl
 
-  out_others : (out-Select (select_of name test order)).others ≡ []
-  unfolding everything select_of
+  out_others : (out-Select (select_with shows name test order)).others ≡ []
+  unfolding everything select_with
   out_others = refl
 
-  out_limit : (out-Select (select_of name test order)).limit ≡ None
-  unfolding everything select_of
+  out_limit : (out-Select (select_with shows name test order)).limit ≡ None
+  unfolding everything select_with
   out_limit = refl
 
-  out_offset : (out-Select (select_of name test order)).offset ≡ None
-  unfolding everything select_of
+  out_offset : (out-Select (select_with shows name test order)).offset ≡ None
+  unfolding everything select_with
   out_offset = refl
 
 -- what is collected, where no step and no aggregate is needed
@@ -163,15 +177,55 @@ rowid_output table = record { name = rowid_name table; is_alias = false; is_colu
 abbrev pub outputs_of : ℕ → Table → List Output
 outputs_of at table = columns_from None table (bound_in at table) 0 (rowid_output table ∷ []) table.columns
 
-abbrev pub draft_of : ℕ → Table → List Term → List (Term × Key) → Draft
-draft_of at table filter order = record { from = inner table.tree end; filter = filter; group = None; project = map (λ (o : Output). o.term) (outputs_of at table); distinct = false; collations = []; order = order; limit = lit (Int (negsuc 0)); offset = lit (Int (pos 0)) }
+abbrev pub draft_with : ℕ → List Output → List Term → List (Term × Key) → Draft
+draft_with tree outs filter order = record { from = inner tree end; filter = filter; group = None; project = map (λ (o : Output). o.term) outs; distinct = false; collations = []; order = order; limit = lit (Int (negsuc 0)); offset = lit (Int (pos 0)) }
+
+abbrev pub query_with : ℕ → List Output → List Term → List (Term × Key) → Query
+query_with tree outs filter order = query_of (draft_with tree outs filter order)
 
 abbrev pub query_over : ℕ → Table → List Term → List (Term × Key) → Query
-query_over at table filter order = query_of (draft_of at table filter order)
+query_over at table filter order = query_with table.tree (outputs_of at table) filter order
 
--- ---- the levels
+-- the one table of FROM, and what is left of the budget
+abbrev pub level_of : ℕ → Table → Level
+level_of at table = record { tables = bound_in at table ∷ []; shown = [] }
 
-module _ (schema : Schema) (at : ℕ) (table : Table) (has : HasTable schema at table) (no_rowid : column_named table (codes "rowid") ≡ None) where
+abbrev pub left_of : ℕ → State
+left_of budget = record (fresh 2 max_budget) { budget = budget }
+
+-- ---- the levels, up to the columns
+
+module _ (schema : Schema) (at : ℕ) (table : Table) (has : HasTable schema at table) (no_rowid : column_named table (codes "rowid") ≡ None) (shows : List Output) (may_aggregate may_alias : Bool) where
+  abbrev early : Context
+  early = context_of schema at table shows may_aggregate may_alias
+
+  rowid_is : (s : State) → column early None (codes "rowid") s ≡ Ok (col 1 0, record s { last = nothing })
+  unfolding column find_name in_level only hit column_in rowid_in is_rowid same_name term_of is_among
+  rowid_is s = let is = has.is in let stored = lt-ltb table.tree (2 ^ 31) has.stored in rw (is, no_rowid, stored) refl
+
+  pub lower_rowid : (s : State) → nat_lt 1 s.budget ≡ true → s.written ≡ None
+      → lower early rowid_expr s ≡ Ok (col 1 0, record s { budget = s.budget - 1; written = None; last = nothing })
+  unfolding lower_to node opened spend begin finish passes
+  lower_rowid s rich clear = rw (rich, out_rowid, clear, rowid_is (record s { budget = s.budget - 1; written = None; last = nothing })) refl
+
+  pub heading_is : heading early rowid_expr (codes "rowid") ≡ rowid_name table
+  unfolding heading find_name in_level only hit column_in rowid_in is_rowid same_name is_among declared_name
+  heading_is = let is = has.is in let stored = lt-ltb table.tree (2 ^ 31) has.stored in rw (out_rowid, is, no_rowid, stored) (rw is refl)
+
+-- `rowid, *`
+module _ (schema : Schema) (at : ℕ) (table : Table) (has : HasTable schema at table) (no_rowid : column_named table (codes "rowid") ≡ None) (few : nat_lt 2000 (length (outputs_of at table)) ≡ false) (some : nat_lt 1 (length (outputs_of at table)) ≡ true) where
+  stars_are : stars schema None (rowid_output table ∷ []) (bound_in at table ∷ []) ≡ Ok (outputs_of at table)
+  unfolding stars columns_of
+  stars_are = let is = has.is in rw (is, few, some) refl
+
+  pub starred_is : (test : Option Expr) → result lower (outermost schema) (level_of at table) (core_with starred table.name test) (fresh 2 max_budget) ≡ Ok (outputs_of at table, left_of (max_budget - 1))
+  unfolding result outputs shown is_column
+  starred_is test = rw (out_starred table.name test, out_one, out_all, lower_rowid schema at table has no_rowid [] true true (fresh 2 max_budget) refl refl, heading_is schema at table has no_rowid [] true true, out_rowid, stars_are) refl
+
+-- ---- the levels, whichever columns are shown
+
+module _ (schema : Schema) (at : ℕ) (table : Table) (has : HasTable schema at table) (shows : List Shown) (outs : List Output) (budget : ℕ) (test : Option Expr)
+    (result_is : result lower (outermost schema) (level_of at table) (core_with shows table.name test) (fresh 2 max_budget) ≡ Ok (outs, left_of budget)) where
   abbrev named : table_named schema table.name ≡ Some at
   named = has.named
 
@@ -181,122 +235,96 @@ module _ (schema : Schema) (at : ℕ) (table : Table) (has : HasTable schema at 
   abbrev bound : Bound
   bound = bound_in at table
 
-  module _ (shows : List Output) (may_aggregate may_alias : Bool) where
-    abbrev cx : Context
-    cx = context_of schema at table shows may_aggregate may_alias
+  abbrev cx : Bool → Bool → Context
+  cx may_aggregate may_alias = context_of schema at table outs may_aggregate may_alias
 
-    rowid_is : (s : State) → column cx None (codes "rowid") s ≡ Ok (col 1 0, record s { last = nothing })
-    unfolding column find_name in_level only hit column_in rowid_in is_rowid same_name term_of is_among
-    rowid_is s = let stored = lt-ltb table.tree (2 ^ 31) has.stored in rw (is, no_rowid, stored) refl
+  abbrev core : Core
+  core = core_with shows table.name test
 
-    lower_rowid : (s : State) → nat_lt 1 s.budget ≡ true → s.written ≡ None
-        → lower cx rowid_expr s ≡ Ok (col 1 0, record s { budget = s.budget - 1; written = None; last = nothing })
-    unfolding lower_to node opened spend begin finish passes
-    lower_rowid s rich clear = rw (rich, out_rowid, clear, rowid_is (record s { budget = s.budget - 1; written = None; last = nothing })) refl
+  abbrev after : State
+  after = left_of budget
 
-  heading_is : (shows : List Output) (may_aggregate may_alias : Bool) → heading (cx shows may_aggregate may_alias) rowid_expr (codes "rowid") ≡ rowid_name table
-  unfolding heading find_name in_level only hit column_in rowid_in is_rowid same_name is_among declared_name
-  heading_is shows may_aggregate may_alias = let stored = lt-ltb table.tree (2 ^ 31) has.stored in rw (out_rowid, is, no_rowid, stored) (rw is refl)
+  bounds_are : bounds schema (source_of table.name ∷ []) (fresh 1 max_budget) ≡ Ok (bound ∷ [], fresh 2 max_budget)
+  unfolding bounds bound_of table_in take_slot
+  bounds_are = rw (out_origin table.name, has.named, out_alias table.name, out_using table.name) refl
 
-  abbrev outs : List Output
-  outs = outputs_of at table
+  joins_are : joins lower (cx false true) (bound ∷ []) (source_of table.name ∷ []) after ≡ Ok (record { steps = Inner table.tree ∷ []; filter = [] }, after)
+  unfolding joins join shared inner_join tests
+  joins_are = rw (out_on table.name, out_using table.name, is, out_left table.name) refl
 
-  module _ (few : nat_lt 2000 (length outs) ≡ false) (some : nat_lt 1 (length outs) ≡ true) (test : Option Expr) where
-    stars_are : stars schema None (rowid_output table ∷ []) (bound ∷ []) ≡ Ok outs
-    unfolding stars columns_of
-    stars_are = rw (is, few, some) refl
+  module _ (filter : List Term) (left : ℕ) (carried : Carried) (filter_is : tests lower (cx false true) [] test after ≡ Ok (filter, plainly left carried)) where
+    abbrev then : State
+    then = plainly left carried
 
-    abbrev core : Core
-    core = core_of table.name test
+    matching_is : matching lower (outermost schema) (record { tables = bound ∷ []; shown = outs }) core after ≡ Ok (record { steps = Inner table.tree ∷ []; filter = filter }, then)
+    unfolding matching
+    matching_is = rw (out_from shows table.name test, joins_are, out_filter shows table.name test, filter_is) refl
 
-    abbrev level : Level
-    level = record { tables = bound ∷ []; shown = [] }
+    body_is : body lower (outermost schema) core (fresh 1 max_budget) ≡ Ok (record { level = record { tables = bound ∷ []; shown = outs }; steps = Inner table.tree ∷ []; filter = filter }, then)
+    unfolding body
+    body_is = rw (out_from shows table.name test, bounds_are, result_is, matching_is) refl
 
-    abbrev after : State
-    after = record (fresh 2 max_budget) { budget = max_budget - 1 }
+    module _ (sorted : List Sort) (order : List (Term × Key)) (rest : ℕ) (last : Carried) (sorts_are : sorts lower (cx false true) outs sorted then ≡ Ok (order, plainly rest last)) (orders : (out-Select (select_with shows table.name test sorted)).order ≡ sorted) where
+      having_is : (may_aggregate : Bool) (s : State) → having (cx may_aggregate true) None s ≡ Ok ([], s)
+      unfolding having tests
+      having_is true s = refl
+      having_is false s = refl
 
-    bounds_are : bounds schema (source_of table.name ∷ []) (fresh 1 max_budget) ≡ Ok (bound ∷ [], fresh 2 max_budget)
-    unfolding bounds bound_of table_in take_slot
-    bounds_are = rw (out_origin table.name, has.named, out_alias table.name, out_using table.name) refl
+      no_keys : (s : State) → keys lower (cx false true) outs [] s ≡ Ok (([], []), s)
+      unfolding keys
+      no_keys s = refl
 
-    result_is : result lower (outermost schema) level core (fresh 2 max_budget) ≡ Ok (outs, after)
-    unfolding result outputs shown is_column
-    result_is = rw (out_shown table.name test, out_one, out_all, lower_rowid [] true true (fresh 2 max_budget) refl refl, heading_is [] true true, out_rowid, stars_are) refl
+      parts_are : parts schema core sorted (fresh 1 max_budget) ≡ Ok (record { body = record { level = record { tables = bound ∷ []; shown = outs }; steps = Inner table.tree ∷ []; filter = filter }; is_grouped = false; keys = []; collations = []; having = []; order = order }, plainly rest last)
+      unfolding parts
+      parts_are = rw (body_is, out_group shows table.name test, no_keys then, out_having shows table.name test, having_is false then, sorts_are) refl
 
-    joins_are : joins lower (cx outs false true) (bound ∷ []) (source_of table.name ∷ []) after ≡ Ok (record { steps = Inner table.tree ∷ []; filter = [] }, after)
-    unfolding joins join shared inner_join tests
-    joins_are = rw (out_on table.name, out_using table.name, is, out_left table.name) refl
+      abbrev draft : Draft
+      draft = draft_with table.tree outs filter order
 
-    module _ (filter : List Term) (left : ℕ) (carried : Carried) (filter_is : tests lower (cx outs false true) [] test after ≡ Ok (filter, plainly left carried)) where
-      abbrev then : State
-      then = plainly left carried
+      abbrev page : Term × Term
+      page = (lit (Int (negsuc 0)), lit (Int (pos 0)))
 
-      matching_is : matching lower (outermost schema) (record { tables = bound ∷ []; shown = outs }) core after ≡ Ok (record { steps = Inner table.tree ∷ []; filter = filter }, then)
-      unfolding matching
-      matching_is = rw (out_from table.name test, joins_are, out_filter table.name test, filter_is) refl
+      abbrev read : Shown'
+      read = (draft, map (λ (o : Output). o.name) outs, map (λ (o : Output). o.carried.collation) outs)
 
-      body_is : body lower (outermost schema) core (fresh 1 max_budget) ≡ Ok (record { level = record { tables = bound ∷ []; shown = outs }; steps = Inner table.tree ∷ []; filter = filter }, then)
-      unfolding body
-      body_is = rw (out_from table.name test, bounds_are, result_is, matching_is) refl
+      named_is : named' schema core sorted page ≡ Ok read
+      unfolding named' assembled ungrouped
+      named_is = rw (parts_are, out_distinct shows table.name test) refl
 
-      module _ (sorted : List Sort) (order : List (Term × Key)) (rest : ℕ) (last : Carried) (sorts_are : sorts lower (cx outs false true) outs sorted then ≡ Ok (order, plainly rest last)) (orders : (out-Select (select_of table.name test sorted)).order ≡ sorted) where
-        having_is : (may_aggregate : Bool) (s : State) → having (cx outs may_aggregate true) None s ≡ Ok ([], s)
-        unfolding having tests
-        having_is true s = refl
-        having_is false s = refl
+      abbrev select : Select
+      select = select_with shows table.name test sorted
 
-        no_keys : (s : State) → keys lower (cx outs false true) outs [] s ≡ Ok (([], []), s)
-        unfolding keys
-        no_keys s = refl
+      paging_is : paging schema select ≡ Ok page
+      unfolding paging constant_or
+      paging_is = rw (out_limit shows table.name test sorted, out_offset shows table.name test sorted) refl
 
-        parts_are : parts schema core sorted (fresh 1 max_budget) ≡ Ok (record { body = record { level = record { tables = bound ∷ []; shown = outs }; steps = Inner table.tree ∷ []; filter = filter }; is_grouped = false; keys = []; collations = []; having = []; order = order }, plainly rest last)
-        unfolding parts
-        parts_are = rw (body_is, out_group table.name test, no_keys then, out_having table.name test, having_is false then, sorts_are) refl
+      query_is : query' schema select ≡ Ok (read, [])
+      unfolding query' query_to level' with whole alone single sources source viewing
+      query_is = rw (out_with shows table.name test sorted, out_others shows table.name test sorted, paging_is, out_first shows table.name test sorted, orders, out_from shows table.name test, out_origin table.name, named_is) refl
 
-        abbrev draft : Draft
-        draft = draft_of at table filter order
+      abbrev program : Program
+      program = record { lets = []; body = query_of draft }
 
-        abbrev page : Term × Term
-        page = (lit (Int (negsuc 0)), lit (Int (pos 0)))
+      abbrev names : List Name
+      names = map (λ (o : Output). o.name) outs
 
-        abbrev read : Shown'
-        read = (draft, map (λ (o : Output). o.name) outs, map (λ (o : Output). o.carried.collation) outs)
+      module _ (accepted : accepts_program schema [] (query_of draft) [] ≡ true) (text : List ℕ) (p : Parsed) (parsed : first text ≡ Ok p) (statement : p.statement ≡ written.Select select) (formats : p.formats ≡ []) where
+        reads_is : read' schema select ≡ Ok (Select' program names)
+        unfolding read' program'
+        reads_is = rw (query_is, accepted) refl
 
-        named_is : named' schema core sorted page ≡ Ok read
-        unfolding named' assembled ungrouped
-        named_is = rw (parts_are, out_distinct table.name test) refl
+        planned_is : planned schema p ≡ Ok ([], (Select' program names, None))
+        unfolding planned meaning command returning timed
+        planned_is = rw (statement, formats, reads_is) refl
 
-        abbrev select : Select
-        select = select_of table.name test sorted
+        text_is : understood schema text ≡ Ok (with_command p ([], (Select' program names, None)))
+        unfolding compiled understood
+        text_is = rw (parsed, planned_is) refl
 
-        paging_is : paging schema select ≡ Ok page
-        unfolding paging constant_or
-        paging_is = rw (out_limit table.name test sorted, out_offset table.name test sorted) refl
+        listing_is : reads_listing schema text ≡ false
+        unfolding compiled
+        listing_is = rw (parsed, planned_is) refl
 
-        query_is : query' schema select ≡ Ok (read, [])
-        unfolding query' query_to level' with whole alone single sources source viewing
-        query_is = rw (out_with table.name test sorted, out_others table.name test sorted, paging_is, out_first table.name test sorted, orders, out_from table.name test, out_origin table.name, named_is) refl
-
-        abbrev pub program : Program
-        program = record { lets = []; body = query_of draft }
-
-        abbrev pub names : List Name
-        names = map (λ (o : Output). o.name) outs
-
-        module _ (accepted : accepts_program schema [] (query_of draft) [] ≡ true) where
-          reads_is : read' schema select ≡ Ok (Select' program names)
-          unfolding read' program'
-          reads_is = rw (query_is, accepted) refl
-
-          planned_is : (p : Parsed) → p.statement ≡ written.Select select → p.formats ≡ [] → planned schema p ≡ Ok ([], (Select' program names, None))
-          unfolding planned meaning command returning timed
-          planned_is p statement formats = rw (statement, formats, reads_is) refl
-
-          pub text_is : (text : List ℕ) (p : Parsed) → first text ≡ Ok p → p.statement ≡ written.Select select → p.formats ≡ [] → understood schema text ≡ Ok (with_command p ([], (Select' program names, None)))
-          unfolding compiled understood
-          text_is text p parsed statement formats = rw (parsed, planned_is p statement formats) refl
-
-          -- the text reads no list of the schema
-          pub listing_is : (text : List ℕ) (p : Parsed) → first text ≡ Ok p → p.statement ≡ written.Select select → p.formats ≡ [] → reads_listing schema text ≡ false
-          unfolding compiled
-          listing_is text p parsed statement formats = rw (parsed, planned_is p statement formats) refl
+        -- the text is this query, and reads no list of the schema
+        pub understood_is : (understood schema text ≡ Ok (with_command p ([], (Select' program names, None)))) × (reads_listing schema text ≡ false)
+        understood_is = (text_is, listing_is)

@@ -1,5 +1,5 @@
 -- What follows of rows that are read one at a time.
-use Rattle.std.proofs.Common.{◌≡◌, ◌++◌, ℕ, List, [], ◌∷◌, codes, true, Ok, Err, Some, None, Option, Result, IfOk, IfErr, OnErr, IsErrAnd, IsTrue, inl, inr, refl, sym, ap, subst, arith}
+use Rattle.std.proofs.Common.{◌≡◌, ◌++◌, ℕ, List, [], ◌∷◌, true, Ok, Err, Some, None, Option, Result, IfOk, IfErr, OnErr, IsErrAnd, IsTrue, inl, inr, refl, sym, ap, subst, arith, ℤ}
 use Rattle.std.proofs.lemmas.List.Sorted.{IsPermutation-sym, Contains-permutation}
 use Rattle.std.specs.List.Sorted.{IsPermutation}
 use Rattle.std.specs.List.{Contains}
@@ -18,106 +18,109 @@ use Rattle.sqlite.specs.Given as kit
 use Rattle.sqlite.proofs.StateLemmas.{survives_weaker}
 use Rattle.sqlite.proofs.Callers.{IsPlain, EndsIn, begins_shown, given_begin, begun_plain}
 use Rattle.sqlite_trees.specs.declared.store.Store.{Ghosts}
+use Rattle.sqlite.specs.Term.{Term}
+use Rattle.sqlite_ast.specs.declared.Expr.{Expr}
+use Rattle.sqlite_ast.specs.declared.Sort.{Sort}
 use Rattle.sqlite_resolve.specs.declared.compiled.Compiled.{Compiled}
+use Rattle.sqlite_resolve.specs.declared.scope.Output.{Output}
+use Rattle.sqlite_resolve.specs.declared.state.Carried.{Carried}
+use Rattle.sqlite_syntax.specs.declared.statement.Parsed.{Parsed}
+use Rattle.sqlite_value.specs.declared.keys.Key.{Key}
 use Rattle.dict_tables.specs.declared.tables.StoreTable.TheVariants.{Mark, Item, Member, Edition, Entry, Kept}
-use Rattle.dict_tables.specs.Tables.{mark, item, member, edition, entry, kept}
+use Rattle.dict_tables.specs.Tables.{entry}
 use Rattle.dict_sql.specs.Effects.{Has, WhileOpen, equals_number, rows_of}
 use Rattle.dict_sql.specs.Columns.{Content}
 use Rattle.dict_sql.specs.declared.records.ReadError.{ReadError}
 use Rattle.dict_sql.specs.declared.records.ReadError.TheVariants.{NoRecord, Store}
 use Rattle.dict_sql.proofs.SilentLemmas.{commits_none, never_returns}
-use Rattle.dict_sql.specs.Reads.{IsListing, IsSelection, FailsToRead, FailsToList, FailsToDecode, FailsToDecodeAll, HasNoRecord, select_edition, select_entry, select_some_entries, select_kept, select_kept_by_id, select_by_rowid}
+use Rattle.dict_sql.specs.Reads.{IsListing, FailsToRead, FailsToList, FailsToDecode, FailsToDecodeAll, HasNoRecord, select_some_entries}
 use Rattle.dict_sql.specs.Streams.{Scan, scan_table, scan_text, scan_values, IsWhole, IsFront, HasGiven, GivesOn, Passes, FailsToGive, FailsToMove, IsNotBegun}
-use Rattle.dict_sql.specs.Streams.Scan.{AllEditions, AllEntries, EntriesOf, AllKept, KeptById, ByRowid}
+use Rattle.dict_sql.specs.Streams.Scan.{AllEditions, AllEntries, EntriesOf, AllKept, KeptById, ByRowid, EditionNumbers}
 use Rattle.dict_sql.proofs.Callers.{still_has}
-use Rattle.dict_sql.proofs.ReadTexts.{read_edition, reads_edition, read_entry, reads_entry, read_some_entries, reads_some_entries, read_kept, reads_kept}
-use Rattle.dict_sql.proofs.ReadFaults.{nothing, a_number, takes_edition, takes_entry, takes_some_entries, takes_kept, ends_at, fails_read}
+use Rattle.dict_sql.proofs.ListLemmas.{passes}
+use Rattle.dict_sql.proofs.NumberTexts.{read_numbers, numbers_of, query_numbers, takes_numbers, shows_numbering}
+use Rattle.dict_sql.proofs.QueryLemmas.{IsQuery, TakesValues, is_plain, ends_in, query_fails}
+use Rattle.dict_sql.proofs.ReadTexts.{ReadsTable, key_at, read_edition, reads_edition, read_entry, reads_entry, read_some_entries, reads_some_entries, read_kept, reads_kept}
+use Rattle.dict_sql.proofs.ReadFaults.{Takes, nothing, a_number, takes_values, takes_edition, takes_entry, takes_some_entries, takes_kept}
 use Rattle.dict_sql.proofs.RowidTexts.{read_kept_by_id, reads_kept_by_id, takes_kept_by_id, read_mark_by_rowid, reads_mark_by_rowid, takes_mark_by_rowid, read_item_by_rowid, reads_item_by_rowid, takes_item_by_rowid, read_member_by_rowid, reads_member_by_rowid, takes_member_by_rowid, read_edition_by_rowid, reads_edition_by_rowid, takes_edition_by_rowid, read_entry_by_rowid, reads_entry_by_rowid, takes_entry_by_rowid, read_kept_by_rowid, reads_kept_by_rowid, takes_kept_by_rowid}
-use Rattle.dict_sql.proofs.ListingLemmas.{all_pass, shown_selects, reads_plain, entry_read}
+use Rattle.dict_sql.proofs.ListingLemmas.{all_pass, outs, query, shown_selects, entry_read}
 
-whole : (name : List ℕ) (columns : List ℕ) (db : Database) (rows : List Row) → IsSelection name (λ _. true) columns db rows → IsListing name columns db rows
-whole name columns db rows h = record { same = subst (λ l. IsPermutation l rows) (all_pass (rows_of name db)) h.same; sorted = h.sorted }
+-- the text of the scan, and what it answers
+pub record ReadsScan (what : Scan) : Type 1 where
+  pub parsed : Parsed
+  pub outs : ℕ → ℕ → List Output
+  pub tests : List Term
+  pub order : List (Term × Key)
+  pub query : IsQuery (scan_text what) parsed (scan_table what) outs tests order
+  pub takes : TakesValues (scan_text what) parsed (scan_table what) outs tests order (scan_values what)
+  pub shows : (old new : State) (rows : List Row) → Has (scan_table what) old.now → Shown (scan_text what) (scan_values what) old new rows → IsWhole what old.now rows
 
-shows : (what : Scan) (old new : State) (rows : List Row) → Has (scan_table what) old.now → Shown (scan_text what) (scan_values what) old new rows → IsWhole what old.now rows
-shows AllEditions old new rows has h = whole (codes "edition") _ old.now rows (shown_selects select_edition read_edition edition _ _ _ _ _ _ _ _ reads_edition (λ tree. refl) [] (λ _. true) (λ tree row. refl) old new rows has h).0
-shows AllEntries old new rows has h = whole (codes "entry") _ old.now rows (shown_selects select_entry read_entry entry _ _ _ _ _ _ _ _ reads_entry (λ tree. refl) [] (λ _. true) (λ tree row. refl) old new rows has h).0
-shows (EntriesOf n) old new rows has h = (shown_selects select_some_entries read_some_entries entry _ _ _ _ _ _ _ _ reads_some_entries (λ tree. refl) (Int n ∷ []) (equals_number 1 n) (λ tree row. entry_read tree n row) old new rows has h).0
-shows AllKept old new rows has h = whole (codes "kept") _ old.now rows (shown_selects select_kept read_kept kept _ _ _ _ _ _ _ _ reads_kept (λ tree. refl) [] (λ _. true) (λ tree row. refl) old new rows has h).0
-shows KeptById old new rows has h = whole (codes "kept") _ old.now rows (shown_selects select_kept_by_id read_kept_by_id kept _ _ _ _ _ _ _ _ reads_kept_by_id (λ tree. refl) [] (λ _. true) (λ tree row. refl) old new rows has h).0
-shows (ByRowid Mark) old new rows has h = whole (codes "mark") _ old.now rows (shown_selects (select_by_rowid Mark) read_mark_by_rowid mark _ _ _ _ _ _ _ _ reads_mark_by_rowid (λ tree. refl) [] (λ _. true) (λ tree row. refl) old new rows has h).0
-shows (ByRowid Item) old new rows has h = whole (codes "item") _ old.now rows (shown_selects (select_by_rowid Item) read_item_by_rowid item _ _ _ _ _ _ _ _ reads_item_by_rowid (λ tree. refl) [] (λ _. true) (λ tree row. refl) old new rows has h).0
-shows (ByRowid Member) old new rows has h = whole (codes "member") _ old.now rows (shown_selects (select_by_rowid Member) read_member_by_rowid member _ _ _ _ _ _ _ _ reads_member_by_rowid (λ tree. refl) [] (λ _. true) (λ tree row. refl) old new rows has h).0
-shows (ByRowid Edition) old new rows has h = whole (codes "edition") _ old.now rows (shown_selects (select_by_rowid Edition) read_edition_by_rowid edition _ _ _ _ _ _ _ _ reads_edition_by_rowid (λ tree. refl) [] (λ _. true) (λ tree row. refl) old new rows has h).0
-shows (ByRowid Entry) old new rows has h = whole (codes "entry") _ old.now rows (shown_selects (select_by_rowid Entry) read_entry_by_rowid entry _ _ _ _ _ _ _ _ reads_entry_by_rowid (λ tree. refl) [] (λ _. true) (λ tree row. refl) old new rows has h).0
-shows (ByRowid Kept) old new rows has h = whole (codes "kept") _ old.now rows (shown_selects (select_by_rowid Kept) read_kept_by_rowid kept _ _ _ _ _ _ _ _ reads_kept_by_rowid (λ tree. refl) [] (λ _. true) (λ tree row. refl) old new rows has h).0
+module _ (what : Scan) (p : Parsed) (condition : Option Expr) (tests' : List Term) (left : ℕ) (sorted : List Sort) (order : List (Term × Key)) (columns : List ℕ) (rest : ℕ) (last : Carried) (r : ReadsTable (scan_text what) p (scan_table what) condition tests' left sorted order columns rest last) where
+  -- rows of a table with all columns
+  rows_scan : {X : Type 0} (given : X → Row) (x : X) → given x ≡ scan_values what → Takes (scan_text what) p (scan_table what) tests' order given
+      → ((old new : State) (rows : List Row) → Has (scan_table what) old.now → Shown (scan_text what) (scan_values what) old new rows → IsWhole what old.now rows) → ReadsScan what
+  rows_scan given x same w shows = record {
+    parsed = p;
+    outs = outs (scan_text what) p (scan_table what) condition tests' left sorted order columns rest last r;
+    tests = tests';
+    order = order;
+    query = query (scan_text what) p (scan_table what) condition tests' left sorted order columns rest last r;
+    takes = subst (TakesValues (scan_text what) p (scan_table what) _ tests' order) same (takes_values (scan_text what) p (scan_table what) condition tests' left sorted order columns rest last r given w x);
+    shows = shows;
+  }
 
-plainly : (what : Scan) (db : Database) → Has (scan_table what) db → IsPlain (understood db.schema (scan_text what))
-plainly AllEditions db has = reads_plain select_edition read_edition edition _ _ _ _ _ _ _ _ reads_edition db.schema has.0 has.1 has.2
-plainly AllEntries db has = reads_plain select_entry read_entry entry _ _ _ _ _ _ _ _ reads_entry db.schema has.0 has.1 has.2
-plainly (EntriesOf n) db has = reads_plain select_some_entries read_some_entries entry _ _ _ _ _ _ _ _ reads_some_entries db.schema has.0 has.1 has.2
-plainly AllKept db has = reads_plain select_kept read_kept kept _ _ _ _ _ _ _ _ reads_kept db.schema has.0 has.1 has.2
-plainly KeptById db has = reads_plain select_kept_by_id read_kept_by_id kept _ _ _ _ _ _ _ _ reads_kept_by_id db.schema has.0 has.1 has.2
-plainly (ByRowid Mark) db has = reads_plain (select_by_rowid Mark) read_mark_by_rowid mark _ _ _ _ _ _ _ _ reads_mark_by_rowid db.schema has.0 has.1 has.2
-plainly (ByRowid Item) db has = reads_plain (select_by_rowid Item) read_item_by_rowid item _ _ _ _ _ _ _ _ reads_item_by_rowid db.schema has.0 has.1 has.2
-plainly (ByRowid Member) db has = reads_plain (select_by_rowid Member) read_member_by_rowid member _ _ _ _ _ _ _ _ reads_member_by_rowid db.schema has.0 has.1 has.2
-plainly (ByRowid Edition) db has = reads_plain (select_by_rowid Edition) read_edition_by_rowid edition _ _ _ _ _ _ _ _ reads_edition_by_rowid db.schema has.0 has.1 has.2
-plainly (ByRowid Entry) db has = reads_plain (select_by_rowid Entry) read_entry_by_rowid entry _ _ _ _ _ _ _ _ reads_entry_by_rowid db.schema has.0 has.1 has.2
-plainly (ByRowid Kept) db has = reads_plain (select_by_rowid Kept) read_kept_by_rowid kept _ _ _ _ _ _ _ _ reads_kept_by_rowid db.schema has.0 has.1 has.2
+  -- all rows of a table, in order
+  module _ (named : (tree : ℕ) → (scan_table what tree).name ≡ (scan_table what 0).name) (none : [] ≡ scan_values what) (tested : (tree : ℕ) (row : Row) → passes (scan_values what) tests' row ≡ true) (whole : (db : Database) (rows : List Row) → IsListing (scan_table what 0).name columns db rows → IsWhole what db rows) where
+    shows_listing : (old new : State) (rows : List Row) → Has (scan_table what) old.now → Shown (scan_text what) (scan_values what) old new rows → IsWhole what old.now rows
+    shows_listing old new rows has h =
+        let it = (shown_selects (scan_text what) p (scan_table what) condition tests' left sorted order columns rest last r named (scan_values what) (λ _. true) tested old new rows has h).0 in
+        whole old.now rows (record { same = subst (λ l. IsPermutation l rows) (all_pass (rows_of (scan_table what 0).name old.now)) it.same; sorted = it.sorted })
 
-ends : (what : Scan) (now : Database) → Has (scan_table what) now → (c : Compiled) → understood now.schema (scan_text what) ≡ Ok c → (db : Database) (params : Row) → EndsIn c.command db params
-ends AllEditions now has = ends_at select_edition read_edition edition _ _ _ _ _ _ _ _ reads_edition now.schema has
-ends AllEntries now has = ends_at select_entry read_entry entry _ _ _ _ _ _ _ _ reads_entry now.schema has
-ends (EntriesOf n) now has = ends_at select_some_entries read_some_entries entry _ _ _ _ _ _ _ _ reads_some_entries now.schema has
-ends AllKept now has = ends_at select_kept read_kept kept _ _ _ _ _ _ _ _ reads_kept now.schema has
-ends KeptById now has = ends_at select_kept_by_id read_kept_by_id kept _ _ _ _ _ _ _ _ reads_kept_by_id now.schema has
-ends (ByRowid Mark) now has = ends_at (select_by_rowid Mark) read_mark_by_rowid mark _ _ _ _ _ _ _ _ reads_mark_by_rowid now.schema has
-ends (ByRowid Item) now has = ends_at (select_by_rowid Item) read_item_by_rowid item _ _ _ _ _ _ _ _ reads_item_by_rowid now.schema has
-ends (ByRowid Member) now has = ends_at (select_by_rowid Member) read_member_by_rowid member _ _ _ _ _ _ _ _ reads_member_by_rowid now.schema has
-ends (ByRowid Edition) now has = ends_at (select_by_rowid Edition) read_edition_by_rowid edition _ _ _ _ _ _ _ _ reads_edition_by_rowid now.schema has
-ends (ByRowid Entry) now has = ends_at (select_by_rowid Entry) read_entry_by_rowid entry _ _ _ _ _ _ _ _ reads_entry_by_rowid now.schema has
-ends (ByRowid Kept) now has = ends_at (select_by_rowid Kept) read_kept_by_rowid kept _ _ _ _ _ _ _ _ reads_kept_by_rowid now.schema has
+    table_scan : Takes (scan_text what) p (scan_table what) tests' order nothing → ReadsScan what
+    table_scan w = rows_scan nothing tt none w shows_listing
 
-pub fails_to_read : (what : Scan) (old new : State) → (IsTrue old.is_open → Has (scan_table what) old.now) → (e : Error) → FailsToQuery (scan_text what) (scan_values what) old new e → FailsToRead old new e
-fails_to_read AllEditions old new has = fails_read select_edition read_edition edition _ _ _ _ _ _ _ _ reads_edition nothing takes_edition tt old new has
-fails_to_read AllEntries old new has = fails_read select_entry read_entry entry _ _ _ _ _ _ _ _ reads_entry nothing takes_entry tt old new has
-fails_to_read (EntriesOf n) old new has = fails_read select_some_entries read_some_entries entry _ _ _ _ _ _ _ _ reads_some_entries a_number takes_some_entries n old new has
-fails_to_read AllKept old new has = fails_read select_kept read_kept kept _ _ _ _ _ _ _ _ reads_kept nothing takes_kept tt old new has
-fails_to_read KeptById old new has = fails_read select_kept_by_id read_kept_by_id kept _ _ _ _ _ _ _ _ reads_kept_by_id nothing takes_kept_by_id tt old new has
-fails_to_read (ByRowid Mark) old new has = fails_read (select_by_rowid Mark) read_mark_by_rowid mark _ _ _ _ _ _ _ _ reads_mark_by_rowid nothing takes_mark_by_rowid tt old new has
-fails_to_read (ByRowid Item) old new has = fails_read (select_by_rowid Item) read_item_by_rowid item _ _ _ _ _ _ _ _ reads_item_by_rowid nothing takes_item_by_rowid tt old new has
-fails_to_read (ByRowid Member) old new has = fails_read (select_by_rowid Member) read_member_by_rowid member _ _ _ _ _ _ _ _ reads_member_by_rowid nothing takes_member_by_rowid tt old new has
-fails_to_read (ByRowid Edition) old new has = fails_read (select_by_rowid Edition) read_edition_by_rowid edition _ _ _ _ _ _ _ _ reads_edition_by_rowid nothing takes_edition_by_rowid tt old new has
-fails_to_read (ByRowid Entry) old new has = fails_read (select_by_rowid Entry) read_entry_by_rowid entry _ _ _ _ _ _ _ _ reads_entry_by_rowid nothing takes_entry_by_rowid tt old new has
-fails_to_read (ByRowid Kept) old new has = fails_read (select_by_rowid Kept) read_kept_by_rowid kept _ _ _ _ _ _ _ _ reads_kept_by_rowid nothing takes_kept_by_rowid tt old new has
+reads_some : (n : ℤ) → ReadsScan (EntriesOf n)
+reads_some n = rows_scan (EntriesOf n) read_some_entries _ _ _ _ _ _ _ _ reads_some_entries a_number n refl takes_some_entries
+    (λ old new rows has h. (shown_selects select_some_entries read_some_entries entry _ _ _ _ _ _ _ _ reads_some_entries (λ tree. refl) (Int n ∷ []) (equals_number 1 n) (λ tree row. entry_read tree n row) old new rows has h).0)
+
+reads : (what : Scan) → ReadsScan what
+reads AllEditions = table_scan AllEditions read_edition _ _ _ _ _ _ _ _ reads_edition (λ tree. refl) refl (λ tree row. refl) (λ db rows h. h) takes_edition
+reads AllEntries = table_scan AllEntries read_entry _ _ _ _ _ _ _ _ reads_entry (λ tree. refl) refl (λ tree row. refl) (λ db rows h. h) takes_entry
+reads (EntriesOf n) = reads_some n
+reads AllKept = table_scan AllKept read_kept _ _ _ _ _ _ _ _ reads_kept (λ tree. refl) refl (λ tree row. refl) (λ db rows h. h) takes_kept
+reads KeptById = table_scan KeptById read_kept_by_id _ _ _ _ _ _ _ _ reads_kept_by_id (λ tree. refl) refl (λ tree row. refl) (λ db rows h. h) takes_kept_by_id
+reads (ByRowid Mark) = table_scan (ByRowid Mark) read_mark_by_rowid _ _ _ _ _ _ _ _ reads_mark_by_rowid (λ tree. refl) refl (λ tree row. refl) (λ db rows h. h) takes_mark_by_rowid
+reads (ByRowid Item) = table_scan (ByRowid Item) read_item_by_rowid _ _ _ _ _ _ _ _ reads_item_by_rowid (λ tree. refl) refl (λ tree row. refl) (λ db rows h. h) takes_item_by_rowid
+reads (ByRowid Member) = table_scan (ByRowid Member) read_member_by_rowid _ _ _ _ _ _ _ _ reads_member_by_rowid (λ tree. refl) refl (λ tree row. refl) (λ db rows h. h) takes_member_by_rowid
+reads (ByRowid Edition) = table_scan (ByRowid Edition) read_edition_by_rowid _ _ _ _ _ _ _ _ reads_edition_by_rowid (λ tree. refl) refl (λ tree row. refl) (λ db rows h. h) takes_edition_by_rowid
+reads (ByRowid Entry) = table_scan (ByRowid Entry) read_entry_by_rowid _ _ _ _ _ _ _ _ reads_entry_by_rowid (λ tree. refl) refl (λ tree row. refl) (λ db rows h. h) takes_entry_by_rowid
+reads (ByRowid Kept) = table_scan (ByRowid Kept) read_kept_by_rowid _ _ _ _ _ _ _ _ reads_kept_by_rowid (λ tree. refl) refl (λ tree row. refl) (λ db rows h. h) takes_kept_by_rowid
+reads EditionNumbers = record { parsed = read_numbers; outs = numbers_of; tests = []; order = key_at 0 ∷ []; query = query_numbers; takes = takes_numbers; shows = shows_numbering }
+
+module _ (what : Scan) where
+  abbrev scan : ReadsScan what
+  scan = reads what
+
+  shows : (old new : State) (rows : List Row) → Has (scan_table what) old.now → Shown (scan_text what) (scan_values what) old new rows → IsWhole what old.now rows
+  shows = scan.shows
+
+  plainly : (db : Database) → Has (scan_table what) db → IsPlain (understood db.schema (scan_text what))
+  plainly db has = is_plain (scan_text what) scan.parsed (scan_table what) scan.outs scan.tests scan.order scan.query db.schema has.0 has.1 has.2
+
+  ends : (now : Database) → Has (scan_table what) now → (c : Compiled) → understood now.schema (scan_text what) ≡ Ok c → (db : Database) (params : Row) → EndsIn c.command db params
+  ends now has = ends_in (scan_text what) scan.parsed (scan_table what) scan.outs scan.tests scan.order scan.query now.schema has
+
+  pub fails_to_read : (old new : State) → (IsTrue old.is_open → Has (scan_table what) old.now) → (e : Error) → FailsToQuery (scan_text what) (scan_values what) old new e → FailsToRead old new e
+  fails_to_read old new has = query_fails (scan_text what) scan.parsed (scan_table what) scan.outs scan.tests scan.order scan.query (scan_values what) scan.takes old new has
+
+  none_committed : (params : Row) (s : State) (db : Trees) → ¬ CommitsShowing (scan_text what) params s db
+  none_committed = commits_none (scan_text what) scan.parsed scan.query.select scan.query.read scan.query.statement
+
+  none_returned : (schema : Schema) → ¬ Returns (understood schema (scan_text what))
+  none_returned = never_returns (scan_text what) scan.parsed scan.query.select scan.query.read scan.query.statement
 
 pub still : (old new : State) → IsUnchanged old new → IsUnchanged new new
 still old new same = (record { was_open = same.0.is_open; is_open = same.0.is_open; now_is = refl; committed_is = refl; mode = refl }, record { changes = refl; last_rowid = refl }, refl)
-
-none_committed : (what : Scan) (params : Row) (s : State) (db : Trees) → ¬ CommitsShowing (scan_text what) params s db
-none_committed AllEditions = commits_none select_edition read_edition _ reads_edition.read (reads_edition.statement 0)
-none_committed AllEntries = commits_none select_entry read_entry _ reads_entry.read (reads_entry.statement 0)
-none_committed (EntriesOf n) = commits_none select_some_entries read_some_entries _ reads_some_entries.read (reads_some_entries.statement 0)
-none_committed AllKept = commits_none select_kept read_kept _ reads_kept.read (reads_kept.statement 0)
-none_committed KeptById = commits_none select_kept_by_id read_kept_by_id _ reads_kept_by_id.read (reads_kept_by_id.statement 0)
-none_committed (ByRowid Mark) = commits_none (select_by_rowid Mark) read_mark_by_rowid _ reads_mark_by_rowid.read (reads_mark_by_rowid.statement 0)
-none_committed (ByRowid Item) = commits_none (select_by_rowid Item) read_item_by_rowid _ reads_item_by_rowid.read (reads_item_by_rowid.statement 0)
-none_committed (ByRowid Member) = commits_none (select_by_rowid Member) read_member_by_rowid _ reads_member_by_rowid.read (reads_member_by_rowid.statement 0)
-none_committed (ByRowid Edition) = commits_none (select_by_rowid Edition) read_edition_by_rowid _ reads_edition_by_rowid.read (reads_edition_by_rowid.statement 0)
-none_committed (ByRowid Entry) = commits_none (select_by_rowid Entry) read_entry_by_rowid _ reads_entry_by_rowid.read (reads_entry_by_rowid.statement 0)
-none_committed (ByRowid Kept) = commits_none (select_by_rowid Kept) read_kept_by_rowid _ reads_kept_by_rowid.read (reads_kept_by_rowid.statement 0)
-
-none_returned : (what : Scan) (schema : Schema) → ¬ Returns (understood schema (scan_text what))
-none_returned AllEditions = never_returns select_edition read_edition _ reads_edition.read (reads_edition.statement 0)
-none_returned AllEntries = never_returns select_entry read_entry _ reads_entry.read (reads_entry.statement 0)
-none_returned (EntriesOf n) = never_returns select_some_entries read_some_entries _ reads_some_entries.read (reads_some_entries.statement 0)
-none_returned AllKept = never_returns select_kept read_kept _ reads_kept.read (reads_kept.statement 0)
-none_returned KeptById = never_returns select_kept_by_id read_kept_by_id _ reads_kept_by_id.read (reads_kept_by_id.statement 0)
-none_returned (ByRowid Mark) = never_returns (select_by_rowid Mark) read_mark_by_rowid _ reads_mark_by_rowid.read (reads_mark_by_rowid.statement 0)
-none_returned (ByRowid Item) = never_returns (select_by_rowid Item) read_item_by_rowid _ reads_item_by_rowid.read (reads_item_by_rowid.statement 0)
-none_returned (ByRowid Member) = never_returns (select_by_rowid Member) read_member_by_rowid _ reads_member_by_rowid.read (reads_member_by_rowid.statement 0)
-none_returned (ByRowid Edition) = never_returns (select_by_rowid Edition) read_edition_by_rowid _ reads_edition_by_rowid.read (reads_edition_by_rowid.statement 0)
-none_returned (ByRowid Entry) = never_returns (select_by_rowid Entry) read_entry_by_rowid _ reads_entry_by_rowid.read (reads_entry_by_rowid.statement 0)
-none_returned (ByRowid Kept) = never_returns (select_by_rowid Kept) read_kept_by_rowid _ reads_kept_by_rowid.read (reads_kept_by_rowid.statement 0)
 
 commits_nothing : (what : Scan) (old new : State) → Survives old new (CommitsShowing (scan_text what) (scan_values what) old) → Survives old new (λ _. ⊥)
 commits_nothing what old new s = survives_weaker old new _ _ (λ clean db. none_committed what (scan_values what) old db) s

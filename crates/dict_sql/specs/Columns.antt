@@ -52,3 +52,6 @@ entry_columns = Number ∷ Number ∷ Number ∷ Name ∷ Number ∷ Number ∷ 
 
 abbrev pub kept_columns : List Content
 kept_columns = Number ∷ Name ∷ Number ∷ Name ∷ Name ∷ NumberOrNull ∷ []
+
+abbrev pub number_columns : List Content
+number_columns = Number ∷ Number ∷ []

@@ -9,6 +9,7 @@ use Rattle.dict_records.specs.Records.{Mark, Item, Member, Edition, Entry, Kept}
 use Rattle.dict_records.specs.Typed.{stored_as, owned_mark, owned_item, owned_member, owned_edition, owned_entry, owned_kept}
 use Rattle.dict_records.specs.declared.records.Stored.{Stored}
 use Rattle.dict_records.specs.declared.records as typed
+use Rattle.dict_sql.specs.declared.records.EditionNumber.{EditionNumber}
 
 abbrev pub number_or_null : Option ℤ → Value
 number_or_null = or_null Int
@@ -57,3 +58,6 @@ stored_entry r = stored_row entry_row (stored_as owned_entry r)
 
 abbrev pub stored_kept : Stored (typed.Kept.Kept (String Global)) → Row
 stored_kept r = stored_row kept_row (stored_as owned_kept r)
+
+abbrev pub stored_number : Stored EditionNumber → Row
+stored_number r = stored_row (λ (e : EditionNumber). Int e.number ∷ []) r

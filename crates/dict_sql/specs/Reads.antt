@@ -1,5 +1,5 @@
 -- The texts that read a table, in which order its rows come, and why it isn't read.
-use Rattle.std.specs.Prelude.{◌≡◌, ◌⊎◌, ℕ, List, [], ◌∷◌, codes, Bool, filter, IsSome, IsPermutation, IsSorted}
+use Rattle.std.specs.Prelude.{◌≡◌, ◌⊎◌, ℕ, List, [], ◌∷◌, codes, Bool, filter, map, IsSome, IsPermutation, IsSorted}
 use Rattle.std.specs.List.{Contains}
 use Rattle.std.specs.declared.cmp.Ordering.{Ordering}
 use Rattle.std.specs.declared.cmp.Ordering.TheVariants.{Equal}
@@ -47,6 +47,10 @@ select_by_rowid Edition = codes "SELECT rowid, * FROM edition ORDER BY 1"
 select_by_rowid Entry = codes "SELECT rowid, * FROM entry ORDER BY 1"
 select_by_rowid Kept = codes "SELECT rowid, * FROM kept ORDER BY 1"
 
+-- the editions, without their texts
+abbrev pub select_numbers : List ℕ
+select_numbers = codes "SELECT rowid, number FROM edition ORDER BY 1"
+
 -- the order of rows by these columns, where the rowid is column 0
 abbrev pub by_columns : List ℕ → Row → Row → Ordering
 by_columns [] a b = Equal
@@ -56,6 +60,15 @@ by_columns (c ∷ cs) a b = ordering_then (value_cmp (column a c) (column b c)) 
 pub record IsListing (name : List ℕ) (columns : List ℕ) (db : Database) (rows : List Row) : Type 0 where
   pub same : IsPermutation (rows_of name db) rows
   pub sorted : IsSorted (by_columns columns) rows
+
+-- of the row of an edition, its rowid and its number
+abbrev pub numbered : Row → Row
+numbered r = column r 0 ∷ column r 1 ∷ []
+
+-- the rowid and the number of each edition, and nothing else, in the order of the rowids
+pub record IsNumbering (db : Database) (rows : List Row) : Type 0 where
+  pub same : IsPermutation (map numbered (rows_of (codes "edition") db)) rows
+  pub sorted : IsSorted (by_columns (0 ∷ [])) rows
 
 abbrev pub select_one_edition : List ℕ
 select_one_edition = codes "SELECT rowid, * FROM edition WHERE number = ?1 ORDER BY 2"

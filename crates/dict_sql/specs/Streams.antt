@@ -17,7 +17,7 @@ use Rattle.dict_sql.specs.Effects.{Has, equals_number}
 use Rattle.dict_sql.specs.Columns.{Content, HasColumns}
 use Rattle.dict_sql.specs.declared.records.ReadError.{ReadError}
 use Rattle.dict_sql.specs.declared.records.ReadError.TheVariants.{NoRecord, Store}
-use Rattle.dict_sql.specs.Reads.{IsListing, IsSelection, FailsToRead, select_edition, select_entry, select_some_entries, select_kept, select_kept_by_id, select_by_rowid}
+use Rattle.dict_sql.specs.Reads.{IsListing, IsSelection, IsNumbering, FailsToRead, select_edition, select_entry, select_some_entries, select_kept, select_kept_by_id, select_by_rowid, select_numbers}
 
 -- which rows of a large table are read, one at a time
 pub data Scan : Type 0 where
@@ -27,6 +27,7 @@ pub data Scan : Type 0 where
   AllKept : Scan
   KeptById : Scan
   ByRowid : StoreTable → Scan
+  EditionNumbers : Scan
 
 abbrev pub scan_table : Scan → ℕ → Table
 scan_table AllEditions = edition
@@ -35,6 +36,7 @@ scan_table (EntriesOf number) = entry
 scan_table AllKept = kept
 scan_table KeptById = kept
 scan_table (ByRowid table) = table_of table
+scan_table EditionNumbers = edition
 
 -- the text that is run, and the values that it is given
 abbrev pub scan_text : Scan → List ℕ
@@ -44,6 +46,7 @@ scan_text (EntriesOf number) = select_some_entries
 scan_text AllKept = select_kept
 scan_text KeptById = select_kept_by_id
 scan_text (ByRowid table) = select_by_rowid table
+scan_text EditionNumbers = select_numbers
 
 abbrev pub scan_values : Scan → Row
 scan_values (EntriesOf number) = Int number ∷ []
@@ -57,6 +60,7 @@ IsWhole (EntriesOf number) db rows = IsSelection (codes "entry") (equals_number 
 IsWhole AllKept db rows = IsListing (codes "kept") (2 ∷ []) db rows
 IsWhole KeptById db rows = IsListing (codes "kept") (1 ∷ []) db rows
 IsWhole (ByRowid table) db rows = IsListing (table_of table 0).name (0 ∷ []) db rows
+IsWhole EditionNumbers db rows = IsNumbering db rows
 
 -- the first of these rows
 abbrev pub IsFront : Scan → Database → List Row → Type 0

@@ -5,8 +5,8 @@ ghost use Rattle.sqlite.specs.declared.error.ErrorCode.TheVariants.{OutOfMemory 
 ghost use Rattle.sqlite.specs.declared.types.Value.{Value as SqlValue};
 ghost use Rattle.sqlite.specs.declared.types.Value.TheVariants.{Int};
 ghost use Rattle.sqlite.specs.Order.{column};
-ghost use Rattle.dict_sql.specs.Encodings.{stored_mark, stored_item, stored_member, stored_edition, stored_entry, stored_kept};
-ghost use Rattle.dict_sql.specs.Columns.{Content, HasColumns, mark_columns, item_columns, member_columns, edition_columns, entry_columns, kept_columns};
+ghost use Rattle.dict_sql.specs.Encodings.{stored_mark, stored_item, stored_member, stored_edition, stored_entry, stored_kept, stored_number};
+ghost use Rattle.dict_sql.specs.Columns.{Content, HasColumns, mark_columns, item_columns, member_columns, edition_columns, entry_columns, kept_columns, number_columns};
 ghost use Rattle.dict_sql.specs.Reads.{FailsToDecode};
 
 use dict_records::{Edition, Entry, Item, Kept, Mark, Member, Stored};
@@ -60,6 +60,12 @@ impl<T: Drop> From<AllocFailed<T>> for ReadError {
     fn from(_: AllocFailed<T>) -> ReadError {
         ReadError::Store(Error::SqliteFailure(ErrorCode::OutOfMemory))
     }
+}
+
+/// The number of an edition, read without its texts.
+#[derive(Clone, Copy, Debug, PartialEq, Eq)]
+pub struct EditionNumber {
+    pub number: i64,
 }
 
 /// A record that is read from a row: the rowid, and then the columns in their order.
@@ -251,6 +257,28 @@ impl Record for Stored<Kept<String>> {
                 name: cell(row, 4)?,
                 edition: cell(row, 5)?,
             },
+        })
+    }
+
+    fn rowid(&self) -> i64 {
+        self.rowid
+    }
+}
+
+impl Record for Stored<EditionNumber> {
+    ghost stored = { stored_number };
+
+    ghost columns = { number_columns };
+
+    fn from_row(row: &Row) -> Result<Self, ReadError> {
+        if row.column_count() != 2 {
+            return Err(ReadError::NoRecord);
+        }
+        let rowid = cell(row, 0)?;
+        let number = cell(row, 1)?;
+        Ok(Stored {
+            rowid,
+            value: EditionNumber { number },
         })
     }
 

@@ -13,7 +13,7 @@ ghost use Rattle.dict_tables.specs.Tables.{edition as edition_table, entry, kept
 ghost use Rattle.dict_sql.specs.Reads.{select_by_rowid};
 ghost use Rattle.dict_sql.specs.Effects.{Has, WhileOpen};
 ghost use Rattle.dict_sql.specs.Streams.{Scan, HasGiven, GivesOn, FailsToGive, FailsToMove, IsNotBegun};
-ghost use Rattle.dict_sql.specs.Streams.Scan.{AllEditions, AllEntries, EntriesOf, AllKept, KeptById, ByRowid};
+ghost use Rattle.dict_sql.specs.Streams.Scan.{AllEditions, AllEntries, EntriesOf, AllKept, KeptById, ByRowid, EditionNumbers};
 
 use crate::records::{ReadError, Record};
 use dict_tables::StoreTable;
@@ -123,6 +123,20 @@ pub fn read_by_rowid<S: Alter>(
     ensures survives { IfOk result (λ rows. Survives (state S.Store conn.old) (state S.Store rows.conn.now) (λ _. ⊥)) }
 {
     conn.query(text_by_rowid(table), &[])
+}
+
+/// Begins to read the rowids and the numbers of all editions, without their texts, in the order of the rowids.
+///
+/// An error is the store's, or tells that the limit on steps was met.
+pub fn read_edition_numbers<S: Alter>(conn: &mut Connection<S>) -> Result<Rows<'_, S>, Error>
+    requires { WhileOpen (state S.Store conn.old) (Has edition_table) }
+    ensures* refused { sem 𝓛 (RestsIfErr (the_row S.row S.Store) conn.entry (λ rows. rows.conn.ghost_name) result (IsNotBegun S.Store conn.old result)) }
+    ensures same_reference { IfOk result (λ rows. rows.conn.ghost_name ≡ conn.entry.ghost_name) }
+    ensures begun { IfOk result (λ rows. HasCleanDisk (state S.Store rows.conn.now) → HasGiven S.Store EditionNumbers rows.conn.now [] × IsUnchanged (state S.Store conn.old) (state S.Store rows.conn.now)) }
+    ensures mode { IfOk result (λ rows. conn.old.in_transaction ≡ false → rows.conn.now.in_transaction ≡ false) }
+    ensures survives { IfOk result (λ rows. Survives (state S.Store conn.old) (state S.Store rows.conn.now) (λ _. ⊥)) }
+{
+    conn.query("SELECT rowid, number FROM edition ORDER BY 1", &[])
 }
 
 /// The next record, or none after the last.

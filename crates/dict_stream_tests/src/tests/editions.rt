@@ -12,8 +12,8 @@ use dict_sql::commit::commit;
 use dict_sql::delete::delete_edition;
 use dict_sql::insert::insert_edition;
 use dict_sql::read::editions_numbered;
-use dict_sql::records::ReadError;
-use dict_sql::stream::read_editions;
+use dict_sql::records::{EditionNumber, ReadError};
+use dict_sql::stream::{read_edition_numbers, read_editions};
 use dict_tables::{StoreTable, has_table};
 use sqlite::{Alter, Connection, Error};
 use std::alloc::Global;
@@ -78,6 +78,18 @@ fn all<S: Alter>(
     rest(alloc, &mut rows)
 }
 
+// The rowids and the numbers.
+fn numbers<S: Alter>(
+    alloc: Global,
+    conn: &mut Connection<S>,
+) -> Result<Vec<Stored<EditionNumber>>, ReadError> {
+    if !has_table(conn.schema(), StoreTable::Edition) {
+        return Err(ReadError::Store(Error::InvalidQuery));
+    }
+    let mut rows = read_edition_numbers(conn)?;
+    rest(alloc, &mut rows)
+}
+
 /// Taking one edition out leaves the others. Texts may be empty, and have quote signs and control characters.
 pub(crate) fn run<S: Alter>(
     rt: &impl Abort,
@@ -96,6 +108,10 @@ pub(crate) fn run<S: Alter>(
     assert_eq!(rt; second[0].value.body.as_slice(), b"\0\xff'\"".as_slice());
     let left = all(alloc, conn)?;
     assert_eq!(rt; left.len(), 2);
+    let both = numbers(alloc, conn)?;
+    assert_eq!(rt; both.len(), 2);
+    assert_eq!(rt; (both[0].rowid, both[0].value.number), (2, 2));
+    assert_eq!(rt; (both[1].rowid, both[1].value.number), (3, 3));
     let last = &left[1].value;
     assert_eq!(rt; (left[0].value.number, last.number), (2, 3));
     assert_eq!(rt;

@@ -2,11 +2,11 @@ use Rattle.std.proofs.Common.{◌≡◌, rules, sym, subst}
 use Rattle.std.proofs.lemmas.Result.{on_ok_weaker}
 use Rattle.sqlite.specs.State.{HasCleanDisk}
 use Rattle.sqlite.specs.Held.{state}
-use Rattle.dict_sql.specs.Streams.Scan.{AllEditions}
-use Rattle.dict_sql.specs.Encodings.{stored_edition}
-use Rattle.dict_sql.specs.Columns.{edition_columns}
+use Rattle.dict_sql.specs.Streams.Scan.{EditionNumbers}
+use Rattle.dict_sql.specs.Encodings.{stored_number}
+use Rattle.dict_sql.specs.Columns.{number_columns}
 use Rattle.dict_opening.specs.Scans.{TakesAll, IsWrong}
-use Rattle.dict_opening.specs.Takers.{takes_known, refuses_stray, edition_number}
+use Rattle.dict_opening.specs.Takers.{takes_known, refuses_stray, number_given}
 use Rattle.dict_opening.proofs.TestLemmas.{known_whole, stray_found}
 use Rattle.dict_opening.specs.Reading.{OnlyReads}
 use Rattle.dict_opening.proofs.BeginLemmas.{reads_on, whole_on, damaged_on}
@@ -20,7 +20,7 @@ returns-clause-reads g c =
     let end = c.take_all.new.rows.conn.now in
     let same : end ≡ c.conn-2-1.given.0 = search rules in
     subst (λ h. OnlyReads (state g.S.Store old) (state g.S.Store h)) same
-    (reads_on g.S.Store AllEditions old mid end c.in-Ok.ensures.begun c.take_all.ensures.survives c.in-Ok.ensures.mode c.in-Ok.ensures.survives c.take_all.ensures.mode c.take_all.ensures.stays)
+    (reads_on g.S.Store EditionNumbers old mid end c.in-Ok.ensures.begun c.take_all.ensures.survives c.in-Ok.ensures.mode c.in-Ok.ensures.survives c.take_all.ensures.mode c.take_all.ensures.stays)
 
 pub returns-clause-whole : goal.returns-clause-whole
 returns-clause-whole g c clean =
@@ -29,7 +29,7 @@ returns-clause-whole g c clean =
     let end = c.take_all.new.rows.conn.now in
     let same : end ≡ c.conn-2-1.given.0 = search rules in
     let late : HasCleanDisk (state g.S.Store end) = subst (λ h. HasCleanDisk (state g.S.Store h)) (sym same) clean in
-    on_ok_weaker c.take_all.result (λ all. known_whole stored_edition edition_number AllEditions (state g.S.Store old).now (record { reader = c.args.reader }) c.take_all.new.taker all) (whole_on g.S.Store AllEditions old mid end c.in-Ok.ensures.begun c.take_all.ensures.survives c.take_all.result (λ what db. TakesAll stored_edition (takes_known edition_number) what db (record { reader = c.args.reader }) c.take_all.new.taker) c.take_all.ensures.whole late)
+    on_ok_weaker c.take_all.result (λ all. known_whole stored_number number_given EditionNumbers (state g.S.Store old).now (record { reader = c.args.reader }) c.take_all.new.taker all) (whole_on g.S.Store EditionNumbers old mid end c.in-Ok.ensures.begun c.take_all.ensures.survives c.take_all.result (λ what db. TakesAll stored_number (takes_known number_given) what db (record { reader = c.args.reader }) c.take_all.new.taker) c.take_all.ensures.whole late)
 
 pub returns-clause-damaged : goal.returns-clause-damaged
 returns-clause-damaged g c clean =
@@ -38,4 +38,4 @@ returns-clause-damaged g c clean =
     let end = c.take_all.new.rows.conn.now in
     let same : end ≡ c.conn-2-1.given.0 = search rules in
     let late : HasCleanDisk (state g.S.Store end) = subst (λ h. HasCleanDisk (state g.S.Store h)) (sym same) clean in
-    if_err_then _ _ c.take_all.result (λ fault wrong is. stray_found stored_edition edition_columns edition_number AllEditions (state g.S.Store old).now (record { reader = c.args.reader }) (wrong is)) (damaged_on g.S.Store AllEditions old mid end c.in-Ok.ensures.begun c.take_all.ensures.survives c.take_all.result (λ what db. IsWrong stored_edition edition_columns (refuses_stray edition_number) what db (record { reader = c.args.reader })) c.take_all.ensures.damaged late)
+    if_err_then _ _ c.take_all.result (λ fault wrong is. stray_found stored_number number_columns number_given EditionNumbers (state g.S.Store old).now (record { reader = c.args.reader }) (wrong is)) (damaged_on g.S.Store EditionNumbers old mid end c.in-Ok.ensures.begun c.take_all.ensures.survives c.take_all.result (λ what db. IsWrong stored_number number_columns (refuses_stray number_given) what db (record { reader = c.args.reader })) c.take_all.ensures.damaged late)

@@ -1,0 +1,42 @@
+use Rattle.std.proofs.Common.{◌≡◌, rules, sym, subst}
+use Rattle.std.proofs.lemmas.Result.{on_ok_weaker}
+use Rattle.sqlite.specs.State.{HasCleanDisk}
+use Rattle.sqlite.specs.Held.{state}
+use Rattle.dict_sql.specs.Streams.Scan.{EditionNumbers}
+use Rattle.dict_sql.specs.Columns.{number_columns}
+use Rattle.dict_sql.specs.Encodings.{stored_number}
+use Rattle.dict_opening.specs.Scans.{TakesAll, IsWrong}
+use Rattle.dict_opening.specs.Takers.{takes_rowids, refuses_rowids}
+use Rattle.dict_opening.proofs.RowidLemmas.{numbers_whole}
+use Rattle.dict_opening.proofs.TestLemmas.{numbers_found}
+use Rattle.dict_opening.specs.Reading.{OnlyReads}
+use Rattle.dict_opening.proofs.BeginLemmas.{reads_on, whole_on, damaged_on}
+use Rattle.dict_opening.proofs.TakerLemmas.{if_err_then}
+use Rattle.dict_opening.proofs.tables.test_edition_rowids.Goals as goal
+
+pub returns-clause-reads : goal.returns-clause-reads
+returns-clause-reads g c =
+    let old = c.args.conn.now in
+    let mid = c.in-Ok.rows.conn.now in
+    let end = c.take_all.new.rows.conn.now in
+    let same : end ≡ c.conn-2-1.given.0 = search rules in
+    subst (λ h. OnlyReads (state g.S.Store old) (state g.S.Store h)) same
+    (reads_on g.S.Store EditionNumbers old mid end c.in-Ok.ensures.begun c.take_all.ensures.survives c.in-Ok.ensures.mode c.in-Ok.ensures.survives c.take_all.ensures.mode c.take_all.ensures.stays)
+
+pub returns-clause-whole : goal.returns-clause-whole
+returns-clause-whole g c clean =
+    let old = c.args.conn.now in
+    let mid = c.in-Ok.rows.conn.now in
+    let end = c.take_all.new.rows.conn.now in
+    let same : end ≡ c.conn-2-1.given.0 = search rules in
+    let late : HasCleanDisk (state g.S.Store end) = subst (λ h. HasCleanDisk (state g.S.Store h)) (sym same) clean in
+    on_ok_weaker c.take_all.result (λ all. numbers_whole (state g.S.Store old).now c.new.result c.take_all.new.taker c.new.ensures all) (whole_on g.S.Store EditionNumbers old mid end c.in-Ok.ensures.begun c.take_all.ensures.survives c.take_all.result (λ what db. TakesAll stored_number (takes_rowids stored_number) what db c.new.result c.take_all.new.taker) c.take_all.ensures.whole late)
+
+pub returns-clause-damaged : goal.returns-clause-damaged
+returns-clause-damaged g c clean =
+    let old = c.args.conn.now in
+    let mid = c.in-Ok.rows.conn.now in
+    let end = c.take_all.new.rows.conn.now in
+    let same : end ≡ c.conn-2-1.given.0 = search rules in
+    let late : HasCleanDisk (state g.S.Store end) = subst (λ h. HasCleanDisk (state g.S.Store h)) (sym same) clean in
+    if_err_then _ _ c.take_all.result (λ fault wrong is. numbers_found (state g.S.Store old).now c.new.result c.new.ensures (wrong is)) (damaged_on g.S.Store EditionNumbers old mid end c.in-Ok.ensures.begun c.take_all.ensures.survives c.take_all.result (λ what db. IsWrong stored_number number_columns (refuses_rowids stored_number) what db c.new.result) c.take_all.ensures.damaged late)
