@@ -1,5 +1,5 @@
 -- What `column = ?n`, `column >= ?n` and `column <= ?n` stand for, joined by AND, over any schema that has the table.
-use Rattle.std.proofs.Common.{◌≡◌, ℕ, suc, ◌-◌, List, [], ◌∷◌, true, false, Some, None, Option, Ok, refl, slice_get, nat_lt}
+use Rattle.std.proofs.Common.{◌≡◌, ℕ, suc, ◌-◌, List, true, false, Some, None, Ok, refl, slice_get, nat_lt}
 use Rattle.sqlite.specs.Term.{Term, col, op2}
 use Rattle.sqlite.specs.Table.{Table}
 use Rattle.sqlite.specs.Schema.{Schema}
@@ -7,8 +7,7 @@ use Rattle.sqlite_sql.specs.declared.ops.BinaryOp.{BinaryOp}
 use Rattle.sqlite_sql.specs.declared.ops.BinaryOp.TheVariants as by
 use Rattle.sqlite_value.specs.declared.keys.Collation.TheVariants.{Binary as Plain}
 use Rattle.sqlite_resolve.specs.Scope.{Name, column, Context, find as find_name, in_level, only, hit, column_in, term_of, column_at, declared, is_among}
-use Rattle.sqlite_resolve.specs.Expr.{lower_to, lower, node, opened, passes, operation, both, wanted_truth, tests_truth, tests_alias, combine}
-use Rattle.sqlite_resolve.specs.Compare.{compared}
+use Rattle.sqlite_resolve.specs.Expr.{lower_to, node, opened, passes, operation, both, wanted_truth, tests_truth, tests_alias, combine}
 use Rattle.sqlite_resolve.specs.Lowering.{spend, begin, finish, nothing, chosen}
 use Rattle.sqlite_resolve.specs.declared.state.State.{State}
 use Rattle.sqlite_resolve.specs.declared.scope.Output.{Output}

@@ -1,5 +1,5 @@
 -- The texts that read the entries of an edition by their keys.
-use Rattle.std.proofs.Common.{◌≡◌, ◌≤◌, ◌&&◌, ℕ, ℤ, Bool, List, [], ◌∷◌, codes, true, false, not, Some, None, Ok, refl, ap, ◌∙◌, lit≤, Ordering, Less, Equal, Greater, slice_get}
+use Rattle.std.proofs.Common.{◌≡◌, ◌&&◌, ℕ, ℤ, Bool, List, [], ◌∷◌, codes, true, false, not, Some, Ok, refl, ap, ◌∙◌, lit≤, Ordering, Less, Equal, Greater, slice_get}
 use Rattle.std.specs.Ordering.{is_eq, is_lt, is_gt}
 use Rattle.sqlite.specs.declared.types.Value.{Value}
 use Rattle.sqlite.specs.declared.types.Value.TheVariants.{Null, Int, Real, Text, Blob}

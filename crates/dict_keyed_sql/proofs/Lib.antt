@@ -1,6 +1,7 @@
 pub mod ConditionLemmas
 pub mod CreateTexts
 pub mod DeleteTexts
+pub mod IndexTexts
 pub mod InsertTexts
 pub mod InsideLemmas
 pub mod KeyTexts

@@ -1,5 +1,5 @@
 -- What follows of rows that are read one at a time.
-use Rattle.std.proofs.Common.{◌≡◌, ◌++◌, List, [], ◌∷◌, Ok, Err, Some, None, Option, Result, IfOk, IfErr, OnOk, OnErr, IsTrue, option_map, inl, inr, refl, sym, ap, subst, arith, ℤ}
+use Rattle.std.proofs.Common.{◌≡◌, ◌++◌, List, [], ◌∷◌, Ok, Err, Some, None, Option, Result, IfOk, IfErr, OnOk, OnErr, IsTrue, option_map, inl, inr, refl, sym, ap, subst, arith}
 use Rattle.sqlite.specs.Order.{Row}
 use Rattle.sqlite.specs.declared.types.Value.TheVariants.{Int, Blob as Bytes}
 use Rattle.sqlite.specs.declared.error.Error.{Error}
@@ -17,7 +17,7 @@ use Rattle.sqlite.proofs.Callers.{IsPlain, EndsIn, begins_shown, given_begin, be
 use Rattle.sqlite_trees.specs.declared.store.Store.{Ghosts}
 use Rattle.sqlite_resolve.specs.declared.compiled.Compiled.{Compiled}
 use Rattle.dict_sql.specs.Columns.{Content}
-use Rattle.dict_sql.specs.Effects.{Has, WhileOpen, equals_number}
+use Rattle.dict_sql.specs.Effects.{Has, WhileOpen}
 use Rattle.dict_sql.specs.Reads.{FailsToRead}
 use Rattle.dict_sql.specs.Streams.{IsNotBegun, FailsToMove}
 use Rattle.dict_sql.specs.declared.records.ReadError.{ReadError}
@@ -29,7 +29,7 @@ use Rattle.dict_sql.proofs.SilentLemmas.{commits_none, never_returns}
 use Rattle.dict_sql.proofs.StreamLemmas.{still}
 use Rattle.dict_keyed_sql.specs.Tables.{entry, word, gram}
 use Rattle.dict_keyed_sql.specs.Texts.{list_text, select_text, key_text, range_text, reversed_text}
-use Rattle.dict_keyed_sql.specs.Scans.{Scan, scan_table, scan_text, scan_values, scan_test, IsWhole, IsFront, HasGiven, GivesOn, Passes, FailsToGive}
+use Rattle.dict_keyed_sql.specs.Scans.{Scan, scan_table, scan_text, scan_values, scan_test, IsWhole, IsFront, HasGiven, GivesOn, FailsToGive}
 use Rattle.dict_keyed_sql.specs.Scans.Scan.{All, Of, WithKey, Between, BetweenReversed}
 use Rattle.dict_keyed_sql.specs.declared.tables.KeyedTable.TheVariants as keyed
 use Rattle.dict_keyed_sql.proofs.KeyTexts.{a_key, a_range, read_by_key, reads_by_key, takes_by_key, is_with_key, read_by_range, reads_by_range, takes_by_range, is_in_range, read_by_reversed, reads_by_reversed, takes_by_reversed, is_in_reversed_range}

@@ -1,3 +1,4 @@
+pub mod Indexes
 pub mod Scans
 pub mod Tables
 pub mod Texts

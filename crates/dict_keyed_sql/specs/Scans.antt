@@ -1,5 +1,5 @@
 -- What is read row by row, and what it has given so far.
-use Rattle.std.specs.Prelude.{◌≡◌, ◌⊎◌, ℕ, ℤ, Bool, true, not, ◌&&◌, List, [], ◌∷◌, ◌++◌, codes, Option, Some, None}
+use Rattle.std.specs.Prelude.{◌≡◌, ◌⊎◌, ℕ, ℤ, Bool, true, not, ◌&&◌, List, [], ◌∷◌, ◌++◌, Option, Some, None}
 use Rattle.std.specs.Ordering.{is_lt, is_gt}
 use Rattle.sqlite.specs.declared.types.Value.TheVariants.{Int, Blob as Bytes}
 use Rattle.sqlite.specs.declared.error.Error.TheVariants.{SqliteFailure}

@@ -4,6 +4,7 @@
 mod create;
 mod delete;
 mod found;
+mod indexes;
 mod insert;
 mod inside;
 mod scan;
@@ -12,6 +13,7 @@ mod tables;
 pub use create::create_keyed_table;
 pub use delete::{delete_grams, delete_keyed_entries, delete_words};
 pub use found::has_keyed_table;
+pub use indexes::{KeyIndex, create_key_index};
 pub use insert::{insert_gram, insert_keyed_entry, insert_word};
 pub use inside::entries_inside;
 pub use scan::{
