@@ -12,6 +12,7 @@ pub mod JoinFaults
 pub mod JoinLemmas
 pub mod JoinParts
 pub mod KeyTexts
+pub mod OnceLemmas
 pub mod ReadTexts
 pub mod ScanLemmas
 pub mod TableLemmas

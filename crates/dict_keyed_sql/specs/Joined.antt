@@ -1,5 +1,6 @@
 -- The entries that the rows of `word` and `gram` stand for.
-use Rattle.std.specs.Prelude.{ℕ, ℤ, Bool, false, ◌&&◌, List, filter, flat_map, codes, IsPermutation, IsSorted}
+use Rattle.std.specs.Prelude.{ℕ, ℤ, Bool, false, ◌&&◌, List, filter, flat_map, map, codes, IsPermutation, IsSorted}
+use Rattle.std.specs.List.{list_any, IsDistinct}
 use Rattle.sqlite.specs.declared.types.Value.{Value}
 use Rattle.sqlite.specs.declared.types.Value.TheVariants.{Null, Blob as Bytes}
 use Rattle.sqlite.specs.Order.{Row, column}
@@ -40,3 +41,21 @@ with_grams edition a b db =
 pub record IsArranged (found : List Row) (columns : List ℕ) (rows : List Row) : Type 0 where
   pub same : IsPermutation found rows
   pub sorted : IsSorted (by_columns columns) rows
+
+-- ---- where each entry comes once
+
+-- some of these rows names the entry's place
+abbrev pub is_named : List Row → Row → Bool
+is_named rows entry = list_any (λ r. equal_values (column entry 2) (column r 3)) rows
+
+-- no two of these rows name one place
+abbrev pub NameApart : List Row → Type 0
+NameApart rows = IsDistinct equal_values (map (λ r. column r 3) rows)
+
+-- the rows of a table that have a piece
+abbrev pub rows_with : List ℕ → ℤ → List ℕ → Database → List Row
+rows_with name edition piece db = filter (has_piece edition piece) (rows_of name db)
+
+-- the entries of an edition that pass a test, each once
+abbrev pub entries_where : ℤ → (Row → Bool) → Database → List Row
+entries_where edition test db = filter (λ e. equals_number 1 edition e && test e) (rows_of (codes "entry") db)
