@@ -5,6 +5,7 @@ pub mod EqualLemmas
 pub mod GramAnswers
 pub mod GramTexts
 pub mod IndexTexts
+pub mod IndexedLemmas
 pub mod InsertTexts
 pub mod InsideLemmas
 pub mod JoinAnswers

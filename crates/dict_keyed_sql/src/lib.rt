@@ -17,7 +17,7 @@ pub use found::has_keyed_table;
 pub use indexes::{KeyIndex, create_key_index};
 pub use insert::{insert_gram, insert_keyed_entry, insert_word};
 pub use inside::entries_inside;
-pub use laws::once_laws;
+pub use laws::{index_laws, once_laws};
 pub use scan::{
     next_keyed, read_between, read_between_reversed, read_rows, read_rows_of, read_with_grams,
     read_with_key, read_with_word,
