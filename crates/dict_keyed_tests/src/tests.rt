@@ -16,6 +16,7 @@ mod grams;
 mod indexes;
 mod inside;
 mod joined;
+mod search;
 mod tables;
 mod words;
 
@@ -75,6 +76,13 @@ fn in_memory(rt: HostRuntime) -> Result<(), Fail> {
     let mut conn = Connection::open_in_memory(alloc)?;
     run(&rt, alloc, &mut conn)?;
     look(&rt, alloc, &mut conn)
+}
+
+#[test]
+fn selections_find_what_the_list_has(rt: HostRuntime) -> Result<(), Fail> {
+    let alloc = rt.alloc();
+    let mut conn = Connection::open_in_memory(alloc)?;
+    search::run(&rt, alloc, &mut conn)
 }
 
 #[test]

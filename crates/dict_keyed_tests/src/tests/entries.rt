@@ -71,7 +71,7 @@ fn add<S: Alter>(
 
 /// Which entries of the table are read.
 #[derive(Clone, Copy)]
-enum Wanted<'a> {
+pub(crate) enum Wanted<'a> {
     All,
     Of(i64),
     Key(&'a [u8]),
@@ -79,10 +79,11 @@ enum Wanted<'a> {
     Reversed(&'a [u8], &'a [u8]),
 }
 
-type Read = Vec<Stored<KeyedEntry<String, Vec<u8>>>>;
+/// The entries that were read.
+pub(crate) type Read = Vec<Stored<KeyedEntry<String, Vec<u8>>>>;
 
-// Those of the first edition, where they are found by their keys.
-fn read<S: Alter>(
+/// Reads them: those of the first edition, where they are found by their keys.
+pub(crate) fn read<S: Alter>(
     alloc: Global,
     conn: &mut Connection<S>,
     wanted: &Wanted<'_>,

@@ -1,17 +1,16 @@
 //! The entries that are found by the rows of `word` and `gram`, with the tables as the tests of each have filled them.
 
+use super::entries::Read;
 use super::rest;
 use dict_keyed_sql::{KeyedTable, has_keyed_table, read_with_grams, read_with_word};
-use dict_records::{KeyedEntry, Stored};
 use dict_sql::records::ReadError;
 use sqlite::{Alter, Connection, Error};
 use std::alloc::Global;
 use std::process::Abort;
 use std::test::Fail;
 
-type Read = Vec<Stored<KeyedEntry<String, Vec<u8>>>>;
-
-fn with_word<S: Alter>(
+/// The entries of an edition that have a word.
+pub(crate) fn with_word<S: Alter>(
     alloc: Global,
     conn: &mut Connection<S>,
     edition: i64,
@@ -26,7 +25,8 @@ fn with_word<S: Alter>(
     rest(alloc, &mut rows)
 }
 
-fn with_grams<S: Alter>(
+/// The entries of an edition that have two grams.
+pub(crate) fn with_grams<S: Alter>(
     alloc: Global,
     conn: &mut Connection<S>,
     edition: i64,
