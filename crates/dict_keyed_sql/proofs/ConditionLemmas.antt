@@ -1,103 +1,98 @@
--- What `column = ?n`, `column >= ?n` and `column <= ?n` stand for, joined by AND, over any schema that has the table.
-use Rattle.std.proofs.Common.{◌≡◌, ℕ, suc, ◌-◌, List, [], ◌∷◌, true, false, Some, None, Option, Ok, refl, slice_get, nat_lt}
+-- What a name, a parameter and two expressions around an operator stand for, wherever names are read.
+use Rattle.std.proofs.Common.{◌≡◌, ℕ, suc, ◌-◌, [], true, false, None, Option, Ok, refl, nat_lt}
 use Rattle.sqlite.specs.Term.{Term, col, op2}
-use Rattle.sqlite.specs.Table.{Table}
-use Rattle.sqlite.specs.Schema.{Schema}
-use Rattle.sqlite_sql.specs.declared.ops.BinaryOp.{BinaryOp}
 use Rattle.sqlite_sql.specs.declared.ops.BinaryOp.TheVariants as by
-use Rattle.sqlite_value.specs.declared.keys.Collation.TheVariants.{Binary as Plain}
-use Rattle.sqlite_resolve.specs.Scope.{Name, column, Context, find as find_name, in_level, only, hit, column_in, term_of, column_at, declared, is_among}
-use Rattle.sqlite_resolve.specs.Expr.{lower_to, lower, node, opened, passes, operation, both, wanted_truth, tests_truth, tests_alias, combine}
-use Rattle.sqlite_resolve.specs.Compare.{compared}
+use Rattle.sqlite_resolve.specs.Scope.{Name, column, Context}
+use Rattle.sqlite_resolve.specs.Expr.{lower_to, node, opened, passes, operation, both, wanted_truth, tests_truth, tests_alias, combine}
 use Rattle.sqlite_resolve.specs.Lowering.{spend, begin, finish, nothing, chosen}
 use Rattle.sqlite_resolve.specs.declared.state.State.{State}
-use Rattle.sqlite_resolve.specs.declared.scope.Output.{Output}
 use Rattle.sqlite_resolve.specs.declared.state.Carried.{Carried}
-use Rattle.sqlite_schema.specs.Names.{column_named, place_of}
-use Rattle.sqlite_schema.specs.declared.schema.Column.{Column}
 use Rattle.sqlite_tied.specs.Compute.{everything}
 use Rattle.sqlite_ast.specs.declared.Expr.{Expr, out-Expr, roll-Expr}
 use Rattle.sqlite_ast.specs.declared.Expr.TheOpen.{Expr-F}
 use Rattle.sqlite_ast.specs.declared.Binary.{Binary}
 use Rattle.sqlite_ast.specs.declared.Binary.TheVariants as binary
-use Rattle.dict_sql.proofs.DeleteLemmas.{column_expr}
-use Rattle.dict_sql.proofs.ReadLemmas.{context_of, plainly}
+
+unfoldable pub name_expr : Option Name → Name → Expr
+name_expr table name = roll-Expr (Expr-F.Column table name)
 
 unfoldable pub given_expr : ℕ → Expr
 given_expr n = roll-Expr (Expr-F.Parameter n)
 
-unfoldable pub compare_expr : Binary → Name → ℕ → Expr
-compare_expr op name n = roll-Expr (Expr-F.Binary op (column_expr name) (given_expr n))
+unfoldable pub binary_expr : Binary → Expr → Expr → Expr
+binary_expr op a b = roll-Expr (Expr-F.Binary op a b)
 
-unfoldable pub and_expr : Expr → Expr → Expr
-and_expr a b = roll-Expr (Expr-F.Binary binary.And a b)
+-- `column op ?n`
+abbrev pub compare_expr : Binary → Option Name → Name → ℕ → Expr
+compare_expr op table name n = binary_expr op (name_expr table name) (given_expr n)
 
-out_column : (name : Name) → out-Expr (column_expr name) ≡ Expr-F.Column None name
-unfolding everything column_expr
-out_column name = refl
+abbrev pub and_expr : Expr → Expr → Expr
+and_expr = binary_expr binary.And
+
+out_name : (table : Option Name) (name : Name) → out-Expr (name_expr table name) ≡ Expr-F.Column table name
+unfolding everything name_expr
+out_name table name = refl
 
 out_given : (n : ℕ) → out-Expr (given_expr n) ≡ Expr-F.Parameter n
 unfolding everything given_expr
 out_given n = refl
 
-out_compare : (op : Binary) (name : Name) (n : ℕ) → out-Expr (compare_expr op name n) ≡ Expr-F.Binary op (column_expr name) (given_expr n)
-unfolding everything compare_expr column_expr given_expr
-out_compare op name n = refl
+out_binary : (op : Binary) (a b : Expr) → out-Expr (binary_expr op a b) ≡ Expr-F.Binary op a b
+unfolding everything binary_expr
+out_binary op a b = refl
 
-out_and : (a b : Expr) → out-Expr (and_expr a b) ≡ Expr-F.Binary binary.And a b
-unfolding everything and_expr
-out_and a b = refl
+-- what is collected between two expressions, where no step and no aggregate is needed and this slot is the next
+abbrev pub resting : ℕ → ℕ → Carried → State
+resting next budget carried = record { next = next; steps = []; aggregates = []; budget = budget; written = None; last = carried }
 
--- ---- one comparison
+module _ (cx : Context) (next : ℕ) where
+  -- at this depth the expression stands for the term, and takes the budget down to this
+  abbrev pub Lowers : ℕ → Expr → ℕ → Term → ℕ → Carried → Type 0
+  Lowers d e before t after then = (carried : Carried) → lower_to d cx e (resting next before carried) ≡ Ok (t, resting next after then)
 
-module _ (schema : Schema) (at : ℕ) (table : Table) (is : slice_get schema.tables at ≡ Some table) (shows : List Output) where
-  abbrev pub cx : Context
-  cx = context_of schema at table shows false true
+  -- a name stands for a column
+  abbrev pub Names : Option Name → Name → Term → Carried → Type 0
+  Names table name t carried = (s : State) → column cx table name s ≡ Ok (t, record s { last = carried })
 
-  module _ (name : Name) (k : ℕ) (c : Column) (place : column_named table name ≡ Some k) (has : slice_get table.columns k ≡ Some c) where
-    column_is : (s : State) → column cx None name s ≡ Ok (col 1 (place_of table k), record s { last = declared table k c })
-    unfolding column find_name in_level only hit column_in term_of column_at is_among
-    column_is s = rw (is, place, is, has) refl
-
-    lower_column : (d b : ℕ) (carried : Carried) → nat_lt 1 b ≡ true → lower_to (suc d) cx (column_expr name) (plainly b carried) ≡ Ok (col 1 (place_of table k), plainly (b - 1) (declared table k c))
-    unfolding lower_to node opened spend begin finish passes
-    lower_column d b carried rich = rw (rich, out_column name, column_is (plainly (b - 1) nothing)) refl
-
-  lower_given : (n d b : ℕ) (carried : Carried) → nat_lt 1 b ≡ true → lower_to (suc d) cx (given_expr n) (plainly b carried) ≡ Ok (col 0 (n - 1), plainly (b - 1) nothing)
+  pub lower_name : (table : Option Name) (name : Name) (t : Term) (c : Carried) → Names table name t c → (d b : ℕ) → nat_lt 1 b ≡ true → Lowers (suc d) (name_expr table name) b t (b - 1) c
   unfolding lower_to node opened spend begin finish passes
-  lower_given n d b carried rich = rw (rich, out_given n) refl
+  lower_name table name t c is d b rich carried = rw (rich, out_name table name, is (resting next (b - 1) nothing)) refl
+
+  lower_given : (n d b : ℕ) → nat_lt 1 b ≡ true → Lowers (suc d) (given_expr n) b (col 0 (n - 1)) (b - 1) nothing
+  unfolding lower_to node opened spend begin finish passes
+  lower_given n d b rich carried = rw (rich, out_given n) refl
 
   -- the operator reads two values as they are
-  pub record Compares (op : Binary) (how : BinaryOp) (name : Name) (k n : ℕ) (c : Column) : Type 0 where
-    pub place : column_named table name ≡ Some k
-    pub has : slice_get table.columns k ≡ Some c
-    pub plain : chosen (declared table k c) nothing ≡ Plain
-    pub no_truth : tests_truth op (given_expr n) ≡ false
-    pub no_alias : tests_alias cx op (given_expr n) ≡ false
-    pub no_word : wanted_truth cx op (given_expr n) ≡ None
-    pub combines : (s : State) → combine cx op Plain (col 1 (place_of table k)) (col 0 (n - 1)) s ≡ Ok (op2 how (col 1 (place_of table k)) (col 0 (n - 1)), s)
+  pub record Combines (op : Binary) (s t r : Term) (p q : Carried) : Type 0 where
+    pub no_truth : (y : Expr) → tests_truth op y ≡ false
+    pub no_alias : (y : Expr) → tests_alias cx op y ≡ false
+    pub no_word : (y : Expr) → wanted_truth cx op y ≡ None
+    pub combines : (state : State) → combine cx op (chosen p q) s t state ≡ Ok (r, state)
 
-  module _ (op : Binary) (how : BinaryOp) (name : Name) (k n : ℕ) (c : Column) (h : Compares op how name k n c) (d b : ℕ) (carried : Carried) (first : nat_lt 1 b ≡ true) (second : nat_lt 1 (b - 1) ≡ true) (third : nat_lt 1 (b - 1 - 1) ≡ true) where
-    abbrev test : Term
-    test = op2 how (col 1 (place_of table k)) (col 0 (n - 1))
-
-    both_is : both (lower_to (suc d)) cx op (column_expr name) (given_expr n) (plainly (b - 1) nothing) ≡ Ok (test, plainly (b - 1 - 1 - 1) nothing)
+  module _ (op : Binary) (x y : Expr) (s t r : Term) (p q : Carried) (h : Combines op s t r p q) (d b mid end : ℕ) (rich : nat_lt 1 b ≡ true) (one : Lowers d x (b - 1) s mid p) (two : Lowers d y mid t end q) where
+    both_is : both (lower_to d) cx op x y (resting next (b - 1) nothing) ≡ Ok (r, resting next end q)
     unfolding both
-    both_is = rw (h.no_truth, h.no_alias, lower_column name k c h.place h.has d (b - 1) nothing second, lower_given n d (b - 1 - 1) (declared table k c) third, h.plain, h.combines (plainly (b - 1 - 1 - 1) nothing)) refl
+    both_is = rw (h.no_truth y, h.no_alias y, one nothing, two p, h.combines (resting next end q)) refl
 
-    pub lower_compare : lower_to (suc (suc d)) cx (compare_expr op name n) (plainly b carried) ≡ Ok (test, plainly (b - 1 - 1 - 1) nothing)
+    pub lower_binary : Lowers (suc d) (binary_expr op x y) b r end nothing
     unfolding lower_to node opened spend begin finish passes operation
-    lower_compare = rw (first, out_compare op name n, h.no_word, both_is) refl
+    lower_binary carried = rw (rich, out_binary op x y, h.no_word y, both_is) refl
 
-  -- ---- two conditions
+  -- `column op ?n`
+  pub lower_compare : (op : Binary) (table : Option Name) (name : Name) (t r : Term) (c : Carried) (n : ℕ) → Names table name t c → Combines op t (col 0 (n - 1)) r c nothing
+      → (d b : ℕ) → nat_lt 1 b ≡ true → nat_lt 1 (b - 1) ≡ true → nat_lt 1 (b - 1 - 1) ≡ true → Lowers (suc (suc d)) (compare_expr op table name n) b r (b - 1 - 1 - 1) nothing
+  lower_compare op table name t r c n is h d b first second third =
+      lower_binary op (name_expr table name) (given_expr n) t (col 0 (n - 1)) r c nothing h (suc d) b (b - 1 - 1) (b - 1 - 1 - 1) first (lower_name table name t c is d (b - 1) second) (lower_given n d (b - 1 - 1) third)
 
-  module _ (x y : Expr) (s t : Term) (d b mid end : ℕ) (carried last then : Carried) (first : nat_lt 1 b ≡ true)
-      (one : lower_to (suc d) cx x (plainly (b - 1) nothing) ≡ Ok (s, plainly mid last)) (two : lower_to (suc d) cx y (plainly mid last) ≡ Ok (t, plainly end then))
-    where
-      and_is : both (lower_to (suc d)) cx binary.And x y (plainly (b - 1) nothing) ≡ Ok (op2 by.And s t, plainly end then)
-      unfolding both tests_truth tests_alias combine
-      and_is = rw (one, two) refl
+  -- `column op column`
+  pub lower_match : (op : Binary) (one_table two_table : Option Name) (one_name two_name : Name) (s t r : Term) (p q : Carried) → Names one_table one_name s p → Names two_table two_name t q → Combines op s t r p q
+      → (d b : ℕ) → nat_lt 1 b ≡ true → nat_lt 1 (b - 1) ≡ true → nat_lt 1 (b - 1 - 1) ≡ true → Lowers (suc (suc d)) (binary_expr op (name_expr one_table one_name) (name_expr two_table two_name)) b r (b - 1 - 1 - 1) nothing
+  lower_match op one_table two_table one_name two_name s t r p q is also h d b first second third =
+      lower_binary op (name_expr one_table one_name) (name_expr two_table two_name) s t r p q h (suc d) b (b - 1 - 1) (b - 1 - 1 - 1) first (lower_name one_table one_name s p is d (b - 1) second) (lower_name two_table two_name t q also d (b - 1 - 1) third)
 
-      pub lower_and : lower_to (suc (suc d)) cx (and_expr x y) (plainly b carried) ≡ Ok (op2 by.And s t, plainly end nothing)
-      unfolding lower_to node opened spend begin finish passes operation wanted_truth
-      lower_and = rw (first, out_and x y, and_is) refl
+  ands : (s t : Term) → Combines binary.And s t (op2 by.And s t) nothing nothing
+  unfolding tests_truth tests_alias wanted_truth combine
+  ands s t = record { no_truth = λ y. refl; no_alias = λ y. refl; no_word = λ y. refl; combines = λ state. refl }
+
+  pub lower_and : (x y : Expr) (s t : Term) (d b mid end : ℕ) → nat_lt 1 b ≡ true → Lowers d x (b - 1) s mid nothing → Lowers d y mid t end nothing → Lowers (suc d) (and_expr x y) b (op2 by.And s t) end nothing
+  lower_and x y s t = lower_binary binary.And x y s t (op2 by.And s t) nothing nothing (ands s t)

@@ -1,5 +1,5 @@
 -- The texts that make the tables.
-use Rattle.std.proofs.Common.{◌≡◌, ◌⊎◌, ℕ, [], Ok, Err, inl, inr, refl, lit≤}
+use Rattle.std.proofs.Common.{◌⊎◌, ℕ, [], Ok, Err, inl, inr, refl, lit≤}
 use Rattle.sqlite.specs.State.{State, Executes, ExecutesInside, Fails, IsUnchanged}
 use Rattle.sqlite.specs.declared.error.Error.{Error}
 use Rattle.sqlite.specs.Compile.{first}

@@ -1,5 +1,5 @@
 -- The texts that read the entries of an edition by their keys.
-use Rattle.std.proofs.Common.{◌≡◌, ◌≤◌, ◌&&◌, ℕ, ℤ, Bool, List, [], ◌∷◌, codes, true, false, not, Some, None, Ok, refl, ap, ◌∙◌, lit≤, Ordering, Less, Equal, Greater, slice_get}
+use Rattle.std.proofs.Common.{◌≡◌, ◌&&◌, ℕ, ℤ, Bool, List, [], ◌∷◌, codes, true, false, not, Some, Ok, refl, ap, ◌∙◌, lit≤, Ordering, Less, Equal, Greater, slice_get, suc, ◌-◌, nat_lt, None}
 use Rattle.std.specs.Ordering.{is_eq, is_lt, is_gt}
 use Rattle.sqlite.specs.declared.types.Value.{Value}
 use Rattle.sqlite.specs.declared.types.Value.TheVariants.{Null, Int, Real, Text, Blob}
@@ -8,7 +8,6 @@ use Rattle.sqlite.specs.Ops.{binary as operate}
 use Rattle.sqlite.specs.Schema.{Schema}
 use Rattle.sqlite.specs.Term.{Term, col, op2}
 use Rattle.sqlite.specs.Compile.{first}
-use Rattle.sqlite.specs.Kind.TheVariants.{Integer, Blob as Octets}
 use Rattle.sqlite.specs.Collation.TheVariants.{Binary}
 use Rattle.sqlite_sql.specs.Ops.{is_true, test, from_truth}
 use Rattle.sqlite_sql.specs.declared.ops.BinaryOp.TheVariants as by
@@ -16,15 +15,13 @@ use Rattle.sqlite_sql.specs.declared.ops.CompareOp.TheVariants as compare
 use Rattle.sqlite_tied.specs.Compute.{everything}
 use Rattle.sqlite_resolve.specs.Body.{tests}
 use Rattle.sqlite_resolve.specs.Expr.{lower}
+use Rattle.sqlite_resolve.specs.Scope.{Context}
 use Rattle.sqlite_resolve.specs.Lowering.{nothing}
-use Rattle.sqlite_resolve.specs.declared.scope.Output.{Output}
 use Rattle.sqlite_syntax.specs.declared.statement.Parsed.{Parsed}
 use Rattle.sqlite_ast.specs.declared.Expr.{Expr}
 use Rattle.sqlite_ast.specs.declared.Binary.TheVariants as binary
-use Rattle.dict_tables.specs.Tables.{needed}
 use Rattle.dict_sql.specs.Effects.{equals_number, same_value, shown}
 use Rattle.dict_sql.proofs.CompareLemmas.{and_true, equals_is}
-use Rattle.dict_sql.proofs.DeleteLemmas.{column_expr}
 use Rattle.dict_sql.proofs.ListLemmas.{passes}
 use Rattle.dict_sql.proofs.ReadFaults.{Takes}
 use Rattle.dict_sql.proofs.ReadLemmas.{rowid_expr, rowid_shown, all_shown, source_of, core_of, select_of, outputs_of, plainly, context_of}
@@ -32,8 +29,9 @@ use Rattle.dict_sql.proofs.ReadTexts.{ReadsTable, sort_by, key_at}
 use Rattle.dict_sql.proofs.TextLemmas.{parsed_or}
 use Rattle.dict_keyed_sql.specs.Tables.{entry}
 use Rattle.dict_keyed_sql.specs.Texts.{key_text, range_text, reversed_text}
-use Rattle.dict_keyed_sql.specs.Scans.{equals_octets, is_between}
-use Rattle.dict_keyed_sql.proofs.ConditionLemmas.{given_expr, compare_expr, and_expr, Compares, lower_compare, lower_and}
+use Rattle.dict_keyed_sql.specs.Joined.{equals_octets}
+use Rattle.dict_keyed_sql.specs.Scans.{is_between}
+use Rattle.dict_keyed_sql.proofs.ConditionLemmas.{name_expr, given_expr, binary_expr, compare_expr, and_expr, Names, Combines, Lowers, lower_compare, lower_and}
 use Rattle.dict_keyed_sql.proofs.ReadTexts.{of_column}
 
 -- ---- how values compare
@@ -53,7 +51,7 @@ by_le Less = refl
 by_le Equal = refl
 by_le Greater = refl
 
-equals_octets_is : (v : Value) (b : List ℕ) → is_true (operate (by.Compare compare.Eq Binary) v (Blob b)) ≡ same_value v (Blob b)
+pub equals_octets_is : (v : Value) (b : List ℕ) → is_true (operate (by.Compare compare.Eq Binary) v (Blob b)) ≡ same_value v (Blob b)
 unfolding operate value_cmp
 equals_octets_is Null b = refl
 equals_octets_is (Int m) b = by_eq (value_cmp (Int m) (Blob b))
@@ -78,81 +76,113 @@ between_is (Blob a) low high = both _ _ _ _ (by_ge (value_cmp (Blob a) (Blob low
 -- ---- the conditions
 
 abbrev of_edition : Expr
-of_edition = compare_expr binary.Eq (codes "edition") 1
+of_edition = compare_expr binary.Eq None (codes "edition") 1
 
-module _ (schema : Schema) (at tree : ℕ) (is : slice_get schema.tables at ≡ Some (entry tree)) (shows : List Output) where
-  edition_compares : Compares schema at (entry tree) is shows binary.Eq (by.Compare compare.Eq Binary) (codes "edition") 0 1 (needed (codes "edition") Integer)
-  unfolding everything given_expr
-  edition_compares = record { place = refl; has = refl; plain = refl; no_truth = refl; no_alias = refl; no_word = refl; combines = λ s. rw is refl }
+abbrev edition_is : Term
+edition_is = op2 (by.Compare compare.Eq Binary) (col 1 1) (col 0 0)
 
-  key_equals : Compares schema at (entry tree) is shows binary.Eq (by.Compare compare.Eq Binary) (codes "key") 5 2 (needed (codes "key") Octets)
-  unfolding everything given_expr
-  key_equals = record { place = refl; has = refl; plain = refl; no_truth = refl; no_alias = refl; no_word = refl; combines = λ s. rw is refl }
+module _ (schema : Schema) (at tree : ℕ) (is : slice_get schema.tables at ≡ Some (entry tree)) where
+  abbrev cx : Context
+  cx = context_of schema at (entry tree) (outputs_of at (entry tree)) false true
 
-  key_from : Compares schema at (entry tree) is shows binary.Ge (by.Compare compare.Ge Binary) (codes "key") 5 2 (needed (codes "key") Octets)
-  unfolding everything given_expr
-  key_from = record { place = refl; has = refl; plain = refl; no_truth = refl; no_alias = refl; no_word = refl; combines = λ s. rw is refl }
+  edition_named : Names cx 2 None (codes "edition") (col 1 1) of_column
+  unfolding everything
+  edition_named s = rw (is, is) refl
 
-  key_to : Compares schema at (entry tree) is shows binary.Le (by.Compare compare.Le Binary) (codes "key") 5 3 (needed (codes "key") Octets)
-  unfolding everything given_expr
-  key_to = record { place = refl; has = refl; plain = refl; no_truth = refl; no_alias = refl; no_word = refl; combines = λ s. rw is refl }
+  key_named : Names cx 2 None (codes "key") (col 1 6) of_column
+  unfolding everything
+  key_named s = rw (is, is) refl
 
-  reversed_from : Compares schema at (entry tree) is shows binary.Ge (by.Compare compare.Ge Binary) (codes "rkey") 6 2 (needed (codes "rkey") Octets)
-  unfolding everything given_expr
-  reversed_from = record { place = refl; has = refl; plain = refl; no_truth = refl; no_alias = refl; no_word = refl; combines = λ s. rw is refl }
+  reversed_named : Names cx 2 None (codes "rkey") (col 1 7) of_column
+  unfolding everything
+  reversed_named s = rw (is, is) refl
 
-  reversed_to : Compares schema at (entry tree) is shows binary.Le (by.Compare compare.Le Binary) (codes "rkey") 6 3 (needed (codes "rkey") Octets)
-  unfolding everything given_expr
-  reversed_to = record { place = refl; has = refl; plain = refl; no_truth = refl; no_alias = refl; no_word = refl; combines = λ s. rw is refl }
+  edition_equals : Combines cx 2 binary.Eq (col 1 1) (col 0 0) edition_is of_column nothing
+  unfolding everything
+  edition_equals = record { no_truth = λ y. refl; no_alias = λ y. refl; no_word = λ y. refl; combines = λ s. rw is refl }
+
+  key_equals : Combines cx 2 binary.Eq (col 1 6) (col 0 1) (op2 (by.Compare compare.Eq Binary) (col 1 6) (col 0 1)) of_column nothing
+  unfolding everything
+  key_equals = record { no_truth = λ y. refl; no_alias = λ y. refl; no_word = λ y. refl; combines = λ s. rw is refl }
+
+  key_from : Combines cx 2 binary.Ge (col 1 6) (col 0 1) (op2 (by.Compare compare.Ge Binary) (col 1 6) (col 0 1)) of_column nothing
+  unfolding everything
+  key_from = record { no_truth = λ y. refl; no_alias = λ y. refl; no_word = λ y. refl; combines = λ s. rw is refl }
+
+  key_to : Combines cx 2 binary.Le (col 1 6) (col 0 2) (op2 (by.Compare compare.Le Binary) (col 1 6) (col 0 2)) of_column nothing
+  unfolding everything
+  key_to = record { no_truth = λ y. refl; no_alias = λ y. refl; no_word = λ y. refl; combines = λ s. rw is refl }
+
+  reversed_from : Combines cx 2 binary.Ge (col 1 7) (col 0 1) (op2 (by.Compare compare.Ge Binary) (col 1 7) (col 0 1)) of_column nothing
+  unfolding everything
+  reversed_from = record { no_truth = λ y. refl; no_alias = λ y. refl; no_word = λ y. refl; combines = λ s. rw is refl }
+
+  reversed_to : Combines cx 2 binary.Le (col 1 7) (col 0 2) (op2 (by.Compare compare.Le Binary) (col 1 7) (col 0 2)) of_column nothing
+  unfolding everything
+  reversed_to = record { no_truth = λ y. refl; no_alias = λ y. refl; no_word = λ y. refl; combines = λ s. rw is refl }
+
+  edition_lowers : (d b : ℕ) → nat_lt 1 b ≡ true → nat_lt 1 (b - 1) ≡ true → nat_lt 1 (b - 1 - 1) ≡ true → Lowers cx 2 (suc (suc d)) of_edition b edition_is (b - 1 - 1 - 1) nothing
+  edition_lowers = lower_compare cx 2 binary.Eq None (codes "edition") (col 1 1) edition_is of_column 1 edition_named edition_equals
 
 abbrev test_key : List Term
-test_key = op2 (by.Compare compare.Eq Binary) (col 1 1) (col 0 0) ∷ op2 (by.Compare compare.Eq Binary) (col 1 6) (col 0 1) ∷ []
+test_key = edition_is ∷ op2 (by.Compare compare.Eq Binary) (col 1 6) (col 0 1) ∷ []
 
 abbrev with_key : Expr
-with_key = and_expr of_edition (compare_expr binary.Eq (codes "key") 2)
+with_key = and_expr of_edition (compare_expr binary.Eq None (codes "key") 2)
 
 key_tests : (schema : Schema) (at tree : ℕ) → slice_get schema.tables at ≡ Some (entry tree) → tests lower (context_of schema at (entry tree) (outputs_of at (entry tree)) false true) [] (Some with_key) (plainly 99999 nothing) ≡ Ok (test_key, plainly 99992 nothing)
 unfolding tests
 key_tests schema at tree is =
-    let shows = outputs_of at (entry tree) in
-    let one = lower_compare schema at (entry tree) is shows binary.Eq (by.Compare compare.Eq Binary) (codes "edition") 0 1 (needed (codes "edition") Integer) (edition_compares schema at tree is shows) 697 99998 nothing refl refl refl in
-    let two = lower_compare schema at (entry tree) is shows binary.Eq (by.Compare compare.Eq Binary) (codes "key") 5 2 (needed (codes "key") Octets) (key_equals schema at tree is shows) 697 99995 nothing refl refl refl in
-    let all = lower_and schema at (entry tree) is shows of_edition (compare_expr binary.Eq (codes "key") 2) (op2 (by.Compare compare.Eq Binary) (col 1 1) (col 0 0)) (op2 (by.Compare compare.Eq Binary) (col 1 6) (col 0 1)) 698 99999 99995 99992 nothing nothing nothing refl one two in
+    let here = cx schema at tree is in
+    let equal = op2 (by.Compare compare.Eq Binary) (col 1 6) (col 0 1) in
+    let one = edition_lowers schema at tree is 697 99998 refl refl refl in
+    let two = lower_compare here 2 binary.Eq None (codes "key") (col 1 6) equal of_column 2 (key_named schema at tree is) (key_equals schema at tree is) 697 99995 refl refl refl in
+    let all = lower_and here 2 of_edition (compare_expr binary.Eq None (codes "key") 2) edition_is equal 699 99999 99995 99992 refl one two nothing in
     rw all refl
 
-abbrev test_key_range : List Term
-test_key_range = op2 (by.Compare compare.Eq Binary) (col 1 1) (col 0 0) ∷ op2 (by.Compare compare.Ge Binary) (col 1 6) (col 0 1) ∷ op2 (by.Compare compare.Le Binary) (col 1 6) (col 0 2) ∷ []
+-- a column is from the second value on, up to the third
+module _ (name : List ℕ) (place : ℕ) where
+  abbrev from_low : Term
+  from_low = op2 (by.Compare compare.Ge Binary) (col 1 place) (col 0 1)
+
+  abbrev to_high : Term
+  to_high = op2 (by.Compare compare.Le Binary) (col 1 place) (col 0 2)
+
+  abbrev test_range : List Term
+  test_range = edition_is ∷ from_low ∷ to_high ∷ []
+
+  abbrev within : Expr
+  within = and_expr (and_expr of_edition (compare_expr binary.Ge None name 2)) (compare_expr binary.Le None name 3)
+
+  range_tests : (schema : Schema) (at tree : ℕ) (is : slice_get schema.tables at ≡ Some (entry tree)) → Names (cx schema at tree is) 2 None name (col 1 place) of_column → Combines (cx schema at tree is) 2 binary.Ge (col 1 place) (col 0 1) from_low of_column nothing
+      → Combines (cx schema at tree is) 2 binary.Le (col 1 place) (col 0 2) to_high of_column nothing → tests lower (context_of schema at (entry tree) (outputs_of at (entry tree)) false true) [] (Some within) (plainly 99999 nothing) ≡ Ok (test_range, plainly 99988 nothing)
+  unfolding tests
+  range_tests schema at tree is named low high =
+      let here = cx schema at tree is in
+      let one = edition_lowers schema at tree is 696 99997 refl refl refl in
+      let two = lower_compare here 2 binary.Ge None name (col 1 place) from_low of_column 2 named low 696 99994 refl refl refl in
+      let three = lower_compare here 2 binary.Le None name (col 1 place) to_high of_column 3 named high 697 99991 refl refl refl in
+      let front = lower_and here 2 of_edition (compare_expr binary.Ge None name 2) edition_is from_low 698 99998 99994 99991 refl one two in
+      let all = lower_and here 2 (and_expr of_edition (compare_expr binary.Ge None name 2)) (compare_expr binary.Le None name 3) (op2 by.And edition_is from_low) to_high 699 99999 99991 99988 refl front three nothing in
+      rw all refl
+
+key_range_tests : (schema : Schema) (at tree : ℕ) → slice_get schema.tables at ≡ Some (entry tree) → tests lower (context_of schema at (entry tree) (outputs_of at (entry tree)) false true) [] (Some (within (codes "key") 6)) (plainly 99999 nothing) ≡ Ok (test_range (codes "key") 6, plainly 99988 nothing)
+key_range_tests schema at tree is = range_tests (codes "key") 6 schema at tree is (key_named schema at tree is) (key_from schema at tree is) (key_to schema at tree is)
+
+reversed_range_tests : (schema : Schema) (at tree : ℕ) → slice_get schema.tables at ≡ Some (entry tree) → tests lower (context_of schema at (entry tree) (outputs_of at (entry tree)) false true) [] (Some (within (codes "rkey") 7)) (plainly 99999 nothing) ≡ Ok (test_range (codes "rkey") 7, plainly 99988 nothing)
+reversed_range_tests schema at tree is = range_tests (codes "rkey") 7 schema at tree is (reversed_named schema at tree is) (reversed_from schema at tree is) (reversed_to schema at tree is)
+
+abbrev pub test_key_range : List Term
+test_key_range = test_range (codes "key") 6
+
+abbrev pub test_reversed_range : List Term
+test_reversed_range = test_range (codes "rkey") 7
 
 abbrev within_key : Expr
-within_key = and_expr (and_expr of_edition (compare_expr binary.Ge (codes "key") 2)) (compare_expr binary.Le (codes "key") 3)
-
-key_range_tests : (schema : Schema) (at tree : ℕ) → slice_get schema.tables at ≡ Some (entry tree) → tests lower (context_of schema at (entry tree) (outputs_of at (entry tree)) false true) [] (Some within_key) (plainly 99999 nothing) ≡ Ok (test_key_range, plainly 99988 nothing)
-unfolding tests
-key_range_tests schema at tree is =
-    let shows = outputs_of at (entry tree) in
-    let one = lower_compare schema at (entry tree) is shows binary.Eq (by.Compare compare.Eq Binary) (codes "edition") 0 1 (needed (codes "edition") Integer) (edition_compares schema at tree is shows) 696 99997 nothing refl refl refl in
-    let two = lower_compare schema at (entry tree) is shows binary.Ge (by.Compare compare.Ge Binary) (codes "key") 5 2 (needed (codes "key") Octets) (key_from schema at tree is shows) 696 99994 nothing refl refl refl in
-    let three = lower_compare schema at (entry tree) is shows binary.Le (by.Compare compare.Le Binary) (codes "key") 5 3 (needed (codes "key") Octets) (key_to schema at tree is shows) 697 99991 nothing refl refl refl in
-    let front = lower_and schema at (entry tree) is shows of_edition (compare_expr binary.Ge (codes "key") 2) (op2 (by.Compare compare.Eq Binary) (col 1 1) (col 0 0)) (op2 (by.Compare compare.Ge Binary) (col 1 6) (col 0 1)) 697 99998 99994 99991 nothing nothing nothing refl one two in
-    let all = lower_and schema at (entry tree) is shows (and_expr of_edition (compare_expr binary.Ge (codes "key") 2)) (compare_expr binary.Le (codes "key") 3) (op2 by.And (op2 (by.Compare compare.Eq Binary) (col 1 1) (col 0 0)) (op2 (by.Compare compare.Ge Binary) (col 1 6) (col 0 1))) (op2 (by.Compare compare.Le Binary) (col 1 6) (col 0 2)) 698 99999 99991 99988 nothing nothing nothing refl front three in
-    rw all refl
-
-abbrev test_reversed_range : List Term
-test_reversed_range = op2 (by.Compare compare.Eq Binary) (col 1 1) (col 0 0) ∷ op2 (by.Compare compare.Ge Binary) (col 1 7) (col 0 1) ∷ op2 (by.Compare compare.Le Binary) (col 1 7) (col 0 2) ∷ []
+within_key = within (codes "key") 6
 
 abbrev within_reversed : Expr
-within_reversed = and_expr (and_expr of_edition (compare_expr binary.Ge (codes "rkey") 2)) (compare_expr binary.Le (codes "rkey") 3)
-
-reversed_range_tests : (schema : Schema) (at tree : ℕ) → slice_get schema.tables at ≡ Some (entry tree) → tests lower (context_of schema at (entry tree) (outputs_of at (entry tree)) false true) [] (Some within_reversed) (plainly 99999 nothing) ≡ Ok (test_reversed_range, plainly 99988 nothing)
-unfolding tests
-reversed_range_tests schema at tree is =
-    let shows = outputs_of at (entry tree) in
-    let one = lower_compare schema at (entry tree) is shows binary.Eq (by.Compare compare.Eq Binary) (codes "edition") 0 1 (needed (codes "edition") Integer) (edition_compares schema at tree is shows) 696 99997 nothing refl refl refl in
-    let two = lower_compare schema at (entry tree) is shows binary.Ge (by.Compare compare.Ge Binary) (codes "rkey") 6 2 (needed (codes "rkey") Octets) (reversed_from schema at tree is shows) 696 99994 nothing refl refl refl in
-    let three = lower_compare schema at (entry tree) is shows binary.Le (by.Compare compare.Le Binary) (codes "rkey") 6 3 (needed (codes "rkey") Octets) (reversed_to schema at tree is shows) 697 99991 nothing refl refl refl in
-    let front = lower_and schema at (entry tree) is shows of_edition (compare_expr binary.Ge (codes "rkey") 2) (op2 (by.Compare compare.Eq Binary) (col 1 1) (col 0 0)) (op2 (by.Compare compare.Ge Binary) (col 1 7) (col 0 1)) 697 99998 99994 99991 nothing nothing nothing refl one two in
-    let all = lower_and schema at (entry tree) is shows (and_expr of_edition (compare_expr binary.Ge (codes "rkey") 2)) (compare_expr binary.Le (codes "rkey") 3) (op2 by.And (op2 (by.Compare compare.Eq Binary) (col 1 1) (col 0 0)) (op2 (by.Compare compare.Ge Binary) (col 1 7) (col 0 1))) (op2 (by.Compare compare.Le Binary) (col 1 7) (col 0 2)) 698 99999 99991 99988 nothing nothing nothing refl front three in
-    rw all refl
+within_reversed = within (codes "rkey") 7
 
 abbrev pub a_key : ℤ × List ℕ → Row
 a_key x = Int x.0 ∷ Blob x.1 ∷ []
@@ -162,7 +192,7 @@ unfolding everything
 read_by_key = parsed_or (first key_text)
 
 pub reads_by_key : ReadsTable key_text read_by_key entry (Some with_key) test_key 99992 (sort_by (codes "3") ∷ []) (key_at 2 ∷ []) (2 ∷ []) 99990 of_column
-unfolding everything read_by_key rowid_expr rowid_shown all_shown source_of core_of select_of sort_by column_expr given_expr compare_expr and_expr
+unfolding everything read_by_key rowid_expr rowid_shown all_shown source_of core_of select_of sort_by name_expr given_expr binary_expr
 reads_by_key = record {
   read = refl;
   statement = λ tree. refl;
@@ -191,7 +221,7 @@ unfolding everything
 read_by_range = parsed_or (first range_text)
 
 pub reads_by_range : ReadsTable range_text read_by_range entry (Some within_key) test_key_range 99988 (sort_by (codes "3") ∷ []) (key_at 2 ∷ []) (2 ∷ []) 99986 of_column
-unfolding everything read_by_range rowid_expr rowid_shown all_shown source_of core_of select_of sort_by column_expr given_expr compare_expr and_expr
+unfolding everything read_by_range rowid_expr rowid_shown all_shown source_of core_of select_of sort_by name_expr given_expr binary_expr
 reads_by_range = record {
   read = refl;
   statement = λ tree. refl;
@@ -217,7 +247,7 @@ unfolding everything
 read_by_reversed = parsed_or (first reversed_text)
 
 pub reads_by_reversed : ReadsTable reversed_text read_by_reversed entry (Some within_reversed) test_reversed_range 99988 (sort_by (codes "3") ∷ []) (key_at 2 ∷ []) (2 ∷ []) 99986 of_column
-unfolding everything read_by_reversed rowid_expr rowid_shown all_shown source_of core_of select_of sort_by column_expr given_expr compare_expr and_expr
+unfolding everything read_by_reversed rowid_expr rowid_shown all_shown source_of core_of select_of sort_by name_expr given_expr binary_expr
 reads_by_reversed = record {
   read = refl;
   statement = λ tree. refl;

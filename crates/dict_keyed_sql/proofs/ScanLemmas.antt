@@ -1,5 +1,6 @@
 -- What follows of rows that are read one at a time.
-use Rattle.std.proofs.Common.{◌≡◌, ◌++◌, List, [], ◌∷◌, Ok, Err, Some, None, Option, Result, IfOk, IfErr, OnOk, OnErr, IsTrue, option_map, inl, inr, refl, sym, ap, subst, arith, ℤ}
+use Rattle.std.proofs.Common.{◌≡◌, ◌++◌, ℕ, ℤ, List, [], ◌∷◌, Ok, Err, Some, None, Option, Result, IfOk, IfErr, OnOk, OnErr, IsTrue, option_map, inl, inr, refl, sym, ap, subst, arith}
+use Rattle.std.proofs.lemmas.Bool.{cases_Bool}
 use Rattle.sqlite.specs.Order.{Row}
 use Rattle.sqlite.specs.declared.types.Value.TheVariants.{Int, Blob as Bytes}
 use Rattle.sqlite.specs.declared.error.Error.{Error}
@@ -17,7 +18,7 @@ use Rattle.sqlite.proofs.Callers.{IsPlain, EndsIn, begins_shown, given_begin, be
 use Rattle.sqlite_trees.specs.declared.store.Store.{Ghosts}
 use Rattle.sqlite_resolve.specs.declared.compiled.Compiled.{Compiled}
 use Rattle.dict_sql.specs.Columns.{Content}
-use Rattle.dict_sql.specs.Effects.{Has, WhileOpen, equals_number}
+use Rattle.dict_sql.specs.Effects.{Has, WhileOpen}
 use Rattle.dict_sql.specs.Reads.{FailsToRead}
 use Rattle.dict_sql.specs.Streams.{IsNotBegun, FailsToMove}
 use Rattle.dict_sql.specs.declared.records.ReadError.{ReadError}
@@ -25,17 +26,22 @@ use Rattle.dict_sql.specs.declared.records.ReadError.TheVariants.{NoRecord, Stor
 use Rattle.dict_sql.proofs.Callers.{still_has}
 use Rattle.dict_sql.proofs.ListingLemmas.{shown_selects, reads_plain}
 use Rattle.dict_sql.proofs.ReadFaults.{a_number, nothing, ends_at, fails_read}
-use Rattle.dict_sql.proofs.SilentLemmas.{commits_none, never_returns}
+use Rattle.dict_sql.proofs.SilentLemmas.{commits_none, never_returns, shut_query}
 use Rattle.dict_sql.proofs.StreamLemmas.{still}
 use Rattle.dict_keyed_sql.specs.Tables.{entry, word, gram}
-use Rattle.dict_keyed_sql.specs.Texts.{list_text, select_text, key_text, range_text, reversed_text}
-use Rattle.dict_keyed_sql.specs.Scans.{Scan, scan_table, scan_text, scan_values, scan_test, IsWhole, IsFront, HasGiven, GivesOn, Passes, FailsToGive}
-use Rattle.dict_keyed_sql.specs.Scans.Scan.{All, Of, WithKey, Between, BetweenReversed}
+use Rattle.dict_keyed_sql.specs.Texts.{list_text, select_text, key_text, range_text, reversed_text, word_text, gram_text}
+use Rattle.dict_keyed_sql.specs.Scans.{Scan, HasTables, scan_table, scan_text, scan_values, scan_test, IsWhole, IsFront, HasGiven, GivesOn, FailsToGive}
+use Rattle.dict_keyed_sql.specs.Scans.Scan.{All, Of, WithKey, Between, BetweenReversed, WithWord, WithGrams}
 use Rattle.dict_keyed_sql.specs.declared.tables.KeyedTable.TheVariants as keyed
+use Rattle.dict_keyed_sql.proofs.GramAnswers.{gram_answers, asked_grams, gram_names, asks_grams}
+use Rattle.dict_keyed_sql.proofs.GramTexts.{gram_select, read_gram_text, reads_gram_text}
+use Rattle.dict_keyed_sql.proofs.JoinFaults.{asks_plain, asks_ends, asks_answer, asks_fails}
 use Rattle.dict_keyed_sql.proofs.KeyTexts.{a_key, a_range, read_by_key, reads_by_key, takes_by_key, is_with_key, read_by_range, reads_by_range, takes_by_range, is_in_range, read_by_reversed, reads_by_reversed, takes_by_reversed, is_in_reversed_range}
 use Rattle.dict_keyed_sql.proofs.ReadTexts.{read_all_entry, reads_all_entry, takes_all_entry, read_of_entry, reads_of_entry, takes_of_entry, is_of_entry, read_all_word, reads_all_word, takes_all_word, read_of_word, reads_of_word, takes_of_word, is_of_word, read_all_gram, reads_all_gram, takes_all_gram, read_of_gram, reads_of_gram, takes_of_gram, is_of_gram}
+use Rattle.dict_keyed_sql.proofs.WordAnswers.{word_answers, asked_word, word_names, asks_word}
+use Rattle.dict_keyed_sql.proofs.WordTexts.{word_select, read_word_text, reads_word_text}
 
-shows : (what : Scan) (old new : State) (rows : List Row) → Has (scan_table what) old.now → Shown (scan_text what) (scan_values what) old new rows → IsWhole what old.now rows
+shows : (what : Scan) (old new : State) (rows : List Row) → HasTables what old.now → Shown (scan_text what) (scan_values what) old new rows → IsWhole what old.now rows
 shows (All keyed.Entry) old new rows has h = (shown_selects (list_text keyed.Entry) read_all_entry entry _ _ _ _ _ _ _ _ reads_all_entry (λ tree. refl) [] (scan_test (All keyed.Entry)) (λ tree row. refl) old new rows has h).0
 shows (Of keyed.Entry n) old new rows has h = (shown_selects (select_text keyed.Entry) read_of_entry entry _ _ _ _ _ _ _ _ reads_of_entry (λ tree. refl) (Int n ∷ []) (scan_test (Of keyed.Entry n)) (λ tree row. is_of_entry tree n row) old new rows has h).0
 shows (All keyed.Word) old new rows has h = (shown_selects (list_text keyed.Word) read_all_word word _ _ _ _ _ _ _ _ reads_all_word (λ tree. refl) [] (scan_test (All keyed.Word)) (λ tree row. refl) old new rows has h).0
@@ -45,8 +51,10 @@ shows (Of keyed.Gram n) old new rows has h = (shown_selects (select_text keyed.G
 shows (WithKey n key) old new rows has h = (shown_selects key_text read_by_key entry _ _ _ _ _ _ _ _ reads_by_key (λ tree. refl) (Int n ∷ Bytes key ∷ []) (scan_test (WithKey n key)) (λ tree row. is_with_key tree n key row) old new rows has h).0
 shows (Between n low high) old new rows has h = (shown_selects range_text read_by_range entry _ _ _ _ _ _ _ _ reads_by_range (λ tree. refl) (Int n ∷ Bytes low ∷ Bytes high ∷ []) (scan_test (Between n low high)) (λ tree row. is_in_range tree n low high row) old new rows has h).0
 shows (BetweenReversed n low high) old new rows has h = (shown_selects reversed_text read_by_reversed entry _ _ _ _ _ _ _ _ reads_by_reversed (λ tree. refl) (Int n ∷ Bytes low ∷ Bytes high ∷ []) (scan_test (BetweenReversed n low high)) (λ tree row. is_in_reversed_range tree n low high row) old new rows has h).0
+shows (WithWord n w) old new rows has h = word_answers old.now.schema has.0.0 has.0.1 has.0.2 has.1.0 has.1.1 has.1.2 n w old.now.trees rows (asks_answer word_text read_word_text (asked_word old.now has.0 has.1) (word_names old.now has.0 has.1) (Int n ∷ Bytes w ∷ []) old new (asks_word old.now has.0 has.1 n w) rows h)
+shows (WithGrams n a b) old new rows has h = gram_answers old.now.schema has.0.0 has.0.1 has.0.2 has.1.0 has.1.1 has.1.2 n a b old.now.trees rows (asks_answer gram_text read_gram_text (asked_grams old.now has.0 has.1) (gram_names old.now has.0 has.1) (Int n ∷ Bytes a ∷ Bytes b ∷ []) old new (asks_grams old.now has.0 has.1 n a b) rows h)
 
-plainly : (what : Scan) (db : Database) → Has (scan_table what) db → IsPlain (understood db.schema (scan_text what))
+plainly : (what : Scan) (db : Database) → HasTables what db → IsPlain (understood db.schema (scan_text what))
 plainly (All keyed.Entry) db has = reads_plain (list_text keyed.Entry) read_all_entry entry _ _ _ _ _ _ _ _ reads_all_entry db.schema has.0 has.1 has.2
 plainly (Of keyed.Entry n) db has = reads_plain (select_text keyed.Entry) read_of_entry entry _ _ _ _ _ _ _ _ reads_of_entry db.schema has.0 has.1 has.2
 plainly (All keyed.Word) db has = reads_plain (list_text keyed.Word) read_all_word word _ _ _ _ _ _ _ _ reads_all_word db.schema has.0 has.1 has.2
@@ -56,8 +64,10 @@ plainly (Of keyed.Gram n) db has = reads_plain (select_text keyed.Gram) read_of_
 plainly (WithKey n key) db has = reads_plain key_text read_by_key entry _ _ _ _ _ _ _ _ reads_by_key db.schema has.0 has.1 has.2
 plainly (Between n low high) db has = reads_plain range_text read_by_range entry _ _ _ _ _ _ _ _ reads_by_range db.schema has.0 has.1 has.2
 plainly (BetweenReversed n low high) db has = reads_plain reversed_text read_by_reversed entry _ _ _ _ _ _ _ _ reads_by_reversed db.schema has.0 has.1 has.2
+plainly (WithWord n w) db has = asks_plain word_text read_word_text (asked_word db has.0 has.1) (word_names db has.0 has.1) (Int n ∷ Bytes w ∷ []) db (asks_word db has.0 has.1 n w)
+plainly (WithGrams n a b) db has = asks_plain gram_text read_gram_text (asked_grams db has.0 has.1) (gram_names db has.0 has.1) (Int n ∷ Bytes a ∷ Bytes b ∷ []) db (asks_grams db has.0 has.1 n a b)
 
-ends : (what : Scan) (now : Database) → Has (scan_table what) now → (c : Compiled) → understood now.schema (scan_text what) ≡ Ok c → (db : Database) (params : Row) → EndsIn c.command db params
+ends : (what : Scan) (now : Database) → HasTables what now → (c : Compiled) → understood now.schema (scan_text what) ≡ Ok c → (db : Database) (params : Row) → EndsIn c.command db params
 ends (All keyed.Entry) now has = ends_at (list_text keyed.Entry) read_all_entry entry _ _ _ _ _ _ _ _ reads_all_entry now.schema has
 ends (Of keyed.Entry n) now has = ends_at (select_text keyed.Entry) read_of_entry entry _ _ _ _ _ _ _ _ reads_of_entry now.schema has
 ends (All keyed.Word) now has = ends_at (list_text keyed.Word) read_all_word word _ _ _ _ _ _ _ _ reads_all_word now.schema has
@@ -67,8 +77,23 @@ ends (Of keyed.Gram n) now has = ends_at (select_text keyed.Gram) read_of_gram g
 ends (WithKey n key) now has = ends_at key_text read_by_key entry _ _ _ _ _ _ _ _ reads_by_key now.schema has
 ends (Between n low high) now has = ends_at range_text read_by_range entry _ _ _ _ _ _ _ _ reads_by_range now.schema has
 ends (BetweenReversed n low high) now has = ends_at reversed_text read_by_reversed entry _ _ _ _ _ _ _ _ reads_by_reversed now.schema has
+ends (WithWord n w) now has = asks_ends word_text read_word_text (asked_word now has.0 has.1) (word_names now has.0 has.1) (Int n ∷ Bytes w ∷ []) now (asks_word now has.0 has.1 n w)
+ends (WithGrams n a b) now has = asks_ends gram_text read_gram_text (asked_grams now has.0 has.1) (gram_names now has.0 has.1) (Int n ∷ Bytes a ∷ Bytes b ∷ []) now (asks_grams now has.0 has.1 n a b)
 
-fails_to_read : (what : Scan) (old new : State) → (IsTrue old.is_open → Has (scan_table what) old.now) → (e : Error) → FailsToQuery (scan_text what) (scan_values what) old new e → FailsToRead old new e
+module _ (old new : State) where
+  word_fails : (IsTrue old.is_open → Has word old.now × Has entry old.now) → (n : ℤ) (w : List ℕ) (e : Error) → FailsToQuery word_text (Int n ∷ Bytes w ∷ []) old new e → FailsToRead old new e
+  word_fails has n w e h = elim (cases_Bool old.is_open) [
+    | inl open' ↦ (let both = has open' in asks_fails word_text read_word_text (asked_word old.now both.0 both.1) (word_names old.now both.0 both.1) (Int n ∷ Bytes w ∷ []) old new (asks_word old.now both.0 both.1 n w) e h)
+    | inr shut ↦ shut_query word_text read_word_text word_select reads_word_text.read reads_word_text.statement old new (Int n ∷ Bytes w ∷ []) e shut h
+  ]
+
+  grams_fail : (IsTrue old.is_open → Has gram old.now × Has entry old.now) → (n : ℤ) (a b : List ℕ) (e : Error) → FailsToQuery gram_text (Int n ∷ Bytes a ∷ Bytes b ∷ []) old new e → FailsToRead old new e
+  grams_fail has n a b e h = elim (cases_Bool old.is_open) [
+    | inl open' ↦ (let both = has open' in asks_fails gram_text read_gram_text (asked_grams old.now both.0 both.1) (gram_names old.now both.0 both.1) (Int n ∷ Bytes a ∷ Bytes b ∷ []) old new (asks_grams old.now both.0 both.1 n a b) e h)
+    | inr shut ↦ shut_query gram_text read_gram_text gram_select reads_gram_text.read reads_gram_text.statement old new (Int n ∷ Bytes a ∷ Bytes b ∷ []) e shut h
+  ]
+
+fails_to_read : (what : Scan) (old new : State) → (IsTrue old.is_open → HasTables what old.now) → (e : Error) → FailsToQuery (scan_text what) (scan_values what) old new e → FailsToRead old new e
 fails_to_read (All keyed.Entry) old new has = fails_read (list_text keyed.Entry) read_all_entry entry _ _ _ _ _ _ _ _ reads_all_entry nothing takes_all_entry tt old new has
 fails_to_read (Of keyed.Entry n) old new has = fails_read (select_text keyed.Entry) read_of_entry entry _ _ _ _ _ _ _ _ reads_of_entry a_number takes_of_entry n old new has
 fails_to_read (All keyed.Word) old new has = fails_read (list_text keyed.Word) read_all_word word _ _ _ _ _ _ _ _ reads_all_word nothing takes_all_word tt old new has
@@ -78,6 +103,8 @@ fails_to_read (Of keyed.Gram n) old new has = fails_read (select_text keyed.Gram
 fails_to_read (WithKey n key) old new has = fails_read key_text read_by_key entry _ _ _ _ _ _ _ _ reads_by_key a_key takes_by_key (n, key) old new has
 fails_to_read (Between n low high) old new has = fails_read range_text read_by_range entry _ _ _ _ _ _ _ _ reads_by_range a_range takes_by_range (n, low, high) old new has
 fails_to_read (BetweenReversed n low high) old new has = fails_read reversed_text read_by_reversed entry _ _ _ _ _ _ _ _ reads_by_reversed a_range takes_by_reversed (n, low, high) old new has
+fails_to_read (WithWord n w) old new has = word_fails old new has n w
+fails_to_read (WithGrams n a b) old new has = grams_fail old new has n a b
 
 none_committed : (what : Scan) (params : Row) (s : State) (db : Trees) → ¬ CommitsShowing (scan_text what) params s db
 none_committed (All keyed.Entry) = commits_none (list_text keyed.Entry) read_all_entry _ reads_all_entry.read (reads_all_entry.statement 0)
@@ -89,6 +116,8 @@ none_committed (Of keyed.Gram n) = commits_none (select_text keyed.Gram) read_of
 none_committed (WithKey n key) = commits_none key_text read_by_key _ reads_by_key.read (reads_by_key.statement 0)
 none_committed (Between n low high) = commits_none range_text read_by_range _ reads_by_range.read (reads_by_range.statement 0)
 none_committed (BetweenReversed n low high) = commits_none reversed_text read_by_reversed _ reads_by_reversed.read (reads_by_reversed.statement 0)
+none_committed (WithWord n w) = commits_none word_text read_word_text word_select reads_word_text.read reads_word_text.statement
+none_committed (WithGrams n a b) = commits_none gram_text read_gram_text gram_select reads_gram_text.read reads_gram_text.statement
 
 none_returned : (what : Scan) (schema : Schema) → ¬ Returns (understood schema (scan_text what))
 none_returned (All keyed.Entry) = never_returns (list_text keyed.Entry) read_all_entry _ reads_all_entry.read (reads_all_entry.statement 0)
@@ -100,22 +129,33 @@ none_returned (Of keyed.Gram n) = never_returns (select_text keyed.Gram) read_of
 none_returned (WithKey n key) = never_returns key_text read_by_key _ reads_by_key.read (reads_by_key.statement 0)
 none_returned (Between n low high) = never_returns range_text read_by_range _ reads_by_range.read (reads_by_range.statement 0)
 none_returned (BetweenReversed n low high) = never_returns reversed_text read_by_reversed _ reads_by_reversed.read (reads_by_reversed.statement 0)
+none_returned (WithWord n w) = never_returns word_text read_word_text word_select reads_word_text.read reads_word_text.statement
+none_returned (WithGrams n a b) = never_returns gram_text read_gram_text gram_select reads_gram_text.read reads_gram_text.statement
 
 commits_nothing : (what : Scan) (old new : State) → Survives old new (CommitsShowing (scan_text what) (scan_values what) old) → Survives old new (λ _. ⊥)
 commits_nothing what old new s = survives_weaker old new _ _ (λ clean db. none_committed what (scan_values what) old db) s
 
+tables_stay : (what : Scan) (old new : Database) → new.schema ≡ old.schema → HasTables what old → HasTables what new
+tables_stay (All t) old new same has = still_has (scan_table (All t)) old new same has
+tables_stay (Of t n) old new same has = still_has (scan_table (Of t n)) old new same has
+tables_stay (WithKey n key) old new same has = still_has entry old new same has
+tables_stay (Between n low high) old new same has = still_has entry old new same has
+tables_stay (BetweenReversed n low high) old new same has = still_has entry old new same has
+tables_stay (WithWord n w) old new same has = (still_has word old new same has.0, still_has entry old new same has.1)
+tables_stay (WithGrams n a b) old new same has = (still_has gram old new same has.0, still_has entry old new same has.1)
+
 module _ {S : Type 0} (g : Ghosts S) (what : Scan) where
-  has_later : (old new : Held S) → IsUnchanged (state g old) (state g new) → Has (scan_table what) (state g old).now → Has (scan_table what) (state g new).now
-  has_later old new same = still_has (scan_table what) (state g old).now (state g new).now (ap (λ (d : Database). d.schema) same.0.now_is)
+  has_later : (old new : Held S) → IsUnchanged (state g old) (state g new) → HasTables what (state g old).now → HasTables what (state g new).now
+  has_later old new same = tables_stay what (state g old).now (state g new).now (ap (λ (d : Database). d.schema) same.0.now_is)
 
   -- what was given so far is a front of the whole
-  front : (old new : Held S) (given : List Row) → IsUnchanged (state g old) (state g new) → Has (scan_table what) (state g new).now → kit.HasGiven g (scan_text what) (scan_values what) new given → IsFront what (state g new).now given
+  front : (old new : Held S) (given : List Row) → IsUnchanged (state g old) (state g new) → HasTables what (state g new).now → kit.HasGiven g (scan_text what) (scan_values what) new given → IsFront what (state g new).now given
   front old new given same has runs =
       let s = state g new in
       let all = begins_shown (scan_text what) (scan_values what) s s given (given_begin g (scan_text what) (scan_values what) new given runs) (still (state g old) s same) (λ c db it source. ends what s.now has c it.is db (timed (scan_values what) c.formats it.now)) in
       (all.0, shows what s s (given ++ all.0) has all.1)
 
-  begun : (old new : Held S) → Has (scan_table what) (state g old).now → kit.HasBegun g (scan_text what) (scan_values what) old new → HasGiven g what new [] × IsUnchanged (state g old) (state g new)
+  begun : (old new : Held S) → HasTables what (state g old).now → kit.HasBegun g (scan_text what) (scan_values what) old new → HasGiven g what new [] × IsUnchanged (state g old) (state g new)
   begun old new has h =
       let it = begun_plain g (scan_text what) (scan_values what) old new (plainly what (state g old).now has) h in
       let later = has_later old new it.1 has in
@@ -135,7 +175,7 @@ module _ {S : Type 0} (g : Ghosts S) (what : Scan) where
 
 -- ---- how a reading begins
 
-module _ {S : Type 0} (g : Ghosts S) (what : Scan) (old : Held S) (has : WhileOpen (state g old) (Has (scan_table what))) where
+module _ {S : Type 0} (g : Ghosts S) (what : Scan) (old : Held S) (has : WhileOpen (state g old) (HasTables what)) where
   began_open : (new : Held S) → kit.HasBegun g (scan_text what) (scan_values what) old new → IsTrue (state g old).is_open
   began_open new (inl h) = h.1.0.was_open
   began_open new (inr h) = absurd (none_returned what old.schema h.0)

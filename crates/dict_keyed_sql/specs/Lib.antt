@@ -1,3 +1,5 @@
+pub mod Indexes
+pub mod Joined
 pub mod Scans
 pub mod Tables
 pub mod Texts

@@ -1,5 +1,5 @@
 -- What is read row by row, and what it has given so far.
-use Rattle.std.specs.Prelude.{◌≡◌, ◌⊎◌, ℕ, ℤ, Bool, true, not, ◌&&◌, List, [], ◌∷◌, ◌++◌, codes, Option, Some, None}
+use Rattle.std.specs.Prelude.{◌≡◌, ◌⊎◌, ℕ, ℤ, Bool, true, not, ◌&&◌, List, [], ◌∷◌, ◌++◌, Option, Some, None}
 use Rattle.std.specs.Ordering.{is_lt, is_gt}
 use Rattle.sqlite.specs.declared.types.Value.TheVariants.{Int, Blob as Bytes}
 use Rattle.sqlite.specs.declared.error.Error.TheVariants.{SqliteFailure}
@@ -11,30 +11,30 @@ use Rattle.sqlite.specs.State.{IsUnchanged}
 use Rattle.sqlite.specs.Held.{Held, state}
 use Rattle.sqlite.specs.Given as kit
 use Rattle.sqlite_trees.specs.declared.store.Store.{Ghosts}
-use Rattle.dict_sql.specs.Effects.{Has, equals_number, same_value}
+use Rattle.dict_sql.specs.Effects.{Has, equals_number}
 use Rattle.dict_sql.specs.Columns.{Content, HasColumns}
 use Rattle.dict_sql.specs.declared.records.ReadError.{ReadError}
 use Rattle.dict_sql.specs.declared.records.ReadError.TheVariants.{NoRecord, Store}
 use Rattle.dict_sql.specs.Reads.{IsSelection, FailsToRead}
-use Rattle.dict_keyed_sql.specs.Tables.{table_of, entry}
-use Rattle.dict_keyed_sql.specs.Texts.{list_text, select_text, key_text, range_text, reversed_text}
+use Rattle.dict_keyed_sql.specs.Joined.{equals_octets, with_word, with_grams, IsArranged}
+use Rattle.dict_keyed_sql.specs.Tables.{table_of, entry, word, gram}
+use Rattle.dict_keyed_sql.specs.Texts.{list_text, select_text, key_text, range_text, reversed_text, word_text, gram_text}
 use Rattle.dict_keyed_sql.specs.declared.tables.KeyedTable.{KeyedTable}
 use Rattle.dict_keyed_sql.specs.declared.tables.KeyedTable.TheVariants.{Entry, Word, Gram}
 
--- The octets in a column are these; or from the first on, up to the second, both taken in.
-abbrev pub equals_octets : ℕ → List ℕ → Row → Bool
-equals_octets at b r = same_value (column r at) (Bytes b)
-
+-- The octets in a column are from the first on, up to the second, both taken in.
 abbrev pub is_between : ℕ → List ℕ → List ℕ → Row → Bool
 is_between at low high r = not (is_lt (value_cmp (column r at) (Bytes low))) && not (is_gt (value_cmp (column r at) (Bytes high)))
 
--- which rows are read, one at a time: those of a whole table, or of one edition, or the entries of an edition with a key, or with keys between two, read in either direction
+-- which rows are read, one at a time: those of a whole table, or of one edition; or the entries of an edition with a key, with keys between two, read in either direction, with a word, or with two grams
 pub data Scan : Type 0 where
   All : KeyedTable → Scan
   Of : KeyedTable → ℤ → Scan
   WithKey : ℤ → List ℕ → Scan
   Between : ℤ → List ℕ → List ℕ → Scan
   BetweenReversed : ℤ → List ℕ → List ℕ → Scan
+  WithWord : ℤ → List ℕ → Scan
+  WithGrams : ℤ → List ℕ → List ℕ → Scan
 
 abbrev pub scan_table : Scan → ℕ → Table
 scan_table (All table) = table_of table
@@ -42,9 +42,17 @@ scan_table (Of table edition) = table_of table
 scan_table (WithKey edition key) = entry
 scan_table (Between edition low high) = entry
 scan_table (BetweenReversed edition low high) = entry
+scan_table (WithWord edition w) = entry
+scan_table (WithGrams edition a b) = entry
 
 abbrev pub scan_name : Scan → List ℕ
 scan_name what = (scan_table what 0).name
+
+-- the database has the tables that are read
+abbrev pub HasTables : Scan → Database → Type 0
+HasTables (WithWord edition w) db = Has word db × Has entry db
+HasTables (WithGrams edition a b) db = Has gram db × Has entry db
+HasTables what db = Has (scan_table what) db
 
 -- the text that is run, and the values that it is given
 abbrev pub scan_text : Scan → List ℕ
@@ -53,6 +61,8 @@ scan_text (Of table edition) = select_text table
 scan_text (WithKey edition key) = key_text
 scan_text (Between edition low high) = range_text
 scan_text (BetweenReversed edition low high) = reversed_text
+scan_text (WithWord edition w) = word_text
+scan_text (WithGrams edition a b) = gram_text
 
 abbrev pub scan_values : Scan → Row
 scan_values (All table) = []
@@ -60,14 +70,16 @@ scan_values (Of table edition) = Int edition ∷ []
 scan_values (WithKey edition key) = Int edition ∷ Bytes key ∷ []
 scan_values (Between edition low high) = Int edition ∷ Bytes low ∷ Bytes high ∷ []
 scan_values (BetweenReversed edition low high) = Int edition ∷ Bytes low ∷ Bytes high ∷ []
+scan_values (WithWord edition w) = Int edition ∷ Bytes w ∷ []
+scan_values (WithGrams edition a b) = Int edition ∷ Bytes a ∷ Bytes b ∷ []
 
 -- which rows of the table are read
 abbrev pub scan_test : Scan → Row → Bool
-scan_test (All table) = λ _. true
 scan_test (Of table edition) = equals_number 1 edition
 scan_test (WithKey edition key) = λ r. equals_number 1 edition r && equals_octets 6 key r
 scan_test (Between edition low high) = λ r. equals_number 1 edition r && is_between 6 low high r
 scan_test (BetweenReversed edition low high) = λ r. equals_number 1 edition r && is_between 7 low high r
+scan_test _ = λ _. true
 
 -- the columns that order them, where the rowid is column 0
 abbrev pub whole_order : KeyedTable → List ℕ
@@ -86,9 +98,13 @@ scan_order (Of table edition) = edition_order table
 scan_order (WithKey edition key) = 2 ∷ []
 scan_order (Between edition low high) = 2 ∷ []
 scan_order (BetweenReversed edition low high) = 2 ∷ []
+scan_order (WithWord edition w) = 2 ∷ []
+scan_order (WithGrams edition a b) = 2 ∷ []
 
 -- all rows that are read, in their order
 abbrev pub IsWhole : Scan → Database → List Row → Type 0
+IsWhole (WithWord edition w) db rows = IsArranged (with_word edition w db) (2 ∷ []) rows
+IsWhole (WithGrams edition a b) db rows = IsArranged (with_grams edition a b db) (2 ∷ []) rows
 IsWhole what db rows = IsSelection (scan_name what) (scan_test what) (scan_order what) db rows
 
 -- the first of these rows
@@ -99,7 +115,7 @@ module _ {S : Type 0} (g : Ghosts S) where
   -- the connection reads this, and has given these rows
   pub record HasGiven (what : Scan) (h : Held S) (given : List Row) : Type 0 where
     pub runs : kit.HasGiven g (scan_text what) (scan_values what) h given
-    pub has : Has (scan_table what) (state g h).now
+    pub has : HasTables what (state g h).now
     pub front : IsFront what (state g h).now given
 
   -- one more row is given, or those so far are all

@@ -1,5 +1,5 @@
 -- The tables of what is derived of headwords, as data.
-use Rattle.std.specs.Prelude.{ℕ, List, [], ◌∷◌, codes, None}
+use Rattle.std.specs.Prelude.{ℕ, [], ◌∷◌, codes, None}
 use Rattle.sqlite.specs.Kind.TheVariants.{Integer, Text, Blob}
 use Rattle.sqlite.specs.Table.{Table}
 use Rattle.sqlite_value.specs.Keys.{plain}

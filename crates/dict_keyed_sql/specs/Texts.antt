@@ -44,3 +44,11 @@ range_text = codes "SELECT rowid, * FROM entry WHERE edition = ?1 AND key >= ?2 
 
 abbrev pub reversed_text : List ℕ
 reversed_text = codes "SELECT rowid, * FROM entry WHERE edition = ?1 AND rkey >= ?2 AND rkey <= ?3 ORDER BY 3"
+
+-- the entries of an edition whose keys have a word, in their order
+abbrev pub word_text : List ℕ
+word_text = codes "SELECT e.rowid, e.* FROM word AS w JOIN entry AS e WHERE w.edition = ?1 AND w.word = ?2 AND e.edition = ?1 AND e.ord = w.ord ORDER BY 3"
+
+-- those whose keys have two grams, which may be equal
+abbrev pub gram_text : List ℕ
+gram_text = codes "SELECT e.rowid, e.* FROM gram AS a JOIN gram AS b JOIN entry AS e WHERE a.edition = ?1 AND a.gram = ?2 AND b.edition = ?1 AND b.gram = ?3 AND b.ord = a.ord AND e.edition = ?1 AND e.ord = a.ord ORDER BY 3"

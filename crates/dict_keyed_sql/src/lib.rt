@@ -4,17 +4,22 @@
 mod create;
 mod delete;
 mod found;
+mod indexes;
 mod insert;
 mod inside;
+mod laws;
 mod scan;
 mod tables;
 
 pub use create::create_keyed_table;
 pub use delete::{delete_grams, delete_keyed_entries, delete_words};
 pub use found::has_keyed_table;
+pub use indexes::{KeyIndex, create_key_index};
 pub use insert::{insert_gram, insert_keyed_entry, insert_word};
 pub use inside::entries_inside;
+pub use laws::{index_laws, once_laws};
 pub use scan::{
-    next_keyed, read_between, read_between_reversed, read_rows, read_rows_of, read_with_key,
+    next_keyed, read_between, read_between_reversed, read_rows, read_rows_of, read_with_grams,
+    read_with_key, read_with_word,
 };
 pub use tables::KeyedTable;

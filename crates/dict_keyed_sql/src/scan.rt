@@ -13,8 +13,8 @@ ghost use Rattle.dict_sql.specs.Effects.{Has, WhileOpen};
 ghost use Rattle.dict_sql.specs.Streams.{IsNotBegun};
 ghost use Rattle.dict_keyed_sql.specs.Tables.{table_of, entry};
 ghost use Rattle.dict_keyed_sql.specs.Texts.{list_text, select_text};
-ghost use Rattle.dict_keyed_sql.specs.Scans.{Scan, HasGiven, GivesOn, FailsToGive};
-ghost use Rattle.dict_keyed_sql.specs.Scans.Scan.{All, Of, WithKey, Between, BetweenReversed};
+ghost use Rattle.dict_keyed_sql.specs.Scans.{Scan, HasTables, HasGiven, GivesOn, FailsToGive};
+ghost use Rattle.dict_keyed_sql.specs.Scans.Scan.{All, Of, WithKey, Between, BetweenReversed, WithWord, WithGrams};
 
 use crate::tables::KeyedTable;
 use dict_sql::records::{ReadError, Record};
@@ -138,6 +138,49 @@ pub fn read_between_reversed<'a, S: Alter>(
     conn.query(
         "SELECT rowid, * FROM entry WHERE edition = ?1 AND rkey >= ?2 AND rkey <= ?3 ORDER BY 3",
         params![edition, low, high],
+    )
+}
+
+/// Begins to read the entries of an edition that have this word, in their order, each as often as a row of the table `word` says so.
+///
+/// An error is the store's, or tells that the limit on steps was met.
+pub fn read_with_word<'a, S: Alter>(
+    conn: &'a mut Connection<S>,
+    edition: i64,
+    word: &[u8],
+) -> Result<Rows<'a, S>, Error>
+    requires { WhileOpen (state S.Store conn.old) (HasTables (WithWord edition word.now)) }
+    ensures* refused { sem 𝓛 (RestsIfErr (the_row S.row S.Store) conn.entry (λ rows. rows.conn.ghost_name) result (IsNotBegun S.Store conn.old result)) }
+    ensures same_reference { IfOk result (λ rows. rows.conn.ghost_name ≡ conn.entry.ghost_name) }
+    ensures begun { IfOk result (λ rows. HasCleanDisk (state S.Store rows.conn.now) → HasGiven S.Store (WithWord edition word.now) rows.conn.now [] × IsUnchanged (state S.Store conn.old) (state S.Store rows.conn.now)) }
+    ensures mode { IfOk result (λ rows. conn.old.in_transaction ≡ false → rows.conn.now.in_transaction ≡ false) }
+    ensures survives { IfOk result (λ rows. Survives (state S.Store conn.old) (state S.Store rows.conn.now) (λ _. ⊥)) }
+{
+    conn.query(
+        "SELECT e.rowid, e.* FROM word AS w JOIN entry AS e WHERE w.edition = ?1 AND w.word = ?2 AND e.edition = ?1 AND e.ord = w.ord ORDER BY 3",
+        params![edition, word],
+    )
+}
+
+/// Begins to read the entries of an edition that have both grams, which may be equal, in their order, each as often as rows of the table `gram` say so of both.
+///
+/// An error is the store's, or tells that the limit on steps was met.
+pub fn read_with_grams<'a, S: Alter>(
+    conn: &'a mut Connection<S>,
+    edition: i64,
+    first: &[u8],
+    last: &[u8],
+) -> Result<Rows<'a, S>, Error>
+    requires { WhileOpen (state S.Store conn.old) (HasTables (WithGrams edition first.now last.now)) }
+    ensures* refused { sem 𝓛 (RestsIfErr (the_row S.row S.Store) conn.entry (λ rows. rows.conn.ghost_name) result (IsNotBegun S.Store conn.old result)) }
+    ensures same_reference { IfOk result (λ rows. rows.conn.ghost_name ≡ conn.entry.ghost_name) }
+    ensures begun { IfOk result (λ rows. HasCleanDisk (state S.Store rows.conn.now) → HasGiven S.Store (WithGrams edition first.now last.now) rows.conn.now [] × IsUnchanged (state S.Store conn.old) (state S.Store rows.conn.now)) }
+    ensures mode { IfOk result (λ rows. conn.old.in_transaction ≡ false → rows.conn.now.in_transaction ≡ false) }
+    ensures survives { IfOk result (λ rows. Survives (state S.Store conn.old) (state S.Store rows.conn.now) (λ _. ⊥)) }
+{
+    conn.query(
+        "SELECT e.rowid, e.* FROM gram AS a JOIN gram AS b JOIN entry AS e WHERE a.edition = ?1 AND a.gram = ?2 AND b.edition = ?1 AND b.gram = ?3 AND b.ord = a.ord AND e.edition = ?1 AND e.ord = a.ord ORDER BY 3",
+        params![edition, first, last],
     )
 }
 

@@ -1,0 +1,28 @@
+#!/usr/bin/env bash
+# Times 65,536 and 262,144 entries with their words and grams inserted by one transaction, and the selections over them, beside Python's sqlite3 module with the same rows: bench/keyed/run.sh [PROGRAM]
+# PROGRAM is one that was built of program.txt; without it, it is proved and built in a copy of the crates.
+# Outside the gate: it needs python3.
+set -e
+here=$(cd "$(dirname "$0")" && pwd)
+top=$(cd "$here/../.." && pwd)
+work=$(mktemp -d)
+trap 'rm -rf "$work"' EXIT
+program=${1:-}
+if [[ -z $program ]]; then
+    needs='dict_keyed_sql dict_derived dict_sql dict_records dict_tables dict_match dict_text'
+    mkdir -p "$work/crates/keyed/src"
+    for crate in $needs; do
+        cp -r "$top/crates/$crate" "$work/crates/"
+        grep "^$crate:" "$top/crates.txt" >> "$work/crates.txt"
+    done
+    echo 'keyed: dict_keyed_sql dict_derived dict_match dict_records dict_sql dict_tables sqlite' >> "$work/crates.txt"
+    cp "$top/HANDLES" "$work/"
+    cp "$here/program.txt" "$work/crates/keyed/src/main.rt"
+    for folder in specs proofs; do
+        mkdir -p "$work/crates/keyed/$folder"
+        echo '-- none' > "$work/crates/keyed/$folder/Lib.antt"
+    done
+    (cd "$work/crates/keyed" && rt run) > "$work/built" 2>&1 || { cat "$work/built"; exit 1; }
+    program=$work/crates/keyed/out/keyed
+fi
+python3 "$here/keyed.py" "$program" "$work"
