@@ -2,6 +2,5 @@ mod catalogues;
 mod editing;
 mod faults;
 mod fixtures;
-mod serving;
 mod sessions;
 mod usage;
