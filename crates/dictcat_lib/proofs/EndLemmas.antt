@@ -17,7 +17,7 @@ use Rattle.dict_printed.specs.declared.fault.Fault.TheVariants.{Line, Edition, R
 use Rattle.dict_printed.specs.Writing.{IsUntouched}
 use Rattle.dictcat_lib.specs.Opening.{over_told, HasSpoken}
 use Rattle.dictcat_lib.proofs.WritingLemmas.{list_spoils, audit_spoils, task_spoils, serves_not_3, serves_failed, spared, spoils_not_3, spoiled_failed}
-use Rattle.dictcat_lib.specs.Program.{CommandEnds, HasToldAtMost, IsDone, IsFailed, IsBroken, Shows, TaskEnds}
+use Rattle.dictcat_lib.specs.Program.{CommandEnds, HasToldAtMost, IsDone, IsFailed, Shows, TaskEnds}
 
 status_at_most_4 : (fault : Fault) → status_of fault ≤ 4
 status_at_most_4 (Line refusal line) = omega arith
