@@ -4,6 +4,7 @@ use Rattle.std.specs.declared.net.socket_addr.SocketAddr.{SocketAddr}
 use Rattle.std.specs.Net.Text.{socket_text}
 use Rattle.dict_io.specs.Streams.{Change, PutsAll, PutsFront}
 use Rattle.dict_driver.specs.Binding.{Binds}
+use Rattle.dict_driver.specs.declared.driver.Driver.{Driver}
 use Rattle.dict_driver.specs.declared.fault.BindFault.{BindFault}
 use Rattle.dict_driver.specs.declared.fault.BindFault.TheVariants as bind_faults
 use Rattle.dict_printed.specs.Writing.{IsUntouched}
@@ -31,8 +32,8 @@ TellsOf dict http bind_faults.Memory fault = fault ≡ faults.Memory
 
 -- It is listened at both, and they are written. Where it is not, the first fault is told, and nothing is written; where the
 -- writer fails a front is written, and where memory runs out nothing
-abbrev pub Begins : {D : Type 0} → List ℕ → List ℕ → Result D Fault → Change → Type 0
-Begins dict http (Ok driver) writer = (readers : SocketAddr) × (editors : SocketAddr) × PutsAll writer.old writer.new (lines_of readers editors)
+abbrev pub Begins : List ℕ → List ℕ → Result Driver Fault → Change → Type 0
+Begins dict http (Ok driver) writer = Binds dict http (Ok driver) × PutsAll writer.old writer.new (lines_of driver.addresses.0 driver.addresses.1)
 Begins dict http (Err fault) writer =
     ((why : BindFault) × Binds {D = Unit {0}} dict http (Err why) × TellsOf dict http why fault × IsUntouched writer)
     ⊎ (((fault ≡ faults.CannotWrite) × ((readers : SocketAddr) × (editors : SocketAddr) × PutsFront writer.old writer.new (lines_of readers editors)))

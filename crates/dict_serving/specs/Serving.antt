@@ -1,11 +1,11 @@
 -- How serving goes: the stretches of rounds, one for each opening of the file.
-use Rattle.std.specs.Prelude.{◌≡◌, ◌⊎◌, ℕ, Bool, false, List, [], ◌∷◌, Option, Result, Ok, Err, codes, ⊤}
-use Rattle.std.specs.declared.net.socket_addr.SocketAddr.{SocketAddr}
+use Rattle.std.specs.Prelude.{◌≡◌, ◌⊎◌, ℕ, Bool, true, false, List, [], ◌∷◌, Option, Result, Ok, Err, codes, ⊤}
 use Rattle.dict_catalogue.specs.Steps.{Catalogue}
 use Rattle.dict_io.specs.Streams.{Change, PutsAll}
 use Rattle.dict_hub.specs.Runs.{IsAt, beginning}
 use Rattle.dict_driver.specs.Leading.{HasLedOn}
 use Rattle.dict_driver.specs.Rounds.{Moves}
+use Rattle.dict_driver.specs.Binding.{IsAddress}
 use Rattle.dict_driver.specs.declared.driver.Driver.{Driver}
 use Rattle.dict_printed.specs.Writing.{IsUntouched}
 use Rattle.dict_printed.specs.declared.fault.Fault.{Fault}
@@ -20,13 +20,25 @@ pub record Stretch (K : Type 0) : Type 0 where
 abbrev pub IsOpen : {K : Type 0} → (K → Bool) → (K → Type 0) → K → Type 0
 IsOpen is_closed IsOpened desk = IsOpened desk ⊎ (is_closed desk ≡ false)
 
+-- the first stretch, if there is one, is over this desk
+abbrev pub IsFirst : {K : Type 0} → K → List (Stretch K) → Type 0
+IsFirst desk [] = ⊤
+IsFirst desk (one ∷ others) = one.opened ≡ desk
+
+-- where others follow a stretch, its store had failed
+abbrev pub GaveWay : {K : Type 0} → (K → Bool) → Stretch K → List (Stretch K) → Type 0
+GaveWay is_closed one [] = ⊤
+GaveWay is_closed one (other ∷ others) = is_closed one.left ≡ true
+
 -- all rounds were made, or sockets couldn't be waited for, or the file couldn't be opened anew
 abbrev pub Ends : {A : Type 0} → (Fault → Type 0) → Result A Fault → Type 0
 Ends Unopened (Ok _) = ⊤
 Ends Unopened (Err fault) = IsWaitingFault fault ⊎ Unopened fault
 
--- By what a desk shows, what a stop may leave of it, that what it stands on has returned what was written, and that it was opened.
-module _ {K : Type 0} (Shows : K → Catalogue → Type 0) (LeavesOneOf : K → List (Option Catalogue) → Type 0) (IsTrusted : K → Type 0) (IsOpened : K → Type 0) where
+-- By what a desk shows, what a stop may leave of it, that what it stands on has returned what was written, that it was opened, and
+-- whether its store has failed.
+module _ {K : Type 0} (Shows : K → Catalogue → Type 0) (LeavesOneOf : K → List (Option Catalogue) → Type 0) (IsTrusted : K → Type 0) (IsOpened : K → Type 0)
+    (is_closed : K → Bool) where
   -- Over the desk of one opening events led the hub from where it was to where it is, and what waits for each connection is what
   -- waited and what its own events put, without a front that was sent
   pub record IsOver (one : Stretch K) (old new : Driver) : Type 0 where
@@ -35,21 +47,24 @@ module _ {K : Type 0} (Shows : K → Catalogue → Type 0) (LeavesOneOf : K → 
         (λ events. Moves old.connections new.connections events)
     pub trust : IsTrusted one.left → IsTrusted one.opened
 
-  -- one stretch after the other, each from where the one before it left the hub and the connections
+  -- one stretch after the other, each from where the one before it left the hub and the connections, and each but the first because
+  -- the store of the one before it had failed
   abbrev pub AreServed : List (Stretch K) → Driver → Driver → Type 0
   AreServed [] old new = new ≡ old
-  AreServed (one ∷ others) old new = (between : Driver) × IsOver one old between × AreServed others between new
+  AreServed (one ∷ others) old new = (between : Driver) × IsOver one old between × GaveWay is_closed one others × AreServed others between new
 
-  -- The addresses were told, and stretches led from a hub with no connection, of the host `localhost`, whose first id is to be 1
-  pub record HasServed (result : Result (Unit {0}) Fault) (Unopened : Fault → Type 0) (writer : Change) : Type 0 where
-    pub readers : SocketAddr
-    pub editors : SocketAddr
-    pub told : PutsAll writer.old writer.new (lines_of readers editors)
+  -- Both texts are addresses, and those that are listened at were told. Stretches, the first over this desk, led from a hub with no
+  -- connection, of the host `localhost`, whose first id is to be 1
+  pub record HasServed (desk : K) (dict http : List ℕ) (result : Result (Unit {0}) Fault) (Unopened : Fault → Type 0) (writer : Change) : Type 0 where
     pub first : Driver
     pub last : Driver
+    pub readers : IsAddress dict
+    pub editors : IsAddress http
+    pub told : PutsAll writer.old writer.new (lines_of first.addresses.0 first.addresses.1)
     pub begins : IsAt first.hub (beginning (codes "localhost"))
     pub no_id : first.connections.last ≡ 0
     pub stretches : List (Stretch K)
+    pub over : IsFirst desk stretches
     pub served : AreServed stretches first last
     pub ends : Ends Unopened result
 
@@ -57,5 +72,5 @@ module _ {K : Type 0} (Shows : K → Catalogue → Type 0) (LeavesOneOf : K → 
   abbrev pub ServeEnds : (List ℕ → Fault → Type 0) → List ℕ → List ℕ → List ℕ → Result (Unit {0}) Fault → Change → Type 0
   ServeEnds IsUnopened path dict http result writer =
       ((fault : Fault) × (result ≡ Err fault) × IsUnopened path fault × IsUntouched writer)
-      ⊎ (((fault : Fault) × (result ≡ Err fault) × Begins {D = Driver} dict http (Err fault) writer)
-      ⊎ HasServed result (IsUnopened path) writer)
+      ⊎ ((desk : K) × IsOpened desk × (((fault : Fault) × (result ≡ Err fault) × Begins dict http (Err fault) writer)
+      ⊎ HasServed desk dict http result (IsUnopened path) writer))

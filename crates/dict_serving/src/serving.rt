@@ -1,7 +1,7 @@
 // Rounds over the desk of a file, which is opened anew where its store failed.
-ghost use Rattle.std.specs.Prelude.{◌≡◌, ◌<◌, IfOk, List, MatchResult};
+ghost use Rattle.std.specs.Prelude.{◌≡◌, ◌<◌, true, IfOk, List, MatchResult};
 ghost use Rattle.dict_io.specs.Streams.{change};
-ghost use Rattle.dict_serving.specs.Serving.{AreServed, Ends, IsOpen, IsOver, ServeEnds, Stretch};
+ghost use Rattle.dict_serving.specs.Serving.{AreServed, Ends, IsFirst, IsOpen, IsOver, ServeEnds, Stretch};
 
 use crate::desks::Desks;
 use crate::listening::{Wanted, listen, waiting_fault};
@@ -26,7 +26,7 @@ pub fn serve_catalogue<'w, K: Keeper + Drop, D: Desks<'w, K>, W: Sink>(
     wanted: &Wanted<'w>,
     writer: &mut W,
 ) -> Result<(), Fault<'w>>
-    ensures ends { ServeEnds K.shows K.leaves_one_of K.is_trusted D.is_opened D.is_unopened (D.path desks.old) wanted.now.dict.now wanted.now.http.now result
+    ensures ends { ServeEnds K.shows K.leaves_one_of K.is_trusted D.is_opened K.is_closed D.is_unopened (D.path desks.old) wanted.now.dict.now wanted.now.http.now result
         (change W.stream writer.old writer.new) }
     ensures path { D.path desks.new ≡ D.path desks.old }
 {
@@ -56,7 +56,7 @@ pub fn serve_rounds<'w, K: Keeper + Drop, D: Desks<'w, K>>(
 ) -> Result<K, Fault<'w>>
     requires { D.is_opened desk }
     ensures stands { IfOk result (IsOpen K.is_closed D.is_opened) }
-    ensures served { (stretches : List (Stretch K)) × AreServed K.shows K.leaves_one_of K.is_trusted D.is_opened stretches driver.old driver.new }
+    ensures served { (stretches : List (Stretch K)) × AreServed K.shows K.leaves_one_of K.is_trusted D.is_opened K.is_closed stretches driver.old driver.new × IsFirst desk stretches }
     ensures ends { Ends (D.is_unopened (D.path desks.old)) result }
     ensures path { D.path desks.new ≡ D.path desks.old }
 {
@@ -84,7 +84,8 @@ fn serve_stretch<'w, K: Keeper + Drop, D: Desks<'w, K>>(
 ) -> Result<Pending<K>, Fault<'w>>
     requires opened { D.is_opened pending.desk }
     requires some { 0 < pending.left }
-    ensures served { (left : K) × IsOver K.shows K.leaves_one_of K.is_trusted D.is_opened (record { opened = pending.desk; left = left }) driver.old driver.new }
+    ensures served { (left : K) × IsOver K.shows K.leaves_one_of K.is_trusted D.is_opened K.is_closed (record { opened = pending.desk; left = left }) driver.old driver.new
+        × IfOk result (λ next. 0 < next.left → K.is_closed left ≡ true) }
     ensures opened { IfOk result (λ next. 0 < next.left → D.is_opened next.desk) }
     ensures stands { IfOk result (λ next. IsOpen K.is_closed D.is_opened next.desk) }
     ensures fewer { IfOk result (λ next. next.left < pending.left) }

@@ -99,11 +99,11 @@ module _ {S : Type 0} (g : Ghosts S) where
   serves_spoils : (path dict http : List ℕ) (fault : Fault) (writer : Change) → ServesOn g path dict http (Err fault) writer → Spoils fault writer ⊎ HasTold writer
   unfolding Rattle.dictcat_lib.specs.Serving.ServesOn
   serves_spoils path dict http fault writer (inl h) = inl (inl h.3)
-  serves_spoils path dict http fault writer (inr (inl (other, is, inl h))) = inl (inl h.3)
-  serves_spoils path dict http fault writer (inr (inl (other, is, inr (inl (same, (readers, editors, put)))))) =
+  serves_spoils path dict http fault writer (inr (desk, opened, inl (other, is, inl h))) = inl (inl h.3)
+  serves_spoils path dict http fault writer (inr (desk, opened, inl (other, is, inr (inl (same, (readers, editors, put)))))) =
       let e : fault ≡ CannotWrite = cc in inl (inr (e, put.failures))
-  serves_spoils path dict http fault writer (inr (inl (other, is, inr (inr h)))) = inl (inl h.1)
-  serves_spoils path dict http fault writer (inr (inr served)) = inr (served.readers, served.editors, served.told)
+  serves_spoils path dict http fault writer (inr (desk, opened, inl (other, is, inr (inr h)))) = inl (inl h.1)
+  serves_spoils path dict http fault writer (inr (desk, opened, inr served)) = inr (served.first.addresses.0, served.first.addresses.1, served.told)
 
   pub serves_not_3 : (path dict http : List ℕ) (fault : Fault) (writer : Change) → (3 ≡ status_of fault → ⊥) → ServesOn g path dict http (Err fault) writer
       → IsUntouched writer ⊎ HasTold writer

@@ -1,24 +1,34 @@
-use Rattle.std.proofs.Common.{◌∙◌, [], ◌++◌, ◌∷◌}
+use Rattle.std.proofs.Common.{◌∙◌, [], ◌++◌, ◌∷◌, inl, refl}
 use Rattle.dict_serving.specs.Serving.{Stretch}
-use Rattle.dict_serving.proofs.StretchLemmas.{served_more}
+use Rattle.dict_serving.proofs.StretchLemmas.{failed_more, first_more, next_more, served_more}
 use Rattle.dict_serving.proofs.serving.serve_rounds.Goals as goal
+
+pub loop-pending-init : goal.loop-pending-init
+loop-pending-init g c = record { served = ([], refl, tt, refl, λ some. tt); opened = λ some. c.requires; stands = inl c.requires; path = refl; }
 
 pub returns-in_err-pending-clause-served : goal.returns-in_err-pending-clause-served
 returns-in_err-pending-clause-served g c =
+    let held = c.loop-pending.invariant.served in
     let one : Stretch _ = record { opened = c.loop-pending.pending.desk; left = c.serve_stretch.ensures.served.0 } in (
-      c.loop-pending.invariant.served.0 ++ one ∷ [],
-      served_more g.K.Lookup.shows g.K.Lookup.leaves_one_of g.K.Lookup.is_trusted g.D.Desks.is_opened c.loop-pending.invariant.served.0 one c.args.driver.now c.loop-pending.driver c.serve_stretch.new.driver
-          c.loop-pending.invariant.served.1 c.serve_stretch.ensures.served.1,
+      held.0 ++ one ∷ [],
+      served_more g.K.Lookup.shows g.K.Lookup.leaves_one_of g.K.Lookup.is_trusted g.D.Desks.is_opened g.K.Lookup.is_closed held.0 one c.args.driver.now c.loop-pending.driver c.serve_stretch.new.driver
+          held.1 (held.4 c.loop-pending-test.true) c.serve_stretch.ensures.served.1,
+      first_more c.args.desk held.0 one held.2 held.3,
     )
 
 pub loop-pending-preserved : goal.loop-pending-preserved
 loop-pending-preserved g c =
-    let one : Stretch _ = record { opened = c.loop-pending.pending.desk; left = c.serve_stretch.ensures.served.0 } in
+    let held = c.loop-pending.invariant.served in
+    let over = c.in_ok-pending.ensures.served in
+    let one : Stretch _ = record { opened = c.loop-pending.pending.desk; left = over.0 } in
     record {
       served = (
-        c.loop-pending.invariant.served.0 ++ one ∷ [],
-        served_more g.K.Lookup.shows g.K.Lookup.leaves_one_of g.K.Lookup.is_trusted g.D.Desks.is_opened c.loop-pending.invariant.served.0 one c.args.driver.now c.loop-pending.driver c.serve_stretch.new.driver
-            c.loop-pending.invariant.served.1 c.serve_stretch.ensures.served.1,
+        held.0 ++ one ∷ [],
+        served_more g.K.Lookup.shows g.K.Lookup.leaves_one_of g.K.Lookup.is_trusted g.D.Desks.is_opened g.K.Lookup.is_closed held.0 one c.args.driver.now c.loop-pending.driver c.serve_stretch.new.driver
+            held.1 (held.4 c.loop-pending-test.true) over.1,
+        first_more c.args.desk held.0 one held.2 held.3,
+        next_more c.args.desk held.0 one c.in_ok-pending.pending.desk,
+        λ some. failed_more g.K.Lookup.is_closed held.0 one (over.2 some),
       );
       opened = c.in_ok-pending.ensures.opened;
       stands = c.in_ok-pending.ensures.stands;
