@@ -7,33 +7,41 @@ returns-in_err-desk-2-clause-ends g c =
     let error = err_from_is_err_and c.from_residual-in_err-desk-2.result c.from_residual-in_err-desk-2.ensures.1 in
     let ends = rw c.open.ensures.path at c.in_err-desk-2.ensures.ends in
     let told = c.in-Ok.ensures.begins in
-    rw (error.1, error.2) (inr (c.in_ok-desk.desk, c.in_ok-desk.ensures.opened, inr (record {
-      first = c.in-Ok.driver;
-      last = c.serve_rounds.new.driver;
-      readers = told.0.0;
-      editors = told.0.1;
-      told = told.1;
-      begins = c.in-Ok.ensures.beginning;
-      no_id = c.in-Ok.ensures.last;
-      stretches = c.serve_rounds.ensures.served.0;
-      over = c.serve_rounds.ensures.served.2;
-      served = c.serve_rounds.ensures.served.1;
-      ends = ends;
-    })))
+    rw (error.1, error.2) (inr (
+      c.in_ok-desk.desk,
+      c.in_ok-desk.ensures.opened,
+      inr (record {
+        first = c.in-Ok.driver;
+        last = c.serve_rounds.new.driver;
+        readers = told.0.0;
+        editors = told.0.1;
+        told = told.1;
+        begins = c.in-Ok.ensures.beginning;
+        no_id = c.in-Ok.ensures.last;
+        stretches = c.serve_rounds.ensures.served.0;
+        over = c.serve_rounds.ensures.served.2;
+        served = c.serve_rounds.ensures.served.1;
+        ends = ends;
+      }),
+    ))
 
 pub returns-clause-ends : goal.returns-clause-ends
 returns-clause-ends g c =
     let told = c.in-Ok.ensures.begins in
-    inr (c.in_ok-desk.desk, c.in_ok-desk.ensures.opened, inr (record {
-      first = c.in-Ok.driver;
-      last = c.serve_rounds.new.driver;
-      readers = told.0.0;
-      editors = told.0.1;
-      told = told.1;
-      begins = c.in-Ok.ensures.beginning;
-      no_id = c.in-Ok.ensures.last;
-      stretches = c.serve_rounds.ensures.served.0;
-      over = c.serve_rounds.ensures.served.2;
-      served = c.serve_rounds.ensures.served.1;
-      ends = tt;
-    }))
+    inr (
+      c.in_ok-desk.desk,
+      c.in_ok-desk.ensures.opened,
+      inr (record {
+        first = c.in-Ok.driver;
+        last = c.serve_rounds.new.driver;
+        readers = told.0.0;
+        editors = told.0.1;
+        told = told.1;
+        begins = c.in-Ok.ensures.beginning;
+        no_id = c.in-Ok.ensures.last;
+        stretches = c.serve_rounds.ensures.served.0;
+        over = c.serve_rounds.ensures.served.2;
+        served = c.serve_rounds.ensures.served.1;
+        ends = tt;
+      }),
+    )

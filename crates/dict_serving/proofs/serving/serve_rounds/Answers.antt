@@ -4,7 +4,7 @@ use Rattle.dict_serving.proofs.StretchLemmas.{failed_more, first_more, next_more
 use Rattle.dict_serving.proofs.serving.serve_rounds.Goals as goal
 
 pub loop-pending-init : goal.loop-pending-init
-loop-pending-init g c = record { served = ([], refl, tt, refl, λ some. tt); opened = λ some. c.requires; stands = inl c.requires; path = refl; }
+loop-pending-init g c = record { served = ([], refl, tt, refl, λ some. tt); opened = λ some. c.requires; stands = inl c.requires; path = refl }
 
 pub returns-in_err-pending-clause-served : goal.returns-in_err-pending-clause-served
 returns-in_err-pending-clause-served g c =
