@@ -16,8 +16,8 @@ use Rattle.dict_printed.specs.declared.fault.Fault.{Fault}
 use Rattle.dict_printed.specs.declared.fault.Fault.TheVariants.{Line, Edition, Refused, Store, CannotRead, SessionEnded, CannotWrite, CannotBind, CannotWait, Memory}
 use Rattle.dict_printed.specs.Writing.{IsUntouched}
 use Rattle.dictcat_lib.specs.Opening.{over_told, HasSpoken}
-use Rattle.dictcat_lib.proofs.WritingLemmas.{list_spoils, audit_spoils, task_spoils, serves_not_3, serves_failed, spared, spoils_not_3, spoiled_failed}
-use Rattle.dictcat_lib.specs.Program.{CommandEnds, HasToldAtMost, IsDone, IsFailed, Shows, TaskEnds}
+use Rattle.dictcat_lib.proofs.WritingLemmas.{list_spoils, audit_spoils, task_spoils, serves_not_3, serves_failed, failed_more, told_more, spared, spoils_not_3, spoiled_failed}
+use Rattle.dictcat_lib.specs.Program.{AskToServe, CommandEnds, HasToldAtMost, IsDone, IsFailed, IsServer, Shows, TaskEnds}
 
 status_at_most_4 : (fault : Fault) → status_of fault ≤ 4
 status_at_most_4 (Line refusal line) = omega arith
@@ -114,7 +114,7 @@ module _ {S : Type 0} (g : Ghosts S) where
 
   -- a refused task touches nothing but what a server told
   task_refused : (files : List ℕ → Option (List ℕ)) (task : Task) (fault : Fault) (reader writer : Change)
-      → TaskEnds g files task (Err fault) reader writer → 1 ≡ status_of fault → HasToldAtMost reader writer
+      → TaskEnds g files task (Err fault) reader writer → 1 ≡ status_of fault → HasToldAtMost (IsServer task) reader writer
   unfolding Rattle.dictcat_lib.specs.Plain.FilesEnd Rattle.dictcat_lib.specs.Opening.SessionEnds
   task_refused files (Plain name index text) (Line refusal line) reader writer (inl h) e = spared (h.4.1, h.4.2)
   task_refused files (Plain name index text) (Line refusal line) reader writer (inr h) e = spared (h.1, h.2)
@@ -140,9 +140,10 @@ module _ {S : Type 0} (g : Ghosts S) where
 
   -- with 1 or 2 nothing was touched, but with 1 what a server told
   pub refused : (files : List ℕ → Option (List ℕ)) (words : List (List ℕ)) (reader writer faults : Change)
-      → CommandEnds g files words 1 reader writer faults → HasToldAtMost reader writer
+      → CommandEnds g files words 1 reader writer faults → HasToldAtMost (AskToServe words) reader writer
   refused files words reader writer faults (inl (Ok end, h, closes)) = absurd (omega (arith, closes.0))
-  refused files words reader writer faults (inl (Err fault, inl (task, asks, ends), closes)) = task_refused files task fault reader writer ends closes.0
+  refused files words reader writer faults (inl (Err fault, inl (task, asks, ends), closes)) =
+      told_more reader writer (λ is. (task, is, asks)) (task_refused files task fault reader writer ends closes.0)
   refused files words reader writer faults (inl (Err fault, inr (inl shown), closes)) = absurd (never_refused fault writer shown.2 closes.0)
   refused files words reader writer faults (inl (Err fault, inr (inr memory), closes)) = spared (memory.1, memory.2)
   refused files words reader writer faults (inr h) = spared (h.2, h.3)
@@ -154,8 +155,8 @@ module _ {S : Type 0} (g : Ghosts S) where
   misread files words reader writer faults (inr h) = (h.2, h.3)
 
   -- a session over a file that was told as broken
-  spoken_failed : (conn left : Held S) (fault : Fault) (end : Result End FileFault) (reader writer : Change)
-      → Err fault ≡ over_told end → HasSpoken g conn left end reader writer → IsFailed g reader writer
+  spoken_failed : {May : Type 0} (conn left : Held S) (fault : Fault) (end : Result End FileFault) (reader writer : Change)
+      → Err fault ≡ over_told end → HasSpoken g conn left end reader writer → IsFailed g May reader writer
   spoken_failed conn left fault (Ok end) reader writer is h = cc
   spoken_failed conn left fault (Err (Opening why)) reader writer is h = inl (spared h.unopened)
   spoken_failed conn left fault (Err (Session session_faults.Memory)) reader writer is h = inl (spared h.unopened)
@@ -165,7 +166,7 @@ module _ {S : Type 0} (g : Ghosts S) where
 
   -- a task that failed
   task_failed : (files : List ℕ → Option (List ℕ)) (task : Task) (fault : Fault) (reader writer : Change)
-      → TaskEnds g files task (Err fault) reader writer → 3 ≡ status_of fault → IsFailed g reader writer
+      → TaskEnds g files task (Err fault) reader writer → 3 ≡ status_of fault → IsFailed g (IsServer task) reader writer
   unfolding Rattle.dictcat_lib.specs.Plain.FilesEnd Rattle.dictcat_lib.specs.Opening.SessionEnds
   task_failed files (Plain name index text) (Line refusal line) reader writer h e = absurd (omega (arith, e))
   task_failed files (Plain name index text) (Edition refusal) reader writer h e = absurd (omega (arith, e))
@@ -192,8 +193,8 @@ module _ {S : Type 0} (g : Ghosts S) where
   task_failed files (SpeaksOver file) fault reader writer (inr (conn, (left, end, is, spoken))) e = spoken_failed conn left fault end reader writer is spoken
 
   -- a text that was not shown
-  shown_failed : (fault : Fault) (reader writer : Change) → IsUntouched reader → Shows (Err fault) writer → 3 ≡ status_of fault
-      → IsFailed g reader writer
+  shown_failed : {May : Type 0} (fault : Fault) (reader writer : Change) → IsUntouched reader → Shows (Err fault) writer → 3 ≡ status_of fault
+      → IsFailed g May reader writer
   shown_failed (Line refusal line) reader writer r h e = absurd h
   shown_failed (Edition refusal) reader writer r h e = absurd h
   shown_failed (Refused refusal) reader writer r h e = absurd h
@@ -207,16 +208,17 @@ module _ {S : Type 0} (g : Ghosts S) where
 
   -- with 3 a file, an output or a session failed
   pub failed : (files : List ℕ → Option (List ℕ)) (words : List (List ℕ)) (reader writer faults : Change)
-      → CommandEnds g files words 3 reader writer faults → IsFailed g reader writer
+      → CommandEnds g files words 3 reader writer faults → IsFailed g (AskToServe words) reader writer
   failed files words reader writer faults (inl (Ok end, h, closes)) = absurd (omega (arith, closes.0))
-  failed files words reader writer faults (inl (Err fault, inl (task, asks, ends), closes)) = task_failed files task fault reader writer ends closes.0
+  failed files words reader writer faults (inl (Err fault, inl (task, asks, ends), closes)) =
+      failed_more g reader writer (λ is. (task, is, asks)) (task_failed files task fault reader writer ends closes.0)
   failed files words reader writer faults (inl (Err fault, inr (inl shown), closes)) = shown_failed fault reader writer shown.1 shown.2 closes.0
   failed files words reader writer faults (inl (Err fault, inr (inr memory), closes)) = inl (spared (memory.1, memory.2))
   failed files words reader writer faults (inr h) = absurd (omega (arith, h.0))
 
   -- memory ran out in a task
   task_memory : (files : List ℕ → Option (List ℕ)) (task : Task) (fault : Fault) (reader writer : Change)
-      → TaskEnds g files task (Err fault) reader writer → 4 ≡ status_of fault → HasToldAtMost reader writer
+      → TaskEnds g files task (Err fault) reader writer → 4 ≡ status_of fault → HasToldAtMost (IsServer task) reader writer
   unfolding Rattle.dictcat_lib.specs.Plain.FilesEnd Rattle.dictcat_lib.specs.Opening.SessionEnds
   task_memory files (Plain name index text) (Line refusal line) reader writer h e = absurd (omega (arith, e))
   task_memory files (Plain name index text) (Edition refusal) reader writer h e = absurd (omega (arith, e))
@@ -240,9 +242,10 @@ module _ {S : Type 0} (g : Ghosts S) where
 
   -- with 4 nothing was touched, but what a server told
   pub memory : (files : List ℕ → Option (List ℕ)) (words : List (List ℕ)) (reader writer faults : Change)
-      → CommandEnds g files words 4 reader writer faults → HasToldAtMost reader writer
+      → CommandEnds g files words 4 reader writer faults → HasToldAtMost (AskToServe words) reader writer
   memory files words reader writer faults (inl (Ok end, h, closes)) = absurd (omega (arith, closes.0))
-  memory files words reader writer faults (inl (Err fault, inl (task, asks, ends), closes)) = task_memory files task fault reader writer ends closes.0
+  memory files words reader writer faults (inl (Err fault, inl (task, asks, ends), closes)) =
+      told_more reader writer (λ is. (task, is, asks)) (task_memory files task fault reader writer ends closes.0)
   memory files words reader writer faults (inl (Err fault, inr (inl shown), closes)) = spared (shown_memory fault reader writer shown.1 shown.2 closes.0)
   memory files words reader writer faults (inl (Err fault, inr (inr early), closes)) = spared (early.1, early.2)
   memory files words reader writer faults (inr h) = absurd (omega (arith, h.0))

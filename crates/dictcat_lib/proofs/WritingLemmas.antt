@@ -1,6 +1,6 @@
 -- What was written where a task over a desk wasn't done.
 use Rattle.std.proofs.Common.{◌≡◌, ℕ, List, Option, Ok, Err, inl, inr, refl, arith, ap}
-use Rattle.std.specs.Prelude.{◌⊎◌, Result}
+use Rattle.std.specs.Prelude.{◌⊎◌, ⊤, Result}
 use Rattle.sqlite_trees.specs.declared.store.Store.{Ghosts}
 use Rattle.dict_io.specs.Streams.{Change, HasFailed}
 use Rattle.dict_index.specs.Edition.{Edition as AnEdition}
@@ -19,7 +19,7 @@ use Rattle.dict_words.specs.Asked.{words_shown}
 use Rattle.dict_words.specs.declared.task.Change.{Change as Asked}
 use Rattle.dict_words.specs.declared.task.Change.TheVariants.{Install, Rollback, Retire, Virtual, Place}
 use Rattle.dictcat_lib.specs.Desks.{IsTrusted, ListEnds, AuditEnds, ChangeEnds, InstallsOn}
-use Rattle.dictcat_lib.specs.Program.{ChangeTaskEnds, IsFailed}
+use Rattle.dictcat_lib.specs.Program.{ChangeTaskEnds, HasToldAtMost, IsFailed}
 use Rattle.dictcat_lib.specs.Serving.{HasTold, ServesOn}
 
 -- nothing was written, or the writer failed and that was told
@@ -34,6 +34,10 @@ spoils_not_3 fault writer other (inr (is, h)) = absurd (other (omega (arith, ap 
 -- nothing was written, not even the addresses of a server
 pub spared : {A B C : Type 0} → A × B → A × (B ⊎ C)
 spared h = (h.0, inl h.1)
+
+pub told_more : {May Other : Type 0} (reader writer : Change) → (May → Other) → HasToldAtMost May reader writer → HasToldAtMost Other reader writer
+told_more reader writer may (r, inl w) = (r, inl w)
+told_more reader writer may (r, inr (is, told)) = (r, inr (may is, told))
 
 pub writes_spoils : (text : List ℕ) (fault : Fault) (writer : Change) → Writes text (Err fault) writer → Spoils fault writer
 writes_spoils text (Line refusal line) writer h = absurd h
@@ -92,9 +96,13 @@ module _ {S : Type 0} (g : Ghosts S) where
   task_spoils files path name id (Virtual title members) fault writer h = change_spoils path id (put_virtual name title.now (words_shown members.items)) fault writer h
   task_spoils files path name id (Place at) fault writer h = change_spoils path id (place name at) fault writer h
 
-  pub spoiled_failed : (fault : Fault) (reader writer : Change) → IsUntouched reader → Spoils fault writer → IsFailed g reader writer
+  pub spoiled_failed : {May : Type 0} (fault : Fault) (reader writer : Change) → IsUntouched reader → Spoils fault writer → IsFailed g May reader writer
   spoiled_failed fault reader writer r (inl h) = inl (r, inl h)
   spoiled_failed fault reader writer r (inr h) = inr (inr (r, h.1))
+
+  pub failed_more : {May Other : Type 0} (reader writer : Change) → (May → Other) → IsFailed g May reader writer → IsFailed g Other reader writer
+  failed_more reader writer may (inl h) = inl (told_more reader writer may h)
+  failed_more reader writer may (inr h) = inr h
 
   serves_spoils : (path dict http : List ℕ) (fault : Fault) (writer : Change) → ServesOn g path dict http (Err fault) writer → Spoils fault writer ⊎ HasTold writer
   unfolding Rattle.dictcat_lib.specs.Serving.ServesOn
@@ -106,14 +114,14 @@ module _ {S : Type 0} (g : Ghosts S) where
   serves_spoils path dict http fault writer (inr (desk, opened, inr served)) = inr (served.first.addresses.0, served.first.addresses.1, served.told)
 
   pub serves_not_3 : (path dict http : List ℕ) (fault : Fault) (writer : Change) → (3 ≡ status_of fault → ⊥) → ServesOn g path dict http (Err fault) writer
-      → IsUntouched writer ⊎ HasTold writer
+      → IsUntouched writer ⊎ (⊤ × HasTold writer)
   serves_not_3 path dict http fault writer other h = elim (serves_spoils path dict http fault writer h) [
     | inl spoils ↦ inl (spoils_not_3 fault writer other spoils)
-    | inr told ↦ inr told
+    | inr told ↦ inr (tt, told)
   ]
 
-  pub serves_failed : (path dict http : List ℕ) (fault : Fault) (reader writer : Change) → IsUntouched reader → ServesOn g path dict http (Err fault) writer → IsFailed g reader writer
+  pub serves_failed : (path dict http : List ℕ) (fault : Fault) (reader writer : Change) → IsUntouched reader → ServesOn g path dict http (Err fault) writer → IsFailed g ⊤ reader writer
   serves_failed path dict http fault reader writer r h = elim (serves_spoils path dict http fault writer h) [
     | inl spoils ↦ spoiled_failed fault reader writer r spoils
-    | inr told ↦ inl (r, inr told)
+    | inr told ↦ inl (r, inr (tt, told))
   ]

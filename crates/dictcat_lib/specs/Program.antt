@@ -1,5 +1,5 @@
 -- How the program ends.
-use Rattle.std.specs.Prelude.{◌≡◌, ◌≢◌, ℕ, ◌⊎◌, List, ◌++◌, Option, Result, Ok, Err, codes}
+use Rattle.std.specs.Prelude.{◌≡◌, ◌≢◌, ℕ, ◌⊎◌, List, ◌++◌, Option, Result, Ok, Err, codes, ⊤}
 use Rattle.clap.specs.Kinds.{IsAmong}
 use Rattle.clap.specs.declared.error.kind.ErrorKind.{ErrorKind}
 use Rattle.clap.specs.declared.error.kind.ErrorKind.TheVariants as kinds
@@ -82,9 +82,18 @@ AnswerEnds words status reader writer faults =
     ((end : Result (Unit {0}) Fault) × IsShown words end reader writer × Closes end status faults)
     ⊎ Misreads words status reader writer faults
 
--- nothing was read, and nothing was written but the addresses that a server listens at
-abbrev pub HasToldAtMost : Change → Change → Type 0
-HasToldAtMost reader writer = IsUntouched reader × (IsUntouched writer ⊎ HasTold writer)
+-- the task is to serve
+abbrev pub IsServer : Task → Type 0
+IsServer (tasks.Serve file dict http rounds) = ⊤
+IsServer _ = ⊥
+
+-- the words ask for a server
+abbrev pub AskToServe : List (List ℕ) → Type 0
+AskToServe words = (task : Task) × IsServer task × Asks words task
+
+-- nothing was read, and nothing was written but, where that may be, the addresses that a server listens at
+abbrev pub HasToldAtMost : Type 0 → Change → Change → Type 0
+HasToldAtMost May reader writer = IsUntouched reader × (IsUntouched writer ⊎ (May × HasTold writer))
 
 module _ {S : Type 0} (g : Ghosts S) where
   -- a session over a lawful database, or over a file's catalogue, was ended by a fault of its reader, its writer or its desk
@@ -93,9 +102,9 @@ module _ {S : Type 0} (g : Ghosts S) where
       ((name : List ℕ) × (index : List ℕ) × (text : List ℕ) × (fault : SessionFault) × (fault ≢ session_faults.Memory) × EndsOver name index text (Err fault) reader writer)
       ⊎ ((conn : Held S) × (left : Held S) × (fault : SessionFault) × (fault ≢ session_faults.Memory) × HasSpoken g conn left (Err (Session fault)) reader writer)
 
-  -- nothing was read or written but the addresses of a server, or a session was broken, or the writer failed where nothing was read
-  abbrev pub IsFailed : Change → Change → Type 0
-  IsFailed reader writer = HasToldAtMost reader writer
+  -- nothing was read or written but, where that may be, the addresses of a server, or a session was broken, or the writer failed where nothing was read
+  abbrev pub IsFailed : Type 0 → Change → Change → Type 0
+  IsFailed May reader writer = HasToldAtMost May reader writer
       ⊎ (IsBroken reader writer ⊎ (IsUntouched reader × HasFailed writer.old.failures writer.new.failures))
 
 -- Over files of these octets, by their paths.
