@@ -18,17 +18,11 @@ import threading
 
 from servers import install, opened, serve
 
+sys.path.append(str(pathlib.Path(__file__).resolve().parent.parent))
+from dictd import spelled
+
 WORDS = 200
 MOST_SECONDS = 0.12
-DIGITS = "ABCDEFGHIJKLMNOPQRSTUVWXYZabcdefghijklmnopqrstuvwxyz0123456789+/"
-
-
-def spelled(number):
-    text = DIGITS[number % 64]
-    while number >= 64:
-        number //= 64
-        text = DIGITS[number % 64] + text
-    return text
 
 
 def edition(count):
@@ -144,7 +138,7 @@ def main():
         for number in range(times):
             server = serve(program, path)
             if editor.begun:
-                stands = shown(server.dict_address) if editor.replies or editor.begun else 0
+                stands = shown(server.dict_address)
                 assert stands in (len(editor.replies), editor.begun), (stands, editor.begun, len(editor.replies))
                 kept, before = kept + (stands > len(editor.replies)), before + (stands < editor.begun)
                 for count in {max(len(editor.replies), 1), editor.begun, random.randint(1, max(len(editor.replies), 1))}:

@@ -1,6 +1,6 @@
 //! The indexes over the entries of an edition by their keys.
 //!
-//! A selection of `scan` answers the same with them and without; with them it reads no more rows than it gives.
+//! A selection of `scan` answers the same with them and without; what they save, `bench/keyed` measures.
 
 ghost use Rattle.std.specs.Prelude.{◌≡◌, codes, IfErr, OnOk};
 ghost use Rattle.sqlite.specs.State.{HasCleanDisk, Survives};
