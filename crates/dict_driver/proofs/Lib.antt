@@ -1,6 +1,7 @@
 pub mod QueueLemmas
 pub mod EventLemmas
 pub mod LeadLemmas
+pub mod OrderLemmas
 pub mod TellLemmas
 pub mod TurnLemmas
 pub mod ListLemmas

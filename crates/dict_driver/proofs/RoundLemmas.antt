@@ -1,5 +1,5 @@
 -- What a round does with the octets that wait.
-use Rattle.std.proofs.Common.{◌≡◌, ◌≢◌, ◌<◌, ◌≤◌, ◌⊎◌, ℕ, Bool, false, List, [], ◌∷◌, ◌++◌, length, get_or, set, refl, sym, ap, ◌∙◌, subst, inl, inr, arith, append_assoc, append-nil}
+use Rattle.std.proofs.Common.{◌≡◌, ◌≢◌, ◌<◌, ◌≤◌, ◌+◌, ◌⊎◌, ℕ, Bool, false, List, [], ◌∷◌, ◌++◌, length, get_or, set, refl, sym, ap, ◌∙◌, subst, inl, inr, arith, append_assoc, append-nil}
 use Rattle.std.specs.Prelude.{Option}
 use Rattle.std.specs.List.{AllPairs, filter}
 use Rattle.std.proofs.lemmas.Bool.Decides.{eqb_tells, leb_tells}
@@ -16,6 +16,7 @@ use Rattle.dict_driver.specs.declared.connection.Connection.{Connection}
 use Rattle.dict_driver.specs.declared.connections.Connections.{Connections}
 use Rattle.dict_driver.specs.declared.transport.Transport.{Ghosts}
 use Rattle.dict_driver.proofs.EventLemmas.{put_joined, events_joined, own_all, own_none}
+use Rattle.dict_driver.proofs.OrderLemmas.{AreBelow, below_joined, turns_of_joined, by_id_joined}
 use Rattle.dict_driver.proofs.ListLemmas.{default_free, among_at, place_among, among_append, among_filter, HaveSameIds, all_among}
 
 pub flows_none : (octets : List ℕ) → Flows octets [] octets
@@ -37,13 +38,24 @@ flows_turn taken coming a b events turns = record { sent = turns.sent; put = tur
 flows_as : (a b : List ℕ) (es fs : List Accepted) (c d : List ℕ) → a ≡ b → es ≡ fs → c ≡ d → Flows a es c → Flows b fs d
 flows_as a b es fs c d p q r flows = subst (λ (l : List ℕ). Flows l fs d) p (subst (λ (l : List Accepted). Flows a l d) q (subst (λ (l : List ℕ). Flows a es l) r flows))
 
+-- each event is of a lesser id than those of the connections from this place on
+abbrev pub AreBelowFrom : {T : Type 0} → List (Connection T) → ℕ → List Accepted → Type 0
+AreBelowFrom {T} all i events = (k : ℕ) (d : Connection T) → i ≤ k → k < length all → AreBelow (get_or all k d).id events
+
+pub below_from_more : {T : Type 0} (all : List (Connection T)) (i own : ℕ) (es fs : List Accepted) → AllPairs (λ a b. a.id < b.id) all → i < length all → ((d : Connection T) → (get_or all i d).id ≡ own)
+    → AreBelowFrom all i es → AreOf own fs → AreBelowFrom all (i + 1) (es ++ fs)
+below_from_more all i own es fs rising within is below of k d from in_all =
+    let lt = rising i k d (omega (arith, from)) in_all in
+    let same = is d in
+    below_joined (get_or all k d).id own es fs (omega (arith, lt, same)) (below k d (omega (arith, from)) in_all) of
+
 pub turn_all_none : {T : Type 0} (all : List (Connection T)) → TurnAll all all []
-turn_all_none all = record { flows = λ k d within. flows_none (waiting (get_or all k d).queue); no_other = λ id apart. refl }
+turn_all_none all = record { flows = λ k d within. flows_none (waiting (get_or all k d).queue); no_other = λ id apart. refl; are_turns = tt; by_id = tt }
 
 -- one more connection had its turn
 pub turn_all_more : {T : Type 0} (taken coming : T → Option (List ℕ)) (old now : List (Connection T)) (i : ℕ) (one after : Connection T) (es fs : List Accepted)
-    → AllPairs (λ a b. a.id < b.id) old → i < length old → HaveSameIds old now → get_or now i one ≡ one → Turns taken coming one after fs → TurnAll old now es → TurnAll old (set now i after) (es ++ fs)
-turn_all_more {T} taken coming old now i one after es fs rising within ids is turns all =
+    → AllPairs (λ a b. a.id < b.id) old → i < length old → HaveSameIds old now → get_or now i one ≡ one → AreBelow one.id es → Turns taken coming one after fs → TurnAll old now es → TurnAll old (set now i after) (es ++ fs)
+turn_all_more {T} taken coming old now i one after es fs rising within ids is below turns all =
     let len = ids.len in
     let in_now : i < length now = omega arith in
     let own_id : (d : Connection T) → (get_or old i d).id ≡ one.id = λ d. sym (ids.same i d within) ∙ ap (λ it. it.id) (default_free now i d one in_now ∙ is) in
@@ -74,6 +86,8 @@ turn_all_more {T} taken coming old now i one after es fs rising within ids is tu
       no_other = λ id apart.
           let here : one.id ≢ id = λ same. apart i one within (own_id one ∙ same) in
           events_joined id es fs ∙ ap (λ l. l ++ events_of id fs) (all.no_other id apart) ∙ own_none one.id id fs turns.own here;
+      are_turns = turns_of_joined es fs all.are_turns turns.are_turns;
+      by_id = by_id_joined one.id es fs all.by_id below turns.own;
     }
 
 pub depart_all_none : {T : Type 0} (all : List (Connection T)) → DepartAll all all

@@ -66,6 +66,7 @@ told_one : (one : Accepted) (old new : Queue) → one.put.old ≡ stream_of old 
     → IsTold one.what true old new (one ∷ [])
 told_one one old new was is (octets, grows) = record {
   own = (refl, tt);
+  only = refl;
   put = octets;
   are_put = (octets, [], (waiting old, ap (λ (s : Stream). s.octets) was, ap (λ (s : Stream). s.octets) is ∙ ap Some grows), refl, sym (append-nil octets));
   order = grows;
@@ -99,6 +100,7 @@ told_accepted T S0 S1 L0 L1 a b what out failed old new leads = record {
 pub told_none : (what : Happening) (old new : Queue) → new ≡ old → IsTold what false old new []
 told_none what old new same = record {
   own = tt;
+  only = tt;
   put = [];
   are_put = refl;
   order = ap waiting same ∙ sym (append-nil (waiting old));

@@ -11,7 +11,9 @@ use Rattle.dict_driver.specs.Events.{AreOf, piece_of, pieces_of}
 use Rattle.dict_driver.specs.Telling.{IsTold}
 use Rattle.dict_driver.specs.Turns.{Hands, Turns}
 use Rattle.dict_driver.specs.declared.connection.Connection.{Connection}
+use Rattle.dict_driver.specs.Ordering.{IsOfTurn}
 use Rattle.dict_driver.proofs.EventLemmas.{put_joined, own_joined, pieces_joined}
+use Rattle.dict_driver.proofs.OrderLemmas.{only_turn, turns_of_joined}
 
 kept_appends : (a b : Option (List ℕ)) → Keeps a b → Appends a b []
 kept_appends None b kept = tt
@@ -30,6 +32,7 @@ turns_kept taken coming a b id queue took comes was_open = record {
   id = id;
   was_open = was_open;
   own = tt;
+  are_turns = tt;
   sent = [];
   takes = kept_appends _ _ took;
   put = [];
@@ -47,6 +50,7 @@ turns_sent taken coming a b (Ok n) id stage sends comes = record {
   id = id;
   was_open = λ still. ap is_open (sym stage) ∙ still;
   own = tt;
+  are_turns = tt;
   sent = take n (waiting a.queue);
   takes = sends.1;
   put = [];
@@ -60,6 +64,7 @@ turns_sent taken coming a b (Err error) id stage sends comes = record {
   id = id;
   was_open = λ still. ap is_open (sym stage) ∙ still;
   own = tt;
+  are_turns = tt;
   sent = [];
   takes = kept_appends _ _ sends.0;
   put = [];
@@ -77,6 +82,7 @@ turns_dropped taken coming a b octets id queue took comes closed = record {
   id = id;
   was_open = λ still. absurd (let never : true ≡ false = sym still ∙ closed in cc);
   own = tt;
+  are_turns = tt;
   sent = [];
   takes = kept_appends _ _ took;
   put = [];
@@ -94,6 +100,7 @@ turns_read taken coming a b c octets events id stage queue took comes hands = re
   id = hands.id ∙ id;
   was_open = λ still. ap is_open (sym stage) ∙ hands.was_open still;
   own = subst (λ (i : ℕ). AreOf i events) id hands.own;
+  are_turns = hands.are_turns;
   sent = [];
   takes = subst (λ t. Appends (taken a.transport) (taken t) []) (sym hands.transport) (kept_appends _ _ took);
   put = hands.put;
@@ -109,6 +116,7 @@ turns_joined taken coming a b c es fs first then = record {
   id = then.id ∙ first.id;
   was_open = λ still. first.was_open (then.was_open still);
   own = own_joined a.id es fs first.own (subst (λ (i : ℕ). AreOf i fs) first.id then.own);
+  are_turns = turns_of_joined es fs first.are_turns then.are_turns;
   sent = first.sent ++ then.sent;
   takes = Appends-trans _ _ _ first.sent then.sent first.takes then.takes;
   put = first.put ++ then.put;
@@ -121,13 +129,14 @@ turns_joined taken coming a b c es fs first then = record {
 }
 
 -- an event of a connection, by which it isn't opened
-pub hands_told : {T : Type 0} (a b : Connection T) (what : Happening) (accepted : Bool) (events : List Accepted) → b.id ≡ a.id → b.transport ≡ a.transport → id_of what ≡ a.id
+pub hands_told : {T : Type 0} (a b : Connection T) (what : Happening) (accepted : Bool) (events : List Accepted) → b.id ≡ a.id → b.transport ≡ a.transport → id_of what ≡ a.id → IsOfTurn what
     → (is_open b.stage ≡ true → (is_open a.stage ≡ true) × (accepted ≡ true)) → IsTold what accepted a.queue b.queue events → Hands (piece_of what) a b events
-hands_told a b what accepted events id transport own while_open told = record {
+hands_told a b what accepted events id transport own turn while_open told = record {
   id = id;
   transport = transport;
   was_open = λ is. (while_open is).0;
   own = subst (λ (i : ℕ). AreOf i events) own told.own;
+  are_turns = only_turn what events turn told.only;
   put = told.put;
   are_put = told.are_put;
   order = told.order;
@@ -135,13 +144,14 @@ hands_told a b what accepted events id transport own while_open told = record {
 }
 
 -- an event of a connection, and then its end
-pub hands_ended : {T : Type 0} (a b c : Connection T) (octets : List ℕ) (what : Happening) (accepted : Bool) (es fs : List Accepted) → b.id ≡ a.id → b.transport ≡ a.transport → id_of what ≡ a.id
+pub hands_ended : {T : Type 0} (a b c : Connection T) (octets : List ℕ) (what : Happening) (accepted : Bool) (es fs : List Accepted) → b.id ≡ a.id → b.transport ≡ a.transport → id_of what ≡ a.id → IsOfTurn what
     → is_open c.stage ≡ false → IsTold what accepted a.queue b.queue es → Hands [] b c fs → Hands octets a c (es ++ fs)
-hands_ended a b c octets what accepted es fs id transport own closed told then = record {
+hands_ended a b c octets what accepted es fs id transport own turn closed told then = record {
   id = then.id ∙ id;
   transport = then.transport ∙ transport;
   was_open = λ still. absurd (let never : true ≡ false = sym still ∙ closed in cc);
   own = own_joined a.id es fs (subst (λ (i : ℕ). AreOf i es) own told.own) (subst (λ (i : ℕ). AreOf i fs) id then.own);
+  are_turns = turns_of_joined es fs (only_turn what es turn told.only) then.are_turns;
   put = told.put ++ then.put;
   are_put = put_joined es fs told.put then.put told.are_put then.are_put;
   order = then.order ∙ ap (λ (l : List ℕ). l ++ then.put) told.order ∙ append_assoc (waiting a.queue) told.put then.put;
@@ -156,6 +166,7 @@ hands_closed a b c octets events id transport queue closed hands = record {
   transport = transport ∙ hands.transport;
   was_open = λ still. absurd (let never : true ≡ false = sym still ∙ closed in cc);
   own = hands.own;
+  are_turns = hands.are_turns;
   put = hands.put;
   are_put = hands.are_put;
   order = ap waiting queue ∙ hands.order;
@@ -174,6 +185,7 @@ turns_came taken coming a b id stage queue took comes = record {
   id = id;
   was_open = λ still. ap is_open (sym stage) ∙ still;
   own = tt;
+  are_turns = tt;
   sent = [];
   takes = kept_appends _ _ took;
   put = [];

@@ -3,6 +3,7 @@ pub mod Queues
 pub mod Stages
 pub mod Events
 pub mod Leading
+pub mod Ordering
 pub mod Telling
 pub mod Turns
 pub mod Turning

@@ -7,6 +7,7 @@ use Rattle.dict_hub.specs.Runs.{Accepted}
 use Rattle.dict_driver.specs.Queues.{waiting}
 use Rattle.dict_driver.specs.Stages.{is_open}
 use Rattle.dict_driver.specs.Events.{ArePut, AreOf, pieces_of}
+use Rattle.dict_driver.specs.Ordering.{AreOfTurns}
 use Rattle.dict_driver.specs.declared.connection.Connection.{Connection}
 
 -- These octets were handed to the hub, in events of this connection alone. What the events put waits behind what waited before,
@@ -16,6 +17,7 @@ pub record Hands {T : Type 0} (octets : List ℕ) (old new : Connection T) (even
   pub transport : new.transport ≡ old.transport
   pub was_open : is_open new.stage ≡ true → is_open old.stage ≡ true
   pub own : AreOf old.id events
+  pub are_turns : AreOfTurns events
   pub put : List ℕ
   pub are_put : ArePut events put
   pub order : waiting new.queue ≡ waiting old.queue ++ put
@@ -27,6 +29,7 @@ pub record Turns {T : Type 0} (taken coming : T → Option (List ℕ)) (old new 
   pub id : new.id ≡ old.id
   pub was_open : is_open new.stage ≡ true → is_open old.stage ≡ true
   pub own : AreOf old.id events
+  pub are_turns : AreOfTurns events
   pub sent : List ℕ
   pub takes : Appends (taken old.transport) (taken new.transport) sent
   pub put : List ℕ

@@ -33,6 +33,7 @@ impl<T: Transport> Connection<T> {
     ghost use Rattle.dict_driver.specs.Turns.{Hands, Turns};
     ghost use Rattle.dict_driver.specs.Rounds.{Flows};
     ghost use Rattle.dict_driver.specs.Events.{AreOf};
+    ghost use Rattle.dict_driver.specs.Ordering.{IsOpeningOf};
 
     /// Tells the hub of a new connection. `None` where the hub refused it.
     pub fn open<K: Keeper>(
@@ -44,7 +45,7 @@ impl<T: Transport> Connection<T> {
         desk: &mut K,
     ) -> Option<Connection<T>>
         ensures led { HasLedOn (K.is_trusted desk.new) (K.shows desk.old) (K.leaves_one_of desk.old) (K.shows desk.new) (K.leaves_one_of desk.new) hub.old hub.new
-            (λ events. MatchOption result (events ≡ []) (λ one. AreOf id events × Flows [] events (waiting one.queue))) }
+            (λ events. MatchOption result (events ≡ []) (λ one. AreOf id events × Flows [] events (waiting one.queue)) × IsOpeningOf kind events) }
         ensures trust { K.is_trusted desk.new → K.is_trusted desk.old }
         ensures id { IfSome result (λ one. one.id ≡ id) }
     {

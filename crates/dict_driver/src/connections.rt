@@ -41,6 +41,7 @@ impl<T: Transport> Connections<T> {
     ghost use Rattle.dict_driver.specs.Leading.{HasLedOn};
     ghost use Rattle.dict_driver.specs.Queues.{waiting};
     ghost use Rattle.dict_driver.specs.Rounds.{WaitsAmong, Waits, Moves};
+    ghost use Rattle.dict_driver.specs.Ordering.{AreOfTurns, ComeById, IsOpeningOf};
 
     /// No connection was there yet.
     pub fn new(alloc: Global) -> Result<Self, AllocError>
@@ -87,7 +88,7 @@ impl<T: Transport> Connections<T> {
     /// that of the next one.
     pub fn admit<K: Keeper>(&mut self, transport: T, kind: Kind, hub: &mut Hub, desk: &mut K)
         ensures led { HasLedOn (K.is_trusted desk.new) (K.shows desk.old) (K.leaves_one_of desk.old) (K.shows desk.new) (K.leaves_one_of desk.new) hub.old hub.new
-            (λ events. Moves self.old self.new events) }
+            (λ events. Moves self.old self.new events × IsOpeningOf kind events) }
         ensures trust { K.is_trusted desk.new → K.is_trusted desk.old }
     {
         let Some(id) = self.next_id() else {
@@ -103,7 +104,7 @@ impl<T: Transport> Connections<T> {
     /// that are over are dropped. Whether anything happened.
     pub fn turn<K: Keeper>(&mut self, hub: &mut Hub, desk: &mut K) -> bool
         ensures led { HasLedOn (K.is_trusted desk.new) (K.shows desk.old) (K.leaves_one_of desk.old) (K.shows desk.new) (K.leaves_one_of desk.new) hub.old hub.new
-            (λ events. Moves self.old self.new events) }
+            (λ events. Moves self.old self.new events × AreOfTurns events × ComeById events) }
         ensures trust { K.is_trusted desk.new → K.is_trusted desk.old }
     {
         let departed = depart_all(&mut self.departing);

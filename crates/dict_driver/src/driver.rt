@@ -1,6 +1,6 @@
 // The sockets.
 ghost use Rattle.std.specs.Prelude.{◌≡◌, ◌≤◌, IfOk, List, MatchResult, ℕ};
-ghost use Rattle.dict_driver.specs.Binding.{Binds, IsAddress, IsUnheard};
+ghost use Rattle.dict_driver.specs.Binding.{AreTold, Binds, HasAddressOf, IsNotBound, IsToldFor};
 ghost use Rattle.dict_driver.specs.Rounds.{Waits};
 
 use crate::connections::Connections;
@@ -34,16 +34,20 @@ pub struct Driver<'h> {
     http_may_accept: bool,
     connections: Connections<TcpStream>,
     hub: Hub<'h>,
+    // How many rounds were made, those that failed left out.
+    rounds: u64,
 }
 
 impl<'h> Driver<'h> {
     ghost use Rattle.dict_hub.specs.Runs.{IsAt, beginning};
     ghost use Rattle.dict_driver.specs.Leading.{HasLedOn};
     ghost use Rattle.dict_driver.specs.Rounds.{Moves};
+    ghost use Rattle.dict_driver.specs.Ordering.{AreOfRound, IsOpeningOf};
+    ghost use Rattle.dict_driver.specs.Serving.{IsCounted};
 
-    /// Listens at the address for readers and then at that for editors, each an IP address and a port. The second is read
-    /// only where the first is listened at. Replies name the server by `host`, of 1 to 253 of `A-Z a-z 0-9 . -`. No
-    /// connection is there yet, and the first one's id is 1.
+    /// Binds a listening socket to the address for readers and then one to that for editors, each an IP address and a
+    /// port. The second is read only where the first is bound. Replies name the server by `host`, of 1 to 253 of
+    /// `A-Z a-z 0-9 . -`. No connection is there yet, the first one's id is 1, and no round was made.
     pub fn bind(
         net: &impl Net,
         alloc: Global,
@@ -54,10 +58,18 @@ impl<'h> Driver<'h> {
         ensures beginning { IfOk result (λ driver. IsAt driver.hub (beginning host.now)) }
         ensures last { IfOk result (λ driver. driver.connections.last ≡ 0) }
         ensures binds { Binds dict.now http.now result }
+        ensures told { IfOk result (λ driver. AreTold dict.now http.now driver.addresses) }
+        ensures rounds { IfOk result (λ driver. driver.rounds ≡ 0) }
     {
-        let poll = Poll::new(net).map_err(BindFault::Wait)?;
-        let (dict, dict_address) = listen(net, &poll, dict).map_err(BindFault::Dict)?;
-        let (http, http_address) = listen(net, &poll, http).map_err(BindFault::Http)?;
+        let (mut dict, dict_address) = match listen(net, dict) {
+            Ok(bound) => bound,
+            Err(fault) => return Err(BindFault::Dict(fault)),
+        };
+        let (mut http, http_address) = match listen(net, http) {
+            Ok(bound) => bound,
+            Err(fault) => return Err(BindFault::Http(fault)),
+        };
+        let poll = watch(net, &mut dict, &mut http).map_err(BindFault::Wait)?;
         Ok(Driver {
             dict,
             http,
@@ -68,10 +80,11 @@ impl<'h> Driver<'h> {
             http_may_accept: true,
             connections: Connections::new(alloc)?,
             hub: Hub::new(alloc, host)?,
+            rounds: 0,
         })
     }
 
-    /// The addresses that are listened at, for readers and for editors.
+    /// The addresses that were bound, for readers and for editors.
     pub fn addresses(&self) -> (SocketAddr, SocketAddr)
         ensures { result ≡ self.now.addresses }
     {
@@ -92,18 +105,28 @@ impl<'h> Driver<'h> {
         self.connections.departing_count()
     }
 
-    /// One round: at most one connection of each socket is taken, and then each connection has a turn, the open ones in
-    /// the order of their ids: what waits is sent, one read of at most 4,096 octets is made, and what came goes to the
-    /// hub. Whether anything happened; where nothing did, `wait` may come before the next round.
+    /// How many rounds were made, those that failed left out. After 18,446,744,073,709,551,615 it stays there.
+    pub fn rounds(&self) -> u64
+        ensures { result ≡ self.now.rounds }
+    {
+        self.rounds
+    }
+
+    /// One round: at most one connection is taken from the socket for readers, then at most one from that for editors,
+    /// and then each connection has a turn, the open ones in the order of their ids: what waits is sent, one read of at
+    /// most 4,096 octets is made, and what came goes to the hub. Whether anything happened; where nothing did, `wait` may
+    /// come before the next round.
     pub fn round<K: Keeper>(&mut self, desk: &mut K) -> io::Result<bool>
         ensures led { HasLedOn (K.is_trusted desk.new) (K.shows desk.old) (K.leaves_one_of desk.old) (K.shows desk.new) (K.leaves_one_of desk.new) self.old.hub self.new.hub
-            (λ events. Moves self.old.connections self.new.connections events) }
+            (λ events. Moves self.old.connections self.new.connections events × AreOfRound events) }
         ensures trust { K.is_trusted desk.new → K.is_trusted desk.old }
+        ensures rounds { IsCounted result self.old.rounds self.new.rounds }
     {
         self.look(Duration::ZERO)?;
         let by_dict = self.accept(Kind::Dict, desk);
         let by_http = self.accept(Kind::Http, desk);
         let turned = self.connections.turn(&mut self.hub, desk);
+        self.rounds = self.rounds.saturating_add(1);
         Ok(by_dict || by_http || turned)
     }
 
@@ -112,6 +135,7 @@ impl<'h> Driver<'h> {
         ensures hub { self.new.hub ≡ self.old.hub }
         ensures waits { (id : ℕ) (octets : List ℕ) → Waits self.new.connections id octets → Waits self.old.connections id octets }
         ensures last { self.new.connections.last ≡ self.old.connections.last }
+        ensures rounds { self.new.rounds ≡ self.old.rounds }
     {
         self.look(most)?;
         // An accept that failed for want of descriptors is told of no more, so now and then all are asked.
@@ -128,6 +152,7 @@ impl<'h> Driver<'h> {
         ensures hub { self.new.hub ≡ self.old.hub }
         ensures waits { (id : ℕ) (octets : List ℕ) → Waits self.new.connections id octets → Waits self.old.connections id octets }
         ensures last { self.new.connections.last ≡ self.old.connections.last }
+        ensures rounds { self.new.rounds ≡ self.old.rounds }
     {
         self.poll.poll(&mut self.events, Some(most))?;
         if mark_ready(&self.events, &mut self.connections) {
@@ -140,8 +165,9 @@ impl<'h> Driver<'h> {
     // Takes a connection that waits at a listening socket. Whether one did, or the call is to be made again.
     fn accept<K: Keeper>(&mut self, kind: Kind, desk: &mut K) -> bool
         ensures led { HasLedOn (K.is_trusted desk.new) (K.shows desk.old) (K.leaves_one_of desk.old) (K.shows desk.new) (K.leaves_one_of desk.new) self.old.hub self.new.hub
-            (λ events. Moves self.old.connections self.new.connections events) }
+            (λ events. Moves self.old.connections self.new.connections events × IsOpeningOf kind events) }
         ensures trust { K.is_trusted desk.new → K.is_trusted desk.old }
+        ensures rounds { self.new.rounds ≡ self.old.rounds }
     {
         let accepted = match kind {
             Kind::Dict if self.dict_may_accept => self.dict.accept(),
@@ -167,8 +193,9 @@ impl<'h> Driver<'h> {
     // Opens the connection, or closes its socket where there is no place for it.
     fn admit<K: Keeper>(&mut self, stream: TcpStream, kind: Kind, desk: &mut K)
         ensures led { HasLedOn (K.is_trusted desk.new) (K.shows desk.old) (K.leaves_one_of desk.old) (K.shows desk.new) (K.leaves_one_of desk.new) self.old.hub self.new.hub
-            (λ events. Moves self.old.connections self.new.connections events) }
+            (λ events. Moves self.old.connections self.new.connections events × IsOpeningOf kind events) }
         ensures trust { K.is_trusted desk.new → K.is_trusted desk.old }
+        ensures rounds { self.new.rounds ≡ self.old.rounds }
     {
         let Some(id) = self.connections.next_id() else {
             return;
@@ -180,31 +207,35 @@ impl<'h> Driver<'h> {
     }
 }
 
-// Listens at the address that a text says, and tells at which that is: the system chooses a port for 0.
-fn listen(
-    net: &impl Net,
-    poll: &Poll,
-    text: &str,
-) -> Result<(TcpListener, SocketAddr), AddressFault>
-    ensures { MatchResult result (λ _. IsAddress text.now) (IsUnheard text.now) }
+// Binds a listening socket to the address that a text says, and tells which that is: the system chooses a port for 0.
+fn listen(net: &impl Net, text: &str) -> Result<(TcpListener, SocketAddr), AddressFault>
+    ensures { MatchResult result (λ bound. IsToldFor text.now bound.1) (IsNotBound text.now) }
 {
     match text.parse::<SocketAddr>() {
-        Ok(address) => listen_at(net, poll, address).map_err(AddressFault::Unbound),
+        Ok(address) => listen_at(net, address).map_err(AddressFault::Unbound),
         Err(_) => Err(AddressFault::Unread),
     }
 }
 
-// Listens at an address.
-fn listen_at(
-    net: &impl Net,
-    poll: &Poll,
-    address: SocketAddr,
-) -> io::Result<(TcpListener, SocketAddr)> {
-    let mut listener = TcpListener::bind(net, address)?;
-    poll.registry()
-        .register(&mut listener, LISTENING, Interest::READABLE)?;
-    let bound = listener.local_addr()?;
+// Binds a listening socket to an address. That which is told has the port that the system chose for 0.
+fn listen_at(net: &impl Net, address: SocketAddr) -> io::Result<(TcpListener, SocketAddr)>
+    ensures { IfOk result (λ bound. HasAddressOf address bound.1) }
+{
+    let listener = TcpListener::bind(net, address)?;
+    let mut bound = address;
+    if address.port() == 0 {
+        bound.set_port(listener.local_addr()?.port());
+    }
     Ok((listener, bound))
+}
+
+// A poll that tells of two listening sockets.
+fn watch(net: &impl Net, dict: &mut TcpListener, http: &mut TcpListener) -> io::Result<Poll> {
+    let poll = Poll::new(net)?;
+    let registry = poll.registry();
+    registry.register(dict, LISTENING, Interest::READABLE)?;
+    registry.register(http, LISTENING, Interest::READABLE)?;
+    Ok(poll)
 }
 
 // Has the poll tell of a connection's socket, which sends at once what it is given.

@@ -4,13 +4,13 @@ use std::alloc::AllocError;
 use std::io;
 use thiserror::Error;
 
-/// Why no driver listens at two addresses.
+/// Why there is no driver with sockets bound to two addresses.
 #[derive(Debug, Drop, Error)]
 pub enum BindFault {
-    /// The address for readers can't be listened at.
+    /// No socket can be bound to the address for readers.
     #[error("cannot listen for readers: {0}")]
     Dict(AddressFault),
-    /// The address for editors can't be listened at, and that for readers can.
+    /// None can be bound to that for editors, and one was to that for readers.
     #[error("cannot listen for editors: {0}")]
     Http(AddressFault),
     /// Sockets can't be waited for.
@@ -21,13 +21,13 @@ pub enum BindFault {
     Memory,
 }
 
-/// Why an address can't be listened at.
+/// Why no socket is bound to an address.
 #[derive(Debug, Drop, Error)]
 pub enum AddressFault {
     /// The text is no IP address and port.
     #[error("no IP address and port")]
     Unread,
-    /// The system doesn't listen at it.
+    /// The system refuses it.
     #[error("{0}")]
     Unbound(io::Error),
 }

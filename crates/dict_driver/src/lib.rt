@@ -14,10 +14,9 @@ mod transport;
 mod turning;
 
 pub use connection::Connection;
-pub use connections::{Connections, MOST_DEPARTING, MOST_OPEN};
 pub use driver::Driver;
 pub use fault::{AddressFault, BindFault};
 pub use queue::{MOST_WAITING, Queue};
 pub use serving::{Served, pace, serve};
-pub use stage::{Received, Sent, Stage};
+pub use stage::Stage;
 pub use transport::Transport;

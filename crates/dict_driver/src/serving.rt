@@ -2,7 +2,8 @@
 ghost use Rattle.std.specs.Prelude.{◌≡◌, ℕ, List};
 ghost use Rattle.dict_driver.specs.Leading.{HasLedOn};
 ghost use Rattle.dict_driver.specs.Rounds.{Waits, Moves};
-ghost use Rattle.dict_driver.specs.Serving.{IsClosedBy, rounds_of};
+ghost use Rattle.dict_driver.specs.Serving.{AreCounted, IsClosedBy, longest_wait, rounds_of};
+ghost use Rattle.std.specs.Duration.{as_nanos};
 
 use crate::driver::Driver;
 use dict_desk::Keeper;
@@ -26,7 +27,8 @@ pub enum Served {
 /// How many rounds are made, and how long a wait lasts at most, where so many rounds are asked for, or no number is
 /// given.
 pub fn pace(rounds: Option<u32>) -> (u64, Duration)
-    ensures { result.0 ≡ rounds_of rounds }
+    ensures count { result.0 ≡ rounds_of rounds }
+    ensures wait { as_nanos result.1 ≡ longest_wait rounds }
 {
     match rounds {
         Some(count) => (u64::from(count), Duration::from_millis(SHORT_WAIT)),
@@ -47,6 +49,7 @@ pub fn serve<K: Keeper>(
         (λ events. Moves driver.old.connections driver.new.connections events) }
     ensures trust { K.is_trusted desk.new → K.is_trusted desk.old }
     ensures closed { IsClosedBy (K.is_closed desk.new) rounds result }
+    ensures counted { AreCounted rounds result driver.old.rounds driver.new.rounds }
 {
     for made in 0..rounds {
         let has_moved = driver.round(desk)?;
@@ -63,6 +66,7 @@ fn wait_if(driver: &mut Driver, is_asked: bool, most: Duration) -> io::Result<()
     ensures hub { driver.new.hub ≡ driver.old.hub }
     ensures waits { (id : ℕ) (octets : List ℕ) → Waits driver.new.connections id octets → Waits driver.old.connections id octets }
     ensures last { driver.new.connections.last ≡ driver.old.connections.last }
+    ensures rounds { driver.new.rounds ≡ driver.old.rounds }
 {
     if is_asked {
         driver.wait(most)?;

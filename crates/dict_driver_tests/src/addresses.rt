@@ -1,73 +1,69 @@
-//! Addresses that can't be listened at.
+//! Addresses to which no socket can be bound.
 use crate::serving::{FREE, Play};
 use dict_driver::{AddressFault, BindFault, Driver};
 use std::alloc::Global;
-use std::net::{Net, TcpStream};
+use std::net::{Net, SocketAddr};
+use std::process::Abort;
 use std::test::Fail;
 
-// Why no driver listens at two addresses.
-fn refused(
-    net: &impl Net<Stream = TcpStream>,
-    alloc: Global,
-    dict: &str,
-    http: &str,
-) -> Result<BindFault, Fail> {
+// Why no driver is bound to two addresses.
+fn told(net: &impl Net, alloc: Global, dict: &str, http: &str) -> &'static str {
     match Driver::bind(net, alloc, dict, http, "localhost") {
-        Ok(_) => Err(Fail::new("both are listened at")),
-        Err(fault) => Ok(fault),
+        Ok(_) => "bound",
+        Err(BindFault::Dict(AddressFault::Unread)) => "dict unread",
+        Err(BindFault::Dict(AddressFault::Unbound(_))) => "dict unbound",
+        Err(BindFault::Http(AddressFault::Unread)) => "http unread",
+        Err(BindFault::Http(AddressFault::Unbound(_))) => "http unbound",
+        Err(BindFault::Wait(_) | BindFault::Memory) => "another fault",
     }
 }
 
-// Addresses that are in use.
+static UNREAD: [&str; 7] = [
+    "",
+    "localhost:0",
+    "127.0.0.1",
+    "127.0.0.1:",
+    ":0",
+    "127.0.0.1:65536",
+    " 127.0.0.1:0",
+];
+
+// Texts that are no address.
+#[test]
+fn an_address_that_is_not_read(rt: HostRuntime) -> Result<(), Fail> {
+    for text in &UNREAD {
+        assert_eq!(rt; told(&rt, rt.alloc(), text, "also none"), "dict unread");
+        assert_eq!(rt; told(&rt, rt.alloc(), FREE, text), "http unread");
+    }
+    Ok(())
+}
+
+// Addresses that are in use, and the order of two faults.
+fn are_in_use(
+    rt: &impl Abort,
+    net: &impl Net,
+    alloc: Global,
+    dict: SocketAddr,
+    http: SocketAddr,
+) -> Result<(), Fail> {
+    let text = format!(in alloc; "{dict}")?;
+    assert_eq!(rt; told(net, alloc, &text, "none"), "dict unbound");
+    let text = format!(in alloc; "{http}")?;
+    assert_eq!(rt; told(net, alloc, FREE, &text), "http unbound");
+    Ok(())
+}
+
 #[test]
 fn an_address_in_use(rt: HostRuntime) -> Result<(), Fail> {
     let play = Play::new(&rt, rt.alloc())?;
-    let dict = format!(in rt.alloc(); "{}", play.dict)?;
-    let http = format!(in rt.alloc(); "{}", play.http)?;
-    let first = refused(&rt, rt.alloc(), dict.as_str(), http.as_str())?;
-    assert!(rt; matches!(first, BindFault::Dict(AddressFault::Unbound(_))));
-    let second = refused(&rt, rt.alloc(), FREE, http.as_str())?;
-    assert!(rt; matches!(second, BindFault::Http(AddressFault::Unbound(_))));
-    Ok(())
+    are_in_use(&rt, &rt, rt.alloc(), play.dict, play.http)
 }
 
-// Texts that are no address, and the order of two faults.
-#[test]
-fn an_address_that_is_not_read(rt: HostRuntime) -> Result<(), Fail> {
-    for text in [
-        "",
-        "localhost:0",
-        "127.0.0.1",
-        "127.0.0.1:",
-        ":0",
-        "127.0.0.1:65536",
-        " 127.0.0.1:0",
-    ] {
-        let first = refused(&rt, rt.alloc(), text, "also none")?;
-        assert!(rt;
-            matches!(first, BindFault::Dict(AddressFault::Unread)),
-            "{text}"
-        );
-        let second = refused(&rt, rt.alloc(), FREE, text)?;
-        assert!(rt;
-            matches!(second, BindFault::Http(AddressFault::Unread)),
-            "{text}"
-        );
-    }
-    let play = Play::new(&rt, rt.alloc())?;
-    let dict = format!(in rt.alloc(); "{}", play.dict)?;
-    let first = refused(&rt, rt.alloc(), dict.as_str(), "none")?;
-    assert!(rt; matches!(first, BindFault::Dict(AddressFault::Unbound(_))));
-    Ok(())
-}
-
-// The addresses that are listened at have the port that the system chose.
+// The addresses that were bound have the ports that the system chose.
 #[test]
 fn free_ports(rt: HostRuntime) -> Result<(), Fail> {
-    let driver = Driver::bind(&rt, rt.alloc(), FREE, FREE, "localhost")?;
-    let (dict, http) = driver.addresses();
-    assert!(rt; dict.is_ipv4() && dict.ip().is_loopback() && dict.port() > 0);
-    assert!(rt; http.is_ipv4() && http.ip().is_loopback() && http.port() > 0);
-    assert_ne!(rt; dict.port(), http.port());
+    let play = Play::new(&rt, rt.alloc())?;
+    assert!(rt; play.dict.ip().is_loopback() && play.http.ip().is_loopback());
+    assert!(rt; play.dict.port() > 0 && play.http.port() > 0 && play.dict != play.http);
     Ok(())
 }

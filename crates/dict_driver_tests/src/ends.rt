@@ -1,49 +1,45 @@
 // Peers that don't read, and peers that end their side early.
-use super::serving::Play;
-use dict_desk::PlainDesk;
+use crate::serving::{Play, Step};
+use std::alloc::Global;
 use std::net::{Net, TcpStream};
 use std::test::Fail;
 
-// So many lines in one piece of at most 4,096 octets.
-const LINES: usize = 512;
+const FIRST: &str = "220 localhost dictcat ready <1@localhost>\r\n";
 
-// The octets of the answers to these lines.
-const ANSWERS: usize = 512 * 165;
+// So many lines of which each has an answer of 165 octets.
+const HELPS: &str =
+    "HELP\r\nHELP\r\nHELP\r\nHELP\r\nHELP\r\nHELP\r\nHELP\r\nHELP\r\nHELP\r\nHELP\r\nHELP\r\nHELP\r\nHELP\r\nHELP\r\nHELP\r\nHELP\r\n";
 
-// A client asks many times at once.
-fn ask_for_help(play: &mut Play<PlainDesk>, who: usize) -> Result<(), Fail> {
-    for _ in 0..LINES {
-        if play.send(who, b"HELP\r\n").is_err() {
-            return Ok(());
-        }
-    }
-    play.settle()
-}
+const ANSWERS: usize = 16 * 165;
 
 // Client 1 asks and reads nothing until its connection is lost. How often it asked.
-fn drown(play: &mut Play<PlainDesk>) -> Result<usize, Fail> {
-    for asked in 0..1_000usize {
+fn drown(net: &impl Net<Stream = TcpStream>, play: &mut Play) -> Result<usize, Fail> {
+    for asked in 0..10_000usize {
         if play.driver.open_count() < 2 {
             return Ok(asked);
         }
-        ask_for_help(play, 1)?;
+        play.run(net, &[Step::Send(1, HELPS)])?;
     }
-    Ok(1_000)
+    Err(Fail::new("it isn't lost"))
 }
 
-// Client 2 asks so often, ends its side, and then reads. How many octets came to it.
-fn end_early(play: &mut Play<PlainDesk>, asked: usize) -> Result<usize, Fail> {
+// Client 2 asks so often, and ends its side.
+fn ask_to_the_end(
+    net: &impl Net<Stream = TcpStream>,
+    play: &mut Play,
+    asked: usize,
+) -> Result<(), Fail> {
     for _ in 0..asked {
-        ask_for_help(play, 2)?;
+        play.run(net, &[Step::Send(2, HELPS)])?;
     }
-    play.end_sending(2)?;
-    play.settle()?;
-    if play.driver.departing_count() != 1 {
-        return Err(Fail::new("nothing waits"));
-    }
+    play.run(net, &[Step::End(2), Step::Held(1, 1)])
+}
+
+// Client 2 reads to the end. How many octets came.
+fn read_to_the_end(play: &mut Play) -> Result<usize, Fail> {
     for _ in 0..10_000u32 {
-        let came = play.receive(2)?;
-        if play.has_ended(2) {
+        let came = play.client(2)?.read()?;
+        if play.client(2)?.has_ended {
             return Ok(came);
         }
         play.settle()?;
@@ -51,64 +47,72 @@ fn end_early(play: &mut Play<PlainDesk>, asked: usize) -> Result<usize, Fail> {
     Err(Fail::new("no end came"))
 }
 
-fn begin(net: &impl Net<Stream = TcpStream>, play: &mut Play<PlainDesk>) -> Result<(), Fail> {
-    play.read_at(net)?;
-    play.look(0, b"220 localhost dictcat ready <1@localhost>\r\n")?;
-    play.read_at(net)
+static TWO_READERS: [Step; 3] = [Step::Reader, Step::Got(0, FIRST), Step::Reader];
+
+static ONE_IS_ANSWERED: [Step; 5] = [
+    Step::Held(1, 0),
+    Step::Send(0, "STATUS\r\n"),
+    Step::Got(0, "210 0 databases\r\n"),
+    Step::Reader,
+    Step::Got(2, "220 localhost dictcat ready <3@localhost>\r\n"),
+];
+
+// A peer that never reads loses its connection, and the others are answered meanwhile. One that asks a little less, for
+// more than 1 MiB, and then ends its side gets every answer. How many octets are due to it, and how many came.
+fn drown_and_ask(
+    net: &impl Net<Stream = TcpStream>,
+    play: &mut Play,
+) -> Result<(usize, usize), Fail> {
+    play.run(net, &TWO_READERS)?;
+    let asked = drown(net, play)?;
+    play.run(net, &ONE_IS_ANSWERED)?;
+    let less = asked.saturating_sub(200);
+    ask_to_the_end(net, play, less)?;
+    Ok((less.saturating_mul(ANSWERS), read_to_the_end(play)?))
 }
 
-// A peer that never reads loses its connection, and the others are answered meanwhile. One that asks a little less and
-// then ends its side gets every answer.
 #[test]
 fn a_peer_that_never_reads(rt: HostRuntime) -> Result<(), Fail> {
     let mut play = Play::new(&rt, rt.alloc())?;
-    begin(&rt, &mut play)?;
-    let asked = drown(&mut play)?;
-    assert!(rt; asked > 12);
-    assert!(rt; asked < 1_000);
-    play.ask(0, b"STATUS\r\n", b"210 0 databases\r\n")?;
-    play.read_at(&rt)?;
-    play.look(2, b"220 localhost dictcat ready <3@localhost>\r\n")?;
-    let less = asked.saturating_sub(5);
-    let came = end_early(&mut play, less)?;
-    assert_eq!(rt; came, less.saturating_mul(ANSWERS));
+    let (due, came) = drown_and_ask(&rt, &mut play)?;
+    assert!(rt; came > 1_048_576 && came == due);
     Ok(())
 }
 
 // A client that ends its side behind its last line gets the answer.
-#[test]
-fn an_end_behind_the_last_line(rt: HostRuntime) -> Result<(), Fail> {
-    let mut play = Play::new(&rt, rt.alloc())?;
-    play.read_at(&rt)?;
-    play.look(0, b"220 localhost dictcat ready <1@localhost>\r\n")?;
-    play.send(0, b"STATUS\r\nSTATUS\r\nunfinished")?;
-    play.end_sending(0)?;
-    play.look(0, b"210 0 databases\r\n210 0 databases\r\n")?;
-    assert!(rt; play.has_ended(0));
-    assert_eq!(rt; play.driver.open_count(), 0);
-    assert_eq!(rt; play.driver.departing_count(), 0);
-    Ok(())
-}
+static AN_END_BEHIND_THE_LAST_LINE: [Step; 7] = [
+    Step::Reader,
+    Step::Got(0, FIRST),
+    Step::Send(0, "STATUS\r\nSTATUS\r\nunfinished"),
+    Step::End(0),
+    Step::Got(0, "210 0 databases\r\n210 0 databases\r\n"),
+    Step::HasEnded(0),
+    Step::Held(0, 0),
+];
 
 // An editor that sends on behind a request gets its answer whole, and a clean end.
-#[test]
-fn octets_behind_a_request(rt: HostRuntime) -> Result<(), Fail> {
-    let mut play = Play::new(&rt, rt.alloc())?;
-    play.edit_at(&rt)?;
-    let more = [b'x'; 4_096];
-    play.send(0, b"GET /databases HTTP/1.1\r\n\r\n")?;
-    for _ in 0..100u32 {
-        play.send(0, &more)?;
-        play.round()?;
-    }
-    play.look(
+static OCTETS_BEHIND_A_REQUEST: [Step; 9] = [
+    Step::Editor,
+    Step::Send(0, "GET /databases HTTP/1.1\r\n\r\n"),
+    Step::Fill(0),
+    Step::Fill(0),
+    Step::Got(
         0,
-        b"HTTP/1.1 200 OK\r\nContent-Type: application/json\r\nContent-Length: 2\r\nConnection: close\r\n\r\n[]",
-    )?;
-    assert!(rt; play.has_ended(0));
-    assert_eq!(rt; play.driver.departing_count(), 1);
-    play.end_sending(0)?;
-    play.settle()?;
-    assert_eq!(rt; play.driver.departing_count(), 0);
-    Ok(())
+        "HTTP/1.1 200 OK\r\nContent-Type: application/json\r\nContent-Length: 2\r\nConnection: close\r\n\r\n[]",
+    ),
+    Step::HasEnded(0),
+    Step::Held(0, 1),
+    Step::End(0),
+    Step::Held(0, 0),
+];
+
+// These steps of a new driver.
+fn run(net: &impl Net<Stream = TcpStream>, alloc: Global, steps: &[Step]) -> Result<(), Fail> {
+    Play::new(net, alloc)?.run(net, steps)
+}
+
+#[test]
+fn octets_and_an_end(rt: HostRuntime) -> Result<(), Fail> {
+    run(&rt, rt.alloc(), &AN_END_BEHIND_THE_LAST_LINE)?;
+    run(&rt, rt.alloc(), &OCTETS_BEHIND_A_REQUEST)
 }

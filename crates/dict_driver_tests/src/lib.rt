@@ -4,6 +4,8 @@
 #[cfg(test)]
 mod addresses;
 #[cfg(test)]
+mod client;
+#[cfg(test)]
 mod ends;
 #[cfg(test)]
 mod limits;

@@ -9,11 +9,10 @@ use std::alloc::Global;
 use std::io::{Error, ErrorKind, Result as IoResult};
 use std::test::Fail;
 
-// Gives these octets, a few a call, and then the end or that nothing comes; takes a few octets a call.
+// Gives these octets, a few a call, and then the end; takes a few octets a call.
 #[derive(Drop)]
 struct InMemory {
     coming: &'static [u8],
-    has_end: bool,
     taken: Vec<u8>,
     room: usize,
 }
@@ -34,13 +33,6 @@ impl Transport for InMemory {
 
     fn receive(&mut self, room: &mut [u8]) -> IoResult<usize> {
         let count = self.coming.len().min(room.len());
-        if count == 0 {
-            return if self.has_end {
-                Ok(0)
-            } else {
-                Err(Error::from(ErrorKind::WouldBlock))
-            };
-        }
         let (front, rest) = self.coming.split_at(count);
         room[..count].copy_from_slice(front);
         self.coming = rest;
@@ -52,97 +44,106 @@ impl Transport for InMemory {
     }
 }
 
-fn connection(
-    alloc: Global,
-    coming: &'static [u8],
-    has_end: bool,
-    room: usize,
-    hub: &mut Hub,
-    desk: &mut PlainDesk,
-) -> Option<Connection<InMemory>> {
-    let transport = InMemory {
-        coming,
-        has_end,
-        taken: Vec::new(alloc),
-        room,
-    };
-    Connection::open(alloc, 7, Kind::Dict, transport, hub, desk)
+// A connection, and what it is served by.
+#[derive(Drop)]
+struct Run {
+    hub: Hub<'static>,
+    desk: PlainDesk,
+    one: Connection<InMemory>,
 }
 
-// A peer that takes ten octets a turn and ended its side gets its answer whole, and is over then.
-#[test]
-fn an_answer_by_tens(rt: HostRuntime) -> Result<(), Fail> {
-    let alloc = rt.alloc();
-    let mut hub = Hub::new(alloc, "localhost")?;
-    let mut desk = PlainDesk::new(alloc);
-    let Some(mut one) = connection(alloc, b"STATUS\r\n", true, 10, &mut hub, &mut desk) else {
-        panic!(rt; "refused");
-    };
-    let mut room = [0u8; 4_096];
-    assert_eq!(rt; one.id(), 7);
-    // The greeting has 43 octets, and the answer 17.
-    assert!(rt; one.turn(&mut hub, &mut desk, &mut room));
-    assert_eq!(rt; one.stage(), Stage::Open);
-    assert!(rt; one.turn(&mut hub, &mut desk, &mut room));
-    assert_eq!(rt; one.stage(), Stage::Parting);
-    // Of the greeting 23 octets wait, and then the answer, put later, by calls of its own.
-    for _ in 0..5u32 {
-        assert_eq!(rt; one.stage(), Stage::Parting);
-        one.depart(&mut room);
+impl Run {
+    fn new(alloc: Global, coming: &'static [u8], room: usize) -> Result<Run, Fail> {
+        let mut hub = Hub::new(alloc, "localhost")?;
+        let mut desk = PlainDesk::new(alloc);
+        let transport = InMemory {
+            coming,
+            taken: Vec::new(alloc),
+            room,
+        };
+        match Connection::open(alloc, 7, Kind::Dict, transport, &mut hub, &mut desk) {
+            Some(one) => Ok(Run { hub, desk, one }),
+            None => Err(Fail::new("refused")),
+        }
     }
-    assert_eq!(rt; one.stage(), Stage::Over);
-    Ok(())
+
+    // A turn with room for eight octets, and then this stage.
+    fn turn(&mut self, want: Stage) -> Result<(), Fail> {
+        let mut room = [0u8; 8];
+        if self.one.stage().is_open() {
+            self.one.turn(&mut self.hub, &mut self.desk, &mut room);
+        } else {
+            self.one.depart(&mut room);
+        }
+        if self.one.stage() == want {
+            Ok(())
+        } else {
+            Err(Fail::new("another stage"))
+        }
+    }
 }
+
+// A peer that takes ten octets a turn and ended its side gets its answer whole, and is over then. The greeting has 43 octets,
+// and the answer, put later and so sent by calls of its own, 17.
+static BY_TENS: [Stage; 7] = [
+    Stage::Open,
+    Stage::Parting,
+    Stage::Parting,
+    Stage::Parting,
+    Stage::Parting,
+    Stage::Parting,
+    Stage::Over,
+];
 
 // A connection that the hub closed is over once the peer ends its side, and what came until then is dropped.
+static DRAINED: [Stage; 4] = [
+    Stage::Closing,
+    Stage::Draining,
+    Stage::Draining,
+    Stage::Over,
+];
+
 #[test]
-fn a_closed_connection_drains(rt: HostRuntime) -> Result<(), Fail> {
-    let alloc = rt.alloc();
-    let mut hub = Hub::new(alloc, "localhost")?;
-    let mut desk = PlainDesk::new(alloc);
-    let Some(mut one) = connection(alloc, b"QUIT\r\nSTATUS\r\n", true, 100, &mut hub, &mut desk)
-    else {
-        panic!(rt; "refused");
-    };
-    let mut room = [0u8; 6];
-    assert!(rt; one.turn(&mut hub, &mut desk, &mut room));
-    assert_eq!(rt; one.stage(), Stage::Closing);
-    for _ in 0..2u32 {
-        one.depart(&mut room);
-        assert_eq!(rt; one.stage(), Stage::Draining);
+fn stages(rt: HostRuntime) -> Result<(), Fail> {
+    let mut run = Run::new(rt.alloc(), b"STATUS\r\n", 10)?;
+    assert_eq!(rt; run.one.id(), 7);
+    for want in &BY_TENS {
+        run.turn(*want)?;
     }
-    one.depart(&mut room);
-    assert_eq!(rt; one.stage(), Stage::Over);
+    let mut run = Run::new(rt.alloc(), b"QUIT\r\nS\r\nSTATUS\r\n", 100)?;
+    for want in &DRAINED {
+        run.turn(*want)?;
+    }
     Ok(())
 }
 
-// A queue takes up to its limit and nothing more, and hands on what waits in order.
+// A queue hands on what waits in order: so many octets at each call of a transport that takes at most five.
 #[test]
-fn a_full_queue(rt: HostRuntime) -> Result<(), Fail> {
-    let alloc = rt.alloc();
-    let mut queue = Queue::new(alloc);
+fn octets_in_order(rt: HostRuntime) -> Result<(), Fail> {
+    let mut queue = Queue::new(rt.alloc());
     let mut transport = InMemory {
         coming: b"",
-        has_end: false,
-        taken: Vec::new(alloc),
+        taken: Vec::new(rt.alloc()),
         room: 5,
     };
-    assert!(rt; queue.put(b"first").is_ok());
-    assert!(rt; queue.put(b"second").is_ok());
-    assert_eq!(rt; queue.send(&mut transport)?, 5);
-    assert!(rt; queue.put(b"third").is_ok());
-    assert_eq!(rt; queue.send(&mut transport)?, 5);
-    assert_eq!(rt; queue.send(&mut transport)?, 1);
-    assert_eq!(rt; queue.send(&mut transport)?, 5);
-    assert_eq!(rt; transport.taken.as_slice(), b"firstsecondthird".as_slice());
-    assert!(rt; queue.is_empty());
-    let block = [0u8; 65_536];
-    for _ in 0..16u32 {
-        assert!(rt; queue.put(&block).is_ok());
+    for text in ["first", "second"] {
+        queue.put(text.as_bytes())?;
     }
-    assert_eq!(rt; queue.len(), MOST_WAITING);
-    assert!(rt; queue.put(b"x").is_err());
-    assert_eq!(rt; queue.failures(), 1);
-    assert_eq!(rt; queue.len(), MOST_WAITING);
+    for want in [5, 5, 1] {
+        assert_eq!(rt; queue.send(&mut transport)?, want);
+    }
+    assert!(rt; queue.is_empty() && transport.taken.as_slice() == b"firstsecond".as_slice());
+    Ok(())
+}
+
+// A queue takes up to its limit and nothing more.
+#[test]
+fn a_full_queue(rt: HostRuntime) -> Result<(), Fail> {
+    let mut queue = Queue::new(rt.alloc());
+    let block = [0u8; 4_096];
+    for _ in 0..256u32 {
+        queue.put(&block)?;
+    }
+    assert!(rt; queue.put(b"x").is_err() && queue.len() == MOST_WAITING && queue.failures() == 1);
     Ok(())
 }

@@ -1,144 +1,155 @@
 // Readers and editors at one driver.
-use super::serving::{FOUND, INSTALLED, PUT, Play};
-use dict_desk::PlainDesk;
-use std::net::{Net, TcpStream};
+use crate::serving::{Play, Step};
 use std::test::Fail;
 use std::time::Duration;
 
-const FIRST: &[u8] = b"220 localhost dictcat ready <1@localhost>\r\n";
+const FIRST: &str = "220 localhost dictcat ready <1@localhost>\r\n";
+
+const SECOND: &str = "220 localhost dictcat ready <2@localhost>\r\n";
+
+const PUT: &str =
+    "PUT /databases/gem HTTP/1.1\r\nRequest-Id: r1\r\nContent-Length: 101\r\n\r\n53\n00-database-short\tA\tZ\nopal\tZ\tP\nFire Opal\tZ\tP\ndot\to\tF\n00-database-short\n  Gems\nopal\n  a stone\n.dot\n";
+
+const INSTALLED: &str =
+    "HTTP/1.1 200 OK\r\nContent-Type: application/json\r\nContent-Length: 54\r\nConnection: close\r\n\r\n{\"edition\":1,\"name\":\"gem\",\"number\":1,\"verb\":\"install\"}";
+
+const FOUND: &str =
+    "150 1 definitions retrieved\r\n151 \"opal\" gem \"Gems\"\r\nopal\r\n  a stone\r\n.\r\n250 ok\r\n";
+
+const UNKNOWN: &str = "550 invalid database\r\n";
 
 // An install between two pieces of a reader's line.
-#[test]
-fn an_install_between_two_pieces(rt: HostRuntime) -> Result<(), Fail> {
-    let mut play = Play::new(&rt, rt.alloc())?;
-    ask_around_an_install(&rt, &mut play)?;
-    assert!(rt; play.has_ended(1));
-    assert_eq!(rt; play.driver.open_count(), 1);
-    assert_eq!(rt; play.driver.departing_count(), 1);
-    ask_to_the_end(&mut play)?;
-    assert!(rt; play.has_ended(0));
-    play.leave()?;
-    play.leave()?;
-    assert_eq!(rt; play.driver.open_count(), 0);
-    assert_eq!(rt; play.driver.departing_count(), 0);
-    Ok(())
-}
-
-fn ask_around_an_install(
-    net: &impl Net<Stream = TcpStream>,
-    play: &mut Play<PlainDesk>,
-) -> Result<(), Fail> {
-    play.read_at(net)?;
-    play.look(0, FIRST)?;
-    play.edit_at(net)?;
-    play.look(1, b"")?;
-    play.ask(0, b"DEFINE gem op", b"")?;
-    play.look(1, b"")?;
-    play.ask(1, PUT.as_bytes(), INSTALLED.as_bytes())
-}
-
-fn ask_to_the_end(play: &mut Play<PlainDesk>) -> Result<(), Fail> {
-    play.ask(0, b"al\r\n", FOUND.as_bytes())?;
-    play.ask(0, b"QUIT\r\nSTATUS\r\n", b"221 closing connection\r\n")
-}
+static BETWEEN_TWO_PIECES: [Step; 19] = [
+    Step::Reader,
+    Step::Got(0, FIRST),
+    Step::Editor,
+    Step::Got(1, ""),
+    Step::Send(0, "DEFINE gem op"),
+    Step::Got(0, ""),
+    Step::Send(1, PUT),
+    Step::Got(0, ""),
+    Step::Got(1, INSTALLED),
+    Step::HasEnded(1),
+    Step::Held(1, 1),
+    Step::Send(0, "al\r\n"),
+    Step::Got(0, FOUND),
+    Step::Send(0, "QUIT\r\nSTATUS\r\n"),
+    Step::Got(0, "221 closing connection\r\n"),
+    Step::HasEnded(0),
+    Step::Leave,
+    Step::Leave,
+    Step::Held(0, 0),
+];
 
 // The same with the whole line before the install. Both kinds of connections are counted by one row of ids.
+static BEFORE_AN_INSTALL: [Step; 11] = [
+    Step::Editor,
+    Step::Reader,
+    Step::Got(1, SECOND),
+    Step::Send(1, "DEFINE gem opal\r\n"),
+    Step::Got(1, UNKNOWN),
+    Step::Send(0, PUT),
+    Step::Got(0, INSTALLED),
+    Step::Send(1, "DEFINE gem opal\r\n"),
+    Step::Got(1, FOUND),
+    Step::Send(1, "STATUS\r\n"),
+    Step::Got(1, "210 1 databases\r\n"),
+];
+
 #[test]
-fn a_line_before_an_install(rt: HostRuntime) -> Result<(), Fail> {
-    let mut play = Play::new(&rt, rt.alloc())?;
-    ask_before_an_install(&rt, &mut play)
+fn an_install_and_a_session(rt: HostRuntime) -> Result<(), Fail> {
+    Play::new(&rt, rt.alloc())?.run(&rt, &BETWEEN_TWO_PIECES)?;
+    Play::new(&rt, rt.alloc())?.run(&rt, &BEFORE_AN_INSTALL)
 }
 
-fn ask_before_an_install(
-    net: &impl Net<Stream = TcpStream>,
-    play: &mut Play<PlainDesk>,
-) -> Result<(), Fail> {
-    play.edit_at(net)?;
-    play.read_at(net)?;
-    play.look(1, b"220 localhost dictcat ready <2@localhost>\r\n")?;
-    play.ask(1, b"DEFINE gem opal\r\n", b"550 invalid database\r\n")?;
-    play.ask(0, PUT.as_bytes(), INSTALLED.as_bytes())?;
-    play.ask(1, b"DEFINE gem opal\r\n", FOUND.as_bytes())?;
-    play.ask(1, b"STATUS\r\n", b"210 1 databases\r\n")
-}
+const ASK: Step = Step::Send(1, "STATUS\r\n");
+
+const ANSWER: Step = Step::Got(1, "210 0 databases\r\n");
+
+const NONE: Step = Step::Got(0, "");
 
 // A line that comes by an octet a round is answered once it is whole, and another connection meanwhile.
+static AN_OCTET_A_ROUND: [Step; 29] = [
+    Step::Reader,
+    Step::Reader,
+    Step::Got(0, FIRST),
+    Step::Got(1, SECOND),
+    Step::Send(0, "S"),
+    ASK,
+    ANSWER,
+    Step::Send(0, "T"),
+    ASK,
+    ANSWER,
+    Step::Send(0, "A"),
+    ASK,
+    ANSWER,
+    Step::Send(0, "T"),
+    ASK,
+    ANSWER,
+    Step::Send(0, "U"),
+    ASK,
+    ANSWER,
+    Step::Send(0, "S"),
+    ASK,
+    ANSWER,
+    Step::Send(0, "\r"),
+    ASK,
+    ANSWER,
+    NONE,
+    Step::Send(0, "\nSTAT"),
+    Step::Got(0, "210 0 databases\r\n"),
+    Step::Held(2, 0),
+];
+
 #[test]
 fn an_octet_a_round(rt: HostRuntime) -> Result<(), Fail> {
-    let mut play = Play::new(&rt, rt.alloc())?;
-    play.read_at(&rt)?;
-    play.look(0, FIRST)?;
-    play.read_at(&rt)?;
-    play.look(1, b"220 localhost dictcat ready <2@localhost>\r\n")?;
-    ask_by_octets(&mut play)
+    Play::new(&rt, rt.alloc())?.run(&rt, &AN_OCTET_A_ROUND)
 }
 
-fn ask_by_octets(play: &mut Play<PlainDesk>) -> Result<(), Fail> {
-    for octet in b"SHOW SERVER\r" {
-        let piece = [*octet];
-        play.ask(0, &piece, b"")?;
-        play.ask(1, b"STATUS\r\n", b"210 0 databases\r\n")?;
-    }
-    play.ask(
-        0,
-        b"\nSTAT",
-        b"114 server information\r\ndictcat on localhost\r\ndatabases 0\r\n.\r\n250 ok\r\n",
-    )
-}
-
-// The octets of a large edition behind the first ones.
-const BEHIND: usize = 16_777_216 - 45;
-
-// An edition with a text of 16 MiB comes in many pieces, and a reader asks between them.
-#[test]
-fn a_large_install_in_pieces(rt: HostRuntime) -> Result<(), Fail> {
-    let mut play = Play::new(&rt, rt.alloc())?;
-    play.read_at(&rt)?;
-    play.look(0, FIRST)?;
-    play.edit_at(&rt)?;
-    play.send(
+// An edition with a text of 1 MiB comes in many pieces, and a reader asks between them.
+static BEFORE_THE_PIECES: [Step; 4] = [
+    Step::Reader,
+    Step::Got(0, FIRST),
+    Step::Editor,
+    Step::Send(
         1,
-        b"PUT /databases/gem HTTP/1.1\r\nRequest-Id: r1\r\nContent-Length: 16777272\r\n\r\n53\n00-database-short\tA\tZ\nopal\tZ\tP\nFire Opal\tZ\tP\ndot\to\tF\n00-database-short\n  Gems\nopal\n  a stone\n.dot\n",
-    )?;
-    let asked = ask_while_sending(&mut play)?;
-    assert!(rt; asked > 20);
-    play.look(1, INSTALLED.as_bytes())?;
-    play.ask(0, b"DEFINE gem opal\r\n", FOUND.as_bytes())
-}
+        "PUT /databases/gem HTTP/1.1\r\nRequest-Id: r1\r\nContent-Length: 1048677\r\n\r\n53\n00-database-short\tA\tZ\nopal\tZ\tP\nFire Opal\tZ\tP\ndot\to\tF\n00-database-short\n  Gems\nopal\n  a stone\n.dot\n",
+    ),
+];
 
-// How often was asked meanwhile.
-fn ask_while_sending(play: &mut Play<PlainDesk>) -> Result<usize, Fail> {
-    let filler = [b'x'; 65_536];
-    let mut left = BEHIND;
-    let mut asked = 0usize;
-    for _ in 0..100_000u32 {
-        let sent = play.send(1, &filler[..left.min(filler.len())])?;
-        left = left.saturating_sub(sent);
-        if left == 0 {
-            return Ok(asked);
-        }
-        play.round()?;
-        if asked.saturating_mul(500_000) < BEHIND.saturating_sub(left) {
-            asked = asked.saturating_add(1);
-            play.ask(0, b"DEFINE gem opal\r\n", b"550 invalid database\r\n")?;
-        }
+static A_PIECE: [Step; 3] = [
+    Step::Send(0, "DEFINE gem opal\r\n"),
+    Step::Got(0, UNKNOWN),
+    Step::Fill(1),
+];
+
+static AFTER_THE_PIECES: [Step; 3] = [
+    Step::Got(1, INSTALLED),
+    Step::Send(0, "DEFINE gem opal\r\n"),
+    Step::Got(0, FOUND),
+];
+
+#[test]
+fn an_install_in_pieces(rt: HostRuntime) -> Result<(), Fail> {
+    let mut play = Play::new(&rt, rt.alloc())?;
+    play.run(&rt, &BEFORE_THE_PIECES)?;
+    for _ in 0..256u32 {
+        play.run(&rt, &A_PIECE)?;
     }
-    Err(Fail::new("not all was sent"))
+    play.run(&rt, &AFTER_THE_PIECES)
 }
 
 // Where nothing comes, nothing happens in a round, and a wait ends.
 #[test]
 fn an_idle_round(rt: HostRuntime) -> Result<(), Fail> {
     let mut play = Play::new(&rt, rt.alloc())?;
-    let idle = play.round()?;
-    assert!(rt; !idle);
+    play.settle()?;
     play.driver.wait(Duration::from_millis(10))?;
-    play.read_at(&rt)?;
-    play.look(0, FIRST)?;
-    play.driver.wait(Duration::from_millis(10))?;
-    play.send(0, b"STATUS\r\n")?;
+    play.run(&rt, &[Step::Reader, Step::Got(0, FIRST)])?;
+    play.client(0)?.send(b"STATUS\r\n")?;
     play.driver.wait(Duration::from_millis(10_000))?;
-    let busy = play.round()?;
-    assert!(rt; busy);
-    play.look(0, b"210 0 databases\r\n")
+    play.run(
+        &rt,
+        &[Step::Got(0, ""), Step::Got(0, "210 0 databases\r\n")],
+    )
 }

@@ -60,11 +60,11 @@ small_text bs h = IsUtf8-from_ascii bs (IsAscii-from_all bs (λ k d low. ltb-tru
 
 -- ---- a name that is free
 
-nothing_there : {X : Type 0} (o : Option X) → is_some o ≡ false → o ≡ None
+pub nothing_there : {X : Type 0} (o : Option X) → is_some o ≡ false → o ≡ None
 nothing_there None h = refl
 nothing_there (Some x) h = absurd (let e = h in cc)
 
-neither : (a b c : Bool) → (a || b || c) ≡ false → (a ≡ false) × (b ≡ false) × (c ≡ false)
+pub neither : (a b c : Bool) → (a || b || c) ≡ false → (a ≡ false) × (b ≡ false) × (c ≡ false)
 neither false false false h = (refl, refl, refl)
 neither false false true h = absurd (let e = h in cc)
 neither false true c h = absurd (let e = h in cc)

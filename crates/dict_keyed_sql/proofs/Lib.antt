@@ -1,6 +1,8 @@
 pub mod ConditionLemmas
+pub mod CountLemmas
 pub mod CreateTexts
 pub mod DeleteTexts
+pub mod DropTexts
 pub mod EqualLemmas
 pub mod GramAnswers
 pub mod GramTexts

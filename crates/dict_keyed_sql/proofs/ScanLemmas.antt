@@ -93,7 +93,7 @@ module _ (old new : State) where
     | inr shut ↦ shut_query gram_text read_gram_text gram_select reads_gram_text.read reads_gram_text.statement old new (Int n ∷ Bytes a ∷ Bytes b ∷ []) e shut h
   ]
 
-fails_to_read : (what : Scan) (old new : State) → (IsTrue old.is_open → HasTables what old.now) → (e : Error) → FailsToQuery (scan_text what) (scan_values what) old new e → FailsToRead old new e
+pub fails_to_read : (what : Scan) (old new : State) → (IsTrue old.is_open → HasTables what old.now) → (e : Error) → FailsToQuery (scan_text what) (scan_values what) old new e → FailsToRead old new e
 fails_to_read (All keyed.Entry) old new has = fails_read (list_text keyed.Entry) read_all_entry entry _ _ _ _ _ _ _ _ reads_all_entry nothing takes_all_entry tt old new has
 fails_to_read (Of keyed.Entry n) old new has = fails_read (select_text keyed.Entry) read_of_entry entry _ _ _ _ _ _ _ _ reads_of_entry a_number takes_of_entry n old new has
 fails_to_read (All keyed.Word) old new has = fails_read (list_text keyed.Word) read_all_word word _ _ _ _ _ _ _ _ reads_all_word nothing takes_all_word tt old new has

@@ -1,7 +1,8 @@
 -- What is read row by row, and what it has given so far.
-use Rattle.std.specs.Prelude.{◌≡◌, ◌⊎◌, ℕ, ℤ, Bool, true, not, ◌&&◌, List, [], ◌∷◌, ◌++◌, Option, Some, None}
+use Rattle.std.specs.Prelude.{◌≡◌, ◌⊎◌, ◌≤◌, ◌+◌, ◌^◌, ℕ, ℤ, Bool, true, not, ◌&&◌, List, [], ◌∷◌, ◌++◌, length, Option, Some, None}
 use Rattle.std.specs.Ordering.{is_lt, is_gt}
 use Rattle.sqlite.specs.declared.types.Value.TheVariants.{Int, Blob as Bytes}
+use Rattle.sqlite.specs.declared.error.Error.{Error}
 use Rattle.sqlite.specs.declared.error.Error.TheVariants.{SqliteFailure}
 use Rattle.sqlite.specs.declared.error.ErrorCode.TheVariants.{OutOfMemory}
 use Rattle.sqlite.specs.Order.{Row, column, value_cmp}
@@ -132,3 +133,14 @@ module _ {S : Type 0} (g : Ghosts S) where
   FailsToGive columns what old new given NoRecord = (row : Row) × Passes what old new given row × ¬ HasColumns columns row
   FailsToGive columns what old new given (Store e) =
       (FailsToRead (state g old) (state g new) e × kit.IsEnded new) ⊎ ((e ≡ SqliteFailure OutOfMemory) × (row : Row) × Passes what old new given row)
+
+  -- so many rows were still to come
+  abbrev pub HasRest : Scan → Held S → List Row → ℕ → Type 0
+  HasRest what new given count = (rest : List Row) × (length rest ≡ count) × IsWhole what (state g new).now (given ++ rest)
+
+  -- The store failed or the limit was met, perhaps behind some rows that were passed; or more rows were passed than are counted.
+  abbrev pub FailsToCount : Scan → Held S → Held S → List Row → Error → Type 0
+  FailsToCount what old new given e =
+      FailsToRead (state g old) (state g new) e
+      ⊎ (((mid : Held S) × IsUnchanged (state g old) (state g mid) × FailsToRead (state g mid) (state g new) e)
+      ⊎ ((e ≡ SqliteFailure OutOfMemory) × (rest : List Row) × (2 ^ 64 ≤ length rest + 1) × HasGiven what new (given ++ rest)))

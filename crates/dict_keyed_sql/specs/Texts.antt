@@ -8,6 +8,11 @@ create_text Entry = codes "CREATE TABLE entry (edition INTEGER NOT NULL, ord INT
 create_text Word = codes "CREATE TABLE word (edition INTEGER NOT NULL, word BLOB NOT NULL, ord INTEGER NOT NULL, PRIMARY KEY (edition, word, ord)) STRICT"
 create_text Gram = codes "CREATE TABLE gram (edition INTEGER NOT NULL, gram BLOB NOT NULL, ord INTEGER NOT NULL, PRIMARY KEY (edition, gram, ord)) STRICT"
 
+abbrev pub drop_text : KeyedTable → List ℕ
+drop_text Entry = codes "DROP TABLE entry"
+drop_text Word = codes "DROP TABLE word"
+drop_text Gram = codes "DROP TABLE gram"
+
 abbrev pub insert_keyed_entry : List ℕ
 insert_keyed_entry = codes "INSERT INTO entry (edition, ord, headword, start, length, key, rkey) VALUES (?1, ?2, ?3, ?4, ?5, ?6, ?7)"
 

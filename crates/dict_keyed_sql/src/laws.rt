@@ -6,13 +6,14 @@ ghost use Rattle.sqlite.specs.Table.{Table};
 ghost use Rattle.dict_tables.specs.Found.{HasOwn};
 ghost use Rattle.dict_sql.specs.Effects.{Has, rows_of, table_in};
 ghost use Rattle.dict_keyed_sql.specs.Tables.{entry};
-ghost use Rattle.dict_keyed_sql.specs.Indexes.{IsIndexed};
+ghost use Rattle.dict_keyed_sql.specs.Indexes.{HasIndex, HasToIndex, IsIndexed};
 ghost use Rattle.dict_keyed_sql.specs.declared.indexes.KeyIndex.{KeyIndex};
 ghost use Rattle.dict_keyed_sql.specs.Joined.{with_word, with_grams, is_named, NameApart, rows_with, entries_where};
 
-/// The tables that were had beside an index that is made are had still, and have the same rows.
+/// The tables that were had beside an index that is made are had still, and have the same rows; and the index is there.
 pub fn index_laws()
     ensures own { (which : KeyIndex) (old new : Database) → Has entry old → IsIndexed which old new → (table : ℕ → Table) → HasOwn old.schema table → HasOwn new.schema table }
+    ensures there { (which : KeyIndex) (old new : Database) → HasToIndex which old → IsIndexed which old new → HasIndex new.schema which }
     ensures rows { (which : KeyIndex) (old new : Database) → Has entry old → IsIndexed which old new → (name : List ℕ) (there : Table) → table_in name old ≡ Some there → rows_of name new ≡ rows_of name old }
 {}
 

@@ -1,8 +1,10 @@
 //! The SQL statements of the tables that have what is derived of headwords: entries with keys, words and grams.
 #![tactic(auto)]
 
+mod count;
 mod create;
 mod delete;
+mod drop;
 mod found;
 mod indexes;
 mod insert;
@@ -11,10 +13,12 @@ mod laws;
 mod scan;
 mod tables;
 
+pub use count::count_rows;
 pub use create::create_keyed_table;
 pub use delete::{delete_grams, delete_keyed_entries, delete_words};
+pub use drop::drop_keyed_table;
 pub use found::has_keyed_table;
-pub use indexes::{KeyIndex, create_key_index};
+pub use indexes::{KeyIndex, create_key_index, has_key_index};
 pub use insert::{insert_gram, insert_keyed_entry, insert_word};
 pub use inside::entries_inside;
 pub use laws::{index_laws, once_laws};

@@ -11,6 +11,7 @@ use std::alloc::Global;
 use std::process::Abort;
 use std::test::Fail;
 
+mod drops;
 mod entries;
 mod grams;
 mod indexes;
@@ -110,11 +111,31 @@ fn close(conn: Connection<FileStore<Memory>>) -> Result<Memory, Error>
     }
 }
 
+// The file that is left of two files once the tables were filled in them and they were closed.
+fn filled(rt: &impl Abort, alloc: Global) -> Result<Memory, Fail>
+    ensures { IfOk result (λ db. IsTrue (memory_is_usable db)) }
+{
+    let mut conn = open(alloc, Memory::new(alloc), Memory::new(alloc))?;
+    run(rt, alloc, &mut conn)?;
+    Ok(close(conn)?)
+}
+
 #[test]
 fn over_files(rt: HostRuntime) -> Result<(), Fail> {
     let alloc = rt.alloc();
-    let mut conn = open(alloc, Memory::new(alloc), Memory::new(alloc))?;
-    run(&rt, alloc, &mut conn)?;
-    let mut again = open(alloc, Memory::new(alloc), close(conn)?)?;
-    look(&rt, alloc, &mut again)
+    let db = filled(&rt, alloc)?;
+    let mut conn = open(alloc, Memory::new(alloc), db)?;
+    look(&rt, alloc, &mut conn)
+}
+
+#[test]
+fn other_indexes(rt: HostRuntime) -> Result<(), Fail> {
+    let mut conn = Connection::open_in_memory(rt.alloc())?;
+    indexes::others(&rt, &mut conn)
+}
+
+#[test]
+fn dropped(rt: HostRuntime) -> Result<(), Fail> {
+    let mut conn = Connection::open_in_memory(rt.alloc())?;
+    drops::run(&rt, &mut conn)
 }

@@ -54,6 +54,7 @@ fn read_number<S: Alter>(
     ensures whole { HasCleanDisk (state S.Store conn.new) → OnOk result ((taken : Tables) → HasTaken 1 reader.old taken → (after : Tables) × HasTaken 1 reader.new after × HasReadOne (state S.Store conn.old).now number taken after) }
     ensures damaged { HasCleanDisk (state S.Store conn.new) → IfErr result (λ fault. fault ≡ ReadingFault.Damaged → (taken : Tables) → HasTaken 1 reader.old taken → CanReadOne (state S.Store conn.old).now taken number → KeepsNone (state S.Store conn.old).now taken.members) }
 {
+    reader.let_go();
     let row = edition_numbered(alloc, conn, number)?;
     if let Err(fault) = reader.edition(row.value) {
         return Err(fault_of_rows(fault));

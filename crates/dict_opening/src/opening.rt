@@ -40,7 +40,8 @@ fn has_tables(schema: &Schema) -> bool
         && has_table(schema, StoreTable::Kept)
 }
 
-/// The summary of the catalogue that the tables hold, where these are the records of the mark.
+/// The summary of the catalogue that the tables hold, where these are the records of the mark. Editions are read first: what
+/// is read before them leaves less room for their texts.
 fn read_tables<S: Alter>(
     alloc: Global,
     conn: &mut Connection<S>,
@@ -54,8 +55,9 @@ fn read_tables<S: Alter>(
     if !has_tables(conn.schema()) {
         return Err(ReadingFault::Damaged);
     }
+    let summary = read_records(alloc, conn, marks)?;
     test_all_rowids(alloc, conn)?;
-    read_records(alloc, conn, marks)
+    Ok(summary)
 }
 
 /// The number in a column, where it isn't below 0.

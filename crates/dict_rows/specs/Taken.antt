@@ -115,3 +115,7 @@ pub record HasTaken (version : ℕ) (reader : Reader) (taken : Tables) : Type 0 
   pub entries : AllByRecursion (λ row. IsTrue (has_number (items_in reader) row.edition)) taken.entries
   pub hand : IsInHand reader.edition taken
   pub kept : AreKept reader.accepted reader.installed taken.kept
+
+-- the same, but that the edition in hand may have been let go
+abbrev pub HasLetGo : ℕ → Reader → Tables → Type 0
+HasLetGo version reader taken = (hand : Option InHand) × HasTaken version (record reader { edition = hand }) taken

@@ -108,7 +108,8 @@ pub struct Reader {
 }
 
 impl Reader {
-    ghost use Rattle.dict_rows.specs.Taken.{HasTaken, StandsForNone, GoesOn, items_in, begun, with_edition, with_entry, with_kept, IsOfLast, HasIdsOnce};
+    ghost use Rattle.std.specs.Prelude.{None};
+    ghost use Rattle.dict_rows.specs.Taken.{HasTaken, HasLetGo, StandsForNone, GoesOn, items_in, begun, with_edition, with_entry, with_kept, IsOfLast, HasIdsOnce};
     ghost use Rattle.dict_rows.specs.Stands.{has_number};
     ghost use Rattle.dict_catalogue.specs.Items.{edition_numbers};
 
@@ -160,12 +161,21 @@ impl Reader {
         Ok(is_one_of(&numbers, number))
     }
 
+    /// Lets the text go of the edition that was taken last, all of whose entries were taken, so that it isn't held while the
+    /// record of the next one is read.
+    pub fn let_go(&mut self)
+        ensures gone { self.new ≡ record self.old { edition = None } }
+        ensures taken { (version : ℕ) (taken : Tables) → HasTaken version self.old taken → HasLetGo version self.new taken }
+    {
+        self.edition = None;
+    }
+
     /// Takes the record of an edition, whose entries come next. The editions come in any order.
     ///
     /// `Damaged`, the only fault, tells that no catalogue stands for tables that go on so.
     pub fn edition(&mut self, row: Edition<String, Vec<u8>>) -> Result<(), RowsFault>
-        ensures taken { OnOk result ((version : ℕ) (taken : Tables) → HasTaken version self.old taken → HasTaken version self.new (with_edition taken (owned_edition row))) }
-        ensures damaged { OnErr result ((version : ℕ) (taken : Tables) → HasTaken version self.old taken → StandsForNone version (with_edition taken (owned_edition row))) }
+        ensures taken { OnOk result ((version : ℕ) (taken : Tables) → HasLetGo version self.old taken → HasTaken version self.new (with_edition taken (owned_edition row))) }
+        ensures damaged { OnErr result ((version : ℕ) (taken : Tables) → HasLetGo version self.old taken → StandsForNone version (with_edition taken (owned_edition row))) }
         ensures only { IfErr result (λ fault. fault ≡ RowsFault.Damaged) }
     {
         let number = number_of(&row.number)?;

@@ -48,6 +48,26 @@ fn numbers_of_the_items(rt: HostRuntime) -> Result<(), Fail> {
 }
 
 #[test]
+fn text_that_is_let_go(rt: HostRuntime) -> Result<(), Fail> {
+    let alloc = rt.alloc();
+    let rows = whole(alloc)?;
+    let mut reader = Reader::begin(alloc, 1, &rows.marks, &rows.items, &rows.members)?;
+    for group in rows.editions.into_iter() {
+        reader.let_go();
+        reader.edition(group.edition.value)?;
+        for entry in &group.entries {
+            reader.entry(alloc, &entry.value)?;
+        }
+    }
+    for row in &rows.kept {
+        reader.kept(&row.value)?;
+    }
+    let summary = reader.finish()?;
+    assert_eq!(rt; summary.items.len(), 3);
+    Ok(())
+}
+
+#[test]
 fn written_rows(rt: HostRuntime) -> Result<(), Fail> {
     let alloc = rt.alloc();
     let rows = whole(alloc)?;

@@ -1,5 +1,8 @@
--- How serving begins: two addresses are listened at, and told.
-use Rattle.std.specs.Prelude.{◌≡◌, ◌⊎◌, ℕ, List, ◌++◌, Result, Ok, Err, codes}
+-- How serving begins: sockets are bound to two addresses, which are told.
+use Rattle.std.specs.Prelude.{◌≡◌, ◌≢◌, ◌⊎◌, ℕ, List, ◌++◌, Result, Ok, Err, codes}
+use Rattle.std.specs.IoError.{error_kind}
+use Rattle.std.specs.declared.io.Error.{Error}
+use Rattle.std.specs.declared.io.ErrorKind.TheVariants.{OutOfMemory}
 use Rattle.std.specs.declared.net.socket_addr.SocketAddr.{SocketAddr}
 use Rattle.std.specs.Net.Text.{socket_text}
 use Rattle.dict_io.specs.Streams.{Change, PutsAll, PutsFront}
@@ -11,26 +14,27 @@ use Rattle.dict_printed.specs.Writing.{IsUntouched}
 use Rattle.dict_printed.specs.declared.fault.Fault.{Fault}
 use Rattle.dict_printed.specs.declared.fault.Fault.TheVariants as faults
 
--- the addresses that are listened at, for readers and for editors, as they are printed
+-- the addresses that were bound, for readers and for editors, as they are printed
 abbrev pub lines_of : SocketAddr → SocketAddr → List ℕ
 lines_of dict http = codes "dict " ++ (socket_text dict ++ (codes "\nhttp " ++ (socket_text http ++ codes "\n")))
 
--- sockets can't be waited for, or memory ran out
-abbrev pub IsWaitingFault : Fault → Type 0
-IsWaitingFault fault = (fault ≡ faults.CannotWait) ⊎ (fault ≡ faults.Memory)
+-- what is told of the system's error where sockets can't be waited for: that memory ran out, where that is the error's kind, and else
+-- that they can't be
+abbrev pub TellsWaiting : Error → Fault → Type 0
+TellsWaiting why fault = (error_kind why ≡ OutOfMemory → fault ≡ faults.Memory) × (error_kind why ≢ OutOfMemory → fault ≡ faults.CannotWait)
 
--- this address can't be listened at
+-- no socket can be bound to this address
 abbrev pub IsUnbound : List ℕ → Fault → Type 0
 IsUnbound address fault = (told : _) × (fault ≡ faults.CannotBind told) × (told.now ≡ address)
 
--- what is told where it isn't listened at both
+-- what is told where none is bound to the one or the other
 abbrev pub TellsOf : List ℕ → List ℕ → BindFault → Fault → Type 0
 TellsOf dict http (bind_faults.Dict why) fault = IsUnbound dict fault
 TellsOf dict http (bind_faults.Http why) fault = IsUnbound http fault
-TellsOf dict http (bind_faults.Wait why) fault = IsWaitingFault fault
+TellsOf dict http (bind_faults.Wait why) fault = TellsWaiting why fault
 TellsOf dict http bind_faults.Memory fault = fault ≡ faults.Memory
 
--- It is listened at both, and they are written. Where it is not, the first fault is told, and nothing is written; where the
+-- Sockets are bound to both, and they are written. Where one is not, the first fault is told, and nothing is written; where the
 -- writer fails a front is written, and where memory runs out nothing
 abbrev pub Begins : List ℕ → List ℕ → Result Driver Fault → Change → Type 0
 Begins dict http (Ok driver) writer = Binds dict http (Ok driver) × PutsAll writer.old writer.new (lines_of driver.addresses.0 driver.addresses.1)

@@ -1,20 +1,52 @@
 -- How serving goes: the stretches of rounds, one for each opening of the file.
-use Rattle.std.specs.Prelude.{◌≡◌, ◌⊎◌, ℕ, Bool, true, false, List, [], ◌∷◌, Option, Result, Ok, Err, codes, ⊤}
+use Rattle.std.specs.Prelude.{◌≡◌, ◌⊎◌, ℕ, Bool, true, false, List, [], ◌∷◌, Option, Some, Result, Ok, Err, codes, ⊤}
+use Rattle.std.specs.declared.io.Error.{Error}
 use Rattle.dict_catalogue.specs.Steps.{Catalogue}
 use Rattle.dict_io.specs.Streams.{Change, PutsAll}
 use Rattle.dict_hub.specs.Runs.{IsAt, beginning}
 use Rattle.dict_driver.specs.Leading.{HasLedOn}
 use Rattle.dict_driver.specs.Rounds.{Moves}
-use Rattle.dict_driver.specs.Binding.{IsAddress}
+use Rattle.dict_driver.specs.Binding.{IsAddress, AreTold}
+use Rattle.dict_driver.specs.Serving.{rounds_of}
 use Rattle.dict_driver.specs.declared.driver.Driver.{Driver}
 use Rattle.dict_printed.specs.Writing.{IsUntouched}
 use Rattle.dict_printed.specs.declared.fault.Fault.{Fault}
-use Rattle.dict_serving.specs.Listening.{Begins, IsWaitingFault, lines_of}
+use Rattle.dict_printed.specs.declared.fault.Fault.TheVariants as faults
+use Rattle.dict_serving.specs.Counting.{MakesAll}
+use Rattle.dict_serving.specs.Listening.{Begins, TellsWaiting, lines_of}
 
 -- one opening of the file: its desk as it was opened, and as it was left
 pub record Stretch (K : Type 0) : Type 0 where
   pub opened : K
   pub left : K
+
+-- the faults of a file and of its catalogue: the file can't be read, or its catalogue can't be had, or memory ran out. No refusal is one
+abbrev pub IsOfFile : Fault → Type 0
+IsOfFile (faults.Line refusal line) = ⊥
+IsOfFile (faults.Edition refusal) = ⊥
+IsOfFile (faults.Refused refusal) = ⊥
+IsOfFile (faults.Store fault) = ⊤
+IsOfFile (faults.CannotRead path) = ⊤
+IsOfFile faults.SessionEnded = ⊥
+IsOfFile faults.CannotWrite = ⊥
+IsOfFile (faults.CannotBind address) = ⊥
+IsOfFile faults.CannotWait = ⊥
+IsOfFile faults.Memory = ⊤
+
+-- there is no desk of the file, for a reason that is given, and by a fault of a file
+abbrev pub IsNone : (Fault → Type 0) → Fault → Type 0
+IsNone Unopened fault = Unopened fault × IsOfFile fault
+
+-- a catalogue is shown, and a stop leaves that one alone
+abbrev pub KeepsAlone : {K : Type 0} → (K → Catalogue → Type 0) → (K → List (Option Catalogue) → Type 0) → K → Type 0
+KeepsAlone Shows LeavesOneOf desk = (M : Catalogue) × Shows desk M × LeavesOneOf desk (Some M ∷ [])
+
+-- The desk was opened. It shows a catalogue, and a stop leaves that one alone: this is told where what it stands on has returned
+-- what was written to it
+pub record IsNew {K : Type 0} (Shows : K → Catalogue → Type 0) (LeavesOneOf : K → List (Option Catalogue) → Type 0) (IsTrusted : K → Type 0) (IsOpened : K → Type 0)
+    (desk : K) : Type 0 where
+  pub opened : IsOpened desk
+  pub alone : IsTrusted desk → KeepsAlone Shows LeavesOneOf desk
 
 -- the desk answers: it was opened just now, or its store didn't fail
 abbrev pub IsOpen : {K : Type 0} → (K → Bool) → (K → Type 0) → K → Type 0
@@ -33,7 +65,7 @@ GaveWay is_closed one (other ∷ others) = is_closed one.left ≡ true
 -- all rounds were made, or sockets couldn't be waited for, or the file couldn't be opened anew
 abbrev pub Ends : {A : Type 0} → (Fault → Type 0) → Result A Fault → Type 0
 Ends Unopened (Ok _) = ⊤
-Ends Unopened (Err fault) = IsWaitingFault fault ⊎ Unopened fault
+Ends Unopened (Err fault) = ((why : Error) × TellsWaiting why fault) ⊎ IsNone Unopened fault
 
 -- By what a desk shows, what a stop may leave of it, that what it stands on has returned what was written, that it was opened, and
 -- whether its store has failed.
@@ -42,7 +74,7 @@ module _ {K : Type 0} (Shows : K → Catalogue → Type 0) (LeavesOneOf : K → 
   -- Over the desk of one opening events led the hub from where it was to where it is, and what waits for each connection is what
   -- waited and what its own events put, without a front that was sent
   pub record IsOver (one : Stretch K) (old new : Driver) : Type 0 where
-    pub opened : IsOpened one.opened
+    pub opened : IsNew Shows LeavesOneOf IsTrusted IsOpened one.opened
     pub led : HasLedOn (IsTrusted one.left) (Shows one.opened) (LeavesOneOf one.opened) (Shows one.left) (LeavesOneOf one.left) old.hub new.hub
         (λ events. Moves old.connections new.connections events)
     pub trust : IsTrusted one.left → IsTrusted one.opened
@@ -53,24 +85,26 @@ module _ {K : Type 0} (Shows : K → Catalogue → Type 0) (LeavesOneOf : K → 
   AreServed [] old new = new ≡ old
   AreServed (one ∷ others) old new = (between : Driver) × IsOver one old between × GaveWay is_closed one others × AreServed others between new
 
-  -- Both texts are addresses, and those that are listened at were told. Stretches, the first over this desk, led from a hub with no
-  -- connection, of the host `localhost`, whose first id is to be 1
-  pub record HasServed (desk : K) (dict http : List ℕ) (result : Result (Unit {0}) Fault) (Unopened : Fault → Type 0) (writer : Change) : Type 0 where
+  -- Both texts are addresses, and those that were bound for them were told. Stretches, the first over this desk, led from a hub with no
+  -- connection, of the host `localhost`, whose first id is to be 1; and as many rounds as were asked for were made, or at a fault no more
+  pub record HasServed (desk : K) (dict http : List ℕ) (rounds : Option ℕ) (result : Result (Unit {0}) Fault) (Unopened : Fault → Type 0) (writer : Change) : Type 0 where
     pub first : Driver
     pub last : Driver
     pub readers : IsAddress dict
     pub editors : IsAddress http
+    pub bound : AreTold dict http first.addresses
     pub told : PutsAll writer.old writer.new (lines_of first.addresses.0 first.addresses.1)
     pub begins : IsAt first.hub (beginning (codes "localhost"))
     pub no_id : first.connections.last ≡ 0
     pub stretches : List (Stretch K)
     pub over : IsFirst desk stretches
     pub served : AreServed stretches first last
+    pub made : MakesAll (rounds_of rounds) result last.rounds
     pub ends : Ends Unopened result
 
-  -- There is no desk of the file; or there is, and it wasn't listened at both addresses, or they couldn't be told; or it was served
-  abbrev pub ServeEnds : (List ℕ → Fault → Type 0) → List ℕ → List ℕ → List ℕ → Result (Unit {0}) Fault → Change → Type 0
-  ServeEnds IsUnopened path dict http result writer =
-      ((fault : Fault) × (result ≡ Err fault) × IsUnopened path fault × IsUntouched writer)
-      ⊎ ((desk : K) × IsOpened desk × (((fault : Fault) × (result ≡ Err fault) × Begins dict http (Err fault) writer)
-      ⊎ HasServed desk dict http result (IsUnopened path) writer))
+  -- There is no desk of the file; or there is, and no sockets were bound to both addresses, or they couldn't be told; or it was served
+  abbrev pub ServeEnds : (List ℕ → Fault → Type 0) → List ℕ → List ℕ → List ℕ → Option ℕ → Result (Unit {0}) Fault → Change → Type 0
+  ServeEnds IsUnopened path dict http rounds result writer =
+      ((fault : Fault) × (result ≡ Err fault) × IsNone (IsUnopened path) fault × IsUntouched writer)
+      ⊎ ((desk : K) × IsNew Shows LeavesOneOf IsTrusted IsOpened desk × (((fault : Fault) × (result ≡ Err fault) × Begins dict http (Err fault) writer)
+      ⊎ HasServed desk dict http rounds result (IsUnopened path) writer))

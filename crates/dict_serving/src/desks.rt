@@ -1,11 +1,13 @@
 // What opens the desk of a catalogue.
 ghost use Rattle.std.specs.Prelude.{◌≡◌, ℕ, List, MatchResult};
 ghost use Rattle.dict_printed.specs.declared.fault.Fault.{Fault as PrintedFault};
+ghost use Rattle.dict_serving.specs.Serving.{IsNew, IsNone};
 
+use dict_desk::Keeper;
 use dict_printed::Fault;
 
 /// Opens the desk of the catalogue in one file, as often as it is asked.
-pub trait Desks<'w, K> {
+pub trait Desks<'w, K: Keeper> {
     /// The path of the file.
     ghost path: { Self → List ℕ };
 
@@ -15,9 +17,10 @@ pub trait Desks<'w, K> {
     /// The fault tells why there is no desk of the file with this path.
     ghost is_unopened: { List ℕ → PrintedFault → Type 0 };
 
-    /// Opens the file, and the desk of its catalogue.
+    /// Opens the file, and the desk of its catalogue, which shows a catalogue, and of which a stop leaves that one alone. A
+    /// fault is one of the file or of its catalogue, and no refusal.
     fn open(&mut self) -> Result<K, Fault<'w>>
-        ensures opened { MatchResult result is_opened (is_unopened (path self.old)) }
+        ensures opened { MatchResult result (IsNew K.shows K.leaves_one_of K.is_trusted is_opened) (IsNone (is_unopened (path self.old))) }
         ensures path { path self.new ≡ path self.old };
 
     /// Closes a desk and its file.

@@ -7,5 +7,5 @@ mod listening;
 mod serving;
 
 pub use desks::Desks;
-pub use listening::Wanted;
+pub use listening::ServerOptions;
 pub use serving::{serve_catalogue, serve_rounds};

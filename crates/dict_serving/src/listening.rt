@@ -1,11 +1,10 @@
-// Two addresses that are listened at, and told.
-ghost use Rattle.std.specs.Prelude.{◌≡◌, ◌≢◌, IfOk, IfErr, codes};
-ghost use Rattle.std.specs.IoError.{error_kind};
-ghost use Rattle.std.specs.declared.io.ErrorKind.TheVariants.{OutOfMemory};
+// Two addresses that are bound, and told.
+ghost use Rattle.std.specs.Prelude.{◌≡◌, IfOk, codes};
 ghost use Rattle.dict_io.specs.Streams.{change};
+ghost use Rattle.dict_driver.specs.Binding.{AreTold};
 ghost use Rattle.dict_hub.specs.Runs.{IsAt, beginning};
 ghost use Rattle.dict_printed.specs.Writing.{Writes};
-ghost use Rattle.dict_serving.specs.Listening.{Begins, TellsOf, lines_of};
+ghost use Rattle.dict_serving.specs.Listening.{Begins, TellsOf, TellsWaiting, lines_of};
 
 use dict_driver::{BindFault, Driver};
 use dict_io::Sink;
@@ -20,22 +19,24 @@ const HOST: &str = "localhost";
 /// What is asked of a server: the addresses for readers and for editors, each an IP address and a port, and how many rounds
 /// are made. Without a number they are as many as there may be.
 #[derive(Clone, Copy, Debug, PartialEq, Eq)]
-pub struct Wanted<'w> {
+pub struct ServerOptions<'w> {
     pub dict: &'w str,
     pub http: &'w str,
     pub rounds: Option<u32>,
 }
 
-/// Listens at both addresses, and writes them in two lines.
+/// Binds sockets to both addresses, and writes those in two lines.
 pub(crate) fn listen<'w, W: Sink>(
     net: &impl Net,
     alloc: Global,
-    wanted: &Wanted<'w>,
+    wanted: &ServerOptions<'w>,
     writer: &mut W,
 ) -> Result<Driver<'static>, Fault<'w>>
     ensures begins { Begins wanted.now.dict.now wanted.now.http.now result (change W.stream writer.old writer.new) }
     ensures beginning { IfOk result (λ driver. IsAt driver.hub (beginning (codes "localhost"))) }
     ensures last { IfOk result (λ driver. driver.connections.last ≡ 0) }
+    ensures bound { IfOk result (λ driver. AreTold wanted.now.dict.now wanted.now.http.now driver.addresses) }
+    ensures rounds { IfOk result (λ driver. driver.rounds ≡ 0) }
 {
     let driver = match Driver::bind(net, alloc, wanted.dict, wanted.http, HOST) {
         Ok(driver) => driver,
@@ -64,7 +65,7 @@ fn put_addresses<W: Sink>(
     }
 }
 
-// What is told where an address can't be listened at.
+// What is told where no socket can be bound to an address.
 fn told_of<'w>(fault: BindFault, dict: &'w str, http: &'w str) -> Fault<'w>
     ensures { TellsOf dict.entry.now http.entry.now fault result }
 {
@@ -78,8 +79,7 @@ fn told_of<'w>(fault: BindFault, dict: &'w str, http: &'w str) -> Fault<'w>
 
 /// What is told where sockets can't be waited for.
 pub(crate) fn waiting_fault(error: &Error) -> Fault<'static>
-    ensures memory { error_kind error.now ≡ OutOfMemory → result ≡ Fault.Memory }
-    ensures waiting { error_kind error.now ≢ OutOfMemory → result ≡ Fault.CannotWait }
+    ensures { TellsWaiting error.now result }
 {
     if error.kind() == ErrorKind::OutOfMemory {
         return Fault::Memory;

@@ -1,10 +1,11 @@
 // Rounds over the desk of a file, which is opened anew where its store failed.
 ghost use Rattle.std.specs.Prelude.{◌≡◌, ◌<◌, true, IfOk, List, MatchResult};
 ghost use Rattle.dict_io.specs.Streams.{change};
-ghost use Rattle.dict_serving.specs.Serving.{AreServed, Ends, IsFirst, IsOpen, IsOver, ServeEnds, Stretch};
+ghost use Rattle.dict_serving.specs.Counting.{AreMade, AreMadeTo};
+ghost use Rattle.dict_serving.specs.Serving.{AreServed, Ends, IsFirst, IsNew, IsNone, IsOpen, IsOver, ServeEnds, Stretch};
 
 use crate::desks::Desks;
-use crate::listening::{Wanted, listen, waiting_fault};
+use crate::listening::{ServerOptions, listen, waiting_fault};
 use dict_desk::Keeper;
 use dict_driver::{Driver, Served, pace, serve};
 use dict_io::Sink;
@@ -13,8 +14,8 @@ use std::alloc::Global;
 use std::net::Net;
 use std::time::Duration;
 
-/// Serves the catalogue of a file: opens it, listens at two addresses, for readers and then for editors, writes which these
-/// are, and makes rounds. After a round in which its store failed the file is closed and opened anew, and the rounds that
+/// Serves the catalogue of a file: opens it, binds sockets to two addresses, for readers and then for editors, writes which
+/// these are, and makes rounds, as many as are asked for where nothing fails. After a round in which its store failed the file is closed and opened anew, and the rounds that
 /// are left go on over it, with the connections that are open. In the end the file is closed.
 ///
 /// The faults come in this order: of the file and its catalogue, of the address for readers, of that for editors, of the
@@ -23,10 +24,10 @@ pub fn serve_catalogue<'w, K: Keeper + Drop, D: Desks<'w, K>, W: Sink>(
     net: &impl Net,
     alloc: Global,
     desks: &mut D,
-    wanted: &Wanted<'w>,
+    wanted: &ServerOptions<'w>,
     writer: &mut W,
 ) -> Result<(), Fault<'w>>
-    ensures ends { ServeEnds K.shows K.leaves_one_of K.is_trusted D.is_opened K.is_closed D.is_unopened (D.path desks.old) wanted.now.dict.now wanted.now.http.now result
+    ensures ends { ServeEnds K.shows K.leaves_one_of K.is_trusted D.is_opened K.is_closed D.is_unopened (D.path desks.old) wanted.now.dict.now wanted.now.http.now wanted.now.rounds result
         (change W.stream writer.old writer.new) }
     ensures path { D.path desks.new ≡ D.path desks.old }
 {
@@ -54,10 +55,11 @@ pub fn serve_rounds<'w, K: Keeper + Drop, D: Desks<'w, K>>(
     rounds: u64,
     wait: Duration,
 ) -> Result<K, Fault<'w>>
-    requires { D.is_opened desk }
-    ensures stands { IfOk result (IsOpen K.is_closed D.is_opened) }
+    requires { IsNew K.shows K.leaves_one_of K.is_trusted D.is_opened desk }
+    ensures stands { IfOk result (IsOpen K.is_closed (IsNew K.shows K.leaves_one_of K.is_trusted D.is_opened)) }
     ensures served { (stretches : List (Stretch K)) × AreServed K.shows K.leaves_one_of K.is_trusted D.is_opened K.is_closed stretches driver.old driver.new × IsFirst desk stretches }
     ensures ends { Ends (D.is_unopened (D.path desks.old)) result }
+    ensures made { AreMade rounds result driver.old.rounds driver.new.rounds }
     ensures path { D.path desks.new ≡ D.path desks.old }
 {
     let mut pending = Pending { desk, left: rounds };
@@ -82,14 +84,15 @@ fn serve_stretch<'w, K: Keeper + Drop, D: Desks<'w, K>>(
     pending: Pending<K>,
     wait: Duration,
 ) -> Result<Pending<K>, Fault<'w>>
-    requires opened { D.is_opened pending.desk }
+    requires opened { IsNew K.shows K.leaves_one_of K.is_trusted D.is_opened pending.desk }
     requires some { 0 < pending.left }
     ensures served { (left : K) × IsOver K.shows K.leaves_one_of K.is_trusted D.is_opened K.is_closed (record { opened = pending.desk; left = left }) driver.old driver.new
         × IfOk result (λ next. 0 < next.left → K.is_closed left ≡ true) }
-    ensures opened { IfOk result (λ next. 0 < next.left → D.is_opened next.desk) }
-    ensures stands { IfOk result (λ next. IsOpen K.is_closed D.is_opened next.desk) }
+    ensures opened { IfOk result (λ next. 0 < next.left → IsNew K.shows K.leaves_one_of K.is_trusted D.is_opened next.desk) }
+    ensures stands { IfOk result (λ next. IsOpen K.is_closed (IsNew K.shows K.leaves_one_of K.is_trusted D.is_opened) next.desk) }
     ensures fewer { IfOk result (λ next. next.left < pending.left) }
     ensures ends { Ends (D.is_unopened (D.path desks.old)) result }
+    ensures made { AreMadeTo pending.left (λ next. next.left) result driver.old.rounds driver.new.rounds }
     ensures path { D.path desks.new ≡ D.path desks.old }
 {
     let Pending {
@@ -110,8 +113,8 @@ fn serve_stretch<'w, K: Keeper + Drop, D: Desks<'w, K>>(
 }
 
 // Closes a desk, and opens the file anew.
-fn reopen<'w, K, D: Desks<'w, K>>(desks: &mut D, desk: K) -> Result<K, Fault<'w>>
-    ensures opened { MatchResult result D.is_opened (D.is_unopened (D.path desks.old)) }
+fn reopen<'w, K: Keeper, D: Desks<'w, K>>(desks: &mut D, desk: K) -> Result<K, Fault<'w>>
+    ensures opened { MatchResult result (IsNew K.shows K.leaves_one_of K.is_trusted D.is_opened) (IsNone (D.is_unopened (D.path desks.old))) }
     ensures path { D.path desks.new ≡ D.path desks.old }
 {
     desks.close(desk);

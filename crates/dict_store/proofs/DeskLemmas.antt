@@ -3,7 +3,8 @@ use Rattle.std.proofs.Common.{◌≡◌, inl, inr, ℕ, Bool, true, false, List,
 use Rattle.std.specs.Prelude.{IsTrue, Some, Contains, Result, Ok, Err, OnOk, IfOk, IfErr, IsErr}
 use Rattle.std.specs.List.{AllByRecursion}
 use Rattle.std.proofs.lemmas.Bool.{false≢true}
-use Rattle.sqlite.specs.Effect.{Database}
+use Rattle.sqlite.specs.Effect.{Database, IsDatabase}
+use Rattle.sqlite.specs.Tree.{Trees}
 use Rattle.sqlite.specs.State.{State, HasCleanDisk, IsUnchanged, Survives}
 use Rattle.sqlite.specs.Held.{Held, state}
 use Rattle.sqlite_trees.specs.declared.store.Store.{Ghosts}
@@ -16,7 +17,7 @@ use Rattle.dict_desk.specs.Handing.{Hands}
 use Rattle.dict_desk.specs.declared.fault.Fault.{Fault}
 use Rattle.dict_desk.specs.declared.lookup.End.{End}
 use Rattle.dict_desk.proofs.HandingLemmas.{hands_front}
-use Rattle.dict_file.specs.Holds.{Holds}
+use Rattle.dict_file.specs.Holds.{Holds, IsLeft}
 use Rattle.dict_lookup.specs.Lookups.{FailsToLookUp}
 use Rattle.dict_store.specs.Desk.{IsAtRest, Shows, is_closed}
 use Rattle.dict_store.specs.declared.last.Last.{Last}
@@ -82,6 +83,11 @@ handed_by takes stops first last rows (Err fault) false value shut none = hands_
 
 pub alone : (M : Catalogue) → Contains (Some M ∷ []) (Some M)
 alone M = (0, omega arith, refl)
+
+-- of a store that is open a stop leaves what is committed, and the catalogue that this holds
+pub left_alone : {S : Type 0} (g : Ghosts S) (conn : Held S) (M : Catalogue) → ((db : Trees) → IsTrue (state g conn).is_open → (state g conn).may_leave db → db ≡ (state g conn).committed.trees)
+    → IsTrue (state g conn).is_open → IsDatabase (state g conn).committed → Holds 1 (state g conn).committed M → (trees : Trees) → (state g conn).may_leave trees → IsLeft 1 M trees
+left_alone g conn M settled live sound holds trees may = ((state g conn).committed, settled trees live may, sound, holds)
 
 -- what was counted, which tells that the store was open
 pub value_by : {T : Type 0} (P : T → Type 0) (result : Result T Fault) (old new : State) → OnOk result (IsUnchanged old new) → (IsTrue old.is_open → IfOk result P) → IfOk result P

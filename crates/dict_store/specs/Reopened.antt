@@ -14,6 +14,7 @@ use Rattle.sqlite.specs.declared.error.ErrorCode.TheVariants as code
 use Rattle.dict_desk.specs.declared.fault.Fault.{Fault}
 use Rattle.dict_desk.specs.declared.fault.Fault.TheVariants.{Memory, NotACatalogue, NewerSchema, Damaged}
 use Rattle.dict_file.specs.Holds.{IsLeft}
+use Rattle.dict_opening.specs.Reading.{IsOfOpening}
 use Rattle.dict_store.specs.Desk.{DeskState, Shows}
 use Rattle.dict_store.specs.Promise.{HoldsFront}
 use Rattle.dict_store.specs.declared.reopening.Unopened.{Unopened}
@@ -32,11 +33,11 @@ IsIn M image = (db : Trees) × HoldsDatabase image db × IsLeft 1 M db
 abbrev pub IsOfStore : Fault → Type 0
 IsOfStore fault = (fault ≢ NotACatalogue) × (fault ≢ NewerSchema) × (fault ≢ Damaged)
 
--- Files were not opened for memory, or were refused; or a connection is handed back, in no transaction, and a fault of what its
--- database holds comes only where the octets hold no catalogue.
+-- Files were not opened for memory, or were refused; or a connection is handed back, in no transaction, with a fault of an
+-- opening, and one of what its database holds comes only where the octets hold no catalogue.
 abbrev pub IsUnopened : {D : Type 0} {g : disk.Ghosts D} → Image → Unopened D g → Fault → Type 0
 IsUnopened image (Files left) fault = (fault ≡ Memory) ⊎ (fault ≡ NotACatalogue)
-IsUnopened image (Database conn) fault = (conn.in_transaction ≡ false) × (HasCleanDisk (file_state conn) → (M : Catalogue) → IsIn M image → IsOfStore fault)
+IsUnopened image (Database conn) fault = (conn.in_transaction ≡ false) × IsOfOpening fault × (HasCleanDisk (file_state conn) → (M : Catalogue) → IsIn M image → IsOfStore fault)
 
 -- these octets are those of a database from which the catalogue after a front of the commands is opened
 abbrev pub HoldsFrontIn : Catalogue → List Request → ℕ → Image → Type 0
@@ -48,12 +49,12 @@ module _ {S : Type 0} (g : Ghosts S) where
   abbrev pub LeavesFront : DeskState S → Catalogue → List Request → ℕ → Type 0
   LeavesFront desk before requests answered = HasCleanDisk (state g desk.conn) → (trees : Trees) → (state g desk.conn).may_leave trees → HoldsFront before requests answered trees
 
-  -- Files were not opened for memory, or were refused; or a connection is handed back, in no transaction, and the fault is none of
-  -- what its database holds, where what a stop left of the desk was such a catalogue.
+  -- Files were not opened for memory, or were refused; or a connection is handed back, in no transaction, with a fault of an
+  -- opening, which is none of what its database holds, where what a stop left of the desk was such a catalogue.
   abbrev pub IsUnopenedFrom : {D : Type 0} {d : disk.Ghosts D} → DeskState S → Unopened D d → Fault → Type 0
   IsUnopenedFrom desk (Files left) fault = (fault ≡ Memory) ⊎ (fault ≡ NotACatalogue)
   IsUnopenedFrom desk (Database conn) fault =
-      (conn.in_transaction ≡ false) × (HasCleanDisk (file_state conn) → (before : Catalogue) (requests : List Request) (answered : ℕ) → LeavesFront desk before requests answered → IsOfStore fault)
+      (conn.in_transaction ≡ false) × IsOfOpening fault × (HasCleanDisk (file_state conn) → (before : Catalogue) (requests : List Request) (answered : ℕ) → LeavesFront desk before requests answered → IsOfStore fault)
 
   -- the catalogue after such a front is shown
   abbrev pub ShowsFront : DeskState S → Catalogue → List Request → ℕ → Type 0

@@ -1,13 +1,14 @@
 // A desk over a database that holds a catalogue.
-ghost use Rattle.std.specs.Prelude.{◌≡◌, ◌||◌, false, true, None, IsTrue, IfOk, IfErr, Err};
-ghost use Rattle.sqlite.specs.State.{HasCleanDisk, Survives};
+ghost use Rattle.std.specs.Prelude.{◌≡◌, ◌||◌, false, true, Some, None, [], ◌∷◌, IsTrue, IfOk, IfErr, Err};
+ghost use Rattle.sqlite.specs.State.{HasCleanDisk, IsLive, Survives};
 ghost use Rattle.sqlite.specs.Held.{state};
 ghost use Rattle.dict_catalogue.specs.Steps.{Catalogue, summary_of};
 ghost use Rattle.dict_catalogue.specs.Views.{summary_shown};
 ghost use Rattle.dict_file.specs.Holds.{Holds, IsLeft, Rests};
 ghost use Rattle.dict_commands.specs.Changes.{IsInRange};
 ghost use Rattle.dict_desk.specs.Faults.{has_closed_by, has_failed_by};
-ghost use Rattle.dict_store.specs.Desk.{Shows, is_closed, has_failed};
+ghost use Rattle.dict_opening.specs.Reading.{IsOfOpening};
+ghost use Rattle.dict_store.specs.Desk.{Shows, LeavesOneOf, is_closed, has_failed};
 ghost use Rattle.dict_store.specs.Opened.{IsTold, IsNotHeld, IsNotLeft, HoldsItsTrees};
 
 use crate::desk::Desk;
@@ -27,9 +28,10 @@ fn is_in_range(alloc: Global, summary: &Summary) -> Result<bool, AllocError>
     Ok(numbers.iter().all(|number| *number <= installs))
 }
 
-// What the trees of a store that is open hold, the store holds.
+// What the trees of a store that is open hold, the store holds; and they are a database.
 fn is_whole<S: Alter>(conn: &Connection<S>)
-    ensures { IsTrue (state S.Store conn.now).is_open → HoldsItsTrees (state S.Store conn.now) }
+    ensures whole { IsTrue (state S.Store conn.now).is_open → HoldsItsTrees (state S.Store conn.now) }
+    ensures live { IsLive (state S.Store conn.now) }
 {
     one_is_held();
     let _schema = conn.schema();
@@ -41,6 +43,7 @@ fn read<S: Alter>(alloc: Global, conn: &mut Connection<S>) -> Result<Summary, Fa
     ensures rests { HasCleanDisk (state S.Store conn.new) → IfOk result (λ summary. (M : Catalogue) × Rests 1 (state S.Store conn.new) M × (summary_of M ≡ summary_shown summary)) }
     ensures every { HasCleanDisk (state S.Store conn.new) → IfOk result (λ summary. (M : Catalogue) → Holds 1 (state S.Store conn.old).committed M → Rests 1 (state S.Store conn.new) M × (summary_of M ≡ summary_shown summary)) }
     ensures range { IfOk result (λ summary. IsInRange (summary_shown summary)) }
+    ensures kinds { IfErr result IsOfOpening }
     ensures told { HasCleanDisk (state S.Store conn.new) → IfErr result (IsTold (state S.Store conn.old).now) }
     ensures not_held { HasCleanDisk (state S.Store conn.new) → IfErr result (IsNotHeld (state S.Store conn.old).now) }
     ensures lives { HasCleanDisk (state S.Store conn.new) → IsTrue (state S.Store conn.new).is_open → IsTrue (state S.Store conn.old).is_open }
@@ -59,7 +62,8 @@ fn read<S: Alter>(alloc: Global, conn: &mut Connection<S>) -> Result<Summary, Fa
 }
 
 impl<S: Alter + Drop> Desk<S> {
-    /// A desk over a database that holds a catalogue, the only one that it holds. It is read whole, and nothing is written.
+    /// A desk over a database that holds a catalogue, the only one that it holds. It is read whole, and nothing is written. A
+    /// stop leaves the catalogue that the desk shows, and no other.
     ///
     /// At a fault the connection is handed back. `NotACatalogue`: there is no readable mark. `NewerSchema`: the mark's
     /// version is above the one that is known. `Damaged`: the tables hold no catalogue. They are tested in this order. `Memory`:
@@ -69,10 +73,12 @@ impl<S: Alter + Drop> Desk<S> {
         ensures rests { IfOk result (λ desk. HasCleanDisk (state S.Store desk.conn) → (M : Catalogue) × Rests 1 (state S.Store desk.conn) M × Shows S.Store desk M) }
         ensures held { IfOk result (λ desk. HasCleanDisk (state S.Store desk.conn) → (M : Catalogue) → Holds 1 (state S.Store conn).committed M → Shows S.Store desk M) }
         ensures left { IfOk result (λ desk. HasCleanDisk (state S.Store desk.conn) → (M : Catalogue) → IsLeft 1 M (state S.Store conn).committed.trees → Shows S.Store desk M) }
+        ensures only { IfOk result (λ desk. (M : Catalogue) → Shows S.Store desk M → LeavesOneOf S.Store desk (Some M ∷ [])) }
         ensures open { IfOk result (λ desk. (desk.last ≡ Last.Fine) × (desk.conn.in_transaction ≡ false)) }
         ensures same { IfOk result (λ desk. HasCleanDisk (state S.Store desk.conn) → (state S.Store desk.conn).committed ≡ (state S.Store conn).committed) }
         ensures spares { IfOk result (λ desk. Survives (state S.Store (record conn { step_limit = None })) (state S.Store desk.conn) (λ _. ⊥)) }
         ensures handed { IfErr result (λ left. left.0.in_transaction ≡ false) }
+        ensures kinds { IfErr result (λ left. IsOfOpening left.1) }
         ensures told { IfErr result (λ left. HasCleanDisk (state S.Store left.0) → IsTold (state S.Store conn).now left.1) }
         ensures not_held { IfErr result (λ left. HasCleanDisk (state S.Store left.0) → IsNotHeld (state S.Store conn).now left.1) }
         ensures not_left { IfErr result (λ left. HasCleanDisk (state S.Store left.0) → IsTrue (state S.Store conn).is_open → IsNotLeft (state S.Store conn).now.trees left.1) }
@@ -101,6 +107,7 @@ impl<S: Alter + Drop> Desk<S> {
         ensures closes { is_closed self.new.last ≡ (is_closed self.old.last || has_closed_by result) }
         ensures failed { has_failed self.new.last ≡ has_failed_by result }
         ensures closed { is_closed self.old.last ≡ true → result ≡ Err Fault.Closed }
+        ensures kinds { is_closed self.old.last ≡ false → IfErr result IsOfOpening }
     {
         if self.last == Last::Closed {
             return Err(Fault::Closed);

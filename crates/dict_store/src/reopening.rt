@@ -1,5 +1,5 @@
 // A desk over files that are opened, and over what a stop left of them.
-ghost use Rattle.std.specs.Prelude.{◌≡◌, ◌⊎◌, ℕ, List, IfOk, IfErr, IsTrue};
+ghost use Rattle.std.specs.Prelude.{◌≡◌, ◌⊎◌, ℕ, List, [], ◌∷◌, Some, IfOk, IfErr, IsTrue};
 ghost use Rattle.sqlite.specs.State.{HasCleanDisk};
 ghost use Rattle.sqlite.specs.Files.{file_state, over_files};
 ghost use Rattle.sqlite.specs.FileStore as store;
@@ -10,7 +10,7 @@ ghost use Rattle.sqlite_store.specs.declared.store.FileStore.{FileStore};
 ghost use Rattle.sqlite.specs.WalFiles.{image_at};
 ghost use Rattle.dict_catalogue.specs.Steps.{Catalogue, Request};
 ghost use Rattle.dict_file.specs.Holds.{Rests};
-ghost use Rattle.dict_store.specs.Desk.{Shows};
+ghost use Rattle.dict_store.specs.Desk.{Shows, LeavesOneOf};
 ghost use Rattle.dict_store.specs.Promise.{HoldsFront};
 ghost use Rattle.dict_store.specs.Reopened.{fault_of_files, IsIn, HoldsFrontIn, IsUnopened, IsUnopenedFrom, LeavesFront, ShowsFront};
 
@@ -52,6 +52,7 @@ impl<S: Start> Desk<FileStore<FileFrom<S>>> {
     ) -> Result<Desk<FileStore<FileFrom<S>>>, (Unopened<FileFrom<S>>, Fault)>
         ensures rests { IfOk result (λ desk. HasCleanDisk (file_state desk.conn) → (M : Catalogue) × Rests 1 (file_state desk.conn) M × Shows over_files desk M) }
         ensures shows { IfOk result (λ desk. HasCleanDisk (file_state desk.conn) → (M : Catalogue) → IsIn M (image_at S.Start) → Shows over_files desk M) }
+        ensures only { IfOk result (λ desk. (M : Catalogue) → Shows over_files desk M → LeavesOneOf over_files desk (Some M ∷ [])) }
         ensures unopened { IfErr result (λ left. IsUnopened (image_at S.Start) left.0 left.1) }
     {
         let conn = match Connection::open_from(rt, path, new_has_sums, start) {
@@ -72,6 +73,7 @@ impl<D: Crash + Drop> Desk<FileStore<D>> {
     /// the others are those of `adopt`.
     pub fn restart(self, options: Options) -> Result<Desk<FileStore<D>>, (Unopened<D>, Fault)>
         ensures shows { IfOk result (λ desk. HasCleanDisk (file_state desk.conn) → (before : Catalogue) (requests : List Request) (answered : ℕ) → LeavesFront over_files self before requests answered → ∥ ShowsFront over_files desk before requests answered ∥₁) }
+        ensures only { IfOk result (λ desk. (M : Catalogue) → Shows over_files desk M → LeavesOneOf over_files desk (Some M ∷ [])) }
         ensures unopened { IfErr result (λ left. IsUnopenedFrom over_files self left.0 left.1) }
     {
         let alloc = self.alloc;

@@ -1,6 +1,7 @@
 //! What the words of the program's command line ask for.
 #![tactic(auto)]
 
+mod help;
 mod line;
 mod reading;
 mod task;

@@ -3,6 +3,7 @@ ghost use Rattle.std.specs.Prelude.{◌≡◌, IfOk, false, map};
 ghost use Rattle.clap.specs.Walk.{rule_of};
 ghost use Rattle.dict_words.specs.Line.{word, several, number, setting, count, leaf, alone, required, command_line, with_all, readings, changes, arrangements, Reads};
 
+use crate::help;
 use clap::{Arg, Command};
 use std::alloc::{AllocError, Global};
 
@@ -51,16 +52,16 @@ fn count<'w>(alloc: Global, id: &'w str, value: &'w str, help: &'w str) -> Arg<'
         .help(help)
 }
 
-// A subcommand that takes these words, each with its help.
+// A subcommand that takes these words, each with its help. Its own help says what it does, and the other text below its words.
 fn leaf<'w>(
     alloc: Global,
     name: &'w str,
-    about: &'w str,
+    says: (&'w str, &'w str),
     words: &[(&'w str, &'w str)],
 ) -> Result<Command<'w>, AllocError>
     ensures { IfOk result (Reads (alone (leaf name.entry.now (map (λ one. one.0.now) words.now)))) }
 {
-    let mut line = Command::new(alloc, name).about(about);
+    let mut line = Command::new(alloc, name).about(says.0).after_help(says.1);
     for (id, help) in words {
         line = line.arg(word(alloc, *id, *help))?;
     }
@@ -87,7 +88,8 @@ pub fn command_line<'w>(alloc: Global) -> Result<Command<'w>, AllocError>
     ensures { IfOk result (Reads command_line) }
 {
     let line = Command::new(alloc, "dictcat")
-        .about("A DICT server (RFC 2229) whose answers are proved")
+        .about(help::DICTCAT.0)
+        .after_help(help::DICTCAT.1)
         .version("0.1.0")
         .subcommand_required(true);
     let line = with_changes(alloc, with_readings(alloc, line)?)?;
@@ -98,26 +100,11 @@ pub fn command_line<'w>(alloc: Global) -> Result<Command<'w>, AllocError>
 fn with_readings<'w>(alloc: Global, line: Command<'w>) -> Result<Command<'w>, AllocError>
     ensures { Reads (alone required) line.entry → IfOk result (Reads (with_all (alone required) readings)) }
 {
-    line.subcommand(leaf(
-        alloc,
-        "plain",
-        "Runs a DICT session on standard input and output over one database",
-        &[NAME, INDEX, DICT],
-    )?)?
-    .subcommand(leaf(alloc, "create", "Makes an empty catalogue in FILE", &[FILE])?)?
-    .subcommand(leaf(alloc, "list", "Lists the items of a catalogue", &[FILE])?)?
-    .subcommand(leaf(
-        alloc,
-        "audit",
-        "Reads a catalogue whole, and tells whether it is sound",
-        &[FILE],
-    )?)?
-    .subcommand(leaf(
-        alloc,
-        "session",
-        "Runs a DICT session on standard input and output over a catalogue",
-        &[FILE],
-    )?)
+    line.subcommand(leaf(alloc, "plain", help::PLAIN, &[NAME, INDEX, DICT])?)?
+        .subcommand(leaf(alloc, "create", help::CREATE, &[FILE])?)?
+        .subcommand(leaf(alloc, "list", help::LIST, &[FILE])?)?
+        .subcommand(leaf(alloc, "audit", help::AUDIT, &[FILE])?)?
+        .subcommand(leaf(alloc, "session", help::SESSION, &[FILE])?)
 }
 
 // Adds what changes the databases of a catalogue.
@@ -127,39 +114,19 @@ fn with_changes<'w>(alloc: Global, line: Command<'w>) -> Result<Command<'w>, All
     line.subcommand(leaf(
         alloc,
         "install",
-        "Makes an edition the current one of a database",
+        help::INSTALL,
         &[FILE, NAME, ID, INDEX, DICT],
     )?)?
-    .subcommand(leaf(
-        alloc,
-        "rollback",
-        "Swaps the current and the former edition of a database",
-        &[FILE, NAME, ID],
-    )?)?
-    .subcommand(leaf(
-        alloc,
-        "retire",
-        "Takes a database out of the catalogue",
-        &[FILE, NAME, ID],
-    )?)
+    .subcommand(leaf(alloc, "rollback", help::ROLLBACK, &[FILE, NAME, ID])?)?
+    .subcommand(leaf(alloc, "retire", help::RETIRE, &[FILE, NAME, ID])?)
 }
 
 // Adds what groups and orders the databases of a catalogue.
 fn with_arrangements<'w>(alloc: Global, line: Command<'w>) -> Result<Command<'w>, AllocError>
     ensures { Reads (with_all (with_all (alone required) readings) changes) line.entry → IfOk result (Reads (with_all (with_all (with_all (alone required) readings) changes) arrangements)) }
 {
-    let group = leaf(
-        alloc,
-        "virtual",
-        "Makes a virtual database, or changes one",
-        &[FILE, NAME, ID, TITLE],
-    )?;
-    let place = leaf(
-        alloc,
-        "place",
-        "Puts a database at another place in the order",
-        &[FILE, NAME, ID],
-    )?;
+    let group = leaf(alloc, "virtual", help::VIRTUAL, &[FILE, NAME, ID, TITLE])?;
+    let place = leaf(alloc, "place", help::PLACE, &[FILE, NAME, ID])?;
     line.subcommand(group.arg(several(alloc, "MEMBER", "A database that is searched by it"))?)?
         .subcommand(place.arg(number(alloc, "PLACE", "The place, from 0"))?)
 }
@@ -168,29 +135,24 @@ fn with_arrangements<'w>(alloc: Global, line: Command<'w>) -> Result<Command<'w>
 fn with_server<'w>(alloc: Global, line: Command<'w>) -> Result<Command<'w>, AllocError>
     ensures { Reads (with_all (with_all (with_all (alone required) readings) changes) arrangements) line.entry → IfOk result (Reads command_line) }
 {
-    let server = leaf(
-        alloc,
-        "serve",
-        "Serves a catalogue to readers over DICT, and takes requests of editors over HTTP",
-        &[FILE],
-    )?
-    .arg(setting(
-        alloc,
-        "dict",
-        "ADDR",
-        "The address for readers, as 127.0.0.1:2628",
-    ))?
-    .arg(setting(
-        alloc,
-        "http",
-        "ADDR",
-        "The address for editors, as 127.0.0.1:8080",
-    ))?
-    .arg(count(
-        alloc,
-        "rounds",
-        "N",
-        "Ends after so many rounds; else it goes on",
-    ))?;
+    let server = leaf(alloc, "serve", help::SERVE, &[FILE])?
+        .arg(setting(
+            alloc,
+            "dict",
+            "ADDR",
+            "The address for readers, as 127.0.0.1:2628",
+        ))?
+        .arg(setting(
+            alloc,
+            "http",
+            "ADDR",
+            "The address for editors, as 127.0.0.1:8080",
+        ))?
+        .arg(count(
+            alloc,
+            "rounds",
+            "N",
+            "Ends after so many rounds; else it goes on",
+        ))?;
     line.subcommand(server)
 }

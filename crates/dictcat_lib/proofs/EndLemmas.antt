@@ -9,6 +9,7 @@ use Rattle.dict_session.specs.declared.session.run.SessionFault.TheVariants as s
 use Rattle.dict_file_session.specs.Over.{IsSpared}
 use Rattle.dict_file_session.specs.declared.fault.FileFault.{FileFault}
 use Rattle.dict_file_session.specs.declared.fault.FileFault.TheVariants.{Opening, Session}
+use Rattle.dict_words.specs.Asked.{Asks}
 use Rattle.dict_words.specs.declared.task.Task.{Task}
 use Rattle.dict_words.specs.declared.task.Task.TheVariants.{Plain, Create, List as Lists, Audit, Session as SpeaksOver, Change as Changes, Serve as Serves}
 use Rattle.dict_printed.specs.Faults.{status_of}
@@ -16,8 +17,8 @@ use Rattle.dict_printed.specs.declared.fault.Fault.{Fault}
 use Rattle.dict_printed.specs.declared.fault.Fault.TheVariants.{Line, Edition, Refused, Store, CannotRead, SessionEnded, CannotWrite, CannotBind, CannotWait, Memory}
 use Rattle.dict_printed.specs.Writing.{IsUntouched}
 use Rattle.dictcat_lib.specs.Opening.{over_told, HasSpoken}
-use Rattle.dictcat_lib.proofs.WritingLemmas.{list_spoils, audit_spoils, task_spoils, serves_not_3, serves_failed, failed_more, told_more, spared, spoils_not_3, spoiled_failed}
-use Rattle.dictcat_lib.specs.Program.{AskToServe, CommandEnds, HasToldAtMost, IsDone, IsFailed, IsServer, Shows, TaskEnds}
+use Rattle.dictcat_lib.proofs.WritingLemmas.{list_spoils, audit_spoils, task_spoils, serves_refused, serves_memory, serves_failed, spoils_not_3, spoiled_failed}
+use Rattle.dictcat_lib.specs.Program.{CommandEnds, IsDone, IsExhausted, IsFailed, Shows, TaskEnds}
 
 status_at_most_4 : (fault : Fault) → status_of fault ≤ 4
 status_at_most_4 (Line refusal line) = omega arith
@@ -112,16 +113,16 @@ module _ {S : Type 0} (g : Ghosts S) where
   done files words reader writer faults (inl (Err fault, h, closes)) = absurd (never_0 fault closes.0)
   done files words reader writer faults (inr h) = absurd (omega (arith, h.0))
 
-  -- a refused task touches nothing but what a server told
+  -- a refused task touches nothing
   task_refused : (files : List ℕ → Option (List ℕ)) (task : Task) (fault : Fault) (reader writer : Change)
-      → TaskEnds g files task (Err fault) reader writer → 1 ≡ status_of fault → HasToldAtMost (IsServer task) reader writer
+      → TaskEnds g files task (Err fault) reader writer → 1 ≡ status_of fault → IsUntouched reader × IsUntouched writer
   unfolding Rattle.dictcat_lib.specs.Plain.FilesEnd Rattle.dictcat_lib.specs.Opening.SessionEnds
-  task_refused files (Plain name index text) (Line refusal line) reader writer (inl h) e = spared (h.4.1, h.4.2)
-  task_refused files (Plain name index text) (Line refusal line) reader writer (inr h) e = spared (h.1, h.2)
-  task_refused files (Plain name index text) (Edition refusal) reader writer (inl h) e = spared (h.4.1, h.4.2)
-  task_refused files (Plain name index text) (Edition refusal) reader writer (inr h) e = spared (h.1, h.2)
-  task_refused files (Plain name index text) (Refused refusal) reader writer (inl h) e = spared (h.4.3, h.4.4)
-  task_refused files (Plain name index text) (Refused refusal) reader writer (inr h) e = spared (h.1, h.2)
+  task_refused files (Plain name index text) (Line refusal line) reader writer (inl h) e = (h.4.1, h.4.2)
+  task_refused files (Plain name index text) (Line refusal line) reader writer (inr h) e = (h.1, h.2)
+  task_refused files (Plain name index text) (Edition refusal) reader writer (inl h) e = (h.4.1, h.4.2)
+  task_refused files (Plain name index text) (Edition refusal) reader writer (inr h) e = (h.1, h.2)
+  task_refused files (Plain name index text) (Refused refusal) reader writer (inl h) e = (h.4.3, h.4.4)
+  task_refused files (Plain name index text) (Refused refusal) reader writer (inr h) e = (h.1, h.2)
   task_refused files (Plain name index text) (Store fault) reader writer h e = absurd (omega (arith, e))
   task_refused files (Plain name index text) (CannotRead path) reader writer h e = absurd (omega (arith, e))
   task_refused files (Plain name index text) SessionEnded reader writer h e = absurd (omega (arith, e))
@@ -129,24 +130,23 @@ module _ {S : Type 0} (g : Ghosts S) where
   task_refused files (Plain name index text) (CannotBind address) reader writer h e = absurd (omega (arith, e))
   task_refused files (Plain name index text) CannotWait reader writer h e = absurd (omega (arith, e))
   task_refused files (Plain name index text) Memory reader writer h e = absurd (omega (arith, e))
-  task_refused files (Create file) fault reader writer h e = spared (h.1, h.2)
-  task_refused files (Lists file) fault reader writer h e = spared (h.1, spoils_not_3 fault writer (λ f. omega (arith, e, f)) (list_spoils g file.now fault writer h.0))
-  task_refused files (Audit file) fault reader writer h e = spared (h.1, spoils_not_3 fault writer (λ f. omega (arith, e, f)) (audit_spoils g file.now fault writer h.0))
-  task_refused files (Changes file name id what) fault reader writer h e = spared (h.1, spoils_not_3 fault writer (λ f. omega (arith, e, f)) (task_spoils g files file.now name.now id.now what fault writer h.0))
-  task_refused files (Serves file dict http rounds) fault reader writer h e = (h.1, serves_not_3 g file.now dict.now http.now fault writer (λ f. omega (arith, e, f)) h.0)
-  task_refused files (SpeaksOver file) fault reader writer (inl h) e = spared (h.1, h.2)
+  task_refused files (Create file) fault reader writer h e = (h.1, h.2)
+  task_refused files (Lists file) fault reader writer h e = (h.1, spoils_not_3 fault writer (λ f. omega (arith, e, f)) (list_spoils g file.now fault writer h.0))
+  task_refused files (Audit file) fault reader writer h e = (h.1, spoils_not_3 fault writer (λ f. omega (arith, e, f)) (audit_spoils g file.now fault writer h.0))
+  task_refused files (Changes file name id what) fault reader writer h e = (h.1, spoils_not_3 fault writer (λ f. omega (arith, e, f)) (task_spoils g files file.now name.now id.now what fault writer h.0))
+  task_refused files (Serves file dict http rounds) fault reader writer h e = (h.1, serves_refused g file.now dict.now http.now rounds fault writer e h.0)
+  task_refused files (SpeaksOver file) fault reader writer (inl h) e = (h.1, h.2)
   task_refused files (SpeaksOver file) fault reader writer (inr (conn, (left, end, is, spoken))) e =
-      spared (spoken_spared fault end reader writer is (λ f. omega (arith, e, f)) spoken.unopened)
+      spoken_spared fault end reader writer is (λ f. omega (arith, e, f)) spoken.unopened
 
-  -- with 1 or 2 nothing was touched, but with 1 what a server told
+  -- with 1 or 2 nothing was touched
   pub refused : (files : List ℕ → Option (List ℕ)) (words : List (List ℕ)) (reader writer faults : Change)
-      → CommandEnds g files words 1 reader writer faults → HasToldAtMost (AskToServe words) reader writer
+      → CommandEnds g files words 1 reader writer faults → IsUntouched reader × IsUntouched writer
   refused files words reader writer faults (inl (Ok end, h, closes)) = absurd (omega (arith, closes.0))
-  refused files words reader writer faults (inl (Err fault, inl (task, asks, ends), closes)) =
-      told_more reader writer (λ is. (task, is, asks)) (task_refused files task fault reader writer ends closes.0)
+  refused files words reader writer faults (inl (Err fault, inl (task, asks, ends), closes)) = task_refused files task fault reader writer ends closes.0
   refused files words reader writer faults (inl (Err fault, inr (inl shown), closes)) = absurd (never_refused fault writer shown.2 closes.0)
-  refused files words reader writer faults (inl (Err fault, inr (inr memory), closes)) = spared (memory.1, memory.2)
-  refused files words reader writer faults (inr h) = spared (h.2, h.3)
+  refused files words reader writer faults (inl (Err fault, inr (inr memory), closes)) = (memory.1, memory.2)
+  refused files words reader writer faults (inr h) = (h.2, h.3)
 
   pub misread : (files : List ℕ → Option (List ℕ)) (words : List (List ℕ)) (reader writer faults : Change)
       → CommandEnds g files words 2 reader writer faults → IsUntouched reader × IsUntouched writer
@@ -155,97 +155,101 @@ module _ {S : Type 0} (g : Ghosts S) where
   misread files words reader writer faults (inr h) = (h.2, h.3)
 
   -- a session over a file that was told as broken
-  spoken_failed : {May : Type 0} (conn left : Held S) (fault : Fault) (end : Result End FileFault) (reader writer : Change)
-      → Err fault ≡ over_told end → HasSpoken g conn left end reader writer → IsFailed g May reader writer
-  spoken_failed conn left fault (Ok end) reader writer is h = cc
-  spoken_failed conn left fault (Err (Opening why)) reader writer is h = inl (spared h.unopened)
-  spoken_failed conn left fault (Err (Session session_faults.Memory)) reader writer is h = inl (spared h.unopened)
-  spoken_failed conn left fault (Err (Session session_faults.Read)) reader writer is h = inr (inl (inr (conn, left, session_faults.Read, (λ e. cc), h)))
-  spoken_failed conn left fault (Err (Session session_faults.Write)) reader writer is h = inr (inl (inr (conn, left, session_faults.Write, (λ e. cc), h)))
-  spoken_failed conn left fault (Err (Session session_faults.Broken)) reader writer is h = inr (inl (inr (conn, left, session_faults.Broken, (λ e. cc), h)))
+  spoken_failed : (words : List (List ℕ)) (conn left : Held S) (fault : Fault) (end : Result End FileFault) (reader writer : Change)
+      → Err fault ≡ over_told end → HasSpoken g conn left end reader writer → IsFailed g words reader writer
+  spoken_failed words conn left fault (Ok end) reader writer is h = cc
+  spoken_failed words conn left fault (Err (Opening why)) reader writer is h = inl h.unopened
+  spoken_failed words conn left fault (Err (Session session_faults.Memory)) reader writer is h = inl h.unopened
+  spoken_failed words conn left fault (Err (Session session_faults.Read)) reader writer is h = inr (inl (inr (conn, left, session_faults.Read, (λ e. cc), h)))
+  spoken_failed words conn left fault (Err (Session session_faults.Write)) reader writer is h = inr (inl (inr (conn, left, session_faults.Write, (λ e. cc), h)))
+  spoken_failed words conn left fault (Err (Session session_faults.Broken)) reader writer is h = inr (inl (inr (conn, left, session_faults.Broken, (λ e. cc), h)))
 
   -- a task that failed
-  task_failed : (files : List ℕ → Option (List ℕ)) (task : Task) (fault : Fault) (reader writer : Change)
-      → TaskEnds g files task (Err fault) reader writer → 3 ≡ status_of fault → IsFailed g (IsServer task) reader writer
+  task_failed : (files : List ℕ → Option (List ℕ)) (words : List (List ℕ)) (task : Task) (fault : Fault) (reader writer : Change)
+      → Asks words task → TaskEnds g files task (Err fault) reader writer → 3 ≡ status_of fault → IsFailed g words reader writer
   unfolding Rattle.dictcat_lib.specs.Plain.FilesEnd Rattle.dictcat_lib.specs.Opening.SessionEnds
-  task_failed files (Plain name index text) (Line refusal line) reader writer h e = absurd (omega (arith, e))
-  task_failed files (Plain name index text) (Edition refusal) reader writer h e = absurd (omega (arith, e))
-  task_failed files (Plain name index text) (Refused refusal) reader writer h e = absurd (omega (arith, e))
-  task_failed files (Plain name index text) (Store fault) reader writer (inl h) e = absurd h.4
-  task_failed files (Plain name index text) (Store fault) reader writer (inr h) e = inl (spared (h.1, h.2))
-  task_failed files (Plain name index text) (CannotRead path) reader writer (inl h) e = absurd h.4
-  task_failed files (Plain name index text) (CannotRead path) reader writer (inr h) e = inl (spared (h.1, h.2))
-  task_failed files (Plain name index text) SessionEnded reader writer (inl h) e = inr (inl (inl (name.now, h.0, h.1, h.4.0, h.4.1, h.4.2)))
-  task_failed files (Plain name index text) SessionEnded reader writer (inr h) e = inl (spared (h.1, h.2))
-  task_failed files (Plain name index text) CannotWrite reader writer (inl h) e = absurd h.4
-  task_failed files (Plain name index text) CannotWrite reader writer (inr h) e = inl (spared (h.1, h.2))
-  task_failed files (Plain name index text) (CannotBind address) reader writer (inl h) e = absurd h.4
-  task_failed files (Plain name index text) (CannotBind address) reader writer (inr h) e = inl (spared (h.1, h.2))
-  task_failed files (Plain name index text) CannotWait reader writer (inl h) e = absurd h.4
-  task_failed files (Plain name index text) CannotWait reader writer (inr h) e = inl (spared (h.1, h.2))
-  task_failed files (Plain name index text) Memory reader writer h e = absurd (omega (arith, e))
-  task_failed files (Create file) fault reader writer h e = inl (spared (h.1, h.2))
-  task_failed files (Lists file) fault reader writer h e = spoiled_failed g fault reader writer h.1 (list_spoils g file.now fault writer h.0)
-  task_failed files (Audit file) fault reader writer h e = spoiled_failed g fault reader writer h.1 (audit_spoils g file.now fault writer h.0)
-  task_failed files (Changes file name id what) fault reader writer h e = spoiled_failed g fault reader writer h.1 (task_spoils g files file.now name.now id.now what fault writer h.0)
-  task_failed files (Serves file dict http rounds) fault reader writer h e = serves_failed g file.now dict.now http.now fault reader writer h.1 h.0
-  task_failed files (SpeaksOver file) fault reader writer (inl h) e = inl (spared (h.1, h.2))
-  task_failed files (SpeaksOver file) fault reader writer (inr (conn, (left, end, is, spoken))) e = spoken_failed conn left fault end reader writer is spoken
+  task_failed files words (Plain name index text) (Line refusal line) reader writer asks h e = absurd (omega (arith, e))
+  task_failed files words (Plain name index text) (Edition refusal) reader writer asks h e = absurd (omega (arith, e))
+  task_failed files words (Plain name index text) (Refused refusal) reader writer asks h e = absurd (omega (arith, e))
+  task_failed files words (Plain name index text) (Store fault) reader writer asks (inl h) e = absurd h.4
+  task_failed files words (Plain name index text) (Store fault) reader writer asks (inr h) e = inl (h.1, h.2)
+  task_failed files words (Plain name index text) (CannotRead path) reader writer asks (inl h) e = absurd h.4
+  task_failed files words (Plain name index text) (CannotRead path) reader writer asks (inr h) e = inl (h.1, h.2)
+  task_failed files words (Plain name index text) SessionEnded reader writer asks (inl h) e = inr (inl (inl (name.now, h.0, h.1, h.4.0, h.4.1, h.4.2)))
+  task_failed files words (Plain name index text) SessionEnded reader writer asks (inr h) e = inl (h.1, h.2)
+  task_failed files words (Plain name index text) CannotWrite reader writer asks (inl h) e = absurd h.4
+  task_failed files words (Plain name index text) CannotWrite reader writer asks (inr h) e = inl (h.1, h.2)
+  task_failed files words (Plain name index text) (CannotBind address) reader writer asks (inl h) e = absurd h.4
+  task_failed files words (Plain name index text) (CannotBind address) reader writer asks (inr h) e = inl (h.1, h.2)
+  task_failed files words (Plain name index text) CannotWait reader writer asks (inl h) e = absurd h.4
+  task_failed files words (Plain name index text) CannotWait reader writer asks (inr h) e = inl (h.1, h.2)
+  task_failed files words (Plain name index text) Memory reader writer asks h e = absurd (omega (arith, e))
+  task_failed files words (Create file) fault reader writer asks h e = inl (h.1, h.2)
+  task_failed files words (Lists file) fault reader writer asks h e = spoiled_failed g words fault reader writer h.1 (list_spoils g file.now fault writer h.0)
+  task_failed files words (Audit file) fault reader writer asks h e = spoiled_failed g words fault reader writer h.1 (audit_spoils g file.now fault writer h.0)
+  task_failed files words (Changes file name id what) fault reader writer asks h e = spoiled_failed g words fault reader writer h.1 (task_spoils g files file.now name.now id.now what fault writer h.0)
+  task_failed files words (Serves file dict http rounds) fault reader writer asks h e =
+      serves_failed g words file.now dict.now http.now rounds fault reader writer h.1 e (λ served. (Serves file dict http rounds, asks, served, h.1)) h.0
+  task_failed files words (SpeaksOver file) fault reader writer asks (inl h) e = inl (h.1, h.2)
+  task_failed files words (SpeaksOver file) fault reader writer asks (inr (conn, (left, end, is, spoken))) e = spoken_failed words conn left fault end reader writer is spoken
 
   -- a text that was not shown
-  shown_failed : {May : Type 0} (fault : Fault) (reader writer : Change) → IsUntouched reader → Shows (Err fault) writer → 3 ≡ status_of fault
-      → IsFailed g May reader writer
-  shown_failed (Line refusal line) reader writer r h e = absurd h
-  shown_failed (Edition refusal) reader writer r h e = absurd h
-  shown_failed (Refused refusal) reader writer r h e = absurd h
-  shown_failed (Store fault) reader writer r h e = absurd h
-  shown_failed (CannotRead path) reader writer r h e = absurd h
-  shown_failed SessionEnded reader writer r h e = absurd h
-  shown_failed CannotWrite reader writer r (text, put) e = inr (inr (r, put.failures))
-  shown_failed (CannotBind address) reader writer r h e = absurd h
-  shown_failed CannotWait reader writer r h e = absurd h
-  shown_failed Memory reader writer r h e = absurd (omega (arith, e))
+  shown_failed : (words : List (List ℕ)) (fault : Fault) (reader writer : Change) → IsUntouched reader → Shows (Err fault) writer → 3 ≡ status_of fault
+      → IsFailed g words reader writer
+  shown_failed words (Line refusal line) reader writer r h e = absurd h
+  shown_failed words (Edition refusal) reader writer r h e = absurd h
+  shown_failed words (Refused refusal) reader writer r h e = absurd h
+  shown_failed words (Store fault) reader writer r h e = absurd h
+  shown_failed words (CannotRead path) reader writer r h e = absurd h
+  shown_failed words SessionEnded reader writer r h e = absurd h
+  shown_failed words CannotWrite reader writer r (text, put) e = inr (inr (inl (r, put.failures)))
+  shown_failed words (CannotBind address) reader writer r h e = absurd h
+  shown_failed words CannotWait reader writer r h e = absurd h
+  shown_failed words Memory reader writer r h e = absurd (omega (arith, e))
 
   -- with 3 a file, an output or a session failed
   pub failed : (files : List ℕ → Option (List ℕ)) (words : List (List ℕ)) (reader writer faults : Change)
-      → CommandEnds g files words 3 reader writer faults → IsFailed g (AskToServe words) reader writer
+      → CommandEnds g files words 3 reader writer faults → IsFailed g words reader writer
   failed files words reader writer faults (inl (Ok end, h, closes)) = absurd (omega (arith, closes.0))
   failed files words reader writer faults (inl (Err fault, inl (task, asks, ends), closes)) =
-      failed_more g reader writer (λ is. (task, is, asks)) (task_failed files task fault reader writer ends closes.0)
-  failed files words reader writer faults (inl (Err fault, inr (inl shown), closes)) = shown_failed fault reader writer shown.1 shown.2 closes.0
-  failed files words reader writer faults (inl (Err fault, inr (inr memory), closes)) = inl (spared (memory.1, memory.2))
+      task_failed files words task fault reader writer asks ends closes.0
+  failed files words reader writer faults (inl (Err fault, inr (inl shown), closes)) = shown_failed words fault reader writer shown.1 shown.2 closes.0
+  failed files words reader writer faults (inl (Err fault, inr (inr memory), closes)) = inl ((memory.1, memory.2))
   failed files words reader writer faults (inr h) = absurd (omega (arith, h.0))
 
   -- memory ran out in a task
-  task_memory : (files : List ℕ → Option (List ℕ)) (task : Task) (fault : Fault) (reader writer : Change)
-      → TaskEnds g files task (Err fault) reader writer → 4 ≡ status_of fault → HasToldAtMost (IsServer task) reader writer
+  task_memory : (files : List ℕ → Option (List ℕ)) (words : List (List ℕ)) (task : Task) (fault : Fault) (reader writer : Change)
+      → Asks words task → TaskEnds g files task (Err fault) reader writer → 4 ≡ status_of fault → IsExhausted g words reader writer
   unfolding Rattle.dictcat_lib.specs.Plain.FilesEnd Rattle.dictcat_lib.specs.Opening.SessionEnds
-  task_memory files (Plain name index text) (Line refusal line) reader writer h e = absurd (omega (arith, e))
-  task_memory files (Plain name index text) (Edition refusal) reader writer h e = absurd (omega (arith, e))
-  task_memory files (Plain name index text) (Refused refusal) reader writer h e = absurd (omega (arith, e))
-  task_memory files (Plain name index text) (Store fault) reader writer h e = absurd (omega (arith, e))
-  task_memory files (Plain name index text) (CannotRead path) reader writer h e = absurd (omega (arith, e))
-  task_memory files (Plain name index text) SessionEnded reader writer h e = absurd (omega (arith, e))
-  task_memory files (Plain name index text) CannotWrite reader writer h e = absurd (omega (arith, e))
-  task_memory files (Plain name index text) (CannotBind address) reader writer h e = absurd (omega (arith, e))
-  task_memory files (Plain name index text) CannotWait reader writer h e = absurd (omega (arith, e))
-  task_memory files (Plain name index text) Memory reader writer (inl h) e = spared (h.4)
-  task_memory files (Plain name index text) Memory reader writer (inr h) e = spared (h.1, h.2)
-  task_memory files (Create file) fault reader writer h e = spared (h.1, h.2)
-  task_memory files (Lists file) fault reader writer h e = spared (h.1, spoils_not_3 fault writer (λ f. omega (arith, e, f)) (list_spoils g file.now fault writer h.0))
-  task_memory files (Audit file) fault reader writer h e = spared (h.1, spoils_not_3 fault writer (λ f. omega (arith, e, f)) (audit_spoils g file.now fault writer h.0))
-  task_memory files (Changes file name id what) fault reader writer h e = spared (h.1, spoils_not_3 fault writer (λ f. omega (arith, e, f)) (task_spoils g files file.now name.now id.now what fault writer h.0))
-  task_memory files (Serves file dict http rounds) fault reader writer h e = (h.1, serves_not_3 g file.now dict.now http.now fault writer (λ f. omega (arith, e, f)) h.0)
-  task_memory files (SpeaksOver file) fault reader writer (inl h) e = spared (h.1, h.2)
-  task_memory files (SpeaksOver file) fault reader writer (inr (conn, (left, end, is, spoken))) e =
-      spared (spoken_spared fault end reader writer is (λ f. omega (arith, e, f)) spoken.unopened)
+  task_memory files words (Plain name index text) (Line refusal line) reader writer asks h e = absurd (omega (arith, e))
+  task_memory files words (Plain name index text) (Edition refusal) reader writer asks h e = absurd (omega (arith, e))
+  task_memory files words (Plain name index text) (Refused refusal) reader writer asks h e = absurd (omega (arith, e))
+  task_memory files words (Plain name index text) (Store fault) reader writer asks h e = absurd (omega (arith, e))
+  task_memory files words (Plain name index text) (CannotRead path) reader writer asks h e = absurd (omega (arith, e))
+  task_memory files words (Plain name index text) SessionEnded reader writer asks h e = absurd (omega (arith, e))
+  task_memory files words (Plain name index text) CannotWrite reader writer asks h e = absurd (omega (arith, e))
+  task_memory files words (Plain name index text) (CannotBind address) reader writer asks h e = absurd (omega (arith, e))
+  task_memory files words (Plain name index text) CannotWait reader writer asks h e = absurd (omega (arith, e))
+  task_memory files words (Plain name index text) Memory reader writer asks (inl h) e = inl h.4
+  task_memory files words (Plain name index text) Memory reader writer asks (inr h) e = inl (h.1, h.2)
+  task_memory files words (Create file) fault reader writer asks h e = inl (h.1, h.2)
+  task_memory files words (Lists file) fault reader writer asks h e = inl (h.1, spoils_not_3 fault writer (λ f. omega (arith, e, f)) (list_spoils g file.now fault writer h.0))
+  task_memory files words (Audit file) fault reader writer asks h e = inl (h.1, spoils_not_3 fault writer (λ f. omega (arith, e, f)) (audit_spoils g file.now fault writer h.0))
+  task_memory files words (Changes file name id what) fault reader writer asks h e = inl (h.1, spoils_not_3 fault writer (λ f. omega (arith, e, f)) (task_spoils g files file.now name.now id.now what fault writer h.0))
+  task_memory files words (Serves file dict http rounds) fault reader writer asks h e = elim (serves_memory g file.now dict.now http.now rounds fault writer e h.0) [
+    | inl untouched ↦ inl (h.1, untouched)
+    | inr served ↦ inr (Serves file dict http rounds, asks, served, h.1)
+  ]
+  task_memory files words (SpeaksOver file) fault reader writer asks (inl h) e = inl (h.1, h.2)
+  task_memory files words (SpeaksOver file) fault reader writer asks (inr (conn, (left, end, is, spoken))) e =
+      inl (spoken_spared fault end reader writer is (λ f. omega (arith, e, f)) spoken.unopened)
 
-  -- with 4 nothing was touched, but what a server told
+  -- with 4 nothing was touched, or memory ran out in a server
   pub memory : (files : List ℕ → Option (List ℕ)) (words : List (List ℕ)) (reader writer faults : Change)
-      → CommandEnds g files words 4 reader writer faults → HasToldAtMost (AskToServe words) reader writer
+      → CommandEnds g files words 4 reader writer faults → IsExhausted g words reader writer
   memory files words reader writer faults (inl (Ok end, h, closes)) = absurd (omega (arith, closes.0))
   memory files words reader writer faults (inl (Err fault, inl (task, asks, ends), closes)) =
-      told_more reader writer (λ is. (task, is, asks)) (task_memory files task fault reader writer ends closes.0)
-  memory files words reader writer faults (inl (Err fault, inr (inl shown), closes)) = spared (shown_memory fault reader writer shown.1 shown.2 closes.0)
-  memory files words reader writer faults (inl (Err fault, inr (inr early), closes)) = spared (early.1, early.2)
+      task_memory files words task fault reader writer asks ends closes.0
+  memory files words reader writer faults (inl (Err fault, inr (inl shown), closes)) = inl (shown_memory fault reader writer shown.1 shown.2 closes.0)
+  memory files words reader writer faults (inl (Err fault, inr (inr early), closes)) = inl (early.1, early.2)
   memory files words reader writer faults (inr h) = absurd (omega (arith, h.0))

@@ -1,3 +1,4 @@
 pub mod EndLemmas
 pub mod PlainLemmas
+pub mod ServingLemmas
 pub mod WritingLemmas

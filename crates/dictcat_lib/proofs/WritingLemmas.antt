@@ -1,6 +1,6 @@
 -- What was written where a task over a desk wasn't done.
-use Rattle.std.proofs.Common.{◌≡◌, ℕ, List, Option, Ok, Err, inl, inr, refl, arith, ap}
-use Rattle.std.specs.Prelude.{◌⊎◌, ⊤, Result}
+use Rattle.std.proofs.Common.{◌≡◌, ℕ, List, Option, Ok, Err, inl, inr, refl, subst, arith, ap}
+use Rattle.std.specs.Prelude.{◌⊎◌, Result}
 use Rattle.sqlite_trees.specs.declared.store.Store.{Ghosts}
 use Rattle.dict_io.specs.Streams.{Change, HasFailed}
 use Rattle.dict_index.specs.Edition.{Edition as AnEdition}
@@ -18,9 +18,10 @@ use Rattle.dict_tasks.specs.Installing.{InstallEnds}
 use Rattle.dict_words.specs.Asked.{words_shown}
 use Rattle.dict_words.specs.declared.task.Change.{Change as Asked}
 use Rattle.dict_words.specs.declared.task.Change.TheVariants.{Install, Rollback, Retire, Virtual, Place}
-use Rattle.dictcat_lib.specs.Desks.{IsTrusted, ListEnds, AuditEnds, ChangeEnds, InstallsOn}
-use Rattle.dictcat_lib.specs.Program.{ChangeTaskEnds, HasToldAtMost, IsFailed}
-use Rattle.dictcat_lib.specs.Serving.{HasTold, ServesOn}
+use Rattle.dictcat_lib.specs.Desks.{IsNoDesk, IsTrusted, ListEnds, AuditEnds, ChangeEnds, InstallsOn}
+use Rattle.dictcat_lib.specs.Program.{ChangeTaskEnds, IsCutOff, IsFailed}
+use Rattle.dictcat_lib.specs.Serving.{IsServedUntil, ServesOn}
+use Rattle.dictcat_lib.proofs.ServingLemmas.{ends_not_1, memory_by_status}
 
 -- nothing was written, or the writer failed and that was told
 abbrev pub Spoils : Fault → Change → Type 0
@@ -30,14 +31,6 @@ Spoils fault writer = IsUntouched writer ⊎ ((fault ≡ CannotWrite) × HasFail
 pub spoils_not_3 : (fault : Fault) (writer : Change) → (3 ≡ status_of fault → ⊥) → Spoils fault writer → IsUntouched writer
 spoils_not_3 fault writer other (inl h) = h
 spoils_not_3 fault writer other (inr (is, h)) = absurd (other (omega (arith, ap status_of is)))
-
--- nothing was written, not even the addresses of a server
-pub spared : {A B C : Type 0} → A × B → A × (B ⊎ C)
-spared h = (h.0, inl h.1)
-
-pub told_more : {May Other : Type 0} (reader writer : Change) → (May → Other) → HasToldAtMost May reader writer → HasToldAtMost Other reader writer
-told_more reader writer may (r, inl w) = (r, inl w)
-told_more reader writer may (r, inr (is, told)) = (r, inr (may is, told))
 
 pub writes_spoils : (text : List ℕ) (fault : Fault) (writer : Change) → Writes text (Err fault) writer → Spoils fault writer
 writes_spoils text (Line refusal line) writer h = absurd h
@@ -96,32 +89,38 @@ module _ {S : Type 0} (g : Ghosts S) where
   task_spoils files path name id (Virtual title members) fault writer h = change_spoils path id (put_virtual name title.now (words_shown members.items)) fault writer h
   task_spoils files path name id (Place at) fault writer h = change_spoils path id (place name at) fault writer h
 
-  pub spoiled_failed : {May : Type 0} (fault : Fault) (reader writer : Change) → IsUntouched reader → Spoils fault writer → IsFailed g May reader writer
-  spoiled_failed fault reader writer r (inl h) = inl (r, inl h)
-  spoiled_failed fault reader writer r (inr h) = inr (inr (r, h.1))
+  pub spoiled_failed : (words : List (List ℕ)) (fault : Fault) (reader writer : Change) → IsUntouched reader → Spoils fault writer → IsFailed g words reader writer
+  spoiled_failed words fault reader writer r (inl h) = inl (r, h)
+  spoiled_failed words fault reader writer r (inr h) = inr (inr (inl (r, h.1)))
 
-  pub failed_more : {May Other : Type 0} (reader writer : Change) → (May → Other) → IsFailed g May reader writer → IsFailed g Other reader writer
-  failed_more reader writer may (inl h) = inl (told_more reader writer may h)
-  failed_more reader writer may (inr h) = inr h
-
-  serves_spoils : (path dict http : List ℕ) (fault : Fault) (writer : Change) → ServesOn g path dict http (Err fault) writer → Spoils fault writer ⊎ HasTold writer
+  serves_spoils : (path dict http : List ℕ) (rounds : Option ℕ) (fault : Fault) (writer : Change) → ServesOn g path dict http rounds (Err fault) writer → Spoils fault writer ⊎ IsServedUntil g path dict http rounds fault writer
   unfolding Rattle.dictcat_lib.specs.Serving.ServesOn
-  serves_spoils path dict http fault writer (inl h) = inl (inl h.3)
-  serves_spoils path dict http fault writer (inr (desk, opened, inl (other, is, inl h))) = inl (inl h.3)
-  serves_spoils path dict http fault writer (inr (desk, opened, inl (other, is, inr (inl (same, (readers, editors, put)))))) =
+  serves_spoils path dict http rounds fault writer (inl h) = inl (inl h.3)
+  serves_spoils path dict http rounds fault writer (inr (desk, opened, inl (other, is, inl h))) = inl (inl h.3)
+  serves_spoils path dict http rounds fault writer (inr (desk, opened, inl (other, is, inr (inl (same, (readers, editors, put)))))) =
       let e : fault ≡ CannotWrite = cc in inl (inr (e, put.failures))
-  serves_spoils path dict http fault writer (inr (desk, opened, inl (other, is, inr (inr h)))) = inl (inl h.1)
-  serves_spoils path dict http fault writer (inr (desk, opened, inr served)) = inr (served.first.addresses.0, served.first.addresses.1, served.told)
+  serves_spoils path dict http rounds fault writer (inr (desk, opened, inl (other, is, inr (inr h)))) = inl (inl h.1)
+  serves_spoils path dict http rounds fault writer (inr (desk, opened, inr served)) = inr (desk, served)
 
-  pub serves_not_3 : (path dict http : List ℕ) (fault : Fault) (writer : Change) → (3 ≡ status_of fault → ⊥) → ServesOn g path dict http (Err fault) writer
-      → IsUntouched writer ⊎ (⊤ × HasTold writer)
-  serves_not_3 path dict http fault writer other h = elim (serves_spoils path dict http fault writer h) [
-    | inl spoils ↦ inl (spoils_not_3 fault writer other spoils)
-    | inr told ↦ inr (tt, told)
+  -- a server is never refused
+  pub serves_refused : (path dict http : List ℕ) (rounds : Option ℕ) (fault : Fault) (writer : Change) → 1 ≡ status_of fault → ServesOn g path dict http rounds (Err fault) writer → IsUntouched writer
+  serves_refused path dict http rounds fault writer e h = elim (serves_spoils path dict http rounds fault writer h) [
+    | inl spoils ↦ spoils_not_3 fault writer (λ f. omega (arith, e, f)) spoils
+    | inr served ↦ absurd (ends_not_1 (IsNoDesk g path) fault served.1.ends e)
   ]
 
-  pub serves_failed : (path dict http : List ℕ) (fault : Fault) (reader writer : Change) → IsUntouched reader → ServesOn g path dict http (Err fault) writer → IsFailed g ⊤ reader writer
-  serves_failed path dict http fault reader writer r h = elim (serves_spoils path dict http fault writer h) [
-    | inl spoils ↦ spoiled_failed fault reader writer r spoils
-    | inr told ↦ inl (r, inr (tt, told))
+  -- memory ran out before anything was written, or in the server
+  pub serves_memory : (path dict http : List ℕ) (rounds : Option ℕ) (fault : Fault) (writer : Change) → 4 ≡ status_of fault → ServesOn g path dict http rounds (Err fault) writer
+      → IsUntouched writer ⊎ IsServedUntil g path dict http rounds Memory writer
+  serves_memory path dict http rounds fault writer e h = elim (serves_spoils path dict http rounds fault writer h) [
+    | inl spoils ↦ inl (spoils_not_3 fault writer (λ f. omega (arith, e, f)) spoils)
+    | inr served ↦ inr (subst (λ (f : Fault). IsServedUntil g path dict http rounds f writer) (memory_by_status fault e) served)
+  ]
+
+  -- the server failed before it told its addresses, or afterwards
+  pub serves_failed : (words : List (List ℕ)) (path dict http : List ℕ) (rounds : Option ℕ) (fault : Fault) (reader writer : Change) → IsUntouched reader → 3 ≡ status_of fault
+      → (IsServedUntil g path dict http rounds fault writer → IsCutOff g words fault reader writer) → ServesOn g path dict http rounds (Err fault) writer → IsFailed g words reader writer
+  serves_failed words path dict http rounds fault reader writer r e cut h = elim (serves_spoils path dict http rounds fault writer h) [
+    | inl spoils ↦ spoiled_failed words fault reader writer r spoils
+    | inr served ↦ inr (inr (inr (fault, e, cut served)))
   ]

@@ -1,5 +1,5 @@
 -- How the program ends.
-use Rattle.std.specs.Prelude.{◌≡◌, ◌≢◌, ℕ, ◌⊎◌, List, ◌++◌, Option, Result, Ok, Err, codes, ⊤}
+use Rattle.std.specs.Prelude.{◌≡◌, ◌≢◌, ℕ, ◌⊎◌, List, ◌++◌, Option, Result, Ok, Err, codes}
 use Rattle.clap.specs.Kinds.{IsAmong}
 use Rattle.clap.specs.declared.error.kind.ErrorKind.{ErrorKind}
 use Rattle.clap.specs.declared.error.kind.ErrorKind.TheVariants as kinds
@@ -22,7 +22,7 @@ use Rattle.dict_printed.specs.declared.fault.Fault.TheVariants as faults
 use Rattle.dict_printed.specs.Writing.{IsUntouched}
 use Rattle.dictcat_lib.specs.Desks.{ListEnds, AuditEnds, ChangeEnds, InstallsOn}
 use Rattle.dictcat_lib.specs.Plain.{EndsOver, FilesEnd}
-use Rattle.dictcat_lib.specs.Serving.{HasTold, ServesOn}
+use Rattle.dictcat_lib.specs.Serving.{IsServedUntil, ServesOn}
 use Rattle.dictcat_lib.specs.Opening.{CreateEnds, SessionEnds, HasSpoken}
 
 -- a text was put, or a front of it where the sink failed
@@ -82,19 +82,6 @@ AnswerEnds words status reader writer faults =
     ((end : Result (Unit {0}) Fault) × IsShown words end reader writer × Closes end status faults)
     ⊎ Misreads words status reader writer faults
 
--- the task is to serve
-abbrev pub IsServer : Task → Type 0
-IsServer (tasks.Serve file dict http rounds) = ⊤
-IsServer _ = ⊥
-
--- the words ask for a server
-abbrev pub AskToServe : List (List ℕ) → Type 0
-AskToServe words = (task : Task) × IsServer task × Asks words task
-
--- nothing was read, and nothing was written but, where that may be, the addresses that a server listens at
-abbrev pub HasToldAtMost : Type 0 → Change → Change → Type 0
-HasToldAtMost May reader writer = IsUntouched reader × (IsUntouched writer ⊎ (May × HasTold writer))
-
 module _ {S : Type 0} (g : Ghosts S) where
   -- a session over a lawful database, or over a file's catalogue, was ended by a fault of its reader, its writer or its desk
   abbrev pub IsBroken : Change → Change → Type 0
@@ -102,10 +89,25 @@ module _ {S : Type 0} (g : Ghosts S) where
       ((name : List ℕ) × (index : List ℕ) × (text : List ℕ) × (fault : SessionFault) × (fault ≢ session_faults.Memory) × EndsOver name index text (Err fault) reader writer)
       ⊎ ((conn : Held S) × (left : Held S) × (fault : SessionFault) × (fault ≢ session_faults.Memory) × HasSpoken g conn left (Err (Session fault)) reader writer)
 
-  -- nothing was read or written but, where that may be, the addresses of a server, or a session was broken, or the writer failed where nothing was read
-  abbrev pub IsFailed : Type 0 → Change → Change → Type 0
-  IsFailed May reader writer = HasToldAtMost May reader writer
-      ⊎ (IsBroken reader writer ⊎ (IsUntouched reader × HasFailed writer.old.failures writer.new.failures))
+  -- the task is to serve, and its catalogue was served until this fault ended it
+  abbrev pub WasServed : Task → Fault → Change → Type 0
+  WasServed (tasks.Serve file dict http rounds) fault writer = IsServedUntil g file.now dict.now http.now rounds fault writer
+  WasServed _ fault writer = ⊥
+
+  -- the words ask for a server, which read nothing, listened at its two addresses, told them, and served until this fault ended it
+  abbrev pub IsCutOff : List (List ℕ) → Fault → Change → Change → Type 0
+  IsCutOff words fault reader writer = (task : Task) × Asks words task × WasServed task fault writer × IsUntouched reader
+
+  -- nothing was read or written, or a session was broken, or the writer failed where nothing was read, or a server was cut off by such a fault
+  abbrev pub IsFailed : List (List ℕ) → Change → Change → Type 0
+  IsFailed words reader writer = (IsUntouched reader × IsUntouched writer)
+      ⊎ (IsBroken reader writer
+      ⊎ ((IsUntouched reader × HasFailed writer.old.failures writer.new.failures)
+      ⊎ ((fault : Fault) × (3 ≡ status_of fault) × IsCutOff words fault reader writer)))
+
+  -- nothing was read or written, or memory ran out in a server
+  abbrev pub IsExhausted : List (List ℕ) → Change → Change → Type 0
+  IsExhausted words reader writer = (IsUntouched reader × IsUntouched writer) ⊎ IsCutOff words faults.Memory reader writer
 
 -- Over files of these octets, by their paths.
 module _ {S : Type 0} (g : Ghosts S) (files : List ℕ → Option (List ℕ)) where
@@ -125,7 +127,7 @@ module _ {S : Type 0} (g : Ghosts S) (files : List ℕ → Option (List ℕ)) wh
   TaskEnds (tasks.Audit file) end reader writer = AuditEnds g file.now end writer × IsUntouched reader
   TaskEnds (tasks.Session file) end reader writer = SessionEnds g file.now end reader writer
   TaskEnds (tasks.Change file name id what) end reader writer = ChangeTaskEnds file.now name.now id.now what end writer × IsUntouched reader
-  TaskEnds (tasks.Serve file dict http rounds) end reader writer = ServesOn g file.now dict.now http.now end writer × IsUntouched reader
+  TaskEnds (tasks.Serve file dict http rounds) end reader writer = ServesOn g file.now dict.now http.now rounds end writer × IsUntouched reader
 
   -- what was asked for was done or not: a task, or help or the version; or memory ran out before
   abbrev pub Attempts : List (List ℕ) → Result (Unit {0}) Fault → Change → Change → Type 0

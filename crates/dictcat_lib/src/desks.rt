@@ -2,7 +2,9 @@
 ghost use Rattle.std.specs.Prelude.{MatchResult};
 ghost use Rattle.dict_io.specs.Streams.{change};
 ghost use Rattle.dict_catalogue.specs.Views.{command_meant};
-ghost use Rattle.dictcat_lib.specs.Desks.{IsDesk, IsNoDesk, ListEnds, AuditEnds, ChangeEnds, InstallsOn};
+ghost use Rattle.dict_store.specs.Desk.{Shows, LeavesOneOf};
+ghost use Rattle.dict_serving.specs.Serving.{IsNew, IsNone};
+ghost use Rattle.dictcat_lib.specs.Desks.{IsDesk, IsNoDesk, IsTrusted, ListEnds, AuditEnds, ChangeEnds, InstallsOn};
 
 use crate::stores::{close_file, open_file};
 use dict_catalogue::Command;
@@ -18,7 +20,9 @@ pub(crate) fn open_desk<'w>(
     rt: &HostRuntime,
     file: &'w str,
 ) -> Result<Desk<FileStore<File>>, Fault<'w>>
-    ensures { MatchResult result (IsDesk ⟦<FileStore<File> as Store>⟧) (IsNoDesk ⟦<FileStore<File> as Store>⟧ file.entry.now) }
+    ensures { MatchResult result
+        (IsNew (Shows ⟦<FileStore<File> as Store>⟧) (LeavesOneOf ⟦<FileStore<File> as Store>⟧) (IsTrusted ⟦<FileStore<File> as Store>⟧) (IsDesk ⟦<FileStore<File> as Store>⟧))
+        (IsNone (IsNoDesk ⟦<FileStore<File> as Store>⟧ file.entry.now)) }
 {
     let conn = open_file(rt, file)?;
     match Desk::adopt(rt.alloc(), conn) {

@@ -2,24 +2,25 @@
 ghost use Rattle.std.specs.Prelude.{◌≤◌, ℕ, List, Option};
 ghost use Rattle.dict_io.specs.Streams.{Change};
 ghost use Rattle.dict_printed.specs.Writing.{IsUntouched};
-ghost use Rattle.dictcat_lib.specs.Program.{AskToServe, CommandEnds, IsDone, IsFailed, HasToldAtMost};
+ghost use Rattle.dictcat_lib.specs.Program.{CommandEnds, IsDone, IsExhausted, IsFailed};
 
 use sqlite::Alter;
 
-/// With 0 what was asked for was done, and nothing is told. With 2 nothing was read or written; with 1 and 4 nothing was
-/// read, and nothing was written but, where a server was asked for, the addresses that it listens at. With 3 neither, or a
-/// session ended by a fault, or nothing was read and the writer failed. There is no other status.
+/// With 0 what was asked for was done, and nothing is told. With 1 and 2 nothing was read or written. With 3 neither, or a
+/// session ended by a fault, or nothing was read and the writer failed, or a server that had told its addresses was cut off
+/// by a fault. With 4 nothing was read or written, or memory ran out in a server that had told its addresses. There is no
+/// other status.
 pub fn status_laws<T: Alter>()
     ensures statuses { (files : List ℕ → Option (List ℕ)) (words : List (List ℕ)) (status : ℕ) (reader writer faults : Change)
         → CommandEnds T.Store files words status reader writer faults → status ≤ 4 }
     ensures done { (files : List ℕ → Option (List ℕ)) (words : List (List ℕ)) (reader writer faults : Change)
         → CommandEnds T.Store files words 0 reader writer faults → IsDone T.Store files words reader writer × IsUntouched faults }
     ensures refused { (files : List ℕ → Option (List ℕ)) (words : List (List ℕ)) (reader writer faults : Change)
-        → CommandEnds T.Store files words 1 reader writer faults → HasToldAtMost (AskToServe words) reader writer }
+        → CommandEnds T.Store files words 1 reader writer faults → IsUntouched reader × IsUntouched writer }
     ensures misread { (files : List ℕ → Option (List ℕ)) (words : List (List ℕ)) (reader writer faults : Change)
         → CommandEnds T.Store files words 2 reader writer faults → IsUntouched reader × IsUntouched writer }
     ensures failed { (files : List ℕ → Option (List ℕ)) (words : List (List ℕ)) (reader writer faults : Change)
-        → CommandEnds T.Store files words 3 reader writer faults → IsFailed T.Store (AskToServe words) reader writer }
+        → CommandEnds T.Store files words 3 reader writer faults → IsFailed T.Store words reader writer }
     ensures memory { (files : List ℕ → Option (List ℕ)) (words : List (List ℕ)) (reader writer faults : Change)
-        → CommandEnds T.Store files words 4 reader writer faults → HasToldAtMost (AskToServe words) reader writer }
+        → CommandEnds T.Store files words 4 reader writer faults → IsExhausted T.Store words reader writer }
 {}

@@ -6,7 +6,7 @@ use crate::desks::open_desk;
 use crate::stores::close_file;
 use dict_io::Sink;
 use dict_printed::Fault;
-use dict_serving::{Desks, Wanted, serve_catalogue};
+use dict_serving::{Desks, ServerOptions, serve_catalogue};
 use dict_store::Desk;
 use sqlite::{File, FileStore};
 use sqlite_trees::store::Store;
@@ -40,10 +40,10 @@ impl<'w> Desks<'w, Desk<FileStore<File>>> for CatalogueFile<'_, 'w> {
 pub(crate) fn serve_file<'w, K: Sink>(
     rt: &HostRuntime,
     file: &'w str,
-    wanted: &Wanted<'w>,
+    wanted: &ServerOptions<'w>,
     writer: &mut K,
 ) -> Result<(), Fault<'w>>
-    ensures { ServesOn ⟦<FileStore<File> as Store>⟧ file.entry.now wanted.now.dict.now wanted.now.http.now result (change K.stream writer.old writer.new) }
+    ensures { ServesOn ⟦<FileStore<File> as Store>⟧ file.entry.now wanted.now.dict.now wanted.now.http.now wanted.now.rounds result (change K.stream writer.old writer.new) }
 {
     let mut desks = CatalogueFile { rt, path: file };
     serve_catalogue(rt, rt.alloc(), &mut desks, wanted, writer)

@@ -10,7 +10,7 @@ use crate::session::run_session;
 use dict_catalogue::Command;
 use dict_io::{Sink, Source};
 use dict_printed::Fault;
-use dict_serving::Wanted as Served;
+use dict_serving::ServerOptions;
 use dict_tasks::{InputFiles, Wanted};
 use dict_words::{Change, Task};
 use sqlite::{File, FileStore};
@@ -47,7 +47,7 @@ pub fn perform<'w, I: InputFiles, S: Source, K: Sink>(
             http,
             rounds,
         } => {
-            let wanted = Served {
+            let wanted = ServerOptions {
                 dict: *dict,
                 http: *http,
                 rounds: *rounds,

@@ -9,13 +9,13 @@ use super::rest;
 use super::tables::make;
 use dict_derived::derive;
 use dict_keyed_sql::{
-    KeyedTable, delete_keyed_entries, has_keyed_table, insert_keyed_entry, read_between,
-    read_between_reversed, read_rows, read_rows_of, read_with_key,
+    KeyedTable, count_rows, delete_keyed_entries, has_keyed_table, insert_keyed_entry, next_keyed,
+    read_between, read_between_reversed, read_rows, read_rows_of, read_with_key,
 };
 use dict_records::{KeyedEntry, Stored};
 use dict_sql::commit::commit;
 use dict_sql::records::ReadError;
-use sqlite::{Alter, Connection, Error};
+use sqlite::{Alter, Connection, Error, Rows};
 use std::alloc::Global;
 use std::process::Abort;
 use std::test::Fail;
@@ -82,23 +82,44 @@ pub(crate) enum Wanted<'a> {
 /// The entries that were read.
 pub(crate) type Read = Vec<Stored<KeyedEntry<String, Vec<u8>>>>;
 
+// Begins to read them.
+fn begin<'a, S: Alter>(
+    conn: &'a mut Connection<S>,
+    wanted: &Wanted<'_>,
+) -> Result<Rows<'a, S>, Error> {
+    if !has_keyed_table(conn.schema(), KeyedTable::Entry) {
+        return Err(Error::InvalidQuery);
+    }
+    match wanted {
+        Wanted::All => read_rows(conn, KeyedTable::Entry),
+        Wanted::Of(edition) => read_rows_of(conn, KeyedTable::Entry, *edition),
+        Wanted::Key(key) => read_with_key(conn, 1, key),
+        Wanted::Between(low, high) => read_between(conn, 1, low, high),
+        Wanted::Reversed(low, high) => read_between_reversed(conn, 1, low, high),
+    }
+}
+
 /// Reads them: those of the first edition, where they are found by their keys.
 pub(crate) fn read<S: Alter>(
     alloc: Global,
     conn: &mut Connection<S>,
     wanted: &Wanted<'_>,
 ) -> Result<Read, ReadError> {
-    if !has_keyed_table(conn.schema(), KeyedTable::Entry) {
-        return Err(ReadError::Store(Error::InvalidQuery));
-    }
-    let mut rows = match wanted {
-        Wanted::All => read_rows(conn, KeyedTable::Entry)?,
-        Wanted::Of(edition) => read_rows_of(conn, KeyedTable::Entry, *edition)?,
-        Wanted::Key(key) => read_with_key(conn, 1, key)?,
-        Wanted::Between(low, high) => read_between(conn, 1, low, high)?,
-        Wanted::Reversed(low, high) => read_between_reversed(conn, 1, low, high)?,
-    };
+    let mut rows = begin(conn, wanted)?;
     rest(alloc, &mut rows)
+}
+
+// How many there are, or how many behind the first.
+fn count<S: Alter>(
+    conn: &mut Connection<S>,
+    wanted: &Wanted<'_>,
+    is_behind: bool,
+) -> Result<u64, ReadError> {
+    let mut rows = begin(conn, wanted)?;
+    if is_behind {
+        let _first: Option<Stored<KeyedEntry<String, Vec<u8>>>> = next_keyed(&mut rows)?;
+    }
+    Ok(count_rows(&mut rows)?)
 }
 
 // Their places, in the order in which they come.
@@ -197,6 +218,9 @@ pub(crate) fn look<S: Alter>(
     ] {
         let found = places(alloc, conn, &wanted)?;
         assert_eq!(rt; found.as_slice(), places_are);
+        let all = count(conn, &wanted, false)?;
+        assert_eq!(rt; all, places_are.len() as u64);
+        assert_eq!(rt; count(conn, &wanted, true)?, all.saturating_sub(1));
     }
     Ok(())
 }

@@ -88,6 +88,16 @@ pub(crate) fn run<S: Alter>(
     look(rt, alloc, conn)
 }
 
+// The rows of the table, in their order.
+static ROWS: [(i64, &[u8], i64); 6] = [
+    (1, b"opa", 1),
+    (1, b"opa", 5),
+    (1, b"opa", 9_223_372_036_854_775_807),
+    (1, b"pal", 1),
+    (1, b"\xf4\x8f\xbf", 2),
+    (2, b"opa", 0),
+];
+
 /// What the table has.
 pub(crate) fn look<S: Alter>(
     rt: &impl Abort,
@@ -95,16 +105,8 @@ pub(crate) fn look<S: Alter>(
     conn: &mut Connection<S>,
 ) -> Result<(), Fail> {
     let found = all(alloc, conn)?;
-    let wanted: [(i64, &[u8], i64); 6] = [
-        (1, b"opa", 1),
-        (1, b"opa", 5),
-        (1, b"opa", 9_223_372_036_854_775_807),
-        (1, b"pal", 1),
-        (1, b"\xf4\x8f\xbf", 2),
-        (2, b"opa", 0),
-    ];
-    assert_eq!(rt; found.len(), wanted.len());
-    for (one, row) in found.iter().zip(wanted.iter()) {
+    assert_eq!(rt; found.len(), ROWS.len());
+    for (one, row) in found.iter().zip(ROWS.iter()) {
         assert_eq!(rt;
             (one.value.edition, one.value.gram.as_slice(), one.value.ord),
             *row

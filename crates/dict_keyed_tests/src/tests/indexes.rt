@@ -1,7 +1,8 @@
 //! The indexes over the table `entry`.
 
 use super::raw;
-use dict_keyed_sql::{KeyIndex, KeyedTable, create_key_index, has_keyed_table};
+use super::tables::make as make_table;
+use dict_keyed_sql::{KeyIndex, KeyedTable, create_key_index, has_key_index, has_keyed_table};
 use dict_sql::commit::commit;
 use dict_tables::is_name_used;
 use sqlite::{Alter, Connection, Error};
@@ -23,8 +24,12 @@ fn make<S: Alter>(conn: &mut Connection<S>, index: KeyIndex) -> Result<(), Error
 
 /// Each index is made once, and the table is the same beside it.
 pub(crate) fn run<S: Alter>(rt: &impl Abort, conn: &mut Connection<S>) -> Result<(), Fail> {
+    assert!(rt; !has_key_index(conn.schema(), KeyIndex::Key));
     make(conn, KeyIndex::Key)?;
+    assert!(rt; has_key_index(conn.schema(), KeyIndex::Key));
+    assert!(rt; !has_key_index(conn.schema(), KeyIndex::Reversed));
     make(conn, KeyIndex::Reversed)?;
+    assert!(rt; has_key_index(conn.schema(), KeyIndex::Reversed));
     assert!(rt; make(conn, KeyIndex::Key).is_err());
     assert!(rt; has_keyed_table(conn.schema(), KeyedTable::Entry));
     assert!(rt; is_name_used(conn.schema(), b"dictcat_entry_key"));
@@ -33,5 +38,31 @@ pub(crate) fn run<S: Alter>(rt: &impl Abort, conn: &mut Connection<S>) -> Result
         conn,
         "INSERT INTO entry VALUES (3, 0, 'z', 0, 0, x'7a', x'7a'); DELETE FROM entry WHERE edition = 3",
     )?;
+    Ok(())
+}
+
+/// An index of the name with another definition isn't the one that is asked for.
+pub(crate) fn others<S: Alter>(rt: &impl Abort, conn: &mut Connection<S>) -> Result<(), Fail> {
+    assert!(rt; !has_key_index(conn.schema(), KeyIndex::Key));
+    make_table(conn, KeyedTable::Entry)?;
+    raw(
+        conn,
+        "CREATE TABLE other (edition INTEGER NOT NULL, key BLOB NOT NULL, a, b, c, d, e)",
+    )?;
+    for text in [
+        "CREATE UNIQUE INDEX dictcat_entry_key ON entry (edition, key)",
+        "CREATE INDEX dictcat_entry_key ON entry (edition, rkey)",
+        "CREATE INDEX dictcat_entry_key ON entry (key, edition)",
+        "CREATE INDEX dictcat_entry_key ON entry (edition, key DESC)",
+        "CREATE INDEX dictcat_entry_key ON entry (key)",
+        "CREATE INDEX DICTCAT_entry_key ON entry (edition, key)",
+        "CREATE INDEX dictcat_entry_key ON other (edition, d)",
+    ] {
+        raw(conn, text)?;
+        assert!(rt; !has_key_index(conn.schema(), KeyIndex::Key), "{text}");
+        raw(conn, "DROP INDEX dictcat_entry_key")?;
+    }
+    make(conn, KeyIndex::Key)?;
+    assert!(rt; has_key_index(conn.schema(), KeyIndex::Key));
     Ok(())
 }

@@ -88,6 +88,16 @@ pub(crate) fn run<S: Alter>(
     look(rt, alloc, conn)
 }
 
+// The rows of the table, in their order.
+static ROWS: [(i64, &[u8], i64); 6] = [
+    (1, b"", 3),
+    (1, b"fire", 4),
+    (1, b"opal", 2),
+    (1, b"opal", 4),
+    (1, b"\xf4\x8f\xbf\xbf", 0),
+    (2, b"opal", 7),
+];
+
 /// What the table has.
 pub(crate) fn look<S: Alter>(
     rt: &impl Abort,
@@ -95,16 +105,8 @@ pub(crate) fn look<S: Alter>(
     conn: &mut Connection<S>,
 ) -> Result<(), Fail> {
     let found = all(alloc, conn)?;
-    let wanted: [(i64, &[u8], i64); 6] = [
-        (1, b"", 3),
-        (1, b"fire", 4),
-        (1, b"opal", 2),
-        (1, b"opal", 4),
-        (1, b"\xf4\x8f\xbf\xbf", 0),
-        (2, b"opal", 7),
-    ];
-    assert_eq!(rt; found.len(), wanted.len());
-    for (one, row) in found.iter().zip(wanted.iter()) {
+    assert_eq!(rt; found.len(), ROWS.len());
+    for (one, row) in found.iter().zip(ROWS.iter()) {
         assert_eq!(rt;
             (one.value.edition, one.value.word.as_slice(), one.value.ord),
             *row

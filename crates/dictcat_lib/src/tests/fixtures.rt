@@ -88,32 +88,105 @@ impl InputFiles for FilesInMemory<'_> {
     }
 }
 
+/// The example databases in memory.
+#[derive(Drop)]
+pub struct Examples {
+    alloc: Global,
+}
+
+impl InputFiles for Examples {
+    ghost octets = { λ _ _. None };
+
+    fn read(&self, path: &str) -> Result<Vec<u8>, ReadFault> {
+        let octets = match path {
+            "gem.index" => GEM_INDEX,
+            "gem.dict" => GEM_TEXT,
+            "ore.index" => ORE_INDEX,
+            "ore.dict" => ORE_TEXT,
+            "empty" => b"",
+            _ => return Err(ReadFault::Unreadable),
+        };
+        Vec::from_slice(self.alloc, octets).map_err(|_| ReadFault::Memory)
+    }
+}
+
 /// A status, and what went to standard output and to standard error.
 pub type Outcome = (u8, String, String);
 
-/// What comes of these words with this input, where standard output takes so many octets.
+/// Words behind the program's name, where `FILE` stands for the path of a catalogue; the status, what is printed, and what
+/// is told.
+pub type Row<'a> = (&'a [&'a str], u8, &'a str, &'a str);
+
+/// What comes of these words with this input, over the files of the machine, where standard output takes so many octets.
 pub fn outcome(
     rt: &HostRuntime,
     words: &[&str],
     input: &[u8],
     room: usize,
 ) -> Result<Outcome, Fail> {
+    outcome_over(rt, words, &OverFiles::new(rt), input, room)
+}
+
+// The same over any files.
+fn outcome_over<I: InputFiles>(
+    rt: &HostRuntime,
+    words: &[&str],
+    files: &I,
+    input: &[u8],
+    room: usize,
+) -> Result<Outcome, Fail> {
     let mut reader = OverRead::new(input);
     let mut writer = LimitedSink::new(rt.alloc(), room)?;
     let mut faults = LimitedSink::new(rt.alloc(), 1000)?;
-    let status = command(
-        rt,
-        words,
-        &OverFiles::new(rt),
-        &mut reader,
-        &mut writer,
-        &mut faults,
-    );
+    let status = command(rt, words, files, &mut reader, &mut writer, &mut faults);
     Ok((
         status,
         taken(rt.alloc(), &writer)?,
         taken(rt.alloc(), &faults)?,
     ))
+}
+
+/// What comes of these words behind the program's name, where `FILE` stands for a path, over the examples.
+pub fn run(rt: &HostRuntime, file: &str, words: &[&str], input: &[u8]) -> Result<Outcome, Fail> {
+    let alloc = rt.alloc();
+    let mut all = Vec::new(alloc);
+    all.push("dictcat")?;
+    for word in words {
+        all.push(if *word == "FILE" { file } else { *word })?;
+    }
+    outcome_over(rt, all.as_slice(), &Examples { alloc }, input, 2000)
+}
+
+/// The first row that comes out otherwise, and how; nothing where each is as it says.
+pub fn differing(rt: &HostRuntime, file: &str, rows: &[Row<'_>]) -> Result<String, Fail> {
+    for (words, status, printed, told) in rows {
+        let found = run(rt, file, *words, b"")?;
+        if found.0 != *status || found.1.as_str() != *printed || found.2.as_str() != *told {
+            return Ok(format!(in rt.alloc(); "{words:?} gave {found:?}")?);
+        }
+    }
+    Ok(String::new(rt.alloc()))
+}
+
+/// What a session answers these lines otherwise; nothing where each is answered so.
+pub fn answered_otherwise(
+    rt: &HostRuntime,
+    file: &str,
+    lines: &[(&str, &str)],
+) -> Result<String, Fail> {
+    let alloc = rt.alloc();
+    let mut input = String::new(alloc);
+    let mut want = String::from_str(alloc, BANNER)?;
+    for (line, answer) in lines {
+        input.push_str(*line)?;
+        input.push_str("\r\n")?;
+        want.push_str(*answer)?;
+    }
+    let found = run(rt, file, &["session", "FILE"], input.as_bytes())?;
+    if found.0 != 0 || found.1.as_str() != want.as_str() || !found.2.is_empty() {
+        return Ok(format!(in alloc; "{found:?}")?);
+    }
+    Ok(String::new(alloc))
 }
 
 /// What a sink took, as text.

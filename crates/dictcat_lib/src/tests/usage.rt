@@ -1,4 +1,4 @@
-use super::fixtures::{outcome, taken};
+use super::fixtures::{Row, differing, outcome, run, taken};
 use crate::program::NOT_TEXT;
 use crate::refuse_words;
 use clap::error::ErrorKind;
@@ -28,19 +28,45 @@ Commands:
 Options:
   -h, --help     Print help
   -V, --version  Print version
+
+Example:
+  dictcat create words.db
+  dictcat install words.db gem r1 gem.index gem.dict
+  dictcat session words.db
+
+Statuses:
+  0  done
+  1  refused, and nothing is changed
+  2  the words can't be made out
+  3  a file, its catalogue, an address, an output or a session failed
+  4  memory ran out
 ";
 
-const PLAIN_HELP: &str = "Runs a DICT session on standard input and output over one database
+const PLACE_HELP: &str = "Puts a database at another place in the order
 
-Usage: dictcat plain <NAME> <INDEX> <DICT>
+Usage: dictcat place <FILE> <NAME> <ID> <PLACE>
 
 Arguments:
+  <FILE>   The catalogue's file
   <NAME>   The database's name
-  <INDEX>  The database's index file
-  <DICT>   The database's text file
+  <ID>     The request's id: 1 to 64 letters, digits and hyphens; the same for a retry, and a new one for a new request
+  <PLACE>  The place, from 0
 
 Options:
   -h, --help  Print help
+
+Example:
+  dictcat place words.db all r5 0
+prints
+  {\"edition\":null,\"name\":\"all\",\"number\":5,\"verb\":\"place\"}
+
+Statuses:
+  0  placed; or ID was used before, and its reply is printed again
+  1  refused, and nothing is changed
+  2  the words can't be made out
+  3  FILE can't be read or is no sound catalogue, or the disk or the output failed
+  4  memory ran out
+After 3 and 4 the same command with the same ID is answered or done.
 ";
 
 const SERVE_HELP: &str =
@@ -56,69 +82,96 @@ Options:
       --http <ADDR>  The address for editors, as 127.0.0.1:8080
       --rounds <N>   Ends after so many rounds; else it goes on
   -h, --help         Print help
+
+Example:
+  dictcat serve words.db --dict 127.0.0.1:2628 --http 127.0.0.1:8628
+prints the two addresses:
+  dict 127.0.0.1:2628
+  http 127.0.0.1:8628
+
+Statuses:
+  0  all rounds of --rounds are done
+  2  the words can't be made out
+  3  FILE can't be read or is no sound catalogue, an address can't be bound, or the output failed
+  4  memory ran out
 ";
+
+const SHOWN: [Row<'static>; 5] = [
+    (&["--help"], 0, HELP, ""),
+    (&["help"], 0, HELP, ""),
+    (&["help", "place"], 0, PLACE_HELP, ""),
+    (&["serve", "--help"], 0, SERVE_HELP, ""),
+    (&["--version"], 0, "dictcat 0.1.0\n", ""),
+];
 
 #[test]
 fn shows_help_and_version(rt: HostRuntime) -> Result<(), Fail> {
-    let rows: [(&[&str], &str); 6] = [
-        (&["dictcat", "--help"], HELP),
-        (&["dictcat", "help"], HELP),
-        (&["dictcat", "plain", "--help"], PLAIN_HELP),
-        (&["dictcat", "help", "plain"], PLAIN_HELP),
-        (&["dictcat", "serve", "--help"], SERVE_HELP),
-        (&["dictcat", "--version"], "dictcat 0.1.0\n"),
-    ];
-    for (words, text) in rows {
-        let (status, shown, told) = outcome(&rt, words, b"", 2000)?;
-        assert_eq!(rt; status, 0);
-        assert_eq!(rt; shown.as_str(), text);
-        assert_eq!(rt; told.as_str(), "");
-    }
+    assert_eq!(rt; differing(&rt, "", &SHOWN)?.as_str(), "");
     let (status, _, told) = outcome(&rt, &["dictcat", "--help"], b"", 9)?;
     assert_eq!(rt; status, 3);
     assert_eq!(rt; told.as_str(), "cannot write output\n");
     Ok(())
 }
 
+const NAMES: [&str; 11] = [
+    "plain", "create", "list", "audit", "session", "install", "rollback", "retire", "virtual",
+    "place", "serve",
+];
+
+#[test]
+fn each_help_has_an_example_and_the_statuses(rt: HostRuntime) -> Result<(), Fail> {
+    for name in &NAMES {
+        let (status, shown, _) = run(&rt, "", &[*name, "--help"], b"")?;
+        assert_eq!(rt; status, 0);
+        let example = format!(in rt.alloc(); "dictcat {name} ")?;
+        let (_, below) = shown
+            .as_str()
+            .split_once("\nExample:\n")
+            .unwrap_or(("", ""));
+        assert!(rt;
+            below.contains(example.as_str()) && below.contains("\n  4  memory ran out\n"),
+            "{name}"
+        );
+    }
+    Ok(())
+}
+
+const MISTAKES: [Row<'static>; 5] = [
+    (
+        &[],
+        2,
+        "",
+        "error: 'dictcat' requires a subcommand but one was not provided\n  [subcommands: plain, create, list, audit, session, install, rollback, retire, virtual, place, serve, help]\n\nUsage: dictcat <COMMAND>\n\nFor more information, try '--help'.\n",
+    ),
+    (
+        &["nosuch"],
+        2,
+        "",
+        "error: unrecognized subcommand 'nosuch'\n\nUsage: dictcat <COMMAND>\n\nFor more information, try '--help'.\n",
+    ),
+    (
+        &["plain", "gem"],
+        2,
+        "",
+        "error: the following required arguments were not provided:\n  <INDEX>\n  <DICT>\n\nUsage: dictcat plain <NAME> <INDEX> <DICT>\n\nFor more information, try '--help'.\n",
+    ),
+    (
+        &["plain", "gem", "a", "b", "c"],
+        2,
+        "",
+        "error: unexpected argument 'c' found\n\nUsage: dictcat plain <NAME> <INDEX> <DICT>\n\nFor more information, try '--help'.\n",
+    ),
+    (
+        &["plain", "-x", "a", "b"],
+        2,
+        "",
+        "error: unexpected argument '-x' found\n\n  tip: to pass '-x' as a value, use '-- -x'\n\nUsage: dictcat plain <NAME> <INDEX> <DICT>\n\nFor more information, try '--help'.\n",
+    ),
+];
+
 #[test]
 fn tells_what_is_wrong_with_the_words(rt: HostRuntime) -> Result<(), Fail> {
-    let alloc = rt.alloc();
-    let rows: [(&[&str], &str, &str); 5] = [
-        (
-            &["dictcat"],
-            "error: 'dictcat' requires a subcommand but one was not provided\n  [subcommands: plain, create, list, audit, session, install, rollback, retire, virtual, place, serve, help]",
-            "<COMMAND>",
-        ),
-        (
-            &["dictcat", "nosuch"],
-            "error: unrecognized subcommand 'nosuch'",
-            "<COMMAND>",
-        ),
-        (
-            &["dictcat", "plain", "gem"],
-            "error: the following required arguments were not provided:\n  <INDEX>\n  <DICT>",
-            "plain <NAME> <INDEX> <DICT>",
-        ),
-        (
-            &["dictcat", "plain", "gem", "a", "b", "c"],
-            "error: unexpected argument 'c' found",
-            "plain <NAME> <INDEX> <DICT>",
-        ),
-        (
-            &["dictcat", "plain", "-x", "a", "b"],
-            "error: unexpected argument '-x' found\n\n  tip: to pass '-x' as a value, use '-- -x'",
-            "plain <NAME> <INDEX> <DICT>",
-        ),
-    ];
-    for (words, error, usage) in rows {
-        let want = format!(in alloc;
-            "{error}\n\nUsage: dictcat {usage}\n\nFor more information, try '--help'.\n"
-        )?;
-        let (status, shown, told) = outcome(&rt, words, b"", 2000)?;
-        assert_eq!(rt; status, 2);
-        assert_eq!(rt; shown.as_str(), "");
-        assert_eq!(rt; told.as_str(), want.as_str());
-    }
+    assert_eq!(rt; differing(&rt, "", &MISTAKES)?.as_str(), "");
     Ok(())
 }
 

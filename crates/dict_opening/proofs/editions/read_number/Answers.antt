@@ -37,7 +37,7 @@ pub returns-in-Err-clause-damaged : goal.returns-in-Err-clause-damaged
 returns-in-Err-clause-damaged g c clean is taken h can =
     let old = state g.S.Store c.args.conn.now in
     let one = subst (λ n. IsSelection (codes "edition") (equals_number 1 n) (1 ∷ []) old.now (stored_edition c.in_ok-row.row ∷ [])) (to_z-of_z w64 c.args.number c.ranges.number) (c.in_ok-row.ensures.one clean) in
-    edition_refused old.now taken c.args.number can c.in_ok-row.row one c.args.reader.now h c.in-Err.ensures.damaged
+    edition_refused old.now taken c.args.number can c.in_ok-row.row one c.args.reader.now h (λ version before k. c.in-Err.ensures.damaged version before (c.let_go.ensures.taken version before k))
 
 pub returns-clause-reads : goal.returns-clause-reads
 returns-clause-reads g c =
@@ -55,7 +55,7 @@ returns-clause-whole g c clean =
     on_ok_weaker c.read_entries.result
     (λ all taken h. (
       with_entries (with_edition taken (owned_edition c.in_ok-row.row.value)) (entries_given all.0),
-      all.2 1 (with_edition taken (owned_edition c.in_ok-row.row.value)) (c.in_default.ensures.taken 1 taken h),
+      all.2 1 (with_edition taken (owned_edition c.in_ok-row.row.value)) (c.in_default.ensures.taken 1 taken (c.let_go.ensures.taken 1 taken h)),
       record {
         row = c.in_ok-row.row;
         given = all.0;
@@ -76,6 +76,6 @@ returns-clause-damaged g c clean =
     let one = subst (λ m. IsSelection (codes "edition") (equals_number 1 m) (1 ∷ []) old.now (stored_edition c.in_ok-row.row ∷ [])) (to_z-of_z w64 n c.ranges.number) (c.in_ok-row.ensures.one early) in
     let same = (c.in_ok-row.ensures.same early).now in
     if_err_then _ _ c.read_entries.result
-    (λ fault wrong is taken h can. entries_wrong old.now taken n can c.in_ok-row.row one c.edition.new.self (c.in_default.ensures.taken 1 taken h)
+    (λ fault wrong is taken h can. entries_wrong old.now taken n can c.in_ok-row.row one c.edition.new.self (c.in_default.ensures.taken 1 taken (c.let_go.ensures.taken 1 taken h))
     (subst (λ (d : Database). IsWrong stored_entry entry_columns refuses_entries (EntriesOf n) d c.edition.new.self) same (subst (λ m. IsWrong stored_entry entry_columns refuses_entries (EntriesOf m) mid.now c.edition.new.self) (to_z-of_z w64 n c.ranges.number) (wrong is))))
     (c.read_entries.ensures.damaged clean)

@@ -7,46 +7,49 @@ use Rattle.dict_tables.specs.Tables.{table_of, store_tables}
 use Rattle.sqlite.specs.Effect.{Database}
 use Rattle.sqlite.specs.State.{HasCleanDisk}
 use Rattle.sqlite.specs.Held.{state}
+use Rattle.dict_file.specs.Holds.{Holds}
 use Rattle.dict_sql.specs.Encodings.{stored_mark}
 use Rattle.dict_sql.specs.Reads.{IsListing}
 use Rattle.dict_sql.proofs.StreamLemmas.{passed_on}
 use Rattle.dict_opening.specs.declared.fault.ReadingFault.{ReadingFault}
 use Rattle.dict_opening.specs.declared.fault.ReadingFault.TheVariants.{Damaged}
-use Rattle.dict_opening.specs.Opens.{HasTables, HoldsNone}
+use Rattle.dict_opening.specs.Opens.{HasTables, HasRowidsApart, HoldsNone}
 use Rattle.dict_opening.proofs.ReadableLemmas.{held_rows}
 use Rattle.dict_opening.proofs.StateLemmas.{clean_before, reads_then, while_same}
-use Rattle.dict_opening.proofs.TakerLemmas.{if_err_then}
 use Rattle.dict_opening.proofs.opening.read_tables.Goals as goal
 
-pub test_all_rowids-requires : goal.test_all_rowids-requires
-test_all_rowids-requires g c = λ clean o.
+pub read_records-requires : goal.read_records-requires
+read_records-requires g c = λ clean o.
     let yes : IsTrue c.has_tables.result = search rules in
     subst (λ (s : Schema). AllByRecursion (λ t. HasOwn s (table_of t)) store_tables) c.schema.ensures.value (c.has_tables.ensures.0 yes)
+
+pub returns-in_err-summary-clause-damaged : goal.returns-in_err-summary-clause-damaged
+returns-in_err-summary-clause-damaged g c clean =
+    let old = state g.S.Store c.args.conn.now in
+    let wrong : (fault : ReadingFault) → Type 0 = λ fault. fault ≡ Damaged → IsListing (codes "mark") (1 ∷ []) old.now (map stored_mark c.args.marks.now) → HoldsNone old.now in
+    passed_on wrong c.in_err-summary.field-0.0 c.from_residual.result c.from_residual.ensures.1 (c.in_err-summary.ensures.damaged clean)
+
+pub test_all_rowids-requires : goal.test_all_rowids-requires
+test_all_rowids-requires g c =
+    let yes : IsTrue c.has_tables.result = search rules in
+    while_same HasTables (state g.S.Store c.args.conn.now) (state g.S.Store c.read_records.new.conn) c.read_records.ensures.reads.survives c.in_ok-summary.ensures.same
+    (λ clean o. subst (λ (s : Schema). AllByRecursion (λ t. HasOwn s (table_of t)) store_tables) c.schema.ensures.value (c.has_tables.ensures.0 yes))
+
+pub returns-in_err-test_all_rowids-clause-reads : goal.returns-in_err-test_all_rowids-clause-reads
+returns-in_err-test_all_rowids-clause-reads g c = reads_then (state g.S.Store c.args.conn.now) (state g.S.Store c.read_records.new.conn) (state g.S.Store c.test_all_rowids.new.conn) c.read_records.ensures.reads c.test_all_rowids.ensures.reads
+
+pub returns-clause-reads : goal.returns-clause-reads
+returns-clause-reads g c = reads_then (state g.S.Store c.args.conn.now) (state g.S.Store c.read_records.new.conn) (state g.S.Store c.test_all_rowids.new.conn) c.read_records.ensures.reads c.test_all_rowids.ensures.reads
 
 pub returns-in_err-test_all_rowids-clause-damaged : goal.returns-in_err-test_all_rowids-clause-damaged
 returns-in_err-test_all_rowids-clause-damaged g c clean =
     let old = state g.S.Store c.args.conn.now in
+    let mid = state g.S.Store c.read_records.new.conn in
+    let new = state g.S.Store c.test_all_rowids.new.conn in
+    let early : HasCleanDisk mid = clean_before old mid new c.test_all_rowids.ensures.reads.survives clean in
+    let same = (c.in_ok-summary.ensures.same early).now in
     let wrong : (fault : ReadingFault) → Type 0 = λ fault. fault ≡ Damaged → IsListing (codes "mark") (1 ∷ []) old.now (map stored_mark c.args.marks.now) → HoldsNone old.now in
-    passed_on wrong c.in_err-test_all_rowids.field-0.0 c.from_residual.result c.from_residual.ensures.1
-    (λ is lm M h. c.in_err-test_all_rowids.ensures.damaged clean is (held_rows old.now M h)
-    (record { marks = h.keeps.marks.apart; items = h.keeps.items.apart; members = h.keeps.members.apart; editions = h.keeps.editions.apart; entries = h.keeps.entries.apart; kept = h.keeps.kept.apart }))
-
-pub read_records-requires : goal.read_records-requires
-read_records-requires g c =
-    let yes : IsTrue c.has_tables.result = search rules in
-    while_same HasTables (state g.S.Store c.args.conn.now) (state g.S.Store c.test_all_rowids.new.conn) c.test_all_rowids.ensures.reads.survives c.in_ok-test_all_rowids.ensures.same
-    (λ clean o. subst (λ (s : Schema). AllByRecursion (λ t. HasOwn s (table_of t)) store_tables) c.schema.ensures.value (c.has_tables.ensures.0 yes))
-
-pub returns-clause-reads : goal.returns-clause-reads
-returns-clause-reads g c = reads_then (state g.S.Store c.args.conn.now) (state g.S.Store c.test_all_rowids.new.conn) (state g.S.Store c.read_records.new.conn) c.test_all_rowids.ensures.reads c.read_records.ensures.reads
-
-pub returns-clause-damaged : goal.returns-clause-damaged
-returns-clause-damaged g c clean =
-    let old = state g.S.Store c.args.conn.now in
-    let mid = state g.S.Store c.test_all_rowids.new.conn in
-    let new = state g.S.Store c.read_records.new.conn in
-    let early : HasCleanDisk mid = clean_before old mid new c.read_records.ensures.reads.survives clean in
-    let same = (c.in_ok-test_all_rowids.ensures.same early).now in
-    if_err_then _ _ c.read_records.result
-    (λ fault wrong is lm. subst HoldsNone same (wrong is (subst (λ (d : Database). IsListing (codes "mark") (1 ∷ []) d (map stored_mark c.args.marks.now)) (sym same) lm)))
-    (c.read_records.ensures.damaged clean)
+    passed_on wrong c.in_err-test_all_rowids.field-0.0 c.from_residual-in_err-test_all_rowids.result c.from_residual-in_err-test_all_rowids.ensures.1
+    (λ is lm M h. c.in_err-test_all_rowids.ensures.damaged clean is (held_rows mid.now M (subst (λ (d : Database). Holds 1 d M) (sym same) h))
+    (subst HasRowidsApart (sym same)
+    (record { marks = h.keeps.marks.apart; items = h.keeps.items.apart; members = h.keeps.members.apart; editions = h.keeps.editions.apart; entries = h.keeps.entries.apart; kept = h.keeps.kept.apart })))

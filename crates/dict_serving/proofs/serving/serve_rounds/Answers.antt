@@ -1,10 +1,10 @@
-use Rattle.std.proofs.Common.{◌∙◌, [], ◌++◌, ◌∷◌, inl, refl}
+use Rattle.std.proofs.Common.{◌∙◌, [], ◌++◌, ◌∷◌, inl, refl, arith}
 use Rattle.dict_serving.specs.Serving.{Stretch}
 use Rattle.dict_serving.proofs.StretchLemmas.{failed_more, first_more, next_more, served_more}
 use Rattle.dict_serving.proofs.serving.serve_rounds.Goals as goal
 
 pub loop-pending-init : goal.loop-pending-init
-loop-pending-init g c = record { served = ([], refl, tt, refl, λ some. tt); opened = λ some. c.requires; stands = inl c.requires; path = refl }
+loop-pending-init g c = record { served = ([], refl, tt, refl, λ some. tt); opened = λ some. c.requires; stands = inl c.requires; made = λ few. refl; path = refl }
 
 pub returns-in_err-pending-clause-served : goal.returns-in_err-pending-clause-served
 returns-in_err-pending-clause-served g c =
@@ -32,5 +32,6 @@ loop-pending-preserved g c =
       );
       opened = c.in_ok-pending.ensures.opened;
       stands = c.in_ok-pending.ensures.stands;
+      made = λ few. (let before = c.loop-pending.invariant.made few in c.in_ok-pending.ensures.made (omega (arith, before)) ∙ before);
       path = c.serve_stretch.ensures.path ∙ c.loop-pending.invariant.path;
     }

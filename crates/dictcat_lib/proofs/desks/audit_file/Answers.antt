@@ -7,12 +7,12 @@ pub returns-in_err-desk : goal.returns-in_err-desk
 unfolding AuditEnds
 returns-in_err-desk g c =
     let error = err_from_is_err_and c.from_residual.result c.from_residual.ensures.1 in
-    inl (error.0, error.1, rw error.2 c.in_err-desk.ensures, refl)
+    inl (error.0, error.1, rw error.2 c.in_err-desk.ensures.0, refl)
 
 pub returns-in-Ok : goal.returns-in-Ok
 unfolding AuditEnds
-returns-in-Ok g c = inr (c.in_ok-desk.desk, c.in_ok-desk.ensures, c.in-Ok.ensures.put)
+returns-in-Ok g c = inr (c.in_ok-desk.desk, c.in_ok-desk.ensures.opened, c.in-Ok.ensures.put)
 
 pub returns-in-Err : goal.returns-in-Err
 unfolding AuditEnds
-returns-in-Err g c = inr (c.in_ok-desk.desk, c.in_ok-desk.ensures, c.in-Err.ensures.put)
+returns-in-Err g c = inr (c.in_ok-desk.desk, c.in_ok-desk.ensures.opened, c.in-Err.ensures.put)

@@ -7,8 +7,8 @@ pub returns-in_err-desk : goal.returns-in_err-desk
 unfolding ChangeEnds
 returns-in_err-desk g c =
     let error = err_from_is_err_and c.from_residual.result c.from_residual.ensures.1 in
-    inl (error.0, error.1, rw error.2 c.in_err-desk.ensures, refl)
+    inl (error.0, error.1, rw error.2 c.in_err-desk.ensures.0, refl)
 
 pub returns : goal.returns
 unfolding ChangeEnds
-returns g c = inr (c.in_ok-desk.desk, c.in_ok-desk.ensures, (c.change-end.new.desk, c.change-end.ensures))
+returns g c = inr (c.in_ok-desk.desk, c.in_ok-desk.ensures.opened, (c.change-end.new.desk, c.change-end.ensures))

@@ -8,8 +8,8 @@ pub returns-in_err-desk : goal.returns-in_err-desk
 unfolding ListEnds
 returns-in_err-desk g c =
     let error = err_from_is_err_and c.from_residual.result c.from_residual.ensures.1 in
-    inl (error.0, error.1, rw error.2 c.in_err-desk.ensures, refl)
+    inl (error.0, error.1, rw error.2 c.in_err-desk.ensures.0, refl)
 
 pub returns : goal.returns
 unfolding ListEnds
-returns g c = inr (c.in_ok-desk.desk, c.in_ok-desk.ensures, c.list-end.ensures.listed (ap is_closed c.in_ok-desk.ensures.1.fine))
+returns g c = inr (c.in_ok-desk.desk, c.in_ok-desk.ensures.opened, c.list-end.ensures.listed (ap is_closed c.in_ok-desk.ensures.opened.1.fine))

@@ -7,7 +7,7 @@ use Rattle.dict_driver.proofs.RoundLemmas.{moves_same, moves_opened}
 use Rattle.dict_driver.proofs.connections.Connections.admit.Goals as goal
 
 pub returns-in_default-clause-led : goal.returns-in_default-clause-led
-returns-in_default-clause-led g c = led_still (moves_same c.args.self.now c.args.self.now refl (λ id octets now. now))
+returns-in_default-clause-led g c = led_still (moves_same c.args.self.now c.args.self.now refl (λ id octets now. now), tt)
 
 -- the new id is above all
 above : (g : _) (c : goal.After-push_reserved g) → c.args.self.now.last < c.in-Some-open.one.id
@@ -37,9 +37,12 @@ returns-in-Some-open-clause-led g c =
     let value : c.in-Some.id ≡ c.args.self.now.last + 1 = c.in-Some.ensures.value in
     let up : c.args.self.now.last < c.in-Some-open.one.id = omega arith in
     led_as c.in-Some-open.ensures.led
-    (λ events opens. moves_opened c.args.self.now _ c.in-Some-open.one events c.push_reserved.ensures.items refl (sym id) up (subst (λ i. AreOf i events) (sym id) opens.0) opens.1)
+    (λ events opens. (
+      moves_opened c.args.self.now _ c.in-Some-open.one events c.push_reserved.ensures.items refl (sym id) up (subst (λ i. AreOf i events) (sym id) opens.0.0) opens.0.1,
+      opens.1,
+    ))
 
 pub returns-in_default-open-clause-led : goal.returns-in_default-open-clause-led
 returns-in_default-open-clause-led g c =
     led_as c.in_default-open.ensures.led
-    (λ events none. subst (λ es. Moves c.args.self.now c.args.self.now es) (sym none) (moves_same c.args.self.now c.args.self.now refl (λ id octets now. now)))
+    (λ events none. (subst (λ es. Moves c.args.self.now c.args.self.now es) (sym none.0) (moves_same c.args.self.now c.args.self.now refl (λ id octets now. now)), none.1))

@@ -20,7 +20,7 @@ returns-in_err-number-clause-damaged c =
 pub returns-in_default-clause-damaged : goal.returns-in_default-clause-damaged
 returns-in_default-clause-damaged c = λ version taken h.
     let none : list_any (awaits (string_bytes c.args.row.owner) c.in_ok-number.number) (map item_shown c.args.self.now.items.items) ≡ false = rw (c.as_str.ensures.value, c.deref.ensures.value) at c.in_default.ensures.none in
-    place_refused version c.args.self.now taken (owned_edition c.args.row) c.in_ok-number.number h c.in_ok-number.ensures.number none
+    place_refused version (record (c.args.self.now) { edition = h.0 }) taken (owned_edition c.args.row) c.in_ok-number.number h.1 c.in_ok-number.ensures.number none
 
 pub returns-then-not-is_title-clause-damaged : goal.returns-then-not-is_title-clause-damaged
 returns-then-not-is_title-clause-damaged c = λ version taken h.
@@ -42,5 +42,5 @@ returns-clause-taken c = λ version taken h.
     let lawful : is_title (string_bytes c.args.row.title) ≡ true = search rules in
     let text : IsUtf8 (string_bytes c.args.row.title) = rw c.as_str-2.ensures.value at c.as_str-2.utf8 in
     let written : map item_shown c.title_at.new.items.items ≡ split.0 ++ item_titled c.in_ok-number.number (string_bytes c.args.row.title) split.1 ∷ split.2 = c.title_at.ensures split.0 split.1 split.2 split.3 split.4 in
-    edition_taken version c.args.self.now _ taken (owned_edition c.args.row) c.in_ok-number.number split.0 split.1 split.2 split.3 written refl refl refl c.take_in_hand.ensures
-    c.in_ok-number.ensures.number split.5 text lawful (tested.0 c.if-not-is_edition_text.false) h
+    edition_taken version (record (c.args.self.now) { edition = h.0 }) _ taken (owned_edition c.args.row) c.in_ok-number.number split.0 split.1 split.2 split.3 written refl refl refl c.take_in_hand.ensures
+    c.in_ok-number.ensures.number split.5 text lawful (tested.0 c.if-not-is_edition_text.false) h.1

@@ -22,6 +22,7 @@ returns-in-Ok-adopt-clause-shows g c = λ clean before requests answered leaves.
 pub returns-in-Err-adopt-clause-unopened : goal.returns-in-Err-adopt-clause-unopened
 returns-in-Err-adopt-clause-unopened g c = (
   c.in-Err-adopt.ensures.handed,
+  c.in-Err-adopt.ensures.kinds,
   λ clean before requests answered leaves.
       let stopped : Files _ = record { log = c.crash.new.self; db = c.crash-2.new.self } in
       let early : HasCleanDisk (file_state c.in-Ok.conn) = omega (arith, c.in-Err-adopt.ensures.adds_none.clean, clean) in

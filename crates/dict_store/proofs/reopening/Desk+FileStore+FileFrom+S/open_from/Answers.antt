@@ -13,6 +13,7 @@ returns-in-Ok-adopt-clause-shows g c = λ clean M held.
 pub returns-in-Err-adopt-clause-unopened : goal.returns-in-Err-adopt-clause-unopened
 returns-in-Err-adopt-clause-unopened g c = (
   c.in-Err-adopt.ensures.handed,
+  c.in-Err-adopt.ensures.kinds,
   λ clean M held.
       let early : HasCleanDisk (file_state c.in-Ok.conn) = omega (arith, c.in-Err-adopt.ensures.adds_none.clean, clean) in
       let opened = (c.in-Ok.ensures.opened early).0 in

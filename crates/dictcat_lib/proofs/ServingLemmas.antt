@@ -1,0 +1,71 @@
+-- Which faults a file and a server have.
+use Rattle.std.proofs.Common.{◌≡◌, ℕ, List, Err, inl, inr, refl, arith, ap}
+use Rattle.std.specs.Prelude.{◌≢◌}
+use Rattle.std.specs.IoError.{error_kind}
+use Rattle.std.specs.declared.io.Error.{Error}
+use Rattle.std.specs.declared.io.ErrorKind.TheVariants.{OutOfMemory}
+use Rattle.dict_desk.specs.declared.fault.Fault.{Fault as DeskFault}
+use Rattle.dict_desk.specs.declared.fault.Fault.TheVariants as desk
+use Rattle.dict_opening.specs.Reading.{IsOfOpening}
+use Rattle.dict_printed.specs.Faults.{status_of, told_of}
+use Rattle.dict_printed.specs.declared.fault.Fault.{Fault}
+use Rattle.dict_printed.specs.declared.fault.Fault.TheVariants.{Line, Edition, Refused, Store, CannotRead, SessionEnded, CannotWrite, CannotBind, CannotWait, Memory}
+use Rattle.dict_serving.specs.Listening.{TellsWaiting}
+use Rattle.dict_serving.specs.Serving.{Ends, IsOfFile}
+use Rattle.dictcat_lib.specs.Opening.{IsUnopened}
+
+pub unopened_of_file : (path : List ℕ) (fault : Fault) → IsUnopened path fault → IsOfFile fault
+unopened_of_file path (Line refusal line) h = h
+unopened_of_file path (Edition refusal) h = h
+unopened_of_file path (Refused refusal) h = h
+unopened_of_file path (Store fault) h = tt
+unopened_of_file path (CannotRead told) h = tt
+unopened_of_file path SessionEnded h = h
+unopened_of_file path CannotWrite h = h
+unopened_of_file path (CannotBind address) h = h
+unopened_of_file path CannotWait h = h
+unopened_of_file path Memory h = tt
+
+pub opening_of_file : (why : DeskFault) → IsOfOpening why → IsOfFile (told_of why)
+opening_of_file (desk.Refused refusal) h = h
+opening_of_file desk.Memory h = tt
+opening_of_file desk.Disk h = tt
+opening_of_file desk.Closed h = tt
+opening_of_file desk.NotACatalogue h = tt
+opening_of_file desk.Damaged h = tt
+opening_of_file desk.NewerSchema h = tt
+
+-- no fault of a file is a refusal
+file_not_1 : (fault : Fault) → IsOfFile fault → 1 ≡ status_of fault → ⊥
+file_not_1 (Line refusal line) h e = h
+file_not_1 (Edition refusal) h e = h
+file_not_1 (Refused refusal) h e = h
+file_not_1 (Store fault) h e = omega (arith, e)
+file_not_1 (CannotRead told) h e = omega (arith, e)
+file_not_1 SessionEnded h e = h
+file_not_1 CannotWrite h e = h
+file_not_1 (CannotBind address) h e = h
+file_not_1 CannotWait h e = h
+file_not_1 Memory h e = omega (arith, e)
+
+-- and none of waiting for sockets
+waiting_not_1 : (why : Error) (fault : Fault) → TellsWaiting why fault → 1 ≡ status_of fault → ⊥
+waiting_not_1 why fault tells e =
+    let other : error_kind why ≢ OutOfMemory = λ is. omega (arith, e, ap status_of (tells.0 is)) in
+    omega (arith, e, ap status_of (tells.1 other))
+
+pub ends_not_1 : (Unopened : Fault → Type 0) (fault : Fault) → Ends {A = Unit {0}} Unopened (Err fault) → 1 ≡ status_of fault → ⊥
+ends_not_1 Unopened fault (inl (why, tells)) e = waiting_not_1 why fault tells e
+ends_not_1 Unopened fault (inr (none, of)) e = file_not_1 fault of e
+
+pub memory_by_status : (fault : Fault) → 4 ≡ status_of fault → fault ≡ Memory
+memory_by_status (Line refusal line) e = absurd (omega (arith, e))
+memory_by_status (Edition refusal) e = absurd (omega (arith, e))
+memory_by_status (Refused refusal) e = absurd (omega (arith, e))
+memory_by_status (Store fault) e = absurd (omega (arith, e))
+memory_by_status (CannotRead path) e = absurd (omega (arith, e))
+memory_by_status SessionEnded e = absurd (omega (arith, e))
+memory_by_status CannotWrite e = absurd (omega (arith, e))
+memory_by_status (CannotBind address) e = absurd (omega (arith, e))
+memory_by_status CannotWait e = absurd (omega (arith, e))
+memory_by_status Memory e = refl
