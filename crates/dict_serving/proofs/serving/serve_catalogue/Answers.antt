@@ -11,8 +11,8 @@ returns-in_err-desk-2-clause-ends g c =
     let none : c.in-Ok.driver.rounds ≡ 0 = c.in-Ok.ensures.rounds in
     let asked : c.pace-rounds.result.0 ≡ rounds_of c.args.wanted.now.rounds = c.pace-rounds.ensures.count in
     let made : c.serve_rounds.new.driver.rounds ≤ rounds_of c.args.wanted.now.rounds =
-        let some = c.in_err-desk-2.ensures.made (omega (arith, none)) in
-        omega (arith, none, asked, some) in
+    let some = c.in_err-desk-2.ensures.made (omega (arith, none)) in
+    omega (arith, none, asked, some) in
     rw (error.1, error.2) (inr (
       c.in_ok-desk.desk,
       c.in_ok-desk.ensures.opened,
@@ -39,8 +39,8 @@ returns-clause-ends g c =
     let none : c.in-Ok.driver.rounds ≡ 0 = c.in-Ok.ensures.rounds in
     let asked : c.pace-rounds.result.0 ≡ rounds_of c.args.wanted.now.rounds = c.pace-rounds.ensures.count in
     let made : c.serve_rounds.new.driver.rounds ≡ rounds_of c.args.wanted.now.rounds =
-        let all = c.in_ok-desk-2.ensures.made (omega (arith, none)) in
-        omega (arith, none, asked, all) in
+    let all = c.in_ok-desk-2.ensures.made (omega (arith, none)) in
+    omega (arith, none, asked, all) in
     inr (
       c.in_ok-desk.desk,
       c.in_ok-desk.ensures.opened,
