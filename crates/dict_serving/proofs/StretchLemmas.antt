@@ -3,36 +3,30 @@ use Rattle.std.proofs.Common.{◌≡◌, List, [], ◌∷◌, ◌++◌, refl, su
 use Rattle.std.specs.Prelude.{Option, Bool, true, ⊤}
 use Rattle.dict_catalogue.specs.Steps.{Catalogue}
 use Rattle.dict_driver.specs.declared.driver.Driver.{Driver}
-use Rattle.dict_serving.specs.Serving.{AreServed, IsFirst, IsOver, Stretch}
-
--- the last stretch, if there is one, left a desk whose store had failed
-abbrev pub LastFailed : {K : Type 0} → (K → Bool) → List (Stretch K) → Type 0
-LastFailed is_closed [] = ⊤
-LastFailed is_closed (one ∷ []) = is_closed one.left ≡ true
-LastFailed is_closed (one ∷ other ∷ others) = LastFailed is_closed (other ∷ others)
-
--- where there is no stretch yet, the desk is this one
-abbrev pub IsNext : {K : Type 0} → K → List (Stretch K) → K → Type 0
-IsNext desk [] next = next ≡ desk
-IsNext desk (one ∷ others) next = ⊤
-
-pub failed_more : {K : Type 0} (is_closed : K → Bool) (stretches : List (Stretch K)) (one : Stretch K) → is_closed one.left ≡ true → LastFailed is_closed (stretches ++ one ∷ [])
-failed_more is_closed [] one closed = closed
-failed_more is_closed (other ∷ []) one closed = closed
-failed_more is_closed (other ∷ next ∷ stretches) one closed = failed_more is_closed (next ∷ stretches) one closed
-
-pub first_more : {K : Type 0} (desk : K) (stretches : List (Stretch K)) (one : Stretch K) → IsFirst desk stretches → IsNext desk stretches one.opened → IsFirst desk (stretches ++ one ∷ [])
-first_more desk [] one first next = next
-first_more desk (other ∷ stretches) one first next = first
-
-pub next_more : {K : Type 0} (desk : K) (stretches : List (Stretch K)) (one : Stretch K) (next : K) → IsNext desk (stretches ++ one ∷ []) next
-next_more desk [] one next = tt
-next_more desk (other ∷ stretches) one next = tt
+use Rattle.dict_serving.specs.Serving.{AreServed, Follows, IsFirst, IsOver, Stretch}
 
 module _ {K : Type 0} (Shows : K → Catalogue → Type 0) (Leaves : K → List (Option Catalogue) → Type 0) (Trusted : K → Type 0) (Opened : K → Type 0) (is_closed : K → Bool) where
-  pub served_more : (stretches : List (Stretch K)) (one : Stretch K) (a b c : Driver) → AreServed Shows Leaves Trusted Opened is_closed stretches a b → LastFailed is_closed stretches
+  -- a desk comes after these stretches: it is the first, or was opened again after the last of them
+  abbrev pub GoesOn : K → List (Stretch K) → K → Type 0
+  GoesOn desk [] next = next ≡ desk
+  GoesOn desk (one ∷ []) next = (is_closed one.left ≡ true) × Follows Shows Leaves Trusted one.left next
+  GoesOn desk (one ∷ other ∷ others) next = GoesOn desk (other ∷ others) next
+
+  pub goes_more : (desk : K) (stretches : List (Stretch K)) (one : Stretch K) (next : K) → is_closed one.left ≡ true → Follows Shows Leaves Trusted one.left next → GoesOn desk (stretches ++ one ∷ []) next
+  goes_more desk [] one next closed follows = (closed, follows)
+  goes_more desk (other ∷ []) one next closed follows = (closed, follows)
+  goes_more desk (other ∷ another ∷ stretches) one next closed follows = goes_more desk (another ∷ stretches) one next closed follows
+
+  pub first_goes : (desk : K) (stretches : List (Stretch K)) (one : Stretch K) → IsFirst desk stretches → GoesOn desk stretches one.opened → IsFirst desk (stretches ++ one ∷ [])
+  first_goes desk [] one first goes = goes
+  first_goes desk (other ∷ stretches) one first goes = first
+
+  alone : (one : Stretch K) (a b c : Driver) → b ≡ a → IsOver Shows Leaves Trusted Opened is_closed one b c → AreServed Shows Leaves Trusted Opened is_closed (one ∷ []) a c
+  alone one a b c same over = (c, subst (λ (d : Driver). IsOver Shows Leaves Trusted Opened is_closed one d c) same over, tt, refl)
+
+  pub served_more : (desk : K) (stretches : List (Stretch K)) (one : Stretch K) (a b c : Driver) → AreServed Shows Leaves Trusted Opened is_closed stretches a b → GoesOn desk stretches one.opened
       → IsOver Shows Leaves Trusted Opened is_closed one b c → AreServed Shows Leaves Trusted Opened is_closed (stretches ++ one ∷ []) a c
-  served_more [] one a b c served last over = (c, subst (λ (d : Driver). IsOver Shows Leaves Trusted Opened is_closed one d c) served over, tt, refl)
-  served_more (other ∷ []) one a b c (between, first, gave, served) last over = (between, first, last, served_more [] one between b c served tt over)
-  served_more (other ∷ next ∷ stretches) one a b c (between, first, gave, served) last over =
-      (between, first, gave, served_more (next ∷ stretches) one between b c served last over)
+  served_more desk [] one a b c served goes over = alone one a b c served over
+  served_more desk (other ∷ []) one a b c (between, first, gave, served) goes over = (between, first, goes, alone one between b c served over)
+  served_more desk (other ∷ next ∷ stretches) one a b c (between, first, gave, served) goes over =
+      (between, first, gave, served_more desk (next ∷ stretches) one between b c served goes over)

@@ -1,5 +1,5 @@
 -- How serving goes: the stretches of rounds, one for each opening of the file.
-use Rattle.std.specs.Prelude.{◌≡◌, ◌⊎◌, ℕ, Bool, true, false, List, [], ◌∷◌, Option, Some, Result, Ok, Err, codes, ⊤}
+use Rattle.std.specs.Prelude.{◌≡◌, ◌⊎◌, ℕ, Bool, true, false, List, [], ◌∷◌, Option, Some, Contains, Result, Ok, Err, codes, ⊤}
 use Rattle.std.specs.declared.io.Error.{Error}
 use Rattle.dict_catalogue.specs.Steps.{Catalogue}
 use Rattle.dict_io.specs.Streams.{Change, PutsAll}
@@ -12,6 +12,7 @@ use Rattle.dict_driver.specs.declared.driver.Driver.{Driver}
 use Rattle.dict_printed.specs.Writing.{IsUntouched}
 use Rattle.dict_printed.specs.declared.fault.Fault.{Fault}
 use Rattle.dict_printed.specs.declared.fault.Fault.TheVariants as faults
+use Rattle.dict_printed.specs.declared.fault.StoreFault.TheVariants as store_faults
 use Rattle.dict_serving.specs.Counting.{MakesAll}
 use Rattle.dict_serving.specs.Listening.{Begins, TellsWaiting, lines_of}
 
@@ -37,6 +38,10 @@ IsOfFile faults.Memory = ⊤
 abbrev pub IsNone : (Fault → Type 0) → Fault → Type 0
 IsNone Unopened fault = Unopened fault × IsOfFile fault
 
+-- the file isn't opened again: there is no desk of it, or its store can't be trusted any more
+abbrev pub IsNotReopened : (Fault → Type 0) → Fault → Type 0
+IsNotReopened Unopened fault = IsNone Unopened fault ⊎ (fault ≡ faults.Store store_faults.Disk)
+
 -- a catalogue is shown, and a stop leaves that one alone
 abbrev pub KeepsAlone : {K : Type 0} → (K → Catalogue → Type 0) → (K → List (Option Catalogue) → Type 0) → K → Type 0
 KeepsAlone Shows LeavesOneOf desk = (M : Catalogue) × Shows desk M × LeavesOneOf desk (Some M ∷ [])
@@ -57,15 +62,15 @@ abbrev pub IsFirst : {K : Type 0} → K → List (Stretch K) → Type 0
 IsFirst desk [] = ⊤
 IsFirst desk (one ∷ others) = one.opened ≡ desk
 
--- where others follow a stretch, its store had failed
-abbrev pub GaveWay : {K : Type 0} → (K → Bool) → Stretch K → List (Stretch K) → Type 0
-GaveWay is_closed one [] = ⊤
-GaveWay is_closed one (other ∷ others) = is_closed one.left ≡ true
+-- A desk shows one of the catalogues that a stop could have left of another: this is told where what it stands on has returned what was
+-- written to it
+abbrev pub Follows : {K : Type 0} → (K → Catalogue → Type 0) → (K → List (Option Catalogue) → Type 0) → (K → Type 0) → K → K → Type 0
+Follows Shows LeavesOneOf IsTrusted old new = IsTrusted new → (ms : List (Option Catalogue)) → LeavesOneOf old ms → ∥ (M : Catalogue) × Contains ms (Some M) × Shows new M ∥₁
 
--- all rounds were made, or sockets couldn't be waited for, or the file couldn't be opened anew
+-- all rounds were made, or sockets couldn't be waited for, or the file couldn't be opened again
 abbrev pub Ends : {A : Type 0} → (Fault → Type 0) → Result A Fault → Type 0
 Ends Unopened (Ok _) = ⊤
-Ends Unopened (Err fault) = ((why : Error) × TellsWaiting why fault) ⊎ IsNone Unopened fault
+Ends Unopened (Err fault) = ((why : Error) × TellsWaiting why fault) ⊎ IsNotReopened Unopened fault
 
 -- By what a desk shows, what a stop may leave of it, that what it stands on has returned what was written, that it was opened, and
 -- whether its store has failed.
@@ -79,11 +84,16 @@ module _ {K : Type 0} (Shows : K → Catalogue → Type 0) (LeavesOneOf : K → 
         (λ events. Moves old.connections new.connections events)
     pub trust : IsTrusted one.left → IsTrusted one.opened
 
+  -- where others follow a stretch, its store had failed, and the desk of the next shows one of the catalogues that a stop could have left of its desk
+  abbrev pub GaveWay : Stretch K → List (Stretch K) → Type 0
+  GaveWay one [] = ⊤
+  GaveWay one (other ∷ others) = (is_closed one.left ≡ true) × Follows Shows LeavesOneOf IsTrusted one.left other.opened
+
   -- one stretch after the other, each from where the one before it left the hub and the connections, and each but the first because
   -- the store of the one before it had failed
   abbrev pub AreServed : List (Stretch K) → Driver → Driver → Type 0
   AreServed [] old new = new ≡ old
-  AreServed (one ∷ others) old new = (between : Driver) × IsOver one old between × GaveWay is_closed one others × AreServed others between new
+  AreServed (one ∷ others) old new = (between : Driver) × IsOver one old between × GaveWay one others × AreServed others between new
 
   -- Both texts are addresses, and those that were bound for them were told. Stretches, the first over this desk, led from a hub with no
   -- connection, of the host `localhost`, whose first id is to be 1; and as many rounds as were asked for were made, or at a fault no more

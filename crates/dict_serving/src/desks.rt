@@ -1,12 +1,12 @@
 // What opens the desk of a catalogue.
-ghost use Rattle.std.specs.Prelude.{◌≡◌, ℕ, List, MatchResult};
+ghost use Rattle.std.specs.Prelude.{◌≡◌, ℕ, List, IfOk, MatchResult};
 ghost use Rattle.dict_printed.specs.declared.fault.Fault.{Fault as PrintedFault};
-ghost use Rattle.dict_serving.specs.Serving.{IsNew, IsNone};
+ghost use Rattle.dict_serving.specs.Serving.{Follows, IsNew, IsNone, IsNotReopened};
 
 use dict_desk::Keeper;
 use dict_printed::Fault;
 
-/// Opens the desk of the catalogue in one file, as often as it is asked.
+/// Opens the desk of the catalogue in one file, and opens it again where its store failed.
 pub trait Desks<'w, K: Keeper> {
     /// The path of the file.
     ghost path: { Self → List ℕ };
@@ -21,6 +21,13 @@ pub trait Desks<'w, K: Keeper> {
     /// fault is one of the file or of its catalogue, and no refusal.
     fn open(&mut self) -> Result<K, Fault<'w>>
         ensures opened { MatchResult result (IsNew K.shows K.leaves_one_of K.is_trusted is_opened) (IsNone (is_unopened (path self.old))) }
+        ensures path { path self.new ≡ path self.old };
+
+    /// Closes a desk whose store failed, and opens the same file again. The new desk shows one of the catalogues that a stop could
+    /// have left of the other. A fault is as that of an opening, or `Store(Disk)` where the store can't be trusted any more.
+    fn reopen(&mut self, desk: K) -> Result<K, Fault<'w>>
+        ensures opened { MatchResult result (IsNew K.shows K.leaves_one_of K.is_trusted is_opened) (IsNotReopened (is_unopened (path self.old))) }
+        ensures follows { IfOk result (Follows K.shows K.leaves_one_of K.is_trusted desk) }
         ensures path { path self.new ≡ path self.old };
 
     /// Closes a desk and its file.

@@ -1,8 +1,8 @@
-// Rounds over the desk of a file, which is opened anew where its store failed.
-ghost use Rattle.std.specs.Prelude.{◌≡◌, ◌<◌, true, IfOk, List, MatchResult};
+// Rounds over the desk of a file, which is opened again where its store failed.
+ghost use Rattle.std.specs.Prelude.{◌≡◌, ◌<◌, true, IfOk, List};
 ghost use Rattle.dict_io.specs.Streams.{change};
 ghost use Rattle.dict_serving.specs.Counting.{AreMade, AreMadeTo};
-ghost use Rattle.dict_serving.specs.Serving.{AreServed, Ends, IsFirst, IsNew, IsNone, IsOpen, IsOver, ServeEnds, Stretch};
+ghost use Rattle.dict_serving.specs.Serving.{AreServed, Ends, Follows, IsFirst, IsNew, IsOpen, IsOver, ServeEnds, Stretch};
 
 use crate::desks::Desks;
 use crate::listening::{ServerOptions, listen, waiting_fault};
@@ -15,11 +15,12 @@ use std::net::Net;
 use std::time::Duration;
 
 /// Serves the catalogue of a file: opens it, binds sockets to two addresses, for readers and then for editors, writes which
-/// these are, and makes rounds, as many as are asked for where nothing fails. After a round in which its store failed the file is closed and opened anew, and the rounds that
-/// are left go on over it, with the connections that are open. In the end the file is closed.
+/// these are, and makes rounds, as many as are asked for where nothing fails. After a round in which its store failed the file is
+/// opened again, and the rounds that are left go on over it, with the connections that are open. What is shown then is one of the
+/// catalogues that a stop could have left. In the end the file is closed.
 ///
 /// The faults come in this order: of the file and its catalogue, of the address for readers, of that for editors, of the
-/// writer, of waiting for sockets or of opening the file anew.
+/// writer, of waiting for sockets or of opening the file again.
 pub fn serve_catalogue<'w, K: Keeper + Drop, D: Desks<'w, K>, W: Sink>(
     net: &impl Net,
     alloc: Global,
@@ -77,7 +78,7 @@ struct Pending<K: Drop> {
     left: u64,
 }
 
-// Makes rounds over one opening of the file, which is opened anew where its store failed.
+// Makes rounds over one opening of the file, which is opened again where its store failed.
 fn serve_stretch<'w, K: Keeper + Drop, D: Desks<'w, K>>(
     desks: &mut D,
     driver: &mut Driver,
@@ -87,7 +88,7 @@ fn serve_stretch<'w, K: Keeper + Drop, D: Desks<'w, K>>(
     requires opened { IsNew K.shows K.leaves_one_of K.is_trusted D.is_opened pending.desk }
     requires some { 0 < pending.left }
     ensures served { (left : K) × IsOver K.shows K.leaves_one_of K.is_trusted D.is_opened K.is_closed (record { opened = pending.desk; left = left }) driver.old driver.new
-        × IfOk result (λ next. 0 < next.left → K.is_closed left ≡ true) }
+        × IfOk result (λ next. 0 < next.left → (K.is_closed left ≡ true) × Follows K.shows K.leaves_one_of K.is_trusted left next.desk) }
     ensures opened { IfOk result (λ next. 0 < next.left → IsNew K.shows K.leaves_one_of K.is_trusted D.is_opened next.desk) }
     ensures stands { IfOk result (λ next. IsOpen K.is_closed (IsNew K.shows K.leaves_one_of K.is_trusted D.is_opened) next.desk) }
     ensures fewer { IfOk result (λ next. next.left < pending.left) }
@@ -102,7 +103,7 @@ fn serve_stretch<'w, K: Keeper + Drop, D: Desks<'w, K>>(
     match serve(driver, &mut desk, rounds, wait) {
         Ok(Served::Whole) => Ok(Pending { desk, left: 0 }),
         Ok(Served::Closed(left)) => {
-            let desk = reopen(desks, desk)?;
+            let desk = desks.reopen(desk)?;
             Ok(Pending { desk, left })
         }
         Err(error) => {
@@ -110,13 +111,4 @@ fn serve_stretch<'w, K: Keeper + Drop, D: Desks<'w, K>>(
             Err(waiting_fault(&error))
         }
     }
-}
-
-// Closes a desk, and opens the file anew.
-fn reopen<'w, K: Keeper, D: Desks<'w, K>>(desks: &mut D, desk: K) -> Result<K, Fault<'w>>
-    ensures opened { MatchResult result (IsNew K.shows K.leaves_one_of K.is_trusted D.is_opened) (IsNone (D.is_unopened (D.path desks.old))) }
-    ensures path { D.path desks.new ≡ D.path desks.old }
-{
-    desks.close(desk);
-    desks.open()
 }

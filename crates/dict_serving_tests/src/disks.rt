@@ -1,9 +1,10 @@
 //! A catalogue on two disks, of which one fails.
-ghost use Rattle.std.specs.Prelude.{⊤, [], MatchResult};
+ghost use Rattle.std.specs.Prelude.{⊤, [], IfOk, MatchResult};
 ghost use Rattle.sqlite.specs.State.{HasCleanDisk};
+ghost use Rattle.sqlite.specs.Files.{file_state, over_files};
 ghost use Rattle.sqlite.specs.Held.{state};
 ghost use Rattle.dict_store.specs.Desk.{Shows, LeavesOneOf};
-ghost use Rattle.dict_serving.specs.Serving.{IsNew, IsNone};
+ghost use Rattle.dict_serving.specs.Serving.{Follows, IsNew, IsNone};
 
 use dict_printed::{Fault, StoreFault};
 use dict_serving::Desks;
@@ -39,17 +40,6 @@ fn conn_over<D: Disk + Drop>(
     Ok(desk.into_connection())
 }
 
-// What a stop leaves of the same two disks, opened anew.
-fn opened_anew<D: Crash + Drop>(
-    alloc: Global,
-    conn: Connection<FileStore<D>>,
-) -> Option<Connection<FileStore<D>>> {
-    let mut files = conn.into_store().close();
-    files.log.crash();
-    files.db.crash();
-    Connection::open_files(alloc, files, options()).ok()
-}
-
 // The desk of the catalogue in a database.
 fn adopt<S: Alter + Drop>(alloc: Global, conn: Connection<S>) -> Result<Desk<S>, Fault<'static>>
     ensures { MatchResult result
@@ -65,12 +55,24 @@ fn adopt<S: Alter + Drop>(alloc: Global, conn: Connection<S>) -> Result<Desk<S>,
     }
 }
 
-/// The catalogue on two disks, whether the last desk over it was closed by a fault, and how often it was opened anew.
+// The desk over what a stop leaves of the disks of another.
+fn restart<D: Crash + Drop>(desk: Desk<FileStore<D>>) -> Result<Desk<FileStore<D>>, Fault<'static>>
+    ensures opened { MatchResult result
+        (IsNew (Shows over_files) (LeavesOneOf over_files) (λ desk. HasCleanDisk (file_state desk.conn)) (λ _. ⊤))
+        (IsNone (λ _. ⊤)) }
+    ensures follows { IfOk result (Follows (Shows over_files) (LeavesOneOf over_files) (λ desk. HasCleanDisk (file_state desk.conn)) desk) }
+{
+    match desk.restart(options()) {
+        Ok(desk) => Ok(desk),
+        Err((_, fault)) => Err(Fault::from(fault)),
+    }
+}
+
+/// The catalogue on two disks, and how often it was opened again.
 #[derive(Drop)]
 pub(crate) struct Disks<D: Crash + Drop> {
     alloc: Global,
     conn: Option<Connection<FileStore<D>>>,
-    has_failed: bool,
     pub(crate) reopened: u64,
 }
 
@@ -80,7 +82,6 @@ impl<D: Crash + Drop> Disks<D> {
         Ok(Disks {
             alloc,
             conn: Some(conn_over(alloc, files)?),
-            has_failed: false,
             reopened: 0,
         })
     }
@@ -93,24 +94,20 @@ impl<'w, D: Crash + Drop> Desks<'w, Desk<FileStore<D>>> for Disks<D> {
 
     ghost is_unopened = { λ _ _. ⊤ };
 
-    /// After a desk that was closed by a fault, what a stop leaves of the disks is opened.
     fn open(&mut self) -> Result<Desk<FileStore<D>>, Fault<'w>> {
-        let Some(conn) = self.conn.take() else {
-            return Err(Fault::Store(StoreFault::Closed));
-        };
-        if !self.has_failed {
-            return adopt(self.alloc, conn);
-        }
-        self.has_failed = false;
-        self.reopened = self.reopened.saturating_add(1);
-        match opened_anew(self.alloc, conn) {
+        match self.conn.take() {
             Some(conn) => adopt(self.alloc, conn),
-            None => Err(Fault::Store(StoreFault::Disk)),
+            None => Err(Fault::Store(StoreFault::Closed)),
         }
     }
 
+    /// What a stop leaves of the two disks is opened.
+    fn reopen(&mut self, desk: Desk<FileStore<D>>) -> Result<Desk<FileStore<D>>, Fault<'w>> {
+        self.reopened = self.reopened.saturating_add(1);
+        restart(desk)
+    }
+
     fn close(&mut self, desk: Desk<FileStore<D>>) {
-        self.has_failed = desk.is_closed();
         self.conn = Some(desk.into_connection());
     }
 }

@@ -1,4 +1,4 @@
-//! Runs of the statements over the small tables, over memory and over files that memory holds. A library with tests alone.
+//! Runs of the statements over each table, over memory and over files that memory holds. A library with tests alone.
 #![tactic(auto)]
 
 #[cfg(test)]

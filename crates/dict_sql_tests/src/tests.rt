@@ -1,18 +1,24 @@
-//! The statements of the small tables on their happy path, with other tables before and after them, and all tables made by one transaction.
+//! The statements of each table on their happy path, with other tables before and after them, and all tables made by one transaction.
 
 ghost use Rattle.std.specs.Prelude.{IsTrue, IfOk};
 ghost use Rattle.sqlite_disk.specs.Memory.{memory_is_usable};
 
 use dict_sql::commit::commit;
 use dict_sql::create::create_tables;
-use dict_tables::{StoreTable, has_room, has_table};
-use sqlite::{Alter, Connection, Error, FileStore, Files, Options};
+use dict_sql::drop::drop_table;
+use dict_sql::records::{ReadError, Record};
+use dict_sql::stream::next_record;
+use dict_tables::{StoreTable, has_room, has_table, is_name_used};
+use sqlite::{Alter, Connection, Error, FileStore, Files, Options, Rows};
 use sqlite_disk::Memory;
 use std::alloc::Global;
 use std::process::Abort;
 use std::test::Fail;
 
+mod editions;
+mod entries;
 mod items;
+mod kept;
 mod marks;
 mod members;
 mod tables;
@@ -24,6 +30,21 @@ fn raw<S: Alter>(conn: &mut Connection<S>, text: &str) -> Result<(), Error> {
 
 fn number<S: Alter>(conn: &mut Connection<S>, text: &str) -> Result<i64, Error> {
     conn.query_row(text, &[])?.get(0)
+}
+
+// The records that are still to come.
+fn rest<S: Alter, R: Record + Drop>(
+    alloc: Global,
+    rows: &mut Rows<'_, S>,
+) -> Result<Vec<R>, ReadError> {
+    let mut all = Vec::new(alloc);
+    'rows: for _ in 0..1000 {
+        match next_record(rows)? {
+            Some(record) => all.push(record)?,
+            None => return Ok(all),
+        }
+    }
+    Ok(all)
 }
 
 fn run<S: Alter>(rt: &impl Abort, alloc: Global, conn: &mut Connection<S>) -> Result<(), Fail> {
@@ -38,14 +59,33 @@ fn run<S: Alter>(rt: &impl Abort, alloc: Global, conn: &mut Connection<S>) -> Re
         conn,
         "CREATE TABLE last (b INTEGER PRIMARY KEY, c BLOB) STRICT; INSERT INTO last VALUES (1, x''), (2, NULL)",
     )?;
-    Ok(())
+    editions::run(rt, alloc, conn)?;
+    entries::run(rt, alloc, conn)?;
+    kept::run(rt, alloc, conn)
 }
 
-// The other tables stand.
-fn look<S: Alter>(rt: &impl Abort, conn: &mut Connection<S>) -> Result<(), Fail> {
+fn drop_kept<S: Alter>(conn: &mut Connection<S>) -> Result<(), Error> {
+    if !has_table(conn.schema(), StoreTable::Kept) || !conn.is_autocommit() {
+        return Err(Error::InvalidQuery);
+    }
+    let mut tx = conn.transaction();
+    drop_table(&mut tx, StoreTable::Kept)?;
+    commit(tx)
+}
+
+// The other tables stand where one is dropped, and a table that is not the product's is not taken for it.
+fn drop_and_look<S: Alter>(rt: &impl Abort, conn: &mut Connection<S>) -> Result<(), Fail> {
+    drop_kept(conn)?;
+    assert!(rt; !is_name_used(conn.schema(), b"kept"));
     assert_eq!(rt; number(conn, "SELECT count(*) FROM first")?, 1);
     assert_eq!(rt; number(conn, "SELECT count(*) FROM last")?, 2);
     assert_eq!(rt; number(conn, "SELECT count(*) FROM member")?, 3);
+    assert_eq!(rt; number(conn, "SELECT count(*) FROM entry")?, 4);
+    raw(
+        conn,
+        "CREATE TABLE kept (id TEXT NOT NULL PRIMARY KEY, number INTEGER NOT NULL UNIQUE) STRICT",
+    )?;
+    assert!(rt; !has_table(conn.schema(), StoreTable::Kept));
     Ok(())
 }
 
@@ -81,7 +121,7 @@ fn in_memory(rt: HostRuntime) -> Result<(), Fail> {
     let alloc = rt.alloc();
     let mut conn = Connection::open_in_memory(alloc)?;
     run(&rt, alloc, &mut conn)?;
-    look(&rt, &mut conn)
+    drop_and_look(&rt, &mut conn)
 }
 
 fn open(alloc: Global, log: Memory, db: Memory) -> Result<Connection<FileStore<Memory>>, Error>
@@ -108,5 +148,5 @@ fn over_files(rt: HostRuntime) -> Result<(), Fail> {
     let mut conn = open(alloc, Memory::new(alloc), Memory::new(alloc))?;
     run(&rt, alloc, &mut conn)?;
     let mut again = open(alloc, Memory::new(alloc), close(conn)?)?;
-    look(&rt, &mut again)
+    drop_and_look(&rt, &mut again)
 }

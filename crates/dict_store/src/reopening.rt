@@ -1,5 +1,5 @@
 // A desk over files that are opened, and over what a stop left of them.
-ghost use Rattle.std.specs.Prelude.{◌≡◌, ◌⊎◌, ℕ, List, [], ◌∷◌, Some, IfOk, IfErr, IsTrue};
+ghost use Rattle.std.specs.Prelude.{◌≡◌, ◌⊎◌, ℕ, List, [], ◌∷◌, Option, Some, IfOk, IfErr, IsTrue};
 ghost use Rattle.sqlite.specs.State.{HasCleanDisk};
 ghost use Rattle.sqlite.specs.Files.{file_state, over_files};
 ghost use Rattle.sqlite.specs.FileStore as store;
@@ -12,18 +12,22 @@ ghost use Rattle.dict_catalogue.specs.Steps.{Catalogue, Request};
 ghost use Rattle.dict_file.specs.Holds.{Rests};
 ghost use Rattle.dict_store.specs.Desk.{Shows, LeavesOneOf};
 ghost use Rattle.dict_store.specs.Promise.{HoldsFront};
-ghost use Rattle.dict_store.specs.Reopened.{fault_of_files, IsIn, HoldsFrontIn, IsUnopened, IsUnopenedFrom, LeavesFront, ShowsFront};
+ghost use Rattle.dict_store.specs.Adopted.{IsAdopted};
+ghost use Rattle.dict_store.specs.Reopened.{fault_of_files, IsIn, HoldsFrontIn, IsOpenedOver, IsUnopened, IsUnopenedFrom, IsUnopenedOver, IsUnreopened, LeavesFront, ShowsFront, ShowsOneOf};
 
 use crate::desk::Desk;
 use dict_desk::Fault;
-use sqlite::{Connection, Error, ErrorCode, FileFrom, FileStore, Leftover, Options, Start};
+use sqlite::{Connection, Error, ErrorCode, FileFrom, FileStore, Files, Leftover, Options, Start};
 use sqlite_disk::{Crash, Disk};
+use std::alloc::Global;
 
 /// What is handed back where no desk was opened.
 #[derive(Drop)]
 pub enum Unopened<D: Disk + Drop> {
     /// No connection was opened, and this is left of the files, where they were opened.
     Files(Option<Leftover<D>>),
+    /// Two files, of which a sync has failed: what was written to them may be lost with no further error, so they are not opened again.
+    Spent(Files<D>),
     /// The connection, in no transaction, whose database is none of a catalogue, or couldn't be read.
     Database(Connection<FileStore<D>>),
 }
@@ -36,6 +40,29 @@ fn fault_of_files(error: &Error) -> Fault
     match error {
         Error::SqliteFailure(ErrorCode::OutOfMemory) => Fault::Memory,
         _ => Fault::NotACatalogue,
+    }
+}
+
+// A desk over two files, of which the last commit is recovered.
+fn open_over<D: Disk + Drop>(
+    alloc: Global,
+    files: Files<D>,
+    options: Options,
+) -> Result<Desk<FileStore<D>>, (Unopened<D>, Fault)>
+    requires log { IsTrue (D.Disk.is_usable files.log) }
+    requires db { IsTrue (D.Disk.is_usable files.db) }
+    ensures opened { IfOk result (IsOpenedOver files) }
+    ensures unopened { IfErr result (λ left. IsUnopenedOver files left.0 left.1) }
+{
+    let conn = match Connection::open_files(alloc, files, options) {
+        Ok(conn) => conn,
+        Err((error, left)) => {
+            return Err((Unopened::Files(Some(left)), fault_of_files(&error)));
+        }
+    };
+    match Desk::adopt(alloc, conn) {
+        Ok(desk) => Ok(desk),
+        Err((conn, fault)) => Err((Unopened::Database(conn), fault)),
     }
 }
 
@@ -66,6 +93,26 @@ impl<S: Start> Desk<FileStore<FileFrom<S>>> {
     }
 }
 
+impl<D: Disk + Drop> Desk<FileStore<D>> {
+    /// Closes a desk, and opens its two files again, of which the last commit is recovered: for a desk whose store failed. The
+    /// files are never let go of. The catalogue that is shown is one of those that a stop could have left of the desk.
+    ///
+    /// Where a sync of a file has failed, the fault is `Disk`. Where no connection is opened, it is `Memory` for memory and else
+    /// `NotACatalogue`. The others are those of `adopt`.
+    pub fn reopen(self, options: Options) -> Result<Desk<FileStore<D>>, (Unopened<D>, Fault)>
+        ensures adopted { IfOk result (λ desk. (conn : _) × IsAdopted over_files conn desk) }
+        ensures follows { IfOk result (λ desk. HasCleanDisk (file_state desk.conn) → (ms : List (Option Catalogue)) → LeavesOneOf over_files self ms → ∥ ShowsOneOf over_files desk ms ∥₁) }
+        ensures unopened { IfErr result (λ left. IsUnreopened self left.0 left.1) }
+    {
+        let alloc = self.alloc;
+        let files = self.into_connection().into_store().close();
+        if !files.may_be_used() {
+            return Err((Unopened::Spent(files), Fault::Disk));
+        }
+        open_over(alloc, files, options)
+    }
+}
+
 impl<D: Crash + Drop> Desk<FileStore<D>> {
     /// Stops the desk, and opens it again over what its two files hold after the stop: for runs that span a stop.
     ///
@@ -73,6 +120,8 @@ impl<D: Crash + Drop> Desk<FileStore<D>> {
     /// the others are those of `adopt`.
     pub fn restart(self, options: Options) -> Result<Desk<FileStore<D>>, (Unopened<D>, Fault)>
         ensures shows { IfOk result (λ desk. HasCleanDisk (file_state desk.conn) → (before : Catalogue) (requests : List Request) (answered : ℕ) → LeavesFront over_files self before requests answered → ∥ ShowsFront over_files desk before requests answered ∥₁) }
+        ensures adopted { IfOk result (λ desk. (conn : _) × IsAdopted over_files conn desk) }
+        ensures follows { IfOk result (λ desk. HasCleanDisk (file_state desk.conn) → (ms : List (Option Catalogue)) → LeavesOneOf over_files self ms → ∥ ShowsOneOf over_files desk ms ∥₁) }
         ensures only { IfOk result (λ desk. (M : Catalogue) → Shows over_files desk M → LeavesOneOf over_files desk (Some M ∷ [])) }
         ensures unopened { IfErr result (λ left. IsUnopenedFrom over_files self left.0 left.1) }
     {
@@ -80,16 +129,7 @@ impl<D: Crash + Drop> Desk<FileStore<D>> {
         let mut files = self.into_connection().into_store().close();
         files.log.crash();
         files.db.crash();
-        let conn = match Connection::open_files(alloc, files, options) {
-            Ok(conn) => conn,
-            Err((error, left)) => {
-                return Err((Unopened::Files(Some(left)), fault_of_files(&error)));
-            }
-        };
-        match Desk::adopt(alloc, conn) {
-            Ok(desk) => Ok(desk),
-            Err((conn, fault)) => Err((Unopened::Database(conn), fault)),
-        }
+        open_over(alloc, files, options)
     }
 }
 

@@ -9,7 +9,7 @@ use crate::shown::{Rows, shown};
 use dict_catalogue::{Command, Kept, Refusal};
 use dict_desk::{Fault, Keeper, Lookup, PlainDesk, What};
 use dict_match::{Strategy, key_of};
-use dict_store::{Desk, apply_to_file};
+use dict_store::{Desk, Unopened, apply_to_file};
 use sqlite::{Alter, Connection, FileStore, Files, Options};
 use sqlite_disk::{Crash, Disk, Fuse, Memory};
 use std::alloc::Global;
@@ -427,4 +427,77 @@ fn a_failure_of_each_call_of_the_file(rt: HostRuntime) -> Result<(), Fail> {
         goes_on: true,
     };
     sweep_cases(&rt, rt.alloc(), mode)
+}
+
+/// What a command met over files of which one fails.
+#[derive(Clone, Copy, PartialEq, Eq)]
+enum Met {
+    /// The failure came before there was a desk.
+    NoDesk,
+    /// The same files were opened again.
+    Reopened,
+    /// They were not, since a sync had failed.
+    Spent,
+    /// No failure.
+    Nothing,
+}
+
+// The desk of a failed command, over the same files.
+fn opened_again(rt: &impl Abort, desk: Desk<FileStore<Failing>>) -> Result<Met, Fail> {
+    match desk.reopen(options()) {
+        Ok(desk) => {
+            assert!(rt; !desk.is_closed());
+            assert_eq!(rt; desk.summary()?.installs, 1);
+            Ok(Met::Reopened)
+        }
+        Err((Unopened::Spent(_), fault)) => {
+            assert_eq!(rt; fault, Fault::Disk);
+            Ok(Met::Spent)
+        }
+        Err(_) => Err("not opened again")?,
+    }
+}
+
+// An edition is retired, and the log fails at this call.
+fn retired_over(
+    rt: &impl Abort,
+    alloc: Global,
+    made: &Files<Memory>,
+    call: u64,
+) -> Result<Met, Fail> {
+    let files = Files {
+        log: disk(alloc, made.log.bytes(), call, true)?,
+        db: disk(alloc, made.db.bytes(), u64::MAX, true)?,
+    };
+    if !files.may_be_used() {
+        return Err("fresh")?;
+    }
+    let Ok(conn) = Connection::open_files(alloc, files, options()) else {
+        return Ok(Met::NoDesk);
+    };
+    let Ok(mut desk) = desk_over(alloc, conn, false) else {
+        return Ok(Met::NoDesk);
+    };
+    match desk.apply("r", &Command::Retire { name: "gem" }) {
+        Ok(_) => Ok(Met::Nothing),
+        Err(_) => opened_again(rt, desk),
+    }
+}
+
+#[test]
+fn the_same_files_after_a_failure(rt: HostRuntime) -> Result<(), Fail> {
+    let alloc = rt.alloc();
+    let made = made(alloc, &[("a", Asked::Gems("gem"))])?;
+    let mut reopened = 0u64;
+    let mut spent = 0u64;
+    'calls: for call in 0..5_000u64 {
+        match retired_over(&rt, alloc, &made, call)? {
+            Met::NoDesk => {}
+            Met::Reopened => reopened = reopened.saturating_add(1),
+            Met::Spent => spent = spent.saturating_add(1),
+            Met::Nothing => break 'calls,
+        }
+    }
+    assert!(rt; reopened > 0 && spent > 0, "{reopened} {spent}");
+    Ok(())
 }

@@ -56,7 +56,8 @@ waiting_not_1 why fault tells e =
 
 pub ends_not_1 : (Unopened : Fault → Type 0) (fault : Fault) → Ends {A = Unit {0}} Unopened (Err fault) → 1 ≡ status_of fault → ⊥
 ends_not_1 Unopened fault (inl (why, tells)) e = waiting_not_1 why fault tells e
-ends_not_1 Unopened fault (inr (none, of)) e = file_not_1 fault of e
+ends_not_1 Unopened fault (inr (inl (none, of))) e = file_not_1 fault of e
+ends_not_1 Unopened fault (inr (inr is)) e = omega (arith, e, ap status_of is)
 
 pub memory_by_status : (fault : Fault) → 4 ≡ status_of fault → fault ≡ Memory
 memory_by_status (Line refusal line) e = absurd (omega (arith, e))

@@ -1,18 +1,14 @@
 -- What comes of work over the desk of a file's catalogue.
-use Rattle.std.specs.Prelude.{◌≡◌, ◌⊎◌, ℕ, List, [], ◌∷◌, Option, Some, None, Result, Err, codes}
-use Rattle.sqlite.specs.State.{HasCleanDisk, Survives}
+use Rattle.std.specs.Prelude.{◌≡◌, ◌⊎◌, ℕ, List, Option, Result, Err, codes}
+use Rattle.sqlite.specs.State.{HasCleanDisk}
 use Rattle.sqlite.specs.Held.{Held, state}
 use Rattle.sqlite_trees.specs.declared.store.Store.{Ghosts}
 use Rattle.dict_catalogue.specs.Commands.{Command}
-use Rattle.dict_catalogue.specs.Steps.{Catalogue}
 use Rattle.dict_desk.specs.declared.fault.Fault.{Fault as DeskFault}
-use Rattle.dict_file.specs.Holds.{Rests}
-use Rattle.dict_opening.specs.Reading.{IsOfOpening}
 use Rattle.dict_index.specs.Edition.{Edition}
 use Rattle.dict_io.specs.Streams.{Change}
 use Rattle.dict_store.specs.Desk.{DeskState, Shows, LeavesOneOf}
-use Rattle.dict_store.specs.Opened.{IsTold, IsNotHeld}
-use Rattle.dict_store.specs.declared.last.Last.TheVariants.{Fine}
+use Rattle.dict_store.specs.Adopted.{IsAdopted, IsNotAdopted}
 use Rattle.dict_printed.specs.Faults.{told_of}
 use Rattle.dict_printed.specs.Writing.{IsUntouched, Writes}
 use Rattle.dict_printed.specs.declared.fault.Fault.{Fault}
@@ -22,29 +18,14 @@ use Rattle.dict_tasks.specs.Listed.{IsListed}
 use Rattle.dictcat_lib.specs.Opening.{IsUnopened}
 
 module _ {S : Type 0} (g : Ghosts S) where
-  -- The database holds a catalogue, which the desk over it shows, and a stop leaves that one alone. Nothing was written.
-  pub record IsAdopted (conn : Held S) (desk : DeskState S) : Type 0 where
-    pub fine : desk.last ≡ Fine
-    pub shows : HasCleanDisk (state g desk.conn) → (M : Catalogue) × Rests 1 (state g desk.conn) M × Shows g desk M
-    pub only : (M : Catalogue) → Shows g desk M → LeavesOneOf g desk (Some M ∷ [])
-    pub same : HasCleanDisk (state g desk.conn) → (state g desk.conn).committed ≡ (state g conn).committed
-    pub spares : Survives (state g (record conn { step_limit = None })) (state g desk.conn) (λ _. ⊥)
-
-  -- The database holds none, and the fault tells why; or it couldn't be told. The fault is one of an opening. Nothing was written.
-  pub record IsNotAdopted (conn left : Held S) (fault : DeskFault) : Type 0 where
-    pub kind : IsOfOpening fault
-    pub told : HasCleanDisk (state g left) → IsTold (state g conn).now fault
-    pub not_held : HasCleanDisk (state g left) → IsNotHeld (state g conn).now fault
-    pub adds_none : Survives (state g (record conn { step_limit = None })) (state g left) (λ _. ⊥)
-
   -- the desk of the catalogue in the database that a file was opened as
   abbrev pub IsDesk : DeskState S → Type 0
-  IsDesk desk = (conn : Held S) × IsAdopted conn desk
+  IsDesk desk = (conn : Held S) × IsAdopted g conn desk
 
   -- why there is none, as the program tells it
   abbrev pub IsNoDesk : List ℕ → Fault → Type 0
   IsNoDesk path fault = IsUnopened path fault
-      ⊎ ((conn : Held S) × ((left : Held S) × (why : DeskFault) × (fault ≡ told_of why) × IsNotAdopted conn left why))
+      ⊎ ((conn : Held S) × ((left : Held S) × (why : DeskFault) × (fault ≡ told_of why) × IsNotAdopted g conn left why))
 
   -- what the desk stands on has returned what was written
   abbrev pub IsTrusted : DeskState S → Type 0

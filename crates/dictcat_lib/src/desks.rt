@@ -1,16 +1,17 @@
 // Work over the desk of a file's catalogue.
-ghost use Rattle.std.specs.Prelude.{MatchResult};
+ghost use Rattle.std.specs.Prelude.{IfOk, MatchResult};
 ghost use Rattle.dict_io.specs.Streams.{change};
 ghost use Rattle.dict_catalogue.specs.Views.{command_meant};
 ghost use Rattle.dict_store.specs.Desk.{Shows, LeavesOneOf};
-ghost use Rattle.dict_serving.specs.Serving.{IsNew, IsNone};
+ghost use Rattle.dict_serving.specs.Serving.{Follows, IsNew, IsNone, IsNotReopened};
 ghost use Rattle.dictcat_lib.specs.Desks.{IsDesk, IsNoDesk, IsTrusted, ListEnds, AuditEnds, ChangeEnds, InstallsOn};
 
-use crate::stores::{close_file, open_file};
+use crate::stores::{close_file, open_file, options};
 use dict_catalogue::Command;
+use dict_desk::Fault as DeskFault;
 use dict_io::Sink;
 use dict_printed::Fault;
-use dict_store::Desk;
+use dict_store::{Desk, Unopened};
 use dict_tasks::{InputFiles, Wanted, change, install, list};
 use sqlite::{File, FileStore};
 use sqlite_trees::store::Store;
@@ -28,6 +29,33 @@ pub(crate) fn open_desk<'w>(
     match Desk::adopt(rt.alloc(), conn) {
         Ok(desk) => Ok(desk),
         Err((conn, fault)) => {
+            close_file(conn);
+            Err(Fault::from(fault))
+        }
+    }
+}
+
+// The desk of the same file, which is opened again, after this one's store failed.
+pub(crate) fn reopen_desk<'w>(
+    rt: &HostRuntime,
+    file: &'w str,
+    desk: Desk<FileStore<File>>,
+) -> Result<Desk<FileStore<File>>, Fault<'w>>
+    ensures opened { MatchResult result
+        (IsNew (Shows ⟦<FileStore<File> as Store>⟧) (LeavesOneOf ⟦<FileStore<File> as Store>⟧) (IsTrusted ⟦<FileStore<File> as Store>⟧) (IsDesk ⟦<FileStore<File> as Store>⟧))
+        (IsNotReopened (IsNoDesk ⟦<FileStore<File> as Store>⟧ file.entry.now)) }
+    ensures follows { IfOk result (Follows (Shows ⟦<FileStore<File> as Store>⟧) (LeavesOneOf ⟦<FileStore<File> as Store>⟧) (IsTrusted ⟦<FileStore<File> as Store>⟧) desk) }
+{
+    let Some(options) = options(rt) else {
+        close_file(desk.into_connection());
+        return Err(Fault::CannotRead(file));
+    };
+    match desk.reopen(options) {
+        Ok(desk) => Ok(desk),
+        Err((Unopened::Files(_), DeskFault::Memory)) => Err(Fault::Memory),
+        Err((Unopened::Files(_), _)) => Err(Fault::CannotRead(file)),
+        Err((Unopened::Spent(_), fault)) => Err(Fault::from(fault)),
+        Err((Unopened::Database(conn), fault)) => {
             close_file(conn);
             Err(Fault::from(fault))
         }

@@ -2,7 +2,7 @@
 ghost use Rattle.dict_io.specs.Streams.{change};
 ghost use Rattle.dictcat_lib.specs.Serving.{ServesOn};
 
-use crate::desks::open_desk;
+use crate::desks::{open_desk, reopen_desk};
 use crate::stores::close_file;
 use dict_io::Sink;
 use dict_printed::Fault;
@@ -29,6 +29,10 @@ impl<'w> Desks<'w, Desk<FileStore<File>>> for CatalogueFile<'_, 'w> {
 
     fn open(&mut self) -> Result<Desk<FileStore<File>>, Fault<'w>> {
         open_desk(self.rt, self.path)
+    }
+
+    fn reopen(&mut self, desk: Desk<FileStore<File>>) -> Result<Desk<FileStore<File>>, Fault<'w>> {
+        reopen_desk(self.rt, self.path, desk)
     }
 
     fn close(&mut self, desk: Desk<FileStore<File>>) {

@@ -3,8 +3,9 @@ ghost use Rattle.std.specs.Prelude.{◌≡◌, false, IfOk, IfErr};
 ghost use Rattle.dictcat_lib.specs.Opening.{IsUnopened};
 
 use dict_printed::Fault;
-use sqlite::{Connection, Error, ErrorCode, File, FileStore};
+use sqlite::{Connection, Error, ErrorCode, File, FileStore, Options};
 use std::fs;
+use std::hash::{BuildHasher, RandomState};
 use std::io::ErrorKind;
 
 // The database of one file of the machine.
@@ -38,4 +39,10 @@ pub(crate) fn make_file<'w>(rt: &HostRuntime, path: &'w str) -> Result<Database,
 // Closes a file, so that what was committed stands in it alone. Where that fails, it stands in its log too.
 pub(crate) fn close_file(conn: Database) {
     let _ = conn.close();
+}
+
+// How files are opened again, with a random number for the log; none where the system gives none.
+pub(crate) fn options(rt: &HostRuntime) -> Option<Options> {
+    let state = RandomState::new(rt).ok()?;
+    Some(Options::new(state.hash_one(&0u8)))
 }

@@ -36,6 +36,10 @@ fn after_a_stop(rt: HostRuntime) -> Result<(), Fail> {
         return Err("not opened again")?;
     };
     assert_eq!(rt; desk.summary()?.items.len(), 1);
+    let Ok(desk) = desk.reopen(Options::new(2)) else {
+        return Err("not opened once more")?;
+    };
+    assert_eq!(rt; desk.summary()?.items.len(), 1);
     Ok(())
 }
 

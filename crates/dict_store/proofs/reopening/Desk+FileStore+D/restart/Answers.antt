@@ -1,37 +1,42 @@
-use Rattle.std.proofs.Common.{take, subst, sym, arith}
-use Rattle.std.proofs.Math.Logic.{∥∥₁_map, ∥∥₁_elim}
+use Rattle.std.proofs.Common.{◌≡◌, List, subst}
+use Rattle.std.proofs.lemmas.Result.{IfOk-weaker, IfErr-weaker}
 use Rattle.sqlite_disk.specs.declared.Files.{Files}
-use Rattle.sqlite.specs.Tree.{Trees}
 use Rattle.sqlite.specs.State.{HasCleanDisk}
-use Rattle.sqlite.specs.Files.{file_state}
-use Rattle.dict_catalogue.specs.Steps.{after}
-use Rattle.dict_file.specs.Holds.{IsLeft}
-use Rattle.dict_store.specs.Promise.{HoldsFront}
-use Rattle.dict_store.proofs.ReopenLemmas.{restarted}
+use Rattle.sqlite.specs.Files.{file_state, Finds, IsOpened}
+use Rattle.sqlite.specs.Held.{Held}
+use Rattle.sqlite_store.specs.declared.store.FileStore.{FileStore}
+use Rattle.dict_store.proofs.ReopenLemmas.{restarted, shows_front, shows_one_of, unopened_by}
 use Rattle.dict_store.proofs.reopening.Desk+FileStore+D.restart.Goals as goal
 
-pub returns-in-Ok-adopt-clause-shows : goal.returns-in-Ok-adopt-clause-shows
-returns-in-Ok-adopt-clause-shows g c = λ clean before requests answered leaves.
-    let stopped : Files _ = record { log = c.crash.new.self; db = c.crash-2.new.self } in
-    let early : HasCleanDisk (file_state c.in-Ok.conn) = omega (arith, c.in-Ok-adopt.ensures.spares.clean, clean) in
-    let there = subst (λ conn. HasCleanDisk (file_state conn) → (trees : Trees) → (file_state conn).may_leave trees → HoldsFront before requests answered trees) (sym c.into_connection.ensures.same) leaves in
-    ∥∥₁_map (restarted c.into_connection.result c.into_store.result c.close-files.result stopped c.in-Ok.conn c.into_store.ensures.numbered c.into_store.ensures.sound c.into_store.ensures.quiet
-    c.close-files.ensures c.crash.ensures.clean c.crash-2.ensures.clean c.crash.ensures.left c.crash-2.ensures.left c.in-Ok.ensures.found early)
-    (λ both. let h = there both.0 (file_state c.in-Ok.conn).committed.trees both.1 in (h.0, h.1, h.2, c.in-Ok-adopt.ensures.left clean (after before (take h.0 requests)) h.3.left))
+pub returns-clause-adopted : goal.returns-clause-adopted
+returns-clause-adopted g c = IfOk-weaker c.open_over.result _ _ (λ next over. (over.conn, over.adopted)) c.open_over.ensures.opened
 
-pub returns-in-Err-adopt-clause-unopened : goal.returns-in-Err-adopt-clause-unopened
-returns-in-Err-adopt-clause-unopened g c = (
-  c.in-Err-adopt.ensures.handed,
-  c.in-Err-adopt.ensures.kinds,
-  λ clean before requests answered leaves.
-      let stopped : Files _ = record { log = c.crash.new.self; db = c.crash-2.new.self } in
-      let early : HasCleanDisk (file_state c.in-Ok.conn) = omega (arith, c.in-Err-adopt.ensures.adds_none.clean, clean) in
-      let opened = (c.in-Ok.ensures.opened early).0 in
-      let there = subst (λ conn. HasCleanDisk (file_state conn) → (trees : Trees) → (file_state conn).may_leave trees → HoldsFront before requests answered trees) (sym c.into_connection.ensures.same) leaves in
-      let found = restarted c.into_connection.result c.into_store.result c.close-files.result stopped c.in-Ok.conn c.into_store.ensures.numbered c.into_store.ensures.sound c.into_store.ensures.quiet
-      c.close-files.ensures c.crash.ensures.clean c.crash-2.ensures.clean c.crash.ensures.left c.crash-2.ensures.left c.in-Ok.ensures.found early in
-      let never = λ (both : HasCleanDisk (file_state c.into_connection.result) × (file_state c.into_connection.result).may_leave (file_state c.in-Ok.conn).committed.trees).
-      let h = there both.0 (file_state c.in-Ok.conn).committed.trees both.1 in
-      c.in-Err-adopt.ensures.not_left clean opened.is_open (after before (take h.0 requests)) (subst (λ db. IsLeft 1 (after before (take h.0 requests)) db.trees) (sym opened.clean) h.3.left) in
-      (λ is. ∥∥₁_elim found (λ x y. absurd x) (λ both. (never both).0 is), λ is. ∥∥₁_elim found (λ x y. absurd x) (λ both. (never both).1 is), λ is. ∥∥₁_elim found (λ x y. absurd x) (λ both. (never both).2 is)),
-)
+pub returns-clause-only : goal.returns-clause-only
+returns-clause-only g c = IfOk-weaker c.open_over.result _ _ (λ next over. over.adopted.only) c.open_over.ensures.opened
+
+pub returns-clause-shows : goal.returns-clause-shows
+returns-clause-shows g c =
+    let stopped : Files _ = record { log = c.crash.new.self; db = c.crash-2.new.self } in
+    let may = λ (conn : Held (FileStore _ _)) (opened : HasCleanDisk (file_state conn) → IsOpened conn × Finds stopped conn) (clean : HasCleanDisk (file_state conn)).
+    subst (λ (h : Held (FileStore _ _)). ∥ HasCleanDisk (file_state h) × (file_state h).may_leave (file_state conn).committed.trees ∥₁) c.into_connection.ensures.same
+    (restarted c.into_connection.result c.into_store.result c.close-files.result stopped conn c.into_store.ensures.numbered c.into_store.ensures.sound c.into_store.ensures.quiet
+    c.close-files.ensures c.crash.ensures.clean c.crash-2.ensures.clean c.crash.ensures.left c.crash-2.ensures.left (λ honest. (opened honest).1) clean) in
+    IfOk-weaker c.open_over.result _ _ (λ next over clean before requests answered leaves. shows_front c.args.self stopped may next over clean before requests answered leaves) c.open_over.ensures.opened
+
+pub returns-clause-follows : goal.returns-clause-follows
+returns-clause-follows g c =
+    let stopped : Files _ = record { log = c.crash.new.self; db = c.crash-2.new.self } in
+    let may = λ (conn : Held (FileStore _ _)) (opened : HasCleanDisk (file_state conn) → IsOpened conn × Finds stopped conn) (clean : HasCleanDisk (file_state conn)).
+    subst (λ (h : Held (FileStore _ _)). ∥ HasCleanDisk (file_state h) × (file_state h).may_leave (file_state conn).committed.trees ∥₁) c.into_connection.ensures.same
+    (restarted c.into_connection.result c.into_store.result c.close-files.result stopped conn c.into_store.ensures.numbered c.into_store.ensures.sound c.into_store.ensures.quiet
+    c.close-files.ensures c.crash.ensures.clean c.crash-2.ensures.clean c.crash.ensures.left c.crash-2.ensures.left (λ honest. (opened honest).1) clean) in
+    IfOk-weaker c.open_over.result _ _ (λ next over clean ms leaves. shows_one_of c.args.self stopped may next over clean ms leaves) c.open_over.ensures.opened
+
+pub returns-clause-unopened : goal.returns-clause-unopened
+returns-clause-unopened g c =
+    let stopped : Files _ = record { log = c.crash.new.self; db = c.crash-2.new.self } in
+    let may = λ (conn : Held (FileStore _ _)) (opened : HasCleanDisk (file_state conn) → IsOpened conn × Finds stopped conn) (clean : HasCleanDisk (file_state conn)).
+    subst (λ (h : Held (FileStore _ _)). ∥ HasCleanDisk (file_state h) × (file_state h).may_leave (file_state conn).committed.trees ∥₁) c.into_connection.ensures.same
+    (restarted c.into_connection.result c.into_store.result c.close-files.result stopped conn c.into_store.ensures.numbered c.into_store.ensures.sound c.into_store.ensures.quiet
+    c.close-files.ensures c.crash.ensures.clean c.crash-2.ensures.clean c.crash.ensures.left c.crash-2.ensures.left (λ honest. (opened honest).1) clean) in
+    IfErr-weaker c.open_over.result _ _ (λ left over. unopened_by c.args.self stopped may left.0 left.1 over) c.open_over.ensures.unopened

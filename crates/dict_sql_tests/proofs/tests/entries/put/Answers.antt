@@ -2,8 +2,8 @@ use Rattle.std.proofs.Common.{◌≡◌, arith, rules, subst, sym, OnOk, codes}
 use Rattle.sqlite.specs.State.{HasCleanDisk}
 use Rattle.sqlite.specs.Held.{state}
 use Rattle.dict_sql.specs.Effects.{HasApartRowids, rows_of}
-use Rattle.dict_sql.proofs.Callers.{apart_removed, after_commit}
-use Rattle.dict_stream_tests.proofs.tests.entries.remove.Goals as goal
+use Rattle.dict_sql.proofs.Callers.{apart_added, after_commit}
+use Rattle.dict_sql_tests.proofs.tests.entries.put.Goals as goal
 
 pub returns : goal.returns
 returns g c clean =
@@ -11,9 +11,9 @@ returns g c clean =
     let end = c.commit.new.tx.0 in
     let same : end ≡ c.conn-2-1.given.0 = search rules in
     let done : HasCleanDisk (state g.S.Store end) = search rules in
-    let late : HasCleanDisk (state g.S.Store c.delete_entries.new.tx.conn.now) = omega (arith, c.commit.ensures.survives.clean, done) in
-    let early : HasCleanDisk (state g.S.Store c.transaction-tx.result.conn.now) = omega (arith, c.delete_entries.ensures.survives.clean, late) in
+    let late : HasCleanDisk (state g.S.Store c.insert_entry.new.tx.conn.now) = omega (arith, c.commit.ensures.survives.clean, done) in
+    let early : HasCleanDisk (state g.S.Store c.transaction-tx.result.conn.now) = omega (arith, c.insert_entry.ensures.survives.clean, late) in
     let apart = c.requires (subst (λ h. HasCleanDisk (state g.S.Store h)) began early) in
     let start = subst (λ h. HasApartRowids (rows_of (codes "entry") (state g.S.Store h).now)) (sym began) apart in
     subst (λ h. OnOk c.commit.result (HasApartRowids (rows_of (codes "entry") (state g.S.Store h).now))) same
-    (after_commit (codes "entry") c.commit.result _ _ (c.commit.ensures.committed done) (apart_removed (codes "entry") _ _ _ (c.in_ok-delete_entries.ensures.removed late).0 start))
+    (after_commit (codes "entry") c.commit.result _ _ (c.commit.ensures.committed done) (apart_added (codes "entry") _ _ _ (c.in_ok-insert_entry.ensures.added late).0 start))

@@ -1,0 +1,28 @@
+use Rattle.std.proofs.Common.{◌≡◌, List, subst}
+use Rattle.std.proofs.lemmas.Result.{IfOk-weaker, IfErr-weaker}
+use Rattle.sqlite_disk.specs.declared.Files.{Files}
+use Rattle.sqlite.specs.State.{HasCleanDisk}
+use Rattle.sqlite.specs.Files.{file_state, Finds, IsOpened}
+use Rattle.sqlite.specs.Held.{Held}
+use Rattle.sqlite_store.specs.declared.store.FileStore.{FileStore}
+use Rattle.dict_store.proofs.ReopenLemmas.{restarted, shows_one_of, unreopened_by}
+use Rattle.dict_store.proofs.reopening.Desk+FileStore+D.reopen.Goals as goal
+
+pub returns-clause-adopted : goal.returns-clause-adopted
+returns-clause-adopted g c = IfOk-weaker c.open_over.result _ _ (λ next over. (over.conn, over.adopted)) c.open_over.ensures.opened
+
+pub returns-clause-follows : goal.returns-clause-follows
+returns-clause-follows g c =
+    let may = λ (conn : Held (FileStore _ _)) (opened : HasCleanDisk (file_state conn) → IsOpened conn × Finds c.close-files.result conn) (clean : HasCleanDisk (file_state conn)).
+    subst (λ (h : Held (FileStore _ _)). ∥ HasCleanDisk (file_state h) × (file_state h).may_leave (file_state conn).committed.trees ∥₁) c.into_connection.ensures.same
+    (restarted c.into_connection.result c.into_store.result c.close-files.result c.close-files.result conn c.into_store.ensures.numbered c.into_store.ensures.sound c.into_store.ensures.quiet
+    c.close-files.ensures (λ h. h) (λ h. h) (g.D.Disk.seen_may_stay _) (g.D.Disk.seen_may_stay _) (λ honest. (opened honest).1) clean) in
+    IfOk-weaker c.open_over.result _ _ (λ next over clean ms leaves. shows_one_of c.args.self c.close-files.result may next over clean ms leaves) c.open_over.ensures.opened
+
+pub returns-clause-unopened : goal.returns-clause-unopened
+returns-clause-unopened g c =
+    let may = λ (conn : Held (FileStore _ _)) (opened : HasCleanDisk (file_state conn) → IsOpened conn × Finds c.close-files.result conn) (clean : HasCleanDisk (file_state conn)).
+    subst (λ (h : Held (FileStore _ _)). ∥ HasCleanDisk (file_state h) × (file_state h).may_leave (file_state conn).committed.trees ∥₁) c.into_connection.ensures.same
+    (restarted c.into_connection.result c.into_store.result c.close-files.result c.close-files.result conn c.into_store.ensures.numbered c.into_store.ensures.sound c.into_store.ensures.quiet
+    c.close-files.ensures (λ h. h) (λ h. h) (g.D.Disk.seen_may_stay _) (g.D.Disk.seen_may_stay _) (λ honest. (opened honest).1) clean) in
+    IfErr-weaker c.open_over.result _ _ (λ left over. unreopened_by c.args.self c.close-files.result may left.0 left.1 over) c.open_over.ensures.unopened
