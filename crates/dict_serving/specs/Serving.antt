@@ -65,7 +65,7 @@ IsFirst desk (one ∷ others) = one.opened ≡ desk
 -- A desk shows one of the catalogues that a stop could have left of another: this is told where what it stands on has returned what was
 -- written to it
 abbrev pub Follows : {K : Type 0} → (K → Catalogue → Type 0) → (K → List (Option Catalogue) → Type 0) → (K → Type 0) → K → K → Type 0
-Follows Shows LeavesOneOf IsTrusted old new = IsTrusted new → (ms : List (Option Catalogue)) → LeavesOneOf old ms → ∥ (M : Catalogue) × Contains ms (Some M) × Shows new M ∥₁
+Follows Shows LeavesOneOf IsTrusted old new = IsTrusted new → (ms : List (Option Catalogue)) → LeavesOneOf old ms → ∥ ((M : Catalogue) × Contains ms (Some M) × Shows new M) ∥₁
 
 -- all rounds were made, or sockets couldn't be waited for, or the file couldn't be opened again
 abbrev pub Ends : {A : Type 0} → (Fault → Type 0) → Result A Fault → Type 0

@@ -53,12 +53,6 @@ front_in it before requests answered left numbered each may =
     let sound : AreDatabases (recovers it) = λ trees found. let whole = (each trees found).3.left in (whole.0.schema, subst (IsSound whole.0.schema) (sym whole.1) whole.2) in
     ∥∥₁_map (opens_again it numbered sound left may) (λ db. let h = each db.0 db.1 in (h.0, h.1, h.2, (db.0, db.2, h.3.left)))
 
--- what stands for one of these, of which each is a catalogue, is left of that
-left_as : {D : Type 0} {g : Ghosts D} (trees : Trees) (ms : List (Option Catalogue)) (m : Option Catalogue) → Contains ms m → StandsFor (over_files {D} {g}) m trees → (Contains ms None → ⊥)
-    → (M : Catalogue) × IsLeft 1 M trees
-left_as trees ms (Some M) is stands none = (M, stands)
-left_as trees ms None is stands none = absurd (none is)
-
 -- Two files, where what is opened over them is one of the states that a stop could leave of a desk.
 module _ {D : Type 0} {g : Ghosts D} (desk : DeskState (FileStore D g)) (files : Files D)
     (may : (conn : Held (FileStore D g)) → (HasCleanDisk (file_state conn) → IsOpened conn × Finds files conn) → HasCleanDisk (file_state conn)
@@ -74,7 +68,7 @@ module _ {D : Type 0} {g : Ghosts D} (desk : DeskState (FileStore D g)) (files :
         let db = (file_state over.conn).committed in
         let whole = (over.opened early).0 in (it.0, (db, refl, (whole.1 whole.0.is_open).1, subst (λ (d : Database). Holds 1 d it.0) (over.adopted.same honest) it.1.holds))
 
-    shows_as : (ms : List (Option Catalogue)) (m : Option Catalogue) → Contains ms m → StandsFor over_files m (file_state over.conn).committed.trees → ShowsOneOf over_files next ms
+    shows_as : (ms : List (Option Catalogue)) (m : Option Catalogue) → Contains ms m → StandsFor (over_files {D = D} {g = g}) m (file_state over.conn).committed.trees → ShowsOneOf over_files next ms
     shows_as ms (Some M) is stands = (M, is, over.left honest M stands)
     shows_as ms None is stands = absurd (stands opened.0 opened.1)
 
@@ -86,6 +80,11 @@ module _ {D : Type 0} {g : Ghosts D} (desk : DeskState (FileStore D g)) (files :
     shows_front before requests answered leaves =
         ∥∥₁_map (may over.conn over.opened early)
         (λ both. let h = leaves both.0 (file_state over.conn).committed.trees both.1 in (h.0, h.1, h.2, over.left honest (after before (take h.0 requests)) h.3.left))
+
+  -- what stands for one of these, of which each is a catalogue, is left of that
+  left_as : (trees : Trees) (ms : List (Option Catalogue)) (m : Option Catalogue) → Contains ms m → StandsFor (over_files {D = D} {g = g}) m trees → (Contains ms None → ⊥) → (M : Catalogue) × IsLeft 1 M trees
+  left_as trees ms (Some M) is stands none = (M, stands)
+  left_as trees ms None is stands none = absurd (none is)
 
   -- no fault tells of what was opened, where a stop always leaves a catalogue
   module _ (conn : Held (FileStore D g)) (fault : Fault) (over : IsUnopenedOver files (left.Database conn) fault) (honest : HasCleanDisk (file_state conn)) where

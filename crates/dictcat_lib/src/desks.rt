@@ -52,13 +52,17 @@ pub(crate) fn reopen_desk<'w>(
     };
     match desk.reopen(options) {
         Ok(desk) => Ok(desk),
-        Err((Unopened::Files(_), DeskFault::Memory)) => Err(Fault::Memory),
-        Err((Unopened::Files(_), _)) => Err(Fault::CannotRead(file)),
-        Err((Unopened::Spent(_), fault)) => Err(Fault::from(fault)),
-        Err((Unopened::Database(conn), fault)) => {
-            close_file(conn);
-            Err(Fault::from(fault))
-        }
+        Err((left, fault)) => match left {
+            Unopened::Files(_) => match fault {
+                DeskFault::Memory => Err(Fault::Memory),
+                _ => Err(Fault::CannotRead(file)),
+            },
+            Unopened::Spent(_) => Err(Fault::from(fault)),
+            Unopened::Database(conn) => {
+                close_file(conn);
+                Err(Fault::from(fault))
+            }
+        },
     }
 }
 

@@ -10,4 +10,4 @@ returns-in-Ok-clause-opened g c = record {
 }
 
 pub returns-clause-opened : goal.returns-clause-opened
-returns-clause-opened g c = (tt, subst IsOfFile (sym c.from.ensures) (restart_of_file c.args.desk c.in-Err.0 c.in-Err.fault c.in-Err.ensures.unopened))
+returns-clause-opened g c = (tt, subst IsOfFile (sym c.from.ensures) (restart_of_file c.args.desk c.in-Err.field-0-0 c.in-Err.fault c.in-Err.ensures.unopened))
