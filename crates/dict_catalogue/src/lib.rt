@@ -23,6 +23,3 @@ pub use lookups::{is_among, is_known, names_regular};
 pub use planning::{Change, edition_numbers, plan};
 pub use reply::{Kept, Verb};
 pub use summary::{Item, StoredTitle, Summary};
-
-#[cfg(test)]
-mod tests;

@@ -11,8 +11,6 @@ mod lookup;
 mod plain;
 mod replies;
 mod sink;
-#[cfg(test)]
-mod tests;
 
 pub use fault::Fault;
 pub use keeper::{Halted, Keeper, apply_all};

@@ -6,6 +6,3 @@ mod over;
 
 pub use fault::FileFault;
 pub use over::session_over;
-
-#[cfg(test)]
-mod tests;

@@ -15,6 +15,3 @@ pub use kinds::{Need, Reading, Request, Values};
 pub use laws::{one_answer, one_request};
 pub use parsing::{need, read_request};
 pub use statuses::Status;
-
-#[cfg(test)]
-mod tests;

@@ -5,9 +5,15 @@
 #[cfg(test)]
 mod answers;
 #[cfg(test)]
+mod bodies;
+#[cfg(test)]
 mod curl;
 #[cfg(test)]
 mod failing;
+#[cfg(test)]
+mod heads;
+#[cfg(test)]
+mod routes;
 #[cfg(test)]
 mod statuses;
 #[cfg(test)]

@@ -15,6 +15,3 @@ pub use fault::HubFault;
 pub use hub::{Event, Hub};
 pub use kind::Kind;
 pub use laws::{one_served, same_by_turns, same_for_both, undisturbed_or_not};
-
-#[cfg(test)]
-mod tests;

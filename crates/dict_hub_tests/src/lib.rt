@@ -9,4 +9,6 @@ mod failing;
 #[cfg(test)]
 mod files;
 #[cfg(test)]
+mod hub;
+#[cfg(test)]
 mod together;

@@ -20,6 +20,3 @@ pub use fault::{IndexFault, Refusal};
 pub use laws::{one_meaning, well_formed_editions, worked_edition};
 pub use limits::{MAX_ENTRIES, entry_key, is_edition_text};
 pub use reading::read_edition;
-
-#[cfg(test)]
-mod tests;

@@ -13,6 +13,3 @@ pub use bodies::{VirtualBody, read_json, read_place, read_virtual};
 pub use items::list_json;
 pub use laws::one_body;
 pub use replies::{kept_json, refused_command_json, refused_edition_json};
-
-#[cfg(test)]
-mod tests;

@@ -6,6 +6,3 @@ mod listing;
 
 pub use fault::{Fault, StoreFault};
 pub use listing::put_list;
-
-#[cfg(test)]
-mod tests;

@@ -9,6 +9,3 @@ mod text;
 
 pub use quoted::put_quoted;
 pub use reply::{Reply, list_is_a_block, reply_lines_are_short, write_reply};
-
-#[cfg(test)]
-mod tests;

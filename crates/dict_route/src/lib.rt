@@ -10,6 +10,3 @@ mod laws;
 pub use finding::Routes;
 pub use kinds::{Found, Route};
 pub use laws::one_route;
-
-#[cfg(test)]
-mod tests;

@@ -3,10 +3,16 @@
 #![tactic(auto)]
 
 #[cfg(test)]
+mod calls;
+#[cfg(test)]
 mod faults;
 #[cfg(test)]
 mod files;
 #[cfg(test)]
 mod limits;
+#[cfg(test)]
+mod lines;
+#[cfg(test)]
+mod replies;
 #[cfg(test)]
 mod sessions;

@@ -16,6 +16,10 @@ mod fails_once;
 #[cfg(test)]
 mod looking;
 #[cfg(test)]
+mod reopened;
+#[cfg(test)]
 mod shown;
+#[cfg(test)]
+mod spoken;
 #[cfg(test)]
 mod stops;

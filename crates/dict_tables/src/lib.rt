@@ -11,6 +11,3 @@ pub use found::{find_table, has_table, is_alone, is_column, is_one_key, is_one_p
 pub use names::{is_name_used, is_own_name_used, waits_for_counter};
 pub use room::{has_room, is_name_referred, is_own_index_name_used, is_own_name_referred};
 pub use tables::StoreTable;
-
-#[cfg(test)]
-mod tests;

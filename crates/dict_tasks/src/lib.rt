@@ -10,6 +10,3 @@ pub use changing::change;
 pub use files::{InputFiles, OverFiles, ReadFault, read_file};
 pub use installing::{Wanted, install};
 pub use listing::list;
-
-#[cfg(test)]
-mod tests;

@@ -15,6 +15,3 @@ pub use laws::status_laws;
 pub use plain::run_plain;
 pub use program::{command, refuse_words};
 pub use task::perform;
-
-#[cfg(test)]
-mod tests;

@@ -57,7 +57,7 @@ pub fn refuse_words<F: Sink>(fault: &io::Error, faults: &mut F) -> u8
 }
 
 // What clap says of words that are no texts.
-pub(crate) const NOT_TEXT: &str =
+const NOT_TEXT: &str =
     "error: invalid UTF-8 was detected in one or more arguments\n\nUsage: dictcat <COMMAND>\n\nFor more information, try '--help'.\n";
 
 // Answers words that ask for no task: for help or the version, or by mistake.

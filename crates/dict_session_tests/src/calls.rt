@@ -1,0 +1,54 @@
+use dict_io::OverWrite;
+use dict_proto::{Reply, write_reply};
+use std::io::{Result as IoResult, Write};
+use std::test::Fail;
+
+// A writer that counts its calls.
+#[derive(Drop)]
+struct Counting {
+    calls: usize,
+}
+
+impl Write for Counting {
+    fn write(&mut self, buf: &[u8]) -> IoResult<usize> {
+        self.calls = self.calls.saturating_add(1);
+        Ok(buf.len())
+    }
+
+    fn flush(&mut self) -> IoResult<()> {
+        Ok(())
+    }
+}
+
+// How often a writer is called for a reply.
+fn calls_for(reply: &Reply) -> Result<usize, Fail> {
+    let mut sink = OverWrite::new(Counting { calls: 0 });
+    write_reply(&mut sink, reply)?;
+    Ok(sink.into_inner().calls)
+}
+
+// A line is written by one call, and so is a short text.
+#[test]
+fn a_writer_is_called_once_a_line(rt: HostRuntime) -> Result<(), Fail> {
+    let banner = Reply::Banner {
+        host: "localhost",
+        connection: 1,
+    };
+    let definition = Reply::Definition {
+        headword: "a\"b",
+        name: "gem",
+        title: "Gems",
+        body: b"x\n.y\n",
+    };
+    let row = Reply::ListLine {
+        name: "gem",
+        text: "Opal, \"fire\"",
+    };
+    assert_eq!(rt; calls_for(&banner)?, 1);
+    assert_eq!(rt; calls_for(&Reply::MatchCount(12))?, 1);
+    assert_eq!(rt; calls_for(&row)?, 1);
+    assert_eq!(rt; calls_for(&definition)?, 2);
+    assert_eq!(rt; calls_for(&Reply::InfoText(b"x\n.y\n"))?, 1);
+    assert_eq!(rt; calls_for(&Reply::Help)?, 1);
+    Ok(())
+}

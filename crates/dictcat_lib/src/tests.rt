@@ -1,8 +1,0 @@
-mod arranging;
-mod catalogues;
-mod editing;
-mod faults;
-mod fixtures;
-mod serving;
-mod sessions;
-mod usage;

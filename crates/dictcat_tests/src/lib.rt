@@ -1,0 +1,24 @@
+//! Runs of the program's commands: over files, over databases that were read, with words that aren't well, and of its
+//! servers. A library with tests alone.
+#![tactic(auto)]
+
+#[cfg(test)]
+mod arranging;
+#[cfg(test)]
+mod catalogues;
+#[cfg(test)]
+mod editing;
+#[cfg(test)]
+mod faults;
+#[cfg(test)]
+mod fixtures;
+#[cfg(test)]
+mod printed;
+#[cfg(test)]
+mod serving;
+#[cfg(test)]
+mod sessions;
+#[cfg(test)]
+mod tasks;
+#[cfg(test)]
+mod usage;

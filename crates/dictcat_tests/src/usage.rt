@@ -1,0 +1,205 @@
+use super::fixtures::{Row, differing, outcome, run, taken};
+use clap::error::ErrorKind;
+use dict_io::LimitedSink;
+use dict_words::command_line;
+use dictcat_lib::refuse_words;
+use std::io;
+use std::test::Fail;
+
+const HELP: &str = "A DICT server (RFC 2229) whose answers are proved
+
+Usage: dictcat <COMMAND>
+
+Commands:
+  plain     Runs a DICT session on standard input and output over one database
+  create    Makes an empty catalogue in FILE
+  list      Lists the items of a catalogue
+  audit     Reads a catalogue whole, and tells whether it is sound
+  session   Runs a DICT session on standard input and output over a catalogue
+  install   Makes an edition the current one of a database
+  rollback  Swaps the current and the former edition of a database
+  retire    Takes a database out of the catalogue
+  virtual   Makes a virtual database, or changes one
+  place     Puts a database at another place in the order
+  serve     Serves a catalogue to readers over DICT, and takes requests of editors over HTTP
+  help      Print this message or the help of the given subcommand(s)
+
+Options:
+  -h, --help     Print help
+  -V, --version  Print version
+
+Example:
+  dictcat create words.db
+  dictcat install words.db gem r1 gem.index gem.dict
+  dictcat session words.db
+
+Statuses:
+  0  done
+  1  refused, and nothing is changed
+  2  the words can't be made out
+  3  a file, its catalogue, an address, an output or a session failed
+  4  memory ran out
+";
+
+const PLACE_HELP: &str = "Puts a database at another place in the order
+
+Usage: dictcat place <FILE> <NAME> <ID> <PLACE>
+
+Arguments:
+  <FILE>   The catalogue's file
+  <NAME>   The database's name
+  <ID>     The request's id: 1 to 64 letters, digits and hyphens; the same for a retry, and a new one for a new request
+  <PLACE>  The place, from 0
+
+Options:
+  -h, --help  Print help
+
+Example:
+  dictcat place words.db all r5 0
+prints
+  {\"edition\":null,\"name\":\"all\",\"number\":5,\"verb\":\"place\"}
+
+Statuses:
+  0  placed; or ID was used before, and its reply is printed again
+  1  refused, and nothing is changed
+  2  the words can't be made out
+  3  FILE can't be read or is no sound catalogue, or the disk or the output failed
+  4  memory ran out
+After 3 and 4 the same command with the same ID is answered or done.
+";
+
+const SERVE_HELP: &str =
+    "Serves a catalogue to readers over DICT, and takes requests of editors over HTTP
+
+Usage: dictcat serve [OPTIONS] --dict <ADDR> --http <ADDR> <FILE>
+
+Arguments:
+  <FILE>  The catalogue's file
+
+Options:
+      --dict <ADDR>  The address for readers, as 127.0.0.1:2628
+      --http <ADDR>  The address for editors, as 127.0.0.1:8080
+      --rounds <N>   Ends after so many rounds; else it goes on
+  -h, --help         Print help
+
+Example:
+  dictcat serve words.db --dict 127.0.0.1:2628 --http 127.0.0.1:8628
+prints the two addresses:
+  dict 127.0.0.1:2628
+  http 127.0.0.1:8628
+
+Statuses:
+  0  all rounds of --rounds are done
+  2  the words can't be made out
+  3  FILE can't be read or is no sound catalogue, an address can't be bound, or the output failed
+  4  memory ran out
+";
+
+static SHOWN: [Row<'static>; 5] = [
+    (&["--help"], 0, HELP, ""),
+    (&["help"], 0, HELP, ""),
+    (&["help", "place"], 0, PLACE_HELP, ""),
+    (&["serve", "--help"], 0, SERVE_HELP, ""),
+    (&["--version"], 0, "dictcat 0.1.0\n", ""),
+];
+
+#[test]
+fn shows_help_and_version(rt: HostRuntime) -> Result<(), Fail> {
+    assert_eq!(rt; differing(&rt, "", &SHOWN)?.as_str(), "");
+    let (status, _, told) = outcome(&rt, &["dictcat", "--help"], b"", 9)?;
+    assert_eq!(rt; status, 3);
+    assert_eq!(rt; told.as_str(), "cannot write output\n");
+    Ok(())
+}
+
+static NAMES: [&str; 11] = [
+    "plain", "create", "list", "audit", "session", "install", "rollback", "retire", "virtual",
+    "place", "serve",
+];
+
+#[test]
+fn each_help_has_an_example_and_the_statuses(rt: HostRuntime) -> Result<(), Fail> {
+    for name in &NAMES {
+        let (status, shown, _) = run(&rt, "", &[*name, "--help"], b"")?;
+        assert_eq!(rt; status, 0);
+        let example = format!(in rt.alloc(); "dictcat {name} ")?;
+        let (_, below) = shown
+            .as_str()
+            .split_once("\nExample:\n")
+            .unwrap_or(("", ""));
+        assert!(rt;
+            below.contains(example.as_str()) && below.contains("\n  4  memory ran out\n"),
+            "{name}"
+        );
+    }
+    Ok(())
+}
+
+static MISTAKES: [Row<'static>; 5] = [
+    (
+        &[],
+        2,
+        "",
+        "error: 'dictcat' requires a subcommand but one was not provided\n  [subcommands: plain, create, list, audit, session, install, rollback, retire, virtual, place, serve, help]\n\nUsage: dictcat <COMMAND>\n\nFor more information, try '--help'.\n",
+    ),
+    (
+        &["nosuch"],
+        2,
+        "",
+        "error: unrecognized subcommand 'nosuch'\n\nUsage: dictcat <COMMAND>\n\nFor more information, try '--help'.\n",
+    ),
+    (
+        &["plain", "gem"],
+        2,
+        "",
+        "error: the following required arguments were not provided:\n  <INDEX>\n  <DICT>\n\nUsage: dictcat plain <NAME> <INDEX> <DICT>\n\nFor more information, try '--help'.\n",
+    ),
+    (
+        &["plain", "gem", "a", "b", "c"],
+        2,
+        "",
+        "error: unexpected argument 'c' found\n\nUsage: dictcat plain <NAME> <INDEX> <DICT>\n\nFor more information, try '--help'.\n",
+    ),
+    (
+        &["plain", "-x", "a", "b"],
+        2,
+        "",
+        "error: unexpected argument '-x' found\n\n  tip: to pass '-x' as a value, use '-- -x'\n\nUsage: dictcat plain <NAME> <INDEX> <DICT>\n\nFor more information, try '--help'.\n",
+    ),
+];
+
+#[test]
+fn tells_what_is_wrong_with_the_words(rt: HostRuntime) -> Result<(), Fail> {
+    assert_eq!(rt; differing(&rt, "", &MISTAKES)?.as_str(), "");
+    Ok(())
+}
+
+#[test]
+fn refuses_words_that_are_no_texts(rt: HostRuntime) -> Result<(), Fail> {
+    let rows = [
+        (
+            io::ErrorKind::InvalidData,
+            2,
+            "error: invalid UTF-8 was detected in one or more arguments\n\nUsage: dictcat <COMMAND>\n\nFor more information, try '--help'.\n",
+        ),
+        (io::ErrorKind::OutOfMemory, 4, "fault 40 Memory\n"),
+    ];
+    for (kind, status, text) in rows {
+        let mut faults = LimitedSink::new(rt.alloc(), 1000)?;
+        assert_eq!(rt; refuse_words(&io::Error::from(kind), &mut faults), status);
+        assert_eq!(rt; taken(rt.alloc(), &faults)?.as_str(), text);
+    }
+    Ok(())
+}
+
+#[test]
+fn says_of_words_that_are_no_texts_what_clap_says(rt: HostRuntime) -> Result<(), Fail> {
+    let message = "invalid UTF-8 was detected in one or more arguments";
+    let mut line = command_line(rt.alloc())?;
+    let error = line.error(ErrorKind::InvalidValue, message)?;
+    let mut faults = LimitedSink::new(rt.alloc(), 1000)?;
+    let fault = io::Error::from(io::ErrorKind::InvalidData);
+    assert_eq!(rt; refuse_words(&fault, &mut faults), 2);
+    assert_eq!(rt; taken(rt.alloc(), &faults)?, error.to_string(rt.alloc())?);
+    Ok(())
+}
