@@ -10,7 +10,8 @@ use std::alloc::Global;
 use std::process::Abort;
 use std::test::Fail;
 
-fn number<S: Alter>(conn: &mut Connection<S>, text: &str) -> Result<i64, Error> {
+/// The number that a selection gives.
+pub(crate) fn number<S: Alter>(conn: &mut Connection<S>, text: &str) -> Result<i64, Error> {
     conn.query_row(text, &[])?.get(0)
 }
 

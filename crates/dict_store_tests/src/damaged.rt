@@ -1,9 +1,10 @@
 //! Files that are adopted or refused, and nothing of them changes.
 
 use crate::asked::{Asked, Editions, read_editions};
-use crate::desks::{accept_all, adopted, desk_over, dumped, new_desk};
-use dict_desk::{Fault, Keeper};
-use sqlite::{Connection, MemStore};
+use crate::creating::number;
+use crate::desks::{applied, desk_over, dumped};
+use dict_desk::Fault;
+use sqlite::Connection;
 use std::alloc::Global;
 use std::process::Abort;
 use std::test::Fail;
@@ -14,12 +15,6 @@ static CATALOGUE: [(&str, Asked); 3] = [
     ("b", Asked::Gems("gem")),
     ("c", Asked::Put("all", "All", &["ore", "gem"])),
 ];
-
-fn made(alloc: Global, editions: &Editions) -> Result<Connection<MemStore>, Fail> {
-    let mut desk = new_desk(alloc)?;
-    accept_all(&mut desk, editions, &CATALOGUE)?;
-    Ok(desk.into_connection())
-}
 
 // Each of these makes a file that is refused.
 static STATEMENTS: [(&str, Fault); 24] = [
@@ -92,7 +87,8 @@ fn is_refused(
     statement: &str,
     wanted: Fault,
 ) -> Result<(), Fail> {
-    let mut conn = made(alloc, editions)?;
+    let conn = Connection::open_in_memory(alloc)?;
+    let mut conn = applied(alloc, editions, conn, true, &CATALOGUE)?.into_connection();
     conn.execute_batch(statement)?;
     let before = dumped(alloc, &mut conn)?;
     let Err((mut conn, fault)) = desk_over(alloc, conn, false) else {
@@ -117,26 +113,25 @@ fn refused_files(rt: HostRuntime) -> Result<(), Fail> {
     Ok(())
 }
 
+// The list of both is retired.
+static RETIRED: [(&str, Asked); 1] = [("d", Asked::Retire("all"))];
+
 #[test]
 fn other_tables(rt: HostRuntime) -> Result<(), Fail> {
     let alloc = rt.alloc();
     let editions = read_editions(alloc)?;
-    let mut conn = made(alloc, &editions)?;
+    let conn = Connection::open_in_memory(alloc)?;
+    let mut conn = applied(alloc, &editions, conn, true, &CATALOGUE)?.into_connection();
     conn.execute_batch(
         "CREATE TABLE extra (a TEXT) STRICT; CREATE INDEX others ON entry (headword); INSERT INTO extra VALUES ('its own')",
     )?;
-    let mut desk = adopted(alloc, conn)?;
-    let retired = desk.apply("d", &Asked::Retire("all").command(&editions));
-    assert!(rt; retired.is_ok());
-    let mut conn = desk.into_connection();
-    let own: String = conn.query_row("SELECT a FROM extra", &[])?.get(0)?;
-    assert_eq!(rt; own.as_str(), "its own");
-    let indexes: i64 = conn
-        .query_row(
-            "SELECT count(*) FROM sqlite_schema WHERE name = 'others'",
-            &[],
-        )?
-        .get(0)?;
+    let mut conn = applied(alloc, &editions, conn, false, &RETIRED)?.into_connection();
+    let own = number(&mut conn, "SELECT count(*) FROM extra WHERE a = 'its own'")?;
+    assert_eq!(rt; own, 1);
+    let indexes = number(
+        &mut conn,
+        "SELECT count(*) FROM sqlite_schema WHERE name = 'others'",
+    )?;
     assert_eq!(rt; indexes, 1);
     Ok(())
 }

@@ -55,6 +55,21 @@ pub(crate) fn accept_all<K: Keeper>(
     Ok(())
 }
 
+/// A desk over a database that is made, or over one that is found, after these commands.
+pub(crate) fn applied<S: Alter + Drop>(
+    alloc: Global,
+    editions: &Editions,
+    conn: Connection<S>,
+    is_new: bool,
+    asked: &[(&'static str, Asked)],
+) -> Result<Desk<S>, Fail> {
+    let Ok(mut desk) = desk_over(alloc, conn, is_new) else {
+        return Err("no desk")?;
+    };
+    accept_all(&mut desk, editions, asked)?;
+    Ok(desk)
+}
+
 // All rows of the tables.
 static TABLES: [&str; 6] = [
     "SELECT rowid, * FROM mark ORDER BY 1",

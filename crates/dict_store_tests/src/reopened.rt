@@ -1,20 +1,23 @@
-// Desks over files, in memory and at a path.
-use super::spoken::{GEM_INDEX, GEM_TEXT, install};
+// Desks over files, in memory and at a path, that are opened anew.
+use crate::asked::{Asked, read_editions};
+use crate::desks::applied;
 use dict_desk::{Fault, Lookup};
-use dict_index::read_edition;
 use dict_store::{Desk, Unopened};
-use sqlite::{Connection, Files, Options, Unknown};
+use sqlite::{Alter, Connection, File, FileStore, Files, Options, Unknown};
 use sqlite_disk::Memory;
+use std::alloc::Global;
 use std::fs;
 use std::test::Fail;
 
-const PATH: &str = "dict_file_session_test";
+const PATH: &str = "dict_store_test";
 
-const LOG: &str = "dict_file_session_test-wal";
+const LOG: &str = "dict_store_test-wal";
 
-#[test]
-fn after_a_stop(rt: HostRuntime) -> Result<(), Fail> {
-    let alloc = rt.alloc();
+// One command: gem is installed.
+static GEM: [(&str, Asked); 1] = [("gem", Asked::Gems("gem"))];
+
+// A new database in two files that memory holds.
+fn new_files(alloc: Global) -> Result<Connection<FileStore<Memory>>, Fail> {
     let log = Memory::new(alloc);
     let db = Memory::new(alloc);
     let files = Files { log, db };
@@ -24,48 +27,61 @@ fn after_a_stop(rt: HostRuntime) -> Result<(), Fail> {
     let Ok(conn) = Connection::open_files(alloc, files, Options::new(1)) else {
         return Err("not opened")?;
     };
-    if !conn.is_autocommit() {
-        return Err("in a transaction")?;
+    Ok(conn)
+}
+
+// How many items a desk shows.
+fn items<S: Alter>(desk: &Desk<S>) -> usize {
+    match desk.summary() {
+        Ok(summary) => summary.items.len(),
+        Err(_) => 0,
     }
-    let Ok(mut desk) = Desk::create(alloc, conn) else {
-        return Err("not made")?;
-    };
-    let edition = read_edition(alloc, GEM_INDEX, GEM_TEXT)?;
-    install(&mut desk, "gem", &edition)?;
+}
+
+// How many items are shown after a stop, and once the files are opened again.
+fn opened_twice(desk: Desk<FileStore<Memory>>) -> Result<(usize, usize), Fail> {
     let Ok(desk) = desk.restart(Options::new(1)) else {
         return Err("not opened again")?;
     };
-    assert_eq!(rt; desk.summary()?.items.len(), 1);
+    let first = items(&desk);
     let Ok(desk) = desk.reopen(Options::new(2)) else {
         return Err("not opened once more")?;
     };
-    assert_eq!(rt; desk.summary()?.items.len(), 1);
+    Ok((first, items(&desk)))
+}
+
+#[test]
+fn after_a_stop(rt: HostRuntime) -> Result<(), Fail> {
+    let alloc = rt.alloc();
+    let editions = read_editions(alloc)?;
+    let desk = applied(alloc, &editions, new_files(alloc)?, true, &GEM)?;
+    assert_eq!(rt; opened_twice(desk)?, (1, 1));
     Ok(())
+}
+
+// The database at the path, in which there is no catalogue.
+fn unmade(rt: &HostRuntime) -> Result<Connection<FileStore<File>>, Fail> {
+    let Err((left, fault)) = Desk::open_from(rt, PATH, false, Unknown) else {
+        return Err("no catalogue was made")?;
+    };
+    if fault != Fault::NotACatalogue {
+        return Err("another fault")?;
+    }
+    let Unopened::Database(conn) = left else {
+        return Err("no connection")?;
+    };
+    Ok(conn)
 }
 
 #[test]
 fn at_a_path(rt: HostRuntime) -> Result<(), Fail> {
-    let alloc = rt.alloc();
-    let Err((left, fault)) = Desk::open_from(&rt, PATH, false, Unknown) else {
-        return Err("no catalogue was made")?;
-    };
-    assert_eq!(rt; fault, Fault::NotACatalogue);
-    let Unopened::Database(conn) = left else {
-        return Err("no connection")?;
-    };
-    if !conn.is_autocommit() {
-        return Err("in a transaction")?;
-    }
-    let Ok(mut desk) = Desk::create(alloc, conn) else {
-        return Err("not made")?;
-    };
-    let edition = read_edition(alloc, GEM_INDEX, GEM_TEXT)?;
-    install(&mut desk, "gem", &edition)?;
+    let editions = read_editions(rt.alloc())?;
+    let desk = applied(rt.alloc(), &editions, unmade(&rt)?, true, &GEM)?;
     desk.into_connection().close()?;
     let Ok(desk) = Desk::open_from(&rt, PATH, false, Unknown) else {
         return Err("not opened")?;
     };
-    assert_eq!(rt; desk.summary()?.items.len(), 1);
+    assert_eq!(rt; items(&desk), 1);
     desk.into_connection().close()?;
     fs::remove_file(&rt, PATH)?;
     let _there_or_not = fs::remove_file(&rt, LOG);

@@ -56,26 +56,37 @@ fn push_row(text: &mut String, headword: &str, body: &[u8]) -> Result<(), AllocE
     text.push(';')
 }
 
+// A mark and the number behind it.
+fn push_number(
+    alloc: Global,
+    text: &mut String,
+    mark: char,
+    number: u64,
+) -> Result<(), AllocError> {
+    let digits = format!(in alloc; "{number}")?;
+    text.push(mark)?;
+    text.push_str(digits.as_str())
+}
+
 fn push_item(alloc: Global, text: &mut String, item: &Item) -> Result<(), AllocError> {
-    let name = item.name();
-    let title = item.title();
-    text.push_str(format!(in alloc; "{name} {title}")?.as_str())?;
+    text.push_str(item.name())?;
+    text.push(' ')?;
+    text.push_str(item.title())?;
     match item {
         Item::Regular {
             current,
             former,
             ..
         } => {
-            let number = current.number;
-            text.push_str(format!(in alloc; " {number}")?.as_str())?;
+            push_number(alloc, text, ' ', current.number)?;
             if let Some(former) = former {
-                let number = former.number;
-                text.push_str(format!(in alloc; "/{number}")?.as_str())?;
+                push_number(alloc, text, '/', former.number)?;
             }
         }
         Item::Virtual { members, .. } => {
             for member in members {
-                text.push_str(format!(in alloc; " +{member}")?.as_str())?;
+                text.push_str(" +")?;
+                text.push_str(member.as_str())?;
             }
         }
     }

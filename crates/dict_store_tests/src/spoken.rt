@@ -1,44 +1,16 @@
 // Sessions over a database in memory.
-use dict_catalogue::Command;
-use dict_desk::{Fault, Keeper};
+use crate::asked::{Asked, read_editions};
+use crate::desks::applied;
+use dict_desk::Fault;
 use dict_file_session::{FileFault, session_over};
-use dict_index::{Edition, read_edition};
 use dict_io::{LimitedSink, OverRead};
 use dict_session::End;
-use dict_store::Desk;
-use sqlite::{Alter, Connection, MemStore};
+use sqlite::{Connection, MemStore};
 use std::alloc::Global;
 use std::test::Fail;
 
-pub(crate) const GEM_INDEX: &[u8] =
-    b"00-database-short\tA\tZ\nopal\tZ\tP\nFire Opal\tZ\tP\ndot\to\tF\n";
-
-pub(crate) const GEM_TEXT: &[u8] = b"00-database-short\n  Gems\nopal\n  a stone\n.dot\n";
-
-// A connection whose database holds a catalogue with gem.
-fn filled(alloc: Global) -> Result<Connection<MemStore>, Fail> {
-    let conn = Connection::open_in_memory(alloc)?;
-    if !conn.is_autocommit() {
-        return Err("in a transaction")?;
-    }
-    let Ok(mut desk) = Desk::create(alloc, conn) else {
-        return Err("not made")?;
-    };
-    let edition = read_edition(alloc, GEM_INDEX, GEM_TEXT)?;
-    install(&mut desk, "gem", &edition)?;
-    Ok(desk.into_connection())
-}
-
-// Installs an edition under the name, which is the request's id too.
-pub(crate) fn install<S: Alter + Drop>(
-    desk: &mut Desk<S>,
-    name: &str,
-    edition: &Edition,
-) -> Result<(), Fail> {
-    let command = Command::Install { name, edition };
-    desk.apply(name, &command)?;
-    Ok(())
-}
+// One command: gem is installed.
+static GEM: [(&str, Asked); 1] = [("gem", Asked::Gems("gem"))];
 
 // What a session with this input writes, and how it ends; and the connection.
 fn spoken(
@@ -59,7 +31,9 @@ fn spoken(
 #[test]
 fn two_sessions(rt: HostRuntime) -> Result<(), Fail> {
     let alloc = rt.alloc();
-    let conn = filled(alloc)?;
+    let editions = read_editions(alloc)?;
+    let conn = Connection::open_in_memory(alloc)?;
+    let conn = applied(alloc, &editions, conn, true, &GEM)?.into_connection();
     let (conn, end, text) = spoken(alloc, conn, b"DEFINE gem OPAL\r\nQUIT\r\n")?;
     assert_eq!(rt; end, Ok(End::Quit));
     assert_eq!(rt;
