@@ -31,7 +31,7 @@ fn new_files(alloc: Global) -> Result<Connection<FileStore<Memory>>, Fail> {
 }
 
 // How many items a desk shows.
-fn items<S: Alter>(desk: &Desk<S>) -> usize {
+fn items<S: Alter + Drop>(desk: &Desk<S>) -> usize {
     match desk.summary() {
         Ok(summary) => summary.items.len(),
         Err(_) => 0,
