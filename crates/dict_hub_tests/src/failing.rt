@@ -1,9 +1,11 @@
 // Desks that fail at one of their calls, and sinks that fail at one of their octets.
 
-use super::files::{DELETE, DELETED, HOST, gem_desk, told};
+use super::files::{DELETE, DELETED, HOST, gem_desk, is_answered, told};
+use dict_desk::Keeper;
 use dict_failing_desk::FailingDesk;
 use dict_hub::{Event, Hub, HubFault, Kind, Out};
 use dict_io::LimitedSink;
+use std::alloc::Global;
 use std::test::Fail;
 
 const FOUND: &str =
@@ -31,66 +33,84 @@ static ROWS: [(u64, &str, Out, &str, &str); 6] = [
     (5, FOUND, Out::More, DELETED, DELETED),
 ];
 
-// For memory: one answer is lost, and what comes after it is answered as ever.
-#[test]
-fn a_call_finds_no_memory(rt: HostRuntime) -> Result<(), Fail> {
-    let alloc = rt.alloc();
-    for (left, reader, out, editor, again) in &ROWS {
-        let mut desk = FailingDesk::new(gem_desk(alloc)?, *left, false);
-        let mut hub = Hub::new(alloc, HOST)?;
-        told(alloc, &mut hub, &mut desk, Event::Opened(1, Kind::Dict))?;
-        told(alloc, &mut hub, &mut desk, Event::Opened(2, Kind::Http))?;
-        told(alloc, &mut hub, &mut desk, Event::Opened(3, Kind::Http))?;
-        let line = Event::Bytes(1, b"DEFINE gem opal\r\n");
-        let first = told(alloc, &mut hub, &mut desk, line)?;
-        assert_eq!(rt; first.0.as_slice(), reader.as_bytes(), "{left}");
-        assert_eq!(rt; first.1, *out, "{left}");
-        let second = told(
-            alloc,
-            &mut hub,
-            &mut desk,
-            Event::Bytes(2, DELETE.as_bytes()),
-        )?;
-        assert_eq!(rt; second.0.as_slice(), editor.as_bytes(), "{left}");
-        assert_eq!(rt; second.1, Out::Close, "{left}");
-        let third = told(
-            alloc,
-            &mut hub,
-            &mut desk,
-            Event::Bytes(3, DELETE.as_bytes()),
-        )?;
-        assert_eq!(rt; third.0.as_slice(), again.as_bytes(), "{left}");
+// Opens connections of these kinds, with the ids from 1.
+fn open<K: Keeper>(alloc: Global, hub: &mut Hub, desk: &mut K, kinds: &[Kind]) -> Result<(), Fail> {
+    for (id, kind) in (1..65u64).zip(kinds.iter()) {
+        let _greeted = told(alloc, hub, desk, Event::Opened(id, *kind))?;
     }
     Ok(())
 }
 
-// As a store fails: all that wants the desk after it is answered 420 or 503, and other lines as ever.
+// Whether a reader's line and an editor's request, which comes twice, are answered as a row has it.
+fn row_holds<K: Keeper>(
+    alloc: Global,
+    hub: &mut Hub,
+    desk: &mut K,
+    row: &(u64, &str, Out, &str, &str),
+) -> Result<bool, Fail> {
+    open(alloc, hub, desk, &[Kind::Dict, Kind::Http, Kind::Http])?;
+    let line = Event::Bytes(1, b"DEFINE gem opal\r\n");
+    let reader = is_answered(alloc, hub, desk, line, row.1, row.2)?;
+    let request = Event::Bytes(2, DELETE.as_bytes());
+    let editor = is_answered(alloc, hub, desk, request, row.3, Out::Close)?;
+    let request = Event::Bytes(3, DELETE.as_bytes());
+    let again = is_answered(alloc, hub, desk, request, row.4, Out::Close)?;
+    Ok(reader && editor && again)
+}
+
+// For memory: one answer is lost, and what comes after it is answered as ever.
+#[test]
+fn a_call_finds_no_memory(rt: HostRuntime) -> Result<(), Fail> {
+    let alloc = rt.alloc();
+    for row in &ROWS {
+        let mut desk = FailingDesk::new(gem_desk(alloc)?, row.0, false);
+        let mut hub = Hub::new(alloc, HOST)?;
+        let holds = row_holds(alloc, &mut hub, &mut desk, row)?;
+        let left = row.0;
+        assert!(rt; holds, "{left}");
+    }
+    Ok(())
+}
+
+// Whether all that wants the desk after a reader's line is answered 420 or 503, and other lines as ever.
+fn is_unavailable<K: Keeper>(alloc: Global, hub: &mut Hub, desk: &mut K) -> Result<bool, Fail> {
+    open(alloc, hub, desk, &[Kind::Dict, Kind::Dict, Kind::Http])?;
+    let _met = told(alloc, hub, desk, Event::Bytes(1, b"DEFINE gem opal\r\n"))?;
+    let request = Event::Bytes(3, DELETE.as_bytes());
+    let editor = is_answered(alloc, hub, desk, request, UNAVAILABLE, Out::Close)?;
+    let lines = Event::Bytes(2, b"STATUS\r\nCLIENT x\r\nQUIT\r\n");
+    let want = "420 server temporarily unavailable\r\n250 ok\r\n221 closing connection\r\n";
+    let reader = is_answered(alloc, hub, desk, lines, want, Out::Close)?;
+    Ok(editor && reader)
+}
+
+// As a store fails.
 #[test]
 fn a_call_finds_no_store(rt: HostRuntime) -> Result<(), Fail> {
     let alloc = rt.alloc();
     for left in 0..4u64 {
         let mut desk = FailingDesk::new(gem_desk(alloc)?, left, true);
         let mut hub = Hub::new(alloc, HOST)?;
-        for id in 1..4u64 {
-            let kind = if id == 3 { Kind::Http } else { Kind::Dict };
-            told(alloc, &mut hub, &mut desk, Event::Opened(id, kind))?;
-        }
-        let line = Event::Bytes(1, b"DEFINE gem opal\r\n");
-        told(alloc, &mut hub, &mut desk, line)?;
-        let asked = told(
-            alloc,
-            &mut hub,
-            &mut desk,
-            Event::Bytes(3, DELETE.as_bytes()),
-        )?;
-        assert_eq!(rt; asked.0.as_slice(), UNAVAILABLE.as_bytes(), "{left}");
-        let line = Event::Bytes(2, b"STATUS\r\nCLIENT x\r\nQUIT\r\n");
-        let last = told(alloc, &mut hub, &mut desk, line)?;
-        let want = "420 server temporarily unavailable\r\n250 ok\r\n221 closing connection\r\n";
-        assert_eq!(rt; last.0.as_slice(), want.as_bytes(), "{left}");
-        assert_eq!(rt; last.1, Out::Close, "{left}");
+        let holds = is_unavailable(alloc, &mut hub, &mut desk)?;
+        assert!(rt; holds, "{left}");
     }
     Ok(())
+}
+
+// Whether a sink with this room closes its connection within an answer.
+fn closes_within<K: Keeper>(
+    alloc: Global,
+    hub: &mut Hub,
+    desk: &mut K,
+    room: usize,
+) -> Result<bool, Fail> {
+    let id = 1 + room as u64;
+    let _greeted = told(alloc, hub, desk, Event::Opened(id, Kind::Dict))?;
+    let mut sink = LimitedSink::new(alloc, room)?;
+    let out = hub.event(desk, Event::Bytes(id, b"DEFINE gem opal\r\n"), &mut sink);
+    let next = hub.event(desk, Event::Bytes(id, b"STATUS\r\n"), &mut sink);
+    let is_front = Some(sink.taken()) == FOUND.as_bytes().get(..room);
+    Ok(is_front && out == Ok(Out::Close) && next == Err(HubFault::UnknownConnection))
 }
 
 // A sink that fails within an answer closes its connection alone.
@@ -99,27 +119,13 @@ fn a_sink_fails_at_each_octet(rt: HostRuntime) -> Result<(), Fail> {
     let alloc = rt.alloc();
     let mut desk = gem_desk(alloc)?;
     let mut hub = Hub::new(alloc, HOST)?;
-    told(alloc, &mut hub, &mut desk, Event::Opened(0, Kind::Dict))?;
+    let _greeted = told(alloc, &mut hub, &mut desk, Event::Opened(0, Kind::Dict))?;
     for room in 0..FOUND.len() {
-        let id = 1 + room as u64;
-        told(alloc, &mut hub, &mut desk, Event::Opened(id, Kind::Dict))?;
-        let mut sink = LimitedSink::new(alloc, room)?;
-        let line = Event::Bytes(id, b"DEFINE gem opal\r\n");
-        assert_eq!(rt;
-            hub.event(&mut desk, line, &mut sink),
-            Ok(Out::Close),
-            "{room}"
-        );
-        assert_eq!(rt; Some(sink.taken()), FOUND.as_bytes().get(..room), "{room}");
-        let line = Event::Bytes(id, b"STATUS\r\n");
-        assert_eq!(rt;
-            hub.event(&mut desk, line, &mut sink),
-            Err(HubFault::UnknownConnection),
-            "{room}"
-        );
+        let closes = closes_within(alloc, &mut hub, &mut desk, room)?;
+        assert!(rt; closes, "{room}");
     }
     let line = Event::Bytes(0, b"DEFINE gem opal\r\n");
-    let other = told(alloc, &mut hub, &mut desk, line)?;
-    assert_eq!(rt; other.0.as_slice(), FOUND.as_bytes());
+    let other = is_answered(alloc, &mut hub, &mut desk, line, FOUND, Out::More)?;
+    assert!(rt; other);
     Ok(())
 }

@@ -44,3 +44,16 @@ pub(crate) fn told<K: Keeper>(
     let out = hub.event(desk, event, &mut sink)?;
     Ok((sink.taken().to_vec(alloc)?, out))
 }
+
+/// Whether an event is answered by this text, and its connection goes on or closes so.
+pub(crate) fn is_answered<K: Keeper>(
+    alloc: Global,
+    hub: &mut Hub,
+    desk: &mut K,
+    event: Event,
+    text: &str,
+    out: Out,
+) -> Result<bool, Fail> {
+    let answer = told(alloc, hub, desk, event)?;
+    Ok(answer.0.as_slice() == text.as_bytes() && answer.1 == out)
+}

@@ -1,4 +1,5 @@
 //! Which connections are open, and what an editor's octets are answered piece by piece.
+use super::files::{PUT, told};
 use dict_desk::{Lookup, PlainDesk};
 use dict_http::Service;
 use dict_hub::{Book, Event, Hub, HubFault, Kind, Out, take_piece};
@@ -42,9 +43,6 @@ fn fault_numbers(rt: HostRuntime) {
     assert_eq!(rt; HubFault::Memory.number(), 52);
 }
 
-const PUT: &[u8] =
-    b"PUT /databases/gem HTTP/1.1\r\nRequest-Id: r1\r\nContent-Length: 101\r\n\r\n53\n00-database-short\tA\tZ\nopal\tZ\tP\nFire Opal\tZ\tP\ndot\to\tF\n00-database-short\n  Gems\nopal\n  a stone\n.dot\n";
-
 const INSTALLED: &[u8] =
     b"HTTP/1.1 200 OK\r\nContent-Type: application/json\r\nContent-Length: 54\r\nConnection: close\r\n\r\n{\"edition\":1,\"name\":\"gem\",\"number\":1,\"verb\":\"install\"}";
 
@@ -56,7 +54,7 @@ fn a_request_octet_by_octet(rt: HostRuntime) -> Result<(), Fail> {
     let mut sink = LimitedSink::new(alloc, 1000)?;
     let mut held = Vec::new(alloc);
     let mut closed = 0u64;
-    for octet in PUT {
+    for octet in PUT.as_bytes() {
         assert_eq!(rt; closed, 0);
         let piece = [*octet];
         match take_piece(&service, alloc, &mut held, &piece, &mut desk, &mut sink)? {
@@ -85,18 +83,6 @@ fn one_request_a_connection(rt: HostRuntime) -> Result<(), Fail> {
     Ok(())
 }
 
-// What a sink with room for 100,000 octets takes of an event, and whether its connection closes.
-fn told(
-    alloc: Global,
-    hub: &mut Hub,
-    desk: &mut PlainDesk,
-    event: Event,
-) -> Result<(Vec<u8>, Out), Fail> {
-    let mut sink = LimitedSink::new(alloc, 100_000)?;
-    let out = hub.event(desk, event, &mut sink)?;
-    Ok((sink.taken().to_vec(alloc)?, out))
-}
-
 const FOUND: &[u8] =
     b"150 1 definitions retrieved\r\n151 \"opal\" gem \"Gems\"\r\nopal\r\n  a stone\r\n.\r\n250 ok\r\n221 closing connection\r\n";
 
@@ -121,7 +107,7 @@ fn an_install_between_two_pieces(rt: HostRuntime) -> Result<(), Fail> {
         Event::Bytes(1, b"DEFINE gem op"),
     )?;
     assert_eq!(rt; half.0.len(), 0);
-    let put = told(alloc, &mut hub, &mut desk, Event::Bytes(2, PUT))?;
+    let put = told(alloc, &mut hub, &mut desk, Event::Bytes(2, PUT.as_bytes()))?;
     assert_eq!(rt; put.0.as_slice(), INSTALLED);
     assert_eq!(rt; put.1, Out::Close);
     let found = told(
@@ -156,7 +142,7 @@ fn a_line_before_an_install(rt: HostRuntime) -> Result<(), Fail> {
     )?;
     assert!(rt; line.0.starts_with(b"550 "));
     assert_eq!(rt; line.1, Out::More);
-    let put = told(alloc, &mut hub, &mut desk, Event::Bytes(2, PUT))?;
+    let put = told(alloc, &mut hub, &mut desk, Event::Bytes(2, PUT.as_bytes()))?;
     assert_eq!(rt; put.0.as_slice(), INSTALLED);
     let found = told(
         alloc,
@@ -190,7 +176,8 @@ fn connections_come_and_go(rt: HostRuntime) -> Result<(), Fail> {
         hub.event(&mut desk, Event::Opened(65, Kind::Http), &mut sink),
         Err(HubFault::TooMany)
     );
-    let front = &PUT[..PUT.len() - 1];
+    let whole = PUT.as_bytes();
+    let front = &whole[..whole.len().saturating_sub(1)];
     assert_eq!(rt;
         hub.event(&mut desk, Event::Bytes(2, front), &mut sink),
         Ok(Out::More)
