@@ -104,7 +104,7 @@ fn closes_within<K: Keeper>(
     desk: &mut K,
     room: usize,
 ) -> Result<bool, Fail> {
-    let id = 1 + room as u64;
+    let id = (room as u64).saturating_add(1);
     let _greeted = told(alloc, hub, desk, Event::Opened(id, Kind::Dict))?;
     let mut sink = LimitedSink::new(alloc, room)?;
     let out = hub.event(desk, Event::Bytes(id, b"DEFINE gem opal\r\n"), &mut sink);
