@@ -31,11 +31,11 @@ BY_WORD = "SELECT e.rowid, e.* FROM word AS w JOIN entry AS e WHERE w.edition = 
 
 
 def headwords(count):
-    """Headwords of small letters, each its own key: one to three words of two to eight letters."""
+    """Headwords of small letters, each its own key: one to three words of three to eight letters, so that none is read whole for want of a gram."""
     made = random.Random(count)
 
     def word():
-        return "".join(made.choice("aabcdeefghiilmnoopqrrssttuvwxyz") for _ in range(made.randint(2, 8)))
+        return "".join(made.choice("aabcdeefghiilmnoopqrrssttuvwxyz") for _ in range(made.randint(3, 8)))
 
     return [" ".join(word() for _ in range(made.choice((1, 1, 1, 1, 2, 3)))) for _ in range(count)]
 
