@@ -14,7 +14,7 @@ use dict_desk::{End, Fault, Keeper, Lookup, RowSink, What};
 use dict_match::{Key, Strategy};
 
 /// Counts, and hands out where there is something.
-pub fn count_and_find<L: Lookup, T: RowSink>(
+pub(crate) fn count_and_find<L: Lookup, T: RowSink>(
     desk: &mut L,
     number: u64,
     strategy: Strategy,
@@ -33,7 +33,11 @@ pub fn count_and_find<L: Lookup, T: RowSink>(
 }
 
 /// Asks whether an id is kept, and applies the command if it isn't.
-pub fn kept_or_applied<K: Keeper>(desk: &mut K, id: &str, command: &Command) -> Result<Kept, Fault>
+pub(crate) fn kept_or_applied<K: Keeper>(
+    desk: &mut K,
+    id: &str,
+    command: &Command,
+) -> Result<Kept, Fault>
     ensures value { K.is_trusted desk.new → (M : Catalogue) → K.shows desk.old M → is_request_id id.now ≡ true → Applies (K.shows desk.new) M (step M id.now (command_meant command.now)) result }
     ensures leaves { K.is_trusted desk.new → (M : Catalogue) → K.shows desk.old M → Leaves (K.leaves_one_of desk.old) (K.leaves_one_of desk.new) (is_some (kept_under M.kept id.now)) (step M id.now (command_meant command.now)).catalogue result }
     ensures any { K.is_trusted desk.new → (M : Catalogue) (ms : List (Option Catalogue)) → K.shows desk.old M → K.leaves_one_of desk.old ms → K.leaves_one_of desk.new (Some (step M id.now (command_meant command.now)).catalogue ∷ ms) }

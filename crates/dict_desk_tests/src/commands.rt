@@ -65,7 +65,7 @@ fn told(alloc: Global, answer: &Result<Kept, Fault>) -> Result<String, AllocErro
 }
 
 /// The items in order: name, title, and the numbers of the editions or the members.
-fn listed(alloc: Global, summary: &Summary) -> Result<String, AllocError> {
+pub(crate) fn listed(alloc: Global, summary: &Summary) -> Result<String, AllocError> {
     let mut text = String::new(alloc);
     for item in &summary.items {
         let name = item.name();

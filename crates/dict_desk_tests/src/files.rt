@@ -6,15 +6,15 @@ use std::alloc::Global;
 
 /// A name, an index and a text.
 #[derive(Clone, Copy)]
-pub struct Files(pub &'static str, pub &'static [u8], pub &'static [u8]);
+pub(crate) struct Files(pub &'static str, pub &'static [u8], pub &'static [u8]);
 
 /// The edition that the files say.
-pub fn read(alloc: Global, files: Files) -> Result<Edition<'static>, IndexFault> {
+pub(crate) fn read(alloc: Global, files: Files) -> Result<Edition<'static>, IndexFault> {
     read_edition(alloc, files.1, files.2)
 }
 
 /// Installs the edition under a name.
-pub fn install<K: Keeper>(
+pub(crate) fn install<K: Keeper>(
     desk: &mut K,
     id: &str,
     name: &str,
@@ -24,33 +24,33 @@ pub fn install<K: Keeper>(
     desk.apply(id, &command)
 }
 
-pub const GEM: Files = Files(
+pub(crate) const GEM: Files = Files(
     "gem",
     b"00-database-short\tA\tZ\nopal\tZ\tP\nFire Opal\tZ\tP\ndot\to\tF\n",
     b"00-database-short\n  Gems\nopal\n  a stone\n.dot\n",
 );
 
-pub const ORE: Files = Files(
+pub(crate) const ORE: Files = Files(
     "ore",
     b"00-database-short\tA\tX\niron\tX\tL\n",
     b"00-database-short\nOres\niron\n  ore\n",
 );
 
 // `a`, `a` followed by U+10FFFF, and `b`.
-pub const EDGE: Files = Files(
+pub(crate) const EDGE: Files = Files(
     "edge",
     b"00-database-short\tA\tZ\na\tZ\tC\na\xf4\x8f\xbf\xbf\tZ\tC\nb\tZ\tC\n",
     b"00-database-short\n  Gems\nx\n",
 );
 
-pub const TELL: Files = Files(
+pub(crate) const TELL: Files = Files(
     "tell",
     b"00-database-short\tA\tX\n00-database-info\tX\tX\n",
     b"00-database-short\nGems\n00-database-info\n.a\n\nb\n",
 );
 
 // Entries in another order than their headwords', with one headword twice.
-pub const STONES: Files = Files(
+pub(crate) const STONES: Files = Files(
     "stones",
     b"00-database-short\tA\tb\npearl\tb\tC\nopal\tb\tC\npearl\td\tC\nagate\tb\tC\n",
     b"00-database-short\n  Stones\nx\ny\n",

@@ -1,12 +1,10 @@
+use super::commands::listed;
+use super::files::{GEM, read};
 use dict_catalogue::{Change, Command, Item, PlanFault, Refusal, StoredTitle, Summary, Verb, plan};
-use dict_index::{Edition, IndexFault, read_edition};
+use dict_index::{Edition, IndexFault};
 use std::alloc::{AllocError, Global};
 use std::process::Abort;
 use std::test::Fail;
-
-const GEM_INDEX: &[u8] = b"00-database-short\tA\tZ\nopal\tZ\tP\nFire Opal\tZ\tP\ndot\to\tF\n";
-
-const GEM_TEXT: &[u8] = b"00-database-short\n  Gems\nopal\n  a stone\n.dot\n";
 
 /// A command, its answer, and the items after it.
 #[derive(Clone, Copy)]
@@ -33,37 +31,6 @@ fn told(alloc: Global, planned: &Result<Change, PlanFault>) -> Result<String, Al
     }
 }
 
-/// The items in order: name, title, and the numbers of the editions or the members.
-fn listed(alloc: Global, summary: &Summary) -> Result<String, AllocError> {
-    let mut text = String::new(alloc);
-    for item in &summary.items {
-        let name = item.name();
-        let title = item.title();
-        text.push_str(format!(in alloc; "{name} {title}")?.as_str())?;
-        match item {
-            Item::Regular {
-                current,
-                former,
-                ..
-            } => {
-                let number = current.number;
-                text.push_str(format!(in alloc; " {number}")?.as_str())?;
-                if let Some(former) = former {
-                    let number = former.number;
-                    text.push_str(format!(in alloc; "/{number}")?.as_str())?;
-                }
-            }
-            Item::Virtual { members, .. } => {
-                for member in members {
-                    text.push_str(format!(in alloc; " +{member}")?.as_str())?;
-                }
-            }
-        }
-        text.push_str("; ")?;
-    }
-    Ok(text)
-}
-
 /// Runs the commands one after another from this summary on.
 fn run(
     rt: &impl Abort,
@@ -86,7 +53,7 @@ fn run(
 }
 
 fn gem(alloc: Global) -> Result<Edition<'static>, IndexFault> {
-    read_edition(alloc, GEM_INDEX, GEM_TEXT)
+    read(alloc, GEM)
 }
 
 fn put<'a>(name: &'a str, title: &'a str, members: &'a [&'a str]) -> Command<'a> {

@@ -5,7 +5,7 @@ use std::alloc::{AllocError, Global};
 
 /// Collects rows, and stops at the last of so many.
 #[derive(Drop)]
-pub struct Rows {
+pub(crate) struct Rows {
     text: String,
     left: usize,
 }
@@ -40,14 +40,14 @@ fn push_row(text: &mut String, headword: &str, body: &[u8]) -> Result<(), AllocE
 
 /// Which rows are asked for.
 #[derive(Clone, Copy, Debug)]
-pub enum Asked {
+pub(crate) enum Asked {
     Found,
     Heads,
     Info,
 }
 
 /// The rows that are handed out, at most so many, and `.` behind them where they are all, or `!` where the sink stopped.
-pub fn hand_out<L: Lookup>(
+pub(crate) fn hand_out<L: Lookup>(
     alloc: Global,
     desk: &mut L,
     number: u64,
