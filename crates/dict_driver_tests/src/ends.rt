@@ -1,6 +1,5 @@
 // Peers that don't read, and peers that end their side early.
-use crate::serving::{Play, Step};
-use std::alloc::Global;
+use crate::serving::{Part, Play, Step, run_all};
 use std::net::{Net, TcpStream};
 use std::test::Fail;
 
@@ -106,13 +105,8 @@ static OCTETS_BEHIND_A_REQUEST: [Step; 9] = [
     Step::Held(0, 0),
 ];
 
-// These steps of a new driver.
-fn run(net: &impl Net<Stream = TcpStream>, alloc: Global, steps: &[Step]) -> Result<(), Fail> {
-    Play::new(net, alloc)?.run(net, steps)
-}
-
 #[test]
 fn octets_and_an_end(rt: HostRuntime) -> Result<(), Fail> {
-    run(&rt, rt.alloc(), &AN_END_BEHIND_THE_LAST_LINE)?;
-    run(&rt, rt.alloc(), &OCTETS_BEHIND_A_REQUEST)
+    run_all(&rt, &[Part(1, &AN_END_BEHIND_THE_LAST_LINE)])?;
+    run_all(&rt, &[Part(1, &OCTETS_BEHIND_A_REQUEST)])
 }

@@ -37,6 +37,16 @@ pub(crate) enum Step {
     Held(usize, usize),
 }
 
+/// Steps, so many times.
+#[derive(Clone, Copy)]
+pub(crate) struct Part(pub(crate) u32, pub(crate) &'static [Step]);
+
+/// These steps of a new driver.
+pub(crate) fn run_all(rt: &HostRuntime, parts: &[Part]) -> Result<(), Fail> {
+    let mut play = Play::new(rt, rt.alloc())?;
+    play.run_parts(rt, parts)
+}
+
 /// A driver at two free ports of loopback over a catalogue in memory, and clients.
 #[derive(Drop)]
 pub(crate) struct Play {
@@ -87,6 +97,20 @@ impl Play {
         for step in steps {
             self.step(net, *step)?;
             self.settle()?;
+        }
+        Ok(())
+    }
+
+    // These parts, one after the other.
+    fn run_parts(
+        &mut self,
+        net: &impl Net<Stream = TcpStream>,
+        parts: &[Part],
+    ) -> Result<(), Fail> {
+        for Part(times, steps) in parts {
+            for _ in 0..*times {
+                self.run(net, *steps)?;
+            }
         }
         Ok(())
     }

@@ -1,5 +1,5 @@
 // Readers and editors at one driver.
-use crate::serving::{Play, Step};
+use crate::serving::{Part, Play, Step, run_all};
 use std::test::Fail;
 use std::time::Duration;
 
@@ -58,8 +58,8 @@ static BEFORE_AN_INSTALL: [Step; 11] = [
 
 #[test]
 fn an_install_and_a_session(rt: HostRuntime) -> Result<(), Fail> {
-    Play::new(&rt, rt.alloc())?.run(&rt, &BETWEEN_TWO_PIECES)?;
-    Play::new(&rt, rt.alloc())?.run(&rt, &BEFORE_AN_INSTALL)
+    run_all(&rt, &[Part(1, &BETWEEN_TWO_PIECES)])?;
+    run_all(&rt, &[Part(1, &BEFORE_AN_INSTALL)])
 }
 
 const ASK: Step = Step::Send(1, "STATUS\r\n");
@@ -103,7 +103,7 @@ static AN_OCTET_A_ROUND: [Step; 29] = [
 
 #[test]
 fn an_octet_a_round(rt: HostRuntime) -> Result<(), Fail> {
-    Play::new(&rt, rt.alloc())?.run(&rt, &AN_OCTET_A_ROUND)
+    run_all(&rt, &[Part(1, &AN_OCTET_A_ROUND)])
 }
 
 // An edition with a text of 1 MiB comes in many pieces, and a reader asks between them.
@@ -131,12 +131,14 @@ static AFTER_THE_PIECES: [Step; 3] = [
 
 #[test]
 fn an_install_in_pieces(rt: HostRuntime) -> Result<(), Fail> {
-    let mut play = Play::new(&rt, rt.alloc())?;
-    play.run(&rt, &BEFORE_THE_PIECES)?;
-    for _ in 0..256u32 {
-        play.run(&rt, &A_PIECE)?;
-    }
-    play.run(&rt, &AFTER_THE_PIECES)
+    run_all(
+        &rt,
+        &[
+            Part(1, &BEFORE_THE_PIECES),
+            Part(256, &A_PIECE),
+            Part(1, &AFTER_THE_PIECES),
+        ],
+    )
 }
 
 // Where nothing comes, nothing happens in a round, and a wait ends.

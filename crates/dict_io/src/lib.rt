@@ -8,6 +8,3 @@ mod source;
 pub use limited::LimitedSink;
 pub use sink::{OverWrite, Sink, SinkFault, put_all};
 pub use source::{OverRead, Source, SourceFault};
-
-#[cfg(test)]
-mod tests;

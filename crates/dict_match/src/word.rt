@@ -54,26 +54,3 @@ pub(crate) fn split_word(bytes: &[u8]) -> Option<(&[u8], &[u8])>
     let end = memchr2(b' ', b'\t', start).unwrap_or(start.len());
     Some(start.split_at(end))
 }
-
-#[cfg(test)]
-mod tests {
-    use super::*;
-    use crate::word_laws;
-    use std::test::Fail;
-
-    #[test]
-    fn words_by_the_rules(rt: HostRuntime) -> Result<(), Fail> {
-        let mut left = words(b" fire\t opal  \xc3\xa9 ");
-        assert_eq!(rt; left.next(), Some(b"fire".as_slice()));
-        assert_eq!(rt; left.next(), Some(b"opal".as_slice()));
-        assert_eq!(rt; left.next(), Some(b"\xc3\xa9".as_slice()));
-        assert_eq!(rt; left.next(), None);
-        assert_eq!(rt; left.next(), None);
-        assert_eq!(rt; words(b"").count(), 0);
-        assert_eq!(rt; words(b" \t ").count(), 0);
-        assert_eq!(rt; words(b"a").count(), 1);
-        assert_eq!(rt; words(b"a\nb c").count(), 2);
-        word_laws();
-        Ok(())
-    }
-}

@@ -4,6 +4,3 @@
 mod names;
 
 pub use names::{is_name, is_request_id, is_title};
-
-#[cfg(test)]
-mod tests;

@@ -1,4 +1,4 @@
-// Keys at every edge, and what is selected beside the filter of a whole list.
+//! Keys at every edge, and what is selected beside the filter of a whole list.
 use dict_derived::{
     Derived, NotDerived, PieceReader, Pieces, Selection, derive, grams_of, is_tested, range_law,
     search_laws, select, words_of,

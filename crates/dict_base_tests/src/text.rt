@@ -1,4 +1,5 @@
-use crate::{
+//! Characters, blanks and lines.
+use dict_text::{
     has_control, is_blank, is_blank_octet, is_control, is_control_octet, text_lines,
     without_blanks_at_ends, without_leading_blanks,
 };
@@ -15,16 +16,18 @@ fn kinds_of_characters(rt: HostRuntime) {
     assert!(rt; has_control(b"a\nb") && !has_control("a\u{80} b".as_bytes()));
 }
 
+// A text, what is behind its leading blanks, and what is between the blanks at its ends.
+static BLANKS: [(&[u8], &[u8], &[u8]); 5] = [
+    (b"", b"", b""),
+    (b" \t", b"", b""),
+    (b"\t a b \t", b"a b \t", b"a b"),
+    (b"a", b"a", b"a"),
+    (b"\n ", b"\n ", b"\n"),
+];
+
 #[test]
 fn blanks_at_ends(rt: HostRuntime) {
-    let cases: [(&[u8], &[u8], &[u8]); 5] = [
-        (b"", b"", b""),
-        (b" \t", b"", b""),
-        (b"\t a b \t", b"a b \t", b"a b"),
-        (b"a", b"a", b"a"),
-        (b"\n ", b"\n ", b"\n"),
-    ];
-    for (text, behind_blanks, between_blanks) in &cases {
+    for (text, behind_blanks, between_blanks) in &BLANKS {
         assert!(rt; without_leading_blanks(text) == *behind_blanks);
         assert!(rt; without_blanks_at_ends(text) == *between_blanks);
     }

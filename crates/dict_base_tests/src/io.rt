@@ -1,4 +1,6 @@
-use crate::{LimitedSink, OverRead, OverWrite, Sink, SinkFault, Source, SourceFault, put_all};
+//! Sources and sinks over readers and writers.
+
+use dict_io::{LimitedSink, OverRead, OverWrite, Sink, SinkFault, Source, SourceFault, put_all};
 use std::io::{Error, ErrorKind, Read, Result as IoResult, Write};
 use std::test::Fail;
 

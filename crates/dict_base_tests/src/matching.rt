@@ -1,0 +1,197 @@
+//! Keys, words and strategies, and which queries hit which keys.
+
+use dict_match::{
+    Strategy, hit_laws, key_laws, key_of, matches, strategy_laws, word_laws, words, worked_keys,
+};
+use std::test::Fail;
+
+const ALL_SEVEN: &str = "exact prefix suffix substring word first last";
+
+// Query, key, and the strategies by which the one finds the other; all other strategies do not
+static ROWS: [(&str, &str, &str); 68] = [
+    // empty texts, and texts of one character
+    ("", "", ""),
+    ("", "a", ""),
+    ("a", "", ""),
+    ("a", "a", ALL_SEVEN),
+    ("a", "b", ""),
+    ("a", "ab", "prefix substring"),
+    ("b", "ab", "suffix substring"),
+    ("b", "abc", "substring"),
+    // overlaps
+    ("aa", "aaa", "prefix suffix substring"),
+    ("aba", "ababa", "prefix suffix substring"),
+    ("bab", "ababa", "substring"),
+    ("ab", "aab", "suffix substring"),
+    ("aab", "aaab", "suffix substring"),
+    ("abcabd", "abcabcabd", "suffix substring"),
+    ("oo", "foo", "suffix substring"),
+    ("oof", "foo", ""),
+    // queries that are longer than the key
+    ("aaa", "aa", ""),
+    ("fire opal gem", "fire opal", ""),
+    ("a b c", "a b", ""),
+    ("opals", "opal", ""),
+    // several words
+    ("fire", "fire opal", "prefix substring word first"),
+    ("opal", "fire opal", "suffix substring word last"),
+    ("fire opal", "fire opal", ALL_SEVEN),
+    ("fire opal", "opal fire", ""),
+    ("opal fire", "fire opal fire", "suffix substring word last"),
+    ("fire opal", "fire opal fire", "prefix substring word first"),
+    (
+        "fire",
+        "fire opal fire",
+        "prefix suffix substring word first last",
+    ),
+    ("opal", "fire opal fire", "substring word"),
+    ("fire gem", "fire opal gem", ""),
+    ("opal gem", "fire opal gem", "suffix substring word last"),
+    ("b c", "a b c d", "substring word"),
+    ("a b", "a b a b", "prefix suffix substring word first last"),
+    ("b a", "a b a b", "substring word"),
+    ("a a", "a a a", "prefix suffix substring word first last"),
+    ("a a b", "a a a b", "suffix substring word last"),
+    ("the", "the the", "prefix suffix substring word first last"),
+    // runs that are no whole words
+    ("e o", "fire opal", "substring"),
+    ("fir", "fire opal", "prefix substring"),
+    ("pal", "fire opal", "suffix substring"),
+    ("ire", "fire opal", "substring"),
+    ("fire", "firefly", "prefix substring"),
+    ("fly", "firefly", "suffix substring"),
+    ("a b", "a bb", "prefix substring"),
+    ("a b", "aa b", "suffix substring"),
+    ("a b", "aa bb", "substring"),
+    ("00", "00databaseshort", "prefix substring"),
+    // characters past ASCII
+    ("é", "été", "prefix suffix substring"),
+    ("t", "été", "substring"),
+    ("été", "été", ALL_SEVEN),
+    ("été", "un été", "suffix substring word last"),
+    ("un", "un été chaud", "prefix substring word first"),
+    ("été", "un été chaud", "substring word"),
+    ("é", "É", ""),
+    ("ÉtÉ", "ÉtÉ", ALL_SEVEN),
+    ("火", "火山", "prefix substring"),
+    ("山", "火山", "suffix substring"),
+    ("山 火", "火 山", ""),
+    ("\u{a0}", "a\u{a0}b", "substring"),
+    // keys of signs alone, and blanks other than one space between words
+    ("+ +", "+ +", ALL_SEVEN),
+    ("+", "+ +", "prefix suffix substring word first last"),
+    ("a\tb", "a b", "word first last"),
+    ("a b", "a\tb", "word first last"),
+    (" a", "a", "word first last"),
+    ("a ", "a b", "prefix substring word first"),
+    (" b", "a b", "suffix substring word last"),
+    // a query of blanks alone has no words, and no words stand anywhere
+    (" ", "a b", "substring word first last"),
+    (" ", "ab", "word first last"),
+    ("\t", "", "word first last"),
+];
+
+#[test]
+fn hits_by_the_rules(rt: HostRuntime) {
+    for (query, key, finders) in &ROWS {
+        for strategy in Strategy::ALL {
+            assert_eq!(rt;
+                matches(strategy, query.as_bytes(), key.as_bytes()),
+                finders.contains(strategy.name()),
+                "by {strategy:?}: {query:?} in {key:?}"
+            );
+        }
+    }
+    hit_laws();
+}
+
+static NAMES: [(Strategy, &str, &str); 7] = [
+    (Strategy::Exact, "exact", "Equal keys"),
+    (Strategy::Prefix, "prefix", "Key begins with the query"),
+    (Strategy::Suffix, "suffix", "Key ends with the query"),
+    (Strategy::Substring, "substring", "Key contains the query"),
+    (
+        Strategy::Word,
+        "word",
+        "Words of the query stand together in the key",
+    ),
+    (
+        Strategy::First,
+        "first",
+        "Key begins with the words of the query",
+    ),
+    (
+        Strategy::Last,
+        "last",
+        "Key ends with the words of the query",
+    ),
+];
+
+static NO_NAMES: [&str; 10] = [
+    "", ".", "PREFIX", "Exact", "exac", "exactly", " exact", "re", "soundex", "lev",
+];
+
+#[test]
+fn names_and_titles(rt: HostRuntime) {
+    for ((strategy, name, title), listed) in NAMES.iter().zip(Strategy::ALL) {
+        assert_eq!(rt; listed, *strategy);
+        assert_eq!(rt; Strategy::by_name(name), Some(*strategy));
+        assert_eq!(rt; strategy.name(), *name);
+        assert_eq!(rt; strategy.title(), *title);
+    }
+    for name in &NO_NAMES {
+        assert_eq!(rt; Strategy::by_name(name), None, "{name:?}");
+    }
+    strategy_laws();
+}
+
+static KEYS: [(&str, &str); 20] = [
+    ("Fire Opal", "fire opal"),
+    (" a - \tB ", "a b"),
+    ("00-database-short", "00databaseshort"),
+    ("o'clock", "oclock"),
+    ("+ +", "+ +"),
+    (" \t+ +\t ", "+ +"),
+    ("+a", "a"),
+    ("a+", "a"),
+    ("a+b", "ab"),
+    ("a + b", "a b"),
+    ("\t ", ""),
+    ("", ""),
+    ("ÉTÉ", "ÉtÉ"),
+    ("  Zürich\t\tHB  ", "zürich hb"),
+    ("\u{a0}X", "\u{a0}x"),
+    ("(x)", "x"),
+    ("-", "-"),
+    ("A1\u{7f}B", "a1b"),
+    ("The  \"Great\" Bear", "the great bear"),
+    ("the great bear", "the great bear"),
+];
+
+#[test]
+fn keys_by_the_rules(rt: HostRuntime) -> Result<(), Fail> {
+    for (text, key) in &KEYS {
+        assert!(rt;
+            key_of(rt.alloc(), text)?.as_bytes() == key.as_bytes(),
+            "in {text:?}"
+        );
+    }
+    worked_keys();
+    key_laws();
+    Ok(())
+}
+
+#[test]
+fn words_by_the_rules(rt: HostRuntime) {
+    let mut left = words(b" fire\t opal  \xc3\xa9 ");
+    assert!(rt; left.next() == Some(b"fire".as_slice()));
+    assert!(rt; left.next() == Some(b"opal".as_slice()));
+    assert!(rt; left.next() == Some(b"\xc3\xa9".as_slice()));
+    assert!(rt; left.next().is_none());
+    assert!(rt; left.next().is_none());
+    assert_eq!(rt; words(b"").count(), 0);
+    assert_eq!(rt; words(b" \t ").count(), 0);
+    assert_eq!(rt; words(b"a").count(), 1);
+    assert_eq!(rt; words(b"a\nb c").count(), 2);
+    word_laws();
+}

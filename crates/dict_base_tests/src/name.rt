@@ -1,0 +1,70 @@
+//! Names, ids and titles.
+
+use dict_name::{is_name, is_request_id, is_title};
+
+static NAMES: [(&str, bool); 15] = [
+    ("a", true),
+    ("z09_-", true),
+    ("a_b-9", true),
+    ("abcdefghijklmnopqrstuvwxyz012345", true),
+    ("abcdefghijklmnopqrstuvwxyz0123456", false),
+    ("", false),
+    ("1a", false),
+    ("_a", false),
+    ("-a", false),
+    ("Gem", false),
+    ("gEM", false),
+    ("g m", false),
+    ("gem.x", false),
+    ("gé", false),
+    ("*", false),
+];
+
+#[test]
+fn names(rt: HostRuntime) {
+    for (name, lawful) in &NAMES {
+        assert_eq!(rt; is_name(name), *lawful, "{name:?}");
+    }
+}
+
+static IDS: [(&str, bool); 9] = [
+    ("r1", true),
+    ("-", true),
+    ("Z-9", true),
+    (
+        "0123456789012345678901234567890123456789012345678901234567890123",
+        true,
+    ),
+    (
+        "01234567890123456789012345678901234567890123456789012345678901234",
+        false,
+    ),
+    ("", false),
+    ("r_1", false),
+    ("r 1", false),
+    ("ü", false),
+];
+
+#[test]
+fn request_ids(rt: HostRuntime) {
+    for (id, lawful) in &IDS {
+        assert_eq!(rt; is_request_id(id), *lawful, "{id:?}");
+    }
+}
+
+static TITLES: [(&str, bool); 7] = [
+    ("All", true),
+    ("A b\u{a0}", true),
+    ("", false),
+    (" A", false),
+    ("A ", false),
+    ("\tA", false),
+    ("A\u{7f}b", false),
+];
+
+#[test]
+fn titles(rt: HostRuntime) {
+    for (title, lawful) in &TITLES {
+        assert_eq!(rt; is_title(title), *lawful, "{title:?}");
+    }
+}

@@ -1,0 +1,6 @@
+//! The reader of records, over the records of a small catalogue, one of them changed at a time.
+
+mod changes;
+mod limits;
+mod orders;
+mod records;

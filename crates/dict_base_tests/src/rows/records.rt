@@ -1,0 +1,307 @@
+//! The records of a catalogue with the databases `ore` and `gem` and the virtual database `all`.
+
+use dict_records::{Edition, Entry, Item, Kept, Mark, Member, Stored};
+use dict_rows::{EditionRows, RowsFault, Tables, summary_of};
+use std::alloc::{AllocError, Global};
+
+/// The magic, the version and the count of installs of a mark.
+#[derive(Clone, Copy)]
+pub(crate) struct MarkRow(pub &'static str, pub i64, pub i64);
+
+/// An item.
+#[derive(Clone, Copy)]
+pub(crate) enum ItemRow<'a> {
+    /// The place, the name, the current edition and the former one of a database.
+    Regular(i64, &'a str, i64, Option<i64>),
+    /// The place, the name, the kind and the title of another item.
+    Listed(i64, &'a str, i64, &'a str),
+}
+
+/// The owner, the place and the name of a member.
+#[derive(Clone, Copy)]
+pub(crate) struct MemberRow<'a>(pub &'a str, pub i64, pub &'a str);
+
+/// The place and the headword of an entry, and the interval that it cuts out of the text.
+#[derive(Clone, Copy)]
+pub(crate) struct EntryRow(pub i64, pub &'static str, pub i64, pub i64);
+
+/// The number, the owner, the title, the text and the entries of an edition.
+#[derive(Clone, Copy)]
+pub(crate) struct EditionRow<'a>(
+    pub i64,
+    pub &'a str,
+    pub &'a str,
+    pub &'a [u8],
+    pub &'a [EntryRow],
+);
+
+/// The id, the number, the verb, the name and the edition of a reply that is kept.
+#[derive(Clone, Copy)]
+pub(crate) struct KeptRow<'a>(
+    pub &'a str,
+    pub i64,
+    pub &'a str,
+    pub &'a str,
+    pub Option<i64>,
+);
+
+/// The records of a catalogue that stand in the place of those of one table.
+#[derive(Clone, Copy)]
+pub(crate) enum Change<'a> {
+    Marks(&'a [MarkRow]),
+    Items(&'a [ItemRow<'a>]),
+    Members(&'a [MemberRow<'a>]),
+    Editions(&'a [EditionRow<'a>]),
+    Kept(&'a [KeptRow<'a>]),
+}
+
+/// The text of the edition of `ore`.
+pub(crate) const ORES: &[u8] = b"00-database-short\nOres\niron\n  ore\n";
+
+/// The edition of `ore`.
+pub(crate) const ORE: EditionRow<'static> = EditionRow(
+    1,
+    "ore",
+    "Ores",
+    ORES,
+    &[EntryRow(0, "iron", 23, 11)],
+);
+
+/// The edition of `gem`.
+pub(crate) const GEM: EditionRow<'static> = EditionRow(
+    2,
+    "gem",
+    "Gems",
+    b"00-database-short\n  Gems\nopal\n  a stone\n.dot\n",
+    &[
+        EntryRow(0, "opal", 25, 15),
+        EntryRow(1, "Fire Opal", 25, 15),
+        EntryRow(2, "dot", 40, 5),
+    ],
+);
+
+/// The records of the whole catalogue.
+static WHOLE: [Change<'static>; 5] = [
+    Change::Marks(&[MarkRow("dictcat", 1, 2)]),
+    Change::Items(&[
+        ItemRow::Regular(0, "ore", 1, None),
+        ItemRow::Regular(1, "gem", 2, None),
+        ItemRow::Listed(2, "all", 1, "All"),
+    ]),
+    Change::Members(&[MemberRow("all", 0, "ore"), MemberRow("all", 1, "gem")]),
+    Change::Editions(&[ORE, GEM]),
+    Change::Kept(&[
+        KeptRow("r1", 1, "install", "ore", Some(1)),
+        KeptRow("r2", 2, "install", "gem", Some(2)),
+        KeptRow("r3", 3, "virtual", "all", None),
+    ]),
+];
+
+/// The records of all tables.
+#[derive(Drop)]
+pub(crate) struct Rows {
+    pub marks: Vec<Stored<Mark<String>>>,
+    pub items: Vec<Stored<Item<String>>>,
+    pub members: Vec<Stored<Member<String>>>,
+    pub editions: Vec<EditionRows>,
+    pub kept: Vec<Stored<Kept<String>>>,
+}
+
+impl Rows {
+    pub(crate) fn tables(&self) -> Tables<'_> {
+        Tables {
+            marks: self.marks.as_slice(),
+            items: self.items.as_slice(),
+            members: self.members.as_slice(),
+            editions: self.editions.as_slice(),
+            kept: self.kept.as_slice(),
+        }
+    }
+}
+
+fn text(alloc: Global, text: &str) -> Result<String, AllocError> {
+    String::from_str(alloc, text)
+}
+
+pub(crate) fn mark(alloc: Global, row: MarkRow) -> Result<Stored<Mark<String>>, AllocError> {
+    let value = Mark {
+        id: 1,
+        magic: text(alloc, row.0)?,
+        version: row.1,
+        installs: row.2,
+    };
+    Ok(Stored { rowid: 1, value })
+}
+
+pub(crate) fn item(alloc: Global, row: ItemRow<'_>) -> Result<Stored<Item<String>>, AllocError> {
+    match row {
+        ItemRow::Regular(place, name, current, former) => {
+            let value = Item {
+                place,
+                name: text(alloc, name)?,
+                kind: 0,
+                title: None,
+                current: Some(current),
+                former,
+            };
+            Ok(Stored {
+                rowid: place,
+                value,
+            })
+        }
+        ItemRow::Listed(place, name, kind, title) => {
+            let value = Item {
+                place,
+                name: text(alloc, name)?,
+                kind,
+                title: Some(text(alloc, title)?),
+                current: None,
+                former: None,
+            };
+            Ok(Stored {
+                rowid: place,
+                value,
+            })
+        }
+    }
+}
+
+pub(crate) fn member(
+    alloc: Global,
+    row: MemberRow<'_>,
+) -> Result<Stored<Member<String>>, AllocError> {
+    let value = Member {
+        owner: text(alloc, row.0)?,
+        ord: row.1,
+        name: text(alloc, row.2)?,
+    };
+    Ok(Stored {
+        rowid: row.1,
+        value,
+    })
+}
+
+fn entry(alloc: Global, edition: i64, row: EntryRow) -> Result<Stored<Entry<String>>, AllocError> {
+    let value = Entry {
+        edition,
+        ord: row.0,
+        headword: text(alloc, row.1)?,
+        start: row.2,
+        length: row.3,
+    };
+    Ok(Stored {
+        rowid: row.0,
+        value,
+    })
+}
+
+fn edition_record(
+    alloc: Global,
+    row: EditionRow<'_>,
+) -> Result<Stored<Edition<String, Vec<u8>>>, AllocError> {
+    let value = Edition {
+        number: row.0,
+        owner: text(alloc, row.1)?,
+        title: text(alloc, row.2)?,
+        info: text(alloc, "")?,
+        body: Vec::from_slice(alloc, row.3)?,
+    };
+    Ok(Stored {
+        rowid: row.0,
+        value,
+    })
+}
+
+pub(crate) fn edition(alloc: Global, row: EditionRow<'_>) -> Result<EditionRows, AllocError> {
+    let mut entries = Vec::new(alloc);
+    for one in row.4 {
+        entries.push(entry(alloc, row.0, *one)?)?;
+    }
+    Ok(EditionRows {
+        edition: edition_record(alloc, row)?,
+        entries,
+    })
+}
+
+pub(crate) fn kept(alloc: Global, row: KeptRow<'_>) -> Result<Stored<Kept<String>>, AllocError> {
+    let value = Kept {
+        id: text(alloc, row.0)?,
+        number: row.1,
+        verb: text(alloc, row.2)?,
+        name: text(alloc, row.3)?,
+        edition: row.4,
+    };
+    Ok(Stored {
+        rowid: row.1,
+        value,
+    })
+}
+
+/// No record of any table.
+pub(crate) fn empty(alloc: Global) -> Rows {
+    Rows {
+        marks: Vec::new(alloc),
+        items: Vec::new(alloc),
+        members: Vec::new(alloc),
+        editions: Vec::new(alloc),
+        kept: Vec::new(alloc),
+    }
+}
+
+/// Puts these records in the place of those of one table.
+pub(crate) fn put(alloc: Global, rows: &mut Rows, change: Change<'_>) -> Result<(), AllocError> {
+    match change {
+        Change::Marks(marks) => {
+            rows.marks.clear();
+            for row in marks {
+                rows.marks.push(mark(alloc, *row)?)?;
+            }
+        }
+        Change::Items(items) => {
+            rows.items.clear();
+            for row in items {
+                rows.items.push(item(alloc, *row)?)?;
+            }
+        }
+        Change::Members(members) => {
+            rows.members.clear();
+            for row in members {
+                rows.members.push(member(alloc, *row)?)?;
+            }
+        }
+        Change::Editions(editions) => {
+            rows.editions.clear();
+            for row in editions {
+                rows.editions.push(edition(alloc, *row)?)?;
+            }
+        }
+        Change::Kept(replies) => {
+            rows.kept.clear();
+            for row in replies {
+                rows.kept.push(kept(alloc, *row)?)?;
+            }
+        }
+    }
+    Ok(())
+}
+
+/// Puts the records of the whole catalogue.
+pub(crate) fn put_whole(alloc: Global, rows: &mut Rows) -> Result<(), AllocError> {
+    for part in &WHOLE {
+        put(alloc, rows, *part)?;
+    }
+    Ok(())
+}
+
+/// Whether the records stand for no catalogue.
+pub(crate) fn is_damaged(alloc: Global, rows: &Rows) -> bool {
+    summary_of(alloc, 1, &rows.tables()).err() == Some(RowsFault::Damaged)
+}
+
+/// Whether the records of the catalogue stand for none with this change.
+pub(crate) fn is_damaged_with(alloc: Global, change: Change<'_>) -> Result<bool, AllocError> {
+    let mut rows = empty(alloc);
+    put_whole(alloc, &mut rows)?;
+    put(alloc, &mut rows, change)?;
+    Ok(is_damaged(alloc, &rows))
+}
