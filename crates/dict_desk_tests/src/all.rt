@@ -1,60 +1,75 @@
 // Commands one after another.
+use super::asked::{Asked, push_kept, push_refusal};
 use super::files::{GEM, read};
-use dict_catalogue::{Command, Kept, Refusal, Verb};
-use dict_desk::{Fault, Halted, Keeper, Lookup, PlainDesk, apply_all};
+use dict_catalogue::{Kept, Refusal};
+use dict_desk::{Fault, Halted, Lookup, PlainDesk, apply_all};
 use dict_index::Edition;
-use std::alloc::Global;
+use std::alloc::{AllocError, Global};
+use std::process::Abort;
 use std::test::Fail;
 
-/// The number, the verb and the edition of an answer, or the refusal's number.
-fn told(answer: &Result<Kept, Refusal>) -> (u64, Option<Verb>, Option<u64>) {
-    match answer {
-        Ok(kept) => (kept.number, Some(kept.verb), kept.edition),
-        Err(refusal) => (u64::from(refusal.number()), None, None),
+/// The answers in order.
+fn push_answers(
+    alloc: Global,
+    text: &mut String,
+    answers: &[Result<Kept, Refusal>],
+) -> Result<(), AllocError> {
+    for answer in answers {
+        match answer {
+            Ok(kept) => push_kept(alloc, text, kept)?,
+            Err(refusal) => push_refusal(alloc, text, refusal.number(), refusal.name())?,
+        }
+        text.push_str("; ")?;
     }
+    Ok(())
 }
 
 /// What a desk answers to an install, a rollback, a repeat of the first id and a retire.
-fn four<K: Keeper>(
+fn push_four(
     alloc: Global,
-    desk: &mut K,
-    edition: &Edition,
-) -> Result<Vec<Result<Kept, Refusal>>, Halted> {
-    let name = "gem";
+    text: &mut String,
+    desk: &mut PlainDesk,
+    gem: &Edition<'static>,
+) -> Result<(), Fail> {
     let requests = [
-        ("r1", Command::Install { name, edition }),
-        ("r2", Command::Rollback { name }),
-        ("r1", Command::Retire { name }),
-        ("r2", Command::Retire { name }),
+        ("r1", Asked::Install("gem").command(gem)),
+        ("r2", Asked::Rollback("gem").command(gem)),
+        ("r1", Asked::Retire("gem").command(gem)),
+        ("r2", Asked::Retire("gem").command(gem)),
     ];
-    apply_all(alloc, desk, &requests)
+    let answers = apply_all(alloc, desk, &requests)?;
+    push_answers(alloc, text, answers.as_slice())?;
+    Ok(())
 }
 
-const FOUR: [(u64, Option<Verb>, Option<u64>); 4] = [
-    (1, Some(Verb::Install), Some(1)),
-    (23, None, None),
-    (1, Some(Verb::Install), Some(1)),
-    (2, Some(Verb::Retire), None),
-];
+/// What comes after it: nothing is there, and no command is no answer.
+fn check_after(rt: &impl Abort, alloc: Global, desk: &mut PlainDesk) -> Result<(), Fail> {
+    assert_eq!(rt; desk.summary()?.items.len(), 0);
+    assert_eq!(rt; desk.summary()?.accepted, 2);
+    let none = apply_all(alloc, desk, &[])?;
+    assert_eq!(rt; none.len(), 0);
+    Ok(())
+}
 
 #[test]
 fn each_in_turn(rt: HostRuntime) -> Result<(), Fail> {
     let alloc = rt.alloc();
+    let gem = read(alloc, GEM)?;
     let mut desk = PlainDesk::new(alloc);
-    let edition = read(alloc, GEM)?;
-    let answers = four(alloc, &mut desk, &edition)?;
-    assert_eq!(rt; answers.len(), FOUR.len());
-    for (answer, wanted) in answers.iter().zip(FOUR.iter()) {
-        assert_eq!(rt; told(answer), *wanted);
-    }
-    assert_eq!(rt; desk.summary()?.items.len(), 0);
-    assert_eq!(rt; desk.summary()?.accepted, 2);
-    let none = apply_all(alloc, &mut desk, &[])?;
-    assert_eq!(rt; none.len(), 0);
+    let mut text = String::new(alloc);
+    push_four(alloc, &mut text, &mut desk, &gem)?;
+    assert_eq!(rt;
+        text.as_str(),
+        "1 Install gem #1; 23 NoFormer; 1 Install gem #1; 2 Retire gem; "
+    );
+    check_after(&rt, alloc, &mut desk)
+}
+
+#[test]
+fn a_halt(rt: HostRuntime) {
     let halted = Halted {
         stand: 2,
         fault: Fault::Disk,
     };
     assert_eq!(rt; halted.fault.number(), 41);
-    Ok(())
 }

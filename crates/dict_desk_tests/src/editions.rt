@@ -1,23 +1,39 @@
+// Pairs of files that are read, and that are refused.
+use super::files::GEM;
 use bstr::ByteSlice;
-use dict_index::{Entry, IndexFault, Refusal, entry_key, is_edition_text, read_edition};
+use dict_index::{Edition, Entry, IndexFault, Refusal, entry_key, is_edition_text, read_edition};
 use std::alloc::{AllocError, Global};
+use std::process::Abort;
 use std::test::Fail;
 
-const GEM_INDEX: &[u8] = b"00-database-short\tA\tZ\nopal\tZ\tP\nFire Opal\tZ\tP\ndot\to\tF\n";
+/// A refusal's name and its line, or 0 where it has none; and no name where an edition is read.
+#[derive(Clone, Copy)]
+struct Told(&'static str, usize);
 
-const GEM_TEXT: &[u8] = b"00-database-short\n  Gems\nopal\n  a stone\n.dot\n";
+const READ: Told = Told("", 0);
 
-// The refusal and its line, or nothing where an edition is read.
-fn refusal_of(
+fn told_of(alloc: Global, index: &[u8], text: &[u8]) -> Result<Told, AllocError> {
+    match read_edition(alloc, index, text) {
+        Ok(_edition) => Ok(READ),
+        Err(IndexFault::Refused { refusal, line }) => {
+            Ok(Told(refusal.name(), line.unwrap_or(0)))
+        }
+        Err(IndexFault::Memory) => Err(AllocError),
+    }
+}
+
+// Reads the files, which have to be refused so.
+fn check(
+    rt: &impl Abort,
     alloc: Global,
     index: &[u8],
     text: &[u8],
-) -> Result<Option<(Refusal, Option<usize>)>, AllocError> {
-    match read_edition(alloc, index, text) {
-        Ok(_edition) => Ok(None),
-        Err(IndexFault::Refused { refusal, line }) => Ok(Some((refusal, line))),
-        Err(IndexFault::Memory) => Err(AllocError),
-    }
+    told: Told,
+) -> Result<(), Fail> {
+    let Told(name, line) = told_of(alloc, index, text)?;
+    assert_eq!(rt; name, told.0);
+    assert_eq!(rt; line, told.1, "{name}");
+    Ok(())
 }
 
 // So many pieces, one behind the other, between a front and an end.
@@ -41,386 +57,408 @@ fn as_text(octets: &[u8]) -> &str {
     octets.to_str().unwrap_or("")
 }
 
-// The entries of an edition, each as its headword, key, offset, size and text.
+// Puts an entry as its headword, key, offset, size and text.
+fn push_entry(alloc: Global, text: &mut String, entry: &Entry<'_>) -> Result<(), AllocError> {
+    text.push_str(entry.headword)?;
+    text.push_str("=")?;
+    text.push_str(as_text(entry.key.as_bytes()))?;
+    let span = format!(in alloc; " {} {} ", entry.offset, entry.size)?;
+    text.push_str(span.as_str())?;
+    text.push_str(entry.body)
+}
+
 fn entries_in(alloc: Global, entries: &[Entry<'_>]) -> Result<String, AllocError> {
     let mut text = String::new(alloc);
     for entry in entries {
-        text.push_str(entry.headword)?;
-        text.push_str("=")?;
-        text.push_str(as_text(entry.key.as_bytes()))?;
-        text.push_str(&format!(in alloc; " {} {} ", entry.offset, entry.size)?)?;
-        text.push_str(entry.body)?;
+        push_entry(alloc, &mut text, entry)?;
     }
     Ok(text)
 }
 
+// An index, a text, and the title, what the database says of itself, and the entries.
+#[derive(Clone, Copy)]
+struct Case(
+    &'static [u8],
+    &'static [u8],
+    &'static str,
+    &'static str,
+    &'static str,
+);
+
+static CASES: [Case; 7] = [
+    Case(
+        b"00-database-short\tA\tZ\nopal\tZ\tP\nFire Opal\tZ\tP\ndot\to\tF\n",
+        b"00-database-short\n  Gems\nopal\n  a stone\n.dot\n",
+        "Gems",
+        "",
+        "opal=opal 25 15 opal\n  a stone\nFire Opal=fire opal 25 15 opal\n  a stone\ndot=dot 40 5 .dot\n",
+    ),
+    Case(
+        b"00-database-short\tA\tX\niron\tX\tL\n",
+        b"00-database-short\nOres\niron\n  ore\n",
+        "Ores",
+        "",
+        "iron=iron 23 11 iron\n  ore\n",
+    ),
+    Case(
+        b"00-database-short\tA\tZ\n+\tZ\tF\n",
+        b"00-database-short\n  Gems\nplus\n",
+        "Gems",
+        "",
+        "+=+ 25 5 plus\n",
+    ),
+    Case(
+        b"00-database-short\tA\tZ\na\tZ\tC\na\xf4\x8f\xbf\xbf\tZ\tC\nb\tZ\tC\n",
+        b"00-database-short\n  Gems\nx\n",
+        "Gems",
+        "",
+        "a=a 25 2 x\na\u{10ffff}=a\u{10ffff} 25 2 x\nb=b 25 2 x\n",
+    ),
+    Case(
+        b"00-database-short\tA\tX\n00-database-info\tX\tX\n",
+        b"00-database-short\nGems\n00-database-info\n.a\n\nb\n",
+        "Gems",
+        ".a\n\nb\n",
+        "",
+    ),
+    // One key line alone is dropped, of the short text its own; any spelling of the key will do.
+    Case(
+        b"00-Database-SHORT\tA\tR\n00databaseinfo\tR\ti\n",
+        b"00-database-info\n00-database-info\n00databaseinfo\nx\n",
+        "00-database-info",
+        "00databaseinfo\nx\n",
+        "",
+    ),
+    Case(b"00databaseshort\tA\tI\n", b" \tGems\t \nx", "Gems", "", ""),
+];
+
+fn check_edition(
+    rt: &impl Abort,
+    alloc: Global,
+    edition: &Edition<'static>,
+    case: &Case,
+) -> Result<(), Fail> {
+    let Case(_, text, title, info, entries) = case;
+    edition.is_well_formed();
+    assert_eq!(rt; edition.title(), *title);
+    assert_eq!(rt; edition.info(), *info, "of {title}");
+    assert!(rt; edition.text() == *text, "text of {title}");
+    let read = entries_in(alloc, edition.entries())?;
+    assert_eq!(rt; read.as_str(), *entries, "entries of {title}");
+    Ok(())
+}
+
+fn read_case(rt: &impl Abort, alloc: Global, case: &Case) -> Result<(), Fail> {
+    let edition = read_edition(alloc, case.0, case.1)?;
+    check_edition(rt, alloc, &edition, case)
+}
+
 #[test]
 fn reads_editions(rt: HostRuntime) -> Result<(), Fail> {
-    let cases: [(&[u8], &[u8], &str, &str, &str); 7] = [
-        (
-            GEM_INDEX,
-            GEM_TEXT,
-            "Gems",
-            "",
-            "opal=opal 25 15 opal\n  a stone\nFire Opal=fire opal 25 15 opal\n  a stone\ndot=dot 40 5 .dot\n",
-        ),
-        (
-            b"00-database-short\tA\tX\niron\tX\tL\n",
-            b"00-database-short\nOres\niron\n  ore\n",
-            "Ores",
-            "",
-            "iron=iron 23 11 iron\n  ore\n",
-        ),
-        (
-            b"00-database-short\tA\tZ\n+\tZ\tF\n",
-            b"00-database-short\n  Gems\nplus\n",
-            "Gems",
-            "",
-            "+=+ 25 5 plus\n",
-        ),
-        (
-            b"00-database-short\tA\tZ\na\tZ\tC\na\xf4\x8f\xbf\xbf\tZ\tC\nb\tZ\tC\n",
-            b"00-database-short\n  Gems\nx\n",
-            "Gems",
-            "",
-            "a=a 25 2 x\na\u{10ffff}=a\u{10ffff} 25 2 x\nb=b 25 2 x\n",
-        ),
-        (
-            b"00-database-short\tA\tX\n00-database-info\tX\tX\n",
-            b"00-database-short\nGems\n00-database-info\n.a\n\nb\n",
-            "Gems",
-            ".a\n\nb\n",
-            "",
-        ),
-        // One key line alone is dropped, of the short text its own; any spelling of the key will do.
-        (
-            b"00-Database-SHORT\tA\tR\n00databaseinfo\tR\ti\n",
-            b"00-database-info\n00-database-info\n00databaseinfo\nx\n",
-            "00-database-info",
-            "00databaseinfo\nx\n",
-            "",
-        ),
-        (b"00databaseshort\tA\tI\n", b" \tGems\t \nx", "Gems", "", ""),
-    ];
-    for (index, text, title, info, entries) in &cases {
-        let edition = read_edition(rt.alloc(), index, text)?;
-        edition.is_well_formed();
-        assert_eq!(rt; edition.title(), *title);
-        assert_eq!(rt; edition.info(), *info, "of {title}");
-        assert!(rt; edition.text() == *text, "text of {title}");
-        let read = entries_in(rt.alloc(), edition.entries())?;
-        assert!(rt; read.as_str() == *entries, "entries of {title}: {read}");
+    for case in &CASES {
+        read_case(&rt, rt.alloc(), case)?;
     }
     Ok(())
 }
 
+static REFUSALS: [(Refusal, u8, &str); 14] = [
+    (Refusal::IndexNotUtf8, 1, "IndexNotUtf8"),
+    (Refusal::Columns, 2, "Columns"),
+    (Refusal::Number, 3, "Number"),
+    (Refusal::Interval, 4, "Interval"),
+    (Refusal::Headword, 5, "Headword"),
+    (Refusal::BodyText, 6, "BodyText"),
+    (Refusal::BodyLine, 7, "BodyLine"),
+    (Refusal::Reserved, 8, "Reserved"),
+    (Refusal::ReservedTwice, 9, "ReservedTwice"),
+    (Refusal::NoTitle, 10, "NoTitle"),
+    (Refusal::BadTitle, 11, "BadTitle"),
+    (Refusal::TooManyEntries, 12, "TooManyEntries"),
+    (Refusal::TextTooLong, 13, "TextTooLong"),
+    (Refusal::LastLine, 14, "LastLine"),
+];
+
 #[test]
 fn numbers_and_names(rt: HostRuntime) {
-    let cases = [
-        (Refusal::IndexNotUtf8, 1, "IndexNotUtf8"),
-        (Refusal::Columns, 2, "Columns"),
-        (Refusal::Number, 3, "Number"),
-        (Refusal::Interval, 4, "Interval"),
-        (Refusal::Headword, 5, "Headword"),
-        (Refusal::BodyText, 6, "BodyText"),
-        (Refusal::BodyLine, 7, "BodyLine"),
-        (Refusal::Reserved, 8, "Reserved"),
-        (Refusal::ReservedTwice, 9, "ReservedTwice"),
-        (Refusal::NoTitle, 10, "NoTitle"),
-        (Refusal::BadTitle, 11, "BadTitle"),
-        (Refusal::TooManyEntries, 12, "TooManyEntries"),
-        (Refusal::TextTooLong, 13, "TextTooLong"),
-        (Refusal::LastLine, 14, "LastLine"),
-    ];
-    for (refusal, number, name) in &cases {
+    for (refusal, number, name) in &REFUSALS {
         assert_eq!(rt; refusal.number(), *number);
         assert_eq!(rt; refusal.name(), *name);
     }
 }
 
-#[test]
-fn parts_keep_their_limits(rt: HostRuntime) -> Result<(), Fail> {
-    let headwords = [
-        ("Fire Opal", Some("fire opal")),
-        ("+", Some("+")),
-        ("00-data", Some("00data")),
-        ("", None),
-        (" \u{a0}", Some("\u{a0}")),
-        (" ", None),
-        ("a\tb", None),
-        ("00-database-short", None),
-        ("00 Database", Some("00 database")),
-        ("00databaseurl", None),
-    ];
-    for (headword, key) in &headwords {
-        match entry_key(rt.alloc(), headword)? {
-            Some(found) => assert_eq!(rt; Some(as_text(found.as_bytes())), *key, "of {headword}"),
-            None => assert_eq!(rt; *key, None, "of {headword}"),
-        }
-    }
-    let longest = repeated(rt.alloc(), b"", b"a", 255, b"")?;
-    assert!(rt; entry_key(rt.alloc(), as_text(&longest))?.is_some());
-    let longer = repeated(rt.alloc(), b"", b"a", 256, b"")?;
-    assert!(rt; entry_key(rt.alloc(), as_text(&longer))?.is_none());
+// Headwords, and their keys, or the empty text where they have none.
+static HEADWORDS: [(&str, &str); 10] = [
+    ("Fire Opal", "fire opal"),
+    ("+", "+"),
+    ("00-data", "00data"),
+    ("", ""),
+    (" \u{a0}", "\u{a0}"),
+    (" ", ""),
+    ("a\tb", ""),
+    ("00-database-short", ""),
+    ("00 Database", "00 database"),
+    ("00databaseurl", ""),
+];
 
-    let texts: [(&[u8], bool); 6] = [
-        (b"", true),
-        (b"\n\ta\n\n", true),
-        ("\u{80}\u{10ffff}".as_bytes(), true),
-        (b"a\rb", false),
-        (b"a\x7f", false),
-        (b"a\x80", false),
-    ];
-    for (text, is_lawful) in &texts {
-        assert_eq!(rt; is_edition_text(text), *is_lawful);
+fn check_headword(rt: &impl Abort, alloc: Global, headword: &str, key: &str) -> Result<(), Fail> {
+    match entry_key(alloc, headword)? {
+        Some(found) => assert_eq!(rt; as_text(found.as_bytes()), key, "of {headword}"),
+        None => assert_eq!(rt; "", key, "of {headword}"),
     }
-    let long_line = repeated(rt.alloc(), b"x\n", b"a", 1021, b"\ny")?;
-    assert!(rt; is_edition_text(&long_line));
-    let longer_line = repeated(rt.alloc(), b"x\n", b"a", 1022, b"\ny")?;
-    assert!(rt; !is_edition_text(&longer_line));
     Ok(())
 }
 
+// Whether so many letters are a headword.
+fn has_key(alloc: Global, count: usize) -> Result<bool, AllocError> {
+    let headword = repeated(alloc, b"", b"a", count, b"")?;
+    Ok(entry_key(alloc, as_text(&headword))?.is_some())
+}
+
+#[test]
+fn headwords_keep_their_limits(rt: HostRuntime) -> Result<(), Fail> {
+    for (headword, key) in &HEADWORDS {
+        check_headword(&rt, rt.alloc(), headword, key)?;
+    }
+    assert!(rt; has_key(rt.alloc(), 255)?);
+    assert!(rt; !has_key(rt.alloc(), 256)?);
+    Ok(())
+}
+
+static TEXTS: [(&[u8], bool); 6] = [
+    (b"", true),
+    (b"\n\ta\n\n", true),
+    (b"\xc2\x80\xf4\x8f\xbf\xbf", true),
+    (b"a\rb", false),
+    (b"a\x7f", false),
+    (b"a\x80", false),
+];
+
+// Whether a text with a line of so many letters is lawful.
+fn line_fits(alloc: Global, count: usize) -> Result<bool, AllocError> {
+    let text = repeated(alloc, b"x\n", b"a", count, b"\ny")?;
+    Ok(is_edition_text(&text))
+}
+
+#[test]
+fn texts_keep_their_limits(rt: HostRuntime) -> Result<(), Fail> {
+    for (text, is_lawful) in &TEXTS {
+        assert_eq!(rt; is_edition_text(text), *is_lawful);
+    }
+    assert!(rt; line_fits(rt.alloc(), 1021)?);
+    assert!(rt; !line_fits(rt.alloc(), 1022)?);
+    Ok(())
+}
+
+// Where two faults are in the files, that of the earlier test is told.
+static WHOLE: [(&[u8], &[u8], &str); 13] = [
+    (b"", b"", "NoTitle"),
+    (b"opal\tA\tA\n", b"", "NoTitle"),
+    (b"00databaseshort\tA\tA\n", b"", "NoTitle"),
+    (b"00databaseshort\tA\tQ\n", b"00databaseshort\n", "NoTitle"),
+    (b"00databaseshort\tA\tP\n", b"00databaseshort", "NoTitle"),
+    (b"00databaseshort\tA\tB\n", b"\n", "BadTitle"),
+    (b"00databaseshort\tA\tD\n", b" \t\nx", "BadTitle"),
+    (b"00databaseshort\tA\tD\n", b"a\tb", "BadTitle"),
+    (b"00databaseshort\tA\tD\n", b"a b", ""),
+    (b"opal\tA\tA", b"", "LastLine"),
+    (b"\xff\tA\tA\n", b"", "IndexNotUtf8"),
+    (b"\xff", b"", "IndexNotUtf8"),
+    (b"opal", b"", "LastLine"),
+];
+
 #[test]
 fn refuses_files_as_a_whole(rt: HostRuntime) -> Result<(), Fail> {
-    let cases: [(&[u8], &[u8], Option<Refusal>); 13] = [
-        (b"", b"", Some(Refusal::NoTitle)),
-        (b"opal\tA\tA\n", b"", Some(Refusal::NoTitle)),
-        (b"00databaseshort\tA\tA\n", b"", Some(Refusal::NoTitle)),
-        (
-            b"00databaseshort\tA\tQ\n",
-            b"00databaseshort\n",
-            Some(Refusal::NoTitle),
-        ),
-        (
-            b"00databaseshort\tA\tP\n",
-            b"00databaseshort",
-            Some(Refusal::NoTitle),
-        ),
-        (b"00databaseshort\tA\tB\n", b"\n", Some(Refusal::BadTitle)),
-        (
-            b"00databaseshort\tA\tD\n",
-            b" \t\nx",
-            Some(Refusal::BadTitle),
-        ),
-        (b"00databaseshort\tA\tD\n", b"a\tb", Some(Refusal::BadTitle)),
-        (b"00databaseshort\tA\tD\n", b"a b", None),
-        (b"opal\tA\tA", b"", Some(Refusal::LastLine)),
-        (b"\xff\tA\tA\n", b"", Some(Refusal::IndexNotUtf8)),
-        // Two faults: that of the earlier test is told.
-        (b"\xff", b"", Some(Refusal::IndexNotUtf8)),
-        (b"opal", b"", Some(Refusal::LastLine)),
-    ];
-    for (index, text, refusal) in &cases {
-        let want = match refusal {
-            Some(refusal) => Some((*refusal, None)),
-            None => None,
-        };
-        assert!(rt;
-            refusal_of(rt.alloc(), index, text)? == want,
-            "want {refusal:?}"
-        );
+    for (index, text, name) in &WHOLE {
+        check(&rt, rt.alloc(), index, text, Told(name, 0))?;
+    }
+    Ok(())
+}
+
+// Behind the text of `gem`: a line that a text may not have, and a line of 1,022 octets.
+fn with_bad_end(alloc: Global, line: &[u8]) -> Result<Vec<u8>, AllocError> {
+    let front = repeated(alloc, GEM.2, b"", 0, line)?;
+    repeated(alloc, &front, b"x", 1_022, b"")
+}
+
+// Where two faults are in a line, that of the earlier test is told.
+static LINES: [(&[u8], &str); 16] = [
+    (b"opal\tZ\n", "Columns"),
+    (b"opal\tZ\tP\tP\n", "Columns"),
+    (b"\n", "Columns"),
+    (b"opal\tZ\tAP\n", "Number"),
+    (b"opal\tZ\tP\r\n", "Number"),
+    (b"opal\tZ\t//\n", "Interval"),
+    (b"\tZ\tP\n", "Headword"),
+    (b" \tZ\tP\n", "Headword"),
+    (b"o\x7fal\tZ\tP\n", "Headword"),
+    (b"opal\tt\tB\n", "BodyText"),
+    (b"opal\tu\tB\n", "BodyText"),
+    (b"opal\tw\tP+\n", "BodyLine"),
+    (b"00-database-flags\tA\tZ\n", "Reserved"),
+    (b"opal\tAA\n", "Columns"),
+    (b"\tAA\t//////\n", "Number"),
+    (b"00-database-flags\tw\tP+\n", "BodyLine"),
+];
+
+static GOOD: [&[u8]; 2] = [b"00-database-short\tA\tZ\n", b"dot\to\tF\n"];
+
+// The good lines, with another one at this place.
+fn index_with(alloc: Global, line: &[u8], place: usize) -> Result<Vec<u8>, AllocError> {
+    let mut index: Vec<u8> = Vec::new(alloc);
+    for (k, other) in GOOD.iter().enumerate() {
+        if k == place {
+            index.extend_from_slice(line)?;
+        }
+        index.extend_from_slice(other)?;
+    }
+    if place == 2 {
+        index.extend_from_slice(line)?;
+    }
+    Ok(index)
+}
+
+fn check_line(
+    rt: &impl Abort,
+    alloc: Global,
+    text: &[u8],
+    line: &[u8],
+    name: &'static str,
+) -> Result<(), Fail> {
+    for place in 0..3usize {
+        let index = index_with(alloc, line, place)?;
+        check(rt, alloc, &index, text, Told(name, place + 1))?;
     }
     Ok(())
 }
 
 #[test]
 fn refuses_a_line_wherever_it_stands(rt: HostRuntime) -> Result<(), Fail> {
-    // Behind the text: an octet that is not UTF-8, a control character, LF, and a line of 1,022 octets.
-    let mut front = GEM_TEXT.to_vec(rt.alloc())?;
-    front.extend_from_slice(b"\xc3\x01\n")?;
-    let text = repeated(rt.alloc(), &front, b"x", 1_022, b"")?;
-    let cases: [(&[u8], Refusal); 16] = [
-        (b"opal\tZ\n", Refusal::Columns),
-        (b"opal\tZ\tP\tP\n", Refusal::Columns),
-        (b"\n", Refusal::Columns),
-        (b"opal\tZ\tAP\n", Refusal::Number),
-        (b"opal\tZ\tP\r\n", Refusal::Number),
-        (b"opal\tZ\t//\n", Refusal::Interval),
-        (b"\tZ\tP\n", Refusal::Headword),
-        (b" \tZ\tP\n", Refusal::Headword),
-        (b"o\x7fal\tZ\tP\n", Refusal::Headword),
-        (b"opal\tt\tB\n", Refusal::BodyText),
-        (b"opal\tu\tB\n", Refusal::BodyText),
-        (b"opal\tw\tP+\n", Refusal::BodyLine),
-        (b"00-database-flags\tA\tZ\n", Refusal::Reserved),
-        // Two faults: that of the earlier test is told.
-        (b"opal\tAA\n", Refusal::Columns),
-        (b"\tAA\t//////\n", Refusal::Number),
-        (b"00-database-flags\tw\tP+\n", Refusal::BodyLine),
-    ];
-    let good: [&[u8]; 2] = [b"00-database-short\tA\tZ\n", b"dot\to\tF\n"];
-    for (line, refusal) in &cases {
-        for place in 0..3usize {
-            let mut index: Vec<u8> = Vec::new(rt.alloc());
-            for (k, other) in good.iter().enumerate() {
-                if k == place {
-                    index.extend_from_slice(line)?;
-                }
-                index.extend_from_slice(other)?;
-            }
-            if place == 2 {
-                index.extend_from_slice(line)?;
-            }
-            let want = Some((*refusal, Some(place + 1)));
-            assert!(rt;
-                refusal_of(rt.alloc(), &index, &text)? == want,
-                "{refusal:?} at {place}"
-            );
-        }
+    let text = with_bad_end(rt.alloc(), b"\xc3\x01\n")?;
+    for (line, name) in &LINES {
+        check_line(&rt, rt.alloc(), &text, line, name)?;
     }
     Ok(())
 }
 
+// Lines behind that of the title, and what is told of them.
+static FIRST: [(&[u8], Told); 16] = [
+    (
+        b"opal\tZ\tP\nFire Opal\tZ\tP\ndot\to\t//\n",
+        Told("Interval", 4),
+    ),
+    (b"\tZ\tQQQQQQQ\n", Told("Number", 2)),
+    (b"\tZ\t//\n", Told("Interval", 2)),
+    (b"\tt\tB\n", Told("Headword", 2)),
+    (b"opal\tt\tQA\n", Told("BodyText", 2)),
+    (b"opal\tv\tP9\n", READ),
+    (b"opal\tv\tP+\n", Told("BodyLine", 2)),
+    (b"opal\tv\tP+\nopal\n", Told("BodyLine", 2)),
+    (b"00-database-short\tv\tP+\n", Told("BodyLine", 2)),
+    (b"00-database-short\tA\tZ\n", Told("ReservedTwice", 2)),
+    (
+        b"opal\tZ\tP\n00databaseSHORT\tA\tA\ndot\n",
+        Told("ReservedTwice", 3),
+    ),
+    (
+        b"opal\tZ\tP\n00databaseurl\tA\tA\n00databaseurl\tA\tA\n",
+        Told("ReservedTwice", 4),
+    ),
+    (b"opal\tZ\tP\n00-database-alphabet\tA\tZ\n", READ),
+    (
+        b"00-database-url\tA\tZ\n00-database-utf8\tA\tZ\n00-database-info\tA\tZ\n",
+        READ,
+    ),
+    (
+        b"00-database-dictfmt-1.2\tA\tA\n00-database-dictfmt-3\tA\tA\n",
+        READ,
+    ),
+    (b"00-database\tA\tA\n", Told("Reserved", 2)),
+];
+
 #[test]
 fn tells_the_first_fault(rt: HostRuntime) -> Result<(), Fail> {
-    let front = repeated(rt.alloc(), GEM_TEXT, b"\x01", 1, b"\n")?;
-    let text = repeated(rt.alloc(), &front, b"x", 1_022, b"")?;
-    let at = |refusal, line: usize| Some((refusal, Some(line)));
-    let cases: [(&[u8], Option<(Refusal, Option<usize>)>); 16] = [
-        (
-            b"opal\tZ\tP\nFire Opal\tZ\tP\ndot\to\t//\n",
-            at(Refusal::Interval, 4),
-        ),
-        (b"\tZ\tQQQQQQQ\n", at(Refusal::Number, 2)),
-        (b"\tZ\t//\n", at(Refusal::Interval, 2)),
-        (b"\tt\tB\n", at(Refusal::Headword, 2)),
-        (b"opal\tt\tQA\n", at(Refusal::BodyText, 2)),
-        (b"opal\tv\tP9\n", None),
-        (b"opal\tv\tP+\n", at(Refusal::BodyLine, 2)),
-        (b"opal\tv\tP+\nopal\n", at(Refusal::BodyLine, 2)),
-        (b"00-database-short\tv\tP+\n", at(Refusal::BodyLine, 2)),
-        (b"00-database-short\tA\tZ\n", at(Refusal::ReservedTwice, 2)),
-        (
-            b"opal\tZ\tP\n00databaseSHORT\tA\tA\ndot\n",
-            at(Refusal::ReservedTwice, 3),
-        ),
-        (
-            b"opal\tZ\tP\n00databaseurl\tA\tA\n00databaseurl\tA\tA\n",
-            at(Refusal::ReservedTwice, 4),
-        ),
-        (b"opal\tZ\tP\n00-database-alphabet\tA\tZ\n", None),
-        (
-            b"00-database-url\tA\tZ\n00-database-utf8\tA\tZ\n00-database-info\tA\tZ\n",
-            None,
-        ),
-        (
-            b"00-database-dictfmt-1.2\tA\tA\n00-database-dictfmt-3\tA\tA\n",
-            None,
-        ),
-        (b"00-database\tA\tA\n", at(Refusal::Reserved, 2)),
-    ];
-    for (lines, want) in &cases {
-        let index = repeated(rt.alloc(), b"00-database-short\tA\tZ\n", lines, 1, b"")?;
-        assert!(rt;
-            refusal_of(rt.alloc(), &index, &text)? == *want,
-            "want {want:?}"
-        );
+    let text = with_bad_end(rt.alloc(), b"\x01\n")?;
+    for (lines, told) in &FIRST {
+        let index = repeated(rt.alloc(), GOOD[0], lines, 1, b"")?;
+        check(&rt, rt.alloc(), &index, &text, *told)?;
     }
     Ok(())
+}
+
+fn told_of_index(len: usize) -> Told {
+    match len {
+        22 | 31 | 45 | 53 => READ,
+        0 => Told("NoTitle", 0),
+        _ => Told("LastLine", 0),
+    }
+}
+
+fn told_of_text(len: usize) -> Told {
+    if len < 25 {
+        Told("Interval", 1)
+    } else if len < 40 {
+        Told("Interval", 2)
+    } else if len < 45 {
+        Told("Interval", 4)
+    } else {
+        READ
+    }
 }
 
 #[test]
 fn refuses_files_that_are_cut_short(rt: HostRuntime) -> Result<(), Fail> {
-    for k in 0..=GEM_INDEX.len() {
-        let want = match k {
-            22 | 31 | 45 | 53 => None,
-            0 => Some((Refusal::NoTitle, None)),
-            _ => Some((Refusal::LastLine, None)),
-        };
-        let Some(front) = GEM_INDEX.get(..k) else {
-            continue;
-        };
-        assert!(rt;
-            refusal_of(rt.alloc(), front, GEM_TEXT)? == want,
-            "index of {k}"
-        );
+    for k in 0..=GEM.1.len() {
+        let (front, _) = GEM.1.split_at(k);
+        check(&rt, rt.alloc(), front, GEM.2, told_of_index(k))?;
     }
-    for k in 0..=GEM_TEXT.len() {
-        let line: usize = if k < 25 {
-            1
-        } else if k < 40 {
-            2
-        } else {
-            4
-        };
-        let want = if k < 45 {
-            Some((Refusal::Interval, Some(line)))
-        } else {
-            None
-        };
-        let Some(front) = GEM_TEXT.get(..k) else {
-            continue;
-        };
-        assert!(rt;
-            refusal_of(rt.alloc(), GEM_INDEX, front)? == want,
-            "text of {k}"
-        );
+    for k in 0..=GEM.2.len() {
+        let (front, _) = GEM.2.split_at(k);
+        check(&rt, rt.alloc(), GEM.1, front, told_of_text(k))?;
     }
     let text = b"00-database-short\nOres\n\xc3\xa9\n";
     let cut = b"00-database-short\tA\tX\niron\tX\tB\n";
     let whole = b"00-database-short\tA\tX\niron\tX\tC\n";
-    assert!(rt; refusal_of(rt.alloc(), cut, text)? == Some((Refusal::BodyText, Some(2))));
-    assert!(rt; refusal_of(rt.alloc(), whole, text)? == None);
-    Ok(())
+    check(&rt, rt.alloc(), cut, text, Told("BodyText", 2))?;
+    check(&rt, rt.alloc(), whole, text, READ)
 }
+
+const SHORT: &[u8] = b"00-database-short\tA\tZ\n";
+
+// The front, so many pieces and the end of an index over the text of `gem`, and what is told.
+static LIMITS: [(&[u8], &[u8], usize, &[u8], Told); 8] = [
+    (SHORT, b"h", 255, b"\tZ\tP\n", READ),
+    (SHORT, b"h", 256, b"\tZ\tP\n", Told("Headword", 2)),
+    (SHORT, b"a\tA\tA\n", 65_535, b"", READ),
+    (SHORT, b"a\tA\tA\n", 65_536, b"", Told("TooManyEntries", 0)),
+    (b"", b"a\tA\tA\n", 65_536, b"", Told("NoTitle", 0)),
+    (b"", b"a\tA\tA\n", 65_537, b"", Told("TooManyEntries", 0)),
+    (b"", b"\n", 65_537, b"", Told("TooManyEntries", 0)),
+    (b"", b"a\tA\tA\n", 65_537, b"a", Told("LastLine", 0)),
+];
 
 #[test]
 fn keeps_to_the_limits(rt: HostRuntime) -> Result<(), Fail> {
-    let short = b"00-database-short\tA\tZ\n";
-    let too_many = Some((Refusal::TooManyEntries, None));
-    // The front, so many pieces and the end of an index over the text, and the answer.
-    let cases: [(&[u8], &[u8], usize, &[u8], Option<(Refusal, Option<usize>)>); 8] = [
-        (short, b"h", 255, b"\tZ\tP\n", None),
-        (
-            short,
-            b"h",
-            256,
-            b"\tZ\tP\n",
-            Some((Refusal::Headword, Some(2))),
-        ),
-        (short, b"a\tA\tA\n", 65_535, b"", None),
-        (short, b"a\tA\tA\n", 65_536, b"", too_many),
-        (
-            b"",
-            b"a\tA\tA\n",
-            65_536,
-            b"",
-            Some((Refusal::NoTitle, None)),
-        ),
-        (b"", b"a\tA\tA\n", 65_537, b"", too_many),
-        (b"", b"\n", 65_537, b"", too_many),
-        (
-            b"",
-            b"a\tA\tA\n",
-            65_537,
-            b"a",
-            Some((Refusal::LastLine, None)),
-        ),
-    ];
-    for (front, piece, count, end, want) in &cases {
+    for (front, piece, count, end, told) in &LIMITS {
         let index = repeated(rt.alloc(), front, piece, *count, end)?;
-        assert!(rt;
-            refusal_of(rt.alloc(), &index, GEM_TEXT)? == *want,
-            "{count}: {want:?}"
-        );
+        check(&rt, rt.alloc(), &index, GEM.2, *told)?;
     }
     let title = repeated(rt.alloc(), b"00-database-short\n", b"x", 201, b"")?;
-    assert!(rt; refusal_of(rt.alloc(), b"00databaseshort\tA\tDa\n", &title)? == None);
-    assert!(rt;
-        refusal_of(rt.alloc(), b"00databaseshort\tA\tDb\n", &title)?
-            == Some((Refusal::BadTitle, None))
-    );
-    Ok(())
+    check(&rt, rt.alloc(), b"00databaseshort\tA\tDa\n", &title, READ)?;
+    check(
+        &rt,
+        rt.alloc(),
+        b"00databaseshort\tA\tDb\n",
+        &title,
+        Told("BadTitle", 0),
+    )
 }
 
 #[test]
 fn keeps_to_the_limit_of_a_text(rt: HostRuntime) -> Result<(), Fail> {
     let mut text: Vec<u8> = Vec::new(rt.alloc());
     text.resize(16_777_216, b'x')?;
-    assert!(rt; refusal_of(rt.alloc(), b"", &text)? == Some((Refusal::NoTitle, None)));
+    check(&rt, rt.alloc(), b"", &text, Told("NoTitle", 0))?;
     text.push(b'x')?;
-    assert!(rt; refusal_of(rt.alloc(), b"", &text)? == Some((Refusal::TextTooLong, None)));
-    assert!(rt; refusal_of(rt.alloc(), b"\xff", &text)? == Some((Refusal::TextTooLong, None)));
-    Ok(())
+    check(&rt, rt.alloc(), b"", &text, Told("TextTooLong", 0))?;
+    check(&rt, rt.alloc(), b"\xff", &text, Told("TextTooLong", 0))
 }

@@ -1,8 +1,9 @@
 // Pairs of files.
-use dict_catalogue::{Command, Kept};
-use dict_desk::{Fault, Keeper};
+use dict_catalogue::Command;
+use dict_desk::{Keeper, PlainDesk};
 use dict_index::{Edition, IndexFault, read_edition};
 use std::alloc::Global;
+use std::test::Fail;
 
 /// A name, an index and a text.
 #[derive(Clone, Copy)]
@@ -14,14 +15,27 @@ pub(crate) fn read(alloc: Global, files: Files) -> Result<Edition<'static>, Inde
 }
 
 /// Installs the edition under a name.
-pub(crate) fn install<K: Keeper>(
-    desk: &mut K,
+pub(crate) fn install(
+    desk: &mut PlainDesk,
     id: &str,
     name: &str,
     edition: &Edition,
-) -> Result<Kept, Fault> {
+) -> Result<(), Fail> {
     let command = Command::Install { name, edition };
-    desk.apply(id, &command)
+    desk.apply(id, &command)?;
+    Ok(())
+}
+
+/// The same for the edition that the files say.
+pub(crate) fn install_files(
+    alloc: Global,
+    desk: &mut PlainDesk,
+    id: &str,
+    name: &str,
+    files: Files,
+) -> Result<(), Fail> {
+    let edition = read(alloc, files)?;
+    install(desk, id, name, &edition)
 }
 
 pub(crate) const GEM: Files = Files(

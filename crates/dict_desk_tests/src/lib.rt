@@ -5,6 +5,8 @@
 #[cfg(test)]
 mod all;
 #[cfg(test)]
+mod asked;
+#[cfg(test)]
 mod callers;
 #[cfg(test)]
 mod commands;

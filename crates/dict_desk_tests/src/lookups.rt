@@ -1,9 +1,9 @@
 // Lookups in a catalogue in memory.
-use super::files::{EDGE, Files, GEM, ORE, STONES, TELL, install, read};
-use super::rows::{Asked, hand_out};
-use dict_desk::{Fault, Keeper, Lookup, PlainDesk, What};
+use super::files::{EDGE, GEM, ORE, STONES, TELL, install, install_files};
+use super::rows::{Sought, counts, hand_out};
+use dict_desk::PlainDesk;
 use dict_index::read_edition;
-use dict_match::{Strategy, key_of};
+use dict_match::Strategy;
 use std::alloc::{AllocError, Global};
 use std::process::Abort;
 use std::test::Fail;
@@ -23,17 +23,15 @@ fn row_count(text: &str) -> u64 {
     count
 }
 
-fn check<L: Lookup>(rt: &impl Abort, alloc: Global, desk: &mut L, row: Row) -> Result<(), Fault> {
-    let Row(number, strategy, text, found, heads) = row;
-    let query = key_of(alloc, text)?;
-    let entries = hand_out(alloc, desk, number, Asked::Found, strategy, text, 9)?;
-    assert_eq!(rt; entries.as_str(), found, "{text:?}");
-    let words = hand_out(alloc, desk, number, Asked::Heads, strategy, text, 9)?;
-    assert_eq!(rt; words.as_str(), heads, "{text:?}");
-    let entries = desk.count(number, strategy, &query, What::Entries)?;
-    assert_eq!(rt; entries, row_count(found), "{text:?}");
-    let words = desk.count(number, strategy, &query, What::Headwords)?;
-    assert_eq!(rt; words, row_count(heads), "{text:?}");
+fn check(rt: &impl Abort, alloc: Global, desk: &mut PlainDesk, row: Row) -> Result<(), Fail> {
+    let Row(number, strategy, query, found, heads) = row;
+    let rows = hand_out(alloc, desk, number, Sought::Found, strategy, query, 9)?;
+    assert_eq!(rt; rows.as_str(), found, "{query:?}");
+    let rows = hand_out(alloc, desk, number, Sought::Heads, strategy, query, 9)?;
+    assert_eq!(rt; rows.as_str(), heads, "{query:?}");
+    let (entries, words) = counts(alloc, desk, number, strategy, query)?;
+    assert_eq!(rt; entries, row_count(found), "{query:?}");
+    assert_eq!(rt; words, row_count(heads), "{query:?}");
     Ok(())
 }
 
@@ -156,145 +154,151 @@ static ROWS: [Row; 26] = [
     Row(u64::MAX, Strategy::Exact, "opal", ".", "."),
 ];
 
+// An edition's number, at most how many rows of what it says of itself are taken, and these.
+static INFOS: [(u64, usize, &str); 3] = [(4, 9, "=.a\n\nb\n;."), (1, 9, "=;."), (1, 1, "=;!")];
+
+fn run(rt: &impl Abort, alloc: Global, desk: &mut PlainDesk) -> Result<(), Fail> {
+    for files in [GEM, ORE, EDGE, TELL, STONES] {
+        install_files(alloc, desk, files.0, files.0, files)?;
+    }
+    for row in &ROWS {
+        check(rt, alloc, desk, *row)?;
+    }
+    for (number, most, info) in &INFOS {
+        let rows = hand_out(
+            alloc,
+            desk,
+            *number,
+            Sought::Info,
+            Strategy::Exact,
+            "",
+            *most,
+        )?;
+        assert_eq!(rt; rows.as_str(), *info);
+    }
+    Ok(())
+}
+
 #[test]
 fn all_strategies(rt: HostRuntime) -> Result<(), Fail> {
-    let alloc = rt.alloc();
-    let mut desk = PlainDesk::new(alloc);
-    let mut number = 0u64;
-    for files in [GEM, ORE, EDGE, TELL, STONES] {
-        let edition = read(alloc, files)?;
-        number = install(&mut desk, files.0, files.0, &edition)?.number;
+    let mut desk = PlainDesk::new(rt.alloc());
+    run(&rt, rt.alloc(), &mut desk)
+}
+
+// What is sought in `stones` by a letter, at most how many rows are taken, and these.
+static STOPS: [(Sought, usize, &str); 9] = [
+    (Sought::Found, 1, "pearl=x\n;!"),
+    (Sought::Found, 2, "pearl=x\n;opal=x\n;!"),
+    (Sought::Found, 3, "pearl=x\n;opal=x\n;pearl=y\n;!"),
+    (Sought::Found, 4, "pearl=x\n;opal=x\n;pearl=y\n;agate=x\n;!"),
+    (Sought::Found, 5, "pearl=x\n;opal=x\n;pearl=y\n;agate=x\n;."),
+    (Sought::Heads, 1, "pearl=;!"),
+    (Sought::Heads, 2, "pearl=;opal=;!"),
+    (Sought::Heads, 3, "pearl=;opal=;agate=;!"),
+    (Sought::Heads, 4, "pearl=;opal=;agate=;."),
+];
+
+fn stop_at_each(rt: &impl Abort, alloc: Global, desk: &mut PlainDesk) -> Result<(), Fail> {
+    install_files(alloc, desk, "a", "stones", STONES)?;
+    for (sought, most, text) in &STOPS {
+        let rows = hand_out(alloc, desk, 1, *sought, Strategy::Substring, "a", *most)?;
+        assert_eq!(rt; rows.as_str(), *text);
     }
-    assert_eq!(rt; number, 5);
-    for row in ROWS {
-        check(&rt, alloc, &mut desk, row)?;
-    }
-    let info = hand_out(alloc, &mut desk, 4, Asked::Info, Strategy::Exact, "", 9)?;
-    assert_eq!(rt; info.as_str(), "=.a\n\nb\n;.");
-    let info = hand_out(alloc, &mut desk, 1, Asked::Info, Strategy::Exact, "", 9)?;
-    assert_eq!(rt; info.as_str(), "=;.");
-    let info = hand_out(alloc, &mut desk, 1, Asked::Info, Strategy::Exact, "", 1)?;
-    assert_eq!(rt; info.as_str(), "=;!");
     Ok(())
 }
 
 #[test]
 fn a_sink_stops_at_each_row(rt: HostRuntime) -> Result<(), Fail> {
-    let alloc = rt.alloc();
-    let mut desk = PlainDesk::new(alloc);
-    let stones = read(alloc, STONES)?;
-    install(&mut desk, "a", "stones", &stones)?;
-    let found = [
-        (1, "pearl=x\n;!"),
-        (2, "pearl=x\n;opal=x\n;!"),
-        (3, "pearl=x\n;opal=x\n;pearl=y\n;!"),
-        (4, "pearl=x\n;opal=x\n;pearl=y\n;agate=x\n;!"),
-        (5, "pearl=x\n;opal=x\n;pearl=y\n;agate=x\n;."),
-    ];
-    for (most, text) in found {
-        let handed = hand_out(
-            alloc,
-            &mut desk,
-            1,
-            Asked::Found,
-            Strategy::Substring,
-            "a",
-            most,
-        )?;
-        assert_eq!(rt; handed.as_str(), text);
-    }
-    let heads = [
-        (1, "pearl=;!"),
-        (2, "pearl=;opal=;!"),
-        (3, "pearl=;opal=;agate=;!"),
-        (4, "pearl=;opal=;agate=;."),
-    ];
-    for (most, text) in heads {
-        let handed = hand_out(
-            alloc,
-            &mut desk,
-            1,
-            Asked::Heads,
-            Strategy::Substring,
-            "a",
-            most,
-        )?;
-        assert_eq!(rt; handed.as_str(), text);
-    }
-    Ok(())
+    let mut desk = PlainDesk::new(rt.alloc());
+    stop_at_each(&rt, rt.alloc(), &mut desk)
 }
 
-// How many entries end by the word opal in the editions of the first two numbers.
-fn opals<L: Lookup>(alloc: Global, desk: &mut L) -> Result<(u64, u64), Fault> {
-    let query = key_of(alloc, "opal")?;
-    let first = desk.count(1, Strategy::Last, &query, What::Entries)?;
-    let second = desk.count(2, Strategy::Last, &query, What::Entries)?;
-    Ok((first, second))
-}
-
-fn install_as_gem<K: Keeper>(
+// How many entries end by the word opal in the first edition, and none in the second.
+fn check_opals(
+    rt: &impl Abort,
     alloc: Global,
-    desk: &mut K,
-    id: &str,
-    files: Files,
+    desk: &mut PlainDesk,
+    opals: u64,
 ) -> Result<(), Fail> {
-    let edition = read(alloc, files)?;
-    install(desk, id, "gem", &edition)?;
+    let (first, _) = counts(alloc, desk, 1, Strategy::Last, "opal")?;
+    assert_eq!(rt; first, opals);
+    let (second, _) = counts(alloc, desk, 2, Strategy::Last, "opal")?;
+    assert_eq!(rt; second, 0);
     Ok(())
+}
+
+fn come_and_go(rt: &impl Abort, alloc: Global, desk: &mut PlainDesk) -> Result<(), Fail> {
+    install_files(alloc, desk, "a", "gem", GEM)?;
+    check_opals(rt, alloc, desk, 2)?;
+    install_files(alloc, desk, "b", "gem", ORE)?;
+    check_opals(rt, alloc, desk, 2)?;
+    install_files(alloc, desk, "c", "gem", ORE)?;
+    check_opals(rt, alloc, desk, 0)
 }
 
 #[test]
 fn editions_come_and_go(rt: HostRuntime) -> Result<(), Fail> {
-    let alloc = rt.alloc();
-    let mut desk = PlainDesk::new(alloc);
-    install_as_gem(alloc, &mut desk, "a", GEM)?;
-    assert_eq!(rt; opals(alloc, &mut desk)?, (2, 0));
-    install_as_gem(alloc, &mut desk, "b", ORE)?;
-    assert_eq!(rt; opals(alloc, &mut desk)?, (2, 0));
-    install_as_gem(alloc, &mut desk, "c", ORE)?;
-    assert_eq!(rt; opals(alloc, &mut desk)?, (0, 0));
-    Ok(())
+    let mut desk = PlainDesk::new(rt.alloc());
+    come_and_go(&rt, rt.alloc(), &mut desk)
 }
 
-// An edition of 1,000 entries: `word 0` to `word 249`, four times over.
+// An index of 1,000 entries: `word 0` to `word 249`, four times over.
 fn thousand(alloc: Global) -> Result<String, AllocError> {
     let mut index = String::from_str(alloc, "00-database-short\tA\tb\n")?;
     for n in 0..1000u64 {
         let word = n % 250;
-        index.push_str(format!(in alloc; "word {word}\tb\tC\n")?.as_str())?;
+        let line = format!(in alloc; "word {word}\tb\tC\n")?;
+        index.push_str(line.as_str())?;
     }
     Ok(index)
 }
 
-#[test]
-fn a_thousand_entries(rt: HostRuntime) -> Result<(), Fail> {
-    let alloc = rt.alloc();
+fn install_thousand(alloc: Global, desk: &mut PlainDesk) -> Result<(), Fail> {
     let index = thousand(alloc)?;
     let edition = read_edition(alloc, index.as_bytes(), STONES.2)?;
-    let mut desk = PlainDesk::new(alloc);
-    install(&mut desk, "a", "stones", &edition)?;
-    for (strategy, text, entries, headwords) in [
-        (Strategy::Prefix, "word", 1000, 250),
-        (Strategy::Exact, "Word 7", 4, 1),
-        (Strategy::Exact, "7", 0, 0),
-        (Strategy::Prefix, "word 24", 44, 11),
-        (Strategy::Suffix, "7", 100, 25),
-        (Strategy::Substring, "d 24", 44, 11),
-        (Strategy::Word, "7", 4, 1),
-        (Strategy::First, "word", 1000, 250),
-        (Strategy::First, "word 249", 4, 1),
-        (Strategy::Last, "249", 4, 1),
-        (Strategy::Last, "250", 0, 0),
-    ] {
-        let query = key_of(alloc, text)?;
-        let found = desk.count(1, strategy, &query, What::Entries)?;
-        assert_eq!(rt; found, entries, "{text}");
-        let found = desk.count(1, strategy, &query, What::Headwords)?;
-        assert_eq!(rt; found, headwords, "{text}");
-        let handed = hand_out(alloc, &mut desk, 1, Asked::Found, strategy, text, 2000)?;
-        assert_eq!(rt; row_count(handed.as_str()), entries, "{text}");
-        let handed = hand_out(alloc, &mut desk, 1, Asked::Heads, strategy, text, 2000)?;
-        assert_eq!(rt; row_count(handed.as_str()), headwords, "{text}");
+    install(desk, "a", "stones", &edition)
+}
+
+/// A strategy, a query, how many entries it finds, and how many headwords.
+#[derive(Clone, Copy)]
+struct Many(Strategy, &'static str, u64, u64);
+
+static THOUSAND: [Many; 11] = [
+    Many(Strategy::Prefix, "word", 1000, 250),
+    Many(Strategy::Exact, "Word 7", 4, 1),
+    Many(Strategy::Exact, "7", 0, 0),
+    Many(Strategy::Prefix, "word 24", 44, 11),
+    Many(Strategy::Suffix, "7", 100, 25),
+    Many(Strategy::Substring, "d 24", 44, 11),
+    Many(Strategy::Word, "7", 4, 1),
+    Many(Strategy::First, "word", 1000, 250),
+    Many(Strategy::First, "word 249", 4, 1),
+    Many(Strategy::Last, "249", 4, 1),
+    Many(Strategy::Last, "250", 0, 0),
+];
+
+fn check_many(rt: &impl Abort, alloc: Global, desk: &mut PlainDesk, row: Many) -> Result<(), Fail> {
+    let Many(strategy, query, entries, heads) = row;
+    let (found, words) = counts(alloc, desk, 1, strategy, query)?;
+    assert_eq!(rt; found, entries, "{query}");
+    assert_eq!(rt; words, heads, "{query}");
+    let rows = hand_out(alloc, desk, 1, Sought::Found, strategy, query, 2000)?;
+    assert_eq!(rt; row_count(rows.as_str()), entries, "{query}");
+    let rows = hand_out(alloc, desk, 1, Sought::Heads, strategy, query, 2000)?;
+    assert_eq!(rt; row_count(rows.as_str()), heads, "{query}");
+    Ok(())
+}
+
+fn run_thousand(rt: &impl Abort, alloc: Global, desk: &mut PlainDesk) -> Result<(), Fail> {
+    install_thousand(alloc, desk)?;
+    for row in &THOUSAND {
+        check_many(rt, alloc, desk, *row)?;
     }
     Ok(())
+}
+
+#[test]
+fn a_thousand_entries(rt: HostRuntime) -> Result<(), Fail> {
+    let mut desk = PlainDesk::new(rt.alloc());
+    run_thousand(&rt, rt.alloc(), &mut desk)
 }

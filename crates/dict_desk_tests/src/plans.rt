@@ -1,419 +1,434 @@
-use super::commands::listed;
+// What is planned for commands, one after another.
+use super::asked::{Asked, listed, push_gone, push_kept, push_refusal};
 use super::files::{GEM, read};
-use dict_catalogue::{Change, Command, Item, PlanFault, Refusal, StoredTitle, Summary, Verb, plan};
-use dict_index::{Edition, IndexFault};
+use dict_catalogue::{Change, Command, PlanFault, Refusal, Summary, Verb, plan};
+use dict_index::Edition;
 use std::alloc::{AllocError, Global};
+use std::mem::swap;
 use std::process::Abort;
 use std::test::Fail;
 
 /// A command, its answer, and the items after it.
 #[derive(Clone, Copy)]
-struct Row<'a>(Command<'a>, &'static str, &'static str);
+struct Row(Asked, &'static str, &'static str);
 
-/// The answer: the reply's number, verb, name and edition, and the editions that go; or the refusal.
-fn told(alloc: Global, planned: &Result<Change, PlanFault>) -> Result<String, AllocError> {
+/// The answer: the reply, and the editions that go; or the refusal.
+fn push_answer(
+    alloc: Global,
+    text: &mut String,
+    planned: &Result<Change, PlanFault>,
+) -> Result<(), AllocError> {
     match planned {
         Ok(change) => {
-            let kept = &change.kept;
-            let number = kept.number;
-            let verb = kept.verb;
-            let name = kept.name.as_str();
-            let edition = kept.edition;
-            let gone = change.gone.as_slice();
-            format!(in alloc; "{number} {verb:?} {name} {edition:?} {gone:?}")
+            push_kept(alloc, text, &change.kept)?;
+            push_gone(alloc, text, change.gone.as_slice())
         }
         Err(PlanFault::Refused(refusal)) => {
-            let number = refusal.number();
-            let name = refusal.name();
-            format!(in alloc; "{number} {name}")
+            push_refusal(alloc, text, refusal.number(), refusal.name())
         }
-        Err(PlanFault::Memory) => format!(in alloc; "out of memory"),
+        Err(PlanFault::Memory) => Err(AllocError),
     }
 }
 
-/// Runs the commands one after another from this summary on.
+/// Plans a command, puts the answer, and goes on to the summary after it.
+fn step(
+    alloc: Global,
+    text: &mut String,
+    summary: &mut Summary,
+    command: &Command<'_>,
+) -> Result<(), AllocError> {
+    let mut planned = plan(alloc, summary, command);
+    let put = push_answer(alloc, text, &planned);
+    if let Ok(change) = &mut planned {
+        swap(summary, &mut change.summary);
+    }
+    put
+}
+
+fn check(
+    rt: &impl Abort,
+    alloc: Global,
+    summary: &mut Summary,
+    gem: &Edition<'static>,
+    row: Row,
+) -> Result<(), Fail> {
+    let Row(asked, answer, after) = row;
+    let mut text = String::new(alloc);
+    step(alloc, &mut text, summary, &asked.command(gem))?;
+    assert_eq!(rt; text.as_str(), answer);
+    let items = listed(alloc, summary)?;
+    assert_eq!(rt; items.as_str(), after);
+    Ok(())
+}
+
+/// Plans the commands one after another from this summary on.
 fn run(
     rt: &impl Abort,
     alloc: Global,
-    from: Summary,
-    rows: &[Row<'_>],
-) -> Result<Summary, AllocError> {
-    let mut summary = from;
-    for Row(command, answer, after) in rows {
-        let planned = plan(alloc, &summary, command);
-        let answered = told(alloc, &planned)?;
-        assert_eq!(rt; answered.as_str(), *answer);
-        if let Ok(change) = planned {
-            summary = change.summary;
-        }
-        let items = listed(alloc, &summary)?;
-        assert_eq!(rt; items.as_str(), *after);
+    summary: &mut Summary,
+    gem: &Edition<'static>,
+    rows: &[Row],
+) -> Result<(), Fail> {
+    for row in rows {
+        check(rt, alloc, summary, gem, *row)?;
     }
-    Ok(summary)
+    Ok(())
 }
 
-fn gem(alloc: Global) -> Result<Edition<'static>, IndexFault> {
-    read(alloc, GEM)
+/// The same from the empty summary on, by two tables: how many installs were accepted then, and how many commands.
+fn run_both(
+    rt: &impl Abort,
+    alloc: Global,
+    first: &[Row],
+    rows: &[Row],
+) -> Result<(u64, u64), Fail> {
+    let gem = read(alloc, GEM)?;
+    let mut summary = Summary::new(alloc);
+    run(rt, alloc, &mut summary, &gem, first)?;
+    run(rt, alloc, &mut summary, &gem, rows)?;
+    Ok((summary.installs, summary.accepted))
 }
 
-fn put<'a>(name: &'a str, title: &'a str, members: &'a [&'a str]) -> Command<'a> {
-    Command::PutVirtual {
-        name,
-        title,
-        members,
-    }
-}
-
-fn retire(name: &str) -> Command<'_> {
-    Command::Retire { name }
-}
-
-fn rollback(name: &str) -> Command<'_> {
-    Command::Rollback { name }
-}
-
-fn place(name: &str, place: u64) -> Command<'_> {
-    Command::Place { name, place }
-}
+static ONE: [Row; 15] = [
+    Row(Asked::Rollback("gem"), "21 Unknown", ""),
+    Row(Asked::Retire("gem"), "21 Unknown", ""),
+    Row(Asked::Install("gem"), "1 Install gem #1", "gem Gems 1; "),
+    Row(Asked::Rollback("gem"), "23 NoFormer", "gem Gems 1; "),
+    Row(Asked::Install("gem"), "2 Install gem #2", "gem Gems 2/1; "),
+    Row(
+        Asked::Rollback("gem"),
+        "3 Rollback gem #1",
+        "gem Gems 1/2; ",
+    ),
+    Row(
+        Asked::Rollback("gem"),
+        "4 Rollback gem #2",
+        "gem Gems 2/1; ",
+    ),
+    Row(
+        Asked::Install("gem"),
+        "5 Install gem #3 -1",
+        "gem Gems 3/2; ",
+    ),
+    Row(
+        Asked::Rollback("gem"),
+        "6 Rollback gem #2",
+        "gem Gems 2/3; ",
+    ),
+    Row(
+        Asked::Install("gem"),
+        "7 Install gem #4 -3",
+        "gem Gems 4/2; ",
+    ),
+    Row(Asked::Install("Gem"), "20 BadName", "gem Gems 4/2; "),
+    Row(Asked::Retire("gem"), "8 Retire gem -4 -2", ""),
+    Row(Asked::Install("gem"), "9 Install gem #5", "gem Gems 5; "),
+    Row(Asked::Retire("gem"), "10 Retire gem -5", ""),
+    Row(Asked::Retire("gem"), "21 Unknown", ""),
+];
 
 #[test]
 fn editions_of_one_database(rt: HostRuntime) -> Result<(), Fail> {
-    let alloc = rt.alloc();
-    let edition = gem(alloc)?;
-    let install = |name| Command::Install {
-        name,
-        edition: &edition,
-    };
-    let rows = [
-        Row(rollback("gem"), "21 Unknown", ""),
-        Row(retire("gem"), "21 Unknown", ""),
-        Row(install("gem"), "1 Install gem Some(1) []", "gem Gems 1; "),
-        Row(rollback("gem"), "23 NoFormer", "gem Gems 1; "),
-        Row(install("gem"), "2 Install gem Some(2) []", "gem Gems 2/1; "),
-        Row(
-            rollback("gem"),
-            "3 Rollback gem Some(1) []",
-            "gem Gems 1/2; ",
-        ),
-        Row(
-            rollback("gem"),
-            "4 Rollback gem Some(2) []",
-            "gem Gems 2/1; ",
-        ),
-        Row(
-            install("gem"),
-            "5 Install gem Some(3) [1]",
-            "gem Gems 3/2; ",
-        ),
-        Row(
-            rollback("gem"),
-            "6 Rollback gem Some(2) []",
-            "gem Gems 2/3; ",
-        ),
-        Row(
-            install("gem"),
-            "7 Install gem Some(4) [3]",
-            "gem Gems 4/2; ",
-        ),
-        Row(install("Gem"), "20 BadName", "gem Gems 4/2; "),
-        Row(retire("gem"), "8 Retire gem None [4, 2]", ""),
-        Row(install("gem"), "9 Install gem Some(5) []", "gem Gems 5; "),
-        Row(retire("gem"), "10 Retire gem None [5]", ""),
-        Row(retire("gem"), "21 Unknown", ""),
-    ];
-    let after = run(&rt, alloc, Summary::new(alloc), &rows)?;
-    assert_eq!(rt; after.installs, 5);
-    assert_eq!(rt; after.accepted, 10);
+    let (installs, accepted) = run_both(&rt, rt.alloc(), &[], &ONE)?;
+    assert_eq!(rt; installs, 5);
+    assert_eq!(rt; accepted, 10);
     Ok(())
 }
 
-/// `ore`, `gem` and the virtual `all` of both.
-fn three(alloc: Global) -> Result<Summary, AllocError> {
-    Ok(Summary {
-        items: vec![in alloc;
-            Item::Regular {
-                name: String::from_str(alloc, "ore")?,
-                current: StoredTitle {
-                    number: 1,
-                    title: String::from_str(alloc, "Ores")?
-                },
-                former: None,
-            },
-            Item::Regular {
-                name: String::from_str(alloc, "gem")?,
-                current: StoredTitle {
-                    number: 2,
-                    title: String::from_str(alloc, "Gems")?
-                },
-                former: None,
-            },
-            Item::Virtual {
-                name: String::from_str(alloc, "all")?,
-                title: String::from_str(alloc, "All")?,
-                members: vec![in alloc;
-                    String::from_str(alloc, "ore")?,
-                    String::from_str(alloc, "gem")?
-                ]?,
-            },
-        ]?,
-        installs: 2,
-        accepted: 3,
-    })
-}
+const THREE: &str = "ore Gems 1; gem Gems 2; all All +ore +gem; ";
 
-const THREE: &str = "ore Ores 1; gem Gems 2; all All +ore +gem; ";
+// `ore`, `gem` and the virtual `all` of both.
+static MADE: [Row; 3] = [
+    Row(Asked::Install("ore"), "1 Install ore #1", "ore Gems 1; "),
+    Row(
+        Asked::Install("gem"),
+        "2 Install gem #2",
+        "ore Gems 1; gem Gems 2; ",
+    ),
+    Row(
+        Asked::Put("all", "All", &["ore", "gem"]),
+        "3 Virtual all",
+        THREE,
+    ),
+];
+
+static OF_THREE: [Row; 11] = [
+    Row(Asked::Install("all"), "22 IsVirtual", THREE),
+    Row(Asked::Rollback("all"), "22 IsVirtual", THREE),
+    Row(Asked::Retire("gem"), "24 Listed", THREE),
+    Row(
+        Asked::Install("ore"),
+        "4 Install ore #3",
+        "ore Gems 3/1; gem Gems 2; all All +ore +gem; ",
+    ),
+    Row(
+        Asked::Rollback("ore"),
+        "5 Rollback ore #1",
+        "ore Gems 1/3; gem Gems 2; all All +ore +gem; ",
+    ),
+    Row(
+        Asked::Install("ruby"),
+        "6 Install ruby #4",
+        "ore Gems 1/3; gem Gems 2; all All +ore +gem; ruby Gems 4; ",
+    ),
+    Row(
+        Asked::Put("all", "Both", &["gem"]),
+        "7 Virtual all",
+        "ore Gems 1/3; gem Gems 2; all Both +gem; ruby Gems 4; ",
+    ),
+    Row(
+        Asked::Retire("ore"),
+        "8 Retire ore -1 -3",
+        "gem Gems 2; all Both +gem; ruby Gems 4; ",
+    ),
+    Row(
+        Asked::Retire("all"),
+        "9 Retire all",
+        "gem Gems 2; ruby Gems 4; ",
+    ),
+    Row(Asked::Retire("gem"), "10 Retire gem -2", "ruby Gems 4; "),
+    Row(Asked::Retire("ruby"), "11 Retire ruby -4", ""),
+];
 
 #[test]
 fn databases_and_virtual_ones(rt: HostRuntime) -> Result<(), Fail> {
-    let alloc = rt.alloc();
-    let edition = gem(alloc)?;
-    let install = |name| Command::Install {
-        name,
-        edition: &edition,
-    };
-    let rows = [
-        Row(install("all"), "22 IsVirtual", THREE),
-        Row(rollback("all"), "22 IsVirtual", THREE),
-        Row(retire("gem"), "24 Listed", THREE),
-        Row(
-            install("ore"),
-            "4 Install ore Some(3) []",
-            "ore Gems 3/1; gem Gems 2; all All +ore +gem; ",
-        ),
-        Row(
-            rollback("ore"),
-            "5 Rollback ore Some(1) []",
-            "ore Ores 1/3; gem Gems 2; all All +ore +gem; ",
-        ),
-        Row(
-            install("ruby"),
-            "6 Install ruby Some(4) []",
-            "ore Ores 1/3; gem Gems 2; all All +ore +gem; ruby Gems 4; ",
-        ),
-        Row(
-            put("all", "Both", &["gem"]),
-            "7 Virtual all None []",
-            "ore Ores 1/3; gem Gems 2; all Both +gem; ruby Gems 4; ",
-        ),
-        Row(
-            retire("ore"),
-            "8 Retire ore None [1, 3]",
-            "gem Gems 2; all Both +gem; ruby Gems 4; ",
-        ),
-        Row(
-            retire("all"),
-            "9 Retire all None []",
-            "gem Gems 2; ruby Gems 4; ",
-        ),
-        Row(retire("gem"), "10 Retire gem None [2]", "ruby Gems 4; "),
-        Row(retire("ruby"), "11 Retire ruby None [4]", ""),
-    ];
-    let after = run(&rt, alloc, three(alloc)?, &rows)?;
-    assert_eq!(rt; after.installs, 4);
+    let (installs, _) = run_both(&rt, rt.alloc(), &MADE, &OF_THREE)?;
+    assert_eq!(rt; installs, 4);
     Ok(())
 }
+
+static PLACES: [Row; 9] = [
+    Row(Asked::Place("gem", 3), "30 BadPlace", THREE),
+    Row(Asked::Place("gem", 4_294_967_295), "30 BadPlace", THREE),
+    Row(Asked::Place("zz", 3), "21 Unknown", THREE),
+    Row(Asked::Place("Zz", 9), "20 BadName", THREE),
+    Row(
+        Asked::Place("gem", 0),
+        "4 Place gem",
+        "gem Gems 2; ore Gems 1; all All +ore +gem; ",
+    ),
+    Row(
+        Asked::Place("gem", 2),
+        "5 Place gem",
+        "ore Gems 1; all All +ore +gem; gem Gems 2; ",
+    ),
+    Row(
+        Asked::Place("all", 0),
+        "6 Place all",
+        "all All +ore +gem; ore Gems 1; gem Gems 2; ",
+    ),
+    Row(
+        Asked::Place("ore", 1),
+        "7 Place ore",
+        "all All +ore +gem; ore Gems 1; gem Gems 2; ",
+    ),
+    Row(
+        Asked::Place("all", 1),
+        "8 Place all",
+        "ore Gems 1; all All +ore +gem; gem Gems 2; ",
+    ),
+];
 
 #[test]
 fn places(rt: HostRuntime) -> Result<(), Fail> {
-    let alloc = rt.alloc();
-    let rows = [
-        Row(place("gem", 3), "30 BadPlace", THREE),
-        Row(place("gem", 4_294_967_295), "30 BadPlace", THREE),
-        Row(place("zz", 3), "21 Unknown", THREE),
-        Row(place("Zz", 9), "20 BadName", THREE),
-        Row(
-            place("gem", 0),
-            "4 Place gem None []",
-            "gem Gems 2; ore Ores 1; all All +ore +gem; ",
-        ),
-        Row(
-            place("gem", 2),
-            "5 Place gem None []",
-            "ore Ores 1; all All +ore +gem; gem Gems 2; ",
-        ),
-        Row(
-            place("all", 0),
-            "6 Place all None []",
-            "all All +ore +gem; ore Ores 1; gem Gems 2; ",
-        ),
-        Row(
-            place("ore", 1),
-            "7 Place ore None []",
-            "all All +ore +gem; ore Ores 1; gem Gems 2; ",
-        ),
-        Row(
-            place("all", 1),
-            "8 Place all None []",
-            "ore Ores 1; all All +ore +gem; gem Gems 2; ",
-        ),
-    ];
-    run(&rt, alloc, three(alloc)?, &rows)?;
+    run_both(&rt, rt.alloc(), &MADE, &PLACES)?;
     Ok(())
 }
+
+const MANY: &[&str] = &["zz"; 65];
+
+static REFUSED: [Row; 17] = [
+    Row(Asked::Put("gem", "Gem", &["ore"]), "32 IsRegular", THREE),
+    Row(Asked::Put("gem", " Gem", &[]), "32 IsRegular", THREE),
+    Row(Asked::Put("1", " Gem", &[]), "20 BadName", THREE),
+    Row(Asked::Put("all", " All", &["ore"]), "29 BadTitle", THREE),
+    Row(Asked::Put("all", "All\t", &[]), "29 BadTitle", THREE),
+    Row(Asked::Put("all", "", &["ore"]), "29 BadTitle", THREE),
+    Row(Asked::Put("all", "A\nll", &["ore"]), "29 BadTitle", THREE),
+    Row(Asked::Put("all", "All", &[]), "28 MemberCount", THREE),
+    Row(Asked::Put("all", "All", MANY), "28 MemberCount", THREE),
+    Row(
+        Asked::Put("all", "All", &["gem", "gem"]),
+        "27 MemberTwice",
+        THREE,
+    ),
+    Row(
+        Asked::Put("all", "All", &["gem", "ore", "gem", "zz"]),
+        "27 MemberTwice",
+        THREE,
+    ),
+    Row(
+        Asked::Put("all", "All", &["zz", "zz"]),
+        "26 BadMember",
+        THREE,
+    ),
+    Row(
+        Asked::Put("all", "All", &["zz", "gem", "gem"]),
+        "26 BadMember",
+        THREE,
+    ),
+    Row(Asked::Put("mix", "Mix", &["all"]), "26 BadMember", THREE),
+    Row(
+        Asked::Put("mix", "Mix", &["ore", "mix"]),
+        "26 BadMember",
+        THREE,
+    ),
+    Row(Asked::Put("mix", "Mix", &[""]), "26 BadMember", THREE),
+    Row(
+        Asked::Put("mix", "Mix", &["gem"]),
+        "4 Virtual mix",
+        "ore Gems 1; gem Gems 2; all All +ore +gem; mix Mix +gem; ",
+    ),
+];
 
 #[test]
 fn virtual_items_that_are_refused(rt: HostRuntime) -> Result<(), Fail> {
-    let alloc = rt.alloc();
-    let many = ["zz"; 65];
-    let rows = [
-        Row(put("gem", "Gem", &["ore"]), "32 IsRegular", THREE),
-        Row(put("gem", " Gem", &[]), "32 IsRegular", THREE),
-        Row(put("1", " Gem", &[]), "20 BadName", THREE),
-        Row(put("all", " All", &["ore"]), "29 BadTitle", THREE),
-        Row(put("all", "All\t", &[]), "29 BadTitle", THREE),
-        Row(put("all", "", &["ore"]), "29 BadTitle", THREE),
-        Row(put("all", "A\nll", &["ore"]), "29 BadTitle", THREE),
-        Row(put("all", "All", &[]), "28 MemberCount", THREE),
-        Row(put("all", "All", &many), "28 MemberCount", THREE),
-        Row(put("all", "All", &["gem", "gem"]), "27 MemberTwice", THREE),
-        Row(
-            put("all", "All", &["gem", "ore", "gem", "zz"]),
-            "27 MemberTwice",
-            THREE,
-        ),
-        Row(put("all", "All", &["zz", "zz"]), "26 BadMember", THREE),
-        Row(
-            put("all", "All", &["zz", "gem", "gem"]),
-            "26 BadMember",
-            THREE,
-        ),
-        Row(put("mix", "Mix", &["all"]), "26 BadMember", THREE),
-        Row(put("mix", "Mix", &["ore", "mix"]), "26 BadMember", THREE),
-        Row(put("mix", "Mix", &[""]), "26 BadMember", THREE),
-        Row(
-            put("mix", "Mix", &["gem"]),
-            "4 Virtual mix None []",
-            "ore Ores 1; gem Gems 2; all All +ore +gem; mix Mix +gem; ",
-        ),
-    ];
-    run(&rt, alloc, three(alloc)?, &rows)?;
+    run_both(&rt, rt.alloc(), &MADE, &REFUSED)?;
     Ok(())
 }
 
-/// `ore`, `gem` and the virtual `all`, with one command left.
-fn late(alloc: Global) -> Result<Summary, AllocError> {
-    let Summary { items, .. } = three(alloc)?;
-    Ok(Summary {
-        items,
+const LATE: &str = "ore Gems 1; gem Gems 2; all All +gem; ";
+
+static LAST: [Row; 9] = [
+    Row(
+        Asked::Put("all", "All", &["gem"]),
+        "9223372036854775807 Virtual all",
+        LATE,
+    ),
+    Row(Asked::Install("gem"), "25 CatalogueFull", LATE),
+    Row(Asked::Rollback("gem"), "23 NoFormer", LATE),
+    Row(Asked::Retire("ore"), "25 CatalogueFull", LATE),
+    Row(Asked::Retire("gem"), "24 Listed", LATE),
+    Row(Asked::Place("gem", 0), "25 CatalogueFull", LATE),
+    Row(Asked::Place("gem", 3), "30 BadPlace", LATE),
+    Row(Asked::Put("all", "All", &["ore"]), "25 CatalogueFull", LATE),
+    Row(Asked::Put("all", "All", &["zz"]), "26 BadMember", LATE),
+];
+
+/// Goes through the rows over the items of this summary, with one command left.
+fn run_late(
+    rt: &impl Abort,
+    alloc: Global,
+    summary: &mut Summary,
+    gem: &Edition<'static>,
+) -> Result<(), Fail> {
+    run(rt, alloc, summary, gem, &MADE)?;
+    let mut late = Summary {
+        items: Vec::new(alloc),
         installs: 2,
         accepted: 9_223_372_036_854_775_806,
-    })
+    };
+    swap(&mut late.items, &mut summary.items);
+    run(rt, alloc, &mut late, gem, &LAST)
 }
 
 #[test]
 fn the_last_commands(rt: HostRuntime) -> Result<(), Fail> {
-    let alloc = rt.alloc();
-    let edition = gem(alloc)?;
-    let install = |name| Command::Install {
-        name,
-        edition: &edition,
-    };
-    let after = "ore Ores 1; gem Gems 2; all All +gem; ";
-    let rows = [
-        Row(
-            put("all", "All", &["gem"]),
-            "9223372036854775807 Virtual all None []",
-            after,
-        ),
-        Row(install("gem"), "25 CatalogueFull", after),
-        Row(rollback("gem"), "23 NoFormer", after),
-        Row(retire("ore"), "25 CatalogueFull", after),
-        Row(retire("gem"), "24 Listed", after),
-        Row(place("gem", 0), "25 CatalogueFull", after),
-        Row(place("gem", 3), "30 BadPlace", after),
-        Row(put("all", "All", &["ore"]), "25 CatalogueFull", after),
-        Row(put("all", "All", &["zz"]), "26 BadMember", after),
-    ];
-    run(&rt, alloc, late(alloc)?, &rows)?;
+    let gem = read(rt.alloc(), GEM)?;
+    let mut summary = Summary::new(rt.alloc());
+    run_late(&rt, rt.alloc(), &mut summary, &gem)
+}
+
+// A command over 64 items, its answer, and how many items there are after it.
+static FULL: [(Asked, &str, usize); 11] = [
+    (Asked::Install("ore"), "25 CatalogueFull", 64),
+    (Asked::Install("v62"), "22 IsVirtual", 64),
+    (Asked::Install("gem"), "66 Install gem #3 -1", 64),
+    (Asked::Put("mix", "Mix", &["gem"]), "25 CatalogueFull", 64),
+    (
+        Asked::Put("mix", "Mix", &["gem", "gem"]),
+        "27 MemberTwice",
+        64,
+    ),
+    (Asked::Put("v62", "Mix", &["gem"]), "66 Virtual v62", 64),
+    (Asked::Rollback("gem"), "66 Rollback gem #1", 64),
+    (Asked::Retire("gem"), "24 Listed", 64),
+    (Asked::Retire("v0"), "66 Retire v0", 63),
+    (Asked::Place("v0", 63), "66 Place v0", 64),
+    (Asked::Place("v0", 64), "30 BadPlace", 64),
+];
+
+/// Makes `gem` with a former edition, and 63 virtual items.
+fn fill(alloc: Global, summary: &mut Summary, gem: &Edition<'static>) -> Result<(), Fail> {
+    let mut text = String::new(alloc);
+    let install = Asked::Install("gem").command(gem);
+    step(alloc, &mut text, summary, &install)?;
+    step(alloc, &mut text, summary, &install)?;
+    for n in 0u8..63 {
+        let name = format!(in alloc; "v{n}")?;
+        let command = Command::PutVirtual {
+            name: name.as_str(),
+            title: "V",
+            members: &["gem"],
+        };
+        step(alloc, &mut text, summary, &command)?;
+    }
     Ok(())
 }
 
-/// `gem` and 63 virtual items.
-fn full(alloc: Global) -> Result<Summary, AllocError> {
-    let mut items = Vec::new(alloc);
-    items.push(Item::Regular {
-        name: String::from_str(alloc, "gem")?,
-        current: StoredTitle {
-            number: 2,
-            title: String::from_str(alloc, "Gems")?,
-        },
-        former: Some(StoredTitle {
-            number: 1,
-            title: String::from_str(alloc, "Gems")?,
-        }),
-    })?;
-    for n in 0u8..63 {
-        items.push(Item::Virtual {
-            name: format!(in alloc; "v{n}")?,
-            title: String::from_str(alloc, "V")?,
-            members: vec![in alloc; String::from_str(alloc, "gem")?]?,
-        })?;
-    }
-    Ok(Summary {
-        items,
-        installs: 2,
-        accepted: 65,
-    })
-}
-
-/// The answer to a command over 64 items, and how many items there are after it.
-fn over_full(alloc: Global, command: &Command<'_>) -> Result<(String, usize), AllocError> {
-    let planned = plan(alloc, &full(alloc)?, command);
-    let answer = told(alloc, &planned)?;
-    let count = match planned {
+/// How many items there are after a change, or 64 where there is none.
+fn item_count(planned: &Result<Change, PlanFault>) -> usize {
+    match planned {
         Ok(change) => change.summary.items.len(),
         Err(_) => 64,
-    };
-    Ok((answer, count))
+    }
+}
+
+fn check_full(
+    rt: &impl Abort,
+    alloc: Global,
+    summary: &Summary,
+    gem: &Edition<'static>,
+    row: (Asked, &'static str, usize),
+) -> Result<(), AllocError> {
+    let (asked, answer, count) = row;
+    let mut text = String::new(alloc);
+    let planned = plan(alloc, summary, &asked.command(gem));
+    let put = push_answer(alloc, &mut text, &planned);
+    assert_eq!(rt; text.as_str(), answer);
+    assert_eq!(rt; item_count(&planned), count);
+    put
+}
+
+fn run_full(
+    rt: &impl Abort,
+    alloc: Global,
+    summary: &mut Summary,
+    gem: &Edition<'static>,
+) -> Result<(), Fail> {
+    fill(alloc, summary, gem)?;
+    for row in &FULL {
+        check_full(rt, alloc, summary, gem, *row)?;
+    }
+    Ok(())
 }
 
 #[test]
 fn where_64_items_stand(rt: HostRuntime) -> Result<(), Fail> {
-    let alloc = rt.alloc();
-    let gems = gem(alloc)?;
-    let install = |name| Command::Install {
-        name,
-        edition: &gems,
-    };
-    let rows = [
-        (install("ore"), "25 CatalogueFull", 64),
-        (install("v62"), "22 IsVirtual", 64),
-        (install("gem"), "66 Install gem Some(3) [1]", 64),
-        (put("mix", "Mix", &["gem"]), "25 CatalogueFull", 64),
-        (put("mix", "Mix", &["gem", "gem"]), "27 MemberTwice", 64),
-        (put("v62", "Mix", &["gem"]), "66 Virtual v62 None []", 64),
-        (rollback("gem"), "66 Rollback gem Some(1) []", 64),
-        (retire("gem"), "24 Listed", 64),
-        (retire("v0"), "66 Retire v0 None []", 63),
-        (place("v0", 63), "66 Place v0 None []", 64),
-        (place("v0", 64), "30 BadPlace", 64),
-    ];
-    for (command, answer, count) in &rows {
-        let (answered, left) = over_full(alloc, command)?;
-        assert_eq!(rt; answered.as_str(), *answer);
-        assert_eq!(rt; left, *count);
-    }
-    Ok(())
+    let gem = read(rt.alloc(), GEM)?;
+    let mut summary = Summary::new(rt.alloc());
+    run_full(&rt, rt.alloc(), &mut summary, &gem)
 }
+
+static REFUSALS: [(Refusal, u8, &str); 13] = [
+    (Refusal::BadName, 20, "BadName"),
+    (Refusal::Unknown, 21, "Unknown"),
+    (Refusal::IsVirtual, 22, "IsVirtual"),
+    (Refusal::NoFormer, 23, "NoFormer"),
+    (Refusal::Listed, 24, "Listed"),
+    (Refusal::CatalogueFull, 25, "CatalogueFull"),
+    (Refusal::BadMember, 26, "BadMember"),
+    (Refusal::MemberTwice, 27, "MemberTwice"),
+    (Refusal::MemberCount, 28, "MemberCount"),
+    (Refusal::BadTitle, 29, "BadTitle"),
+    (Refusal::BadPlace, 30, "BadPlace"),
+    (Refusal::BadRequestId, 31, "BadRequestId"),
+    (Refusal::IsRegular, 32, "IsRegular"),
+];
 
 #[test]
 fn refusals_by_number_and_name(rt: HostRuntime) {
-    let rows = [
-        (Refusal::BadName, 20, "BadName"),
-        (Refusal::Unknown, 21, "Unknown"),
-        (Refusal::IsVirtual, 22, "IsVirtual"),
-        (Refusal::NoFormer, 23, "NoFormer"),
-        (Refusal::Listed, 24, "Listed"),
-        (Refusal::CatalogueFull, 25, "CatalogueFull"),
-        (Refusal::BadMember, 26, "BadMember"),
-        (Refusal::MemberTwice, 27, "MemberTwice"),
-        (Refusal::MemberCount, 28, "MemberCount"),
-        (Refusal::BadTitle, 29, "BadTitle"),
-        (Refusal::BadPlace, 30, "BadPlace"),
-        (Refusal::BadRequestId, 31, "BadRequestId"),
-        (Refusal::IsRegular, 32, "IsRegular"),
-    ];
-    for (refusal, number, name) in &rows {
+    for (refusal, number, name) in &REFUSALS {
         assert_eq!(rt; refusal.number(), *number);
         assert_eq!(rt; refusal.name(), *name);
     }
@@ -421,7 +436,10 @@ fn refusals_by_number_and_name(rt: HostRuntime) {
 
 #[test]
 fn what_a_command_is_about(rt: HostRuntime) {
-    let command = place("gem", 2);
+    let command = Command::Place {
+        name: "gem",
+        place: 2,
+    };
     assert_eq!(rt; command.target(), "gem");
     assert_eq!(rt; command.verb(), Verb::Place);
     command.is_lawful();

@@ -1,6 +1,6 @@
 // What is handed out, as text.
-use dict_desk::{End, Fault, Lookup, RowSink, Turn};
-use dict_match::{Strategy, key_of};
+use dict_desk::{End, Fault, Lookup, PlainDesk, RowSink, Turn, What};
+use dict_match::{Key, Strategy, key_of};
 use std::alloc::{AllocError, Global};
 
 /// Collects rows, and stops at the last of so many.
@@ -38,20 +38,35 @@ fn push_row(text: &mut String, headword: &str, body: &[u8]) -> Result<(), AllocE
     text.push(';')
 }
 
-/// Which rows are asked for.
-#[derive(Clone, Copy, Debug)]
-pub(crate) enum Asked {
+/// Which rows are sought.
+#[derive(Clone, Copy)]
+pub(crate) enum Sought {
     Found,
     Heads,
     Info,
 }
 
-/// The rows that are handed out, at most so many, and `.` behind them where they are all, or `!` where the sink stopped.
-pub(crate) fn hand_out<L: Lookup>(
-    alloc: Global,
-    desk: &mut L,
+fn hand(
+    desk: &mut PlainDesk,
     number: u64,
-    asked: Asked,
+    sought: Sought,
+    strategy: Strategy,
+    query: &Key,
+    rows: &mut Rows,
+) -> Result<End, Fault> {
+    match sought {
+        Sought::Found => desk.find(number, strategy, query, rows),
+        Sought::Heads => desk.heads(number, strategy, query, rows),
+        Sought::Info => desk.info(number, rows),
+    }
+}
+
+/// The rows that are handed out, at most so many, and `.` behind them where they are all, or `!` where the sink stopped.
+pub(crate) fn hand_out(
+    alloc: Global,
+    desk: &mut PlainDesk,
+    number: u64,
+    sought: Sought,
     strategy: Strategy,
     query: &str,
     most: usize,
@@ -61,16 +76,33 @@ pub(crate) fn hand_out<L: Lookup>(
         text: String::new(alloc),
         left: most,
     };
-    let end = match asked {
-        Asked::Found => desk.find(number, strategy, &query, &mut rows)?,
-        Asked::Heads => desk.heads(number, strategy, &query, &mut rows)?,
-        Asked::Info => desk.info(number, &mut rows)?,
-    };
-    let mark = match end {
+    let end = hand(desk, number, sought, strategy, &query, &mut rows)?;
+    rows.text.push(match end {
         End::All => '.',
         End::Stopped => '!',
-    };
-    let Rows { mut text, left: _ } = rows;
-    text.push(mark)?;
-    Ok(text)
+    })?;
+    Ok(rows.text)
+}
+
+fn count_both(
+    desk: &mut PlainDesk,
+    number: u64,
+    strategy: Strategy,
+    query: &Key,
+) -> Result<(u64, u64), Fault> {
+    let entries = desk.count(number, strategy, query, What::Entries)?;
+    let heads = desk.count(number, strategy, query, What::Headwords)?;
+    Ok((entries, heads))
+}
+
+/// How many entries are found, and how many headwords.
+pub(crate) fn counts(
+    alloc: Global,
+    desk: &mut PlainDesk,
+    number: u64,
+    strategy: Strategy,
+    query: &str,
+) -> Result<(u64, u64), Fault> {
+    let query = key_of(alloc, query)?;
+    count_both(desk, number, strategy, &query)
 }
