@@ -2,9 +2,9 @@ use dict_tables::{
     StoreTable, has_room, has_table, is_name_used, is_own_index_name_used, is_own_name_referred,
     is_own_name_used, waits_for_counter,
 };
-use sqlite::{Connection, Error};
+use sqlite::{Alter, Connection, Error};
 use sqlite_schema::schema::Schema;
-use std::alloc::Global;
+use std::alloc::{AllocError, Global};
 use std::test::Fail;
 
 const MARK: &str =
@@ -25,40 +25,60 @@ const ENTRY: &str =
 const KEPT: &str =
     "CREATE TABLE kept (id TEXT NOT NULL PRIMARY KEY, number INTEGER NOT NULL UNIQUE, verb TEXT NOT NULL, name TEXT NOT NULL, edition INTEGER) STRICT";
 
+// Other tables and views of the six names.
+const OTHER_TABLES: &str =
+    "CREATE TABLE mark (a TEXT); CREATE TABLE item (a TEXT); CREATE TABLE member (a TEXT); CREATE TABLE edition (a TEXT); CREATE TABLE entry (a TEXT); CREATE TABLE kept (a TEXT)";
+
+const VIEWS: &str =
+    "CREATE VIEW mark AS SELECT 1; CREATE VIEW item AS SELECT 1; CREATE VIEW member AS SELECT 1; CREATE VIEW edition AS SELECT 1; CREATE VIEW entry AS SELECT 1; CREATE VIEW kept AS SELECT 1";
+
+// Runs the statements in turn.
+fn execute<S: Alter>(conn: &mut Connection<S>, statements: &[&str]) -> Result<(), Error> {
+    for statement in statements {
+        conn.execute_batch(statement)?;
+    }
+    Ok(())
+}
+
 // The schema after these statements.
-fn schema_of(alloc: Global, statements: &str) -> Result<Schema, Error> {
+fn schema_of(alloc: Global, statements: &[&str]) -> Result<Schema, Error> {
     let mut conn = Connection::open_in_memory(alloc)?;
-    conn.execute_batch(statements)?;
+    execute(&mut conn, statements)?;
     Ok(conn.schema().copy(alloc)?)
 }
 
 // What is asked of a schema.
 #[derive(Clone, Copy)]
 enum Asked {
+    Table(StoreTable),
     OwnName,
     OwnNameReferred,
+    OwnIndexName,
+    Waiting,
     Room,
 }
 
-// The answer.
-fn ask(schema: &Schema, asked: Asked) -> bool {
-    match asked {
-        Asked::OwnName => is_own_name_used(schema),
-        Asked::OwnNameReferred => is_own_name_referred(schema),
-        Asked::Room => has_room(schema),
-    }
-}
+// The six tables.
+static TABLES: [StoreTable; 6] = [
+    StoreTable::Mark,
+    StoreTable::Item,
+    StoreTable::Member,
+    StoreTable::Edition,
+    StoreTable::Entry,
+    StoreTable::Kept,
+];
 
-// Which of the six tables a schema has.
-fn found(schema: &Schema) -> [bool; 6] {
-    [
-        has_table(schema, StoreTable::Mark),
-        has_table(schema, StoreTable::Item),
-        has_table(schema, StoreTable::Member),
-        has_table(schema, StoreTable::Edition),
-        has_table(schema, StoreTable::Entry),
-        has_table(schema, StoreTable::Kept),
-    ]
+// What is answered after these statements.
+fn ask(alloc: Global, statements: &[&str], asked: Asked) -> Result<bool, Error> {
+    let schema = schema_of(alloc, statements)?;
+    Ok(match asked {
+        Asked::Table(table) => has_table(&schema, table),
+        Asked::OwnName => is_own_name_used(&schema),
+        Asked::OwnNameReferred => is_own_name_referred(&schema),
+        Asked::OwnIndexName => is_own_index_name_used(&schema),
+        Asked::Waiting => waits_for_counter(&schema),
+        Asked::Room => has_room(&schema),
+    })
 }
 
 // Tables that are nearly the store's: a table, its statement, and a part of it that is another.
@@ -198,7 +218,7 @@ static OTHERS: [(StoreTable, &str, &str, &str); 32] = [
 ];
 
 // What is asked of the schema after these statements, and the answer.
-static ANSWERS: [(Asked, &str, bool); 32] = [
+static ANSWERS: [(Asked, &str, bool); 37] = [
     (Asked::OwnName, "", false),
     (
         Asked::OwnName,
@@ -270,6 +290,23 @@ static ANSWERS: [(Asked, &str, bool); 32] = [
         "CREATE TABLE ore (a TEXT REFERENCES gram (a))",
         true,
     ),
+    (
+        Asked::OwnIndexName,
+        "CREATE TABLE ore (a TEXT UNIQUE)",
+        false,
+    ),
+    (Asked::OwnIndexName, "CREATE TABLE item (a TEXT)", false),
+    (
+        Asked::OwnIndexName,
+        "CREATE TABLE item (a TEXT UNIQUE)",
+        true,
+    ),
+    (
+        Asked::OwnIndexName,
+        "CREATE TABLE kept (a TEXT UNIQUE)",
+        true,
+    ),
+    (Asked::Waiting, MARK, false),
     (Asked::Room, "", true),
     (Asked::Room, "CREATE TABLE ore (a TEXT UNIQUE)", true),
     (
@@ -326,17 +363,81 @@ static BESIDE: [(&str, bool); 9] = [
     ),
 ];
 
+// Statements by which a schema has a table, an index and a view.
+const NAMED: &str =
+    "CREATE TABLE ore (a TEXT); CREATE INDEX gem ON ore (a); CREATE VIEW opal AS SELECT a FROM ore";
+
+// Names, and whether they are in use there.
+static NAMES: [(&str, bool); 8] = [
+    ("ore", true),
+    ("ORE", true),
+    ("Gem", true),
+    ("opal", true),
+    ("or", false),
+    ("ores", false),
+    ("a", false),
+    ("", false),
+];
+
+// How many of the names have another answer.
+fn mistaken(schema: &Schema) -> usize {
+    let mut count = 0usize;
+    for (name, is_used) in &NAMES {
+        if is_name_used(schema, name.as_bytes()) != *is_used {
+            count = count.saturating_add(1);
+        }
+    }
+    count
+}
+
+// Gives the last table the tree of the first that is made.
+fn share_tree(schema: &mut Schema) -> Result<(), AllocError> {
+    let first = match schema.tables.get(0) {
+        Some(first) => first.tree,
+        None => return Ok(()),
+    };
+    match schema.tables.pop() {
+        Some(mut last) => {
+            last.tree = first;
+            schema.tables.push(last)
+        }
+        None => Ok(()),
+    }
+}
+
+fn forget_last(schema: &mut Schema) {
+    let _last = schema.tables.pop();
+}
+
+// Whether the table is found, and whether it is found still when another has its tree.
+fn found_beside(schema: &mut Schema) -> Result<[bool; 2], AllocError> {
+    let alone = has_table(schema, StoreTable::Mark);
+    share_tree(schema)?;
+    Ok([alone, has_table(schema, StoreTable::Mark)])
+}
+
+// Whether the counter's name is in use and whether the schema waits for it, and both once the counter is gone.
+fn seen_counter(schema: &mut Schema) -> [bool; 4] {
+    let is_used = is_name_used(schema, b"sqlite_sequence");
+    let waits = waits_for_counter(schema);
+    forget_last(schema);
+    [
+        is_used,
+        waits,
+        is_name_used(schema, b"sqlite_sequence"),
+        waits_for_counter(schema),
+    ]
+}
+
 #[test]
 fn finds_the_tables(rt: HostRuntime) -> Result<(), Fail> {
     let alloc = rt.alloc();
-    let all = format!(in alloc; "{MARK};{ITEM};{MEMBER};{EDITION};{ENTRY};{KEPT}")?;
-    assert_eq!(rt; found(&schema_of(alloc, &all)?), [true; 6]);
-    for made in [
-        "",
-        "CREATE TABLE mark (a TEXT); CREATE TABLE item (a TEXT); CREATE TABLE member (a TEXT); CREATE TABLE edition (a TEXT); CREATE TABLE entry (a TEXT); CREATE TABLE kept (a TEXT)",
-        "CREATE VIEW mark AS SELECT 1; CREATE VIEW item AS SELECT 1; CREATE VIEW member AS SELECT 1; CREATE VIEW edition AS SELECT 1; CREATE VIEW entry AS SELECT 1; CREATE VIEW kept AS SELECT 1",
-    ] {
-        assert_eq!(rt; found(&schema_of(alloc, made)?), [false; 6], "{made}");
+    for table in &TABLES {
+        let asked = Asked::Table(*table);
+        assert!(rt; ask(alloc, &[MARK, ITEM, MEMBER, EDITION, ENTRY, KEPT], asked)?);
+        assert!(rt; !ask(alloc, &[OTHER_TABLES], asked)?);
+        assert!(rt; !ask(alloc, &[VIEWS], asked)?);
+        assert!(rt; !ask(alloc, &[], asked)?);
     }
     Ok(())
 }
@@ -345,8 +446,11 @@ fn finds_the_tables(rt: HostRuntime) -> Result<(), Fail> {
 fn misses_other_tables(rt: HostRuntime) -> Result<(), Fail> {
     let alloc = rt.alloc();
     for (table, statement, part, other) in &OTHERS {
-        let schema = schema_of(alloc, &statement.replace(alloc, *part, *other)?)?;
-        assert!(rt; !has_table(&schema, *table), "{other}");
+        let made = statement.replace(alloc, *part, *other)?;
+        assert!(rt;
+            !ask(alloc, &[made.as_str()], Asked::Table(*table))?,
+            "{other}"
+        );
     }
     Ok(())
 }
@@ -355,74 +459,33 @@ fn misses_other_tables(rt: HostRuntime) -> Result<(), Fail> {
 fn answers_of_a_schema(rt: HostRuntime) -> Result<(), Fail> {
     let alloc = rt.alloc();
     for (asked, made, answer) in &ANSWERS {
-        let schema = schema_of(alloc, *made)?;
-        assert_eq!(rt; ask(&schema, *asked), *answer, "{made}");
+        assert_eq!(rt; ask(alloc, &[*made], *asked)?, *answer, "{made}");
     }
     for (more, answer) in &BESIDE {
-        let schema = schema_of(alloc, &format!(in alloc; "{ITEM};{more}")?)?;
-        assert_eq!(rt; has_table(&schema, StoreTable::Item), *answer, "{more}");
+        let is_still = ask(alloc, &[ITEM, *more], Asked::Table(StoreTable::Item))?;
+        assert_eq!(rt; is_still, *answer, "{more}");
     }
     Ok(())
 }
 
 #[test]
 fn misses_a_table_whose_tree_is_shared(rt: HostRuntime) -> Result<(), Fail> {
-    let mut schema = schema_of(
-        rt.alloc(),
-        &format!(in rt.alloc(); "{MARK};CREATE TABLE ore (a TEXT) STRICT")?,
-    )?;
-    assert!(rt; has_table(&schema, StoreTable::Mark));
-    let mut ore = schema.tables.pop().expect(&rt, "the second table");
-    let mark = schema.tables.pop().expect(&rt, "the first table");
-    ore.tree = mark.tree;
-    schema.tables.push(mark)?;
-    schema.tables.push(ore)?;
-    assert!(rt; !has_table(&schema, StoreTable::Mark));
+    let mut schema = schema_of(rt.alloc(), &[MARK, "CREATE TABLE ore (a TEXT) STRICT"])?;
+    assert_eq!(rt; found_beside(&mut schema)?, [true, false]);
     Ok(())
 }
 
 #[test]
 fn finds_names_in_use(rt: HostRuntime) -> Result<(), Fail> {
-    let made =
-        "CREATE TABLE ore (a TEXT); CREATE INDEX gem ON ore (a); CREATE VIEW opal AS SELECT a FROM ore";
-    let schema = schema_of(rt.alloc(), made)?;
-    for (name, used) in [
-        ("ore", true),
-        ("ORE", true),
-        ("Gem", true),
-        ("opal", true),
-        ("or", false),
-        ("ores", false),
-        ("a", false),
-        ("", false),
-    ] {
-        assert_eq!(rt; is_name_used(&schema, name.as_bytes()), used, "{name}");
-    }
+    let schema = schema_of(rt.alloc(), &[NAMED])?;
+    assert_eq!(rt; mistaken(&schema), 0);
     Ok(())
 }
 
 #[test]
 fn sees_a_counter_that_is_missing(rt: HostRuntime) -> Result<(), Fail> {
     let counted = "CREATE TABLE ore (a INTEGER PRIMARY KEY AUTOINCREMENT)";
-    let mut schema = schema_of(rt.alloc(), counted)?;
-    assert!(rt; is_name_used(&schema, b"sqlite_sequence"));
-    assert!(rt; !waits_for_counter(&schema));
-    let _counter = schema.tables.pop();
-    assert!(rt; !is_name_used(&schema, b"sqlite_sequence"));
-    assert!(rt; waits_for_counter(&schema));
-    let none = schema_of(rt.alloc(), MARK)?;
-    assert!(rt; !waits_for_counter(&none));
-    Ok(())
-}
-
-#[test]
-fn sees_names_of_own_indexes(rt: HostRuntime) -> Result<(), Fail> {
-    let mut schema = schema_of(rt.alloc(), &format!(in rt.alloc(); "{ITEM};{KEPT}")?)?;
-    assert!(rt; is_own_index_name_used(&schema));
-    let _numbers = schema.indexes.pop();
-    let _ids = schema.indexes.pop();
-    assert!(rt; is_own_index_name_used(&schema));
-    let _names = schema.indexes.pop();
-    assert!(rt; !is_own_index_name_used(&schema));
+    let mut schema = schema_of(rt.alloc(), &[counted])?;
+    assert_eq!(rt; seen_counter(&mut schema), [true, false, false, true]);
     Ok(())
 }

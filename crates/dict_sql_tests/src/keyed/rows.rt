@@ -1,0 +1,207 @@
+//! The tables are made, and rows are put in and taken out, each time in a transaction of its own.
+
+ghost use Rattle.std.specs.Prelude.{IfOk, OnOk};
+ghost use Rattle.sqlite.specs.State.{HasCleanDisk};
+ghost use Rattle.sqlite.specs.Held.{state};
+ghost use Rattle.dict_sql.specs.Effects.{Has, HasApartRowids, WhileOpen, rows_of, seen};
+ghost use Rattle.dict_sql.specs.Deletes.{HasToRemove};
+ghost use Rattle.dict_keyed_sql.specs.Tables.{table_of};
+
+use dict_keyed_sql::{
+    KeyedTable, create_keyed_table, delete_grams, delete_keyed_entries, delete_words,
+    has_keyed_table, insert_gram, insert_keyed_entry, insert_word,
+};
+use dict_records::{Gram, KeyedEntry, Word};
+use dict_sql::commit::commit;
+use dict_tables::{is_name_used, waits_for_counter};
+use sqlite::{Alter, Connection, Error, Transaction};
+
+/// The keyed tables.
+pub(crate) static TABLES: [KeyedTable; 3] = [KeyedTable::Entry, KeyedTable::Word, KeyedTable::Gram];
+
+// A table, an edition and a place in it; a key, a word or a gram; and of an entry its key read backwards and its headword.
+#[derive(Clone, Copy)]
+struct Row(
+    KeyedTable,
+    i64,
+    i64,
+    &'static [u8],
+    &'static [u8],
+    &'static str,
+);
+
+// They are put in by this order. The keys of the first edition's entries are, by place: b, the empty one, a with the greatest character behind it, a, ab, b again, and that character alone.
+static ROWS: [Row; 20] = [
+    Row(KeyedTable::Entry, 2, 0, b"b", b"b", "B"),
+    Row(KeyedTable::Entry, 1, 3, b"a", b"a", "'A'"),
+    Row(KeyedTable::Entry, 1, 0, b"b", b"b", "b"),
+    Row(KeyedTable::Entry, 1, 1, b"", b"", " "),
+    Row(
+        KeyedTable::Entry,
+        1,
+        2,
+        b"a\xf4\x8f\xbf\xbf",
+        b"\xbf\xbf\x8f\xf4a",
+        "a\u{10ffff}",
+    ),
+    Row(KeyedTable::Entry, 1, 4, b"ab", b"ba", "ab"),
+    Row(KeyedTable::Entry, 1, 5, b"b", b"b", "-B"),
+    Row(
+        KeyedTable::Entry,
+        1,
+        6,
+        b"\xf4\x8f\xbf\xbf",
+        b"\xbf\xbf\x8f\xf4",
+        "\u{10ffff}",
+    ),
+    Row(KeyedTable::Word, 2, 7, b"opal", b"", ""),
+    Row(KeyedTable::Word, 1, 4, b"opal", b"", ""),
+    Row(KeyedTable::Word, 1, 2, b"opal", b"", ""),
+    Row(KeyedTable::Word, 1, 0, b"\xf4\x8f\xbf\xbf", b"", ""),
+    Row(KeyedTable::Word, 1, 4, b"fire", b"", ""),
+    Row(KeyedTable::Word, 1, 3, b"", b"", ""),
+    Row(KeyedTable::Gram, 2, 0, b"opa", b"", ""),
+    Row(KeyedTable::Gram, 1, 1, b"pal", b"", ""),
+    Row(
+        KeyedTable::Gram,
+        1,
+        9_223_372_036_854_775_807,
+        b"opa",
+        b"",
+        "",
+    ),
+    Row(KeyedTable::Gram, 1, 5, b"opa", b"", ""),
+    Row(KeyedTable::Gram, 1, 1, b"opa", b"", ""),
+    Row(KeyedTable::Gram, 1, 2, b"\xf4\x8f\xbf", b"", ""),
+];
+
+// Rows that are there already.
+static AGAIN: [Row; 2] = [
+    Row(KeyedTable::Word, 1, 4, b"fire", b"", ""),
+    Row(KeyedTable::Gram, 1, 1, b"pal", b"", ""),
+];
+
+/// Makes the table where its name is free.
+pub(crate) fn make<S: Alter>(conn: &mut Connection<S>, table: KeyedTable) -> Result<(), Error>
+    ensures { HasCleanDisk (state S.Store conn.new) → OnOk result (HasApartRowids (rows_of (table_of table 0).name (state S.Store conn.new).now)) }
+{
+    let schema = conn.schema();
+    if is_name_used(schema, table.name().as_bytes())
+        || waits_for_counter(schema)
+        || !conn.is_autocommit()
+    {
+        return Err(Error::InvalidQuery);
+    }
+    let mut tx = conn.transaction();
+    create_keyed_table(&mut tx, table)?;
+    commit(tx)
+}
+
+// Takes the rows of the first edition out of the table.
+fn delete<S: Alter>(tx: &mut Transaction<'_, S>, table: KeyedTable) -> Result<usize, Error>
+    requires { WhileOpen (seen S.Store tx.old) (HasToRemove (table_of table)) }
+{
+    match table {
+        KeyedTable::Entry => delete_keyed_entries(tx, 1),
+        KeyedTable::Word => delete_words(tx, 1),
+        KeyedTable::Gram => delete_grams(tx, 1),
+    }
+}
+
+fn remove<S: Alter>(conn: &mut Connection<S>, table: KeyedTable) -> Result<(), Error>
+    requires { HasCleanDisk (state S.Store conn.old) → HasApartRowids (rows_of (table_of table 0).name (state S.Store conn.old).now) }
+{
+    if !has_keyed_table(conn.schema(), table) || !conn.is_autocommit() {
+        return Err(Error::InvalidQuery);
+    }
+    let mut tx = conn.transaction();
+    delete(&mut tx, table)?;
+    commit(tx)
+}
+
+// Makes the table, and takes out of it what it hasn't.
+fn empty<S: Alter>(conn: &mut Connection<S>, table: KeyedTable) -> Result<(), Error> {
+    make(conn, table)?;
+    remove(conn, table)
+}
+
+/// Makes all tables, and leaves them empty.
+pub(crate) fn empty_all<S: Alter>(conn: &mut Connection<S>) -> Result<(), Error> {
+    for table in &TABLES {
+        empty(conn, *table)?;
+    }
+    Ok(())
+}
+
+/// Begins a transaction where the table is there.
+pub(crate) fn begin<'a, S: Alter>(
+    conn: &'a mut Connection<S>,
+    table: KeyedTable,
+) -> Result<Transaction<'a, S>, Error>
+    ensures { IfOk result (λ tx. WhileOpen (seen S.Store tx) (Has (table_of table))) }
+{
+    if has_keyed_table(conn.schema(), table) && conn.is_autocommit() {
+        Ok(conn.transaction())
+    } else {
+        Err(Error::InvalidQuery)
+    }
+}
+
+// Inserts a row into its table.
+fn add<S: Alter>(tx: &mut Transaction<'_, S>, table: KeyedTable, row: &Row) -> Result<usize, Error>
+    requires { WhileOpen (seen S.Store tx.old) (Has (table_of table)) }
+{
+    let edition = row.1;
+    let ord = row.2;
+    let octets = row.3;
+    match table {
+        KeyedTable::Entry => insert_keyed_entry(
+            tx,
+            &KeyedEntry {
+                edition,
+                ord,
+                headword: row.5,
+                start: ord,
+                length: 9_223_372_036_854_775_807,
+                key: octets,
+                reversed: row.4,
+            },
+        ),
+        KeyedTable::Word => insert_word(
+            tx,
+            &Word {
+                edition,
+                word: octets,
+                ord,
+            },
+        ),
+        KeyedTable::Gram => insert_gram(
+            tx,
+            &Gram {
+                edition,
+                gram: octets,
+                ord,
+            },
+        ),
+    }
+}
+
+fn put<S: Alter>(conn: &mut Connection<S>, row: &Row) -> Result<(), Error> {
+    let table = row.0;
+    let mut tx = begin(conn, table)?;
+    add(&mut tx, table, row)?;
+    commit(tx)
+}
+
+/// Puts all rows in. A row that is there already is refused.
+pub(crate) fn put_all<S: Alter>(conn: &mut Connection<S>) -> Result<(), Error> {
+    for row in &ROWS {
+        put(conn, row)?;
+    }
+    for row in &AGAIN {
+        if put(conn, row).is_ok() {
+            return Err(Error::InvalidQuery);
+        }
+    }
+    Ok(())
+}

@@ -1,0 +1,161 @@
+//! The rows that are put into the tables, each in a transaction of its own.
+
+ghost use Rattle.dict_tables.specs.Tables.{table_of};
+ghost use Rattle.dict_sql.specs.Effects.{Has, WhileOpen, seen};
+
+use super::tables::begin;
+use dict_records::{Edition, Entry, Item, Kept, Mark, Member};
+use dict_sql::commit::commit;
+use dict_sql::insert::{
+    insert_edition, insert_entry, insert_item, insert_kept, insert_mark, insert_member,
+};
+use dict_tables::StoreTable;
+use sqlite::{Alter, Connection, Error, Transaction};
+
+// A table and what a row of it has: texts, numbers, the number of an edition, and octets.
+#[derive(Clone, Copy)]
+struct Row(
+    StoreTable,
+    [&'static str; 3],
+    [i64; 2],
+    Option<i64>,
+    &'static [u8],
+);
+
+// They are put in by this order.
+static ROWS: [Row; 15] = [
+    Row(StoreTable::Mark, ["dictcat", "", ""], [2, 8], None, b""),
+    Row(
+        StoreTable::Item,
+        ["all", "It's \"all\"", ""],
+        [1, 1],
+        None,
+        b"",
+    ),
+    Row(
+        StoreTable::Item,
+        ["gem", "", ""],
+        [0, 0],
+        Some(9_223_372_036_854_775_807),
+        b"",
+    ),
+    Row(StoreTable::Member, ["b", "gem", ""], [0, 0], None, b""),
+    Row(StoreTable::Member, ["a", "ore", ""], [1, 0], None, b""),
+    Row(StoreTable::Member, ["a", "gem", ""], [0, 0], None, b""),
+    Row(
+        StoreTable::Edition,
+        ["owner", "title", ""],
+        [3, 0],
+        None,
+        b"",
+    ),
+    Row(
+        StoreTable::Edition,
+        ["owner", "title", "it's \"quoted\"\u{1}\t\n"],
+        [2, 0],
+        None,
+        b"\0\xff'\"",
+    ),
+    Row(StoreTable::Entry, ["'ore'", "", ""], [2, 0], None, b""),
+    Row(StoreTable::Entry, ["opal", "", ""], [1, 1], None, b""),
+    Row(StoreTable::Entry, ["", "", ""], [1, 0], None, b""),
+    Row(
+        StoreTable::Kept,
+        ["r2", "install", "gem"],
+        [2, 0],
+        Some(9_223_372_036_854_775_807),
+        b"",
+    ),
+    Row(
+        StoreTable::Kept,
+        ["it's", "install", "gem"],
+        [1, 0],
+        None,
+        b"",
+    ),
+    Row(StoreTable::Kept, ["r3", "retire", "gem"], [3, 0], None, b""),
+    Row(StoreTable::Kept, ["r4", "retire", "ore"], [4, 0], None, b""),
+];
+
+// Inserts a row into its table.
+fn add<S: Alter>(tx: &mut Transaction<'_, S>, table: StoreTable, row: &Row) -> Result<usize, Error>
+    requires { WhileOpen (seen S.Store tx.old) (Has (table_of table)) }
+{
+    let [first, second, third] = row.1;
+    let [number, other] = row.2;
+    match table {
+        StoreTable::Mark => insert_mark(
+            tx,
+            &Mark {
+                id: 1,
+                magic: first,
+                version: number,
+                installs: other,
+            },
+        ),
+        StoreTable::Item => insert_item(
+            tx,
+            &Item {
+                place: number,
+                name: first,
+                kind: other,
+                title: if other == 0 { None } else { Some(second) },
+                current: row.3,
+                former: None,
+            },
+        ),
+        StoreTable::Member => insert_member(
+            tx,
+            &Member {
+                owner: first,
+                ord: number,
+                name: second,
+            },
+        ),
+        StoreTable::Edition => insert_edition(
+            tx,
+            &Edition {
+                number,
+                owner: first,
+                title: second,
+                info: third,
+                body: row.4,
+            },
+        ),
+        StoreTable::Entry => insert_entry(
+            tx,
+            &Entry {
+                edition: number,
+                ord: other,
+                headword: first,
+                start: other,
+                length: 9_223_372_036_854_775_807,
+            },
+        ),
+        StoreTable::Kept => insert_kept(
+            tx,
+            &Kept {
+                id: first,
+                number,
+                verb: second,
+                name: third,
+                edition: row.3,
+            },
+        ),
+    }
+}
+
+fn put<S: Alter>(conn: &mut Connection<S>, row: &Row) -> Result<(), Error> {
+    let table = row.0;
+    let mut tx = begin(conn, table)?;
+    add(&mut tx, table, row)?;
+    commit(tx)
+}
+
+/// Puts all rows in.
+pub(crate) fn put_all<S: Alter>(conn: &mut Connection<S>) -> Result<(), Error> {
+    for row in &ROWS {
+        put(conn, row)?;
+    }
+    Ok(())
+}
