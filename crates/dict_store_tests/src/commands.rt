@@ -4,7 +4,8 @@ use crate::asked::{Asked, Editions, read_editions, told};
 use crate::desks::{accept_all, adopted, dumped, new_desk};
 use crate::shown::{listed, shown};
 use dict_catalogue::Command;
-use dict_desk::{Keeper, PlainDesk};
+use dict_desk::{Keeper, Lookup, PlainDesk};
+use sqlite::{Alter, Connection};
 use std::alloc::{AllocError, Global};
 use std::process::Abort;
 use std::test::Fail;
@@ -23,23 +24,6 @@ fn answer<K: Keeper>(
 ) -> Result<String, AllocError> {
     let answer = desk.apply(id, &asked.command(editions));
     told(alloc, &answer)
-}
-
-/// An id, a command and its answer.
-type Answered = (&'static str, Asked, &'static str);
-
-fn answer_all<K: Keeper>(
-    rt: &impl Abort,
-    alloc: Global,
-    desk: &mut K,
-    editions: &Editions,
-    asked: &[Answered],
-) -> Result<(), Fail> {
-    for (id, one, wanted) in asked {
-        let told = answer(alloc, desk, editions, id, *one)?;
-        assert_eq!(rt; told.as_str(), *wanted);
-    }
-    Ok(())
 }
 
 fn play<K: Keeper>(
@@ -187,106 +171,6 @@ static ORDERED: [Row; 9] = [
     Row("h", Asked::Retire("ore"), "8 Retire ore None", ""),
 ];
 
-#[test]
-fn commands_on_both_desks(rt: HostRuntime) -> Result<(), Fail> {
-    let alloc = rt.alloc();
-    let editions = read_editions(alloc)?;
-    play_on_both(&rt, alloc, &editions, &SWAPPED)?;
-    play_on_both(&rt, alloc, &editions, &ONCE)?;
-    play_on_both(&rt, alloc, &editions, &ORDERED)
-}
-
-static CATALOGUE: [(&str, Asked); 3] = [
-    ("a", Asked::Ores("ore")),
-    ("b", Asked::Gems("gem")),
-    ("c", Asked::Put("all", "All", &["ore", "gem"])),
-];
-
-static REFUSED: [Answered; 19] = [
-    ("x", Asked::Gems("Gem"), "20"),
-    ("x", Asked::Gems("all"), "22"),
-    ("x", Asked::Rollback("Gem"), "20"),
-    ("x", Asked::Rollback("tin"), "21"),
-    ("x", Asked::Rollback("all"), "22"),
-    ("x", Asked::Rollback("gem"), "23"),
-    ("x", Asked::Retire("Gem"), "20"),
-    ("x", Asked::Retire("tin"), "21"),
-    ("x", Asked::Retire("gem"), "24"),
-    ("x", Asked::Put("Gem", "Gem", &["gem"]), "20"),
-    ("x", Asked::Put("gem", "Gem", &["gem"]), "32"),
-    ("x", Asked::Put("all", " All", &["gem"]), "29"),
-    ("x", Asked::Put("all", "All", &[]), "28"),
-    ("x", Asked::Put("all", "All", &["zz"; 65]), "28"),
-    ("x", Asked::Put("mix", "Mix", &["all"]), "26"),
-    ("x", Asked::Put("all", "All", &["gem", "gem"]), "27"),
-    ("x", Asked::Place("tin", 0), "21"),
-    ("x", Asked::Place("gem", 3), "30"),
-    ("no id", Asked::Retire("all"), "31"),
-];
-
-#[test]
-fn refusals_leave_all_rows(rt: HostRuntime) -> Result<(), Fail> {
-    let alloc = rt.alloc();
-    let editions = read_editions(alloc)?;
-    let mut plain = PlainDesk::new(alloc);
-    accept_all(&mut plain, &editions, &CATALOGUE)?;
-    answer_all(&rt, alloc, &mut plain, &editions, &REFUSED)?;
-    assert!(rt; matches!(plain.kept("x"), Ok(None)));
-    let mut desk = new_desk(alloc)?;
-    accept_all(&mut desk, &editions, &CATALOGUE)?;
-    let mut conn = desk.into_connection();
-    let before = dumped(alloc, &mut conn)?;
-    let mut desk = adopted(alloc, conn)?;
-    answer_all(&rt, alloc, &mut desk, &editions, &REFUSED)?;
-    assert!(rt; matches!(desk.kept("x"), Ok(None)));
-    let mut conn = desk.into_connection();
-    assert_eq!(rt; dumped(alloc, &mut conn)?.as_str(), before.as_str());
-    Ok(())
-}
-
-static FIRST: [Answered; 1] = [("a", Asked::Gems("gem"), "1 Install gem Some(1)")];
-
-static FULL: [Answered; 3] = [
-    ("x", Asked::Ores("ore"), "25"),
-    ("x", Asked::Put("more", "More", &["gem"]), "25"),
-    (
-        "x",
-        Asked::Put("all9", "Gems", &["gem"]),
-        "65 Virtual all9 None",
-    ),
-];
-
-// One database, and 63 lists of it: a new name finds no place, and one that is there does.
-fn fill<K: Keeper>(
-    rt: &impl Abort,
-    alloc: Global,
-    desk: &mut K,
-    editions: &Editions,
-) -> Result<(), Fail> {
-    answer_all(rt, alloc, desk, editions, &FIRST)?;
-    for place in 1..64u64 {
-        let name = format!(in alloc; "all{place}")?;
-        let put = Command::PutVirtual {
-            name: name.as_str(),
-            title: "All",
-            members: &["gem"],
-        };
-        let _kept = desk.apply(name.as_str(), &put)?;
-    }
-    answer_all(rt, alloc, desk, editions, &FULL)
-}
-
-#[test]
-fn sixty_four_items(rt: HostRuntime) -> Result<(), Fail> {
-    let alloc = rt.alloc();
-    let editions = read_editions(alloc)?;
-    fill(&rt, alloc, &mut PlainDesk::new(alloc), &editions)?;
-    let mut desk = new_desk(alloc)?;
-    fill(&rt, alloc, &mut desk, &editions)?;
-    assert_eq!(rt; desk.audit(), Ok(()));
-    Ok(())
-}
-
 static KEPT: [Row; 6] = [
     Row(
         "a",
@@ -327,22 +211,144 @@ static KEPT: [Row; 6] = [
 ];
 
 #[test]
-fn kept_replies_are_given_again(rt: HostRuntime) -> Result<(), Fail> {
+fn commands_on_both_desks(rt: HostRuntime) -> Result<(), Fail> {
+    let alloc = rt.alloc();
+    let editions = read_editions(alloc)?;
+    play_on_both(&rt, alloc, &editions, &SWAPPED)?;
+    play_on_both(&rt, alloc, &editions, &ONCE)?;
+    play_on_both(&rt, alloc, &editions, &ORDERED)?;
+    play_on_both(&rt, alloc, &editions, &KEPT)
+}
+
+static CATALOGUE: [(&str, Asked); 3] = [
+    ("a", Asked::Ores("ore")),
+    ("b", Asked::Gems("gem")),
+    ("c", Asked::Put("all", "All", &["ore", "gem"])),
+];
+
+const UNCHANGED: &str = "ore Ores 1; gem Gems 2; all All +ore +gem; ";
+
+// Commands that are refused, and ids that are kept.
+static NOTHING: [Row; 22] = [
+    Row("x", Asked::Gems("Gem"), "20", UNCHANGED),
+    Row("x", Asked::Gems("all"), "22", UNCHANGED),
+    Row("x", Asked::Rollback("Gem"), "20", UNCHANGED),
+    Row("x", Asked::Rollback("tin"), "21", UNCHANGED),
+    Row("x", Asked::Rollback("all"), "22", UNCHANGED),
+    Row("x", Asked::Rollback("gem"), "23", UNCHANGED),
+    Row("x", Asked::Retire("Gem"), "20", UNCHANGED),
+    Row("x", Asked::Retire("tin"), "21", UNCHANGED),
+    Row("x", Asked::Retire("gem"), "24", UNCHANGED),
+    Row("x", Asked::Put("Gem", "Gem", &["gem"]), "20", UNCHANGED),
+    Row("x", Asked::Put("gem", "Gem", &["gem"]), "32", UNCHANGED),
+    Row("x", Asked::Put("all", " All", &["gem"]), "29", UNCHANGED),
+    Row("x", Asked::Put("all", "All", &[]), "28", UNCHANGED),
+    Row("x", Asked::Put("all", "All", &["zz"; 65]), "28", UNCHANGED),
+    Row("x", Asked::Put("mix", "Mix", &["all"]), "26", UNCHANGED),
+    Row(
+        "x",
+        Asked::Put("all", "All", &["gem", "gem"]),
+        "27",
+        UNCHANGED,
+    ),
+    Row("x", Asked::Place("tin", 0), "21", UNCHANGED),
+    Row("x", Asked::Place("gem", 3), "30", UNCHANGED),
+    Row("no id", Asked::Retire("all"), "31", UNCHANGED),
+    Row(
+        "a",
+        Asked::Retire("all"),
+        "1 Install ore Some(1)",
+        UNCHANGED,
+    ),
+    Row(
+        "b",
+        Asked::Retire("all"),
+        "2 Install gem Some(2)",
+        UNCHANGED,
+    ),
+    Row("c", Asked::Retire("all"), "3 Virtual all None", UNCHANGED),
+];
+
+// A desk that is opened, plays rows that act on nothing, and has kept nothing of a refused id; and its connection.
+fn play_nothing<S: Alter + Drop>(
+    rt: &impl Abort,
+    alloc: Global,
+    editions: &Editions,
+    conn: Connection<S>,
+) -> Result<Connection<S>, Fail> {
+    let mut desk = adopted(alloc, conn)?;
+    let end = play(rt, alloc, &mut desk, editions, &NOTHING);
+    let is_free = matches!(desk.kept("x"), Ok(None));
+    let conn = desk.into_connection();
+    end?;
+    assert!(rt; is_free);
+    Ok(conn)
+}
+
+#[test]
+fn what_acts_on_nothing_leaves_all_rows(rt: HostRuntime) -> Result<(), Fail> {
     let alloc = rt.alloc();
     let editions = read_editions(alloc)?;
     let mut desk = new_desk(alloc)?;
-    play(&rt, alloc, &mut desk, &editions, &KEPT)?;
+    accept_all(&mut desk, &editions, &CATALOGUE)?;
     let mut conn = desk.into_connection();
     let before = dumped(alloc, &mut conn)?;
-    let mut desk = adopted(alloc, conn)?;
-    for Row(id, asked, wanted, _) in &KEPT {
-        for repeated in [*asked, Asked::Retire("gem")] {
-            let told = answer(alloc, &mut desk, &editions, id, repeated)?;
-            assert_eq!(rt; told.as_str(), *wanted);
-        }
-    }
-    let mut conn = desk.into_connection();
+    let mut conn = play_nothing(&rt, alloc, &editions, conn)?;
     assert_eq!(rt; dumped(alloc, &mut conn)?.as_str(), before.as_str());
+    Ok(())
+}
+
+// 63 lists of one database.
+fn fill<K: Keeper>(alloc: Global, desk: &mut K, editions: &Editions) -> Result<(), Fail> {
+    answer(alloc, desk, editions, "a", Asked::Gems("gem"))?;
+    for place in 1..64u64 {
+        let name = format!(in alloc; "all{place}")?;
+        let put = Command::PutVirtual {
+            name: name.as_str(),
+            title: "All",
+            members: &["gem"],
+        };
+        desk.apply(name.as_str(), &put)?;
+    }
+    Ok(())
+}
+
+/// An id, a command and its answer.
+type Answered = (&'static str, Asked, &'static str);
+
+// A new name finds no place, and one that is there does.
+static FULL: [Answered; 3] = [
+    ("x", Asked::Ores("ore"), "25"),
+    ("x", Asked::Put("more", "More", &["gem"]), "25"),
+    (
+        "x",
+        Asked::Put("all9", "Gems", &["gem"]),
+        "65 Virtual all9 None",
+    ),
+];
+
+fn answer_all<K: Keeper>(
+    rt: &impl Abort,
+    alloc: Global,
+    desk: &mut K,
+    editions: &Editions,
+    asked: &[Answered],
+) -> Result<(), Fail> {
+    for (id, one, wanted) in asked {
+        let told = answer(alloc, desk, editions, id, *one)?;
+        assert_eq!(rt; told.as_str(), *wanted);
+    }
+    Ok(())
+}
+
+#[test]
+fn sixty_four_items(rt: HostRuntime) -> Result<(), Fail> {
+    let alloc = rt.alloc();
+    let editions = read_editions(alloc)?;
+    let mut desk = new_desk(alloc)?;
+    fill(alloc, &mut desk, &editions)?;
+    answer_all(&rt, alloc, &mut desk, &editions, &FULL)?;
+    assert_eq!(rt; desk.audit(), Ok(()));
     Ok(())
 }
 

@@ -30,6 +30,11 @@ impl<D: Disk> FailsOnce<D> {
         }
     }
 
+    /// The disk below.
+    pub(crate) fn inner(&self) -> &D {
+        &self.inner
+    }
+
     /// How many calls there were, the one that failed counted.
     pub(crate) fn calls(&self) -> u64 {
         self.calls

@@ -6,15 +6,15 @@ mod asked;
 #[cfg(test)]
 mod commands;
 #[cfg(test)]
-mod creating;
-#[cfg(test)]
-mod damaged;
-#[cfg(test)]
 mod desks;
 #[cfg(test)]
 mod fails_once;
 #[cfg(test)]
+mod files;
+#[cfg(test)]
 mod looking;
+#[cfg(test)]
+mod refused;
 #[cfg(test)]
 mod reopened;
 #[cfg(test)]

@@ -1,176 +1,131 @@
-//! What readers ask of a desk, and of one edition whose rows a text puts into the tables.
-
-use crate::desks::new_desk;
+//! What readers ask of a desk over a file, and of one in memory.
+use crate::asked::{Asked, read_editions};
+use crate::desks::{accept_all, new_desk};
 use crate::shown::Rows;
-use dict_desk::{End, Fault, Lookup, What};
-use dict_lookup::{count, find, heads, info};
+use dict_desk::{End, Fault, Lookup, PlainDesk, What};
 use dict_match::{Strategy, key_of};
-use dict_tables::{StoreTable, has_table};
-use sqlite::{Alter, Connection};
 use std::alloc::Global;
 use std::process::Abort;
 use std::test::Fail;
 
-// The edition with number 2 has three entries, and a record of another edition stands before them.
-static EDITIONS: &str = "
-    INSERT INTO edition VALUES (1, 'ore', 'Ores', 'of ores', x'69726f6e69726f6e');
-    INSERT INTO edition VALUES (2, 'gem', 'Gems', 'of gems', x'612073746f6e652e646f74');
-    INSERT INTO entry VALUES (2, 2, 'dot', 7, 4);
-    INSERT INTO entry VALUES (1, 0, 'opal', 0, 4);
-    INSERT INTO entry VALUES (2, 1, 'Fire Opal', 2, 5);
-    INSERT INTO entry VALUES (2, 0, 'opal', 0, 7);
-    INSERT INTO entry VALUES (2, 3, 'opal', 0, 1);
-";
-
-fn filled(alloc: Global) -> Result<Connection<sqlite::MemStore>, Fail> {
-    let mut conn = new_desk(alloc)?.into_connection();
-    conn.execute_batch(EDITIONS)?;
-    Ok(conn)
+/// What is asked of an edition.
+#[derive(Clone, Copy)]
+enum Question {
+    Info,
+    Found(Strategy, &'static str),
+    Heads(Strategy, &'static str),
+    Entries(Strategy, &'static str),
+    Headwords(Strategy, &'static str),
 }
 
-// The entries that are found, at most so many of them, and whether they are all.
-fn found<S: Alter>(
-    alloc: Global,
-    conn: &mut Connection<S>,
-    number: u64,
-    strategy: Strategy,
-    query: &str,
-    most: usize,
-) -> Result<(String, End), Fault> {
-    let query = key_of(alloc, query)?;
+/// The edition's number, the question, how many rows are taken at most, and what is told: the rows, and `.` behind all of
+/// them or `!` where the sink stopped; or the count.
+#[derive(Clone, Copy)]
+struct Row(u64, Question, usize, &'static str);
+
+static ASKED: [Row; 14] = [
+    Row(1, Question::Info, 9, "=;."),
+    Row(
+        2,
+        Question::Found(Strategy::Suffix, "opal"),
+        9,
+        "opal=opal\n  a stone\n;Fire Opal=opal\n  a stone\n;.",
+    ),
+    Row(
+        2,
+        Question::Found(Strategy::Suffix, "opal"),
+        1,
+        "opal=opal\n  a stone\n;!",
+    ),
+    Row(
+        2,
+        Question::Found(Strategy::Exact, "DOT"),
+        9,
+        "dot=.dot\n;.",
+    ),
+    Row(
+        1,
+        Question::Found(Strategy::Substring, "o"),
+        9,
+        "iron=iron\n  ore\n;.",
+    ),
+    Row(3, Question::Found(Strategy::Substring, "o"), 9, "."),
+    Row(2, Question::Found(Strategy::Prefix, "00"), 9, "."),
+    Row(
+        2,
+        Question::Heads(Strategy::Substring, "o"),
+        9,
+        "opal=;Fire Opal=;dot=;.",
+    ),
+    Row(
+        2,
+        Question::Heads(Strategy::Substring, "o"),
+        2,
+        "opal=;Fire Opal=;!",
+    ),
+    Row(1, Question::Heads(Strategy::First, "opal"), 9, "."),
+    Row(2, Question::Entries(Strategy::Last, "opal"), 9, "2"),
+    Row(2, Question::Entries(Strategy::Word, "fire"), 9, "1"),
+    Row(2, Question::Headwords(Strategy::Substring, "o"), 9, "3"),
+    Row(1, Question::Headwords(Strategy::Exact, "opal"), 9, "0"),
+];
+
+// The rows that were taken, and how they end.
+fn told_rows(rows: Rows, end: End) -> Result<String, Fault> {
+    let mut text = rows.into_text();
+    text.push(if end == End::All { '.' } else { '!' })?;
+    Ok(text)
+}
+
+fn answer<L: Lookup>(alloc: Global, desk: &mut L, row: Row) -> Result<String, Fault> {
+    let Row(number, question, most, _) = row;
     let mut rows = Rows::new(alloc, most);
-    if !has_table(conn.schema(), StoreTable::Edition)
-        || !has_table(conn.schema(), StoreTable::Entry)
-    {
-        return Err(Fault::Damaged);
+    match question {
+        Question::Info => {
+            let end = desk.info(number, &mut rows)?;
+            told_rows(rows, end)
+        }
+        Question::Found(strategy, text) => {
+            let end = desk.find(number, strategy, &key_of(alloc, text)?, &mut rows)?;
+            told_rows(rows, end)
+        }
+        Question::Heads(strategy, text) => {
+            let end = desk.heads(number, strategy, &key_of(alloc, text)?, &mut rows)?;
+            told_rows(rows, end)
+        }
+        Question::Entries(strategy, text) => {
+            let count = desk.count(number, strategy, &key_of(alloc, text)?, What::Entries)?;
+            Ok(format!(in alloc; "{count}")?)
+        }
+        Question::Headwords(strategy, text) => {
+            let count = desk.count(number, strategy, &key_of(alloc, text)?, What::Headwords)?;
+            Ok(format!(in alloc; "{count}")?)
+        }
     }
-    let end = find(alloc, conn, number, strategy, &query, &mut rows)?;
-    Ok((rows.into_text(), end))
 }
 
-#[test]
-fn entries_of_an_edition(rt: HostRuntime) -> Result<(), Fail> {
-    let alloc = rt.alloc();
-    let mut conn = filled(alloc)?;
-    let (text, end) = found(alloc, &mut conn, 2, Strategy::Suffix, "opal", 9)?;
-    assert_eq!(rt; text.as_str(), "opal=a stone;Fire Opal=stone;opal=a;");
-    assert_eq!(rt; end, End::All);
-    let (text, end) = found(alloc, &mut conn, 2, Strategy::Suffix, "opal", 2)?;
-    assert_eq!(rt; text.as_str(), "opal=a stone;Fire Opal=stone;");
-    assert_eq!(rt; end, End::Stopped);
-    let (text, _) = found(alloc, &mut conn, 1, Strategy::Exact, "opal", 9)?;
-    assert_eq!(rt; text.as_str(), "opal=iron;");
-    let (text, end) = found(alloc, &mut conn, 3, Strategy::Exact, "opal", 9)?;
-    assert_eq!(rt; text.as_str(), "");
-    assert_eq!(rt; end, End::All);
-    Ok(())
-}
-
-#[test]
-fn headwords_of_an_edition(rt: HostRuntime) -> Result<(), Fail> {
-    let alloc = rt.alloc();
-    let mut conn = filled(alloc)?;
-    let query = key_of(alloc, "o")?;
-    let mut listed = Rows::new(alloc, 9);
-    if !has_table(conn.schema(), StoreTable::Edition)
-        || !has_table(conn.schema(), StoreTable::Entry)
-    {
-        return Err("no tables")?;
+fn answers_all<L: Lookup>(rt: &impl Abort, alloc: Global, desk: &mut L) -> Result<(), Fail> {
+    for row in &ASKED {
+        assert_eq!(rt; answer(alloc, desk, *row)?.as_str(), row.3);
     }
-    let end = heads(
-        alloc,
-        &mut conn,
-        2,
-        Strategy::Substring,
-        &query,
-        &mut listed,
-    )?;
-    assert_eq!(rt; listed.into_text().as_str(), "opal=;Fire Opal=;dot=;");
-    assert_eq!(rt; end, End::All);
     Ok(())
 }
+
+// Two databases, and a list of both.
+static CATALOGUE: [(&str, Asked); 3] = [
+    ("a", Asked::Ores("ore")),
+    ("b", Asked::Gems("gem")),
+    ("c", Asked::Put("all", "All", &["ore", "gem"])),
+];
 
 #[test]
-fn counts_of_an_edition(rt: HostRuntime) -> Result<(), Fail> {
+fn lookups_on_both_desks(rt: HostRuntime) -> Result<(), Fail> {
     let alloc = rt.alloc();
-    let mut conn = filled(alloc)?;
-    let query = key_of(alloc, "o")?;
-    if !has_table(conn.schema(), StoreTable::Edition)
-        || !has_table(conn.schema(), StoreTable::Entry)
-    {
-        return Err("no tables")?;
-    }
-    let entries = count(
-        alloc,
-        &mut conn,
-        2,
-        Strategy::Substring,
-        &query,
-        What::Entries,
-    )?;
-    assert_eq!(rt; entries, 4);
-    Ok(())
-}
-
-#[test]
-fn headwords_are_counted_once(rt: HostRuntime) -> Result<(), Fail> {
-    let alloc = rt.alloc();
-    let mut conn = filled(alloc)?;
-    let query = key_of(alloc, "o")?;
-    if !has_table(conn.schema(), StoreTable::Edition)
-        || !has_table(conn.schema(), StoreTable::Entry)
-    {
-        return Err("no tables")?;
-    }
-    let words = count(
-        alloc,
-        &mut conn,
-        2,
-        Strategy::Substring,
-        &query,
-        What::Headwords,
-    )?;
-    assert_eq!(rt; words, 3);
-    Ok(())
-}
-
-#[test]
-fn info_of_an_edition(rt: HostRuntime) -> Result<(), Fail> {
-    let alloc = rt.alloc();
-    let mut conn = filled(alloc)?;
-    let mut told = Rows::new(alloc, 9);
-    if !has_table(conn.schema(), StoreTable::Edition)
-        || !has_table(conn.schema(), StoreTable::Entry)
-    {
-        return Err("no tables")?;
-    }
-    let end = info(alloc, &mut conn, 2, &mut told)?;
-    assert_eq!(rt; told.into_text().as_str(), "=of gems;");
-    assert_eq!(rt; end, End::All);
-    Ok(())
-}
-
-// Nothing is found in a desk of no editions.
-fn finds_nothing<L: Lookup>(rt: &impl Abort, alloc: Global, desk: &mut L) -> Result<(), Fault> {
-    let query = key_of(alloc, "opal")?;
-    let mut none = Rows::new(alloc, 9);
-    assert_eq!(rt; desk.summary()?.items.len(), 0);
-    assert_eq!(rt; desk.find(1, Strategy::Exact, &query, &mut none)?, End::All);
-    assert_eq!(rt;
-        desk.heads(1, Strategy::Exact, &query, &mut none)?,
-        End::All
-    );
-    assert_eq!(rt; desk.info(1, &mut none)?, End::All);
-    assert_eq!(rt; desk.count(1, Strategy::Exact, &query, What::Headwords)?, 0);
-    assert_eq!(rt; none.into_text().as_str(), "");
-    Ok(())
-}
-
-#[test]
-fn empty_desk(rt: HostRuntime) -> Result<(), Fail> {
-    let alloc = rt.alloc();
+    let editions = read_editions(alloc)?;
+    let mut plain = PlainDesk::new(alloc);
+    accept_all(&mut plain, &editions, &CATALOGUE)?;
+    answers_all(&rt, alloc, &mut plain)?;
     let mut desk = new_desk(alloc)?;
-    finds_nothing(&rt, alloc, &mut desk)?;
-    assert!(rt; !desk.is_closed());
-    Ok(())
+    accept_all(&mut desk, &editions, &CATALOGUE)?;
+    answers_all(&rt, alloc, &mut desk)
 }

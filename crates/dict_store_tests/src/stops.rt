@@ -2,22 +2,19 @@
 //!
 //! A run begins with the opening of two files that hold a catalogue. One of them fails at one of its calls, or from it on.
 
-use crate::asked::{Asked, read_editions, requests, told, told_outcome};
+use crate::asked::{Asked, Editions, read_editions, requests, told, told_outcome};
 use crate::desks::{accept_all, desk_over};
-use crate::fails_once::FailsOnce;
+use crate::files::{Octets, disk, made, opened};
 use crate::shown::{Rows, shown};
 use dict_catalogue::{Command, Kept, Refusal};
 use dict_desk::{Fault, Keeper, Lookup, PlainDesk, What};
 use dict_match::{Strategy, key_of};
-use dict_store::{Desk, Unopened, apply_to_file};
-use sqlite::{Alter, Connection, FileStore, Files, Options};
-use sqlite_disk::{Crash, Disk, Fuse, Memory};
+use dict_store::{Desk, apply_to_file};
+use sqlite::{Alter, Connection, Files};
+use sqlite_disk::{Crash, Disk};
 use std::alloc::Global;
 use std::process::Abort;
 use std::test::Fail;
-
-// A disk in memory that fails at one call, or from one on.
-type Failing = FailsOnce<Fuse<Memory>>;
 
 type Steps = &'static [(&'static str, Asked)];
 
@@ -91,108 +88,91 @@ struct Ended {
     fault: Option<Fault>,
 }
 
-// A file of these bytes.
-fn file(alloc: Global, bytes: &[u8]) -> Result<Memory, Fail> {
-    let mut file = Memory::new(alloc);
-    if !file.may_be_used() {
-        return Err("fresh")?;
-    }
-    file.write_at(0, bytes)?;
-    if !file.may_be_used() {
-        return Err("written")?;
-    }
-    file.sync()?;
-    Ok(file)
-}
-
-// A disk of these bytes that fails at this call, or from it on.
-fn disk(alloc: Global, bytes: &[u8], call: u64, goes_on: bool) -> Result<Failing, Fail> {
-    let file = file(alloc, bytes)?;
-    if goes_on {
-        Ok(FailsOnce::new(Fuse::new(file, u64::MAX), call))
-    } else {
-        Ok(FailsOnce::new(Fuse::new(file, call), u64::MAX))
-    }
-}
-
-// Few pages are kept in memory, so that a command reads others.
-fn options() -> Options {
-    let mut options = Options::new(1);
-    options.cache_pages = 8;
-    options
-}
-
-fn is_answered(
-    rt: &impl Abort,
+// Whether the outcomes are those.
+fn are_answered(
     alloc: Global,
     outcomes: &[Result<Kept, Refusal>],
     wanted: &[String],
-) -> Result<(), Fail> {
-    assert_eq!(rt; outcomes.len(), wanted.len());
+) -> Result<bool, Fail> {
     for (outcome, wanted) in outcomes.iter().zip(wanted.iter()) {
-        assert_eq!(rt; told_outcome(alloc, outcome)?.as_str(), wanted.as_str());
+        if told_outcome(alloc, outcome)?.as_str() != wanted.as_str() {
+            return Ok(false);
+        }
     }
-    Ok(())
+    Ok(outcomes.len() == wanted.len())
 }
 
 // Each lookup of a closed desk answers so.
-fn finds_none<L: Lookup>(rt: &impl Abort, alloc: Global, desk: &mut L) -> Result<(), Fail> {
+fn finds_none<L: Lookup>(alloc: Global, desk: &mut L) -> Result<bool, Fail> {
     let query = key_of(alloc, "o")?;
     let mut rows = Rows::new(alloc, 9);
-    let found = desk.find(1, Strategy::Suffix, &query, &mut rows);
-    assert_eq!(rt; found, Err(Fault::Closed));
-    let heads = desk.heads(1, Strategy::Suffix, &query, &mut rows);
-    assert_eq!(rt; heads, Err(Fault::Closed));
-    let count = desk.count(1, Strategy::Suffix, &query, What::Entries);
-    assert_eq!(rt; count, Err(Fault::Closed));
-    let info = desk.info(1, &mut rows);
-    assert_eq!(rt; info, Err(Fault::Closed));
-    assert!(rt; matches!(desk.summary(), Err(Fault::Closed)));
-    Ok(())
+    Ok(
+        desk.find(1, Strategy::Suffix, &query, &mut rows) == Err(Fault::Closed)
+            && desk.heads(1, Strategy::Suffix, &query, &mut rows) == Err(Fault::Closed)
+            && desk.count(1, Strategy::Suffix, &query, What::Entries) == Err(Fault::Closed)
+            && desk.info(1, &mut rows) == Err(Fault::Closed)
+            && matches!(desk.summary(), Err(Fault::Closed)),
+    )
 }
 
 // Each other call of a closed desk answers so.
-fn is_closed<S: Alter + Drop>(rt: &impl Abort, desk: &mut Desk<S>) {
-    assert!(rt; desk.is_closed());
-    assert!(rt; matches!(desk.kept("a"), Err(Fault::Closed)));
+fn is_closed<S: Alter + Drop>(desk: &mut Desk<S>) -> bool {
     let retire = Command::Retire { name: "gem" };
-    assert!(rt; matches!(desk.apply("z", &retire), Err(Fault::Closed)));
-    assert_eq!(rt; desk.audit(), Err(Fault::Closed));
+    desk.is_closed()
+        && matches!(desk.kept("a"), Err(Fault::Closed))
+        && matches!(desk.apply("z", &retire), Err(Fault::Closed))
+        && desk.audit() == Err(Fault::Closed)
 }
 
-// Does the commands, over a desk that is opened first.
+// Does the commands.
+fn done<S: Alter + Drop>(
+    rt: &impl Abort,
+    alloc: Global,
+    desk: &mut Desk<S>,
+    sweep: &Sweep<'_>,
+) -> Result<Ended, Fail> {
+    match apply_to_file(alloc, desk, sweep.requests) {
+        Ok(outcomes) => {
+            assert!(rt; are_answered(alloc, &outcomes, sweep.answers)?);
+            Ok(Ended {
+                is_open: true,
+                stand: outcomes.len(),
+                fault: None,
+            })
+        }
+        Err(halted) => {
+            assert!(rt; finds_none(alloc, desk)? && is_closed(desk));
+            Ok(Ended {
+                is_open: true,
+                stand: halted.stand,
+                fault: Some(halted.fault),
+            })
+        }
+    }
+}
+
+// Does the commands over a desk that is opened first.
 fn run<S: Alter + Drop>(
     rt: &impl Abort,
     alloc: Global,
     conn: Connection<S>,
     sweep: &Sweep<'_>,
-) -> Result<(Connection<S>, Ended), Fail> {
-    let mut ended = Ended {
-        is_open: false,
-        stand: 0,
-        fault: None,
-    };
-    let mut desk = match desk_over(alloc, conn, sweep.is_new) {
-        Ok(desk) => desk,
-        Err((conn, fault)) => {
-            ended.fault = Some(fault);
-            return Ok((conn, ended));
+) -> (Connection<S>, Result<Ended, Fail>) {
+    match desk_over(alloc, conn, sweep.is_new) {
+        Ok(desk) => {
+            let mut desk = desk;
+            let ended = done(rt, alloc, &mut desk, sweep);
+            (desk.into_connection(), ended)
         }
-    };
-    ended.is_open = true;
-    match apply_to_file(alloc, &mut desk, sweep.requests) {
-        Ok(outcomes) => {
-            is_answered(rt, alloc, &outcomes, sweep.answers)?;
-            ended.stand = outcomes.len();
-        }
-        Err(halted) => {
-            ended.stand = halted.stand;
-            ended.fault = Some(halted.fault);
-            finds_none(rt, alloc, &mut desk)?;
-            is_closed(rt, &mut desk);
-        }
+        Err((conn, fault)) => (
+            conn,
+            Ok(Ended {
+                is_open: false,
+                stand: 0,
+                fault: Some(fault),
+            }),
+        ),
     }
-    Ok((desk.into_connection(), ended))
 }
 
 fn is_shown(states: &[String], at: usize, text: &str) -> bool {
@@ -202,23 +182,16 @@ fn is_shown(states: &[String], at: usize, text: &str) -> bool {
     }
 }
 
-// Opened anew, what is shown is what was answered, and after a failed command perhaps what it does. The commands that were
-// not answered, and at least the last, are answered then as if they were done for the first time.
-fn is_kept<S: Alter + Drop>(
+// What is shown is what was answered, and after a failed command perhaps what it does. The commands that were not answered,
+// and at least the last, are answered then as if they were done for the first time.
+fn stands<K: Keeper>(
     rt: &impl Abort,
     alloc: Global,
-    conn: Connection<S>,
+    desk: &mut K,
     sweep: &Sweep<'_>,
     ended: Ended,
 ) -> Result<(), Fail> {
-    let mut desk = match desk_over(alloc, conn, false) {
-        Ok(desk) => desk,
-        Err((conn, fault)) => {
-            assert!(rt; sweep.is_new && !ended.is_open && fault == Fault::NotACatalogue);
-            desk_over(alloc, conn, true).ok().ok_or("not made again")?
-        }
-    };
-    let now = shown(alloc, &mut desk)?;
+    let now = shown(alloc, desk)?;
     let next = ended.stand.saturating_add(1);
     let may_be_next = ended.is_open && ended.fault.is_some();
     assert!(rt;
@@ -227,21 +200,89 @@ fn is_kept<S: Alter + Drop>(
     );
     let first = ended.stand.min(sweep.requests.len().saturating_sub(1));
     for (request, wanted) in sweep.requests.iter().zip(sweep.answers.iter()).skip(first) {
-        let answer = desk.apply(request.0, &request.1);
-        assert_eq!(rt; told(alloc, &answer)?.as_str(), wanted.as_str());
+        let answer = told(alloc, &desk.apply(request.0, &request.1))?;
+        assert_eq!(rt; answer.as_str(), wanted.as_str());
     }
-    let last = shown(alloc, &mut desk)?;
+    let last = shown(alloc, desk)?;
     assert!(rt; is_shown(sweep.states, sweep.requests.len(), last.as_str()));
-    assert_eq!(rt; desk.audit(), Ok(()));
     Ok(())
 }
 
-// The files after a crash of the machine.
-fn crashed(files: Files<Failing>) -> Files<Failing> {
+// The desk of a database that is found, or of one that is made where none may be there.
+fn found_again<S: Alter + Drop>(
+    alloc: Global,
+    conn: Connection<S>,
+    may_be_unmade: bool,
+) -> Option<Desk<S>> {
+    match desk_over(alloc, conn, false) {
+        Ok(desk) => Some(desk),
+        Err((conn, fault)) => {
+            if may_be_unmade && fault == Fault::NotACatalogue {
+                desk_over(alloc, conn, true).ok()
+            } else {
+                None
+            }
+        }
+    }
+}
+
+// Opened anew, the catalogue stands as it has to, and is sound.
+fn is_kept<S: Alter + Drop>(
+    rt: &impl Abort,
+    alloc: Global,
+    conn: Connection<S>,
+    sweep: &Sweep<'_>,
+    ended: Ended,
+) -> Result<(), Fail> {
+    match found_again(alloc, conn, sweep.is_new && !ended.is_open) {
+        Some(desk) => {
+            let mut desk = desk;
+            let end = stands(rt, alloc, &mut desk, sweep, ended);
+            assert_eq!(rt; desk.audit(), Ok(()));
+            end
+        }
+        None => Err("no catalogue")?,
+    }
+}
+
+// Opens two files and does the commands; and the files again.
+fn first_run<D: Disk + Drop>(
+    rt: &impl Abort,
+    alloc: Global,
+    files: Files<D>,
+    sweep: &Sweep<'_>,
+) -> (Files<D>, Result<Ended, Fail>) {
+    match opened(alloc, files) {
+        Ok(conn) => {
+            let (conn, ended) = run(rt, alloc, conn, sweep);
+            (conn.into_store().close(), ended)
+        }
+        Err(files) => (
+            files,
+            Ok(Ended {
+                is_open: false,
+                stand: 0,
+                fault: Some(Fault::Disk),
+            }),
+        ),
+    }
+}
+
+// Opens what a crash of the machine leaves of two files, and looks.
+fn second_run<D: Crash + Drop>(
+    rt: &impl Abort,
+    alloc: Global,
+    files: Files<D>,
+    sweep: &Sweep<'_>,
+    ended: Ended,
+) -> Result<(), Fail> {
     let mut files = files;
     files.log.crash();
     files.db.crash();
-    files
+    match opened(alloc, files) {
+        Ok(conn) => is_kept(rt, alloc, conn, sweep, ended),
+        Err(_) => Err("not opened again")?,
+    }
 }
 
 // One run with a failure at this call of one file, and how it ended, where there was a failure. Without one no command fails.
@@ -257,44 +298,19 @@ fn fails_at(
     } else {
         (u64::MAX, call)
     };
-    let log = disk(alloc, sweep.log, log_call, mode.goes_on)?;
-    let db = disk(alloc, sweep.db, db_call, mode.goes_on)?;
-    let files = Files { log, db };
-    if !files.may_be_used() {
-        return Err("fresh")?;
-    }
-    let (files, ended) = match Connection::open_files(alloc, files, options()) {
-        Ok(conn) => {
-            let (conn, ended) = run(rt, alloc, conn, sweep)?;
-            (conn.into_store().close(), ended)
-        }
-        Err((_, left)) => {
-            let ended = Ended {
-                is_open: false,
-                stand: 0,
-                fault: Some(Fault::Disk),
-            };
-            (left.into_files(), ended)
-        }
+    let files = Files {
+        log: disk(alloc, sweep.log, log_call, mode.goes_on)?,
+        db: disk(alloc, sweep.db, db_call, mode.goes_on)?,
     };
+    let (files, ended) = first_run(rt, alloc, files, sweep);
     let has_failed = files.log.calls() > log_call || files.db.calls() > db_call;
+    let ended = ended?;
     match ended.fault {
         Some(fault) => assert!(rt; has_failed && fault == Fault::Disk, "{call}"),
         None => assert!(rt; ended.is_open),
     }
-    let files = crashed(files);
-    if !files.may_be_used() {
-        return Err("crashed")?;
-    }
-    let Ok(conn) = Connection::open_files(alloc, files, options()) else {
-        return Err("not opened again")?;
-    };
-    is_kept(rt, alloc, conn, sweep, ended)?;
-    if has_failed {
-        Ok(Some(ended))
-    } else {
-        Ok(None)
-    }
+    second_run(rt, alloc, files, sweep, ended)?;
+    Ok(if has_failed { Some(ended) } else { None })
 }
 
 // A failure at each call of one file, until there is none. Some of those of the log are in the middle of a command.
@@ -310,85 +326,83 @@ fn sweep_all(rt: &impl Abort, alloc: Global, sweep: &Sweep<'_>, mode: Mode) -> R
     Err("each run failed")?
 }
 
-// The two files, the log written into the other one.
-fn closed(conn: Connection<FileStore<Memory>>) -> Files<Memory> {
-    match conn.close_files() {
-        Ok(files) => files,
-        Err((_, store)) => store.close(),
-    }
+/// The answers of commands, and what is shown before them and after each.
+#[derive(Drop)]
+struct Expected {
+    answers: Vec<String>,
+    states: Vec<String>,
 }
 
-// The two files of a catalogue after these commands.
-fn made(alloc: Global, asked: Steps) -> Result<Files<Memory>, Fail> {
-    let files = Files {
-        log: Memory::new(alloc),
-        db: Memory::new(alloc),
-    };
-    if !files.may_be_used() {
-        return Err("fresh")?;
-    }
-    let Ok(conn) = Connection::open_files(alloc, files, options()) else {
-        return Err("not opened")?;
-    };
-    let mut desk = desk_over(alloc, conn, true).ok().ok_or("not made")?;
-    accept_all(&mut desk, &read_editions(alloc)?, asked)?;
-    Ok(closed(desk.into_connection()))
-}
-
-// The answers of these commands, and what a desk in memory shows before them and after each.
-fn expected(
+// What a desk in memory answers and shows.
+fn answers_of<K: Keeper>(
     alloc: Global,
-    desk: &mut PlainDesk,
+    desk: &mut K,
     requests: &[(&str, Command)],
-) -> Result<(Vec<String>, Vec<String>), Fail> {
+) -> Result<Expected, Fail> {
     let mut answers = Vec::new(alloc);
     let mut states = Vec::new(alloc);
     states.push(shown(alloc, desk)?)?;
     for request in requests {
-        let answer = desk.apply(request.0, &request.1);
-        answers.push(told(alloc, &answer)?)?;
+        answers.push(told(alloc, &desk.apply(request.0, &request.1))?)?;
         states.push(shown(alloc, desk)?)?;
     }
-    Ok((answers, states))
+    Ok(Expected { answers, states })
 }
 
-fn sweep_case(rt: &impl Abort, alloc: Global, case: Case, mode: Mode) -> Result<(), Fail> {
-    let Case(before, under) = case;
-    let editions = read_editions(alloc)?;
+// The same over the catalogue that these commands make.
+fn answers_over(
+    alloc: Global,
+    editions: &Editions,
+    before: Steps,
+    requests: &[(&str, Command)],
+) -> Result<Expected, Fail> {
     let mut plain = PlainDesk::new(alloc);
-    accept_all(&mut plain, &editions, before)?;
-    let requests = requests(alloc, &editions, under)?;
-    let (answers, states) = expected(alloc, &mut plain, &requests)?;
-    let files = made(alloc, before)?;
+    accept_all(&mut plain, editions, before)?;
+    answers_of(alloc, &mut plain, requests)
+}
+
+// The commands of a case over the two files that those before them make.
+fn sweep_over(
+    rt: &impl Abort,
+    alloc: Global,
+    editions: &Editions,
+    case: Case,
+    octets: &Octets,
+    mode: Mode,
+) -> Result<(), Fail> {
+    let requests = requests(alloc, editions, case.1)?;
+    let expected = answers_over(alloc, editions, case.0, &requests)?;
     let sweep = Sweep {
         is_new: false,
-        log: files.log.bytes(),
-        db: files.db.bytes(),
+        log: octets.log.as_slice(),
+        db: octets.db.as_slice(),
         requests: requests.as_slice(),
-        answers: answers.as_slice(),
-        states: states.as_slice(),
+        answers: expected.answers.as_slice(),
+        states: expected.states.as_slice(),
     };
     sweep_all(rt, alloc, &sweep, mode)
 }
 
 // A new catalogue over no files at all.
-fn sweep_new(rt: &impl Abort, alloc: Global, mode: Mode) -> Result<(), Fail> {
-    let (_, states) = expected(alloc, &mut PlainDesk::new(alloc), &[])?;
+fn sweep_new(rt: &impl Abort, alloc: Global, editions: &Editions, mode: Mode) -> Result<(), Fail> {
+    let expected = answers_over(alloc, editions, &[], &[])?;
     let sweep = Sweep {
         is_new: true,
         log: &[],
         db: &[],
         requests: &[],
         answers: &[],
-        states: states.as_slice(),
+        states: expected.states.as_slice(),
     };
     sweep_all(rt, alloc, &sweep, mode)
 }
 
 fn sweep_cases(rt: &impl Abort, alloc: Global, mode: Mode) -> Result<(), Fail> {
-    sweep_new(rt, alloc, mode)?;
+    let editions = read_editions(alloc)?;
+    sweep_new(rt, alloc, &editions, mode)?;
     for case in &CASES {
-        sweep_case(rt, alloc, *case, mode)?;
+        let octets = made(alloc, &editions, case.0)?;
+        sweep_over(rt, alloc, &editions, *case, &octets, mode)?;
     }
     Ok(())
 }
@@ -427,81 +441,4 @@ fn a_failure_of_each_call_of_the_file(rt: HostRuntime) -> Result<(), Fail> {
         goes_on: true,
     };
     sweep_cases(&rt, rt.alloc(), mode)
-}
-
-/// What a command met over files of which one fails.
-#[derive(Clone, Copy, PartialEq, Eq)]
-enum Met {
-    /// The failure came before there was a desk.
-    NoDesk,
-    /// The same files were opened again.
-    Reopened,
-    /// They were not, since a sync had failed.
-    Spent,
-    /// No failure.
-    Nothing,
-}
-
-// The desk of a failed command, over the same files.
-fn opened_again(rt: &impl Abort, desk: Desk<FileStore<Failing>>) -> Result<Met, Fail> {
-    match desk.reopen(options()) {
-        Ok(desk) => {
-            assert!(rt; !desk.is_closed());
-            assert_eq!(rt; desk.summary()?.installs, 1);
-            Ok(Met::Reopened)
-        }
-        Err((left, fault)) => match left {
-            Unopened::Spent(_) => {
-                assert_eq!(rt; fault, Fault::Disk);
-                Ok(Met::Spent)
-            }
-            _ => Err("not opened again")?,
-        },
-    }
-}
-
-// An edition is retired, and the log fails at this call.
-fn retired_over(
-    rt: &impl Abort,
-    alloc: Global,
-    made: &Files<Memory>,
-    call: u64,
-) -> Result<Met, Fail> {
-    let files = Files {
-        log: disk(alloc, made.log.bytes(), call, true)?,
-        db: disk(alloc, made.db.bytes(), u64::MAX, true)?,
-    };
-    if !files.may_be_used() {
-        return Err("fresh")?;
-    }
-    let Ok(conn) = Connection::open_files(alloc, files, options()) else {
-        return Ok(Met::NoDesk);
-    };
-    let Ok(mut desk) = desk_over(alloc, conn, false) else {
-        return Ok(Met::NoDesk);
-    };
-    match desk.apply("r", &Command::Retire { name: "gem" }) {
-        Ok(_) => Ok(Met::Nothing),
-        Err(_) => opened_again(rt, desk),
-    }
-}
-
-static GEM_ALONE: [(&str, Asked); 1] = [("a", Asked::Gems("gem"))];
-
-#[test]
-fn the_same_files_after_a_failure(rt: HostRuntime) -> Result<(), Fail> {
-    let alloc = rt.alloc();
-    let made = made(alloc, &GEM_ALONE)?;
-    let mut reopened = 0u64;
-    let mut spent = 0u64;
-    'calls: for call in 0..5_000u64 {
-        match retired_over(&rt, alloc, &made, call)? {
-            Met::NoDesk => {}
-            Met::Reopened => reopened = reopened.saturating_add(1),
-            Met::Spent => spent = spent.saturating_add(1),
-            Met::Nothing => break 'calls,
-        }
-    }
-    assert!(rt; reopened > 0 && spent > 0, "{reopened} {spent}");
-    Ok(())
 }

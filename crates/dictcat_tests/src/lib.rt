@@ -3,22 +3,18 @@
 #![tactic(auto)]
 
 #[cfg(test)]
-mod arranging;
-#[cfg(test)]
 mod catalogues;
-#[cfg(test)]
-mod editing;
-#[cfg(test)]
-mod faults;
 #[cfg(test)]
 mod fixtures;
 #[cfg(test)]
+mod paths;
+#[cfg(test)]
 mod printed;
+#[cfg(test)]
+mod rows;
 #[cfg(test)]
 mod serving;
 #[cfg(test)]
 mod sessions;
-#[cfg(test)]
-mod tasks;
 #[cfg(test)]
 mod usage;

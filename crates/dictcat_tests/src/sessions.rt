@@ -1,206 +1,260 @@
-use super::fixtures::{
-    BANNER, CLOSING, DOT, EDGE_INDEX, EDGE_TEXT, GEM_INDEX, GEM_TEXT, OPAL, PLUS_INDEX, PLUS_TEXT,
-    Pieces, taken,
-};
+//! Sessions over databases that were read, cut in any way.
+use super::fixtures::{GEM_INDEX, GEM_TEXT, taken};
 use dict_io::{LimitedSink, OverRead};
-use dict_printed::Fault;
 use dictcat_lib::run_plain;
 use std::alloc::Global;
+use std::io::{Error, ErrorKind, Read, Result as IoResult};
 use std::test::Fail;
 
-// A database's name, its index and its text.
-type Files<'a> = (&'a str, &'a [u8], &'a [u8]);
+/// A database's name, its index and its text.
+type Database = (&'static str, &'static [u8], &'static [u8]);
 
-// What a session over these files writes, and how it ends: the input comes by a first piece of one size and then
-// pieces of another, and the sink has room for so many octets.
-fn session_over(
+const GEM: Database = ("gem", GEM_INDEX, GEM_TEXT);
+
+// One headword begins another; the longer ends with the last character of all, U+10FFFF.
+const EDGE: Database = (
+    "edge",
+    b"00-database-short\tA\tZ\na\tZ\tC\na\xf4\x8f\xbf\xbf\tZ\tC\nb\tZ\tC\n",
+    b"00-database-short\n  Gems\nx\n",
+);
+
+// A headword of which folding leaves nothing.
+const PLUS: Database = (
+    "gem2",
+    b"00-database-short\tA\tZ\n+\tZ\tF\n",
+    b"00-database-short\n  Gems\nplus\n",
+);
+
+const BANNER: &str = "220 localhost dictcat ready <1@localhost>\r\n";
+
+const OPAL: &str =
+    "150 1 definitions retrieved\r\n151 \"opal\" gem \"Gems\"\r\nopal\r\n  a stone\r\n.\r\n250 ok\r\n";
+
+const NOT_RECOGNIZED: &str = "500 command not recognized\r\n";
+
+const ILLEGAL_PARAMETERS: &str = "501 illegal parameters\r\n";
+
+const NO_MATCH: &str = "552 no match\r\n";
+
+const OPAL_MATCH: &str = "152 1 matches found\r\ngem \"opal\"\r\n.\r\n250 ok\r\n";
+
+const FIRE_MATCH: &str = "152 1 matches found\r\ngem \"Fire Opal\"\r\n.\r\n250 ok\r\n";
+
+const OPAL_MATCHES: &str =
+    "152 2 matches found\r\ngem \"opal\"\r\ngem \"Fire Opal\"\r\n.\r\n250 ok\r\n";
+
+/// Gives octets, the first time so many and then pieces of another size, and then ends or fails.
+#[derive(Drop)]
+struct Pieces<'a> {
+    rest: &'a [u8],
+    size: usize,
+    next_size: usize,
+    fails: bool,
+}
+
+impl Read for Pieces<'_> {
+    fn read(&mut self, room: &mut [u8]) -> IoResult<usize> {
+        if self.rest.is_empty() && self.fails {
+            return Err(Error::from(ErrorKind::ConnectionReset));
+        }
+        let size = self.size.min(self.rest.len()).min(room.len());
+        let (piece, rest) = self.rest.split_at(size);
+        room[..size].copy_from_slice(piece);
+        self.rest = rest;
+        self.size = self.next_size;
+        Ok(size)
+    }
+}
+
+// What a session over a database writes to a sink with this room, and behind it a fault that it ends by.
+fn session(
     alloc: Global,
-    files: Files<'_>,
+    database: Database,
     pieces: Pieces<'_>,
     room: usize,
-) -> Result<(Result<(), Fault<'static>>, String), Fail> {
-    let (name, index, text) = files;
+) -> Result<String, Fail> {
+    let (name, index, text) = database;
     let mut reader = OverRead::new(pieces);
     let mut writer = LimitedSink::new(alloc, room)?;
     let index = Vec::from_slice(alloc, index)?;
     let text = Vec::from_slice(alloc, text)?;
     let end = run_plain(alloc, name, index, text, &mut reader, &mut writer);
-    Ok((end, taken(alloc, &writer)?))
-}
-
-// The same over gem.
-fn session(
-    alloc: Global,
-    pieces: Pieces<'_>,
-    room: usize,
-) -> Result<(Result<(), Fault<'static>>, String), Fail> {
-    session_over(alloc, ("gem", GEM_INDEX, GEM_TEXT), pieces, room)
-}
-
-fn pieces(octets: &[u8], size: usize, next_size: usize) -> Pieces<'_> {
-    Pieces {
-        rest: octets,
-        size,
-        next_size,
-        fails: false,
+    let mut written = taken(alloc, &writer)?;
+    if let Err(fault) = end {
+        written.push_str(format!(in alloc; "!{fault}")?.as_str())?;
     }
+    Ok(written)
 }
+
+// Whether a session with this input, cut so, writes its greeting and this answer.
+fn is_answered(
+    alloc: Global,
+    database: Database,
+    pieces: Pieces<'_>,
+    answer: &str,
+) -> Result<bool, Fail> {
+    let written = session(alloc, database, pieces, 1000)?;
+    Ok(written.as_str().strip_prefix(BANNER) == Some(answer))
+}
+
+// The size of the first piece with which an input is answered otherwise, if there is one, where the next have this size.
+fn cut_where(
+    alloc: Global,
+    database: Database,
+    input: &str,
+    next_size: usize,
+    answer: &str,
+) -> Result<Option<usize>, Fail> {
+    for size in 1..=input.len().max(1) {
+        let pieces = Pieces {
+            rest: input.as_bytes(),
+            size,
+            next_size,
+            fails: false,
+        };
+        if !is_answered(alloc, database, pieces, answer)? {
+            return Ok(Some(size));
+        }
+    }
+    Ok(None)
+}
+
+static ANSWERS: [(Database, &str, &str); 36] = [
+    (GEM, "", ""),
+    (GEM, "DEFINE gem opal", ""),
+    (GEM, "DEFINE gem OPAL\r\n", OPAL),
+    (
+        GEM,
+        "DEFINE gem dot\r\n",
+        "150 1 definitions retrieved\r\n151 \"dot\" gem \"Gems\"\r\n..dot\r\n.\r\n250 ok\r\n",
+    ),
+    (GEM, "DEFINE nosuch opal\r\n", "550 invalid database\r\n"),
+    (GEM, "DEFINE gem ruby\r\n", NO_MATCH),
+    (GEM, "STATUS\r\n", "210 1 databases\r\n"),
+    (
+        GEM,
+        "show db\r\n",
+        "110 1 databases present\r\ngem \"Gems\"\r\n.\r\n250 ok\r\n",
+    ),
+    (
+        GEM,
+        "SHOW SERVER\r\n",
+        "114 server information\r\ndictcat on localhost\r\ndatabases 1\r\n.\r\n250 ok\r\n",
+    ),
+    (GEM, "SASLRESP x\r\n", NOT_RECOGNIZED),
+    (GEM, "DEFINE gem\r\n", ILLEGAL_PARAMETERS),
+    (GEM, "DEFINE gem \"opal\r\n", ILLEGAL_PARAMETERS),
+    (GEM, "DEFINE gem \"opal\"\r\n", OPAL),
+    (GEM, "\"define\" 'gem' o\\pal\r\n", OPAL),
+    (GEM, "CLIENT \"curl 7.88\"\r\n", "250 ok\r\n"),
+    (GEM, "option mime\r\n", "502 command not implemented\r\n"),
+    (
+        GEM,
+        "QUIT\r\nDEFINE gem opal\r\n",
+        "221 closing connection\r\n",
+    ),
+    (GEM, "MATCH gem suffix opal\r\n", OPAL_MATCHES),
+    (GEM, "match gem substring OPAL\r\n", OPAL_MATCHES),
+    (GEM, "MATCH gem . fire\r\n", FIRE_MATCH),
+    (GEM, "MATCH gem prefix fire\r\n", FIRE_MATCH),
+    (GEM, "MATCH gem exact opal\r\n", OPAL_MATCH),
+    (GEM, "MATCH gem first opal\r\n", OPAL_MATCH),
+    (GEM, "MATCH gem word fire\r\n", FIRE_MATCH),
+    (GEM, "MATCH gem last opal\r\n", OPAL_MATCHES),
+    (
+        GEM,
+        "MATCH gem substring o\r\n",
+        "152 3 matches found\r\ngem \"opal\"\r\ngem \"Fire Opal\"\r\ngem \"dot\"\r\n.\r\n250 ok\r\n",
+    ),
+    (
+        EDGE,
+        "MATCH edge prefix a\r\n",
+        "152 2 matches found\r\nedge \"a\"\r\nedge \"a\u{10FFFF}\"\r\n.\r\n250 ok\r\n",
+    ),
+    (
+        EDGE,
+        "MATCH edge suffix \u{10FFFF}\r\n",
+        "152 1 matches found\r\nedge \"a\u{10FFFF}\"\r\n.\r\n250 ok\r\n",
+    ),
+    (
+        EDGE,
+        "MATCH edge . b\r\n",
+        "152 1 matches found\r\nedge \"b\"\r\n.\r\n250 ok\r\n",
+    ),
+    (GEM, "MATCH nosuch nosuch x\r\n", "550 invalid database\r\n"),
+    (GEM, "MATCH gem nosuch x\r\n", "551 invalid strategy\r\n"),
+    (GEM, "MATCH gem PREFIX opal\r\n", "551 invalid strategy\r\n"),
+    (GEM, "MATCH gem exact x\r\n", NO_MATCH),
+    (GEM, "MATCH gem prefix 00\r\n", NO_MATCH),
+    (
+        PLUS,
+        "DEFINE gem2 +\r\n",
+        "150 1 definitions retrieved\r\n151 \"+\" gem2 \"Gems\"\r\nplus\r\n.\r\n250 ok\r\n",
+    ),
+    (PLUS, "DEFINE gem2 -\r\n", NO_MATCH),
+];
 
 #[test]
 fn answers_in_any_pieces(rt: HostRuntime) -> Result<(), Fail> {
-    let alloc = rt.alloc();
-    let not_recognized = "500 command not recognized\r\n";
-    let illegal_parameters = "501 illegal parameters\r\n";
-    let rows = [
-        ("", ""),
-        ("DEFINE gem opal", ""),
-        ("DEFINE gem OPAL\r\n", OPAL),
-        ("DEFINE gem dot\r\n", DOT),
-        ("DEFINE nosuch opal\r\n", "550 invalid database\r\n"),
-        ("DEFINE gem ruby\r\n", "552 no match\r\n"),
-        ("STATUS\r\n", "210 1 databases\r\n"),
-        (
-            "show db\r\n",
-            "110 1 databases present\r\ngem \"Gems\"\r\n.\r\n250 ok\r\n",
-        ),
-        (
-            "SHOW SERVER\r\n",
-            "114 server information\r\ndictcat on localhost\r\ndatabases 1\r\n.\r\n250 ok\r\n",
-        ),
-        ("SASLRESP x\r\n", not_recognized),
-        ("DEFINE gem\r\n", illegal_parameters),
-        ("DEFINE gem \"opal\r\n", illegal_parameters),
-        ("DEFINE gem \"opal\"\r\n", OPAL),
-        ("\"define\" 'gem' o\\pal\r\n", OPAL),
-        ("CLIENT \"curl 7.88\"\r\n", "250 ok\r\n"),
-        ("option mime\r\n", "502 command not implemented\r\n"),
-        ("QUIT\r\nDEFINE gem opal\r\n", CLOSING),
-    ];
-    for (input, answer) in rows {
-        let want = format!(in alloc; "{BANNER}{answer}")?;
-        for size in 1..=input.len().max(1) {
-            for next_size in [1, 1000] {
-                let (end, octets) = session(
-                    alloc,
-                    pieces(input.as_bytes(), size, next_size),
-                    1000,
-                )?;
-                assert_eq!(rt; end, Ok(()), "{input} at {size}");
-                assert_eq!(rt; octets.as_str(), want.as_str(), "{input} at {size}");
-            }
+    for (database, input, answer) in &ANSWERS {
+        for next_size in [1, 1000] {
+            let found = cut_where(rt.alloc(), *database, *input, next_size, *answer)?;
+            assert_eq!(rt; found, None, "{input}");
         }
     }
     Ok(())
 }
 
-// The answer to MATCH in a database where these headwords are found.
-fn matches(alloc: Global, name: &str, headwords: &[&str]) -> Result<String, Fail> {
-    let mut answer = format!(in alloc; "152 {} matches found\r\n", headwords.len())?;
-    for headword in headwords {
-        answer.push_str(&format!(in alloc; "{name} \"{headword}\"\r\n")?)?;
-    }
-    answer.push_str(".\r\n250 ok\r\n")?;
-    Ok(answer)
-}
-
-#[test]
-fn matches_by_each_strategy(rt: HostRuntime) -> Result<(), Fail> {
-    let gem: Files = ("gem", GEM_INDEX, GEM_TEXT);
-    let edge: Files = ("edge", EDGE_INDEX, EDGE_TEXT);
-    let rows: [(Files, &str, &[&str]); 12] = [
-        (gem, "MATCH gem suffix opal", &["opal", "Fire Opal"]),
-        (gem, "match gem substring OPAL", &["opal", "Fire Opal"]),
-        (gem, "MATCH gem . fire", &["Fire Opal"]),
-        (gem, "MATCH gem prefix fire", &["Fire Opal"]),
-        (gem, "MATCH gem exact opal", &["opal"]),
-        (gem, "MATCH gem first opal", &["opal"]),
-        (gem, "MATCH gem word fire", &["Fire Opal"]),
-        (gem, "MATCH gem last opal", &["opal", "Fire Opal"]),
-        (gem, "MATCH gem substring o", &["opal", "Fire Opal", "dot"]),
-        (edge, "MATCH edge prefix a", &["a", "a\u{10FFFF}"]),
-        (edge, "MATCH edge suffix \u{10FFFF}", &["a\u{10FFFF}"]),
-        (edge, "MATCH edge . b", &["b"]),
-    ];
-    let alloc = rt.alloc();
-    for (files, line, headwords) in rows {
-        let input = format!(in alloc; "{line}\r\n")?;
-        let answer = matches(alloc, files.0, headwords)?;
-        let want = format!(in alloc; "{BANNER}{answer}")?;
-        for size in [1, 1000] {
-            let input = pieces(input.as_bytes(), size, size);
-            let (end, octets) = session_over(alloc, files, input, 1000)?;
-            assert_eq!(rt; end, Ok(()), "{line}");
-            assert_eq!(rt; octets.as_str(), want.as_str(), "{line}");
-        }
-    }
-    Ok(())
-}
-
-#[test]
-fn answers_what_is_not_found(rt: HostRuntime) -> Result<(), Fail> {
-    let gem: Files = ("gem", GEM_INDEX, GEM_TEXT);
-    let plus: Files = ("gem2", PLUS_INDEX, PLUS_TEXT);
-    let rows = [
-        (gem, "MATCH nosuch nosuch x\r\n", "550 invalid database\r\n"),
-        (gem, "MATCH gem nosuch x\r\n", "551 invalid strategy\r\n"),
-        (gem, "MATCH gem PREFIX opal\r\n", "551 invalid strategy\r\n"),
-        (gem, "MATCH gem exact x\r\n", "552 no match\r\n"),
-        (gem, "MATCH gem prefix 00\r\n", "552 no match\r\n"),
-        (
-            plus,
-            "DEFINE gem2 +\r\n",
-            "150 1 definitions retrieved\r\n151 \"+\" gem2 \"Gems\"\r\nplus\r\n.\r\n250 ok\r\n",
-        ),
-        (plus, "DEFINE gem2 -\r\n", "552 no match\r\n"),
-    ];
-    let alloc = rt.alloc();
-    for (files, input, answer) in rows {
-        let want = format!(in alloc; "{BANNER}{answer}")?;
-        for size in [1, 1000] {
-            let (end, octets) = session_over(
-                alloc,
-                files,
-                pieces(input.as_bytes(), size, size),
-                1000,
-            )?;
-            assert_eq!(rt; end, Ok(()), "{input}");
-            assert_eq!(rt; octets.as_str(), want.as_str(), "{input}");
-        }
-    }
-    Ok(())
-}
+// The reader fails after QUIT, and in the middle of a line.
+static FAILING: [(&str, &str); 2] = [
+    (
+        "DEFINE gem opal\r\nQUIT\r\n",
+        "150 1 definitions retrieved\r\n151 \"opal\" gem \"Gems\"\r\nopal\r\n  a stone\r\n.\r\n250 ok\r\n221 closing connection\r\n",
+    ),
+    (
+        "DEFINE gem opal\r\nQUI",
+        "150 1 definitions retrieved\r\n151 \"opal\" gem \"Gems\"\r\nopal\r\n  a stone\r\n.\r\n250 ok\r\n!session ended by a fault",
+    ),
+];
 
 #[test]
 fn a_line_is_answered_before_the_next_piece_is_read(rt: HostRuntime) -> Result<(), Fail> {
-    let alloc = rt.alloc();
-    // The reader fails after QUIT, and in the middle of a line.
-    let rows = [
-        ("DEFINE gem opal\r\nQUIT\r\n", Ok(()), CLOSING),
-        ("DEFINE gem opal\r\nQUI", Err(Fault::SessionEnded), ""),
-    ];
-    for (input, end, last) in rows {
-        let mut octets = pieces(input.as_bytes(), 17, 6);
-        octets.fails = true;
-        let want = format!(in alloc; "{BANNER}{OPAL}{last}")?;
-        let (found, octets) = session(alloc, octets, 1000)?;
-        assert_eq!(rt; found, end, "{input}");
-        assert_eq!(rt; octets.as_str(), want.as_str(), "{input}");
+    for (input, answer) in &FAILING {
+        let pieces = Pieces {
+            rest: input.as_bytes(),
+            size: 17,
+            next_size: 6,
+            fails: true,
+        };
+        assert!(rt; is_answered(rt.alloc(), GEM, pieces, *answer)?, "{input}");
     }
     Ok(())
+}
+
+const WHOLE: &str =
+    "220 localhost dictcat ready <1@localhost>\r\n150 1 definitions retrieved\r\n151 \"opal\" gem \"Gems\"\r\nopal\r\n  a stone\r\n.\r\n250 ok\r\n221 closing connection\r\n";
+
+// What a session of two lines writes to a sink with this room.
+fn into_room(alloc: Global, room: usize) -> Result<String, Fail> {
+    let pieces = Pieces {
+        rest: b"DEFINE gem opal\r\nQUIT\r\n",
+        size: 1000,
+        next_size: 1000,
+        fails: false,
+    };
+    session(alloc, GEM, pieces, room)
 }
 
 #[test]
 fn a_full_sink_ends_the_session(rt: HostRuntime) -> Result<(), Fail> {
-    let alloc = rt.alloc();
-    let input = "DEFINE gem opal\r\nQUIT\r\n";
-    let want = format!(in alloc; "{BANNER}{OPAL}{CLOSING}")?;
-    for room in 0..want.len() {
-        let (end, octets) = session(alloc, pieces(input.as_bytes(), 1000, 1000), room)?;
-        assert_eq!(rt; end, Err(Fault::SessionEnded), "room for {room}");
-        assert_eq!(rt; Some(octets.as_bytes()), want.as_bytes().get(..room));
+    for room in 0..WHOLE.len() {
+        let written = into_room(rt.alloc(), room)?;
+        let begun = written.as_str().strip_suffix("!session ended by a fault");
+        assert_eq!(rt;
+            begun.map(|text| text.as_bytes()),
+            WHOLE.as_bytes().get(..room)
+        );
     }
-    let (end, octets) = session(alloc, pieces(input.as_bytes(), 1000, 1000), want.len())?;
-    assert_eq!(rt; end, Ok(()));
-    assert_eq!(rt; octets.as_str(), want.as_str());
+    assert_eq!(rt; into_room(rt.alloc(), WHOLE.len())?.as_str(), WHOLE);
     Ok(())
 }

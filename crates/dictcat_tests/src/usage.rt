@@ -1,4 +1,5 @@
-use super::fixtures::{Row, differing, outcome, run, taken};
+//! Words that ask for help or the version, and words that aren't well.
+use super::fixtures::{ROOM, Row, differing, run, taken};
 use clap::error::ErrorKind;
 use dict_io::LimitedSink;
 use dict_words::command_line;
@@ -95,20 +96,52 @@ Statuses:
   4  memory ran out
 ";
 
-static SHOWN: [Row<'static>; 5] = [
-    (&["--help"], 0, HELP, ""),
-    (&["help"], 0, HELP, ""),
-    (&["help", "place"], 0, PLACE_HELP, ""),
-    (&["serve", "--help"], 0, SERVE_HELP, ""),
-    (&["--version"], 0, "dictcat 0.1.0\n", ""),
+static WORDS: [Row; 10] = [
+    (&["--help"], "", 0, HELP, ""),
+    (&["help"], "", 0, HELP, ""),
+    (&["help", "place"], "", 0, PLACE_HELP, ""),
+    (&["serve", "--help"], "", 0, SERVE_HELP, ""),
+    (&["--version"], "", 0, "dictcat 0.1.0\n", ""),
+    (
+        &[],
+        "",
+        2,
+        "",
+        "error: 'dictcat' requires a subcommand but one was not provided\n  [subcommands: plain, create, list, audit, session, install, rollback, retire, virtual, place, serve, help]\n\nUsage: dictcat <COMMAND>\n\nFor more information, try '--help'.\n",
+    ),
+    (
+        &["nosuch"],
+        "",
+        2,
+        "",
+        "error: unrecognized subcommand 'nosuch'\n\nUsage: dictcat <COMMAND>\n\nFor more information, try '--help'.\n",
+    ),
+    (
+        &["plain", "gem"],
+        "",
+        2,
+        "",
+        "error: the following required arguments were not provided:\n  <INDEX>\n  <DICT>\n\nUsage: dictcat plain <NAME> <INDEX> <DICT>\n\nFor more information, try '--help'.\n",
+    ),
+    (
+        &["plain", "gem", "a", "b", "c"],
+        "",
+        2,
+        "",
+        "error: unexpected argument 'c' found\n\nUsage: dictcat plain <NAME> <INDEX> <DICT>\n\nFor more information, try '--help'.\n",
+    ),
+    (
+        &["plain", "-x", "a", "b"],
+        "",
+        2,
+        "",
+        "error: unexpected argument '-x' found\n\n  tip: to pass '-x' as a value, use '-- -x'\n\nUsage: dictcat plain <NAME> <INDEX> <DICT>\n\nFor more information, try '--help'.\n",
+    ),
 ];
 
 #[test]
-fn shows_help_and_version(rt: HostRuntime) -> Result<(), Fail> {
-    assert_eq!(rt; differing(&rt, "", &SHOWN)?.as_str(), "");
-    let (status, _, told) = outcome(&rt, &["dictcat", "--help"], b"", 9)?;
-    assert_eq!(rt; status, 3);
-    assert_eq!(rt; told.as_str(), "cannot write output\n");
+fn shows_help_and_tells_mistakes(rt: HostRuntime) -> Result<(), Fail> {
+    assert_eq!(rt; differing(&rt, "", &WORDS)?.as_str(), "");
     Ok(())
 }
 
@@ -117,89 +150,51 @@ static NAMES: [&str; 11] = [
     "place", "serve",
 ];
 
+// Whether the help of a subcommand has an example and the statuses.
+fn has_example(rt: &HostRuntime, name: &str) -> Result<bool, Fail> {
+    let example = format!(in rt.alloc(); "dictcat {name} ")?;
+    let (status, shown, _) = run(rt, "", &[name, "--help"], "", ROOM)?;
+    let (_, below) = shown
+        .as_str()
+        .split_once("\nExample:\n")
+        .unwrap_or(("", ""));
+    Ok(status == 0 && below.contains(example.as_str()) && below.contains("\n  4  memory ran out\n"))
+}
+
 #[test]
 fn each_help_has_an_example_and_the_statuses(rt: HostRuntime) -> Result<(), Fail> {
     for name in &NAMES {
-        let (status, shown, _) = run(&rt, "", &[*name, "--help"], b"")?;
-        assert_eq!(rt; status, 0);
-        let example = format!(in rt.alloc(); "dictcat {name} ")?;
-        let (_, below) = shown
-            .as_str()
-            .split_once("\nExample:\n")
-            .unwrap_or(("", ""));
-        assert!(rt;
-            below.contains(example.as_str()) && below.contains("\n  4  memory ran out\n"),
-            "{name}"
-        );
+        assert!(rt; has_example(&rt, name)?, "{name}");
     }
     Ok(())
 }
 
-static MISTAKES: [Row<'static>; 5] = [
-    (
-        &[],
-        2,
-        "",
-        "error: 'dictcat' requires a subcommand but one was not provided\n  [subcommands: plain, create, list, audit, session, install, rollback, retire, virtual, place, serve, help]\n\nUsage: dictcat <COMMAND>\n\nFor more information, try '--help'.\n",
-    ),
-    (
-        &["nosuch"],
-        2,
-        "",
-        "error: unrecognized subcommand 'nosuch'\n\nUsage: dictcat <COMMAND>\n\nFor more information, try '--help'.\n",
-    ),
-    (
-        &["plain", "gem"],
-        2,
-        "",
-        "error: the following required arguments were not provided:\n  <INDEX>\n  <DICT>\n\nUsage: dictcat plain <NAME> <INDEX> <DICT>\n\nFor more information, try '--help'.\n",
-    ),
-    (
-        &["plain", "gem", "a", "b", "c"],
-        2,
-        "",
-        "error: unexpected argument 'c' found\n\nUsage: dictcat plain <NAME> <INDEX> <DICT>\n\nFor more information, try '--help'.\n",
-    ),
-    (
-        &["plain", "-x", "a", "b"],
-        2,
-        "",
-        "error: unexpected argument '-x' found\n\n  tip: to pass '-x' as a value, use '-- -x'\n\nUsage: dictcat plain <NAME> <INDEX> <DICT>\n\nFor more information, try '--help'.\n",
-    ),
-];
+// What is told where the words can't be had for this reason, behind the status.
+fn refused(rt: &HostRuntime, kind: io::ErrorKind) -> Result<(u8, String), Fail> {
+    let mut faults = LimitedSink::new(rt.alloc(), 1000)?;
+    let status = refuse_words(&io::Error::from(kind), &mut faults);
+    Ok((status, taken(rt.alloc(), &faults)?))
+}
 
-#[test]
-fn tells_what_is_wrong_with_the_words(rt: HostRuntime) -> Result<(), Fail> {
-    assert_eq!(rt; differing(&rt, "", &MISTAKES)?.as_str(), "");
-    Ok(())
+// What clap says of words that are no texts.
+fn said_by_clap(rt: &HostRuntime) -> Result<String, Fail> {
+    let message = "invalid UTF-8 was detected in one or more arguments";
+    let mut line = command_line(rt.alloc())?;
+    let error = line.error(ErrorKind::InvalidValue, message)?;
+    Ok(error.to_string(rt.alloc())?)
 }
 
 #[test]
 fn refuses_words_that_are_no_texts(rt: HostRuntime) -> Result<(), Fail> {
-    let rows = [
-        (
-            io::ErrorKind::InvalidData,
-            2,
-            "error: invalid UTF-8 was detected in one or more arguments\n\nUsage: dictcat <COMMAND>\n\nFor more information, try '--help'.\n",
-        ),
-        (io::ErrorKind::OutOfMemory, 4, "fault 40 Memory\n"),
-    ];
-    for (kind, status, text) in rows {
-        let mut faults = LimitedSink::new(rt.alloc(), 1000)?;
-        assert_eq!(rt; refuse_words(&io::Error::from(kind), &mut faults), status);
-        assert_eq!(rt; taken(rt.alloc(), &faults)?.as_str(), text);
-    }
-    Ok(())
-}
-
-#[test]
-fn says_of_words_that_are_no_texts_what_clap_says(rt: HostRuntime) -> Result<(), Fail> {
-    let message = "invalid UTF-8 was detected in one or more arguments";
-    let mut line = command_line(rt.alloc())?;
-    let error = line.error(ErrorKind::InvalidValue, message)?;
-    let mut faults = LimitedSink::new(rt.alloc(), 1000)?;
-    let fault = io::Error::from(io::ErrorKind::InvalidData);
-    assert_eq!(rt; refuse_words(&fault, &mut faults), 2);
-    assert_eq!(rt; taken(rt.alloc(), &faults)?, error.to_string(rt.alloc())?);
+    let (status, told) = refused(&rt, io::ErrorKind::OutOfMemory)?;
+    assert_eq!(rt; status, 4);
+    assert_eq!(rt; told.as_str(), "fault 40 Memory\n");
+    let (status, told) = refused(&rt, io::ErrorKind::InvalidData)?;
+    assert_eq!(rt; status, 2);
+    assert_eq!(rt;
+        told.as_str(),
+        "error: invalid UTF-8 was detected in one or more arguments\n\nUsage: dictcat <COMMAND>\n\nFor more information, try '--help'.\n"
+    );
+    assert_eq!(rt; said_by_clap(&rt)?.as_str(), told.as_str());
     Ok(())
 }

@@ -1,0 +1,232 @@
+//! Databases in which no store is made, and files that are not adopted: nothing of them changes.
+use crate::asked::{Asked, Editions, read_editions};
+use crate::desks::{applied, desk_over, dumped, new_desk};
+use dict_desk::Fault;
+use sqlite::{Alter, Connection, Error, MemStore};
+use std::alloc::{AllocError, Global};
+use std::test::Fail;
+
+// Each of these takes a name, or refers to one, that a store needs.
+static IN_USE: [&str; 5] = [
+    "CREATE TABLE kept (a TEXT) STRICT",
+    "CREATE TABLE Word (a TEXT) STRICT",
+    "CREATE TABLE dictcat_more (a TEXT) STRICT",
+    "CREATE TABLE others (a TEXT) STRICT; CREATE INDEX entry ON others (a)",
+    "CREATE TABLE others (a TEXT REFERENCES item (name)) STRICT",
+];
+
+// Two databases, and a list of both.
+static CATALOGUE: [(&str, Asked); 3] = [
+    ("a", Asked::Ores("ore")),
+    ("b", Asked::Gems("gem")),
+    ("c", Asked::Put("all", "All", &["ore", "gem"])),
+];
+
+// Each of these makes a file that is refused.
+static STATEMENTS: [(&str, Fault); 24] = [
+    ("UPDATE item SET place = 9 WHERE place = 2", Fault::Damaged),
+    ("UPDATE item SET kind = 2 WHERE place = 0", Fault::Damaged),
+    (
+        "UPDATE item SET current = 2 WHERE place = 0",
+        Fault::Damaged,
+    ),
+    (
+        "UPDATE member SET name = 'tin' WHERE name = 'gem'",
+        Fault::Damaged,
+    ),
+    ("DELETE FROM member WHERE ord = 0", Fault::Damaged),
+    (
+        "INSERT INTO member VALUES ('gem', 0, 'gem')",
+        Fault::Damaged,
+    ),
+    ("DELETE FROM edition WHERE number = 1", Fault::Damaged),
+    (
+        "INSERT INTO edition VALUES (3, 'gem', 'Gems', '', x'')",
+        Fault::Damaged,
+    ),
+    (
+        "UPDATE edition SET owner = 'tin' WHERE number = 2",
+        Fault::Damaged,
+    ),
+    (
+        "UPDATE edition SET owner = 'all' WHERE number = 2",
+        Fault::Damaged,
+    ),
+    ("DELETE FROM entry WHERE headword = 'opal'", Fault::Damaged),
+    (
+        "UPDATE entry SET start = 31 WHERE headword = 'opal'",
+        Fault::Damaged,
+    ),
+    (
+        "INSERT INTO entry VALUES (9, 0, 'tin', 0, 1)",
+        Fault::Damaged,
+    ),
+    (
+        "UPDATE kept SET number = 9 WHERE number = 2",
+        Fault::Damaged,
+    ),
+    (
+        "UPDATE kept SET verb = 'bring' WHERE number = 2",
+        Fault::Damaged,
+    ),
+    ("UPDATE mark SET installs = 3", Fault::Damaged),
+    ("DROP TABLE kept", Fault::Damaged),
+    (
+        "CREATE UNIQUE INDEX more ON entry (headword)",
+        Fault::Damaged,
+    ),
+    ("UPDATE mark SET version = 9", Fault::NewerSchema),
+    ("UPDATE mark SET version = 0", Fault::NotACatalogue),
+    ("UPDATE mark SET magic = 'dictcaz'", Fault::NotACatalogue),
+    ("DELETE FROM mark", Fault::NotACatalogue),
+    (
+        "INSERT INTO mark VALUES (2, 'dictcat', 1, 2)",
+        Fault::NotACatalogue,
+    ),
+    ("DROP TABLE mark", Fault::NotACatalogue),
+];
+
+/// The fault that a database is refused by, if it is, and whether all rows are as they were.
+#[derive(Clone, Copy)]
+struct End {
+    fault: Option<Fault>,
+    is_same: bool,
+}
+
+fn is_same(one: Result<String, AllocError>, other: Result<String, AllocError>) -> bool {
+    match (one, other) {
+        (Ok(one), Ok(other)) => one.as_str() == other.as_str(),
+        _ => false,
+    }
+}
+
+// What comes of making a store in a database, or of adopting the one in it.
+fn end_of<S: Alter + Drop>(alloc: Global, conn: Connection<S>, is_new: bool) -> End {
+    let mut conn = conn;
+    let before = dumped(alloc, &mut conn);
+    match desk_over(alloc, conn, is_new) {
+        Ok(_) => End {
+            fault: None,
+            is_same: false,
+        },
+        Err((conn, fault)) => {
+            let mut conn = conn;
+            End {
+                fault: Some(fault),
+                is_same: is_same(before, dumped(alloc, &mut conn)),
+            }
+        }
+    }
+}
+
+// Whether a database is refused by this fault, and stays as it is.
+fn is_refused<S: Alter + Drop>(
+    alloc: Global,
+    conn: Connection<S>,
+    is_new: bool,
+    wanted: Fault,
+) -> bool {
+    let end = end_of(alloc, conn, is_new);
+    end.fault == Some(wanted) && end.is_same
+}
+
+// A database of others.
+fn with_others(alloc: Global, text: &str) -> Result<Connection<MemStore>, Error> {
+    let mut conn = Connection::open_in_memory(alloc)?;
+    conn.execute_batch(text)?;
+    Ok(conn)
+}
+
+// The catalogue that a statement damages.
+fn damaged(
+    alloc: Global,
+    editions: &Editions,
+    statement: &str,
+) -> Result<Connection<MemStore>, Fail> {
+    let conn = Connection::open_in_memory(alloc)?;
+    let mut conn = applied(alloc, editions, conn, true, &CATALOGUE)?.into_connection();
+    conn.execute_batch(statement)?;
+    Ok(conn)
+}
+
+#[test]
+fn refused_files(rt: HostRuntime) -> Result<(), Fail> {
+    let alloc = rt.alloc();
+    for text in &IN_USE {
+        let conn = with_others(alloc, *text)?;
+        assert!(rt;
+            is_refused(alloc, conn, true, Fault::NotACatalogue),
+            "{text}"
+        );
+    }
+    let editions = read_editions(alloc)?;
+    for (statement, wanted) in &STATEMENTS {
+        let conn = damaged(alloc, &editions, *statement)?;
+        assert!(rt; is_refused(alloc, conn, false, *wanted), "{statement}");
+    }
+    let empty = Connection::open_in_memory(alloc)?;
+    assert!(rt; is_refused(alloc, empty, false, Fault::NotACatalogue));
+    let made = new_desk(alloc)?.into_connection();
+    assert!(rt; is_refused(alloc, made, true, Fault::NotACatalogue));
+    Ok(())
+}
+
+// The number that a selection gives.
+fn number<S: Alter>(conn: &mut Connection<S>, text: &str) -> Result<i64, Error> {
+    conn.query_row(text, &[])?.get(0)
+}
+
+const EXTRA: &str = "CREATE TABLE extra (a TEXT) STRICT; INSERT INTO extra VALUES ('its own')";
+
+// The list of both is retired.
+static RETIRED: [(&str, Asked); 1] = [("d", Asked::Retire("all"))];
+
+// Whether the tables and the index of others, and their rows, are there.
+fn has_others<S: Alter>(conn: &mut Connection<S>) -> Result<bool, Error> {
+    let own = number(conn, "SELECT count(*) FROM extra WHERE a = 'its own'")?;
+    let text = "SELECT count(*) FROM sqlite_schema WHERE name = 'others'";
+    Ok(own == 1 && number(conn, text)? == 1)
+}
+
+#[test]
+fn other_tables_stay(rt: HostRuntime) -> Result<(), Fail> {
+    let alloc = rt.alloc();
+    let editions = read_editions(alloc)?;
+    let conn = with_others(alloc, EXTRA)?;
+    let mut conn = applied(alloc, &editions, conn, true, &CATALOGUE)?.into_connection();
+    conn.execute_batch("CREATE INDEX others ON entry (headword)")?;
+    let mut conn = applied(alloc, &editions, conn, false, &RETIRED)?.into_connection();
+    assert!(rt; has_others(&mut conn)?);
+    Ok(())
+}
+
+// What a new catalogue has.
+static NEW: [(&str, i64); 7] = [
+    (
+        "SELECT count(*) FROM mark WHERE id = 1 AND magic = 'dictcat' AND version = 1 AND installs = 0",
+        1,
+    ),
+    ("SELECT count(*) FROM mark", 1),
+    ("SELECT count(*) FROM item", 0),
+    ("SELECT count(*) FROM member", 0),
+    ("SELECT count(*) FROM edition", 0),
+    ("SELECT count(*) FROM entry", 0),
+    ("SELECT count(*) FROM kept", 0),
+];
+
+// Whether each selection gives its number.
+fn has_numbers<S: Alter>(conn: &mut Connection<S>, wanted: &[(&str, i64)]) -> Result<bool, Error> {
+    for (text, count) in wanted {
+        if number(conn, *text)? != *count {
+            return Ok(false);
+        }
+    }
+    Ok(true)
+}
+
+#[test]
+fn a_new_catalogue_is_empty(rt: HostRuntime) -> Result<(), Fail> {
+    let mut conn = new_desk(rt.alloc())?.into_connection();
+    assert!(rt; has_numbers(&mut conn, &NEW)?);
+    Ok(())
+}
