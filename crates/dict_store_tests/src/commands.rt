@@ -1,7 +1,7 @@
 //! The same commands over a catalogue in memory and over one file.
 
 use crate::asked::{Asked, Editions, read_editions, told};
-use crate::desks::{accept_all, adopted, dumped, new_desk};
+use crate::desks::{accept_all, applied, dumped, new_desk};
 use crate::shown::{listed, shown};
 use dict_catalogue::Command;
 use dict_desk::{Keeper, Lookup, PlainDesk};
@@ -56,7 +56,7 @@ fn play_on_both(
     play(rt, alloc, &mut desk, editions, rows)?;
     assert_eq!(rt; shown(alloc, &mut desk)?.as_str(), wanted.as_str());
     assert_eq!(rt; desk.audit(), Ok(()));
-    let mut again = adopted(alloc, desk.into_connection())?;
+    let mut again = applied(alloc, editions, desk.into_connection(), false, &[])?;
     assert_eq!(rt; shown(alloc, &mut again)?.as_str(), wanted.as_str());
     Ok(())
 }
@@ -276,7 +276,7 @@ fn play_nothing<S: Alter + Drop>(
     editions: &Editions,
     conn: Connection<S>,
 ) -> Result<Connection<S>, Fail> {
-    let mut desk = adopted(alloc, conn)?;
+    let mut desk = applied(alloc, editions, conn, false, &[])?;
     let end = play(rt, alloc, &mut desk, editions, &NOTHING);
     let is_free = matches!(desk.kept("x"), Ok(None));
     let conn = desk.into_connection();

@@ -32,17 +32,6 @@ pub(crate) fn new_desk(alloc: Global) -> Result<Desk<MemStore>, Fail> {
     Ok(desk)
 }
 
-/// The desk again, once its connection was opened anew.
-pub(crate) fn adopted<S: Alter + Drop>(
-    alloc: Global,
-    conn: Connection<S>,
-) -> Result<Desk<S>, Fail> {
-    let Ok(desk) = desk_over(alloc, conn, false) else {
-        return Err("not adopted")?;
-    };
-    Ok(desk)
-}
-
 /// Applies commands, each of which has to be accepted.
 pub(crate) fn accept_all<K: Keeper>(
     desk: &mut K,

@@ -171,22 +171,19 @@ fn refused_files(rt: HostRuntime) -> Result<(), Fail> {
     Ok(())
 }
 
-// The number that a selection gives.
-fn number<S: Alter>(conn: &mut Connection<S>, text: &str) -> Result<i64, Error> {
-    conn.query_row(text, &[])?.get(0)
-}
-
 const EXTRA: &str = "CREATE TABLE extra (a TEXT) STRICT; INSERT INTO extra VALUES ('its own')";
 
 // The list of both is retired.
 static RETIRED: [(&str, Asked); 1] = [("d", Asked::Retire("all"))];
 
-// Whether the tables and the index of others, and their rows, are there.
-fn has_others<S: Alter>(conn: &mut Connection<S>) -> Result<bool, Error> {
-    let own = number(conn, "SELECT count(*) FROM extra WHERE a = 'its own'")?;
-    let text = "SELECT count(*) FROM sqlite_schema WHERE name = 'others'";
-    Ok(own == 1 && number(conn, text)? == 1)
-}
+// The tables and the index of others, and their rows.
+static OTHERS: [(&str, i64); 2] = [
+    ("SELECT count(*) FROM extra WHERE a = 'its own'", 1),
+    (
+        "SELECT count(*) FROM sqlite_schema WHERE name = 'others'",
+        1,
+    ),
+];
 
 #[test]
 fn other_tables_stay(rt: HostRuntime) -> Result<(), Fail> {
@@ -196,7 +193,7 @@ fn other_tables_stay(rt: HostRuntime) -> Result<(), Fail> {
     let mut conn = applied(alloc, &editions, conn, true, &CATALOGUE)?.into_connection();
     conn.execute_batch("CREATE INDEX others ON entry (headword)")?;
     let mut conn = applied(alloc, &editions, conn, false, &RETIRED)?.into_connection();
-    assert!(rt; has_others(&mut conn)?);
+    assert!(rt; has_numbers(&mut conn, &OTHERS)?);
     Ok(())
 }
 
@@ -217,7 +214,8 @@ static NEW: [(&str, i64); 7] = [
 // Whether each selection gives its number.
 fn has_numbers<S: Alter>(conn: &mut Connection<S>, wanted: &[(&str, i64)]) -> Result<bool, Error> {
     for (text, count) in wanted {
-        if number(conn, *text)? != *count {
+        let found: i64 = conn.query_row(*text, &[])?.get(0)?;
+        if found != *count {
             return Ok(false);
         }
     }

@@ -408,37 +408,25 @@ fn sweep_cases(rt: &impl Abort, alloc: Global, mode: Mode) -> Result<(), Fail> {
 }
 
 #[test]
-fn a_stop_at_each_call_of_the_log(rt: HostRuntime) -> Result<(), Fail> {
-    let mode = Mode {
-        in_log: true,
-        goes_on: false,
-    };
-    sweep_cases(&rt, rt.alloc(), mode)
+fn a_stop_at_each_call(rt: HostRuntime) -> Result<(), Fail> {
+    for in_log in [true, false] {
+        let mode = Mode {
+            in_log,
+            goes_on: false,
+        };
+        sweep_cases(&rt, rt.alloc(), mode)?;
+    }
+    Ok(())
 }
 
 #[test]
-fn a_stop_at_each_call_of_the_file(rt: HostRuntime) -> Result<(), Fail> {
-    let mode = Mode {
-        in_log: false,
-        goes_on: false,
-    };
-    sweep_cases(&rt, rt.alloc(), mode)
-}
-
-#[test]
-fn a_failure_of_each_call_of_the_log(rt: HostRuntime) -> Result<(), Fail> {
-    let mode = Mode {
-        in_log: true,
-        goes_on: true,
-    };
-    sweep_cases(&rt, rt.alloc(), mode)
-}
-
-#[test]
-fn a_failure_of_each_call_of_the_file(rt: HostRuntime) -> Result<(), Fail> {
-    let mode = Mode {
-        in_log: false,
-        goes_on: true,
-    };
-    sweep_cases(&rt, rt.alloc(), mode)
+fn a_failure_of_each_call(rt: HostRuntime) -> Result<(), Fail> {
+    for in_log in [true, false] {
+        let mode = Mode {
+            in_log,
+            goes_on: true,
+        };
+        sweep_cases(&rt, rt.alloc(), mode)?;
+    }
+    Ok(())
 }
