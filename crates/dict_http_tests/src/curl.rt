@@ -1,6 +1,8 @@
 // The octets that `curl` 7.88.1 sends for the commands in `docs/FORMATS.md`, taken down at a socket.
-use crate::answers::{answers, response};
+use crate::answers::{response, told};
 use dict_desk::PlainDesk;
+use std::alloc::Global;
+use std::process::Abort;
 use std::test::Fail;
 
 /// The octets of a request, and the status and the body of its answer.
@@ -45,16 +47,18 @@ static SENT: [Sent; 7] = [
     ),
 ];
 
-#[test]
-fn requests_of_curl(rt: HostRuntime) -> Result<(), Fail> {
-    let alloc = rt.alloc();
-    let mut desk = PlainDesk::new(alloc);
+// Sends them one after the other.
+fn send(rt: &impl Abort, alloc: Global, desk: &mut PlainDesk) -> Result<(), Fail> {
     for Sent(request, status, body) in SENT {
         let wanted = response(alloc, status, body)?;
-        assert!(rt;
-            answers(alloc, &mut desk, request.as_bytes(), wanted.as_bytes())?,
-            "{request}"
-        );
+        let answer = told(alloc, desk, request.as_bytes())?;
+        assert_eq!(rt; answer.as_str(), wanted.as_str(), "{request}");
     }
     Ok(())
+}
+
+#[test]
+fn requests_of_curl(rt: HostRuntime) -> Result<(), Fail> {
+    let mut desk = PlainDesk::new(rt.alloc());
+    send(&rt, rt.alloc(), &mut desk)
 }

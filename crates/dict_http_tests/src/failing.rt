@@ -1,13 +1,15 @@
 // Desks that fail at one of their calls.
 
-use crate::answers::answers;
+use crate::answers::told;
 use crate::table::{INSTALL, Row, request_of, run};
-use dict_desk::PlainDesk;
+use dict_desk::{Keeper, PlainDesk};
 use dict_failing_desk::FailingDesk;
+use std::alloc::Global;
+use std::process::Abort;
 use std::test::Fail;
 
-const UNAVAILABLE: &[u8] =
-    b"HTTP/1.1 503 Service Unavailable\r\nContent-Type: application/json\r\nContent-Length: 23\r\nConnection: close\r\n\r\n{\"error\":\"unavailable\"}";
+const UNAVAILABLE: &str =
+    "HTTP/1.1 503 Service Unavailable\r\nContent-Type: application/json\r\nContent-Length: 23\r\nConnection: close\r\n\r\n{\"error\":\"unavailable\"}";
 
 static ROWS: [Row; 5] = [
     INSTALL,
@@ -41,47 +43,69 @@ static ROWS: [Row; 5] = [
     ),
 ];
 
-// For memory: the request is answered 503, and sent again it is answered as ever.
+// The requests of these rows are answered 503.
+fn are_unavailable<K: Keeper>(
+    rt: &impl Abort,
+    alloc: Global,
+    desk: &mut K,
+    rows: &[Row],
+) -> Result<(), Fail> {
+    for row in rows {
+        let request = request_of(alloc, *row)?;
+        let answer = told(alloc, desk, request.as_bytes())?;
+        let is_so = answer.as_str() == UNAVAILABLE;
+        assert!(rt; is_so, "{request}");
+    }
+    Ok(())
+}
+
+// Which row's request meets a failure behind so many calls: each makes two.
+fn which(calls: u64) -> usize {
+    (calls / 2) as usize
+}
+
+// The request that finds no memory is answered 503, and sent again it is answered as ever.
+fn meet_no_memory(
+    rt: &impl Abort,
+    alloc: Global,
+    desk: &mut FailingDesk,
+    which: usize,
+) -> Result<(), Fail> {
+    let (before, after) = ROWS.split_at(which.min(ROWS.len()));
+    run(rt, alloc, desk, before)?;
+    are_unavailable(rt, alloc, desk, after.get(..1).unwrap_or(&[]))?;
+    run(rt, alloc, desk, after)
+}
+
 #[test]
 fn a_call_finds_no_memory(rt: HostRuntime) -> Result<(), Fail> {
-    let alloc = rt.alloc();
-    for failing in 0..10u64 {
-        let mut desk = FailingDesk::new(PlainDesk::new(alloc), failing, false);
-        let which = (failing / 2) as usize;
-        run(&rt, alloc, &mut desk, &ROWS[..which])?;
-        let request = request_of(alloc, ROWS[which])?;
-        assert!(rt;
-            answers(alloc, &mut desk, request.as_bytes(), UNAVAILABLE)?,
-            "{failing}"
-        );
-        run(&rt, alloc, &mut desk, &ROWS[which..])?;
+    for calls in 0..10u64 {
+        let mut desk = FailingDesk::new(PlainDesk::new(rt.alloc()), calls, false);
+        meet_no_memory(&rt, rt.alloc(), &mut desk, which(calls))?;
     }
     Ok(())
 }
 
 // As a store fails: the request and all after it are answered 503, the list too.
+fn meet_no_store(
+    rt: &impl Abort,
+    alloc: Global,
+    desk: &mut FailingDesk,
+    which: usize,
+) -> Result<(), Fail> {
+    let (before, after) = ROWS.split_at(which.min(ROWS.len()));
+    run(rt, alloc, desk, before)?;
+    are_unavailable(rt, alloc, desk, after)?;
+    let answer = told(alloc, desk, b"GET /databases HTTP/1.1\r\n\r\n")?;
+    assert_eq!(rt; answer.as_str(), UNAVAILABLE);
+    Ok(())
+}
+
 #[test]
 fn a_call_finds_no_store(rt: HostRuntime) -> Result<(), Fail> {
-    let alloc = rt.alloc();
-    for failing in 0..10u64 {
-        let mut desk = FailingDesk::new(PlainDesk::new(alloc), failing, true);
-        let which = (failing / 2) as usize;
-        run(&rt, alloc, &mut desk, &ROWS[..which])?;
-        for row in &ROWS[which..] {
-            let request = request_of(alloc, *row)?;
-            assert!(rt;
-                answers(alloc, &mut desk, request.as_bytes(), UNAVAILABLE)?,
-                "{failing}"
-            );
-        }
-        assert!(rt;
-            answers(
-                alloc,
-                &mut desk,
-                b"GET /databases HTTP/1.1\r\n\r\n",
-                UNAVAILABLE
-            )?
-        );
+    for calls in 0..10u64 {
+        let mut desk = FailingDesk::new(PlainDesk::new(rt.alloc()), calls, true);
+        meet_no_store(&rt, rt.alloc(), &mut desk, which(calls))?;
     }
     Ok(())
 }

@@ -1,92 +1,83 @@
 //! What heads are taken, and what is needed at each front of a request.
 use dict_head::{Need, Reading, Status, Values, need, read_request};
+use std::alloc::Global;
 use std::test::Fail;
 
 const BAD: Need = Need::Refused(Status::BadRequest);
 
-#[test]
-fn heads(rt: HostRuntime) {
-    let get = b"GET /databases HTTP/1.1\r\nHost: a\r\n\r\nmore";
-    assert_eq!(rt; need(get), Need::Whole(36));
-    assert_eq!(rt; need(b"GET /a HTTP/1.0\r\n\r\n"), Need::Whole(19));
-    assert_eq!(rt; need(b"GET /a HTTP/1.1\n\nmore"), Need::Whole(17));
-    assert_eq!(rt; need(b"\r\n\nGET /a HTTP/1.1\n\n"), Need::Whole(20));
-    assert_eq!(rt; need(b"GET /a HTTP/1.1\r\nHost: a\r\n\r"), Need::More);
-    assert_eq!(rt; need(b""), Need::More);
-    assert_eq!(rt; need(b"\r\n\r\n\r\n"), Need::More);
-    assert_eq!(rt; need(b"GET /a HTTP/2.0\r\n"), Need::More);
-    assert_eq!(rt; need(b"GET /a HTTP/2.0\r\n\r\n"), BAD);
-    assert_eq!(rt; need(b"GET /\xff HTTP/1.1\r\n\r\n"), BAD);
-    assert_eq!(rt; need(b"GET /\xc3\xa9 HTTP/1.1\r\n\r\n"), Need::Whole(20));
-    assert_eq!(rt; need(b"GET /a HTTP/1.1\r\nHost : a\r\n\r\n"), BAD);
-    assert_eq!(rt; need(b"GET /a HTTP/1.1\r\nA: b\r\n c\r\n\r\n"), BAD);
-    assert_eq!(rt;
-        need(b"GET /a HTTP/1.1\r\nA: \xff\r\n\r\n"),
-        Need::Whole(25)
-    );
-}
+const LARGE: Need = Need::Refused(Status::ContentTooLarge);
+
+static HEADS: [(&[u8], Need); 30] = [
+    (
+        b"GET /databases HTTP/1.1\r\nHost: a\r\n\r\nmore",
+        Need::Whole(36),
+    ),
+    (b"GET /a HTTP/1.0\r\n\r\n", Need::Whole(19)),
+    (b"GET /a HTTP/1.1\n\nmore", Need::Whole(17)),
+    (b"\r\n\nGET /a HTTP/1.1\n\n", Need::Whole(20)),
+    (b"GET /a HTTP/1.1\r\nHost: a\r\n\r", Need::More),
+    (b"", Need::More),
+    (b"\r\n\r\n\r\n", Need::More),
+    (b"GET /a HTTP/2.0\r\n", Need::More),
+    (b"GET /a HTTP/2.0\r\n\r\n", BAD),
+    (b"GET /\xff HTTP/1.1\r\n\r\n", BAD),
+    (b"GET /\xc3\xa9 HTTP/1.1\r\n\r\n", Need::Whole(20)),
+    (b"GET /a HTTP/1.1\r\nHost : a\r\n\r\n", BAD),
+    (b"GET /a HTTP/1.1\r\nA: b\r\n c\r\n\r\n", BAD),
+    (b"GET /a HTTP/1.1\r\nA: \xff\r\n\r\n", Need::Whole(25)),
+    (
+        b"PUT /a HTTP/1.1\r\ncoNTENT-length: \t 2 \r\n\r\nab",
+        Need::Whole(43),
+    ),
+    (
+        b"PUT /a HTTP/1.1\r\nContent-Length: 2\r\n\r\nabc",
+        Need::Whole(40),
+    ),
+    (b"PUT /a HTTP/1.1\r\nContent-Length: 2\r\n\r\na", Need::More),
+    (b"PUT /a HTTP/1.1\r\nContent-Length: +2\r\n\r\na", BAD),
+    (b"PUT /a HTTP/1.1\r\nContent-Length:\r\n\r\na", BAD),
+    (b"PUT /a HTTP/1.1\r\nContent-Length: 1 1\r\n\r\na", BAD),
+    (b"PUT /a HTTP/1.1\r\nContent-Length: 0x1\r\n\r\na", BAD),
+    (
+        b"PUT /a HTTP/1.1\r\nContent-Length: 25165824\r\n\r\na",
+        Need::More,
+    ),
+    (
+        b"PUT /a HTTP/1.1\r\nContent-Length: 25165825\r\n\r\na",
+        LARGE,
+    ),
+    (
+        b"PUT /a HTTP/1.1\r\nContent-Length: 9999999999\r\n\r\na",
+        LARGE,
+    ),
+    (
+        b"PUT /a HTTP/1.1\r\nContent-Length: 00000000001\r\n\r\na",
+        BAD,
+    ),
+    (
+        b"PUT /a HTTP/1.1\r\nContent-Length: 0000000001\r\n\r\na",
+        Need::Whole(48),
+    ),
+    (
+        b"PUT /a HTTP/1.1\r\nContent-Length: 1\r\nContent-Length: 1\r\n\r\na",
+        BAD,
+    ),
+    (
+        b"PUT /a HTTP/1.1\r\nContent-Length: 1\r\ncontent-length: 1\r\n\r\na",
+        BAD,
+    ),
+    (b"PUT /a HTTP/1.1\r\nTRANSFER-ENCODING:\r\n\r\n", BAD),
+    (
+        b"PUT /a HTTP/1.1\r\nTransfer-Encoding: identity\r\nContent-Length: 99999999\r\n\r\n",
+        BAD,
+    ),
+];
 
 #[test]
-fn lengths(rt: HostRuntime) {
-    assert_eq!(rt;
-        need(b"PUT /a HTTP/1.1\r\ncoNTENT-length: \t 2 \r\n\r\nab"),
-        Need::Whole(43)
-    );
-    assert_eq!(rt;
-        need(b"PUT /a HTTP/1.1\r\nContent-Length: 2\r\n\r\nabc"),
-        Need::Whole(40)
-    );
-    assert_eq!(rt;
-        need(b"PUT /a HTTP/1.1\r\nContent-Length: 2\r\n\r\na"),
-        Need::More
-    );
-    assert_eq!(rt;
-        need(b"PUT /a HTTP/1.1\r\nContent-Length: +2\r\n\r\na"),
-        BAD
-    );
-    assert_eq!(rt; need(b"PUT /a HTTP/1.1\r\nContent-Length:\r\n\r\na"), BAD);
-    assert_eq!(rt;
-        need(b"PUT /a HTTP/1.1\r\nContent-Length: 1 1\r\n\r\na"),
-        BAD
-    );
-    assert_eq!(rt;
-        need(b"PUT /a HTTP/1.1\r\nContent-Length: 0x1\r\n\r\na"),
-        BAD
-    );
-    assert_eq!(rt;
-        need(b"PUT /a HTTP/1.1\r\nContent-Length: 25165824\r\n\r\na"),
-        Need::More
-    );
-    let large = Need::Refused(Status::ContentTooLarge);
-    assert_eq!(rt;
-        need(b"PUT /a HTTP/1.1\r\nContent-Length: 25165825\r\n\r\na"),
-        large
-    );
-    assert_eq!(rt;
-        need(b"PUT /a HTTP/1.1\r\nContent-Length: 9999999999\r\n\r\na"),
-        large
-    );
-    assert_eq!(rt;
-        need(b"PUT /a HTTP/1.1\r\nContent-Length: 00000000001\r\n\r\na"),
-        BAD
-    );
-    assert_eq!(rt;
-        need(b"PUT /a HTTP/1.1\r\nContent-Length: 0000000001\r\n\r\na"),
-        Need::Whole(48)
-    );
-    assert_eq!(rt;
-        need(b"PUT /a HTTP/1.1\r\nContent-Length: 1\r\nContent-Length: 1\r\n\r\na"),
-        BAD
-    );
-    assert_eq!(rt;
-        need(b"PUT /a HTTP/1.1\r\nContent-Length: 1\r\ncontent-length: 1\r\n\r\na"),
-        BAD
-    );
-    assert_eq!(rt; need(b"PUT /a HTTP/1.1\r\nTRANSFER-ENCODING:\r\n\r\n"), BAD);
-    assert_eq!(rt;
-        need(b"PUT /a HTTP/1.1\r\nTransfer-Encoding: identity\r\nContent-Length: 99999999\r\n\r\n"),
-        BAD
-    );
+fn heads_and_lengths(rt: HostRuntime) {
+    for (octets, wanted) in &HEADS {
+        assert_eq!(rt; need(octets), *wanted, "{octets:?}");
+    }
 }
 
 #[test]
@@ -110,73 +101,125 @@ fn whatever_follows(rt: HostRuntime) -> Result<(), Fail> {
     Ok(())
 }
 
-// A request line, and then this many octets of one header, to a head of this many octets in all.
-fn head_of(rt: &HostRuntime, len: usize) -> Result<Vec<u8>, Fail> {
-    let mut head = b"GET /a HTTP/1.1\r\nA: ".to_vec(rt.alloc())?;
-    for _ in 0..len.saturating_sub(24) {
-        head.push(b'a')?;
+// A front, so many of a text, and an end.
+fn filled(alloc: Global, front: &str, text: &str, count: usize, end: &str) -> Result<String, Fail> {
+    let mut head = String::from_str(alloc, front)?;
+    for _ in 0..count {
+        head.push_str(text)?;
     }
-    head.extend_from_slice(b"\r\n\r\n")?;
+    head.push_str(end)?;
     Ok(head)
 }
 
+// How many octets that is, and what it needs.
+fn told_filled(
+    alloc: Global,
+    front: &str,
+    text: &str,
+    count: usize,
+    end: &str,
+) -> Result<String, Fail> {
+    let head = filled(alloc, front, text, count, end)?;
+    let (len, needed) = (head.len(), need(head.as_bytes()));
+    Ok(format!(in alloc; "{len} {needed:?}")?)
+}
+
+// A head has at most 8,192 octets and 32 headers.
+static LIMITS: [(&str, &str, usize, &str, &str); 10] = [
+    (
+        "GET /a HTTP/1.1\r\nA: ",
+        "a",
+        8167,
+        "\r\n\r\n",
+        "8191 Whole(8191)",
+    ),
+    (
+        "GET /a HTTP/1.1\r\nA: ",
+        "a",
+        8168,
+        "\r\n\r\n",
+        "8192 Whole(8192)",
+    ),
+    (
+        "GET /a HTTP/1.1\r\nA: ",
+        "a",
+        8169,
+        "\r\n\r\n",
+        "8193 Refused(BadRequest)",
+    ),
+    ("GET /a HTTP/1.1\r\nA: ", "a", 8169, "\r\n", "8191 More"),
+    (
+        "GET /a HTTP/1.1\r\nA: ",
+        "a",
+        8169,
+        "\r\n\r",
+        "8192 Refused(BadRequest)",
+    ),
+    ("GET /", "a", 8186, "", "8191 More"),
+    ("GET /", "a", 8187, "", "8192 Refused(BadRequest)"),
+    (
+        "GET /a HTTP/1.1\r\n",
+        "A: b\r\n",
+        32,
+        "\r\n",
+        "211 Whole(211)",
+    ),
+    ("GET /a HTTP/1.1\r\n", "A: b\r\n", 33, "", "215 More"),
+    (
+        "GET /a HTTP/1.1\r\n",
+        "A: b\r\n",
+        33,
+        "\r\n",
+        "217 Refused(BadRequest)",
+    ),
+];
+
 #[test]
-fn head_lengths(rt: HostRuntime) -> Result<(), Fail> {
-    for len in [8191, 8192] {
-        let head = head_of(&rt, len)?;
-        assert_eq!(rt; head.len(), len);
-        assert_eq!(rt; need(&head), Need::Whole(len));
+fn lengths_and_counts(rt: HostRuntime) -> Result<(), Fail> {
+    for (front, text, count, end, wanted) in &LIMITS {
+        assert_eq!(rt;
+            told_filled(rt.alloc(), front, text, *count, end)?.as_str(),
+            *wanted
+        );
     }
-    let head = head_of(&rt, 8193)?;
-    assert_eq!(rt; need(&head[..8191.min(head.len())]), Need::More);
-    assert_eq!(rt; need(&head[..8192.min(head.len())]), BAD);
-    assert_eq!(rt; need(&head), BAD);
-    let mut target = b"GET /".to_vec(rt.alloc())?;
-    for _ in 0..8186 {
-        target.push(b'a')?;
-    }
-    assert_eq!(rt; target.len(), 8191);
-    assert_eq!(rt; need(&target), Need::More);
-    target.push(b'a')?;
-    assert_eq!(rt; need(&target), BAD);
     Ok(())
 }
 
-#[test]
-fn header_counts(rt: HostRuntime) -> Result<(), Fail> {
-    let mut head = b"GET /a HTTP/1.1\r\n".to_vec(rt.alloc())?;
-    for _ in 0..32 {
-        head.extend_from_slice(b"A: b\r\n")?;
-    }
-    let mut more = head.clone()?;
-    head.extend_from_slice(b"\r\n")?;
-    assert_eq!(rt; need(&head), Need::Whole(head.len()));
-    more.extend_from_slice(b"A: b\r\n")?;
-    assert_eq!(rt; need(&more), Need::More);
-    more.extend_from_slice(b"\r\n")?;
-    assert_eq!(rt; need(&more), BAD);
-    Ok(())
+// A request's method, target, ids and body.
+fn told(alloc: Global, octets: &[u8]) -> Result<String, Fail> {
+    let Reading::Whole(request) = read_request(octets) else {
+        return Ok(String::from_str(alloc, "not whole")?);
+    };
+    let ids = match request.ids {
+        Values::Absent => "none",
+        Values::One(id) => str::from_utf8(id).unwrap_or("not UTF-8"),
+        Values::Several => "several",
+    };
+    let method = str::from_utf8(request.method).unwrap_or("not UTF-8");
+    let body = str::from_utf8(request.body).unwrap_or("not UTF-8");
+    let target = request.target;
+    Ok(format!(in alloc; "{method},{target},{ids},{body}")?)
 }
 
+static REQUESTS: [(&[u8], &str); 3] = [
+    (
+        b"PUT /databases/%67em?a=\xc3\xa9 HTTP/1.1\r\nrequest-ID: \tr 1 \r\nContent-Length: 2\r\n\r\nabc",
+        "PUT,/databases/%67em?a=é,r 1,ab",
+    ),
+    (
+        b"PUT /a HTTP/1.1\r\nRequest-Id: r1\r\nRequest-Id: r2\r\n\r\n",
+        "PUT,/a,several,",
+    ),
+    (
+        b"PUT /a HTTP/1.1\r\nRequest-Ids: r1\r\n\r\n",
+        "PUT,/a,none,",
+    ),
+];
+
 #[test]
-fn requests(rt: HostRuntime) {
-    let put =
-        b"PUT /databases/%67em?a=\xc3\xa9 HTTP/1.1\r\nrequest-ID: \tr 1 \r\nContent-Length: 2\r\n\r\nabc";
-    let Reading::Whole(request) = read_request(put) else {
-        panic!(rt; "the request is whole");
-    };
-    assert_eq!(rt; request.method, b"PUT".as_slice());
-    assert_eq!(rt; request.target, "/databases/%67em?a=é");
-    assert_eq!(rt; request.body, b"ab".as_slice());
-    assert!(rt; matches!(request.ids, Values::One(b"r 1")));
-    let two = b"PUT /a HTTP/1.1\r\nRequest-Id: r1\r\nRequest-Id: r2\r\n\r\n";
-    let Reading::Whole(request) = read_request(two) else {
-        panic!(rt; "the request is whole");
-    };
-    assert!(rt; matches!(request.ids, Values::Several));
-    let none = b"PUT /a HTTP/1.1\r\nRequest-Ids: r1\r\n\r\n";
-    let Reading::Whole(request) = read_request(none) else {
-        panic!(rt; "the request is whole");
-    };
-    assert!(rt; matches!(request.ids, Values::Absent));
+fn requests(rt: HostRuntime) -> Result<(), Fail> {
+    for (octets, wanted) in &REQUESTS {
+        assert_eq!(rt; told(rt.alloc(), octets)?.as_str(), *wanted);
+    }
+    Ok(())
 }

@@ -1,83 +1,74 @@
 //! Which paths have which forms.
-use dict_route::{Route, Routes};
+use dict_route::Routes;
+use std::alloc::Global;
+use std::process::Abort;
 use std::test::Fail;
 
-fn is(routes: &Routes, path: &str, route: Route, name: &str) -> bool {
-    match routes.find(path) {
-        Some(found) => found.route == route && found.name == name,
-        None => false,
+// A path, and its form and its name, if it has a form.
+static PATHS: [(&str, &str); 42] = [
+    ("/databases", "Databases "),
+    ("/databases/gem", "Database gem"),
+    ("/databases/gem/rollback", "Rollback gem"),
+    ("/databases/gem/place", "Place gem"),
+    ("/virtual/all", "Virtual all"),
+    ("/databases/place", "Database place"),
+    ("/databases/rollback/rollback", "Rollback rollback"),
+    ("/databases/place/rollback", "Rollback place"),
+    ("/databases/a/place", "Place a"),
+    ("/virtual/place", "Virtual place"),
+    ("/databases/%41", "Database %41"),
+    ("/databases/a?b=c", "Database a?b=c"),
+    ("/databases/{name}", "Database {name}"),
+    ("/databases/été", "Database été"),
+    ("/databases/a%2Fplace", "Database a%2Fplace"),
+    ("", "none"),
+    ("/", "none"),
+    ("//", "none"),
+    ("*", "none"),
+    ("databases", "none"),
+    ("/database", "none"),
+    ("/databases/", "none"),
+    ("/databasess", "none"),
+    ("/Databases", "none"),
+    ("//databases", "none"),
+    ("/databases//", "none"),
+    ("/databases//place", "none"),
+    ("/databases/a/", "none"),
+    ("/databases/a/b", "none"),
+    ("/databases/a/places", "none"),
+    ("/databases/a/plac", "none"),
+    ("/databases/a/place/", "none"),
+    ("/databases/a/place/b", "none"),
+    ("/databases/a/rollback/", "none"),
+    ("/databases?a=b", "none"),
+    ("/virtual", "none"),
+    ("/virtual/", "none"),
+    ("/virtual//", "none"),
+    ("/virtual/a/b", "none"),
+    ("/virtual/a/place", "none"),
+    ("/virtual/a/", "none"),
+    ("http://localhost/databases", "none"),
+];
+
+fn told(alloc: Global, routes: &Routes, path: &str) -> Result<String, Fail> {
+    Ok(match routes.find(path) {
+        Some(found) => {
+            let (route, name) = (found.route, found.name);
+            format!(in alloc; "{route:?} {name}")?
+        }
+        None => String::from_str(alloc, "none")?,
+    })
+}
+
+fn find_all(rt: &impl Abort, alloc: Global, routes: &Routes) -> Result<(), Fail> {
+    for (path, form) in &PATHS {
+        assert_eq!(rt; told(alloc, routes, path)?.as_str(), *form, "{path}");
     }
+    Ok(())
 }
 
 #[test]
 fn paths(rt: HostRuntime) -> Result<(), Fail> {
     let routes = Routes::new(rt.alloc())?;
-    assert!(rt; is(&routes, "/databases", Route::Databases, ""));
-    assert!(rt; is(&routes, "/databases/gem", Route::Database, "gem"));
-    assert!(rt; is(&routes, "/databases/gem/rollback", Route::Rollback, "gem"));
-    assert!(rt; is(&routes, "/databases/gem/place", Route::Place, "gem"));
-    assert!(rt; is(&routes, "/virtual/all", Route::Virtual, "all"));
-    assert!(rt; is(&routes, "/databases/place", Route::Database, "place"));
-    assert!(rt;
-        is(
-            &routes,
-            "/databases/rollback/rollback",
-            Route::Rollback,
-            "rollback"
-        )
-    );
-    assert!(rt;
-        is(
-            &routes,
-            "/databases/place/rollback",
-            Route::Rollback,
-            "place"
-        )
-    );
-    assert!(rt; is(&routes, "/databases/a/place", Route::Place, "a"));
-    assert!(rt; is(&routes, "/virtual/place", Route::Virtual, "place"));
-    assert!(rt; is(&routes, "/databases/%41", Route::Database, "%41"));
-    assert!(rt; is(&routes, "/databases/a?b=c", Route::Database, "a?b=c"));
-    assert!(rt; is(&routes, "/databases/{name}", Route::Database, "{name}"));
-    assert!(rt; is(&routes, "/databases/été", Route::Database, "été"));
-    assert!(rt;
-        is(
-            &routes,
-            "/databases/a%2Fplace",
-            Route::Database,
-            "a%2Fplace"
-        )
-    );
-    for path in [
-        "",
-        "/",
-        "//",
-        "*",
-        "databases",
-        "/database",
-        "/databases/",
-        "/databasess",
-        "/Databases",
-        "//databases",
-        "/databases//",
-        "/databases//place",
-        "/databases/a/",
-        "/databases/a/b",
-        "/databases/a/places",
-        "/databases/a/plac",
-        "/databases/a/place/",
-        "/databases/a/place/b",
-        "/databases/a/rollback/",
-        "/databases?a=b",
-        "/virtual",
-        "/virtual/",
-        "/virtual//",
-        "/virtual/a/b",
-        "/virtual/a/place",
-        "/virtual/a/",
-        "http://localhost/databases",
-    ] {
-        assert!(rt; routes.find(path).is_none());
-    }
-    Ok(())
+    find_all(&rt, rt.alloc(), &routes)
 }

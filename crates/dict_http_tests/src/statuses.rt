@@ -1,7 +1,8 @@
 // Which methods and which paths are served.
-use crate::answers::{answers, response};
+use crate::answers::{response, told};
 use dict_desk::PlainDesk;
 use std::alloc::Global;
+use std::process::Abort;
 use std::test::Fail;
 
 /// A path, its methods as `Allow` tells them, and whether it has GET, PUT, POST and DELETE.
@@ -36,12 +37,28 @@ fn wanted(alloc: Global, path: &str, allow: &str, is_served: bool) -> Result<Str
     }
 }
 
-/// Whether a request without an id and without a body is answered so.
-fn is_answered(alloc: Global, method: &str, path: &str, wanted: &str) -> Result<bool, Fail> {
+/// What a request without an id and without a body is answered over an empty catalogue.
+fn told_anew(alloc: Global, request: &str) -> Result<String, Fail> {
     let mut desk = PlainDesk::new(alloc);
-    let request = format!(in alloc; "{method} {path} HTTP/1.1\r\n\r\n")?;
-    answers(alloc, &mut desk, request.as_bytes(), wanted.as_bytes())
+    told(alloc, &mut desk, request.as_bytes())
 }
+
+// Asks for a path by these methods, which it has or hasn't.
+fn ask(
+    rt: &impl Abort,
+    alloc: Global,
+    path: &str,
+    methods: &[&str],
+    wanted: &str,
+) -> Result<(), Fail> {
+    for method in methods {
+        let request = format!(in alloc; "{method} {path} HTTP/1.1\r\n\r\n")?;
+        assert_eq!(rt; told_anew(alloc, &request)?.as_str(), wanted, "{request}");
+    }
+    Ok(())
+}
+
+static UNKNOWN_METHODS: [&str; 4] = ["PATCH", "HEAD", "get", "put"];
 
 #[test]
 fn methods(rt: HostRuntime) -> Result<(), Fail> {
@@ -49,18 +66,10 @@ fn methods(rt: HostRuntime) -> Result<(), Fail> {
     for Served(path, allow, serves) in SERVED {
         for (method, is_served) in METHODS.iter().zip(serves.iter()) {
             let text = wanted(alloc, path, allow, *is_served)?;
-            assert!(rt;
-                is_answered(alloc, method, path, text.as_str())?,
-                "{method} {path}"
-            );
+            ask(&rt, alloc, path, &[*method], &text)?;
         }
         let text = wanted(alloc, path, allow, false)?;
-        for method in ["PATCH", "HEAD", "get", "put"] {
-            assert!(rt;
-                is_answered(alloc, method, path, text.as_str())?,
-                "{method} {path}"
-            );
-        }
+        ask(&rt, alloc, path, &UNKNOWN_METHODS, &text)?;
     }
     Ok(())
 }
@@ -84,18 +93,14 @@ static NO_PATHS: [&str; 14] = [
 
 #[test]
 fn no_paths(rt: HostRuntime) -> Result<(), Fail> {
-    let alloc = rt.alloc();
-    let text = response(alloc, "404 Not Found", "{\"error\":\"not found\"}")?;
+    let text = response(rt.alloc(), "404 Not Found", "{\"error\":\"not found\"}")?;
     for path in NO_PATHS {
-        for method in METHODS {
-            assert!(rt;
-                is_answered(alloc, method, path, text.as_str())?,
-                "{method} {path}"
-            );
-        }
+        ask(&rt, rt.alloc(), path, &METHODS, &text)?;
     }
     Ok(())
 }
+
+static NO_NAMES: [&str; 6] = ["%67em", "gem?", "gem#a", "été", "Gem", "{name}"];
 
 #[test]
 fn names_are_not_decoded(rt: HostRuntime) -> Result<(), Fail> {
@@ -105,13 +110,13 @@ fn names_are_not_decoded(rt: HostRuntime) -> Result<(), Fail> {
         "409 Conflict",
         "{\"reason\":\"BadName\",\"refusal\":20}",
     )?;
-    for name in ["%67em", "gem?", "gem#a", "été", "Gem", "{name}"] {
-        let mut desk = PlainDesk::new(alloc);
+    for name in NO_NAMES {
         let request = format!(in alloc;
             "DELETE /databases/{name} HTTP/1.1\r\nREQUEST-id: \t r1 \r\n\r\n"
         )?;
-        assert!(rt;
-            answers(alloc, &mut desk, request.as_bytes(), text.as_bytes())?,
+        assert_eq!(rt;
+            told_anew(alloc, &request)?.as_str(),
+            text.as_str(),
             "{name}"
         );
     }

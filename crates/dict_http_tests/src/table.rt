@@ -1,5 +1,5 @@
 // Requests one after another, each with its answer.
-use crate::answers::{answers, response};
+use crate::answers::{response, told};
 use dict_desk::{Keeper, PlainDesk};
 use std::alloc::Global;
 use std::process::Abort;
@@ -244,21 +244,21 @@ pub(crate) fn run<K: Keeper>(
     for row in rows {
         let request = request_of(alloc, *row)?;
         let wanted = response(alloc, row.3, row.4)?;
-        let is_so = answers(alloc, desk, request.as_bytes(), wanted.as_bytes())?;
-        let asked = row.0;
-        assert!(rt; is_so, "{asked}");
+        let answer = told(alloc, desk, request.as_bytes())?;
+        assert_eq!(rt; answer.as_str(), wanted.as_str(), "{request}");
     }
     Ok(())
 }
 
+// The same over an empty catalogue.
+fn run_anew(rt: &impl Abort, alloc: Global, rows: &[Row]) -> Result<(), Fail> {
+    let mut desk = PlainDesk::new(alloc);
+    run(rt, alloc, &mut desk, rows)
+}
+
 #[test]
 fn requests_in_turn(rt: HostRuntime) -> Result<(), Fail> {
-    let alloc = rt.alloc();
-    let mut desk = PlainDesk::new(alloc);
-    run(&rt, alloc, &mut desk, &TABLE)?;
-    let mut desk = PlainDesk::new(alloc);
-    run(&rt, alloc, &mut desk, &VIRTUAL)?;
-    let mut desk = PlainDesk::new(alloc);
-    run(&rt, alloc, &mut desk, &RETIRED)?;
-    Ok(())
+    run_anew(&rt, rt.alloc(), &TABLE)?;
+    run_anew(&rt, rt.alloc(), &VIRTUAL)?;
+    run_anew(&rt, rt.alloc(), &RETIRED)
 }

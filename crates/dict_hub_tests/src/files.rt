@@ -1,59 +1,76 @@
 // A catalogue in memory, and what a hub puts over it.
 use dict_desk::{Keeper, PlainDesk};
 use dict_http::Service;
-use dict_hub::{Event, Hub, Out, take_piece};
+use dict_hub::{Event, Hub, take_piece};
 use dict_io::LimitedSink;
 use std::alloc::Global;
+use std::process::Abort;
 use std::test::Fail;
 
 pub(crate) const HOST: &str = "gems.test";
 
-pub(crate) const PUT: &str =
-    "PUT /databases/gem HTTP/1.1\r\nRequest-Id: r1\r\nContent-Length: 101\r\n\r\n53\n00-database-short\tA\tZ\nopal\tZ\tP\nFire Opal\tZ\tP\ndot\to\tF\n00-database-short\n  Gems\nopal\n  a stone\n.dot\n";
+pub(crate) const PUT: &[u8] =
+    b"PUT /databases/gem HTTP/1.1\r\nRequest-Id: r1\r\nContent-Length: 101\r\n\r\n53\n00-database-short\tA\tZ\nopal\tZ\tP\nFire Opal\tZ\tP\ndot\to\tF\n00-database-short\n  Gems\nopal\n  a stone\n.dot\n";
 
-pub(crate) const DELETE: &str = "DELETE /databases/gem HTTP/1.1\r\nRequest-Id: r2\r\n\r\n";
+pub(crate) const DELETE: &[u8] = b"DELETE /databases/gem HTTP/1.1\r\nRequest-Id: r2\r\n\r\n";
 
-pub(crate) const DELETED: &str =
-    "HTTP/1.1 200 OK\r\nContent-Type: application/json\r\nContent-Length: 56\r\nConnection: close\r\n\r\n{\"edition\":null,\"name\":\"gem\",\"number\":2,\"verb\":\"retire\"}";
+/// The end of a connection, and the answer to that.
+pub(crate) const DELETED_TOLD: &str =
+    "Ok(Close) HTTP/1.1 200 OK\r\nContent-Type: application/json\r\nContent-Length: 56\r\nConnection: close\r\n\r\n{\"edition\":null,\"name\":\"gem\",\"number\":2,\"verb\":\"retire\"}";
+
+// Installs `gem` by a request.
+fn install(alloc: Global, desk: &mut PlainDesk) -> Result<(), Fail> {
+    let service = Service::new(alloc)?;
+    let mut sink = LimitedSink::new(alloc, 1000)?;
+    let mut held = Vec::new(alloc);
+    take_piece(&service, alloc, &mut held, PUT, desk, &mut sink)?;
+    Ok(())
+}
 
 /// A desk over which `gem` was installed.
 pub(crate) fn gem_desk(alloc: Global) -> Result<PlainDesk, Fail> {
-    let service = Service::new(alloc)?;
     let mut desk = PlainDesk::new(alloc);
-    let mut sink = LimitedSink::new(alloc, 1000)?;
-    let mut held = Vec::new(alloc);
-    take_piece(
-        &service,
-        alloc,
-        &mut held,
-        PUT.as_bytes(),
-        &mut desk,
-        &mut sink,
-    )?;
+    install(alloc, &mut desk)?;
     Ok(desk)
 }
 
-/// What a sink with room takes of an event, and whether its connection closes.
+/// What becomes of a connection after an event, and what is put for it.
 pub(crate) fn told<K: Keeper>(
     alloc: Global,
     hub: &mut Hub,
     desk: &mut K,
     event: Event,
-) -> Result<(Vec<u8>, Out), Fail> {
+) -> Result<String, Fail> {
     let mut sink = LimitedSink::new(alloc, 10_000)?;
-    let out = hub.event(desk, event, &mut sink)?;
-    Ok((sink.taken().to_vec(alloc)?, out))
+    let out = hub.event(desk, event, &mut sink);
+    let text = str::from_utf8(sink.taken()).unwrap_or("not UTF-8");
+    Ok(format!(in alloc; "{out:?} {text}")?)
 }
 
-/// Whether an event is answered by this text, and its connection goes on or closes so.
-pub(crate) fn is_answered<K: Keeper>(
+/// An event, and what is told of it.
+pub(crate) type Row = (Event<'static>, &'static str);
+
+/// These events, one after the other.
+pub(crate) fn play<K: Keeper>(
+    rt: &impl Abort,
     alloc: Global,
     hub: &mut Hub,
     desk: &mut K,
-    event: Event,
-    text: &str,
-    out: Out,
-) -> Result<bool, Fail> {
-    let answer = told(alloc, hub, desk, event)?;
-    Ok(answer.0.as_slice() == text.as_bytes() && answer.1 == out)
+    rows: &[Row],
+) -> Result<(), Fail> {
+    for (event, wanted) in rows {
+        assert_eq!(rt; told(alloc, hub, desk, *event)?.as_str(), *wanted);
+    }
+    Ok(())
+}
+
+/// The same in a new hub.
+pub(crate) fn play_anew<K: Keeper>(
+    rt: &impl Abort,
+    alloc: Global,
+    desk: &mut K,
+    rows: &[Row],
+) -> Result<(), Fail> {
+    let mut hub = Hub::new(alloc, HOST)?;
+    play(rt, alloc, &mut hub, desk, rows)
 }

@@ -1,16 +1,15 @@
 //! Which connections are open, and what an editor's octets are answered piece by piece.
-use super::files::{PUT, told};
-use dict_desk::{Lookup, PlainDesk};
+use super::files::{HOST, PUT, Row, play, play_anew};
+use dict_desk::PlainDesk;
 use dict_http::Service;
 use dict_hub::{Book, Event, Hub, HubFault, Kind, Out, take_piece};
 use dict_io::LimitedSink;
 use std::alloc::Global;
+use std::process::Abort;
 use std::test::Fail;
 
-#[test]
-fn connections_open_and_close(rt: HostRuntime) -> Result<(), Fail> {
-    let alloc = rt.alloc();
-    let mut book = Book::new(alloc)?;
+// Opens each of 65,536 connections twice and closes it.
+fn one_by_one(rt: &impl Abort, book: &mut Book) {
     for id in 0..65_536u64 {
         assert!(rt; book.open(id).is_ok());
         assert_eq!(rt; book.place_of(id), Some(0));
@@ -19,11 +18,13 @@ fn connections_open_and_close(rt: HostRuntime) -> Result<(), Fail> {
             book.close(0);
         }
     }
-    assert_eq!(rt; book.open(65_535), Err(HubFault::UnknownConnection));
+}
+
+// Opens 64 at once, closes one of them, and may open another.
+fn at_once(rt: &impl Abort, book: &mut Book) {
     for id in 65_536..65_600u64 {
         assert!(rt; book.open(id).is_ok());
     }
-    assert_eq!(rt; book.len(), 64);
     assert_eq!(rt; book.open(65_600), Err(HubFault::TooMany));
     assert_eq!(rt; book.open(65_599), Err(HubFault::UnknownConnection));
     assert_eq!(rt; book.place_of(65_540), Some(4));
@@ -32,7 +33,15 @@ fn connections_open_and_close(rt: HostRuntime) -> Result<(), Fail> {
     }
     assert_eq!(rt; book.place_of(65_540), None);
     assert_eq!(rt; book.place_of(65_541), Some(4));
-    assert!(rt; book.admits(65_600).is_ok());
+    assert!(rt; book.len() == 63 && book.admits(65_600).is_ok());
+}
+
+#[test]
+fn connections_open_and_close(rt: HostRuntime) -> Result<(), Fail> {
+    let mut book = Book::new(rt.alloc())?;
+    one_by_one(&rt, &mut book);
+    assert_eq!(rt; book.open(65_535), Err(HubFault::UnknownConnection));
+    at_once(&rt, &mut book);
     Ok(())
 }
 
@@ -43,157 +52,157 @@ fn fault_numbers(rt: HostRuntime) {
     assert_eq!(rt; HubFault::Memory.number(), 52);
 }
 
-const INSTALLED: &[u8] =
-    b"HTTP/1.1 200 OK\r\nContent-Type: application/json\r\nContent-Length: 54\r\nConnection: close\r\n\r\n{\"edition\":1,\"name\":\"gem\",\"number\":1,\"verb\":\"install\"}";
+const INSTALLED: &str =
+    "HTTP/1.1 200 OK\r\nContent-Type: application/json\r\nContent-Length: 54\r\nConnection: close\r\n\r\n{\"edition\":1,\"name\":\"gem\",\"number\":1,\"verb\":\"install\"}";
+
+// The pieces, until one is answered: how many there were, and what was put into a sink with this room.
+fn told_pieces(alloc: Global, pieces: &[&[u8]], room: usize) -> Result<String, Fail> {
+    let mut desk = PlainDesk::new(alloc);
+    let mut sink = LimitedSink::new(alloc, room)?;
+    let count = take_pieces(alloc, &mut desk, &mut sink, pieces)?;
+    let text = str::from_utf8(sink.taken()).unwrap_or("not UTF-8");
+    Ok(format!(in alloc; "{count} {text}")?)
+}
+
+fn take_pieces(
+    alloc: Global,
+    desk: &mut PlainDesk,
+    sink: &mut LimitedSink,
+    pieces: &[&[u8]],
+) -> Result<usize, Fail> {
+    let service = Service::new(alloc)?;
+    let mut held = Vec::new(alloc);
+    for (count, piece) in pieces.iter().enumerate() {
+        match take_piece(&service, alloc, &mut held, piece, desk, sink)? {
+            Out::More => {}
+            Out::Close => return Ok(count.saturating_add(1)),
+        }
+    }
+    Ok(0)
+}
 
 #[test]
 fn a_request_octet_by_octet(rt: HostRuntime) -> Result<(), Fail> {
-    let alloc = rt.alloc();
-    let service = Service::new(alloc)?;
-    let mut desk = PlainDesk::new(alloc);
-    let mut sink = LimitedSink::new(alloc, 1000)?;
-    let mut held = Vec::new(alloc);
-    let mut closed = 0u64;
-    for octet in PUT.as_bytes() {
-        assert_eq!(rt; closed, 0);
-        let piece = [*octet];
-        match take_piece(&service, alloc, &mut held, &piece, &mut desk, &mut sink)? {
-            Out::More => {}
-            Out::Close => closed = 1,
-        }
+    let mut pieces = Vec::new(rt.alloc());
+    for octet in PUT.chunks(1) {
+        pieces.push(octet)?;
     }
-    assert_eq!(rt; closed, 1);
-    assert_eq!(rt; sink.taken(), INSTALLED);
-    assert_eq!(rt; desk.summary()?.items.len(), 1);
+    let (count, told) = (pieces.len(), told_pieces(rt.alloc(), &pieces, 1000)?);
+    let wanted = format!(in rt.alloc(); "{count} {INSTALLED}")?;
+    assert_eq!(rt; told.as_str(), wanted.as_str());
     Ok(())
 }
 
 // What stands behind a request is no second one, and an answer that isn't taken closes too.
 #[test]
 fn one_request_a_connection(rt: HostRuntime) -> Result<(), Fail> {
-    let alloc = rt.alloc();
-    let service = Service::new(alloc)?;
-    let mut desk = PlainDesk::new(alloc);
-    let mut sink = LimitedSink::new(alloc, 3)?;
-    let mut held = Vec::new(alloc);
-    let piece = b"DELETE /databases/gem HTTP/1.1\r\n\r\nDELETE /databases/gem HTTP/1.1\r\n\r\n";
-    let out = take_piece(&service, alloc, &mut held, piece, &mut desk, &mut sink)?;
-    assert_eq!(rt; out, Out::Close);
-    assert_eq!(rt; sink.taken(), b"HTT".as_slice());
+    let piece =
+        b"DELETE /databases/gem HTTP/1.1\r\n\r\nDELETE /databases/gem HTTP/1.1\r\n\r\n".as_slice();
+    assert_eq!(rt; told_pieces(rt.alloc(), &[piece], 3)?.as_str(), "1 HTT");
     Ok(())
 }
 
-const FOUND: &[u8] =
-    b"150 1 definitions retrieved\r\n151 \"opal\" gem \"Gems\"\r\nopal\r\n  a stone\r\n.\r\n250 ok\r\n221 closing connection\r\n";
+const INSTALLED_TOLD: &str =
+    "Ok(Close) HTTP/1.1 200 OK\r\nContent-Type: application/json\r\nContent-Length: 54\r\nConnection: close\r\n\r\n{\"edition\":1,\"name\":\"gem\",\"number\":1,\"verb\":\"install\"}";
+
+const FIRST: &str = "Ok(More) 220 gems.test dictcat ready <1@gems.test>\r\n";
+
+const UNKNOWN: &str = "Err(UnknownConnection) ";
 
 // A database is installed between two pieces of a reader's line.
-#[test]
-fn an_install_between_two_pieces(rt: HostRuntime) -> Result<(), Fail> {
-    let alloc = rt.alloc();
-    let mut desk = PlainDesk::new(alloc);
-    let mut hub = Hub::new(alloc, "localhost")?;
-    let greeted = told(alloc, &mut hub, &mut desk, Event::Opened(1, Kind::Dict))?;
-    assert_eq!(rt;
-        greeted.0.as_slice(),
-        b"220 localhost dictcat ready <1@localhost>\r\n".as_slice()
-    );
-    assert_eq!(rt; greeted.1, Out::More);
-    let opened = told(alloc, &mut hub, &mut desk, Event::Opened(2, Kind::Http))?;
-    assert_eq!(rt; opened.0.len(), 0);
-    let half = told(
-        alloc,
-        &mut hub,
-        &mut desk,
-        Event::Bytes(1, b"DEFINE gem op"),
-    )?;
-    assert_eq!(rt; half.0.len(), 0);
-    let put = told(alloc, &mut hub, &mut desk, Event::Bytes(2, PUT.as_bytes()))?;
-    assert_eq!(rt; put.0.as_slice(), INSTALLED);
-    assert_eq!(rt; put.1, Out::Close);
-    let found = told(
-        alloc,
-        &mut hub,
-        &mut desk,
+static BETWEEN_TWO_PIECES: [Row; 6] = [
+    (Event::Opened(1, Kind::Dict), FIRST),
+    (Event::Opened(2, Kind::Http), "Ok(More) "),
+    (Event::Bytes(1, b"DEFINE gem op"), "Ok(More) "),
+    (Event::Bytes(2, PUT), INSTALLED_TOLD),
+    (
         Event::Bytes(1, b"al\r\nQUIT\r\n"),
-    )?;
-    assert_eq!(rt; found.0.as_slice(), FOUND);
-    assert_eq!(rt; found.1, Out::Close);
-    let mut sink = LimitedSink::new(alloc, 100)?;
-    assert_eq!(rt;
-        hub.event(&mut desk, Event::Ended(1), &mut sink),
-        Err(HubFault::UnknownConnection)
-    );
+        "Ok(Close) 150 1 definitions retrieved\r\n151 \"opal\" gem \"Gems\"\r\nopal\r\n  a stone\r\n.\r\n250 ok\r\n221 closing connection\r\n",
+    ),
+    (Event::Ended(1), UNKNOWN),
+];
+
+// The same with the whole line before the install.
+static BEFORE_AN_INSTALL: [Row; 5] = [
+    (Event::Opened(1, Kind::Dict), FIRST),
+    (Event::Opened(2, Kind::Http), "Ok(More) "),
+    (
+        Event::Bytes(1, b"DEFINE gem opal\r\n"),
+        "Ok(More) 550 invalid database\r\n",
+    ),
+    (Event::Bytes(2, PUT), INSTALLED_TOLD),
+    (
+        Event::Bytes(1, b"DEFINE gem opal\r\nQUIT\r\n"),
+        "Ok(Close) 150 1 definitions retrieved\r\n151 \"opal\" gem \"Gems\"\r\nopal\r\n  a stone\r\n.\r\n250 ok\r\n221 closing connection\r\n",
+    ),
+];
+
+#[test]
+fn installs_beside_a_line(rt: HostRuntime) -> Result<(), Fail> {
+    let mut desk = PlainDesk::new(rt.alloc());
+    play_anew(&rt, rt.alloc(), &mut desk, &BETWEEN_TWO_PIECES)?;
     Ok(())
 }
 
-// The same with the whole line before the install.
 #[test]
 fn a_line_before_an_install(rt: HostRuntime) -> Result<(), Fail> {
-    let alloc = rt.alloc();
-    let mut desk = PlainDesk::new(alloc);
-    let mut hub = Hub::new(alloc, "localhost")?;
-    told(alloc, &mut hub, &mut desk, Event::Opened(1, Kind::Dict))?;
-    told(alloc, &mut hub, &mut desk, Event::Opened(2, Kind::Http))?;
-    let line = told(
-        alloc,
-        &mut hub,
-        &mut desk,
-        Event::Bytes(1, b"DEFINE gem opal\r\n"),
-    )?;
-    assert!(rt; line.0.starts_with(b"550 "));
-    assert_eq!(rt; line.1, Out::More);
-    let put = told(alloc, &mut hub, &mut desk, Event::Bytes(2, PUT.as_bytes()))?;
-    assert_eq!(rt; put.0.as_slice(), INSTALLED);
-    let found = told(
-        alloc,
-        &mut hub,
-        &mut desk,
-        Event::Bytes(1, b"DEFINE gem opal\r\nQUIT\r\n"),
-    )?;
-    assert_eq!(rt; found.0.as_slice(), FOUND);
+    let mut desk = PlainDesk::new(rt.alloc());
+    play_anew(&rt, rt.alloc(), &mut desk, &BEFORE_AN_INSTALL)?;
+    Ok(())
+}
+
+// Opens connections of both kinds in turn, with the ids from 1.
+fn open_many(
+    rt: &impl Abort,
+    alloc: Global,
+    hub: &mut Hub,
+    desk: &mut PlainDesk,
+) -> Result<(), Fail> {
+    let mut sink = LimitedSink::new(alloc, 10_000)?;
+    for id in 1..65u64 {
+        let kind = if id % 2 == 0 { Kind::Http } else { Kind::Dict };
+        let out = hub.event(desk, Event::Opened(id, kind), &mut sink);
+        assert_eq!(rt; out, Ok(Out::More));
+    }
     Ok(())
 }
 
 // The end of an unfinished request installs nothing, and more than 64 connections are refused.
+static WITH_MANY: [Row; 7] = [
+    (Event::Opened(64, Kind::Http), UNKNOWN),
+    (Event::Opened(65, Kind::Http), "Err(TooMany) "),
+    (
+        Event::Bytes(
+            2,
+            b"PUT /databases/gem HTTP/1.1\r\nRequest-Id: r1\r\nContent-Length: 101\r\n\r\n53\n00-database-short\tA\tZ\nopal\tZ\tP\nFire Opal\tZ\tP\ndot\to\tF\n00-database-short\n  Gems\nopal\n  a stone\n.dot",
+        ),
+        "Ok(More) ",
+    ),
+    (Event::Ended(2), "Ok(More) "),
+    (Event::Bytes(2, b"\n"), UNKNOWN),
+    (
+        Event::Bytes(1, b"STATUS\r\n"),
+        "Ok(More) 210 0 databases\r\n",
+    ),
+    (
+        Event::Opened(65, Kind::Dict),
+        "Ok(More) 220 gems.test dictcat ready <65@gems.test>\r\n",
+    ),
+];
+
+fn come_and_go(
+    rt: &impl Abort,
+    alloc: Global,
+    hub: &mut Hub,
+    desk: &mut PlainDesk,
+) -> Result<(), Fail> {
+    open_many(rt, alloc, hub, desk)?;
+    play(rt, alloc, hub, desk, &WITH_MANY)
+}
+
 #[test]
 fn connections_come_and_go(rt: HostRuntime) -> Result<(), Fail> {
-    let alloc = rt.alloc();
-    let mut desk = PlainDesk::new(alloc);
-    let mut hub = Hub::new(alloc, "localhost")?;
-    let mut sink = LimitedSink::new(alloc, 10_000)?;
-    for id in 1..65u64 {
-        let kind = if id % 2 == 0 { Kind::Http } else { Kind::Dict };
-        assert_eq!(rt;
-            hub.event(&mut desk, Event::Opened(id, kind), &mut sink),
-            Ok(Out::More)
-        );
-    }
-    assert_eq!(rt;
-        hub.event(&mut desk, Event::Opened(64, Kind::Http), &mut sink),
-        Err(HubFault::UnknownConnection)
-    );
-    assert_eq!(rt;
-        hub.event(&mut desk, Event::Opened(65, Kind::Http), &mut sink),
-        Err(HubFault::TooMany)
-    );
-    let whole = PUT.as_bytes();
-    let front = &whole[..whole.len().saturating_sub(1)];
-    assert_eq!(rt;
-        hub.event(&mut desk, Event::Bytes(2, front), &mut sink),
-        Ok(Out::More)
-    );
-    assert_eq!(rt;
-        hub.event(&mut desk, Event::Ended(2), &mut sink),
-        Ok(Out::More)
-    );
-    assert_eq!(rt;
-        hub.event(&mut desk, Event::Bytes(2, b"\n"), &mut sink),
-        Err(HubFault::UnknownConnection)
-    );
-    assert_eq!(rt; desk.summary()?.items.len(), 0);
-    assert_eq!(rt;
-        hub.event(&mut desk, Event::Opened(65, Kind::Dict), &mut sink),
-        Ok(Out::More)
-    );
-    Ok(())
+    let mut hub = Hub::new(rt.alloc(), HOST)?;
+    let mut desk = PlainDesk::new(rt.alloc());
+    come_and_go(&rt, rt.alloc(), &mut hub, &mut desk)
 }

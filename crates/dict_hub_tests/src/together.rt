@@ -6,24 +6,25 @@ use dict_hub::{Event, Hub, HubFault, Kind};
 use dict_io::LimitedSink;
 use dict_session::Session;
 use std::alloc::Global;
+use std::process::Abort;
 use std::test::Fail;
 
-static READERS: [&str; 4] = [
-    "DEFINE gem opal\r\nQUIT\r\n",
-    "MATCH * suffix opal\r\nSHOW DB\r\nQUIT\r\nSTATUS\r\n",
-    "define ! \"fire opal\"\r\nx\r\rr\n\r\nDEFINE none x\r\nQUIT\r\n",
-    "STATUS\r\nHELP\r\nSHOW SERVER\r\nQUIT\r\nQUIT\r\n",
+static READERS: [&[u8]; 4] = [
+    b"DEFINE gem opal\r\nQUIT\r\n",
+    b"MATCH * suffix opal\r\nSHOW DB\r\nQUIT\r\nSTATUS\r\n",
+    b"define ! \"fire opal\"\r\nx\r\rr\n\r\nDEFINE none x\r\nQUIT\r\n",
+    b"STATUS\r\nHELP\r\nSHOW SERVER\r\nQUIT\r\nQUIT\r\n",
 ];
 
-static EDITORS: [&str; 4] = [
-    "GET /databases HTTP/1.1\r\n\r\n",
-    "DELETE /databases/none HTTP/1.1\r\nRequest-Id: r9\r\n\r\nDELETE /databases/gem HTTP/1.1\r\nRequest-Id: r8\r\n\r\n",
+static EDITORS: [&[u8]; 4] = [
+    b"GET /databases HTTP/1.1\r\n\r\n",
+    b"DELETE /databases/none HTTP/1.1\r\nRequest-Id: r9\r\n\r\nDELETE /databases/gem HTTP/1.1\r\nRequest-Id: r8\r\n\r\n",
     PUT,
-    "GET /x y\r\n\r\n",
+    b"GET /x y\r\n\r\n",
 ];
 
 // What a connection of this id sends, none of which changes the catalogue.
-fn sent(id: u64) -> &'static str {
+fn sent(id: u64) -> &'static [u8] {
     let which = (id / 2 % 4) as usize;
     if id % 2 == 0 {
         EDITORS[which]
@@ -37,71 +38,107 @@ fn kind_of(id: u64) -> Kind {
 }
 
 // A session of this number that is sent all at once.
-fn reader_alone(alloc: Global, id: u64, sink: &mut LimitedSink) -> Result<(), Fail> {
-    let mut desk = gem_desk(alloc)?;
+fn reader_alone(
+    alloc: Global,
+    desk: &mut PlainDesk,
+    id: u64,
+    sink: &mut LimitedSink,
+) -> Result<(), Fail> {
     let mut session = Session::new(alloc, HOST, id)?;
     session.greet(sink);
-    session.feed(alloc, sent(id).as_bytes(), &mut desk, sink);
+    session.feed(alloc, sent(id), desk, sink);
     Ok(())
 }
 
 // The answer to a request that is sent all at once.
-fn editor_alone(alloc: Global, id: u64, sink: &mut LimitedSink) -> Result<(), Fail> {
-    let mut desk = gem_desk(alloc)?;
-    let octets = sent(id).as_bytes();
+fn editor_alone(
+    alloc: Global,
+    desk: &mut PlainDesk,
+    id: u64,
+    sink: &mut LimitedSink,
+) -> Result<(), Fail> {
+    let octets = sent(id);
     if let Need::More = need(octets) {
         return Ok(());
     }
-    let _ = Service::new(alloc)?
-        .respond(alloc, octets, &mut desk)
-        .put(sink);
+    let service = Service::new(alloc)?;
+    let _ = service.respond(alloc, octets, desk).put(sink);
     Ok(())
 }
 
-fn alone(alloc: Global, id: u64) -> Result<LimitedSink, Fail> {
-    let mut sink = LimitedSink::new(alloc, 10_000)?;
+fn alone(alloc: Global, desk: &mut PlainDesk, id: u64, sink: &mut LimitedSink) -> Result<(), Fail> {
     match kind_of(id) {
-        Kind::Dict => reader_alone(alloc, id, &mut sink)?,
-        Kind::Http => editor_alone(alloc, id, &mut sink)?,
+        Kind::Dict => reader_alone(alloc, desk, id, sink),
+        Kind::Http => editor_alone(alloc, desk, id, sink),
     }
-    Ok(sink)
+}
+
+// Whether that is what came to a sink.
+fn is_as_alone(alloc: Global, id: u64, taken: &[u8]) -> Result<bool, Fail> {
+    let mut desk = gem_desk(alloc)?;
+    let mut sink = LimitedSink::new(alloc, 10_000)?;
+    alone(alloc, &mut desk, id, &mut sink)?;
+    Ok(sink.taken() == taken)
 }
 
 // Opens 64 connections, each with a sink of its own.
-fn open_all(alloc: Global, hub: &mut Hub, desk: &mut PlainDesk) -> Result<Vec<LimitedSink>, Fail> {
-    let mut sinks = Vec::new(alloc);
+fn open_all(
+    alloc: Global,
+    hub: &mut Hub,
+    desk: &mut PlainDesk,
+    sinks: &mut Vec<LimitedSink>,
+) -> Result<(), Fail> {
     for id in 1..65u64 {
         let mut sink = LimitedSink::new(alloc, 10_000)?;
         hub.event(desk, Event::Opened(id, kind_of(id)), &mut sink)?;
         sinks.push(sink)?;
     }
-    Ok(sinks)
+    Ok(())
 }
 
 // Sends each connection its octet of this place. What comes on one that is closed is refused.
 fn send_each(hub: &mut Hub, desk: &mut PlainDesk, sinks: &mut [LimitedSink], place: usize) {
     for (id, sink) in (1..65u64).zip(sinks.iter_mut()) {
-        if let Some(octet) = sent(id).as_bytes().get(place) {
+        if let Some(octet) = sent(id).get(place) {
             let piece = [*octet];
             let _ = hub.event(desk, Event::Bytes(id, &piece), sink);
         }
     }
 }
 
-#[test]
-fn many_connections_octet_by_octet(rt: HostRuntime) -> Result<(), Fail> {
-    let alloc = rt.alloc();
-    let mut desk = gem_desk(alloc)?;
-    let mut hub = Hub::new(alloc, HOST)?;
-    let mut sinks = open_all(alloc, &mut hub, &mut desk)?;
-    for place in 0..300 {
-        send_each(&mut hub, &mut desk, &mut sinks, place);
-    }
+// Each is answered as it would be alone, and is closed.
+fn end_each(
+    rt: &impl Abort,
+    alloc: Global,
+    hub: &mut Hub,
+    desk: &mut PlainDesk,
+    sinks: &mut [LimitedSink],
+) -> Result<(), Fail> {
     for (id, sink) in (1..65u64).zip(sinks.iter_mut()) {
-        let want = alone(alloc, id)?;
-        assert_eq!(rt; sink.taken(), want.taken(), "{id}");
-        let end = hub.event(&mut desk, Event::Ended(id), sink);
+        assert!(rt; is_as_alone(alloc, id, sink.taken())?, "{id}");
+        let end = hub.event(desk, Event::Ended(id), sink);
         assert_eq!(rt; end, Err(HubFault::UnknownConnection), "{id}");
     }
     Ok(())
+}
+
+fn serve_all(
+    rt: &impl Abort,
+    alloc: Global,
+    hub: &mut Hub,
+    desk: &mut PlainDesk,
+) -> Result<(), Fail> {
+    let mut sinks = Vec::new(alloc);
+    open_all(alloc, hub, desk, &mut sinks)?;
+    for place in 0..300 {
+        send_each(hub, desk, &mut sinks, place);
+    }
+    end_each(rt, alloc, hub, desk, &mut sinks)
+}
+
+#[test]
+fn many_connections_octet_by_octet(rt: HostRuntime) -> Result<(), Fail> {
+    let mut hub = Hub::new(rt.alloc(), HOST)?;
+    let mut desk = gem_desk(rt.alloc())?;
+    serve_all(&rt, rt.alloc(), &mut hub, &mut desk)
 }
