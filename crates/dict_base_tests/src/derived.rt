@@ -4,7 +4,7 @@ use dict_derived::{
     search_laws, select, words_of,
 };
 use dict_match::{Key, Strategy, key_of, matches, words};
-use std::alloc::Global;
+use std::alloc::{AllocError, Global};
 use std::test::Fail;
 
 static EDGES: [&str; 22] = [
@@ -66,70 +66,125 @@ fn is_found(strategy: Strategy, query: &[u8], selection: &Selection, derived: &D
         && (!is_tested(strategy) || matches(strategy, query, derived.key.as_bytes()))
 }
 
+/// Whether the text is found by its selection in the same headwords of the list as by the strategy.
+fn finds_the_same(
+    alloc: Global,
+    strategy: Strategy,
+    text: &str,
+    list: &[Derived],
+) -> Result<bool, AllocError> {
+    let query = key_of(alloc, text)?;
+    let selection = select(alloc, strategy, query.as_bytes())?;
+    for derived in list {
+        let found = is_found(strategy, query.as_bytes(), &selection, derived);
+        if found != matches(strategy, query.as_bytes(), derived.key.as_bytes()) {
+            return Ok(false);
+        }
+    }
+    Ok(true)
+}
+
+/// The strategies by which it isn't, as text.
+fn told_others(alloc: Global, text: &str, list: &[Derived]) -> Result<String, AllocError> {
+    let mut told = String::new(alloc);
+    for strategy in Strategy::ALL {
+        if !finds_the_same(alloc, strategy, text, list)? {
+            told.push_str(strategy.name())?;
+        }
+    }
+    Ok(told)
+}
+
 #[test]
 fn the_edges_are_found_by_their_selections(rt: HostRuntime) -> Result<(), Fail> {
+    let mut list = Vec::new(rt.alloc());
+    for headword in &EDGES {
+        list.push(derive(rt.alloc(), headword)?)?;
+    }
     for text in &EDGES {
-        let query = key_of(rt.alloc(), text)?;
-        for strategy in Strategy::ALL {
-            let selection = select(rt.alloc(), strategy, query.as_bytes())?;
-            for headword in &EDGES {
-                let derived = derive(rt.alloc(), headword)?;
-                assert_eq!(rt;
-                    is_found(strategy, query.as_bytes(), &selection, &derived),
-                    matches(strategy, query.as_bytes(), derived.key.as_bytes()),
-                    "by {strategy:?}: {text:?} in {headword:?}"
-                );
-            }
-        }
+        assert_eq!(rt;
+            told_others(rt.alloc(), text, &list)?.as_str(),
+            "",
+            "{text:?}"
+        );
     }
     range_law();
     search_laws();
     Ok(())
 }
 
+static SELECTED: [(Strategy, &[u8], &str); 5] = [
+    (
+        Strategy::Prefix,
+        b"a\xff",
+        "Keys([97, 255], [97, 255, 255])",
+    ),
+    (
+        Strategy::Suffix,
+        b"ab",
+        "ReversedKeys([98, 97], [98, 97, 255])",
+    ),
+    (
+        Strategy::Substring,
+        b"abcd",
+        "Grams([97, 98, 99], [98, 99, 100])",
+    ),
+    (Strategy::Substring, b"ab", "All"),
+    (Strategy::Exact, b"", "Nothing"),
+];
+
+fn told_selection(alloc: Global, strategy: Strategy, query: &[u8]) -> Result<String, AllocError> {
+    let selection = select(alloc, strategy, query)?;
+    format!(in alloc; "{selection:?}")
+}
+
 #[test]
 fn octet_255_ends_a_range(rt: HostRuntime) -> Result<(), Fail> {
-    let alloc = rt.alloc();
-    assert_eq!(rt;
-        select(alloc, Strategy::Prefix, b"a\xff")?,
-        Selection::Keys(
-            Vec::from_slice(alloc, b"a\xff")?,
-            Vec::from_slice(alloc, b"a\xff\xff")?
-        )
-    );
-    assert_eq!(rt;
-        select(alloc, Strategy::Suffix, b"ab")?,
-        Selection::ReversedKeys(
-            Vec::from_slice(alloc, b"ba")?,
-            Vec::from_slice(alloc, b"ba\xff")?
-        )
-    );
-    assert_eq!(rt;
-        select(alloc, Strategy::Substring, b"abcd")?,
-        Selection::Grams(*b"abc", *b"bcd")
-    );
-    assert_eq!(rt; select(alloc, Strategy::Substring, b"ab")?, Selection::All);
-    assert_eq!(rt; select(alloc, Strategy::Exact, b"")?, Selection::Nothing);
+    for (strategy, query, told) in &SELECTED {
+        assert_eq!(rt;
+            told_selection(rt.alloc(), *strategy, query)?.as_str(),
+            *told
+        );
+    }
     Ok(())
+}
+
+// A key, its words and its grams, each with a comma behind it.
+static PIECES: [(&str, &str, &str); 5] = [
+    ("b a b c", "a,b,c,", " a , b ,a b,b a,b c,"),
+    ("abcabc", "abcabc,", "abc,bca,cab,"),
+    ("aaaa", "aaaa,", "aaa,"),
+    ("ab", "ab,", ""),
+    ("", "", ""),
+];
+
+fn push_piece(told: &mut String, piece: &[u8]) -> Result<(), AllocError> {
+    told.push_str(str::from_utf8(piece).unwrap_or("not UTF-8"))?;
+    told.push(',')
+}
+
+fn told_words(alloc: Global, key: &[u8]) -> Result<String, AllocError> {
+    let mut told = String::new(alloc);
+    for word in &words_of(alloc, key)? {
+        push_piece(&mut told, word)?;
+    }
+    Ok(told)
+}
+
+fn told_grams(alloc: Global, key: &[u8]) -> Result<String, AllocError> {
+    let mut told = String::new(alloc);
+    for gram in &grams_of(alloc, key)? {
+        push_piece(&mut told, gram)?;
+    }
+    Ok(told)
 }
 
 #[test]
 fn words_and_grams_once_and_in_order(rt: HostRuntime) -> Result<(), Fail> {
-    let found = words_of(rt.alloc(), b"b a b c")?;
-    let mut left = found.iter();
-    assert_eq!(rt; left.next(), Some(&b"a".as_slice()));
-    assert_eq!(rt; left.next(), Some(&b"b".as_slice()));
-    assert_eq!(rt; left.next(), Some(&b"c".as_slice()));
-    assert_eq!(rt; left.next(), None);
-    let found = grams_of(rt.alloc(), b"abcabc")?;
-    let mut left = found.iter();
-    assert_eq!(rt; left.next(), Some(b"abc"));
-    assert_eq!(rt; left.next(), Some(b"bca"));
-    assert_eq!(rt; left.next(), Some(b"cab"));
-    assert_eq!(rt; left.next(), None);
-    assert_eq!(rt; grams_of(rt.alloc(), b"aaaa")?.len(), 1);
-    assert_eq!(rt; grams_of(rt.alloc(), b"ab")?.len(), 0);
-    assert_eq!(rt; words_of(rt.alloc(), b"")?.len(), 0);
+    for (key, words, grams) in &PIECES {
+        assert_eq!(rt; told_words(rt.alloc(), key.as_bytes())?.as_str(), *words);
+        assert_eq!(rt; told_grams(rt.alloc(), key.as_bytes())?.as_str(), *grams);
+    }
     Ok(())
 }
 
@@ -142,7 +197,7 @@ fn draw(state: &mut u64) -> u64 {
 }
 
 /// A headword of one to three short words over few letters, so that many have parts in common.
-fn headword(alloc: Global, state: &mut u64) -> Result<String, Fail> {
+fn headword(alloc: Global, state: &mut u64) -> Result<String, AllocError> {
     let mut text = String::new(alloc);
     for _ in 0..1 + draw(state) % 3 {
         text.push(' ')?;
@@ -171,77 +226,60 @@ fn selections_find_what_the_whole_list_has(rt: HostRuntime) -> Result<(), Fail> 
     }
     for _ in 0..20 {
         let text = headword(alloc, &mut state)?;
-        let query = key_of(alloc, &text)?;
-        for strategy in Strategy::ALL {
-            let selection = select(alloc, strategy, query.as_bytes())?;
-            for derived in &list {
-                assert_eq!(rt;
-                    is_found(strategy, query.as_bytes(), &selection, derived),
-                    matches(strategy, query.as_bytes(), derived.key.as_bytes()),
-                    "by {strategy:?}: {text:?}"
-                );
-            }
-        }
+        assert_eq!(rt; told_others(alloc, &text, &list)?.as_str(), "", "{text:?}");
     }
     Ok(())
 }
 
-/// A reader of the words of two keys, "b a" and "a".
-fn two_keys(alloc: Global) -> Result<Vec<Key>, Fail> {
-    let mut keys = Vec::new(alloc);
+// Rows of a table for the keys "b a" and "a" of edition 7: an edition, a piece, a place.
+static WORDS: [(i64, &[u8], i64); 4] = [(7, b"a", 0), (7, b"a", 1), (7, b"b", 0), (7, b"b", 0)];
+
+static GRAMS: [(i64, &[u8], i64); 1] = [(7, b"b a", 0)];
+
+// Of another edition, of no key, no word of its key, of a place before the first; one that is due, and one that stands behind it out of order.
+static OTHERS: [(i64, &[u8], i64); 6] = [
+    (8, b"a", 0),
+    (7, b"a", 2),
+    (7, b"b", 1),
+    (7, b"a", -1),
+    (7, b"b", 0),
+    (7, b"a", 0),
+];
+
+/// Takes the rows: for each a `+` where it is taken and a `-` where it is refused, and behind them what the end says.
+fn told_taken(
+    alloc: Global,
+    pieces: Pieces,
+    rows: &[(i64, &[u8], i64)],
+) -> Result<String, AllocError> {
+    let mut keys: Vec<Key> = Vec::new(alloc);
     keys.push(key_of(alloc, "b a")?)?;
     keys.push(key_of(alloc, "a")?)?;
-    Ok(keys)
+    let mut reader = PieceReader::begin(alloc, pieces, 7, &keys)?;
+    let mut told = String::new(alloc);
+    for (edition, piece, place) in rows {
+        let row = reader.take(*edition, Vec::from_slice(alloc, piece)?, *place);
+        told.push(if row == Err(NotDerived) { '-' } else { '+' })?;
+    }
+    told.push_str(if reader.finish() == Err(NotDerived) {
+        " others"
+    } else {
+        " all"
+    })?;
+    Ok(told)
 }
 
 #[test]
-fn the_derived_rows_are_taken(rt: HostRuntime) -> Result<(), Fail> {
+fn the_derived_rows_are_taken_and_no_others(rt: HostRuntime) -> Result<(), Fail> {
     let alloc = rt.alloc();
-    let keys = two_keys(alloc)?;
-    let mut reader = PieceReader::begin(alloc, Pieces::Words, 7, &keys)?;
-    assert_eq!(rt; reader.take(7, Vec::from_slice(alloc, b"a")?, 0), Ok(()));
-    assert_eq!(rt; reader.take(7, Vec::from_slice(alloc, b"a")?, 1), Ok(()));
-    assert_eq!(rt; reader.take(7, Vec::from_slice(alloc, b"b")?, 0), Ok(()));
     assert_eq!(rt;
-        reader.take(7, Vec::from_slice(alloc, b"b")?, 0),
-        Err(NotDerived)
+        told_taken(alloc, Pieces::Words, &WORDS)?.as_str(),
+        "+++- all"
     );
-    assert_eq!(rt; reader.finish(), Ok(()));
-    let mut grams = PieceReader::begin(alloc, Pieces::Grams, 7, &keys)?;
-    assert_eq!(rt; grams.take(7, Vec::from_slice(alloc, b"b a")?, 0), Ok(()));
-    assert_eq!(rt; grams.finish(), Ok(()));
-    Ok(())
-}
-
-#[test]
-fn other_rows_are_refused(rt: HostRuntime) -> Result<(), Fail> {
-    let alloc = rt.alloc();
-    let keys = two_keys(alloc)?;
-    let mut reader = PieceReader::begin(alloc, Pieces::Words, 7, &keys)?;
-    // of another edition, of no key, no word of its key, of a place before the first
+    assert_eq!(rt; told_taken(alloc, Pieces::Grams, &GRAMS)?.as_str(), "+ all");
     assert_eq!(rt;
-        reader.take(8, Vec::from_slice(alloc, b"a")?, 0),
-        Err(NotDerived)
+        told_taken(alloc, Pieces::Words, &OTHERS)?.as_str(),
+        "----+- others"
     );
-    assert_eq!(rt;
-        reader.take(7, Vec::from_slice(alloc, b"a")?, 2),
-        Err(NotDerived)
-    );
-    assert_eq!(rt;
-        reader.take(7, Vec::from_slice(alloc, b"b")?, 1),
-        Err(NotDerived)
-    );
-    assert_eq!(rt;
-        reader.take(7, Vec::from_slice(alloc, b"a")?, -1),
-        Err(NotDerived)
-    );
-    assert_eq!(rt; reader.take(7, Vec::from_slice(alloc, b"b")?, 0), Ok(()));
-    // out of order
-    assert_eq!(rt;
-        reader.take(7, Vec::from_slice(alloc, b"a")?, 0),
-        Err(NotDerived)
-    );
-    // rows are missing
-    assert_eq!(rt; reader.finish(), Err(NotDerived));
     Ok(())
 }

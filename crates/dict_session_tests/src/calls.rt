@@ -27,28 +27,40 @@ fn calls_for(reply: &Reply) -> Result<usize, Fail> {
     Ok(sink.into_inner().calls)
 }
 
+static CALLS: [(Reply<'static>, usize); 6] = [
+    (
+        Reply::Banner {
+            host: "localhost",
+            connection: 1,
+        },
+        1,
+    ),
+    (Reply::MatchCount(12), 1),
+    (
+        Reply::ListLine {
+            name: "gem",
+            text: "Opal, \"fire\"",
+        },
+        1,
+    ),
+    (
+        Reply::Definition {
+            headword: "a\"b",
+            name: "gem",
+            title: "Gems",
+            body: b"x\n.y\n",
+        },
+        2,
+    ),
+    (Reply::InfoText(b"x\n.y\n"), 1),
+    (Reply::Help, 1),
+];
+
 // A line is written by one call, and so is a short text.
 #[test]
 fn a_writer_is_called_once_a_line(rt: HostRuntime) -> Result<(), Fail> {
-    let banner = Reply::Banner {
-        host: "localhost",
-        connection: 1,
-    };
-    let definition = Reply::Definition {
-        headword: "a\"b",
-        name: "gem",
-        title: "Gems",
-        body: b"x\n.y\n",
-    };
-    let row = Reply::ListLine {
-        name: "gem",
-        text: "Opal, \"fire\"",
-    };
-    assert_eq!(rt; calls_for(&banner)?, 1);
-    assert_eq!(rt; calls_for(&Reply::MatchCount(12))?, 1);
-    assert_eq!(rt; calls_for(&row)?, 1);
-    assert_eq!(rt; calls_for(&definition)?, 2);
-    assert_eq!(rt; calls_for(&Reply::InfoText(b"x\n.y\n"))?, 1);
-    assert_eq!(rt; calls_for(&Reply::Help)?, 1);
+    for (reply, calls) in &CALLS {
+        assert_eq!(rt; calls_for(reply)?, *calls);
+    }
     Ok(())
 }

@@ -35,7 +35,7 @@ pub(crate) const STONES: Files = Files(
     b"00-database-short\n  Stones\nx\ny\n.x\ny\n",
 );
 
-///// Applies a command, and forgets its reply.
+/// Applies a command, and forgets its reply.
 pub(crate) fn apply(desk: &mut PlainDesk, id: &str, command: &Command) -> Result<(), Fail> {
     desk.apply(id, command)?;
     Ok(())

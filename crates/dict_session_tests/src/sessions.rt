@@ -1,10 +1,8 @@
 // Sessions over catalogues in memory.
 use crate::files::{GEM, STONES, desk_of, ore_gem_all};
-use dict_desk::PlainDesk;
+use dict_desk::{Lookup, PlainDesk};
 use dict_io::{LimitedSink, OverRead};
-use dict_session::{
-    End, Session, Step, is_host, one_cut, run, session_lines_are_short, spoken_answers,
-};
+use dict_session::{Session, Step, is_host, one_cut, run, session_lines_are_short, spoken_answers};
 use std::alloc::Global;
 use std::process::Abort;
 use std::test::Fail;
@@ -144,147 +142,206 @@ static EMPTY_ROWS: [Row; 5] = [
     ("STATUS\r\n", false, "210 0 databases\r\n"),
 ];
 
-/// Runs the rows whole.
-pub(crate) fn run_rows(
-    rt: &impl Abort,
-    alloc: Global,
-    desk: &mut PlainDesk,
-    rows: &[Row],
-) -> Result<(), Fail> {
-    for (input, is_over, answers) in rows {
-        let mut reader = OverRead::new(input.as_bytes());
-        let mut writer = LimitedSink::new(alloc, 1000)?;
-        let end = run(alloc, &mut reader, &mut writer, desk, "gems.test", 7);
-        let over = if *is_over { End::Quit } else { End::InputEnd };
-        let want = format!(in alloc; "220 gems.test dictcat ready <7@gems.test>\r\n{answers}")?;
-        assert_eq!(rt; end, Ok(over), "{input}");
-        assert_eq!(rt; writer.taken(), want.as_bytes(), "{input}");
-    }
-    Ok(())
+/// What came to a sink, as text.
+pub(crate) fn text_of(sink: &LimitedSink) -> &str {
+    str::from_utf8(sink.taken()).unwrap_or("not UTF-8")
 }
 
-// What comes of a first piece, a second one, and then of other octets one by one; after a QUIT or a fault of the sink
-// they come to the same.
-fn fed(
+/// How a run of this input ends, and all that it writes into a sink with this room.
+pub(crate) fn told_run<D: Lookup>(
     alloc: Global,
-    desk: &mut PlainDesk,
-    first: &[u8],
-    second: &[u8],
-    others: &[u8],
+    desk: &mut D,
+    input: &str,
     room: usize,
-) -> Result<(Step, LimitedSink), Fail> {
-    let mut session = Session::new(alloc, "gems.test", 7)?;
+) -> Result<String, Fail> {
+    let mut reader = OverRead::new(input.as_bytes());
     let mut writer = LimitedSink::new(alloc, room)?;
-    session.feed(alloc, first, desk, &mut writer);
-    let mut step = session.feed(alloc, second, desk, &mut writer);
-    for octet in others {
-        step = session.feed(alloc, &[*octet], desk, &mut writer);
-    }
-    Ok((step, writer))
+    let end = run(alloc, &mut reader, &mut writer, desk, "gems.test", 7);
+    let written = text_of(&writer);
+    Ok(format!(in alloc; "{end:?} {written}")?)
 }
 
-/// Feeds the rows octet by octet, and cut in two at each place.
-pub(crate) fn feed_rows(
+// Runs the rows whole.
+fn run_rows(
     rt: &impl Abort,
     alloc: Global,
     desk: &mut PlainDesk,
     rows: &[Row],
 ) -> Result<(), Fail> {
     for (input, is_over, answers) in rows {
-        let want = if *is_over { Step::Quit } else { Step::More };
-        let octets = input.as_bytes();
-        let (step, writer) = fed(alloc, desk, b"", b"", octets, 1000)?;
-        assert_eq!(rt; step, want, "{input}");
-        assert_eq!(rt; writer.taken(), answers.as_bytes(), "{input}");
-        for place in 0..=octets.len() {
-            let (first, second) = octets.split_at(place);
-            let (step, writer) = fed(alloc, desk, first, second, b"", 1000)?;
-            assert_eq!(rt; step, want, "{input} at {place}");
-            assert_eq!(rt; writer.taken(), answers.as_bytes(), "{input} at {place}");
-        }
+        let end = if *is_over { "Quit" } else { "InputEnd" };
+        let want = format!(in alloc;
+            "Ok({end}) 220 gems.test dictcat ready <7@gems.test>\r\n{answers}"
+        )?;
+        assert_eq!(rt; told_run(alloc, desk, input, 1000)?.as_str(), want.as_str());
     }
     Ok(())
 }
+
+// Feeds two pieces, and then other octets one by one.
+fn feed<D: Lookup>(
+    alloc: Global,
+    session: &mut Session,
+    desk: &mut D,
+    pieces: (&[u8], &[u8], &[u8]),
+    sink: &mut LimitedSink,
+) -> Step {
+    session.feed(alloc, pieces.0, desk, sink);
+    let mut step = session.feed(alloc, pieces.1, desk, sink);
+    for octet in pieces.2 {
+        step = session.feed(alloc, &[*octet], desk, sink);
+    }
+    step
+}
+
+// Feeds them to a new session.
+fn feed_new<D: Lookup>(
+    alloc: Global,
+    desk: &mut D,
+    pieces: (&[u8], &[u8], &[u8]),
+    sink: &mut LimitedSink,
+) -> Result<Step, Fail> {
+    let mut session = Session::new(alloc, "gems.test", 7)?;
+    Ok(feed(alloc, &mut session, desk, pieces, sink))
+}
+
+/// What a new session comes to by two pieces and then other octets one by one, and what it writes into a sink with this
+/// room; after a QUIT or a fault of the sink each octet comes to the same.
+pub(crate) fn told_feed<D: Lookup>(
+    alloc: Global,
+    desk: &mut D,
+    pieces: (&[u8], &[u8], &[u8]),
+    room: usize,
+) -> Result<String, Fail> {
+    let mut sink = LimitedSink::new(alloc, room)?;
+    let step = feed_new(alloc, desk, pieces, &mut sink)?;
+    let written = text_of(&sink);
+    Ok(format!(in alloc; "{step:?} {written}")?)
+}
+
+// Feeds a row cut in two at each place.
+fn feed_cut(
+    rt: &impl Abort,
+    alloc: Global,
+    desk: &mut PlainDesk,
+    input: &[u8],
+    want: &str,
+) -> Result<(), Fail> {
+    for place in 0..=input.len() {
+        let (first, second) = input.split_at(place);
+        let told = told_feed(alloc, desk, (first, second, b""), 1000)?;
+        assert_eq!(rt; told.as_str(), want, "cut at {place}");
+    }
+    Ok(())
+}
+
+// Feeds the rows octet by octet, and cut in two at each place.
+fn feed_rows(
+    rt: &impl Abort,
+    alloc: Global,
+    desk: &mut PlainDesk,
+    rows: &[Row],
+) -> Result<(), Fail> {
+    for (input, is_over, answers) in rows {
+        let step = if *is_over { "Quit" } else { "More" };
+        let want = format!(in alloc; "{step} {answers}")?;
+        let told = told_feed(alloc, desk, (b"", b"", input.as_bytes()), 1000)?;
+        assert_eq!(rt; told.as_str(), want.as_str());
+        feed_cut(rt, alloc, desk, input.as_bytes(), &want)?;
+    }
+    Ok(())
+}
+
+/// Runs the rows whole, and feeds them octet by octet and cut in two at each place.
+pub(crate) fn answer_rows(
+    rt: &impl Abort,
+    alloc: Global,
+    desk: &mut PlainDesk,
+    rows: &[Row],
+) -> Result<(), Fail> {
+    run_rows(rt, alloc, desk, rows)?;
+    feed_rows(rt, alloc, desk, rows)
+}
+
+// Over `stones` and `gem`.
+static BOTH_ROWS: [Row; 2] = [
+    (
+        "DEFINE * opal\r\n",
+        false,
+        "150 2 definitions retrieved\r\n151 \"opal\" stones \"Stones\"\r\nx\r\n.\r\n151 \"opal\" gem \"Gems\"\r\nopal\r\n  a stone\r\n.\r\n250 ok\r\n",
+    ),
+    (
+        "MATCH * exact opal\r\n",
+        false,
+        "152 2 matches found\r\nstones \"opal\"\r\ngem \"opal\"\r\n.\r\n250 ok\r\n",
+    ),
+];
 
 #[test]
 fn answers_over_one_database(rt: HostRuntime) -> Result<(), Fail> {
-    let alloc = rt.alloc();
-    let mut desk = desk_of(alloc, &[STONES])?;
-    run_rows(&rt, alloc, &mut desk, &STONES_ROWS)?;
-    feed_rows(&rt, alloc, &mut desk, &STONES_ROWS)?;
     one_cut();
     spoken_answers();
     session_lines_are_short();
-    Ok(())
+    let mut desk = desk_of(rt.alloc(), &[STONES])?;
+    answer_rows(&rt, rt.alloc(), &mut desk, &STONES_ROWS)
 }
 
 #[test]
 fn answers_over_several_databases(rt: HostRuntime) -> Result<(), Fail> {
-    let alloc = rt.alloc();
-    let mut desk = ore_gem_all(alloc)?;
-    run_rows(&rt, alloc, &mut desk, &ALL_ROWS)?;
-    feed_rows(&rt, alloc, &mut desk, &ALL_ROWS)
+    let mut desk = ore_gem_all(rt.alloc())?;
+    answer_rows(&rt, rt.alloc(), &mut desk, &ALL_ROWS)
 }
 
 #[test]
 fn answers_over_no_database(rt: HostRuntime) -> Result<(), Fail> {
-    let alloc = rt.alloc();
-    let mut desk = PlainDesk::new(alloc);
-    run_rows(&rt, alloc, &mut desk, &EMPTY_ROWS)?;
-    feed_rows(&rt, alloc, &mut desk, &EMPTY_ROWS)
+    let mut desk = PlainDesk::new(rt.alloc());
+    answer_rows(&rt, rt.alloc(), &mut desk, &EMPTY_ROWS)
 }
 
 #[test]
 fn equal_headwords_stand_under_their_databases(rt: HostRuntime) -> Result<(), Fail> {
-    let alloc = rt.alloc();
-    let mut desk = desk_of(alloc, &[STONES, GEM])?;
-    let rows: [Row; 2] = [
-        (
-            "DEFINE * opal\r\n",
-            false,
-            "150 2 definitions retrieved\r\n151 \"opal\" stones \"Stones\"\r\nx\r\n.\r\n151 \"opal\" gem \"Gems\"\r\nopal\r\n  a stone\r\n.\r\n250 ok\r\n",
-        ),
-        (
-            "MATCH * exact opal\r\n",
-            false,
-            "152 2 matches found\r\nstones \"opal\"\r\ngem \"opal\"\r\n.\r\n250 ok\r\n",
-        ),
-    ];
-    run_rows(&rt, alloc, &mut desk, &rows)
+    let mut desk = desk_of(rt.alloc(), &[STONES, GEM])?;
+    answer_rows(&rt, rt.alloc(), &mut desk, &BOTH_ROWS)
 }
 
-#[test]
-fn a_full_sink_breaks_a_list_off(rt: HostRuntime) -> Result<(), Fail> {
-    let alloc = rt.alloc();
-    let mut desk = desk_of(alloc, &[STONES])?;
+fn break_off(rt: &impl Abort, alloc: Global, desk: &mut PlainDesk) -> Result<(), Fail> {
     for room in 0..ALL_STONES.len() {
-        let (step, writer) = fed(
-            alloc,
-            &mut desk,
-            b"MATCH stones substring a\r",
-            b"\n",
-            b"STATUS\r\n",
-            room,
-        )?;
-        assert_eq!(rt; step, Step::Broken, "room for {room}");
-        assert_eq!(rt; Some(writer.taken()), ALL_STONES.as_bytes().get(..room));
+        let pieces = (
+            b"MATCH stones substring a\r".as_slice(),
+            b"\n".as_slice(),
+            b"STATUS\r\n".as_slice(),
+        );
+        let told = told_feed(alloc, desk, pieces, room)?;
+        let front = ALL_STONES.get(..room);
+        assert_eq!(rt; told.strip_prefix("Broken "), front);
     }
     Ok(())
 }
 
 #[test]
-fn a_full_sink_breaks_the_greeting_off(rt: HostRuntime) -> Result<(), Fail> {
-    let alloc = rt.alloc();
-    let mut desk = desk_of(alloc, &[STONES])?;
-    let mut session = Session::new(alloc, "gems.test", 7)?;
+fn a_full_sink_breaks_a_list_off(rt: HostRuntime) -> Result<(), Fail> {
+    let mut desk = desk_of(rt.alloc(), &[STONES])?;
+    break_off(&rt, rt.alloc(), &mut desk)
+}
+
+// What a session comes to by its greeting into a sink with room for three octets, and what comes to another sink by a
+// second greeting and a line.
+fn told_greeting(alloc: Global, session: &mut Session) -> Result<String, Fail> {
+    let mut desk = PlainDesk::new(alloc);
     let mut full = LimitedSink::new(alloc, 3)?;
-    assert_eq!(rt; session.greet(&mut full), Step::Broken);
-    assert_eq!(rt; full.taken(), b"220".as_slice());
-    let mut sink = LimitedSink::new(alloc, 1000)?;
-    assert_eq!(rt; session.greet(&mut sink), Step::Broken);
-    let step = session.feed(alloc, b"STATUS\r\n", &mut desk, &mut sink);
-    assert_eq!(rt; step, Step::Broken);
-    assert!(rt; sink.taken().is_empty());
+    let mut other = LimitedSink::new(alloc, 1000)?;
+    let first = session.greet(&mut full);
+    let second = session.greet(&mut other);
+    let third = session.feed(alloc, b"STATUS\r\n", &mut desk, &mut other);
+    let (written, more) = (text_of(&full), text_of(&other));
+    Ok(format!(in alloc; "{first:?} {written} {second:?} {third:?} {more}")?)
+}
+
+#[test]
+fn a_full_sink_breaks_the_greeting_off(rt: HostRuntime) -> Result<(), Fail> {
+    let mut session = Session::new(rt.alloc(), "gems.test", 7)?;
+    let told = told_greeting(rt.alloc(), &mut session)?;
+    assert_eq!(rt; told.as_str(), "Broken 220 Broken Broken ");
     Ok(())
 }
 
