@@ -4,8 +4,12 @@ use std::io::{ErrorKind, Read, Result as IoResult, Write};
 use std::net::{Net, Shutdown, SocketAddr, TcpStream};
 use std::test::Fail;
 
-// What fills a text: 64 lines.
+// What fills a text.
 static FILLER: [u8; 4_096] = [b'x'; 4_096];
+
+// A line of an index, of 128 octets: a headword of 123 octets, and the interval of the text of `opal` in `gem`.
+static LINE: &[u8] =
+    b"xxxxxxxxxxxxxxxxxxxxxxxxxxxxxxxxxxxxxxxxxxxxxxxxxxxxxxxxxxxxxxxxxxxxxxxxxxxxxxxxxxxxxxxxxxxxxxxxxxxxxxxxxxxxxxxxxxxxxxxxxxx\tZ\tP\n";
 
 /// One end of a connection, and what came to it.
 #[derive(Drop)]
@@ -44,6 +48,14 @@ impl Client {
     /// Sends 4,096 octets.
     pub(crate) fn fill(&mut self) -> Result<(), Fail> {
         self.send(&FILLER)
+    }
+
+    /// Sends 32 lines of an index, 4,096 octets.
+    pub(crate) fn fill_index(&mut self) -> Result<(), Fail> {
+        for _ in 0..32u32 {
+            self.send(LINE)?;
+        }
+        Ok(())
     }
 
     /// Sends nothing more.

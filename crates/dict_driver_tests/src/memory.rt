@@ -103,17 +103,33 @@ static DRAINED: [Stage; 4] = [
     Stage::Over,
 ];
 
+// These stages, a turn each.
+fn turn_by_turn(run: &mut Run, stages: &[Stage]) -> Result<(), Fail> {
+    for want in stages {
+        run.turn(*want)?;
+    }
+    Ok(())
+}
+
+// The same of a new connection.
+fn run_anew(
+    alloc: Global,
+    coming: &'static [u8],
+    room: usize,
+    stages: &[Stage],
+) -> Result<u64, Fail> {
+    let mut run = Run::new(alloc, coming, room)?;
+    turn_by_turn(&mut run, stages)?;
+    Ok(run.one.id())
+}
+
 #[test]
 fn stages(rt: HostRuntime) -> Result<(), Fail> {
-    let mut run = Run::new(rt.alloc(), b"STATUS\r\n", 10)?;
-    assert_eq!(rt; run.one.id(), 7);
-    for want in &BY_TENS {
-        run.turn(*want)?;
-    }
-    let mut run = Run::new(rt.alloc(), b"QUIT\r\nS\r\nSTATUS\r\n", 100)?;
-    for want in &DRAINED {
-        run.turn(*want)?;
-    }
+    assert_eq!(rt; run_anew(rt.alloc(), b"STATUS\r\n", 10, &BY_TENS)?, 7);
+    assert_eq!(rt;
+        run_anew(rt.alloc(), b"QUIT\r\nS\r\nSTATUS\r\n", 100, &DRAINED)?,
+        7
+    );
     Ok(())
 }
 

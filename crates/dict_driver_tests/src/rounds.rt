@@ -1,23 +1,30 @@
 // So many rounds, one after another.
 use crate::serving::{Play, Step};
 use dict_driver::{Served, pace};
+use std::net::{Net, TcpStream};
 use std::test::Fail;
 
-// They are counted.
-#[test]
-fn three_rounds(rt: HostRuntime) -> Result<(), Fail> {
-    let mut play = Play::new(&rt, rt.alloc())?;
-    play.run(&rt, &[Step::Reader])?;
+// They are counted: how many there were, or none where they weren't made.
+fn count_three(net: &impl Net<Stream = TcpStream>, play: &mut Play) -> Result<u64, Fail> {
+    play.run(net, &[Step::Reader])?;
     play.client(0)?.send(b"STATUS\r\n")?;
     let before = play.driver.rounds();
     let (rounds, wait) = pace(Some(3));
     let end = play.serve(rounds, wait)?;
-    assert!(rt; end == Served::Whole && play.driver.rounds() == before.saturating_add(3));
+    let made = play.driver.rounds().saturating_sub(before);
     play.run(
-        &rt,
+        net,
         &[Step::Got(
             0,
             "220 localhost dictcat ready <1@localhost>\r\n210 0 databases\r\n",
         )],
-    )
+    )?;
+    Ok(if end == Served::Whole { made } else { 0 })
+}
+
+#[test]
+fn three_rounds(rt: HostRuntime) -> Result<(), Fail> {
+    let mut play = Play::new(&rt, rt.alloc())?;
+    assert_eq!(rt; count_three(&rt, &mut play)?, 3);
+    Ok(())
 }

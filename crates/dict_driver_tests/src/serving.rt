@@ -27,6 +27,8 @@ pub(crate) enum Step {
     LastSends(&'static str),
     /// A client sends 4,096 octets.
     Fill(usize),
+    /// A client sends 32 lines of an index, 4,096 octets.
+    FillIndex(usize),
     /// A client sends nothing more.
     End(usize),
     /// This alone has come to a client since the last such step.
@@ -127,6 +129,7 @@ impl Play {
             Step::Send(who, text) => self.client(who)?.send(text.as_bytes()),
             Step::LastSends(text) => self.last()?.send(text.as_bytes()),
             Step::Fill(who) => self.client(who)?.fill(),
+            Step::FillIndex(who) => self.client(who)?.fill_index(),
             Step::End(who) => self.client(who)?.end(),
             Step::Got(who, text) => self.client(who)?.got(text.as_bytes()),
             Step::HasEnded(who) => ended(self.client(who)?.has_ended),

@@ -1,5 +1,6 @@
 // Readers and editors at one driver.
 use crate::serving::{Part, Play, Step, run_all};
+use std::net::{Net, TcpStream};
 use std::test::Fail;
 use std::time::Duration;
 
@@ -106,18 +107,30 @@ fn an_octet_a_round(rt: HostRuntime) -> Result<(), Fail> {
     run_all(&rt, &[Part(1, &AN_OCTET_A_ROUND)])
 }
 
-// An edition with a text of 1 MiB comes in many pieces, and a reader asks between them.
+// An edition of 25,157,738 octets, of an index of 65,508 lines and a text of almost 16 MiB, comes in pieces of 4,096, and a
+// reader asks between them.
 static BEFORE_THE_PIECES: [Step; 4] = [
     Step::Reader,
     Step::Got(0, FIRST),
     Step::Editor,
     Step::Send(
         1,
-        "PUT /databases/gem HTTP/1.1\r\nRequest-Id: r1\r\nContent-Length: 1048677\r\n\r\n53\n00-database-short\tA\tZ\nopal\tZ\tP\nFire Opal\tZ\tP\ndot\to\tF\n00-database-short\n  Gems\nopal\n  a stone\n.dot\n",
+        "PUT /databases/gem HTTP/1.1\r\nRequest-Id: r1\r\nContent-Length: 25157738\r\n\r\n8384565\n00-database-short\tA\tZ\nopal\tZ\tP\nFire Opal\tZ\tP\ndot\to\tF\n",
     ),
 ];
 
-static A_PIECE: [Step; 3] = [
+static A_PIECE_OF_THE_INDEX: [Step; 3] = [
+    Step::Send(0, "DEFINE gem opal\r\n"),
+    Step::Got(0, UNKNOWN),
+    Step::FillIndex(1),
+];
+
+static BETWEEN_THE_PIECES: [Step; 2] = [
+    Step::Send(1, "00-database-short\n  Gems\nopal\n  a stone\n.dot\n"),
+    Step::Got(1, ""),
+];
+
+static A_PIECE_OF_THE_TEXT: [Step; 3] = [
     Step::Send(0, "DEFINE gem opal\r\n"),
     Step::Got(0, UNKNOWN),
     Step::Fill(1),
@@ -135,23 +148,29 @@ fn an_install_in_pieces(rt: HostRuntime) -> Result<(), Fail> {
         &rt,
         &[
             Part(1, &BEFORE_THE_PIECES),
-            Part(256, &A_PIECE),
+            Part(2_047, &A_PIECE_OF_THE_INDEX),
+            Part(1, &BETWEEN_THE_PIECES),
+            Part(4_095, &A_PIECE_OF_THE_TEXT),
             Part(1, &AFTER_THE_PIECES),
         ],
     )
 }
 
 // Where nothing comes, nothing happens in a round, and a wait ends.
-#[test]
-fn an_idle_round(rt: HostRuntime) -> Result<(), Fail> {
-    let mut play = Play::new(&rt, rt.alloc())?;
+fn be_idle(net: &impl Net<Stream = TcpStream>, play: &mut Play) -> Result<(), Fail> {
     play.settle()?;
     play.driver.wait(Duration::from_millis(10))?;
-    play.run(&rt, &[Step::Reader, Step::Got(0, FIRST)])?;
+    play.run(net, &[Step::Reader, Step::Got(0, FIRST)])?;
     play.client(0)?.send(b"STATUS\r\n")?;
     play.driver.wait(Duration::from_millis(10_000))?;
     play.run(
-        &rt,
+        net,
         &[Step::Got(0, ""), Step::Got(0, "210 0 databases\r\n")],
     )
+}
+
+#[test]
+fn an_idle_round(rt: HostRuntime) -> Result<(), Fail> {
+    let mut play = Play::new(&rt, rt.alloc())?;
+    be_idle(&rt, &mut play)
 }
