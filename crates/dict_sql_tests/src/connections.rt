@@ -5,7 +5,8 @@ ghost use Rattle.sqlite_disk.specs.Memory.{memory_is_usable};
 
 use sqlite::{Alter, Connection, Error, FileStore, Files, Options};
 use sqlite_disk::Memory;
-use std::alloc::Global;
+use std::alloc::{AllocError, Global};
+use std::fmt::Debug;
 
 /// Runs a text of a test's own.
 pub(crate) fn raw<S: Alter>(conn: &mut Connection<S>, text: &str) -> Result<(), Error> {
@@ -15,6 +16,11 @@ pub(crate) fn raw<S: Alter>(conn: &mut Connection<S>, text: &str) -> Result<(), 
 /// The number that a text of a test's own answers.
 pub(crate) fn number<S: Alter>(conn: &mut Connection<S>, text: &str) -> Result<i64, Error> {
     conn.query_row(text, &[])?.get(0)
+}
+
+/// Records, as text.
+pub(crate) fn told<R: Debug>(alloc: Global, records: &[R]) -> Result<String, AllocError> {
+    format!(in alloc; "{records:?}")
 }
 
 /// Opens the two files.

@@ -55,8 +55,7 @@ fn fill<S: Alter>(rt: &impl Abort, alloc: Global, conn: &mut Connection<S>) -> R
 // The tables stand as they were filled, and the others too.
 fn look<S: Alter>(rt: &impl Abort, alloc: Global, conn: &mut Connection<S>) -> Result<(), Fail> {
     entries::look(rt, alloc, conn)?;
-    pieces::look_at_words(rt, alloc, conn)?;
-    pieces::look_at_grams(rt, alloc, conn)?;
+    pieces::look(rt, alloc, conn)?;
     assert_eq!(rt; number(conn, "SELECT count(*) FROM first")?, 1);
     assert_eq!(rt; number(conn, "SELECT count(*) FROM last")?, 2);
     Ok(())

@@ -12,7 +12,6 @@ use dict_store::Desk;
 use sqlite::{Alter, Connection, FileStore, Files, Options};
 use sqlite_disk::{Crash, Disk};
 use std::alloc::Global;
-use std::test::Fail;
 
 fn options() -> Options {
     let mut options = Options::new(1);
@@ -20,24 +19,26 @@ fn options() -> Options {
     options
 }
 
-// A connection over a new catalogue on two disks.
-fn conn_over<D: Disk + Drop>(
-    alloc: Global,
-    files: Files<D>,
-) -> Result<Connection<FileStore<D>>, Fail> {
+// A database on two disks.
+fn opened<D: Disk + Drop>(alloc: Global, files: Files<D>) -> Option<Connection<FileStore<D>>> {
     if !files.may_be_used() {
-        return Err("fresh")?;
+        return None;
     }
-    let Ok(conn) = Connection::open_files(alloc, files, options()) else {
-        return Err("not opened")?;
-    };
+    match Connection::open_files(alloc, files, options()) {
+        Ok(conn) => Some(conn),
+        Err(_) => None,
+    }
+}
+
+// A new catalogue in it.
+fn made<S: Alter + Drop>(alloc: Global, conn: Connection<S>) -> Option<Connection<S>> {
     if !conn.is_autocommit() {
-        return Err("in a transaction")?;
+        return None;
     }
-    let Ok(desk) = Desk::create(alloc, conn) else {
-        return Err("not made")?;
-    };
-    Ok(desk.into_connection())
+    match Desk::create(alloc, conn) {
+        Ok(desk) => Some(desk.into_connection()),
+        Err(_) => None,
+    }
 }
 
 // The desk of the catalogue in a database.
@@ -77,13 +78,16 @@ pub(crate) struct Disks<D: Crash + Drop> {
 }
 
 impl<D: Crash + Drop> Disks<D> {
-    /// A new catalogue on two disks.
-    pub(crate) fn new(alloc: Global, files: Files<D>) -> Result<Disks<D>, Fail> {
-        Ok(Disks {
+    /// A new catalogue on two disks. Where it can't be made, there is none to open.
+    pub(crate) fn new(alloc: Global, files: Files<D>) -> Disks<D> {
+        Disks {
             alloc,
-            conn: Some(conn_over(alloc, files)?),
+            conn: match opened(alloc, files) {
+                Some(conn) => made(alloc, conn),
+                None => None,
+            },
             reopened: 0,
-        })
+        }
     }
 }
 

@@ -1,6 +1,7 @@
 //! What is read of the table `entry`: rows are found by their keys in the order of their places, both ends taken in, or by the rows of `word` and `gram`, each once.
 
 use super::rest;
+use crate::connections::told;
 use dict_keyed_sql::{
     KeyedTable, count_rows, has_keyed_table, next_keyed, read_between, read_between_reversed,
     read_rows, read_rows_of, read_with_grams, read_with_key, read_with_word,
@@ -87,21 +88,17 @@ fn places<S: Alter>(
     Ok(all)
 }
 
-// What the row at place 4 has.
-fn look_at_one<S: Alter>(
-    rt: &impl Abort,
+// The entry at place 4.
+const FOURTH: &str =
+    "[Stored { rowid: 6, value: KeyedEntry { edition: 1, ord: 4, headword: \"ab\", start: 4, length: 9223372036854775807, key: [97, 98], reversed: [98, 97] } }]";
+
+fn told_read<S: Alter>(
     alloc: Global,
     conn: &mut Connection<S>,
     wanted: &Wanted<'_>,
-) -> Result<(), Fail> {
+) -> Result<String, Fail> {
     let found = read(alloc, conn, wanted)?;
-    assert_eq!(rt; found.len(), 1);
-    let one = &found[0].value;
-    assert_eq!(rt; (one.edition, one.ord, one.headword.as_str()), (1, 4, "ab"));
-    assert_eq!(rt; (one.start, one.length), (4, 9_223_372_036_854_775_807));
-    assert_eq!(rt; one.key.as_slice(), b"ab".as_slice());
-    assert_eq!(rt; one.reversed.as_slice(), b"ba".as_slice());
-    Ok(())
+    Ok(told(alloc, &found)?)
 }
 
 // What is read, and the places of the entries that come.
@@ -155,8 +152,14 @@ pub(crate) fn look<S: Alter>(
     alloc: Global,
     conn: &mut Connection<S>,
 ) -> Result<(), Fail> {
-    look_at_one(rt, alloc, conn, &Wanted::Key(b"ab"))?;
-    look_at_one(rt, alloc, conn, &Wanted::Word(1, b"fire"))?;
+    assert_eq!(rt;
+        told_read(alloc, conn, &Wanted::Key(b"ab"))?.as_str(),
+        FOURTH
+    );
+    assert_eq!(rt;
+        told_read(alloc, conn, &Wanted::Word(1, b"fire"))?.as_str(),
+        FOURTH
+    );
     for (wanted, expected) in &READS {
         let found = places(alloc, conn, wanted)?;
         assert_eq!(rt; found.as_slice(), *expected);

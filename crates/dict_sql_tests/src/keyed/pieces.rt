@@ -1,6 +1,7 @@
 //! What is read of the tables `word` and `gram`: rows come by edition, by their octets and then by place.
 
 use super::rest;
+use crate::connections::told;
 use dict_keyed_sql::{KeyedTable, has_keyed_table, read_rows, read_rows_of};
 use dict_records::{Gram, Stored, Word};
 use dict_sql::records::{ReadError, Record};
@@ -26,62 +27,56 @@ fn read<S: Alter, R: Record + Drop>(
     rest(alloc, &mut rows)
 }
 
-// The rows of `word`, in their order.
-static WORDS: [(i64, &[u8], i64); 6] = [
-    (1, b"", 3),
-    (1, b"fire", 4),
-    (1, b"opal", 2),
-    (1, b"opal", 4),
-    (1, b"\xf4\x8f\xbf\xbf", 0),
-    (2, b"opal", 7),
-];
+// The rows of `word`, in their order, and those of the second edition.
+const WORDS: &str = "[Stored { rowid: 6, value: Word { edition: 1, word: [], ord: 3 } }, \
+     Stored { rowid: 5, value: Word { edition: 1, word: [102, 105, 114, 101], ord: 4 } }, \
+     Stored { rowid: 3, value: Word { edition: 1, word: [111, 112, 97, 108], ord: 2 } }, \
+     Stored { rowid: 2, value: Word { edition: 1, word: [111, 112, 97, 108], ord: 4 } }, \
+     Stored { rowid: 4, value: Word { edition: 1, word: [244, 143, 191, 191], ord: 0 } }, \
+     Stored { rowid: 1, value: Word { edition: 2, word: [111, 112, 97, 108], ord: 7 } }]";
 
-/// What the table `word` has.
-pub(crate) fn look_at_words<S: Alter>(
-    rt: &impl Abort,
+const WORDS_OF_SECOND: &str =
+    "[Stored { rowid: 1, value: Word { edition: 2, word: [111, 112, 97, 108], ord: 7 } }]";
+
+fn told_words<S: Alter>(
     alloc: Global,
     conn: &mut Connection<S>,
-) -> Result<(), Fail> {
-    let found: Vec<Stored<Word<Vec<u8>>>> = read(alloc, conn, KeyedTable::Word, None)?;
-    assert_eq!(rt; found.len(), WORDS.len());
-    for (one, row) in found.iter().zip(WORDS.iter()) {
-        assert_eq!(rt;
-            (one.value.edition, one.value.word.as_slice(), one.value.ord),
-            *row
-        );
-    }
-    let second: Vec<Stored<Word<Vec<u8>>>> = read(alloc, conn, KeyedTable::Word, Some(2))?;
-    assert_eq!(rt; second.len(), 1);
-    assert_eq!(rt; second[0].value.ord, 7);
-    Ok(())
+    edition: Option<i64>,
+) -> Result<String, Fail> {
+    let found: Vec<Stored<Word<Vec<u8>>>> = read(alloc, conn, KeyedTable::Word, edition)?;
+    Ok(told(alloc, &found)?)
 }
 
-// The rows of `gram`, in their order.
-static GRAMS: [(i64, &[u8], i64); 6] = [
-    (1, b"opa", 1),
-    (1, b"opa", 5),
-    (1, b"opa", 9_223_372_036_854_775_807),
-    (1, b"pal", 1),
-    (1, b"\xf4\x8f\xbf", 2),
-    (2, b"opa", 0),
-];
+// The rows of `gram`, in their order, and those of the second edition.
+const GRAMS: &str =
+    "[Stored { rowid: 5, value: Gram { edition: 1, gram: [111, 112, 97], ord: 1 } }, \
+     Stored { rowid: 4, value: Gram { edition: 1, gram: [111, 112, 97], ord: 5 } }, \
+     Stored { rowid: 3, value: Gram { edition: 1, gram: [111, 112, 97], ord: 9223372036854775807 } }, \
+     Stored { rowid: 2, value: Gram { edition: 1, gram: [112, 97, 108], ord: 1 } }, \
+     Stored { rowid: 6, value: Gram { edition: 1, gram: [244, 143, 191], ord: 2 } }, \
+     Stored { rowid: 1, value: Gram { edition: 2, gram: [111, 112, 97], ord: 0 } }]";
 
-/// What the table `gram` has.
-pub(crate) fn look_at_grams<S: Alter>(
+const GRAMS_OF_SECOND: &str =
+    "[Stored { rowid: 1, value: Gram { edition: 2, gram: [111, 112, 97], ord: 0 } }]";
+
+fn told_grams<S: Alter>(
+    alloc: Global,
+    conn: &mut Connection<S>,
+    edition: Option<i64>,
+) -> Result<String, Fail> {
+    let found: Vec<Stored<Gram<Vec<u8>>>> = read(alloc, conn, KeyedTable::Gram, edition)?;
+    Ok(told(alloc, &found)?)
+}
+
+/// What the tables `word` and `gram` have.
+pub(crate) fn look<S: Alter>(
     rt: &impl Abort,
     alloc: Global,
     conn: &mut Connection<S>,
 ) -> Result<(), Fail> {
-    let found: Vec<Stored<Gram<Vec<u8>>>> = read(alloc, conn, KeyedTable::Gram, None)?;
-    assert_eq!(rt; found.len(), GRAMS.len());
-    for (one, row) in found.iter().zip(GRAMS.iter()) {
-        assert_eq!(rt;
-            (one.value.edition, one.value.gram.as_slice(), one.value.ord),
-            *row
-        );
-    }
-    let second: Vec<Stored<Gram<Vec<u8>>>> = read(alloc, conn, KeyedTable::Gram, Some(2))?;
-    assert_eq!(rt; second.len(), 1);
-    assert_eq!(rt; second[0].value.gram.as_slice(), b"opa".as_slice());
+    assert_eq!(rt; told_words(alloc, conn, None)?.as_str(), WORDS);
+    assert_eq!(rt; told_words(alloc, conn, Some(2))?.as_str(), WORDS_OF_SECOND);
+    assert_eq!(rt; told_grams(alloc, conn, None)?.as_str(), GRAMS);
+    assert_eq!(rt; told_grams(alloc, conn, Some(2))?.as_str(), GRAMS_OF_SECOND);
     Ok(())
 }

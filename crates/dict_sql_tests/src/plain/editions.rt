@@ -1,48 +1,55 @@
 //! What is read of the table `edition`.
 
 use super::rest;
+use crate::connections::told;
 use dict_records::{Edition, Stored};
 use dict_sql::read::editions_numbered;
-use dict_sql::records::{EditionNumber, ReadError};
+use dict_sql::records::EditionNumber;
 use dict_sql::stream::{read_edition_numbers, read_editions};
 use dict_tables::{StoreTable, has_table};
-use sqlite::{Alter, Connection, Error};
+use sqlite::{Alter, Connection};
 use std::alloc::Global;
 use std::process::Abort;
 use std::test::Fail;
 
-fn numbered<S: Alter>(
+const SECOND: &str =
+    "[Stored { rowid: 2, value: Edition { number: 2, owner: \"owner\", title: \"title\", info: \"it's \\\"quoted\\\"\\u{1}\\t\\n\", body: [0, 255, 39, 34] } }]";
+
+const THIRD: &str =
+    "[Stored { rowid: 3, value: Edition { number: 3, owner: \"owner\", title: \"title\", info: \"\", body: [] } }]";
+
+const NUMBERS: &str = "[Stored { rowid: 2, value: EditionNumber { number: 2 } }, \
+     Stored { rowid: 3, value: EditionNumber { number: 3 } }]";
+
+fn told_numbered<S: Alter>(
     alloc: Global,
     conn: &mut Connection<S>,
     number: i64,
-) -> Result<Vec<Stored<Edition<String, Vec<u8>>>>, ReadError> {
+) -> Result<String, Fail> {
     if !has_table(conn.schema(), StoreTable::Edition) {
-        return Err(ReadError::Store(Error::InvalidQuery));
+        return Err(Fail::new("there is no such table"));
     }
-    editions_numbered(alloc, conn, number)
+    let found = editions_numbered(alloc, conn, number)?;
+    Ok(told(alloc, &found)?)
 }
 
-fn all<S: Alter>(
-    alloc: Global,
-    conn: &mut Connection<S>,
-) -> Result<Vec<Stored<Edition<String, Vec<u8>>>>, ReadError> {
+// Those behind the first.
+fn told_others<S: Alter>(alloc: Global, conn: &mut Connection<S>) -> Result<String, Fail> {
     if !has_table(conn.schema(), StoreTable::Edition) {
-        return Err(ReadError::Store(Error::InvalidQuery));
+        return Err(Fail::new("there is no such table"));
     }
     let mut rows = read_editions(conn)?;
-    rest(alloc, &mut rows)
+    let found: Vec<Stored<Edition<String, Vec<u8>>>> = rest(alloc, &mut rows)?;
+    Ok(told(alloc, found.get(1..).unwrap_or(&[]))?)
 }
 
-// The rowids and the numbers.
-fn numbers<S: Alter>(
-    alloc: Global,
-    conn: &mut Connection<S>,
-) -> Result<Vec<Stored<EditionNumber>>, ReadError> {
+fn told_numbers<S: Alter>(alloc: Global, conn: &mut Connection<S>) -> Result<String, Fail> {
     if !has_table(conn.schema(), StoreTable::Edition) {
-        return Err(ReadError::Store(Error::InvalidQuery));
+        return Err(Fail::new("there is no such table"));
     }
     let mut rows = read_edition_numbers(conn)?;
-    rest(alloc, &mut rows)
+    let found: Vec<Stored<EditionNumber>> = rest(alloc, &mut rows)?;
+    Ok(told(alloc, &found)?)
 }
 
 /// Editions are found by their numbers. Texts may be empty, and have quote signs and control characters.
@@ -51,23 +58,9 @@ pub(crate) fn look<S: Alter>(
     alloc: Global,
     conn: &mut Connection<S>,
 ) -> Result<(), Fail> {
-    assert!(rt; numbered(alloc, conn, 1)?.is_empty());
-    let second = numbered(alloc, conn, 2)?;
-    assert_eq!(rt; second.len(), 1);
-    assert_eq!(rt; second[0].value.info.as_str(), "it's \"quoted\"\u{1}\t\n");
-    assert_eq!(rt; second[0].value.body.as_slice(), b"\0\xff'\"".as_slice());
-    let left = all(alloc, conn)?;
-    assert_eq!(rt; left.len(), 2);
-    let both = numbers(alloc, conn)?;
-    assert_eq!(rt; both.len(), 2);
-    assert_eq!(rt; (both[0].rowid, both[0].value.number), (2, 2));
-    assert_eq!(rt; (both[1].rowid, both[1].value.number), (3, 3));
-    let last = &left[1].value;
-    assert_eq!(rt; (left[0].value.number, last.number), (2, 3));
-    assert_eq!(rt;
-        (last.owner.as_str(), last.title.as_str(), last.info.as_str()),
-        ("owner", "title", "")
-    );
-    assert!(rt; last.body.is_empty());
+    assert_eq!(rt; told_numbered(alloc, conn, 1)?.as_str(), "[]");
+    assert_eq!(rt; told_numbered(alloc, conn, 2)?.as_str(), SECOND);
+    assert_eq!(rt; told_others(alloc, conn)?.as_str(), THIRD);
+    assert_eq!(rt; told_numbers(alloc, conn)?.as_str(), NUMBERS);
     Ok(())
 }

@@ -1,22 +1,23 @@
 //! What is read of the table `item`.
 
-use dict_records::{Item, Stored};
+use crate::connections::told;
 use dict_sql::read::items;
-use dict_sql::records::ReadError;
 use dict_tables::{StoreTable, has_table};
-use sqlite::{Alter, Connection, Error};
+use sqlite::{Alter, Connection};
 use std::alloc::Global;
 use std::process::Abort;
 use std::test::Fail;
 
-fn list<S: Alter>(
-    alloc: Global,
-    conn: &mut Connection<S>,
-) -> Result<Vec<Stored<Item<String>>>, ReadError> {
+const ITEMS: &str =
+    "[Stored { rowid: 0, value: Item { place: 0, name: \"gem\", kind: 0, title: None, current: Some(9223372036854775807), former: None } }, \
+     Stored { rowid: 1, value: Item { place: 1, name: \"all\", kind: 1, title: Some(\"It's \\\"all\\\"\"), current: None, former: None } }]";
+
+fn told_items<S: Alter>(alloc: Global, conn: &mut Connection<S>) -> Result<String, Fail> {
     if !has_table(conn.schema(), StoreTable::Item) {
-        return Err(ReadError::Store(Error::InvalidQuery));
+        return Err(Fail::new("there is no such table"));
     }
-    items(alloc, conn)
+    let all = items(alloc, conn)?;
+    Ok(told(alloc, &all)?)
 }
 
 /// Items come in the order of their places, with a title or an edition or none.
@@ -25,26 +26,6 @@ pub(crate) fn look<S: Alter>(
     alloc: Global,
     conn: &mut Connection<S>,
 ) -> Result<(), Fail> {
-    let all = list(alloc, conn)?;
-    assert_eq!(rt; all.len(), 2);
-    let gem = &all[0].value;
-    assert_eq!(rt;
-        (gem.name.as_str(), gem.kind, gem.current, gem.former),
-        ("gem", 0, Some(9_223_372_036_854_775_807), None)
-    );
-    assert!(rt; gem.title.is_none());
-    let virtual_item = &all[1].value;
-    assert_eq!(rt;
-        (
-            virtual_item.name.as_str(),
-            virtual_item.kind,
-            virtual_item.current
-        ),
-        ("all", 1, None)
-    );
-    assert_eq!(rt;
-        virtual_item.title.as_ref().map(|t| t.as_str()),
-        Some("It's \"all\"")
-    );
+    assert_eq!(rt; told_items(alloc, conn)?.as_str(), ITEMS);
     Ok(())
 }

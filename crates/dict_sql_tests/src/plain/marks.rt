@@ -1,23 +1,23 @@
 //! What is read of the table `mark`.
 
-use crate::connections::raw;
-use dict_records::{Mark, Stored};
+use crate::connections::{raw, told};
 use dict_sql::read::marks;
-use dict_sql::records::ReadError;
 use dict_tables::{StoreTable, has_table};
-use sqlite::{Alter, Connection, Error};
+use sqlite::{Alter, Connection};
 use std::alloc::Global;
 use std::process::Abort;
 use std::test::Fail;
 
-fn list<S: Alter>(
-    alloc: Global,
-    conn: &mut Connection<S>,
-) -> Result<Vec<Stored<Mark<String>>>, ReadError> {
+const MARKS: &str =
+    "[Stored { rowid: 1, value: Mark { id: 1, magic: \"dictcat\", version: 2, installs: 8 } }, \
+     Stored { rowid: 2, value: Mark { id: 2, magic: \"\", version: 9223372036854775807, installs: -1 } }]";
+
+fn told_marks<S: Alter>(alloc: Global, conn: &mut Connection<S>) -> Result<String, Fail> {
     if !has_table(conn.schema(), StoreTable::Mark) {
-        return Err(ReadError::Store(Error::InvalidQuery));
+        return Err(Fail::new("there is no such table"));
     }
-    marks(alloc, conn)
+    let all = marks(alloc, conn)?;
+    Ok(told(alloc, &all)?)
 }
 
 /// A mark is read, and every number of 64 bits.
@@ -26,20 +26,10 @@ pub(crate) fn look<S: Alter>(
     alloc: Global,
     conn: &mut Connection<S>,
 ) -> Result<(), Fail> {
-    let all = list(alloc, conn)?;
-    assert_eq!(rt; all.len(), 1);
-    let mark = &all[0].value;
-    assert_eq!(rt; (mark.id, mark.version, mark.installs), (1, 2, 8));
-    assert_eq!(rt; mark.magic.as_str(), "dictcat");
     raw(
         conn,
         "INSERT INTO mark VALUES (2, '', 9223372036854775807, -1)",
     )?;
-    let both = list(alloc, conn)?;
-    assert_eq!(rt; both.len(), 2);
-    assert_eq!(rt;
-        (both[1].value.version, both[1].value.installs),
-        (i64::MAX, -1)
-    );
+    assert_eq!(rt; told_marks(alloc, conn)?.as_str(), MARKS);
     Ok(())
 }

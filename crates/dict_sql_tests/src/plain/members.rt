@@ -1,22 +1,24 @@
 //! What is read of the table `member`.
 
-use dict_records::{Member, Stored};
+use crate::connections::told;
 use dict_sql::read::members;
-use dict_sql::records::ReadError;
 use dict_tables::{StoreTable, has_table};
-use sqlite::{Alter, Connection, Error};
+use sqlite::{Alter, Connection};
 use std::alloc::Global;
 use std::process::Abort;
 use std::test::Fail;
 
-fn list<S: Alter>(
-    alloc: Global,
-    conn: &mut Connection<S>,
-) -> Result<Vec<Stored<Member<String>>>, ReadError> {
+const MEMBERS: &str =
+    "[Stored { rowid: 3, value: Member { owner: \"a\", ord: 0, name: \"gem\" } }, \
+     Stored { rowid: 2, value: Member { owner: \"a\", ord: 1, name: \"ore\" } }, \
+     Stored { rowid: 1, value: Member { owner: \"b\", ord: 0, name: \"gem\" } }]";
+
+fn told_members<S: Alter>(alloc: Global, conn: &mut Connection<S>) -> Result<String, Fail> {
     if !has_table(conn.schema(), StoreTable::Member) {
-        return Err(ReadError::Store(Error::InvalidQuery));
+        return Err(Fail::new("there is no such table"));
     }
-    members(alloc, conn)
+    let all = members(alloc, conn)?;
+    Ok(told(alloc, &all)?)
 }
 
 /// Members come by owner and then in their order.
@@ -25,20 +27,6 @@ pub(crate) fn look<S: Alter>(
     alloc: Global,
     conn: &mut Connection<S>,
 ) -> Result<(), Fail> {
-    let all = list(alloc, conn)?;
-    assert_eq!(rt; all.len(), 3);
-    let (first, second, third) = (&all[0].value, &all[1].value, &all[2].value);
-    assert_eq!(rt;
-        (first.owner.as_str(), first.ord, first.name.as_str()),
-        ("a", 0, "gem")
-    );
-    assert_eq!(rt;
-        (second.owner.as_str(), second.ord, second.name.as_str()),
-        ("a", 1, "ore")
-    );
-    assert_eq!(rt;
-        (third.owner.as_str(), third.ord, third.name.as_str()),
-        ("b", 0, "gem")
-    );
+    assert_eq!(rt; told_members(alloc, conn)?.as_str(), MEMBERS);
     Ok(())
 }
