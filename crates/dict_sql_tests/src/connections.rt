@@ -1,12 +1,10 @@
 //! Connections over files that memory holds, and texts of the tests' own.
 
-ghost use Rattle.std.specs.Prelude.{IsTrue, IfOk};
-ghost use Rattle.sqlite_disk.specs.Memory.{memory_is_usable};
-
 use sqlite::{Alter, Connection, Error, FileStore, Files, Options};
-use sqlite_disk::Memory;
+use sqlite_disk::Disk;
 use std::alloc::{AllocError, Global};
 use std::fmt::Debug;
+use std::test::Fail;
 
 /// Runs a text of a test's own.
 pub(crate) fn raw<S: Alter>(conn: &mut Connection<S>, text: &str) -> Result<(), Error> {
@@ -23,26 +21,24 @@ pub(crate) fn told<R: Debug>(alloc: Global, records: &[R]) -> Result<String, All
     format!(in alloc; "{records:?}")
 }
 
-/// Opens the two files.
-pub(crate) fn open(
+/// Opens two files.
+pub(crate) fn open<D: Disk + Drop>(
     alloc: Global,
-    log: Memory,
-    db: Memory,
-) -> Result<Connection<FileStore<Memory>>, Error>
-    requires { IsTrue (memory_is_usable log) × IsTrue (memory_is_usable db) }
-{
-    match Connection::open_files(alloc, Files { log, db }, Options::new(1)) {
+    files: Files<D>,
+) -> Result<Connection<FileStore<D>>, Fail> {
+    if !files.may_be_used() {
+        return Err("files that may not be used")?;
+    }
+    match Connection::open_files(alloc, files, Options::new(1)) {
         Ok(conn) => Ok(conn),
-        Err((error, _)) => Err(error),
+        Err(_) => Err("not opened")?,
     }
 }
 
 /// Closes them, and leaves the second, which has all that was committed.
-pub(crate) fn close(conn: Connection<FileStore<Memory>>) -> Result<Memory, Error>
-    ensures { IfOk result (λ db. IsTrue (memory_is_usable db)) }
-{
+pub(crate) fn close<D: Disk + Drop>(conn: Connection<FileStore<D>>) -> Result<D, Fail> {
     match conn.close_files() {
         Ok(Files { log: _, db }) => Ok(db),
-        Err(failed) => Err(failed.0),
+        Err(_) => Err("not closed")?,
     }
 }

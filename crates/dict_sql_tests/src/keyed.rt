@@ -1,14 +1,11 @@
 //! The statements of the keyed tables on their happy path, with other tables before and after them.
 
-ghost use Rattle.std.specs.Prelude.{IsTrue, IfOk};
-ghost use Rattle.sqlite_disk.specs.Memory.{memory_is_usable};
-
 use crate::connections::{close, number, open, raw};
 use dict_keyed_sql::next_keyed;
 use dict_sql::records::{ReadError, Record};
 use rows::{empty_all, put_all};
-use sqlite::{Alter, Connection, Rows};
-use sqlite_disk::Memory;
+use sqlite::{Alter, Connection, Files, Rows};
+use sqlite_disk::{Disk, Memory};
 use std::alloc::Global;
 use std::process::Abort;
 use std::test::Fail;
@@ -83,21 +80,28 @@ fn without_keys(rt: HostRuntime) -> Result<(), Fail> {
     inside::run(&rt, alloc, &mut conn)
 }
 
-// The file that is left once the tables were filled in two files.
-fn filled(rt: &impl Abort, alloc: Global) -> Result<Memory, Fail>
-    ensures { IfOk result (λ db. IsTrue (memory_is_usable db)) }
-{
-    let mut conn = open(alloc, Memory::new(alloc), Memory::new(alloc))?;
+// The tables are filled in two files, and stand in the second of them, with another log.
+fn over<D: Disk + Drop>(
+    rt: &impl Abort,
+    alloc: Global,
+    files: Files<D>,
+    log: D,
+) -> Result<(), Fail> {
+    let mut conn = open(alloc, files)?;
     fill(rt, alloc, &mut conn)?;
-    Ok(close(conn)?)
+    let db = close(conn)?;
+    let mut conn = open(alloc, Files { log, db })?;
+    look(rt, alloc, &mut conn)
 }
 
 #[test]
 fn over_files(rt: HostRuntime) -> Result<(), Fail> {
     let alloc = rt.alloc();
-    let db = filled(&rt, alloc)?;
-    let mut conn = open(alloc, Memory::new(alloc), db)?;
-    look(&rt, alloc, &mut conn)
+    let files = Files {
+        log: Memory::new(alloc),
+        db: Memory::new(alloc),
+    };
+    over(&rt, alloc, files, Memory::new(alloc))
 }
 
 #[test]

@@ -1,10 +1,12 @@
 //! The same commands over a catalogue in memory and over one file.
 
 use crate::asked::{Asked, Editions, read_editions, told};
-use crate::desks::{accept_all, applied, dumped, new_desk};
+use crate::desks::{applied, dumped, made_in};
+use crate::refused::has_numbers;
 use crate::shown::{listed, shown};
 use dict_catalogue::Command;
 use dict_desk::{Keeper, Lookup, PlainDesk};
+use dict_store::Desk;
 use sqlite::{Alter, Connection};
 use std::alloc::{AllocError, Global};
 use std::process::Abort;
@@ -42,23 +44,36 @@ fn play<K: Keeper>(
     Ok(())
 }
 
-// Plays the rows over lists and over a file, which show the same then, the file opened anew too.
-fn play_on_both(
+// Plays the rows over a desk that shows the same then, and is sound.
+fn play_as_wanted<S: Alter + Drop>(
+    rt: &impl Abort,
+    alloc: Global,
+    desk: &mut Desk<S>,
+    editions: &Editions,
+    rows: &[Row],
+    wanted: &str,
+) -> Result<(), Fail> {
+    play(rt, alloc, desk, editions, rows)?;
+    assert_eq!(rt; shown(alloc, desk)?.as_str(), wanted);
+    assert_eq!(rt; desk.audit(), Ok(()));
+    Ok(())
+}
+
+// Plays the rows over lists and over a new database, which show the same then, the database opened anew too.
+fn play_on_both<S: Alter + Drop>(
     rt: &impl Abort,
     alloc: Global,
     editions: &Editions,
+    conn: Connection<S>,
     rows: &[Row],
 ) -> Result<(), Fail> {
     let mut plain = PlainDesk::new(alloc);
     play(rt, alloc, &mut plain, editions, rows)?;
     let wanted = shown(alloc, &mut plain)?;
-    let mut desk = new_desk(alloc)?;
-    play(rt, alloc, &mut desk, editions, rows)?;
-    assert_eq!(rt; shown(alloc, &mut desk)?.as_str(), wanted.as_str());
-    assert_eq!(rt; desk.audit(), Ok(()));
+    let mut desk = applied(alloc, editions, conn, true, &[])?;
+    play_as_wanted(rt, alloc, &mut desk, editions, rows, wanted.as_str())?;
     let mut again = applied(alloc, editions, desk.into_connection(), false, &[])?;
-    assert_eq!(rt; shown(alloc, &mut again)?.as_str(), wanted.as_str());
-    Ok(())
+    play_as_wanted(rt, alloc, &mut again, editions, &[], wanted.as_str())
 }
 
 static SWAPPED: [Row; 7] = [
@@ -214,10 +229,16 @@ static KEPT: [Row; 6] = [
 fn commands_on_both_desks(rt: HostRuntime) -> Result<(), Fail> {
     let alloc = rt.alloc();
     let editions = read_editions(alloc)?;
-    play_on_both(&rt, alloc, &editions, &SWAPPED)?;
-    play_on_both(&rt, alloc, &editions, &ONCE)?;
-    play_on_both(&rt, alloc, &editions, &ORDERED)?;
-    play_on_both(&rt, alloc, &editions, &KEPT)
+    for rows in [
+        SWAPPED.as_slice(),
+        ONCE.as_slice(),
+        ORDERED.as_slice(),
+        KEPT.as_slice(),
+    ] {
+        let conn = Connection::open_in_memory(alloc)?;
+        play_on_both(&rt, alloc, &editions, conn, rows)?;
+    }
+    Ok(())
 }
 
 static CATALOGUE: [(&str, Asked); 3] = [
@@ -285,16 +306,25 @@ fn play_nothing<S: Alter + Drop>(
     Ok(conn)
 }
 
+// The rows of all tables, before what acts on nothing and after it.
+fn around_nothing<S: Alter + Drop>(
+    rt: &impl Abort,
+    alloc: Global,
+    conn: Connection<S>,
+) -> Result<(String, String), Fail> {
+    let editions = read_editions(alloc)?;
+    let mut conn = made_in(alloc, conn, &CATALOGUE)?;
+    let before = dumped(alloc, &mut conn)?;
+    let mut conn = play_nothing(rt, alloc, &editions, conn)?;
+    Ok((before, dumped(alloc, &mut conn)?))
+}
+
 #[test]
 fn what_acts_on_nothing_leaves_all_rows(rt: HostRuntime) -> Result<(), Fail> {
     let alloc = rt.alloc();
-    let editions = read_editions(alloc)?;
-    let mut desk = new_desk(alloc)?;
-    accept_all(&mut desk, &editions, &CATALOGUE)?;
-    let mut conn = desk.into_connection();
-    let before = dumped(alloc, &mut conn)?;
-    let mut conn = play_nothing(&rt, alloc, &editions, conn)?;
-    assert_eq!(rt; dumped(alloc, &mut conn)?.as_str(), before.as_str());
+    let conn = Connection::open_in_memory(alloc)?;
+    let (before, after) = around_nothing(&rt, alloc, conn)?;
+    assert_eq!(rt; after.as_str(), before.as_str());
     Ok(())
 }
 
@@ -341,16 +371,39 @@ fn answer_all<K: Keeper>(
     Ok(())
 }
 
-#[test]
-fn sixty_four_items(rt: HostRuntime) -> Result<(), Fail> {
-    let alloc = rt.alloc();
+// A catalogue that is full.
+fn fill_up<S: Alter + Drop>(
+    rt: &impl Abort,
+    alloc: Global,
+    conn: Connection<S>,
+) -> Result<(), Fail> {
     let editions = read_editions(alloc)?;
-    let mut desk = new_desk(alloc)?;
+    let mut desk = applied(alloc, &editions, conn, true, &[])?;
     fill(alloc, &mut desk, &editions)?;
-    answer_all(&rt, alloc, &mut desk, &editions, &FULL)?;
+    answer_all(rt, alloc, &mut desk, &editions, &FULL)?;
     assert_eq!(rt; desk.audit(), Ok(()));
     Ok(())
 }
+
+#[test]
+fn sixty_four_items(rt: HostRuntime) -> Result<(), Fail> {
+    let conn = Connection::open_in_memory(rt.alloc())?;
+    fill_up(&rt, rt.alloc(), conn)
+}
+
+// What a new catalogue has.
+static NEW: [(&str, i64); 7] = [
+    (
+        "SELECT count(*) FROM mark WHERE id = 1 AND magic = 'dictcat' AND version = 1 AND installs = 0",
+        1,
+    ),
+    ("SELECT count(*) FROM mark", 1),
+    ("SELECT count(*) FROM item", 0),
+    ("SELECT count(*) FROM member", 0),
+    ("SELECT count(*) FROM edition", 0),
+    ("SELECT count(*) FROM entry", 0),
+    ("SELECT count(*) FROM kept", 0),
+];
 
 // An edition goes at the third install.
 static INSTALLED: [(&str, Asked); 4] = [
@@ -371,15 +424,23 @@ static ROWS: [(&str, i64); 8] = [
     ("SELECT count(*) FROM kept", 4),
 ];
 
+// Whether each selection gives its number once a catalogue is made and these commands are done.
+fn made_has<S: Alter + Drop>(
+    alloc: Global,
+    conn: Connection<S>,
+    asked: &[(&'static str, Asked)],
+    wanted: &[(&str, i64)],
+) -> Result<bool, Fail> {
+    let mut conn = made_in(alloc, conn, asked)?;
+    Ok(has_numbers(&mut conn, wanted)?)
+}
+
 #[test]
 fn rows_of_editions(rt: HostRuntime) -> Result<(), Fail> {
     let alloc = rt.alloc();
-    let mut desk = new_desk(alloc)?;
-    accept_all(&mut desk, &read_editions(alloc)?, &INSTALLED)?;
-    let mut conn = desk.into_connection();
-    for (query, wanted) in &ROWS {
-        let found: i64 = conn.query_row(query, &[])?.get(0)?;
-        assert_eq!(rt; found, *wanted, "{query:?}");
-    }
+    let empty = Connection::open_in_memory(alloc)?;
+    assert!(rt; made_has(alloc, empty, &[], &NEW)?);
+    let conn = Connection::open_in_memory(alloc)?;
+    assert!(rt; made_has(alloc, conn, &INSTALLED, &ROWS)?);
     Ok(())
 }

@@ -1,9 +1,9 @@
 //! Desks over databases that are made or found, and the rows of their tables.
 
-use crate::asked::{Asked, Editions};
+use crate::asked::{Asked, Editions, read_editions};
 use dict_desk::{Fault, Keeper};
 use dict_store::Desk;
-use sqlite::{Alter, Connection, MemStore};
+use sqlite::{Alter, Connection};
 use std::alloc::{AllocError, Global};
 use std::test::Fail;
 
@@ -21,15 +21,6 @@ pub(crate) fn desk_over<S: Alter + Drop>(
     } else {
         Desk::adopt(alloc, conn)
     }
-}
-
-/// A desk over a new database in memory.
-pub(crate) fn new_desk(alloc: Global) -> Result<Desk<MemStore>, Fail> {
-    let conn = Connection::open_in_memory(alloc)?;
-    let Ok(desk) = desk_over(alloc, conn, true) else {
-        return Err("not made")?;
-    };
-    Ok(desk)
 }
 
 /// Applies commands, each of which has to be accepted.
@@ -57,6 +48,17 @@ pub(crate) fn applied<S: Alter + Drop>(
     };
     accept_all(&mut desk, editions, asked)?;
     Ok(desk)
+}
+
+/// The database in which these commands made a catalogue.
+pub(crate) fn made_in<S: Alter + Drop>(
+    alloc: Global,
+    conn: Connection<S>,
+    asked: &[(&'static str, Asked)],
+) -> Result<Connection<S>, Fail> {
+    let editions = read_editions(alloc)?;
+    let desk = applied(alloc, &editions, conn, true, asked)?;
+    Ok(desk.into_connection())
 }
 
 // All rows of the tables.

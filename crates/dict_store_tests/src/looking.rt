@@ -1,9 +1,10 @@
 //! What readers ask of a desk over a file, and of one in memory.
 use crate::asked::{Asked, read_editions};
-use crate::desks::{accept_all, new_desk};
+use crate::desks::{accept_all, applied};
 use crate::shown::Rows;
 use dict_desk::{End, Fault, Lookup, PlainDesk, What};
 use dict_match::{Strategy, key_of};
+use sqlite::{Alter, Connection};
 use std::alloc::Global;
 use std::process::Abort;
 use std::test::Fail;
@@ -72,7 +73,7 @@ static ASKED: [Row; 14] = [
 
 // The rows that were taken, and how they end.
 fn told_rows(rows: Rows, end: End) -> Result<String, Fault> {
-    let mut text = rows.into_text();
+    let Rows { mut text, .. } = rows;
     text.push(if end == End::All { '.' } else { '!' })?;
     Ok(text)
 }
@@ -118,14 +119,23 @@ static CATALOGUE: [(&str, Asked); 3] = [
     ("c", Asked::Put("all", "All", &["ore", "gem"])),
 ];
 
+// The catalogue in a database.
+fn in_tables<S: Alter + Drop>(
+    rt: &impl Abort,
+    alloc: Global,
+    conn: Connection<S>,
+) -> Result<(), Fail> {
+    let editions = read_editions(alloc)?;
+    let mut desk = applied(alloc, &editions, conn, true, &CATALOGUE)?;
+    answers_all(rt, alloc, &mut desk)
+}
+
 #[test]
 fn lookups_on_both_desks(rt: HostRuntime) -> Result<(), Fail> {
     let alloc = rt.alloc();
-    let editions = read_editions(alloc)?;
     let mut plain = PlainDesk::new(alloc);
-    accept_all(&mut plain, &editions, &CATALOGUE)?;
+    accept_all(&mut plain, &read_editions(alloc)?, &CATALOGUE)?;
     answers_all(&rt, alloc, &mut plain)?;
-    let mut desk = new_desk(alloc)?;
-    accept_all(&mut desk, &editions, &CATALOGUE)?;
-    answers_all(&rt, alloc, &mut desk)
+    let conn = Connection::open_in_memory(alloc)?;
+    in_tables(&rt, alloc, conn)
 }

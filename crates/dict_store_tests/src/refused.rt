@@ -1,8 +1,8 @@
 //! Databases in which no store is made, and files that are not adopted: nothing of them changes.
-use crate::asked::{Asked, Editions, read_editions};
-use crate::desks::{applied, desk_over, dumped, new_desk};
+use crate::asked::{Asked, read_editions};
+use crate::desks::{applied, desk_over, dumped, made_in};
 use dict_desk::Fault;
-use sqlite::{Alter, Connection, Error, MemStore};
+use sqlite::{Alter, Connection, Error};
 use std::alloc::{AllocError, Global};
 use std::test::Fail;
 
@@ -130,22 +130,10 @@ fn is_refused<S: Alter + Drop>(
     end.fault == Some(wanted) && end.is_same
 }
 
-// A database of others.
-fn with_others(alloc: Global, text: &str) -> Result<Connection<MemStore>, Error> {
-    let mut conn = Connection::open_in_memory(alloc)?;
+// The database after these statements.
+fn batched<S: Alter + Drop>(conn: Connection<S>, text: &str) -> Result<Connection<S>, Error> {
+    let mut conn = conn;
     conn.execute_batch(text)?;
-    Ok(conn)
-}
-
-// The catalogue that a statement damages.
-fn damaged(
-    alloc: Global,
-    editions: &Editions,
-    statement: &str,
-) -> Result<Connection<MemStore>, Fail> {
-    let conn = Connection::open_in_memory(alloc)?;
-    let mut conn = applied(alloc, editions, conn, true, &CATALOGUE)?.into_connection();
-    conn.execute_batch(statement)?;
     Ok(conn)
 }
 
@@ -153,20 +141,20 @@ fn damaged(
 fn refused_files(rt: HostRuntime) -> Result<(), Fail> {
     let alloc = rt.alloc();
     for text in &IN_USE {
-        let conn = with_others(alloc, *text)?;
+        let conn = batched(Connection::open_in_memory(alloc)?, *text)?;
         assert!(rt;
             is_refused(alloc, conn, true, Fault::NotACatalogue),
             "{text}"
         );
     }
-    let editions = read_editions(alloc)?;
     for (statement, wanted) in &STATEMENTS {
-        let conn = damaged(alloc, &editions, *statement)?;
+        let conn = made_in(alloc, Connection::open_in_memory(alloc)?, &CATALOGUE)?;
+        let conn = batched(conn, *statement)?;
         assert!(rt; is_refused(alloc, conn, false, *wanted), "{statement}");
     }
     let empty = Connection::open_in_memory(alloc)?;
     assert!(rt; is_refused(alloc, empty, false, Fault::NotACatalogue));
-    let made = new_desk(alloc)?.into_connection();
+    let made = made_in(alloc, Connection::open_in_memory(alloc)?, &[])?;
     assert!(rt; is_refused(alloc, made, true, Fault::NotACatalogue));
     Ok(())
 }
@@ -175,6 +163,20 @@ const EXTRA: &str = "CREATE TABLE extra (a TEXT) STRICT; INSERT INTO extra VALUE
 
 // The list of both is retired.
 static RETIRED: [(&str, Asked); 1] = [("d", Asked::Retire("all"))];
+
+/// Whether each selection gives its number.
+pub(crate) fn has_numbers<S: Alter>(
+    conn: &mut Connection<S>,
+    wanted: &[(&str, i64)],
+) -> Result<bool, Error> {
+    for (text, count) in wanted {
+        let found: i64 = conn.query_row(*text, &[])?.get(0)?;
+        if found != *count {
+            return Ok(false);
+        }
+    }
+    Ok(true)
+}
 
 // The tables and the index of others, and their rows.
 static OTHERS: [(&str, i64); 2] = [
@@ -185,46 +187,18 @@ static OTHERS: [(&str, i64); 2] = [
     ),
 ];
 
+// Whether the tables and the index of others stay beside a catalogue.
+fn others_stay<S: Alter + Drop>(alloc: Global, conn: Connection<S>) -> Result<bool, Fail> {
+    let conn = made_in(alloc, batched(conn, EXTRA)?, &CATALOGUE)?;
+    let conn = batched(conn, "CREATE INDEX others ON entry (headword)")?;
+    let editions = read_editions(alloc)?;
+    let mut conn = applied(alloc, &editions, conn, false, &RETIRED)?.into_connection();
+    Ok(has_numbers(&mut conn, &OTHERS)?)
+}
+
 #[test]
 fn other_tables_stay(rt: HostRuntime) -> Result<(), Fail> {
-    let alloc = rt.alloc();
-    let editions = read_editions(alloc)?;
-    let conn = with_others(alloc, EXTRA)?;
-    let mut conn = applied(alloc, &editions, conn, true, &CATALOGUE)?.into_connection();
-    conn.execute_batch("CREATE INDEX others ON entry (headword)")?;
-    let mut conn = applied(alloc, &editions, conn, false, &RETIRED)?.into_connection();
-    assert!(rt; has_numbers(&mut conn, &OTHERS)?);
-    Ok(())
-}
-
-// What a new catalogue has.
-static NEW: [(&str, i64); 7] = [
-    (
-        "SELECT count(*) FROM mark WHERE id = 1 AND magic = 'dictcat' AND version = 1 AND installs = 0",
-        1,
-    ),
-    ("SELECT count(*) FROM mark", 1),
-    ("SELECT count(*) FROM item", 0),
-    ("SELECT count(*) FROM member", 0),
-    ("SELECT count(*) FROM edition", 0),
-    ("SELECT count(*) FROM entry", 0),
-    ("SELECT count(*) FROM kept", 0),
-];
-
-// Whether each selection gives its number.
-fn has_numbers<S: Alter>(conn: &mut Connection<S>, wanted: &[(&str, i64)]) -> Result<bool, Error> {
-    for (text, count) in wanted {
-        let found: i64 = conn.query_row(*text, &[])?.get(0)?;
-        if found != *count {
-            return Ok(false);
-        }
-    }
-    Ok(true)
-}
-
-#[test]
-fn a_new_catalogue_is_empty(rt: HostRuntime) -> Result<(), Fail> {
-    let mut conn = new_desk(rt.alloc())?.into_connection();
-    assert!(rt; has_numbers(&mut conn, &NEW)?);
+    let conn = Connection::open_in_memory(rt.alloc())?;
+    assert!(rt; others_stay(rt.alloc(), conn)?);
     Ok(())
 }

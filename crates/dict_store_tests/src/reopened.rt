@@ -1,19 +1,14 @@
-//! Desks over files, in memory and at a path, that are opened anew.
+//! Desks over files in memory that are opened anew.
 use crate::asked::{Asked, read_editions};
 use crate::desks::{applied, desk_over};
 use crate::files::{Octets, disk, made, new_database, opened, options};
 use dict_catalogue::Command;
 use dict_desk::{Fault, Keeper, Lookup};
 use dict_store::{Desk, Unopened};
-use sqlite::{Alter, Connection, File, FileStore, Files, Unknown};
+use sqlite::{Alter, FileStore, Files};
 use sqlite_disk::{Crash, Disk};
 use std::alloc::Global;
-use std::fs;
 use std::test::Fail;
-
-const PATH: &str = "dict_store_test";
-
-const LOG: &str = "dict_store_test-wal";
 
 // One command: gem is installed.
 static GEM: [(&str, Asked); 1] = [("gem", Asked::Gems("gem"))];
@@ -41,30 +36,28 @@ enum Met {
     Other,
 }
 
+// What files that were opened again show.
+fn met_of<S: Alter + Drop, D: Disk + Drop>(found: &Result<Desk<S>, (Unopened<D>, Fault)>) -> Met {
+    match found {
+        Ok(desk) if has_gem(desk) => Met::Reopened,
+        Err((Unopened::Spent(_), Fault::Disk)) => Met::Spent,
+        _ => Met::Other,
+    }
+}
+
 // Opens the same files again.
 fn opened_again<D: Disk + Drop>(desk: Desk<FileStore<D>>) -> Met {
-    match desk.reopen(options()) {
-        Ok(desk) => {
-            if has_gem(&desk) {
-                Met::Reopened
-            } else {
-                Met::Other
-            }
-        }
-        Err((Unopened::Spent(_), Fault::Disk)) => Met::Spent,
-        Err(_) => Met::Other,
-    }
+    let found = desk.reopen(options());
+    met_of(&found)
 }
 
 // Opens what a stop leaves, and then the same files again.
 fn after_a_stop<D: Crash + Drop>(desk: Desk<FileStore<D>>) -> Met {
     match desk.restart(options()) {
         Ok(desk) => {
-            if has_gem(&desk) {
-                opened_again(desk)
-            } else {
-                Met::Other
-            }
+            let stands = has_gem(&desk);
+            let met = opened_again(desk);
+            if stands { met } else { Met::Other }
         }
         Err(_) => Met::Other,
     }
@@ -79,15 +72,12 @@ fn a_stop_leaves_the_catalogue(rt: HostRuntime) -> Result<(), Fail> {
     Ok(())
 }
 
-// Retires the database, and opens the same files again where that failed.
+// Retires the database, and opens the same files again, which matters where that failed.
 fn retired<D: Disk + Drop>(desk: Desk<FileStore<D>>) -> Met {
     let mut desk = desk;
     let is_done = desk.apply("r", &Command::Retire { name: "gem" }).is_ok();
-    if is_done {
-        Met::Nothing
-    } else {
-        opened_again(desk)
-    }
+    let met = opened_again(desk);
+    if is_done { Met::Nothing } else { met }
 }
 
 // The same over the catalogue in two files.
@@ -126,28 +116,5 @@ fn the_same_files_after_a_failure(rt: HostRuntime) -> Result<(), Fail> {
         }
     }
     assert!(rt; reopened > 0 && spent > 0, "{reopened} {spent}");
-    Ok(())
-}
-
-// The database at the path, in which there is no catalogue.
-fn unmade(rt: &HostRuntime) -> Result<Connection<FileStore<File>>, Fail> {
-    match Desk::open_from(rt, PATH, false, Unknown) {
-        Err((Unopened::Database(conn), Fault::NotACatalogue)) => Ok(conn),
-        _ => Err("another end")?,
-    }
-}
-
-#[test]
-fn at_a_path(rt: HostRuntime) -> Result<(), Fail> {
-    let editions = read_editions(rt.alloc())?;
-    let desk = applied(rt.alloc(), &editions, unmade(&rt)?, true, &GEM)?;
-    desk.into_connection().close()?;
-    let Ok(desk) = Desk::open_from(&rt, PATH, false, Unknown) else {
-        return Err("not opened")?;
-    };
-    assert!(rt; has_gem(&desk));
-    desk.into_connection().close()?;
-    fs::remove_file(&rt, PATH)?;
-    let _there_or_not = fs::remove_file(&rt, LOG);
     Ok(())
 }

@@ -9,7 +9,8 @@ use std::alloc::{AllocError, Global};
 /// Collects rows, and stops at the last of so many.
 #[derive(Drop)]
 pub(crate) struct Rows {
-    text: String,
+    /// What was collected.
+    pub(crate) text: String,
     left: usize,
 }
 
@@ -19,12 +20,6 @@ impl Rows {
             text: String::new(alloc),
             left: most,
         }
-    }
-
-    /// What was collected.
-    pub(crate) fn into_text(self) -> String {
-        let Rows { text, left: _ } = self;
-        text
     }
 }
 
@@ -113,20 +108,7 @@ fn push_edition<L: Lookup>(
     let mut rows = Rows::new(alloc, 9);
     desk.info(number, &mut rows)?;
     desk.find(number, Strategy::Substring, &query, &mut rows)?;
-    text.push_str(rows.into_text().as_str())?;
-    Ok(())
-}
-
-fn push_kept<K: Keeper>(
-    alloc: Global,
-    text: &mut String,
-    desk: &mut K,
-    id: &str,
-) -> Result<(), Fault> {
-    if let Some(kept) = desk.kept(id)? {
-        text.push_str(told_reply(alloc, &kept)?.as_str())?;
-        text.push(';')?;
-    }
+    text.push_str(rows.text.as_str())?;
     Ok(())
 }
 
@@ -142,7 +124,10 @@ pub(crate) fn shown<K: Keeper>(alloc: Global, desk: &mut K) -> Result<String, Fa
     let accepted = desk.summary()?.accepted;
     text.push_str(format!(in alloc; "{installs} of {accepted};")?.as_str())?;
     for id in ["a", "b", "c", "d", "e", "f"] {
-        push_kept(alloc, &mut text, desk, id)?;
+        if let Some(kept) = desk.kept(id)? {
+            text.push_str(told_reply(alloc, &kept)?.as_str())?;
+            text.push(';')?;
+        }
     }
     Ok(text)
 }

@@ -1,6 +1,6 @@
 //! Sessions over a database in memory.
-use crate::asked::{Asked, read_editions};
-use crate::desks::applied;
+use crate::asked::Asked;
+use crate::desks::made_in;
 use dict_desk::Fault;
 use dict_file_session::{FileFault, session_over};
 use dict_io::{LimitedSink, OverRead};
@@ -60,13 +60,12 @@ fn spoken_twice<S: Alter + Drop>(
 #[test]
 fn two_sessions(rt: HostRuntime) -> Result<(), Fail> {
     let alloc = rt.alloc();
-    let editions = read_editions(alloc)?;
-    let conn = Connection::open_in_memory(alloc)?;
-    let conn = applied(alloc, &editions, conn, true, &GEM)?.into_connection();
+    let conn = made_in(alloc, Connection::open_in_memory(alloc)?, &GEM)?;
     let (first, second) = spoken_twice(alloc, conn)?;
     assert_eq!(rt; first.as_str(), FOUND);
     assert_eq!(rt; second.as_str(), SHOWN);
-    let (first, second) = spoken_twice(alloc, Connection::open_in_memory(alloc)?)?;
+    let conn = Connection::open_in_memory(alloc)?;
+    let (first, second) = spoken_twice(alloc, conn)?;
     assert_eq!(rt; first.as_str(), "no catalogue");
     assert_eq!(rt; second.as_str(), "no catalogue");
     Ok(())

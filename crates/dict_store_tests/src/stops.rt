@@ -361,7 +361,7 @@ fn answers_over(
     answers_of(alloc, &mut plain, requests)
 }
 
-// The commands of a case over the two files that those before them make.
+// The commands of a case over the two files that those before them make, or over no files at all.
 fn sweep_over(
     rt: &impl Abort,
     alloc: Global,
@@ -373,7 +373,7 @@ fn sweep_over(
     let requests = requests(alloc, editions, case.1)?;
     let expected = answers_over(alloc, editions, case.0, &requests)?;
     let sweep = Sweep {
-        is_new: false,
+        is_new: octets.db.is_empty(),
         log: octets.log.as_slice(),
         db: octets.db.as_slice(),
         requests: requests.as_slice(),
@@ -383,23 +383,13 @@ fn sweep_over(
     sweep_all(rt, alloc, &sweep, mode)
 }
 
-// A new catalogue over no files at all.
-fn sweep_new(rt: &impl Abort, alloc: Global, editions: &Editions, mode: Mode) -> Result<(), Fail> {
-    let expected = answers_over(alloc, editions, &[], &[])?;
-    let sweep = Sweep {
-        is_new: true,
-        log: &[],
-        db: &[],
-        requests: &[],
-        answers: &[],
-        states: expected.states.as_slice(),
-    };
-    sweep_all(rt, alloc, &sweep, mode)
-}
-
 fn sweep_cases(rt: &impl Abort, alloc: Global, mode: Mode) -> Result<(), Fail> {
     let editions = read_editions(alloc)?;
-    sweep_new(rt, alloc, &editions, mode)?;
+    let nothing = Octets {
+        log: Vec::new(alloc),
+        db: Vec::new(alloc),
+    };
+    sweep_over(rt, alloc, &editions, Case(&[], &[]), &nothing, mode)?;
     for case in &CASES {
         let octets = made(alloc, &editions, case.0)?;
         sweep_over(rt, alloc, &editions, *case, &octets, mode)?;
@@ -407,26 +397,30 @@ fn sweep_cases(rt: &impl Abort, alloc: Global, mode: Mode) -> Result<(), Fail> {
     Ok(())
 }
 
-#[test]
-fn a_stop_at_each_call(rt: HostRuntime) -> Result<(), Fail> {
-    for in_log in [true, false] {
-        let mode = Mode {
-            in_log,
-            goes_on: false,
-        };
-        sweep_cases(&rt, rt.alloc(), mode)?;
-    }
-    Ok(())
-}
+// A stop of one file, and of the other, and a failure of each after which it goes on.
+static MODES: [Mode; 4] = [
+    Mode {
+        in_log: true,
+        goes_on: false,
+    },
+    Mode {
+        in_log: false,
+        goes_on: false,
+    },
+    Mode {
+        in_log: true,
+        goes_on: true,
+    },
+    Mode {
+        in_log: false,
+        goes_on: true,
+    },
+];
 
 #[test]
-fn a_failure_of_each_call(rt: HostRuntime) -> Result<(), Fail> {
-    for in_log in [true, false] {
-        let mode = Mode {
-            in_log,
-            goes_on: true,
-        };
-        sweep_cases(&rt, rt.alloc(), mode)?;
+fn a_stop_or_a_failure_of_each_call(rt: HostRuntime) -> Result<(), Fail> {
+    for mode in &MODES {
+        sweep_cases(&rt, rt.alloc(), *mode)?;
     }
     Ok(())
 }

@@ -1,5 +1,8 @@
 //! Paths without a catalogue, and files that become one.
 use super::fixtures::{ROOM, Row, differing, remove, run};
+use dict_desk::{Fault, Lookup};
+use dict_store::Desk;
+use sqlite::Unknown;
 use std::fs;
 use std::test::Fail;
 
@@ -101,4 +104,35 @@ fn paths_without_a_catalogue(rt: HostRuntime) -> Result<(), Fail> {
         remove(&rt, file)?;
     }
     Ok(())
+}
+
+// How many commands the catalogue accepted whose desk is opened from a path; or the fault.
+fn accepted_at(rt: &HostRuntime, path: &str) -> Result<u64, Fault> {
+    match Desk::open_from(rt, path, false, Unknown) {
+        Ok(desk) => match desk.summary() {
+            Ok(summary) => Ok(summary.accepted),
+            Err(fault) => Err(fault),
+        },
+        Err((_, fault)) => Err(fault),
+    }
+}
+
+static INSTALLED: [Row; 2] = [
+    (&["create", "FILE"], "", 0, "", ""),
+    (
+        &["install", "FILE", "gem", "r1", "gem.index", "gem.dict"],
+        "",
+        0,
+        "{\"edition\":1,\"name\":\"gem\",\"number\":1,\"verb\":\"install\"}\n",
+        "",
+    ),
+];
+
+#[test]
+fn a_desk_from_a_path(rt: HostRuntime) -> Result<(), Fail> {
+    let path = "dictcat_desk.db";
+    assert_eq!(rt; accepted_at(&rt, path), Err(Fault::NotACatalogue));
+    assert_eq!(rt; differing(&rt, path, &INSTALLED)?.as_str(), "");
+    assert_eq!(rt; accepted_at(&rt, path), Ok(1));
+    remove(&rt, path)
 }

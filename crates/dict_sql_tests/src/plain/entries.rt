@@ -16,8 +16,9 @@ const ENTRIES: &str =
      Stored { rowid: 1, value: Entry { edition: 2, ord: 0, headword: \"'ore'\", start: 0, length: 9223372036854775807 } }, \
      Stored { rowid: 9223372036854775807, value: Entry { edition: 3, ord: 0, headword: \"zinc\", start: 0, length: 0 } }]";
 
-const OF_SECOND: &str =
-    "[Stored { rowid: 1, value: Entry { edition: 2, ord: 0, headword: \"'ore'\", start: 0, length: 9223372036854775807 } }]";
+const OF_FIRST: &str =
+    "[Stored { rowid: 3, value: Entry { edition: 1, ord: 0, headword: \"\", start: 0, length: 9223372036854775807 } }, \
+     Stored { rowid: 2, value: Entry { edition: 1, ord: 1, headword: \"opal\", start: 1, length: 9223372036854775807 } }]";
 
 fn told_all<S: Alter>(alloc: Global, conn: &mut Connection<S>) -> Result<String, Fail> {
     if !has_table(conn.schema(), StoreTable::Entry) {
@@ -52,6 +53,6 @@ pub(crate) fn look<S: Alter>(
         "INSERT INTO entry (rowid, edition, ord, headword, start, length) VALUES (9223372036854775807, 3, 0, 'zinc', 0, 0)",
     )?;
     assert_eq!(rt; told_all(alloc, conn)?.as_str(), ENTRIES);
-    assert_eq!(rt; told_of(alloc, conn, 2)?.as_str(), OF_SECOND);
+    assert_eq!(rt; told_of(alloc, conn, 1)?.as_str(), OF_FIRST);
     Ok(())
 }
