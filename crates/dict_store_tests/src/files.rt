@@ -2,6 +2,7 @@
 use crate::asked::{Asked, Editions};
 use crate::desks::applied;
 use crate::fails_once::FailsOnce;
+use dict_store::Desk;
 use sqlite::{Connection, FileStore, Files, Options};
 use sqlite_disk::{Disk, Fuse, Memory};
 use std::alloc::Global;
@@ -67,24 +68,39 @@ pub(crate) fn opened<D: Disk + Drop>(
     }
 }
 
-/// A new database in two files that don't fail.
-pub(crate) fn new_database(alloc: Global) -> Result<Connection<FileStore<Failing>>, Fail> {
-    let files = Files {
+/// Two new files that don't fail.
+pub(crate) fn new_files(alloc: Global) -> Result<Files<Failing>, Fail> {
+    Ok(Files {
         log: disk(alloc, &[], u64::MAX, true)?,
         db: disk(alloc, &[], u64::MAX, true)?,
-    };
+    })
+}
+
+/// The desk of the catalogue that these commands make in two new files.
+pub(crate) fn begun<D: Disk + Drop>(
+    alloc: Global,
+    editions: &Editions,
+    files: Files<D>,
+    asked: &[(&'static str, Asked)],
+) -> Result<Desk<FileStore<D>>, Fail> {
     match opened(alloc, files) {
-        Ok(conn) => Ok(conn),
+        Ok(conn) => applied(alloc, editions, conn, true, asked),
         Err(_) => Err("not opened")?,
     }
 }
 
-// The two files, the log written into the other one where that can be.
-fn closed<D: Disk + Drop>(conn: Connection<FileStore<D>>) -> Files<D> {
-    match conn.close_files() {
+// The two files of it once it is closed, the log written into the other one where that can be.
+fn ended<D: Disk + Drop>(
+    alloc: Global,
+    editions: &Editions,
+    files: Files<D>,
+    asked: &[(&'static str, Asked)],
+) -> Result<Files<D>, Fail> {
+    let desk = begun(alloc, editions, files, asked)?;
+    Ok(match desk.into_connection().close_files() {
         Ok(files) => files,
         Err((_, store)) => store.close(),
-    }
+    })
 }
 
 /// What two files have after these commands.
@@ -93,8 +109,7 @@ pub(crate) fn made(
     editions: &Editions,
     asked: &[(&'static str, Asked)],
 ) -> Result<Octets, Fail> {
-    let desk = applied(alloc, editions, new_database(alloc)?, true, asked)?;
-    let files = closed(desk.into_connection());
+    let files = ended(alloc, editions, new_files(alloc)?, asked)?;
     Ok(Octets {
         log: files.log.inner().inner().bytes().to_vec(alloc)?,
         db: files.db.inner().inner().bytes().to_vec(alloc)?,

@@ -1,7 +1,7 @@
 //! Desks over files in memory that are opened anew.
 use crate::asked::{Asked, read_editions};
-use crate::desks::{applied, desk_over};
-use crate::files::{Octets, disk, made, new_database, opened, options};
+use crate::desks::desk_over;
+use crate::files::{Octets, begun, disk, made, new_files, opened, options};
 use dict_catalogue::Command;
 use dict_desk::{Fault, Keeper, Lookup};
 use dict_store::{Desk, Unopened};
@@ -51,24 +51,24 @@ fn opened_again<D: Disk + Drop>(desk: Desk<FileStore<D>>) -> Met {
     met_of(&found)
 }
 
-// Opens what a stop leaves, and then the same files again.
-fn after_a_stop<D: Crash + Drop>(desk: Desk<FileStore<D>>) -> Met {
+// Opens what a stop leaves of two new files, and then the same files again.
+fn after_a_stop<D: Crash + Drop>(alloc: Global, files: Files<D>) -> Result<Met, Fail> {
+    let editions = read_editions(alloc)?;
+    let desk = begun(alloc, &editions, files, &GEM)?;
     match desk.restart(options()) {
         Ok(desk) => {
             let stands = has_gem(&desk);
             let met = opened_again(desk);
-            if stands { met } else { Met::Other }
+            Ok(if stands { met } else { Met::Other })
         }
-        Err(_) => Met::Other,
+        Err(_) => Ok(Met::Other),
     }
 }
 
 #[test]
 fn a_stop_leaves_the_catalogue(rt: HostRuntime) -> Result<(), Fail> {
-    let alloc = rt.alloc();
-    let editions = read_editions(alloc)?;
-    let desk = applied(alloc, &editions, new_database(alloc)?, true, &GEM)?;
-    assert!(rt; after_a_stop(desk) == Met::Reopened);
+    let files = new_files(rt.alloc())?;
+    assert!(rt; after_a_stop(rt.alloc(), files)? == Met::Reopened);
     Ok(())
 }
 

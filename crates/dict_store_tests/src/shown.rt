@@ -51,18 +51,6 @@ fn push_row(text: &mut String, headword: &str, body: &[u8]) -> Result<(), AllocE
     text.push(';')
 }
 
-// A mark and the number behind it.
-fn push_number(
-    alloc: Global,
-    text: &mut String,
-    mark: char,
-    number: u64,
-) -> Result<(), AllocError> {
-    let digits = format!(in alloc; "{number}")?;
-    text.push(mark)?;
-    text.push_str(digits.as_str())
-}
-
 fn push_item(alloc: Global, text: &mut String, item: &Item) -> Result<(), AllocError> {
     text.push_str(item.name())?;
     text.push(' ')?;
@@ -73,9 +61,11 @@ fn push_item(alloc: Global, text: &mut String, item: &Item) -> Result<(), AllocE
             former,
             ..
         } => {
-            push_number(alloc, text, ' ', current.number)?;
+            let number = current.number;
+            text.push_str(format!(in alloc; " {number}")?.as_str())?;
             if let Some(former) = former {
-                push_number(alloc, text, '/', former.number)?;
+                let number = former.number;
+                text.push_str(format!(in alloc; "/{number}")?.as_str())?;
             }
         }
         Item::Virtual { members, .. } => {
