@@ -2,3 +2,4 @@ pub mod EndLemmas
 pub mod PlainLemmas
 pub mod ServingLemmas
 pub mod WritingLemmas
+pub mod WorkLemmas

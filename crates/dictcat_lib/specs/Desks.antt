@@ -1,5 +1,5 @@
 -- What comes of work over the desk of a file's catalogue.
-use Rattle.std.specs.Prelude.{◌≡◌, ◌⊎◌, ℕ, List, Option, Result, Err, codes}
+use Rattle.std.specs.Prelude.{◌≡◌, ◌⊎◌, ℕ, List, Option, Result, codes}
 use Rattle.sqlite.specs.State.{HasCleanDisk}
 use Rattle.sqlite.specs.Held.{Held, state}
 use Rattle.sqlite_trees.specs.declared.store.Store.{Ghosts}
@@ -10,12 +10,13 @@ use Rattle.dict_io.specs.Streams.{Change}
 use Rattle.dict_store.specs.Desk.{DeskState, Shows, LeavesOneOf}
 use Rattle.dict_store.specs.Adopted.{IsAdopted, IsNotAdopted}
 use Rattle.dict_printed.specs.Faults.{told_of}
-use Rattle.dict_printed.specs.Writing.{IsUntouched, Writes}
+use Rattle.dict_printed.specs.Writing.{Writes}
 use Rattle.dict_printed.specs.declared.fault.Fault.{Fault}
 use Rattle.dict_tasks.specs.Changing.{IsChanged}
 use Rattle.dict_tasks.specs.Installing.{InstallEnds}
 use Rattle.dict_tasks.specs.Listed.{IsListed}
 use Rattle.dictcat_lib.specs.Opening.{IsUnopened}
+use Rattle.dictcat_lib.specs.Working.{EndsOn as EndsOver}
 
 module _ {S : Type 0} (g : Ghosts S) where
   -- the desk of the catalogue in the database that a file was opened as
@@ -33,9 +34,7 @@ module _ {S : Type 0} (g : Ghosts S) where
 
   -- there is no desk of the file with a path, or this is done over it
   abbrev pub EndsOn : List ℕ → (DeskState S → Type 0) → Result (Unit {0}) Fault → Change → Type 0
-  EndsOn path Work result writer =
-      ((fault : Fault) × (result ≡ Err fault) × IsNoDesk path fault × IsUntouched writer)
-      ⊎ ((desk : DeskState S) × IsDesk desk × Work desk)
+  EndsOn path Work result writer = EndsOver IsDesk (IsNoDesk path) Work result writer
 
   -- the items were listed
   unfoldable pub ListEnds : List ℕ → Result (Unit {0}) Fault → Change → Type 0

@@ -3,3 +3,5 @@ pub mod Serving
 pub mod Opening
 pub mod Plain
 pub mod Program
+pub mod Working
+pub mod FileWork

@@ -1,18 +1,13 @@
-// Work over the desk of a file's catalogue.
+// The desk of a file's catalogue.
 ghost use Rattle.std.specs.Prelude.{IfOk, MatchResult};
-ghost use Rattle.dict_io.specs.Streams.{change};
-ghost use Rattle.dict_catalogue.specs.Views.{command_meant};
 ghost use Rattle.dict_store.specs.Desk.{Shows, LeavesOneOf};
 ghost use Rattle.dict_serving.specs.Serving.{Follows, IsNew, IsNone, IsNotReopened};
-ghost use Rattle.dictcat_lib.specs.Desks.{IsDesk, IsNoDesk, IsTrusted, ListEnds, AuditEnds, ChangeEnds, InstallsOn};
+ghost use Rattle.dictcat_lib.specs.Desks.{IsDesk, IsNoDesk, IsTrusted};
 
 use crate::stores::{close_file, open_file, options};
-use dict_catalogue::Command;
 use dict_desk::Fault as DeskFault;
-use dict_io::Sink;
 use dict_printed::Fault;
 use dict_store::{Desk, Unopened};
-use dict_tasks::{InputFiles, Wanted, change, install, list};
 use sqlite::{File, FileStore};
 use sqlite_trees::store::Store;
 
@@ -64,68 +59,4 @@ pub(crate) fn reopen_desk<'w>(
             }
         },
     }
-}
-
-// Writes a line for each item of the catalogue in the file with this path.
-pub(crate) fn list_file<'w, K: Sink>(
-    rt: &HostRuntime,
-    file: &'w str,
-    writer: &mut K,
-) -> Result<(), Fault<'w>>
-    ensures { ListEnds ⟦<FileStore<File> as Store>⟧ file.entry.now result (change K.stream writer.old writer.new) }
-{
-    let desk = open_desk(rt, file)?;
-    let end = list(&desk, writer);
-    close_file(desk.into_connection());
-    end
-}
-
-// Reads the catalogue in the file with this path whole, and says that it is sound.
-pub(crate) fn audit_file<'w, K: Sink>(
-    rt: &HostRuntime,
-    file: &'w str,
-    writer: &mut K,
-) -> Result<(), Fault<'w>>
-    ensures { AuditEnds ⟦<FileStore<File> as Store>⟧ file.entry.now result (change K.stream writer.old writer.new) }
-{
-    let desk = open_desk(rt, file)?;
-    close_file(desk.into_connection());
-    match writer.put(b"sound\n") {
-        Ok(()) => Ok(()),
-        Err(_) => Err(Fault::CannotWrite),
-    }
-}
-
-// Applies a command to the catalogue in the file with this path, and writes its reply.
-pub(crate) fn change_file<'w, K: Sink>(
-    rt: &HostRuntime,
-    file: &'w str,
-    id: &str,
-    command: &Command,
-    writer: &mut K,
-) -> Result<(), Fault<'w>>
-    ensures { ChangeEnds ⟦<FileStore<File> as Store>⟧ file.entry.now id.now (command_meant command.now) result (change K.stream writer.old writer.new) }
-{
-    let mut desk = open_desk(rt, file)?;
-    let end = change(rt.alloc(), &mut desk, id, command, writer);
-    close_file(desk.into_connection());
-    end
-}
-
-// Installs the edition that two files make in the catalogue of the file with this path, and writes the reply.
-pub(crate) fn install_file<'w, I: InputFiles, K: Sink>(
-    rt: &HostRuntime,
-    file: &'w str,
-    id: &str,
-    wanted: Wanted<'w>,
-    files: &I,
-    writer: &mut K,
-) -> Result<(), Fault<'w>>
-    ensures { InstallsOn ⟦<FileStore<File> as Store>⟧ (I.octets files.now) file.entry.now wanted.entry.name.now id.now
-        wanted.entry.index.now wanted.entry.text.now result (change K.stream writer.old writer.new) }
-{
-    let mut desk = open_desk(rt, file)?;
-    let end = install(rt.alloc(), &mut desk, id, wanted, files, writer);
-    close_file(desk.into_connection());
-    end
 }

@@ -10,6 +10,7 @@ mod serving;
 mod session;
 mod stores;
 mod task;
+mod work;
 
 pub use laws::status_laws;
 pub use plain::run_plain;

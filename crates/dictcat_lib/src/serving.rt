@@ -1,13 +1,15 @@
-// A server over a file's catalogue.
+// Work over a file's catalogue.
 ghost use Rattle.dict_io.specs.Streams.{change};
-ghost use Rattle.dictcat_lib.specs.Serving.{ServesOn};
+ghost use Rattle.dictcat_lib.specs.FileWork.{FileWorkEnds};
 
 use crate::desks::{open_desk, reopen_desk};
 use crate::stores::close_file;
+use crate::work::{Work, work_over};
 use dict_io::Sink;
 use dict_printed::Fault;
-use dict_serving::{Desks, ServerOptions, serve_catalogue};
+use dict_serving::Desks;
 use dict_store::Desk;
+use dict_tasks::InputFiles;
 use sqlite::{File, FileStore};
 use sqlite_trees::store::Store;
 
@@ -40,15 +42,16 @@ impl<'w> Desks<'w, Desk<FileStore<File>>> for CatalogueFile<'_, 'w> {
     }
 }
 
-// Serves the catalogue in the file with this path at two addresses, which are written.
-pub(crate) fn serve_file<'w, K: Sink>(
+// Does the work over the catalogue in the file with this path, and writes what comes of it.
+pub(crate) fn work_on_file<'w, I: InputFiles, K: Sink>(
     rt: &HostRuntime,
     file: &'w str,
-    wanted: &ServerOptions<'w>,
+    work: &Work<'_, '_, 'w>,
+    files: &I,
     writer: &mut K,
 ) -> Result<(), Fault<'w>>
-    ensures { ServesOn ⟦<FileStore<File> as Store>⟧ file.entry.now wanted.now.dict.now wanted.now.http.now wanted.now.rounds result (change K.stream writer.old writer.new) }
+    ensures { FileWorkEnds ⟦<FileStore<File> as Store>⟧ (I.octets files.now) file.entry.now work.now result (change K.stream writer.old writer.new) }
 {
     let mut desks = CatalogueFile { rt, path: file };
-    serve_catalogue(rt, rt.alloc(), &mut desks, wanted, writer)
+    work_over(rt, &mut desks, work, files, writer)
 }

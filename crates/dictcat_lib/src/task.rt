@@ -1,17 +1,18 @@
 // What is done of what the program is asked for.
 ghost use Rattle.dict_io.specs.Streams.{change};
+ghost use Rattle.dict_catalogue.specs.Views.{command_meant};
+ghost use Rattle.dictcat_lib.specs.Desks.{ChangeEnds};
 ghost use Rattle.dictcat_lib.specs.Program.{TaskEnds, ChangeTaskEnds};
 
-use crate::desks::{audit_file, change_file, install_file, list_file};
 use crate::making::create_file;
 use crate::plain::run_files;
-use crate::serving::serve_file;
+use crate::serving::work_on_file;
 use crate::session::run_session;
+use crate::work::Work;
 use dict_catalogue::Command;
 use dict_io::{Sink, Source};
 use dict_printed::Fault;
-use dict_serving::ServerOptions;
-use dict_tasks::{InputFiles, Wanted};
+use dict_tasks::InputFiles;
 use dict_words::{Change, Task};
 use sqlite::{File, FileStore};
 use sqlite_trees::store::Store;
@@ -32,8 +33,8 @@ pub fn perform<'w, I: InputFiles, S: Source, K: Sink>(
             run_files(rt.alloc(), name, *index, *text, files, reader, writer)
         }
         Task::Create { file } => create_file(rt, *file),
-        Task::List { file } => list_file(rt, *file, writer),
-        Task::Audit { file } => audit_file(rt, *file, writer),
+        Task::List { file } => work_on_file(rt, *file, &Work::List, files, writer),
+        Task::Audit { file } => work_on_file(rt, *file, &Work::Audit, files, writer),
         Task::Session { file } => run_session(rt, *file, reader, writer),
         Task::Change {
             file,
@@ -47,12 +48,12 @@ pub fn perform<'w, I: InputFiles, S: Source, K: Sink>(
             http,
             rounds,
         } => {
-            let wanted = ServerOptions {
+            let work = Work::Serve {
                 dict: *dict,
                 http: *http,
                 rounds: *rounds,
             };
-            serve_file(rt, *file, &wanted, writer)
+            work_on_file(rt, *file, &work, files, writer)
         }
     }
 }
@@ -72,26 +73,48 @@ fn perform_change<'w, I: InputFiles, K: Sink>(
 {
     match what {
         Change::Install { index, text } => {
-            let wanted = Wanted {
+            let work = Work::Install {
+                id,
                 name,
                 index: *index,
                 text: *text,
             };
-            install_file(rt, file, id, wanted, files, writer)
+            work_on_file(rt, file, &work, files, writer)
         }
-        Change::Rollback => change_file(rt, file, id, &Command::Rollback { name }, writer),
-        Change::Retire => change_file(rt, file, id, &Command::Retire { name }, writer),
+        Change::Rollback => {
+            let command = Command::Rollback { name };
+            apply(rt, file, id, &command, files, writer)
+        }
+        Change::Retire => {
+            let command = Command::Retire { name };
+            apply(rt, file, id, &command, files, writer)
+        }
         Change::Virtual { title, members } => {
             let command = Command::PutVirtual {
                 name,
                 title: *title,
                 members: members.as_slice(),
             };
-            change_file(rt, file, id, &command, writer)
+            apply(rt, file, id, &command, files, writer)
         }
         Change::Place { place } => {
             let place = u64::from(*place);
-            change_file(rt, file, id, &Command::Place { name, place }, writer)
+            let command = Command::Place { name, place };
+            apply(rt, file, id, &command, files, writer)
         }
     }
+}
+
+// Applies a command to the catalogue of a file.
+fn apply<'w, I: InputFiles, K: Sink>(
+    rt: &HostRuntime,
+    file: &'w str,
+    id: &'w str,
+    command: &Command,
+    files: &I,
+    writer: &mut K,
+) -> Result<(), Fault<'w>>
+    ensures { ChangeEnds ⟦<FileStore<File> as Store>⟧ file.entry.now id.entry.now (command_meant command.now) result (change K.stream writer.old writer.new) }
+{
+    work_on_file(rt, file, &Work::Apply { id, command }, files, writer)
 }
