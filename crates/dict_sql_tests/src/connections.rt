@@ -1,31 +1,106 @@
-//! Connections over files that memory holds, and texts of the tests' own.
+//! Connections over memory and over files that memory holds, and texts of the tests' own.
 
+use crate::{keyed, plain};
+use dict_sql::records::ReadError;
 use sqlite::{Alter, Connection, Error, FileStore, Files, Options};
 use sqlite_disk::Disk;
-use std::alloc::{AllocError, Global};
+use std::alloc::Global;
 use std::fmt::Debug;
+use std::process::Abort;
 use std::test::Fail;
+
+/// What is run over a connection.
+#[derive(Clone, Copy)]
+pub(crate) enum Part {
+    Plain,
+    Keyed,
+    Selections,
+    WithoutKeys,
+    OtherIndexes,
+    Dropped,
+}
 
 /// Runs a text of a test's own.
 pub(crate) fn raw<S: Alter>(conn: &mut Connection<S>, text: &str) -> Result<(), Error> {
     conn.execute_batch(text)
 }
 
-/// The number that a text of a test's own answers.
-pub(crate) fn number<S: Alter>(conn: &mut Connection<S>, text: &str) -> Result<i64, Error> {
+fn number<S: Alter>(conn: &mut Connection<S>, text: &str) -> Result<i64, Error> {
     conn.query_row(text, &[])?.get(0)
 }
 
-/// Records, as text.
-pub(crate) fn told<R: Debug>(alloc: Global, records: &[R]) -> Result<String, AllocError> {
-    format!(in alloc; "{records:?}")
+/// Each text of a test's own answers its number.
+pub(crate) fn compare_numbers<S: Alter>(
+    rt: &impl Abort,
+    conn: &mut Connection<S>,
+    rows: &[(&str, i64)],
+) -> Result<(), Fail> {
+    for (text, expected) in rows {
+        assert_eq!(rt; number(conn, *text)?, *expected, "{text}");
+    }
+    Ok(())
 }
 
-/// Opens two files.
-pub(crate) fn open<D: Disk + Drop>(
+/// Records that were read, as text.
+pub(crate) fn told<R: Debug + Drop>(
     alloc: Global,
-    files: Files<D>,
-) -> Result<Connection<FileStore<D>>, Fail> {
+    found: Result<Vec<R>, ReadError>,
+) -> Result<String, ReadError> {
+    let all = found?;
+    let records = all.as_slice();
+    Ok(format!(in alloc; "{records:?}")?)
+}
+
+/// Such a text is this one.
+pub(crate) fn compare(
+    rt: &impl Abort,
+    found: Result<String, ReadError>,
+    expected: &str,
+) -> Result<(), Fail> {
+    let text = found?;
+    assert_eq!(rt; text.as_str(), expected);
+    Ok(())
+}
+
+// Makes the tables of the part and fills them; or looks at what they have then.
+fn run<S: Alter>(
+    rt: &impl Abort,
+    alloc: Global,
+    conn: &mut Connection<S>,
+    part: Part,
+    are_filled: bool,
+) -> Result<(), Fail> {
+    match (part, are_filled) {
+        (Part::Plain, false) => plain::fill(rt, alloc, conn),
+        (Part::Plain, true) => plain::drop_and_look(rt, conn),
+        (Part::Keyed, false) => keyed::fill(rt, alloc, conn),
+        (Part::Keyed, true) => keyed::look(rt, alloc, conn),
+        (Part::Selections, false) => keyed::search::run(rt, alloc, conn),
+        (Part::WithoutKeys, false) => keyed::inside::run(rt, alloc, conn),
+        (Part::OtherIndexes, false) => keyed::indexes::others(rt, conn),
+        (Part::Dropped, false) => keyed::drops::run(rt, conn),
+        (_, true) => Ok(()),
+    }
+}
+
+fn fill_and_look<S: Alter>(
+    rt: &impl Abort,
+    alloc: Global,
+    conn: &mut Connection<S>,
+    part: Part,
+) -> Result<(), Fail> {
+    run(rt, alloc, conn, part, false)?;
+    run(rt, alloc, conn, part, true)
+}
+
+/// Runs the part over memory.
+pub(crate) fn over_memory(rt: &impl Abort, alloc: Global, part: Part) -> Result<(), Fail> {
+    let mut conn = Connection::open_in_memory(alloc)?;
+    fill_and_look(rt, alloc, &mut conn, part)
+}
+
+// Opens two files.
+fn open<D: Disk + Drop>(alloc: Global, files: Files<D>) -> Result<Connection<FileStore<D>>, Fail> {
     if !files.may_be_used() {
         return Err("files that may not be used")?;
     }
@@ -35,10 +110,36 @@ pub(crate) fn open<D: Disk + Drop>(
     }
 }
 
-/// Closes them, and leaves the second, which has all that was committed.
-pub(crate) fn close<D: Disk + Drop>(conn: Connection<FileStore<D>>) -> Result<D, Fail> {
-    match conn.close_files() {
-        Ok(Files { log: _, db }) => Ok(db),
-        Err(_) => Err("not closed")?,
+// Closes them, and leaves the second, which has all that was committed.
+fn close<D: Disk + Drop>(conn: Connection<FileStore<D>>) -> Result<D, Fail> {
+    match conn.close_files().ok() {
+        Some(Files { log: _, db }) => Ok(db),
+        None => Err("not closed")?,
     }
+}
+
+// Opens two files, runs this, and leaves the second of them.
+fn in_files<D: Disk + Drop>(
+    rt: &impl Abort,
+    alloc: Global,
+    files: Files<D>,
+    part: Part,
+    are_filled: bool,
+) -> Result<D, Fail> {
+    let mut conn = open(alloc, files)?;
+    run(rt, alloc, &mut conn, part, are_filled)?;
+    close(conn)
+}
+
+/// The tables are filled in two files, and stand in the second of them, with another log.
+pub(crate) fn over_files<D: Disk + Drop>(
+    rt: &impl Abort,
+    alloc: Global,
+    files: Files<D>,
+    log: D,
+    part: Part,
+) -> Result<(), Fail> {
+    let db = in_files(rt, alloc, files, part, false)?;
+    in_files(rt, alloc, Files { log, db }, part, true)?;
+    Ok(())
 }

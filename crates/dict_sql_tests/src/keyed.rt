@@ -1,40 +1,26 @@
 //! The statements of the keyed tables on their happy path, with other tables before and after them.
 
-use crate::connections::{close, number, open, raw};
-use dict_keyed_sql::next_keyed;
-use dict_sql::records::{ReadError, Record};
+use crate::connections::{Part, compare_numbers, over_files as run_over_files, over_memory, raw};
 use rows::{empty_all, put_all};
-use sqlite::{Alter, Connection, Files, Rows};
-use sqlite_disk::{Disk, Memory};
+use sqlite::{Alter, Connection, Files};
+use sqlite_disk::Memory;
 use std::alloc::Global;
 use std::process::Abort;
 use std::test::Fail;
 
-mod drops;
-mod entries;
-mod indexes;
-mod inside;
-mod pieces;
+pub(crate) mod drops;
+pub(crate) mod indexes;
+pub(crate) mod inside;
+mod reads;
 mod rows;
-mod search;
+pub(crate) mod search;
 
-// The records that are still to come.
-fn rest<S: Alter, R: Record + Drop>(
+/// Makes the tables and fills them, and makes the indexes once there are rows.
+pub(crate) fn fill<S: Alter>(
+    rt: &impl Abort,
     alloc: Global,
-    rows: &mut Rows<'_, S>,
-) -> Result<Vec<R>, ReadError> {
-    let mut all = Vec::new(alloc);
-    'rows: for _ in 0..1000 {
-        match next_keyed(rows)? {
-            Some(record) => all.push(record)?,
-            None => return Ok(all),
-        }
-    }
-    Ok(all)
-}
-
-// Makes the tables and fills them, and makes the indexes once there are rows.
-fn fill<S: Alter>(rt: &impl Abort, alloc: Global, conn: &mut Connection<S>) -> Result<(), Fail> {
+    conn: &mut Connection<S>,
+) -> Result<(), Fail> {
     raw(
         conn,
         "CREATE TABLE first (a TEXT NOT NULL UNIQUE) STRICT; INSERT INTO first VALUES ('it''s')",
@@ -45,53 +31,29 @@ fn fill<S: Alter>(rt: &impl Abort, alloc: Global, conn: &mut Connection<S>) -> R
         "CREATE TABLE last (b INTEGER PRIMARY KEY, c BLOB) STRICT; INSERT INTO last VALUES (1, x''), (2, NULL)",
     )?;
     put_all(conn)?;
-    entries::look(rt, alloc, conn)?;
+    reads::look(rt, alloc, conn)?;
     indexes::run(rt, conn)
 }
 
-// The tables stand as they were filled, and the others too.
-fn look<S: Alter>(rt: &impl Abort, alloc: Global, conn: &mut Connection<S>) -> Result<(), Fail> {
-    entries::look(rt, alloc, conn)?;
-    pieces::look(rt, alloc, conn)?;
-    assert_eq!(rt; number(conn, "SELECT count(*) FROM first")?, 1);
-    assert_eq!(rt; number(conn, "SELECT count(*) FROM last")?, 2);
-    Ok(())
+// The rows of the other tables.
+static COUNTS: [(&str, i64); 2] = [
+    ("SELECT count(*) FROM first", 1),
+    ("SELECT count(*) FROM last", 2),
+];
+
+/// The tables stand as they were filled, and the others too.
+pub(crate) fn look<S: Alter>(
+    rt: &impl Abort,
+    alloc: Global,
+    conn: &mut Connection<S>,
+) -> Result<(), Fail> {
+    reads::look(rt, alloc, conn)?;
+    compare_numbers(rt, conn, &COUNTS)
 }
 
 #[test]
 fn in_memory(rt: HostRuntime) -> Result<(), Fail> {
-    let alloc = rt.alloc();
-    let mut conn = Connection::open_in_memory(alloc)?;
-    fill(&rt, alloc, &mut conn)?;
-    look(&rt, alloc, &mut conn)
-}
-
-#[test]
-fn selections_find_what_the_list_has(rt: HostRuntime) -> Result<(), Fail> {
-    let alloc = rt.alloc();
-    let mut conn = Connection::open_in_memory(alloc)?;
-    search::run(&rt, alloc, &mut conn)
-}
-
-#[test]
-fn without_keys(rt: HostRuntime) -> Result<(), Fail> {
-    let alloc = rt.alloc();
-    let mut conn = Connection::open_in_memory(alloc)?;
-    inside::run(&rt, alloc, &mut conn)
-}
-
-// The tables are filled in two files, and stand in the second of them, with another log.
-fn over<D: Disk + Drop>(
-    rt: &impl Abort,
-    alloc: Global,
-    files: Files<D>,
-    log: D,
-) -> Result<(), Fail> {
-    let mut conn = open(alloc, files)?;
-    fill(rt, alloc, &mut conn)?;
-    let db = close(conn)?;
-    let mut conn = open(alloc, Files { log, db })?;
-    look(rt, alloc, &mut conn)
+    over_memory(&rt, rt.alloc(), Part::Keyed)
 }
 
 #[test]
@@ -101,17 +63,25 @@ fn over_files(rt: HostRuntime) -> Result<(), Fail> {
         log: Memory::new(alloc),
         db: Memory::new(alloc),
     };
-    over(&rt, alloc, files, Memory::new(alloc))
+    run_over_files(&rt, alloc, files, Memory::new(alloc), Part::Keyed)
+}
+
+#[test]
+fn selections_find_what_the_list_has(rt: HostRuntime) -> Result<(), Fail> {
+    over_memory(&rt, rt.alloc(), Part::Selections)
+}
+
+#[test]
+fn without_keys(rt: HostRuntime) -> Result<(), Fail> {
+    over_memory(&rt, rt.alloc(), Part::WithoutKeys)
 }
 
 #[test]
 fn other_indexes(rt: HostRuntime) -> Result<(), Fail> {
-    let mut conn = Connection::open_in_memory(rt.alloc())?;
-    indexes::others(&rt, &mut conn)
+    over_memory(&rt, rt.alloc(), Part::OtherIndexes)
 }
 
 #[test]
 fn dropped(rt: HostRuntime) -> Result<(), Fail> {
-    let mut conn = Connection::open_in_memory(rt.alloc())?;
-    drops::run(&rt, &mut conn)
+    over_memory(&rt, rt.alloc(), Part::Dropped)
 }

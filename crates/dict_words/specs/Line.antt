@@ -59,11 +59,17 @@ changes =
     ∷ leaf (codes "rollback") (codes "FILE" ∷ codes "NAME" ∷ codes "ID" ∷ [])
     ∷ leaf (codes "retire") (codes "FILE" ∷ codes "NAME" ∷ codes "ID" ∷ []) ∷ []
 
--- what groups and orders the databases of a file's catalogue
+-- what groups the databases of a file's catalogue
+abbrev pub grouping : Shape
+grouping = leaf_with (codes "virtual") (codes "FILE" ∷ codes "NAME" ∷ codes "ID" ∷ codes "TITLE" ∷ []) (several (codes "MEMBER") ∷ [])
+
+-- what orders them
+abbrev pub placing : Shape
+placing = leaf_with (codes "place") (codes "FILE" ∷ codes "NAME" ∷ codes "ID" ∷ []) (number (codes "PLACE") ∷ [])
+
+-- both
 abbrev pub arrangements : List Shape
-arrangements =
-    leaf_with (codes "virtual") (codes "FILE" ∷ codes "NAME" ∷ codes "ID" ∷ codes "TITLE" ∷ []) (several (codes "MEMBER") ∷ [])
-    ∷ leaf_with (codes "place") (codes "FILE" ∷ codes "NAME" ∷ codes "ID" ∷ []) (number (codes "PLACE") ∷ []) ∷ []
+arrangements = grouping ∷ placing ∷ []
 
 -- what serves a file's catalogue
 abbrev pub servers : List Shape

@@ -1,7 +1,8 @@
 // The command line, as it is declared.
 ghost use Rattle.std.specs.Prelude.{◌≡◌, IfOk, false, map};
+ghost use Rattle.clap.specs.Simple.{App, with_subcommand};
 ghost use Rattle.clap.specs.Walk.{rule_of};
-ghost use Rattle.dict_words.specs.Line.{word, several, number, setting, count, leaf, alone, required, command_line, with_all, readings, changes, arrangements, Reads};
+ghost use Rattle.dict_words.specs.Line.{word, several, number, setting, count, leaf, alone, required, command_line, with_all, readings, changes, grouping, placing, arrangements, Reads};
 
 use crate::help;
 use clap::{Arg, Command};
@@ -96,39 +97,61 @@ pub fn command_line<'w>(alloc: Global) -> Result<Command<'w>, AllocError>
     with_server(alloc, with_arrangements(alloc, line)?)
 }
 
+// Adds a subcommand that takes these words, each with its help.
+fn with_leaf<'w>(
+    alloc: Global,
+    line: Command<'w>,
+    name: &'w str,
+    says: (&'w str, &'w str),
+    words: &[(&'w str, &'w str)],
+) -> Result<Command<'w>, AllocError>
+    ensures { (app : App) → Reads app line.entry → IfOk result (Reads (with_subcommand app (leaf name.entry.now (map (λ one. one.0.now) words.now)))) }
+{
+    line.subcommand(leaf(alloc, name, says, words)?)
+}
+
 // Adds what makes or reads a file, or serves a session.
 fn with_readings<'w>(alloc: Global, line: Command<'w>) -> Result<Command<'w>, AllocError>
     ensures { Reads (alone required) line.entry → IfOk result (Reads (with_all (alone required) readings)) }
 {
-    line.subcommand(leaf(alloc, "plain", help::PLAIN, &[NAME, INDEX, DICT])?)?
-        .subcommand(leaf(alloc, "create", help::CREATE, &[FILE])?)?
-        .subcommand(leaf(alloc, "list", help::LIST, &[FILE])?)?
-        .subcommand(leaf(alloc, "audit", help::AUDIT, &[FILE])?)?
-        .subcommand(leaf(alloc, "session", help::SESSION, &[FILE])?)
+    let line = with_leaf(alloc, line, "plain", help::PLAIN, &[NAME, INDEX, DICT])?;
+    let line = with_leaf(alloc, line, "create", help::CREATE, &[FILE])?;
+    let line = with_leaf(alloc, line, "list", help::LIST, &[FILE])?;
+    let line = with_leaf(alloc, line, "audit", help::AUDIT, &[FILE])?;
+    with_leaf(alloc, line, "session", help::SESSION, &[FILE])
 }
 
 // Adds what changes the databases of a catalogue.
 fn with_changes<'w>(alloc: Global, line: Command<'w>) -> Result<Command<'w>, AllocError>
     ensures { Reads (with_all (alone required) readings) line.entry → IfOk result (Reads (with_all (with_all (alone required) readings) changes)) }
 {
-    line.subcommand(leaf(
-        alloc,
-        "install",
-        help::INSTALL,
-        &[FILE, NAME, ID, INDEX, DICT],
-    )?)?
-    .subcommand(leaf(alloc, "rollback", help::ROLLBACK, &[FILE, NAME, ID])?)?
-    .subcommand(leaf(alloc, "retire", help::RETIRE, &[FILE, NAME, ID])?)
+    let words = &[FILE, NAME, ID, INDEX, DICT];
+    let line = with_leaf(alloc, line, "install", help::INSTALL, words)?;
+    let line = with_leaf(alloc, line, "rollback", help::ROLLBACK, &[FILE, NAME, ID])?;
+    with_leaf(alloc, line, "retire", help::RETIRE, &[FILE, NAME, ID])
+}
+
+// Adds what puts databases into a group.
+fn with_group<'w>(alloc: Global, line: Command<'w>) -> Result<Command<'w>, AllocError>
+    ensures { (app : App) → Reads app line.entry → IfOk result (Reads (with_subcommand app grouping)) }
+{
+    let group = leaf(alloc, "virtual", help::VIRTUAL, &[FILE, NAME, ID, TITLE])?;
+    line.subcommand(group.arg(several(alloc, "MEMBER", "A database that is searched by it"))?)
+}
+
+// Adds what puts a database at a place.
+fn with_place<'w>(alloc: Global, line: Command<'w>) -> Result<Command<'w>, AllocError>
+    ensures { (app : App) → Reads app line.entry → IfOk result (Reads (with_subcommand app placing)) }
+{
+    let place = leaf(alloc, "place", help::PLACE, &[FILE, NAME, ID])?;
+    line.subcommand(place.arg(number(alloc, "PLACE", "The place, from 0"))?)
 }
 
 // Adds what groups and orders the databases of a catalogue.
 fn with_arrangements<'w>(alloc: Global, line: Command<'w>) -> Result<Command<'w>, AllocError>
     ensures { Reads (with_all (with_all (alone required) readings) changes) line.entry → IfOk result (Reads (with_all (with_all (with_all (alone required) readings) changes) arrangements)) }
 {
-    let group = leaf(alloc, "virtual", help::VIRTUAL, &[FILE, NAME, ID, TITLE])?;
-    let place = leaf(alloc, "place", help::PLACE, &[FILE, NAME, ID])?;
-    line.subcommand(group.arg(several(alloc, "MEMBER", "A database that is searched by it"))?)?
-        .subcommand(place.arg(number(alloc, "PLACE", "The place, from 0"))?)
+    with_place(alloc, with_group(alloc, line)?)
 }
 
 // Adds what serves a catalogue.

@@ -31,26 +31,21 @@ fn opened<D: Disk + Drop>(alloc: Global, files: Files<D>) -> Option<Connection<F
 }
 
 // A new catalogue in it.
-fn made<S: Alter + Drop>(alloc: Global, conn: Connection<S>) -> Option<Connection<S>> {
-    if !conn.is_autocommit() {
-        return None;
-    }
-    match Desk::create(alloc, conn) {
-        Ok(desk) => Some(desk.into_connection()),
-        Err(_) => None,
+fn made<S: Alter + Drop>(alloc: Global, conn: Connection<S>) -> Option<Desk<S>> {
+    if conn.is_autocommit() {
+        Desk::create(alloc, conn).ok()
+    } else {
+        None
     }
 }
 
-// The desk of the catalogue in a database.
-fn adopt<S: Alter + Drop>(alloc: Global, conn: Connection<S>) -> Result<Desk<S>, Fault<'static>>
+// The desk of the catalogue in the database of another.
+fn adopt<S: Alter + Drop>(alloc: Global, desk: Desk<S>) -> Result<Desk<S>, Fault<'static>>
     ensures { MatchResult result
         (IsNew (Shows S.Store) (LeavesOneOf S.Store) (λ desk. HasCleanDisk (state S.Store desk.conn)) (λ _. ⊤))
         (IsNone (λ _. ⊤)) }
 {
-    if !conn.is_autocommit() {
-        return Err(Fault::Store(StoreFault::Closed));
-    }
-    match Desk::adopt(alloc, conn) {
+    match Desk::adopt(alloc, desk.into_connection()) {
         Ok(desk) => Ok(desk),
         Err((_, fault)) => Err(Fault::from(fault)),
     }
@@ -73,7 +68,7 @@ fn restart<D: Crash + Drop>(desk: Desk<FileStore<D>>) -> Result<Desk<FileStore<D
 #[derive(Drop)]
 pub(crate) struct Disks<D: Crash + Drop> {
     alloc: Global,
-    conn: Option<Connection<FileStore<D>>>,
+    closed: Option<Desk<FileStore<D>>>,
     pub(crate) reopened: u64,
 }
 
@@ -82,7 +77,7 @@ impl<D: Crash + Drop> Disks<D> {
     pub(crate) fn new(alloc: Global, files: Files<D>) -> Disks<D> {
         Disks {
             alloc,
-            conn: match opened(alloc, files) {
+            closed: match opened(alloc, files) {
                 Some(conn) => made(alloc, conn),
                 None => None,
             },
@@ -99,8 +94,8 @@ impl<'w, D: Crash + Drop> Desks<'w, Desk<FileStore<D>>> for Disks<D> {
     ghost is_unopened = { λ _ _. ⊤ };
 
     fn open(&mut self) -> Result<Desk<FileStore<D>>, Fault<'w>> {
-        match self.conn.take() {
-            Some(conn) => adopt(self.alloc, conn),
+        match self.closed.take() {
+            Some(desk) => adopt(self.alloc, desk),
             None => Err(Fault::Store(StoreFault::Closed)),
         }
     }
@@ -112,6 +107,6 @@ impl<'w, D: Crash + Drop> Desks<'w, Desk<FileStore<D>>> for Disks<D> {
     }
 
     fn close(&mut self, desk: Desk<FileStore<D>>) {
-        self.conn = Some(desk.into_connection());
+        self.closed = Some(desk);
     }
 }

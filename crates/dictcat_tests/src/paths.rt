@@ -2,7 +2,7 @@
 use super::fixtures::{ROOM, Row, differing, remove, run};
 use dict_desk::{Fault, Lookup};
 use dict_store::Desk;
-use sqlite::Unknown;
+use sqlite::{Alter, Unknown};
 use std::fs;
 use std::test::Fail;
 
@@ -106,13 +106,15 @@ fn paths_without_a_catalogue(rt: HostRuntime) -> Result<(), Fail> {
     Ok(())
 }
 
-// How many commands the catalogue accepted whose desk is opened from a path; or the fault.
+// How many commands a catalogue accepted.
+fn accepted<S: Alter + Drop>(desk: Desk<S>) -> Result<u64, Fault> {
+    Ok(desk.summary()?.accepted)
+}
+
+// The same of the catalogue whose desk is opened from a path; or the fault.
 fn accepted_at(rt: &HostRuntime, path: &str) -> Result<u64, Fault> {
     match Desk::open_from(rt, path, false, Unknown) {
-        Ok(desk) => match desk.summary() {
-            Ok(summary) => Ok(summary.accepted),
-            Err(fault) => Err(fault),
-        },
+        Ok(desk) => accepted(desk),
         Err((_, fault)) => Err(fault),
     }
 }

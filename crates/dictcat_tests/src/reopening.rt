@@ -48,50 +48,96 @@ impl<D: Crash + Drop> Server<D> {
     }
 }
 
-// A reader's session is open, and an editor's install meets the failure. The session goes on over the catalogue that is
-// opened anew, in which nothing is installed; the install that is sent again is done, and the session finds its entry.
-fn meet_a_failure<D: Crash + Drop>(
-    net: &impl Net<Stream = TcpStream>,
+// An editor's install meets the failure, in the middle of a line of the reader.
+fn fail_an_install<D: Crash + Drop>(
     server: &mut Server<D>,
-    alloc: Global,
+    reader: &mut Client,
+    editor: &mut Client,
 ) -> Result<(), Fail> {
-    let (dict, http) = server.driver.addresses();
-    let mut reader = Client::new(net, alloc, dict)?;
-    server.serve(2)?;
-    reader.look(GREETING)?;
-    let mut editor = Client::new(net, alloc, http)?;
     editor.send(PUT)?;
     reader.send(b"DEFINE a b")?;
     server.serve(3)?;
     editor.look(UNAVAILABLE)?;
-    reader.send(b"\r\n")?;
-    let mut editor = Client::new(net, alloc, http)?;
+    reader.send(b"\r\n")
+}
+
+// The install that is sent again is done. The reader is told that nothing was installed before, and then finds the entry.
+fn install_again<D: Crash + Drop>(
+    server: &mut Server<D>,
+    reader: &mut Client,
+    editor: &mut Client,
+) -> Result<(), Fail> {
     editor.send(PUT)?;
     server.serve(3)?;
     reader.look(b"550 invalid database\r\n")?;
     editor.look(INSTALLED)?;
     reader.send(b"DEFINE a b\r\n")?;
     server.serve(3)?;
-    reader.look(FOUND)?;
-    if server.disks.reopened == 1 {
-        Ok(())
+    reader.look(FOUND)
+}
+
+// What is done by an editor who connects now, beside a reader.
+fn by_an_editor<D: Crash + Drop>(
+    net: &impl Net<Stream = TcpStream>,
+    alloc: Global,
+    server: &mut Server<D>,
+    reader: &mut Client,
+    is_again: bool,
+) -> Result<(), Fail> {
+    let (_, http) = server.driver.addresses();
+    let mut editor = Client::new(net, alloc, http)?;
+    if is_again {
+        install_again(server, reader, &mut editor)
     } else {
-        Err(Fail::new("the catalogue was not opened anew, or more than once"))
+        fail_an_install(server, reader, &mut editor)
     }
+}
+
+// A reader's session is open, and goes on over the catalogue that is opened anew after the failure.
+fn go_on<D: Crash + Drop>(
+    net: &impl Net<Stream = TcpStream>,
+    alloc: Global,
+    server: &mut Server<D>,
+    reader: &mut Client,
+) -> Result<(), Fail> {
+    server.serve(2)?;
+    reader.look(GREETING)?;
+    by_an_editor(net, alloc, server, reader, false)?;
+    by_an_editor(net, alloc, server, reader, true)
+}
+
+fn meet_a_failure<D: Crash + Drop>(
+    net: &impl Net<Stream = TcpStream>,
+    alloc: Global,
+    server: &mut Server<D>,
+) -> Result<(), Fail> {
+    let (dict, _) = server.driver.addresses();
+    let mut reader = Client::new(net, alloc, dict)?;
+    go_on(net, alloc, server, &mut reader)
+}
+
+// How often the catalogue on these disks was opened anew.
+fn outlived<D: Crash + Drop>(
+    rt: &HostRuntime,
+    alloc: Global,
+    files: Files<D>,
+) -> Result<u64, Fail> {
+    let mut server = Server {
+        disks: Disks::new(alloc, files),
+        driver: Driver::bind(rt, alloc, FREE, FREE, "localhost")?,
+    };
+    meet_a_failure(rt, alloc, &mut server)?;
+    Ok(server.disks.reopened)
 }
 
 #[test]
 fn a_session_outlives_a_failed_store(rt: HostRuntime) -> Result<(), Fail> {
     let alloc = rt.alloc();
-    let driver = Driver::bind(&rt, alloc, FREE, FREE, "localhost")?;
     // The file of the log answers so many calls: those by which the catalogue is made and read, and some of the install.
     let files = Files {
         log: Fuse::new(Memory::new(alloc), 40),
         db: Fuse::new(Memory::new(alloc), u64::MAX),
     };
-    let mut server = Server {
-        disks: Disks::new(alloc, files),
-        driver,
-    };
-    meet_a_failure(&rt, &mut server, alloc)
+    assert_eq!(rt; outlived(&rt, alloc, files)?, 1);
+    Ok(())
 }

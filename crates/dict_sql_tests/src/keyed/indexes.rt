@@ -22,26 +22,36 @@ fn make<S: Alter>(conn: &mut Connection<S>, index: KeyIndex) -> Result<(), Error
     commit(tx)
 }
 
-// Whether the schema has the index of keys, and that of keys read backwards.
-fn shown<S: Alter>(conn: &Connection<S>) -> [bool; 2] {
+// Whether the schema has the index of keys, that of keys read backwards, and the table; and whether the names of the indexes are in use.
+fn shown<S: Alter>(conn: &Connection<S>) -> [bool; 5] {
     let schema = conn.schema();
     [
         has_key_index(schema, KeyIndex::Key),
         has_key_index(schema, KeyIndex::Reversed),
+        has_keyed_table(schema, KeyedTable::Entry),
+        is_name_used(schema, b"dictcat_entry_key"),
+        is_name_used(schema, b"dictcat_entry_rkey"),
     ]
 }
 
+fn compare_shown<S: Alter>(rt: &impl Abort, conn: &Connection<S>, expected: [bool; 5]) {
+    assert_eq!(rt; shown(conn), expected);
+}
+
+// An index, whether it is made, and what is shown then.
+static STEPS: [(KeyIndex, bool, [bool; 5]); 3] = [
+    (KeyIndex::Key, true, [true, false, true, true, false]),
+    (KeyIndex::Reversed, true, [true, true, true, true, true]),
+    (KeyIndex::Key, false, [true, true, true, true, true]),
+];
+
 /// Each index is made once, and the table is the same beside it.
 pub(crate) fn run<S: Alter>(rt: &impl Abort, conn: &mut Connection<S>) -> Result<(), Fail> {
-    assert_eq!(rt; shown(conn), [false, false]);
-    make(conn, KeyIndex::Key)?;
-    assert_eq!(rt; shown(conn), [true, false]);
-    make(conn, KeyIndex::Reversed)?;
-    assert_eq!(rt; shown(conn), [true, true]);
-    assert!(rt; make(conn, KeyIndex::Key).is_err());
-    assert!(rt; has_keyed_table(conn.schema(), KeyedTable::Entry));
-    assert!(rt; is_name_used(conn.schema(), b"dictcat_entry_key"));
-    assert!(rt; is_name_used(conn.schema(), b"dictcat_entry_rkey"));
+    compare_shown(rt, conn, [false, false, true, false, false]);
+    for (index, is_made, expected) in &STEPS {
+        assert_eq!(rt; make(conn, *index).is_ok(), *is_made);
+        compare_shown(rt, conn, *expected);
+    }
     raw(
         conn,
         "INSERT INTO entry VALUES (3, 0, 'z', 0, 0, x'7a', x'7a'); DELETE FROM entry WHERE edition = 3",
@@ -60,20 +70,26 @@ static OTHERS: [&str; 7] = [
     "CREATE INDEX dictcat_entry_key ON other (edition, d)",
 ];
 
+// Whether such an index is taken for the one that is asked for.
+fn is_taken<S: Alter>(conn: &mut Connection<S>, text: &str) -> Result<bool, Error> {
+    raw(conn, text)?;
+    let is_found = has_key_index(conn.schema(), KeyIndex::Key);
+    raw(conn, "DROP INDEX dictcat_entry_key")?;
+    Ok(is_found)
+}
+
 /// An index of the name with another definition isn't the one that is asked for.
 pub(crate) fn others<S: Alter>(rt: &impl Abort, conn: &mut Connection<S>) -> Result<(), Fail> {
-    assert_eq!(rt; shown(conn), [false, false]);
+    compare_shown(rt, conn, [false; 5]);
     make_table(conn, KeyedTable::Entry)?;
     raw(
         conn,
         "CREATE TABLE other (edition INTEGER NOT NULL, key BLOB NOT NULL, a, b, c, d, e)",
     )?;
     for text in &OTHERS {
-        raw(conn, *text)?;
-        assert!(rt; !has_key_index(conn.schema(), KeyIndex::Key), "{text}");
-        raw(conn, "DROP INDEX dictcat_entry_key")?;
+        assert!(rt; !is_taken(conn, *text)?, "{text}");
     }
     make(conn, KeyIndex::Key)?;
-    assert_eq!(rt; shown(conn), [true, false]);
+    compare_shown(rt, conn, [true, false, true, true, false]);
     Ok(())
 }

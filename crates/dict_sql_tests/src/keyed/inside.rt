@@ -1,9 +1,10 @@
 //! The table `entry` as it is without keys, read inside a transaction.
 
-use crate::connections::{raw, told};
+use crate::connections::{compare, raw, told};
 use dict_keyed_sql::{KeyedTable, entries_inside, has_keyed_table};
+use dict_sql::records::ReadError;
 use dict_tables::{StoreTable, has_table};
-use sqlite::{Alter, Connection};
+use sqlite::{Alter, Connection, Error};
 use std::alloc::Global;
 use std::process::Abort;
 use std::test::Fail;
@@ -13,17 +14,18 @@ const FOUND: &str =
      Stored { rowid: 4, value: Entry { edition: 1, ord: 1, headword: \"gem\", start: 7, length: 9 } }, \
      Stored { rowid: 1, value: Entry { edition: 1, ord: 2, headword: \"opal\", start: 0, length: 7 } }]";
 
+static READS: [(i64, &str); 2] = [(1, FOUND), (3, "[]")];
+
 fn told_of<S: Alter>(
     alloc: Global,
     conn: &mut Connection<S>,
     edition: i64,
-) -> Result<String, Fail> {
+) -> Result<String, ReadError> {
     if !has_table(conn.schema(), StoreTable::Entry) || !conn.is_autocommit() {
-        return Err(Fail::new("there is no such table"));
+        return Err(ReadError::Store(Error::InvalidQuery));
     }
     let mut tx = conn.transaction();
-    let found = entries_inside(alloc, &mut tx, edition)?;
-    Ok(told(alloc, &found)?)
+    told(alloc, entries_inside(alloc, &mut tx, edition))
 }
 
 /// The entries of an edition come in the order of their places.
@@ -34,14 +36,11 @@ pub(crate) fn run<S: Alter>(
 ) -> Result<(), Fail> {
     raw(
         conn,
-        "CREATE TABLE entry (edition INTEGER NOT NULL, ord INTEGER NOT NULL, headword TEXT NOT NULL, start INTEGER NOT NULL, length INTEGER NOT NULL, PRIMARY KEY (edition, ord)) STRICT",
-    )?;
-    raw(
-        conn,
-        "INSERT INTO entry VALUES (1, 2, 'opal', 0, 7), (2, 0, 'ore', 0, 1), (1, 0, '', 7, 0), (1, 1, 'gem', 7, 9)",
+        "CREATE TABLE entry (edition INTEGER NOT NULL, ord INTEGER NOT NULL, headword TEXT NOT NULL, start INTEGER NOT NULL, length INTEGER NOT NULL, PRIMARY KEY (edition, ord)) STRICT; INSERT INTO entry VALUES (1, 2, 'opal', 0, 7), (2, 0, 'ore', 0, 1), (1, 0, '', 7, 0), (1, 1, 'gem', 7, 9)",
     )?;
     assert!(rt; !has_keyed_table(conn.schema(), KeyedTable::Entry));
-    assert_eq!(rt; told_of(alloc, conn, 1)?.as_str(), FOUND);
-    assert_eq!(rt; told_of(alloc, conn, 3)?.as_str(), "[]");
+    for (edition, expected) in &READS {
+        compare(rt, told_of(alloc, conn, *edition), *expected)?;
+    }
     Ok(())
 }

@@ -1,6 +1,6 @@
-//! The tables are made, and rows are put in and taken out, each time in a transaction of its own.
+//! The tables are made and dropped, and rows are put in and taken out, each time in a transaction of its own.
 
-ghost use Rattle.std.specs.Prelude.{IfOk, OnOk};
+ghost use Rattle.std.specs.Prelude.{OnOk};
 ghost use Rattle.sqlite.specs.State.{HasCleanDisk};
 ghost use Rattle.sqlite.specs.Held.{state};
 ghost use Rattle.dict_sql.specs.Effects.{Has, HasApartRowids, WhileOpen, rows_of, seen};
@@ -9,7 +9,7 @@ ghost use Rattle.dict_keyed_sql.specs.Tables.{table_of};
 
 use dict_keyed_sql::{
     KeyedTable, create_keyed_table, delete_grams, delete_keyed_entries, delete_words,
-    has_keyed_table, insert_gram, insert_keyed_entry, insert_word,
+    drop_keyed_table, has_keyed_table, insert_gram, insert_keyed_entry, insert_word,
 };
 use dict_records::{Gram, KeyedEntry, Word};
 use dict_sql::commit::commit;
@@ -133,20 +133,6 @@ pub(crate) fn empty_all<S: Alter>(conn: &mut Connection<S>) -> Result<(), Error>
     Ok(())
 }
 
-/// Begins a transaction where the table is there.
-pub(crate) fn begin<'a, S: Alter>(
-    conn: &'a mut Connection<S>,
-    table: KeyedTable,
-) -> Result<Transaction<'a, S>, Error>
-    ensures { IfOk result (λ tx. WhileOpen (seen S.Store tx) (Has (table_of table))) }
-{
-    if has_keyed_table(conn.schema(), table) && conn.is_autocommit() {
-        Ok(conn.transaction())
-    } else {
-        Err(Error::InvalidQuery)
-    }
-}
-
 // Inserts a row into its table.
 fn add<S: Alter>(tx: &mut Transaction<'_, S>, table: KeyedTable, row: &Row) -> Result<usize, Error>
     requires { WhileOpen (seen S.Store tx.old) (Has (table_of table)) }
@@ -186,20 +172,45 @@ fn add<S: Alter>(tx: &mut Transaction<'_, S>, table: KeyedTable, row: &Row) -> R
     }
 }
 
-fn put<S: Alter>(conn: &mut Connection<S>, row: &Row) -> Result<(), Error> {
-    let table = row.0;
-    let mut tx = begin(conn, table)?;
-    add(&mut tx, table, row)?;
+// Inserts a row, or drops the table where there is none.
+fn act<S: Alter>(
+    tx: &mut Transaction<'_, S>,
+    table: KeyedTable,
+    row: Option<&Row>,
+) -> Result<usize, Error>
+    requires { WhileOpen (seen S.Store tx.old) (Has (table_of table)) }
+{
+    match row {
+        Some(row) => add(tx, table, row),
+        None => drop_keyed_table(tx, table),
+    }
+}
+
+fn change<S: Alter>(
+    conn: &mut Connection<S>,
+    table: KeyedTable,
+    row: Option<&Row>,
+) -> Result<(), Error> {
+    if !has_keyed_table(conn.schema(), table) || !conn.is_autocommit() {
+        return Err(Error::InvalidQuery);
+    }
+    let mut tx = conn.transaction();
+    act(&mut tx, table, row)?;
     commit(tx)
+}
+
+/// Drops the table.
+pub(crate) fn drop<S: Alter>(conn: &mut Connection<S>, table: KeyedTable) -> Result<(), Error> {
+    change(conn, table, None)
 }
 
 /// Puts all rows in. A row that is there already is refused.
 pub(crate) fn put_all<S: Alter>(conn: &mut Connection<S>) -> Result<(), Error> {
     for row in &ROWS {
-        put(conn, row)?;
+        change(conn, row.0, Some(row))?;
     }
     for row in &AGAIN {
-        if put(conn, row).is_ok() {
+        if change(conn, row.0, Some(row)).is_ok() {
             return Err(Error::InvalidQuery);
         }
     }

@@ -1,12 +1,13 @@
 //! What is found by a selection and then by the test, beside the filter of a whole list.
 
-use super::entries::{Read, Wanted, read};
+use super::reads::{Wanted, places};
 use super::rows::empty_all;
 use crate::connections::raw;
-use dict_derived::{Selection, derive, grams_of, is_tested, select, words_of};
+use dict_derived::{Selection, derive, grams_of, select, words_of};
+use dict_keyed_sql::KeyedTable;
 use dict_match::{Strategy, key_of, matches};
 use dict_sql::records::ReadError;
-use sqlite::{Alter, Connection, params};
+use sqlite::{Alter, Connection, Error, params};
 use std::alloc::{AllocError, Global};
 use std::process::Abort;
 use std::test::Fail;
@@ -34,14 +35,24 @@ fn headword(alloc: Global, state: &mut u64) -> Result<String, AllocError> {
     Ok(text)
 }
 
+// Puts a word or a gram in.
+fn put<S: Alter>(
+    conn: &mut Connection<S>,
+    text: &str,
+    octets: &[u8],
+    ord: i64,
+) -> Result<usize, Error> {
+    conn.execute(text, params![octets, ord])
+}
+
 fn put_words<S: Alter>(
     alloc: Global,
     conn: &mut Connection<S>,
     key: &[u8],
     ord: i64,
-) -> Result<(), Fail> {
+) -> Result<(), ReadError> {
     for word in words_of(alloc, key)?.iter() {
-        conn.execute("INSERT INTO word VALUES (1, ?1, ?2)", params![*word, ord])?;
+        put(conn, "INSERT INTO word VALUES (1, ?1, ?2)", *word, ord)?;
     }
     Ok(())
 }
@@ -51,49 +62,60 @@ fn put_grams<S: Alter>(
     conn: &mut Connection<S>,
     key: &[u8],
     ord: i64,
-) -> Result<(), Fail> {
+) -> Result<(), ReadError> {
     for gram in grams_of(alloc, key)?.iter() {
-        let octets: &[u8] = gram.as_slice();
-        conn.execute("INSERT INTO gram VALUES (1, ?1, ?2)", params![octets, ord])?;
+        put(
+            conn,
+            "INSERT INTO gram VALUES (1, ?1, ?2)",
+            gram.as_slice(),
+            ord,
+        )?;
     }
     Ok(())
+}
+
+// Puts an entry in, with its words and grams.
+fn put_entry<S: Alter>(
+    alloc: Global,
+    conn: &mut Connection<S>,
+    headword: &str,
+    ord: i64,
+) -> Result<(), ReadError> {
+    let derived = derive(alloc, headword)?;
+    let key = derived.key.as_bytes();
+    conn.execute(
+        "INSERT INTO entry VALUES (1, ?1, ?2, 0, 0, ?3, ?4)",
+        params![ord, headword, key, &derived.reversed],
+    )?;
+    put_words(alloc, conn, key, ord)?;
+    put_grams(alloc, conn, key, ord)
 }
 
 fn fill<S: Alter>(
     alloc: Global,
     conn: &mut Connection<S>,
     headwords: &[String],
-) -> Result<(), Fail> {
+) -> Result<(), ReadError> {
     raw(conn, "BEGIN")?;
     let mut ord = 0i64;
     for headword in headwords {
-        let derived = derive(alloc, headword)?;
-        let key = derived.key.as_bytes();
-        conn.execute(
-            "INSERT INTO entry VALUES (1, ?1, ?2, 0, 0, ?3, ?4)",
-            params![ord, headword, key, &derived.reversed],
-        )?;
-        put_words(alloc, conn, key, ord)?;
-        put_grams(alloc, conn, key, ord)?;
+        put_entry(alloc, conn, headword, ord)?;
         ord = ord.saturating_add(1);
     }
     raw(conn, "COMMIT")?;
     Ok(())
 }
 
-fn candidates<S: Alter>(
-    alloc: Global,
-    conn: &mut Connection<S>,
-    selection: &Selection,
-) -> Result<Read, ReadError> {
+// What is read for a selection, if anything is.
+fn wanted<'a>(selection: &'a Selection) -> Option<Wanted<'a>> {
     match selection {
-        Selection::Nothing => Ok(Vec::new(alloc)),
-        Selection::All => read(alloc, conn, &Wanted::Of(1)),
-        Selection::Key(key) => read(alloc, conn, &Wanted::Key(key)),
-        Selection::Keys(low, high) => read(alloc, conn, &Wanted::Between(low, high)),
-        Selection::ReversedKeys(low, high) => read(alloc, conn, &Wanted::Reversed(low, high)),
-        Selection::Grams(first, last) => read(alloc, conn, &Wanted::Grams(1, first, last)),
-        Selection::Word(word) => read(alloc, conn, &Wanted::Word(1, word)),
+        Selection::Nothing => None,
+        Selection::All => Some(Wanted::Rows(KeyedTable::Entry, Some(1))),
+        Selection::Key(key) => Some(Wanted::Key(key)),
+        Selection::Keys(low, high) => Some(Wanted::Between(low, high)),
+        Selection::ReversedKeys(low, high) => Some(Wanted::Reversed(low, high)),
+        Selection::Grams(first, last) => Some(Wanted::Grams(1, first, last)),
+        Selection::Word(word) => Some(Wanted::Word(1, word)),
     }
 }
 
@@ -103,16 +125,12 @@ fn found<S: Alter>(
     conn: &mut Connection<S>,
     strategy: Strategy,
     query: &[u8],
-) -> Result<Vec<i64>, Fail> {
+) -> Result<Vec<i64>, ReadError> {
     let selection = select(alloc, strategy, query)?;
-    let all = candidates(alloc, conn, &selection)?;
-    let mut places = Vec::new(alloc);
-    for one in &all {
-        if !is_tested(strategy) || matches(strategy, query, &one.value.key) {
-            places.push(one.value.ord)?;
-        }
+    match wanted(&selection) {
+        Some(wanted) => places(alloc, conn, &wanted, Some((strategy, query))),
+        None => Ok(Vec::new(alloc)),
     }
-    Ok(places)
 }
 
 // The places of those of the whole list that the query finds.
@@ -121,7 +139,7 @@ fn listed(
     headwords: &[String],
     strategy: Strategy,
     query: &[u8],
-) -> Result<Vec<i64>, Fail> {
+) -> Result<Vec<i64>, ReadError> {
     let mut places = Vec::new(alloc);
     let mut ord = 0i64;
     for headword in headwords {
@@ -143,6 +161,40 @@ fn some_headwords(alloc: Global, count: u32) -> Result<Vec<String>, AllocError> 
     Ok(all)
 }
 
+// By this strategy, the tables and the whole list have the same.
+fn compare_by<S: Alter>(
+    rt: &impl Abort,
+    alloc: Global,
+    conn: &mut Connection<S>,
+    headwords: &[String],
+    strategy: Strategy,
+    text: &str,
+    query: &[u8],
+) -> Result<(), Fail> {
+    let by_rows = found(alloc, conn, strategy, query)?;
+    let by_list = listed(alloc, headwords, strategy, query)?;
+    assert_eq!(rt;
+        by_rows.as_slice(),
+        by_list.as_slice(),
+        "by {strategy:?}: {text:?}"
+    );
+    Ok(())
+}
+
+fn compare_text<S: Alter>(
+    rt: &impl Abort,
+    alloc: Global,
+    conn: &mut Connection<S>,
+    headwords: &[String],
+    text: &str,
+) -> Result<(), Fail> {
+    let query = key_of(alloc, text)?;
+    for strategy in Strategy::ALL {
+        compare_by(rt, alloc, conn, headwords, strategy, text, query.as_bytes())?;
+    }
+    Ok(())
+}
+
 fn compare<S: Alter>(
     rt: &impl Abort,
     alloc: Global,
@@ -152,16 +204,7 @@ fn compare<S: Alter>(
     let mut state = 29;
     for _ in 0..40 {
         let text = headword(alloc, &mut state)?;
-        let query = key_of(alloc, &text)?;
-        for strategy in Strategy::ALL {
-            let by_rows = found(alloc, conn, strategy, query.as_bytes())?;
-            let by_list = listed(alloc, headwords, strategy, query.as_bytes())?;
-            assert_eq!(rt;
-                by_rows.as_slice(),
-                by_list.as_slice(),
-                "by {strategy:?}: {text:?}"
-            );
-        }
+        compare_text(rt, alloc, conn, headwords, &text)?;
     }
     Ok(())
 }

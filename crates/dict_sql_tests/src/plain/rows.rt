@@ -1,15 +1,16 @@
-//! The rows that are put into the tables, each in a transaction of its own.
+//! The tables are made, rows are put in, and a table is dropped, each time in a transaction of its own.
 
 ghost use Rattle.dict_tables.specs.Tables.{table_of};
 ghost use Rattle.dict_sql.specs.Effects.{Has, WhileOpen, seen};
 
-use super::tables::begin;
 use dict_records::{Edition, Entry, Item, Kept, Mark, Member};
 use dict_sql::commit::commit;
+use dict_sql::create::create_tables;
+use dict_sql::drop::drop_table;
 use dict_sql::insert::{
     insert_edition, insert_entry, insert_item, insert_kept, insert_mark, insert_member,
 };
-use dict_tables::StoreTable;
+use dict_tables::{StoreTable, has_room, has_table};
 use sqlite::{Alter, Connection, Error, Transaction};
 
 // A table and what a row of it has: texts, numbers, the number of an edition, and octets.
@@ -76,6 +77,16 @@ static ROWS: [Row; 15] = [
     Row(StoreTable::Kept, ["r3", "retire", "gem"], [3, 0], None, b""),
     Row(StoreTable::Kept, ["r4", "retire", "ore"], [4, 0], None, b""),
 ];
+
+/// Makes all tables where there is room for them.
+pub(crate) fn make_all<S: Alter>(conn: &mut Connection<S>) -> Result<(), Error> {
+    if !has_room(conn.schema()) || !conn.is_autocommit() {
+        return Err(Error::InvalidQuery);
+    }
+    let mut tx = conn.transaction();
+    create_tables(&mut tx)?;
+    commit(tx)
+}
 
 // Inserts a row into its table.
 fn add<S: Alter>(tx: &mut Transaction<'_, S>, table: StoreTable, row: &Row) -> Result<usize, Error>
@@ -145,17 +156,42 @@ fn add<S: Alter>(tx: &mut Transaction<'_, S>, table: StoreTable, row: &Row) -> R
     }
 }
 
-fn put<S: Alter>(conn: &mut Connection<S>, row: &Row) -> Result<(), Error> {
-    let table = row.0;
-    let mut tx = begin(conn, table)?;
-    add(&mut tx, table, row)?;
+// Inserts a row, or drops the table where there is none.
+fn act<S: Alter>(
+    tx: &mut Transaction<'_, S>,
+    table: StoreTable,
+    row: Option<&Row>,
+) -> Result<usize, Error>
+    requires { WhileOpen (seen S.Store tx.old) (Has (table_of table)) }
+{
+    match row {
+        Some(row) => add(tx, table, row),
+        None => drop_table(tx, table),
+    }
+}
+
+fn change<S: Alter>(
+    conn: &mut Connection<S>,
+    table: StoreTable,
+    row: Option<&Row>,
+) -> Result<(), Error> {
+    if !has_table(conn.schema(), table) || !conn.is_autocommit() {
+        return Err(Error::InvalidQuery);
+    }
+    let mut tx = conn.transaction();
+    act(&mut tx, table, row)?;
     commit(tx)
 }
 
 /// Puts all rows in.
 pub(crate) fn put_all<S: Alter>(conn: &mut Connection<S>) -> Result<(), Error> {
     for row in &ROWS {
-        put(conn, row)?;
+        change(conn, row.0, Some(row))?;
     }
     Ok(())
+}
+
+/// Drops the table of kept replies.
+pub(crate) fn drop_kept<S: Alter>(conn: &mut Connection<S>) -> Result<(), Error> {
+    change(conn, StoreTable::Kept, None)
 }

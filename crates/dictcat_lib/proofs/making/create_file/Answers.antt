@@ -11,14 +11,8 @@ returns-in_err-conn c =
 
 pub returns-in-Ok : goal.returns-in-Ok
 unfolding CreateEnds
-returns-in-Ok c = (
-  c.in_ok-conn.conn,
-  (c.in-Ok.desk, record { place = c.in-Ok.ensures.place; shows = c.in-Ok.ensures.shows; rests = c.in-Ok.ensures.rests; only = c.in-Ok.ensures.only }),
-)
+returns-in-Ok c = (c.in_ok-conn.conn, c.in-Ok.ensures.made)
 
 pub returns-in-Err : goal.returns-in-Err
 unfolding CreateEnds
-returns-in-Err c = inr (
-  c.in_ok-conn.conn,
-  (c.in-Err.conn, c.in-Err.fault, c.from.ensures, record { no_place = c.in-Err.ensures.no_place; crash = c.in-Err.ensures.crash; adds_none = c.in-Err.ensures.adds_none }),
-)
+returns-in-Err c = inr (c.in_ok-conn.conn, (c.in-Err.conn, c.in-Err.fault, c.from.ensures, c.in-Err.ensures.unmade))
