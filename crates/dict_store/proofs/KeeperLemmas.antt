@@ -1,6 +1,6 @@
 -- What a command leaves of a desk.
-use Rattle.std.proofs.Common.{◌≡◌, ◌⊎◌, inl, inr, ℕ, Bool, true, false, List, [], ◌∷◌, refl, sym, ap, subst, ◌∙◌, arith}
-use Rattle.std.specs.Prelude.{IsTrue, Option, Some, None, is_some, Contains, Result, Ok, Err, OnOk, OnErr, IfOk, IfErr, MatchBool, option_map}
+use Rattle.std.proofs.Common.{◌≡◌, inl, inr, ℕ, Bool, true, false, List, [], ◌∷◌, refl, sym, ap, subst, ◌∙◌, arith}
+use Rattle.std.specs.Prelude.{IsTrue, Option, Some, is_some, Contains, Result, Ok, Err, OnOk, OnErr, IfOk, IfErr, MatchBool}
 use Rattle.std.specs.List.{AllByRecursion}
 use Rattle.std.proofs.lemmas.Bool.{false≢true}
 use Rattle.sqlite.specs.Effect.{Database}
@@ -15,10 +15,8 @@ use Rattle.dict_name.specs.Names.{is_request_id}
 use Rattle.dict_catalogue.specs.Commands.{Command}
 use Rattle.dict_catalogue.specs.Tests.{Holdings}
 use Rattle.dict_catalogue.specs.Effects.{KeptReply}
-use Rattle.dict_catalogue.specs.Steps.{Catalogue, Outcome, accepted, refused, summary_of, kept_under, step}
-use Rattle.dict_catalogue.specs.Views.{kept_shown}
+use Rattle.dict_catalogue.specs.Steps.{Catalogue, Outcome, refused, summary_of, kept_under, step}
 use Rattle.dict_catalogue.specs.WellFormed.{IsWellFormed}
-use Rattle.dict_catalogue.specs.declared.fault.Refusal.{Refusal}
 use Rattle.dict_catalogue.specs.declared.fault.Refusal.TheVariants.{BadRequestId}
 use Rattle.dict_catalogue.specs.declared.reply.Kept.{Kept}
 use Rattle.dict_desk.specs.Applying.{Applies, Leaves, LeavesNoMore}

@@ -4,7 +4,9 @@ use Rattle.sqlite.specs.Recovery.{Image}
 use Rattle.sqlite.specs.Tree.{Trees}
 use Rattle.sqlite.specs.Files.{HoldsDatabase, IsOpened, Finds, file_state, over_files}
 use Rattle.sqlite.specs.State.{HasCleanDisk}
-use Rattle.sqlite.specs.Held.{Held, state}
+use Rattle.sqlite.specs.Held.{Held, AreDatabases, state}
+use Rattle.sqlite.specs.View.{IsClean, IsQuiet}
+use Rattle.sqlite.specs.FileStore.{view, faults, recovers, is_shielded, files}
 use Rattle.sqlite_disk.specs.declared.Disk as disk
 use Rattle.sqlite_disk.specs.declared.Files.{Files as Pair}
 use Rattle.sqlite_store.specs.declared.store.FileStore.{FileStore}
@@ -71,6 +73,14 @@ module _ {S : Type 0} (g : Ghosts S) where
   ShowsOneOf desk ms = (M : Catalogue) × Contains ms (Some M) × Shows g desk M
 
 module _ {D : Type 0} {d : disk.Ghosts D} where
+  -- The two files of a connection that was closed, as its store gave them back: what was not committed is undone.
+  pub record IsLetGo (conn : Held (FileStore D d)) (left : Pair D) : Type 0 where
+    pub store : FileStore D d
+    pub numbered : IsClean (view store) → IsTrue (view store).is_numbered
+    pub sound : IsClean (view store) → AreDatabases (recovers store)
+    pub quiet : IsQuiet view faults recovers is_shielded conn.store store
+    pub closed : (left.log, left.db) ≡ files store
+
   -- The desk adopted the database that two files were opened as, with what they held; and it shows the catalogue that is opened from the trees of that.
   pub record IsOpenedOver (files : Pair D) (desk : DeskState (FileStore D d)) : Type 0 where
     pub conn : Held (FileStore D d)

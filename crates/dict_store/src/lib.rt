@@ -1,4 +1,4 @@
-//! A desk over one file: what readers ask of its catalogue, and what editors change.
+//! A desk over one file: what readers ask of its catalogue, and what editors change; and a session over it.
 #![tactic(auto)]
 
 mod adopting;
@@ -8,8 +8,12 @@ mod last;
 mod lookups;
 mod promise;
 mod reopening;
+mod session;
+mod session_fault;
 
 pub use desk::Desk;
 pub use last::Last;
 pub use promise::apply_to_file;
 pub use reopening::{Unopened, stopped_files};
+pub use session::session_over;
+pub use session_fault::FileFault;

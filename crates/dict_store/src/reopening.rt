@@ -13,7 +13,7 @@ ghost use Rattle.dict_file.specs.Holds.{Rests};
 ghost use Rattle.dict_store.specs.Desk.{Shows, LeavesOneOf};
 ghost use Rattle.dict_store.specs.Promise.{HoldsFront};
 ghost use Rattle.dict_store.specs.Adopted.{IsAdopted};
-ghost use Rattle.dict_store.specs.Reopened.{fault_of_files, IsIn, HoldsFrontIn, IsOpenedOver, IsUnopened, IsUnopenedFrom, IsUnopenedOver, IsUnreopened, LeavesFront, ShowsFront, ShowsOneOf};
+ghost use Rattle.dict_store.specs.Reopened.{fault_of_files, IsIn, HoldsFrontIn, IsLetGo, IsOpenedOver, IsUnopened, IsUnopenedFrom, IsUnopenedOver, IsUnreopened, LeavesFront, ShowsFront, ShowsOneOf};
 
 use crate::desk::Desk;
 use dict_desk::Fault;
@@ -93,6 +93,13 @@ impl<S: Start> Desk<FileStore<FileFrom<S>>> {
     }
 }
 
+// The two files of a desk, which is closed.
+fn files_of<D: Disk + Drop>(desk: Desk<FileStore<D>>) -> Files<D>
+    ensures { IsLetGo desk.conn result }
+{
+    desk.into_connection().into_store().close()
+}
+
 impl<D: Disk + Drop> Desk<FileStore<D>> {
     /// Closes a desk, and opens its two files again, of which the last commit is recovered: for a desk whose store failed. The
     /// files are never let go of. The catalogue that is shown is one of those that a stop could have left of the desk.
@@ -105,7 +112,7 @@ impl<D: Disk + Drop> Desk<FileStore<D>> {
         ensures unopened { IfErr result (λ left. IsUnreopened self left.0 left.1) }
     {
         let alloc = self.alloc;
-        let files = self.into_connection().into_store().close();
+        let files = files_of(self);
         if !files.may_be_used() {
             return Err((Unopened::Spent(files), Fault::Disk));
         }
@@ -126,7 +133,7 @@ impl<D: Crash + Drop> Desk<FileStore<D>> {
         ensures unopened { IfErr result (λ left. IsUnopenedFrom over_files self left.0 left.1) }
     {
         let alloc = self.alloc;
-        let mut files = self.into_connection().into_store().close();
+        let mut files = files_of(self);
         files.log.crash();
         files.db.crash();
         open_over(alloc, files, options)

@@ -8,9 +8,11 @@ use std::io;
 
 #[derive(Drop)]
 pub struct FailsOnce<D: Disk> {
-    inner: D,
+    /// The disk below.
+    pub(crate) inner: D,
     fails_at: u64,
-    calls: u64,
+    /// How many calls there were, the one that failed counted.
+    pub(crate) calls: u64,
     refused: u64,
     sync_refused: bool,
 }
@@ -28,16 +30,6 @@ impl<D: Disk> FailsOnce<D> {
             refused: 0,
             sync_refused: false,
         }
-    }
-
-    /// The disk below.
-    pub(crate) fn inner(&self) -> &D {
-        &self.inner
-    }
-
-    /// How many calls there were, the one that failed counted.
-    pub(crate) fn calls(&self) -> u64 {
-        self.calls
     }
 }
 

@@ -1,10 +1,7 @@
 //! Two files in memory, of which one may fail at one of its calls, or from it on.
-use crate::asked::{Asked, Editions};
-use crate::desks::applied;
 use crate::fails_once::FailsOnce;
-use dict_store::Desk;
 use sqlite::{Connection, FileStore, Files, Options};
-use sqlite_disk::{Disk, Fuse, Memory};
+use sqlite_disk::{Crash, Disk, Fuse, Memory};
 use std::alloc::Global;
 use std::test::Fail;
 
@@ -23,6 +20,25 @@ pub(crate) fn options() -> Options {
     let mut options = Options::new(1);
     options.cache_pages = 8;
     options
+}
+
+/// The two files of a database, as it leaves them; or the log is written into the other one first, where that can be.
+pub(crate) fn closed<D: Disk + Drop>(conn: Connection<FileStore<D>>, is_whole: bool) -> Files<D> {
+    if !is_whole {
+        return conn.into_store().close();
+    }
+    match conn.close_files() {
+        Ok(files) => files,
+        Err((_, store)) => store.close(),
+    }
+}
+
+/// What a crash of the machine leaves of two files.
+pub(crate) fn crashed<D: Crash + Drop>(files: Files<D>) -> Files<D> {
+    let mut files = files;
+    files.log.crash();
+    files.db.crash();
+    files
 }
 
 // Puts these octets on a new disk.
@@ -66,52 +82,4 @@ pub(crate) fn opened<D: Disk + Drop>(
         Ok(conn) => Ok(conn),
         Err((_, left)) => Err(left.into_files()),
     }
-}
-
-/// Two new files that don't fail.
-pub(crate) fn new_files(alloc: Global) -> Result<Files<Failing>, Fail> {
-    Ok(Files {
-        log: disk(alloc, &[], u64::MAX, true)?,
-        db: disk(alloc, &[], u64::MAX, true)?,
-    })
-}
-
-/// The desk of the catalogue that these commands make in two new files.
-pub(crate) fn begun<D: Disk + Drop>(
-    alloc: Global,
-    editions: &Editions,
-    files: Files<D>,
-    asked: &[(&'static str, Asked)],
-) -> Result<Desk<FileStore<D>>, Fail> {
-    match opened(alloc, files) {
-        Ok(conn) => applied(alloc, editions, conn, true, asked),
-        Err(_) => Err("not opened")?,
-    }
-}
-
-// The two files of it once it is closed, the log written into the other one where that can be.
-fn ended<D: Disk + Drop>(
-    alloc: Global,
-    editions: &Editions,
-    files: Files<D>,
-    asked: &[(&'static str, Asked)],
-) -> Result<Files<D>, Fail> {
-    let desk = begun(alloc, editions, files, asked)?;
-    Ok(match desk.into_connection().close_files() {
-        Ok(files) => files,
-        Err((_, store)) => store.close(),
-    })
-}
-
-/// What two files have after these commands.
-pub(crate) fn made(
-    alloc: Global,
-    editions: &Editions,
-    asked: &[(&'static str, Asked)],
-) -> Result<Octets, Fail> {
-    let files = ended(alloc, editions, new_files(alloc)?, asked)?;
-    Ok(Octets {
-        log: files.log.inner().inner().bytes().to_vec(alloc)?,
-        db: files.db.inner().inner().bytes().to_vec(alloc)?,
-    })
 }

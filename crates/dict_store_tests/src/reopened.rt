@@ -1,11 +1,12 @@
 //! Desks over files in memory that are opened anew.
-use crate::asked::{Asked, read_editions};
-use crate::desks::desk_over;
-use crate::files::{Octets, begun, disk, made, new_files, opened, options};
+use crate::asked::{Asked, Editions, read_editions};
+use crate::desks::{accept_all, desk_over};
+use crate::files::{Octets, disk, opened, options};
+use crate::stops::made;
 use dict_catalogue::Command;
 use dict_desk::{Fault, Keeper, Lookup};
 use dict_store::{Desk, Unopened};
-use sqlite::{Alter, FileStore, Files};
+use sqlite::{Alter, Connection, FileStore, Files};
 use sqlite_disk::{Crash, Disk};
 use std::alloc::Global;
 use std::test::Fail;
@@ -36,78 +37,120 @@ enum Met {
     Other,
 }
 
-// What files that were opened again show.
-fn met_of<S: Alter + Drop, D: Disk + Drop>(found: &Result<Desk<S>, (Unopened<D>, Fault)>) -> Met {
-    match found {
-        Ok(desk) if has_gem(desk) => Met::Reopened,
-        Err((Unopened::Spent(_), Fault::Disk)) => Met::Spent,
-        _ => Met::Other,
+// A desk that is to be opened again, and whether its last command was done: over a new catalogue that has the database, or over
+// the one that is there, in which it is retired.
+fn begun<S: Alter + Drop>(
+    alloc: Global,
+    conn: Connection<S>,
+    editions: &Editions,
+    is_new: bool,
+) -> Option<(Desk<S>, bool)> {
+    let Ok(mut desk) = desk_over(alloc, conn, is_new) else {
+        return None;
+    };
+    let is_done = if is_new {
+        accept_all(&mut desk, editions, &GEM).is_ok()
+    } else {
+        desk.apply("r", &Command::Retire { name: "gem" }).is_ok()
+    };
+    Some((desk, is_done))
+}
+
+// A desk, and whether it shows the one install.
+fn looked_at<S: Alter + Drop>(desk: Desk<S>) -> (Desk<S>, bool) {
+    let is_there = has_gem(&desk);
+    (desk, is_there)
+}
+
+// What a desk shows that was opened again.
+fn met_by<S: Alter + Drop>(desk: Desk<S>) -> Met {
+    if has_gem(&desk) {
+        Met::Reopened
+    } else {
+        Met::Other
     }
 }
 
 // Opens the same files again.
 fn opened_again<D: Disk + Drop>(desk: Desk<FileStore<D>>) -> Met {
-    let found = desk.reopen(options());
-    met_of(&found)
+    match desk.reopen(options()) {
+        Ok(desk) => met_by(desk),
+        Err((Unopened::Spent(_), Fault::Disk)) => Met::Spent,
+        Err(_) => Met::Other,
+    }
 }
 
-// Opens what a stop leaves of two new files, and then the same files again.
-fn after_a_stop<D: Crash + Drop>(alloc: Global, files: Files<D>) -> Result<Met, Fail> {
-    let editions = read_editions(alloc)?;
-    let desk = begun(alloc, &editions, files, &GEM)?;
+// Opens what a stop leaves of the files, and then the same files again.
+fn restarted<D: Crash + Drop>(desk: Desk<FileStore<D>>) -> Met {
     match desk.restart(options()) {
         Ok(desk) => {
-            let stands = has_gem(&desk);
+            let (desk, stands) = looked_at(desk);
             let met = opened_again(desk);
-            Ok(if stands { met } else { Met::Other })
+            if stands { met } else { Met::Other }
         }
-        Err(_) => Ok(Met::Other),
+        Err(_) => Met::Other,
     }
 }
 
-#[test]
-fn a_stop_leaves_the_catalogue(rt: HostRuntime) -> Result<(), Fail> {
-    let files = new_files(rt.alloc())?;
-    assert!(rt; after_a_stop(rt.alloc(), files)? == Met::Reopened);
-    Ok(())
-}
-
-// Retires the database, and opens the same files again, which matters where that failed.
-fn retired<D: Disk + Drop>(desk: Desk<FileStore<D>>) -> Met {
-    let mut desk = desk;
-    let is_done = desk.apply("r", &Command::Retire { name: "gem" }).is_ok();
-    let met = opened_again(desk);
-    if is_done { Met::Nothing } else { met }
-}
-
-// The same over the catalogue in two files.
-fn retired_over<D: Disk + Drop>(alloc: Global, files: Files<D>) -> Met {
-    match opened(alloc, files) {
-        Ok(conn) => match desk_over(alloc, conn, false) {
-            Ok(desk) => retired(desk),
-            Err(_) => Met::NoDesk,
-        },
-        Err(_) => Met::NoDesk,
+// Opens two new files again after a stop; or those that have the database after its retirement, which matters where that failed.
+fn met_over<D: Crash + Drop>(
+    alloc: Global,
+    editions: &Editions,
+    files: Files<D>,
+    is_new: bool,
+) -> Met {
+    let Ok(conn) = opened(alloc, files) else {
+        return Met::NoDesk;
+    };
+    match begun(alloc, conn, editions, is_new) {
+        Some((desk, is_done)) if is_new => {
+            let met = restarted(desk);
+            if is_done { met } else { Met::Other }
+        }
+        Some((desk, is_done)) => {
+            let met = opened_again(desk);
+            if is_done { Met::Nothing } else { met }
+        }
+        None => Met::NoDesk,
     }
 }
 
-// The same where the log fails at this call.
-fn retired_at(alloc: Global, octets: &Octets, call: u64) -> Result<Met, Fail> {
+// The same over files of these octets, where the log fails at this call.
+fn met_at(
+    alloc: Global,
+    editions: &Editions,
+    octets: &Octets,
+    call: u64,
+    is_new: bool,
+) -> Result<Met, Fail> {
     let files = Files {
         log: disk(alloc, octets.log.as_slice(), call, true)?,
         db: disk(alloc, octets.db.as_slice(), u64::MAX, true)?,
     };
-    Ok(retired_over(alloc, files))
+    Ok(met_over(alloc, editions, files, is_new))
+}
+
+#[test]
+fn a_stop_leaves_the_catalogue(rt: HostRuntime) -> Result<(), Fail> {
+    let alloc = rt.alloc();
+    let nothing = Octets {
+        log: Vec::new(alloc),
+        db: Vec::new(alloc),
+    };
+    let editions = read_editions(alloc)?;
+    assert!(rt; met_at(alloc, &editions, &nothing, u64::MAX, true)? == Met::Reopened);
+    Ok(())
 }
 
 #[test]
 fn the_same_files_after_a_failure(rt: HostRuntime) -> Result<(), Fail> {
     let alloc = rt.alloc();
-    let octets = made(alloc, &read_editions(alloc)?, &GEM)?;
+    let editions = read_editions(alloc)?;
+    let octets = made(&rt, alloc, &editions, &GEM)?;
     let mut reopened = 0u64;
     let mut spent = 0u64;
     'calls: for call in 0..5_000u64 {
-        match retired_at(alloc, &octets, call)? {
+        match met_at(alloc, &editions, &octets, call, false)? {
             Met::NoDesk => {}
             Met::Reopened => reopened = reopened.saturating_add(1),
             Met::Spent => spent = spent.saturating_add(1),

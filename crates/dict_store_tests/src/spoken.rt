@@ -2,9 +2,9 @@
 use crate::asked::Asked;
 use crate::desks::made_in;
 use dict_desk::Fault;
-use dict_file_session::{FileFault, session_over};
 use dict_io::{LimitedSink, OverRead};
 use dict_session::End;
+use dict_store::{FileFault, session_over};
 use sqlite::{Alter, Connection};
 use std::alloc::Global;
 use std::test::Fail;

@@ -4,19 +4,19 @@
 
 use crate::asked::{Asked, Editions, read_editions, requests, told, told_outcome};
 use crate::desks::{accept_all, desk_over};
-use crate::files::{Octets, disk, made, opened};
+use crate::files::{Failing, Octets, closed, crashed, disk, opened};
 use crate::shown::{Rows, shown};
 use dict_catalogue::{Command, Kept, Refusal};
 use dict_desk::{Fault, Keeper, Lookup, PlainDesk, What};
 use dict_match::{Strategy, key_of};
 use dict_store::{Desk, apply_to_file};
 use sqlite::{Alter, Connection, Files};
-use sqlite_disk::{Crash, Disk};
+use sqlite_disk::Crash;
 use std::alloc::Global;
 use std::process::Abort;
 use std::test::Fail;
 
-type Steps = &'static [(&'static str, Asked)];
+pub(crate) type Steps = &'static [(&'static str, Asked)];
 
 /// What is done before, and what is done over a disk that fails.
 #[derive(Clone, Copy)]
@@ -78,6 +78,17 @@ struct Sweep<'a> {
 struct Mode {
     in_log: bool,
     goes_on: bool,
+}
+
+/// What is done over two files.
+#[derive(Clone, Copy)]
+enum Work<'a> {
+    // Commands make a new catalogue.
+    Make(&'a Editions, Steps),
+    // Commands are done over a desk that is opened first.
+    Run(&'a Sweep<'a>),
+    // After a run that ended so, and a crash of the machine, the catalogue stands as it has to, and is sound.
+    Look(&'a Sweep<'a>, Ended),
 }
 
 /// How a run ended: whether there was a desk, how many commands were answered, and the failure.
@@ -151,30 +162,6 @@ fn done<S: Alter + Drop>(
     }
 }
 
-// Does the commands over a desk that is opened first.
-fn run<S: Alter + Drop>(
-    rt: &impl Abort,
-    alloc: Global,
-    conn: Connection<S>,
-    sweep: &Sweep<'_>,
-) -> (Connection<S>, Result<Ended, Fail>) {
-    match desk_over(alloc, conn, sweep.is_new) {
-        Ok(desk) => {
-            let mut desk = desk;
-            let ended = done(rt, alloc, &mut desk, sweep);
-            (desk.into_connection(), ended)
-        }
-        Err((conn, fault)) => (
-            conn,
-            Ok(Ended {
-                is_open: false,
-                stand: 0,
-                fault: Some(fault),
-            }),
-        ),
-    }
-}
-
 fn is_shown(states: &[String], at: usize, text: &str) -> bool {
     match states.get(at) {
         Some(state) => state.as_str() == text,
@@ -213,76 +200,132 @@ fn found_again<S: Alter + Drop>(
     alloc: Global,
     conn: Connection<S>,
     may_be_unmade: bool,
-) -> Option<Desk<S>> {
+) -> Result<Desk<S>, (Connection<S>, Fault)> {
     match desk_over(alloc, conn, false) {
-        Ok(desk) => Some(desk),
+        Ok(desk) => Ok(desk),
         Err((conn, fault)) => {
             if may_be_unmade && fault == Fault::NotACatalogue {
-                desk_over(alloc, conn, true).ok()
+                desk_over(alloc, conn, true)
             } else {
-                None
+                Err((conn, fault))
             }
         }
     }
 }
 
-// Opened anew, the catalogue stands as it has to, and is sound.
-fn is_kept<S: Alter + Drop>(
+// The desk over which the work is done.
+fn desk_for<S: Alter + Drop>(
+    alloc: Global,
+    conn: Connection<S>,
+    work: &Work<'_>,
+) -> Result<Desk<S>, (Connection<S>, Fault)> {
+    match work {
+        Work::Make(_, _) => desk_over(alloc, conn, true),
+        Work::Run(sweep) => desk_over(alloc, conn, sweep.is_new),
+        Work::Look(sweep, ended) => found_again(alloc, conn, sweep.is_new && !ended.is_open),
+    }
+}
+
+// Does it.
+fn work_on<S: Alter + Drop>(
+    rt: &impl Abort,
+    alloc: Global,
+    desk: &mut Desk<S>,
+    work: &Work<'_>,
+) -> Result<Ended, Fail> {
+    match work {
+        Work::Make(editions, asked) => {
+            accept_all(desk, editions, asked)?;
+            Ok(Ended {
+                is_open: true,
+                stand: asked.len(),
+                fault: None,
+            })
+        }
+        Work::Run(sweep) => done(rt, alloc, desk, sweep),
+        Work::Look(sweep, ended) => {
+            stands(rt, alloc, desk, sweep, *ended)?;
+            assert_eq!(rt; desk.audit(), Ok(()));
+            Ok(*ended)
+        }
+    }
+}
+
+// How the work ended, where there is no desk for it.
+fn without_a_desk(work: &Work<'_>, fault: Fault) -> Result<Ended, Fail> {
+    match work {
+        Work::Run(_) => Ok(Ended {
+            is_open: false,
+            stand: 0,
+            fault: Some(fault),
+        }),
+        _ => Err(Fail::new("no catalogue")),
+    }
+}
+
+fn work_over<S: Alter + Drop>(
     rt: &impl Abort,
     alloc: Global,
     conn: Connection<S>,
-    sweep: &Sweep<'_>,
-    ended: Ended,
-) -> Result<(), Fail> {
-    match found_again(alloc, conn, sweep.is_new && !ended.is_open) {
-        Some(desk) => {
+    work: &Work<'_>,
+) -> (Connection<S>, Result<Ended, Fail>) {
+    match desk_for(alloc, conn, work) {
+        Ok(desk) => {
             let mut desk = desk;
-            let end = stands(rt, alloc, &mut desk, sweep, ended);
-            assert_eq!(rt; desk.audit(), Ok(()));
-            end
+            let ended = work_on(rt, alloc, &mut desk, work);
+            (desk.into_connection(), ended)
         }
-        None => Err("no catalogue")?,
+        Err((conn, fault)) => (conn, without_a_desk(work, fault)),
     }
 }
 
-// Opens two files and does the commands; and the files again.
-fn first_run<D: Disk + Drop>(
+// Opens two files, does the work, and leaves them.
+fn over_files<D: Crash + Drop>(
     rt: &impl Abort,
     alloc: Global,
     files: Files<D>,
-    sweep: &Sweep<'_>,
+    work: &Work<'_>,
 ) -> (Files<D>, Result<Ended, Fail>) {
+    let files = match work {
+        Work::Look(_, _) => crashed(files),
+        _ => files,
+    };
     match opened(alloc, files) {
         Ok(conn) => {
-            let (conn, ended) = run(rt, alloc, conn, sweep);
-            (conn.into_store().close(), ended)
+            let (conn, ended) = work_over(rt, alloc, conn, work);
+            (closed(conn, matches!(work, Work::Make(_, _))), ended)
         }
-        Err(files) => (
-            files,
-            Ok(Ended {
-                is_open: false,
-                stand: 0,
-                fault: Some(Fault::Disk),
-            }),
-        ),
+        Err(files) => (files, without_a_desk(work, Fault::Disk)),
     }
 }
 
-// Opens what a crash of the machine leaves of two files, and looks.
-fn second_run<D: Crash + Drop>(
+// The same over files of which one may fail.
+fn over_failing(
     rt: &impl Abort,
     alloc: Global,
-    files: Files<D>,
-    sweep: &Sweep<'_>,
-    ended: Ended,
-) -> Result<(), Fail> {
-    let mut files = files;
-    files.log.crash();
-    files.db.crash();
-    match opened(alloc, files) {
-        Ok(conn) => is_kept(rt, alloc, conn, sweep, ended),
-        Err(_) => Err("not opened again")?,
-    }
+    files: Files<Failing>,
+    work: &Work<'_>,
+) -> (Files<Failing>, Result<Ended, Fail>) {
+    over_files(rt, alloc, files, work)
+}
+
+/// What two files have after these commands over a new catalogue.
+pub(crate) fn made(
+    rt: &impl Abort,
+    alloc: Global,
+    editions: &Editions,
+    asked: Steps,
+) -> Result<Octets, Fail> {
+    let files = Files {
+        log: disk(alloc, &[], u64::MAX, true)?,
+        db: disk(alloc, &[], u64::MAX, true)?,
+    };
+    let (files, ended) = over_failing(rt, alloc, files, &Work::Make(editions, asked));
+    let _ended = ended?;
+    Ok(Octets {
+        log: files.log.inner.inner().bytes().to_vec(alloc)?,
+        db: files.db.inner.inner().bytes().to_vec(alloc)?,
+    })
 }
 
 // One run with a failure at this call of one file, and how it ended, where there was a failure. Without one no command fails.
@@ -302,14 +345,15 @@ fn fails_at(
         log: disk(alloc, sweep.log, log_call, mode.goes_on)?,
         db: disk(alloc, sweep.db, db_call, mode.goes_on)?,
     };
-    let (files, ended) = first_run(rt, alloc, files, sweep);
-    let has_failed = files.log.calls() > log_call || files.db.calls() > db_call;
+    let (files, ended) = over_failing(rt, alloc, files, &Work::Run(sweep));
+    let has_failed = files.log.calls > log_call || files.db.calls > db_call;
     let ended = ended?;
     match ended.fault {
         Some(fault) => assert!(rt; has_failed && fault == Fault::Disk, "{call}"),
         None => assert!(rt; ended.is_open),
     }
-    second_run(rt, alloc, files, sweep, ended)?;
+    let (_, looked) = over_failing(rt, alloc, files, &Work::Look(sweep, ended));
+    let _looked = looked?;
     Ok(if has_failed { Some(ended) } else { None })
 }
 
@@ -391,7 +435,7 @@ fn sweep_cases(rt: &impl Abort, alloc: Global, mode: Mode) -> Result<(), Fail> {
     };
     sweep_over(rt, alloc, &editions, Case(&[], &[]), &nothing, mode)?;
     for case in &CASES {
-        let octets = made(alloc, &editions, case.0)?;
+        let octets = made(rt, alloc, &editions, case.0)?;
         sweep_over(rt, alloc, &editions, *case, &octets, mode)?;
     }
     Ok(())

@@ -6,9 +6,9 @@ use Rattle.sqlite_trees.specs.declared.store.Store.{Ghosts}
 use Rattle.dict_io.specs.Streams.{Change}
 use Rattle.dict_session.specs.declared.session.run.End.{End}
 use Rattle.dict_session.specs.declared.session.run.SessionFault.TheVariants as session_faults
-use Rattle.dict_file_session.specs.Over.{IsSpared}
-use Rattle.dict_file_session.specs.declared.fault.FileFault.{FileFault}
-use Rattle.dict_file_session.specs.declared.fault.FileFault.TheVariants.{Opening, Session}
+use Rattle.dict_store.specs.Over.{IsSpared}
+use Rattle.dict_store.specs.declared.session_fault.FileFault.{FileFault}
+use Rattle.dict_store.specs.declared.session_fault.FileFault.TheVariants.{Opening, Session}
 use Rattle.dict_words.specs.Asked.{Asks}
 use Rattle.dict_words.specs.declared.task.Task.{Task}
 use Rattle.dict_words.specs.declared.task.Task.TheVariants.{Plain, Create, List as Lists, Audit, Session as SpeaksOver, Change as Changes, Serve as Serves}

@@ -12,9 +12,9 @@ use Rattle.dict_io.specs.Streams.{Change}
 use Rattle.dict_session.specs.declared.session.run.End.{End}
 use Rattle.dict_session.specs.declared.session.run.SessionFault.TheVariants as session_faults
 use Rattle.dict_store.specs.Desk.{DeskState, Shows, LeavesOneOf}
-use Rattle.dict_file_session.specs.Over.{IsOver, IsSpared, Leaves}
-use Rattle.dict_file_session.specs.declared.fault.FileFault.{FileFault}
-use Rattle.dict_file_session.specs.declared.fault.FileFault.TheVariants as file_faults
+use Rattle.dict_store.specs.Over.{IsOver, IsSpared, Leaves}
+use Rattle.dict_store.specs.declared.session_fault.FileFault.{FileFault}
+use Rattle.dict_store.specs.declared.session_fault.FileFault.TheVariants as file_faults
 use Rattle.dict_printed.specs.Faults.{told_of}
 use Rattle.dict_printed.specs.declared.fault.Fault.{Fault}
 use Rattle.dict_printed.specs.declared.fault.Fault.TheVariants as faults

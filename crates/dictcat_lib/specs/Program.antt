@@ -10,7 +10,7 @@ use Rattle.dict_io.specs.Streams.{Change, HasFailed, Puts, PutsAll, PutsFront}
 use Rattle.dict_io.specs.declared.sink.SinkFault.{SinkFault}
 use Rattle.dict_session.specs.declared.session.run.SessionFault.{SessionFault}
 use Rattle.dict_session.specs.declared.session.run.SessionFault.TheVariants as session_faults
-use Rattle.dict_file_session.specs.declared.fault.FileFault.TheVariants.{Session}
+use Rattle.dict_store.specs.declared.session_fault.FileFault.TheVariants.{Session}
 use Rattle.dict_words.specs.Asked.{Asks, Fails, mistakes_in, words_shown}
 use Rattle.dict_words.specs.declared.task.Change.{Change as AskedChange}
 use Rattle.dict_words.specs.declared.task.Change.TheVariants as changes

@@ -5,10 +5,10 @@ ghost use Rattle.dictcat_lib.specs.Opening.{SessionEnds, over_told};
 
 use crate::plain::HOST;
 use crate::stores::{close_file, open_file};
-use dict_file_session::{FileFault, session_over};
 use dict_io::{Sink, Source};
 use dict_printed::Fault;
 use dict_session::{End, SessionFault};
+use dict_store::{FileFault, session_over};
 use sqlite::{File, FileStore};
 use sqlite_trees::store::Store;
 

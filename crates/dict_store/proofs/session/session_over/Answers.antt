@@ -3,10 +3,10 @@ use Rattle.sqlite.specs.State.{HasCleanDisk}
 use Rattle.sqlite.specs.Held.{state}
 use Rattle.dict_file.specs.Holds.{Holds}
 use Rattle.dict_io.specs.Streams.{change}
-use Rattle.dict_file_session.specs.Over.{IsOver, HasRun, Leaves}
+use Rattle.dict_store.specs.Over.{IsOver, HasRun, Leaves}
 use Rattle.dict_store.specs.Desk.{has_failed}
-use Rattle.dict_file_session.proofs.OverLemmas.{over_by, leaves_after}
-use Rattle.dict_file_session.proofs.over.session_over.Goals as goal
+use Rattle.dict_store.proofs.OverLemmas.{over_by, leaves_after}
+use Rattle.dict_store.proofs.session.session_over.Goals as goal
 
 pub returns-clause-over : goal.returns-clause-over
 returns-clause-over g c = λ clean.

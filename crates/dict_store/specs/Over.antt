@@ -13,8 +13,8 @@ use Rattle.dict_session.specs.declared.session.run.SessionFault.{SessionFault}
 use Rattle.dict_session.specs.declared.session.run.SessionFault.TheVariants.{Memory}
 use Rattle.dict_store.specs.Desk.{StandsFor}
 use Rattle.dict_store.specs.Opened.{IsTold, IsNotHeld, IsNotLeft}
-use Rattle.dict_file_session.specs.declared.fault.FileFault.{FileFault}
-use Rattle.dict_file_session.specs.declared.fault.FileFault.TheVariants.{Opening, Session}
+use Rattle.dict_store.specs.declared.session_fault.FileFault.{FileFault}
+use Rattle.dict_store.specs.declared.session_fault.FileFault.TheVariants.{Opening, Session}
 
 -- a reader or a writer was left alone
 abbrev pub IsUntouched : Change → Type 0

@@ -7,7 +7,7 @@ use Rattle.dict_catalogue.specs.Steps.{Catalogue}
 use Rattle.dict_io.specs.Streams.{Change}
 use Rattle.dict_session.specs.declared.session.run.End.{End}
 use Rattle.dict_session.specs.declared.session.run.SessionFault.{SessionFault}
-use Rattle.dict_file_session.specs.Over.{HasRun, IsOver, Leaves, told}
+use Rattle.dict_store.specs.Over.{HasRun, IsOver, Leaves, told}
 
 pub over_by : (old : State) (host : List ℕ) (number : ℕ) (end : Result End SessionFault) (reader writer : Change)
     → HasRun old host number end reader writer → IsOver old host number (told end) reader writer

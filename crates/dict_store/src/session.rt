@@ -4,12 +4,12 @@ ghost use Rattle.sqlite.specs.State.{HasCleanDisk};
 ghost use Rattle.sqlite.specs.Held.{state};
 ghost use Rattle.dict_catalogue.specs.Steps.{Catalogue};
 ghost use Rattle.dict_io.specs.Streams.{change};
-ghost use Rattle.dict_file_session.specs.Over.{IsOver, IsSpared, Leaves, told};
+ghost use Rattle.dict_store.specs.Over.{IsOver, IsSpared, Leaves, told};
 
-use crate::fault::FileFault;
+use crate::desk::Desk;
+use crate::session_fault::FileFault;
 use dict_io::{Sink, Source};
 use dict_session::{End, SessionFault, run};
-use dict_store::Desk;
 use sqlite::{Alter, Connection};
 use std::alloc::Global;
 
