@@ -58,9 +58,8 @@ fn a_writer_without_room(rt: HostRuntime) -> Result<(), Fail> {
 #[test]
 fn a_sink_of_limited_room(rt: HostRuntime) -> Result<(), Fail> {
     let mut sink = LimitedSink::new(rt.alloc(), 3)?;
-    assert_eq!(rt; sink.put(b"ab"), Ok(()));
-    assert_eq!(rt; sink.put(b""), Ok(()));
-    assert_eq!(rt; sink.put(b"cd"), Err(SinkFault));
+    let puts = [sink.put(b"ab"), sink.put(b""), sink.put(b"cd")];
+    assert_eq!(rt; puts, [Ok(()), Ok(()), Err(SinkFault)]);
     assert_eq!(rt; sink.taken(), b"abc".as_slice());
     assert_eq!(rt; sink.put(b"e"), Err(SinkFault));
     assert_eq!(rt; sink.taken(), b"abc".as_slice());

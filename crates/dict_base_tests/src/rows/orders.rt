@@ -121,16 +121,18 @@ fn look_at_the_edition(rt: &impl Abort, alloc: Global, group: &EditionRows) -> R
     Ok(())
 }
 
+fn look_at_all(rt: &impl Abort, alloc: Global, rows: &Rows) -> Result<(), Fail> {
+    look_at_rows(rt, alloc, rows)?;
+    look_at_the_item(rt, alloc, rows)?;
+    assert_eq!(rt; rows.editions.len(), 2);
+    look_at_the_edition(rt, alloc, &rows.editions[1])
+}
+
 #[test]
 fn written_rows(rt: HostRuntime) -> Result<(), Fail> {
-    let alloc = rt.alloc();
-    let mut rows = empty(alloc);
-    put_whole(alloc, &mut rows)?;
-    look_at_rows(&rt, alloc, &rows)?;
-    look_at_the_item(&rt, alloc, &rows)?;
-    assert_eq!(rt; rows.editions.len(), 2);
-    look_at_the_edition(&rt, alloc, &rows.editions[1])?;
-    Ok(())
+    let mut rows = empty(rt.alloc());
+    put_whole(rt.alloc(), &mut rows)?;
+    look_at_all(&rt, rt.alloc(), &rows)
 }
 
 #[test]
