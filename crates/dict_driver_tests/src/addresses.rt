@@ -58,7 +58,9 @@ fn are_in_use(
 fn free_ports(rt: HostRuntime) -> Result<(), Fail> {
     let play = Play::new(&rt, rt.alloc())?;
     let (dict, http) = (play.dict, play.http);
+    let are_bound = are_in_use(&rt, &rt, rt.alloc(), dict, http);
+    drop(play);
     assert!(rt; dict.ip().is_loopback() && http.ip().is_loopback());
     assert!(rt; dict.port() > 0 && http.port() > 0 && dict != http);
-    are_in_use(&rt, &rt, rt.alloc(), dict, http)
+    are_bound
 }

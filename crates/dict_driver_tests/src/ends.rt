@@ -73,7 +73,9 @@ fn drown_and_ask(
 #[test]
 fn a_peer_that_never_reads(rt: HostRuntime) -> Result<(), Fail> {
     let mut play = Play::new(&rt, rt.alloc())?;
-    let (due, came) = drown_and_ask(&rt, &mut play)?;
+    let asked = drown_and_ask(&rt, &mut play);
+    drop(play);
+    let (due, came) = asked?;
     assert!(rt; came > 1_048_576 && came == due);
     Ok(())
 }

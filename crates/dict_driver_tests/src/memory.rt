@@ -119,8 +119,11 @@ fn run_anew(
     stages: &[Stage],
 ) -> Result<u64, Fail> {
     let mut run = Run::new(alloc, coming, room)?;
-    turn_by_turn(&mut run, stages)?;
-    Ok(run.one.id())
+    let end = turn_by_turn(&mut run, stages);
+    let id = run.one.id();
+    drop(run);
+    end?;
+    Ok(id)
 }
 
 #[test]

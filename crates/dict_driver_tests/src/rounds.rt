@@ -25,6 +25,8 @@ fn count_three(net: &impl Net<Stream = TcpStream>, play: &mut Play) -> Result<u6
 #[test]
 fn three_rounds(rt: HostRuntime) -> Result<(), Fail> {
     let mut play = Play::new(&rt, rt.alloc())?;
-    assert_eq!(rt; count_three(&rt, &mut play)?, 3);
+    let counted = count_three(&rt, &mut play);
+    drop(play);
+    assert_eq!(rt; counted?, 3);
     Ok(())
 }
