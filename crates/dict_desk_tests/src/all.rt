@@ -9,28 +9,20 @@ use std::process::Abort;
 use std::test::Fail;
 
 /// The answers in order.
-fn push_answers(
-    alloc: Global,
-    text: &mut String,
-    answers: &[Result<Kept, Refusal>],
-) -> Result<(), AllocError> {
+fn told_all(alloc: Global, answers: &[Result<Kept, Refusal>]) -> Result<String, AllocError> {
+    let mut text = String::new(alloc);
     for answer in answers {
         match answer {
-            Ok(kept) => push_kept(alloc, text, kept)?,
-            Err(refusal) => push_refusal(alloc, text, refusal.number(), refusal.name())?,
+            Ok(kept) => push_kept(alloc, &mut text, kept)?,
+            Err(refusal) => push_refusal(alloc, &mut text, refusal.number(), refusal.name())?,
         }
         text.push_str("; ")?;
     }
-    Ok(())
+    Ok(text)
 }
 
 /// What a desk answers to an install, a rollback, a repeat of the first id and a retire.
-fn push_four(
-    alloc: Global,
-    text: &mut String,
-    desk: &mut PlainDesk,
-    gem: &Edition<'static>,
-) -> Result<(), Fail> {
+fn told_four(alloc: Global, desk: &mut PlainDesk, gem: &Edition<'static>) -> Result<String, Fail> {
     let requests = [
         ("r1", Asked::Install("gem").command(gem)),
         ("r2", Asked::Rollback("gem").command(gem)),
@@ -38,16 +30,15 @@ fn push_four(
         ("r2", Asked::Retire("gem").command(gem)),
     ];
     let answers = apply_all(alloc, desk, &requests)?;
-    push_answers(alloc, text, answers.as_slice())?;
-    Ok(())
+    Ok(told_all(alloc, answers.as_slice())?)
 }
 
 /// What comes after it: nothing is there, and no command is no answer.
 fn check_after(rt: &impl Abort, alloc: Global, desk: &mut PlainDesk) -> Result<(), Fail> {
     assert_eq!(rt; desk.summary()?.items.len(), 0);
     assert_eq!(rt; desk.summary()?.accepted, 2);
-    let none = apply_all(alloc, desk, &[])?;
-    assert_eq!(rt; none.len(), 0);
+    let count = apply_all(alloc, desk, &[])?.len();
+    assert_eq!(rt; count, 0);
     Ok(())
 }
 
@@ -56,8 +47,7 @@ fn each_in_turn(rt: HostRuntime) -> Result<(), Fail> {
     let alloc = rt.alloc();
     let gem = read(alloc, GEM)?;
     let mut desk = PlainDesk::new(alloc);
-    let mut text = String::new(alloc);
-    push_four(alloc, &mut text, &mut desk, &gem)?;
+    let text = told_four(alloc, &mut desk, &gem)?;
     assert_eq!(rt;
         text.as_str(),
         "1 Install gem #1; 23 NoFormer; 1 Install gem #1; 2 Retire gem; "

@@ -309,11 +309,17 @@ fn an_id_acts_once(rt: HostRuntime) -> Result<(), Fail> {
 }
 
 /// Installs `gem0` to `gem63`.
-fn fill(alloc: Global, desk: &mut PlainDesk, gem: &Edition<'static>) -> Result<(), Fail> {
+fn fill(
+    rt: &impl Abort,
+    alloc: Global,
+    desk: &mut PlainDesk,
+    gem: &Edition<'static>,
+) -> Result<(), Fail> {
     for n in 0..64u64 {
         let name = format!(in alloc; "gem{n}")?;
         install(desk, name.as_str(), name.as_str(), gem)?;
     }
+    assert_eq!(rt; desk.summary()?.items.len(), 64);
     Ok(())
 }
 
@@ -341,8 +347,7 @@ fn sixty_four_items(rt: HostRuntime) -> Result<(), Fail> {
     let alloc = rt.alloc();
     let gem = read(alloc, GEM)?;
     let mut desk = PlainDesk::new(alloc);
-    fill(alloc, &mut desk, &gem)?;
-    assert_eq!(rt; desk.summary()?.items.len(), 64);
+    fill(&rt, alloc, &mut desk, &gem)?;
     check_answer(&rt, alloc, &mut desk, &gem, PAST_64[0])?;
     check_answer(&rt, alloc, &mut desk, &gem, PAST_64[1])
 }

@@ -1,5 +1,5 @@
 // Lookups in a catalogue in memory.
-use super::files::{EDGE, GEM, ORE, STONES, TELL, install, install_files};
+use super::files::{EDGE, Files, GEM, ORE, STONES, TELL, install, install_files};
 use super::rows::{Sought, counts, hand_out};
 use dict_desk::PlainDesk;
 use dict_index::read_edition;
@@ -23,12 +23,25 @@ fn row_count(text: &str) -> u64 {
     count
 }
 
+// These rows are handed out of an edition, of which so many are taken at most.
+fn check_out(
+    rt: &impl Abort,
+    alloc: Global,
+    desk: &mut PlainDesk,
+    (number, sought): (u64, Sought),
+    (strategy, query): (Strategy, &str),
+    (most, wanted): (usize, &str),
+) -> Result<(), Fail> {
+    let rows = hand_out(alloc, desk, number, sought, strategy, query, most)?;
+    assert_eq!(rt; rows.as_str(), wanted, "{query:?}");
+    Ok(())
+}
+
 fn check(rt: &impl Abort, alloc: Global, desk: &mut PlainDesk, row: Row) -> Result<(), Fail> {
     let Row(number, strategy, query, found, heads) = row;
-    let rows = hand_out(alloc, desk, number, Sought::Found, strategy, query, 9)?;
-    assert_eq!(rt; rows.as_str(), found, "{query:?}");
-    let rows = hand_out(alloc, desk, number, Sought::Heads, strategy, query, 9)?;
-    assert_eq!(rt; rows.as_str(), heads, "{query:?}");
+    let by = (strategy, query);
+    check_out(rt, alloc, desk, (number, Sought::Found), by, (9, found))?;
+    check_out(rt, alloc, desk, (number, Sought::Heads), by, (9, heads))?;
     let (entries, words) = counts(alloc, desk, number, strategy, query)?;
     assert_eq!(rt; entries, row_count(found), "{query:?}");
     assert_eq!(rt; words, row_count(heads), "{query:?}");
@@ -154,29 +167,44 @@ static ROWS: [Row; 26] = [
     Row(u64::MAX, Strategy::Exact, "opal", ".", "."),
 ];
 
-// An edition's number, at most how many rows of what it says of itself are taken, and these.
-static INFOS: [(u64, usize, &str); 3] = [(4, 9, "=.a\n\nb\n;."), (1, 9, "=;."), (1, 1, "=;!")];
+/// An edition's number and what is sought in it, by a letter; at most how many rows are taken, and these.
+type Stop = (u64, Sought, usize, &'static str);
+
+// What editions say of themselves.
+static INFOS: [Stop; 3] = [
+    (4, Sought::Info, 9, "=.a\n\nb\n;."),
+    (1, Sought::Info, 9, "=;."),
+    (1, Sought::Info, 1, "=;!"),
+];
+
+fn check_stops(
+    rt: &impl Abort,
+    alloc: Global,
+    desk: &mut PlainDesk,
+    stops: &[Stop],
+) -> Result<(), Fail> {
+    for (number, sought, most, wanted) in stops {
+        let by = (Strategy::Substring, "a");
+        check_out(rt, alloc, desk, (*number, *sought), by, (*most, wanted))?;
+    }
+    Ok(())
+}
+
+static FIVE: [Files; 5] = [GEM, ORE, EDGE, TELL, STONES];
+
+fn install_five(alloc: Global, desk: &mut PlainDesk) -> Result<(), Fail> {
+    for files in &FIVE {
+        install_files(alloc, desk, files.0, files.0, *files)?;
+    }
+    Ok(())
+}
 
 fn run(rt: &impl Abort, alloc: Global, desk: &mut PlainDesk) -> Result<(), Fail> {
-    for files in [GEM, ORE, EDGE, TELL, STONES] {
-        install_files(alloc, desk, files.0, files.0, files)?;
-    }
+    install_five(alloc, desk)?;
     for row in &ROWS {
         check(rt, alloc, desk, *row)?;
     }
-    for (number, most, info) in &INFOS {
-        let rows = hand_out(
-            alloc,
-            desk,
-            *number,
-            Sought::Info,
-            Strategy::Exact,
-            "",
-            *most,
-        )?;
-        assert_eq!(rt; rows.as_str(), *info);
-    }
-    Ok(())
+    check_stops(rt, alloc, desk, &INFOS)
 }
 
 #[test]
@@ -185,32 +213,34 @@ fn all_strategies(rt: HostRuntime) -> Result<(), Fail> {
     run(&rt, rt.alloc(), &mut desk)
 }
 
-// What is sought in `stones` by a letter, at most how many rows are taken, and these.
-static STOPS: [(Sought, usize, &str); 9] = [
-    (Sought::Found, 1, "pearl=x\n;!"),
-    (Sought::Found, 2, "pearl=x\n;opal=x\n;!"),
-    (Sought::Found, 3, "pearl=x\n;opal=x\n;pearl=y\n;!"),
-    (Sought::Found, 4, "pearl=x\n;opal=x\n;pearl=y\n;agate=x\n;!"),
-    (Sought::Found, 5, "pearl=x\n;opal=x\n;pearl=y\n;agate=x\n;."),
-    (Sought::Heads, 1, "pearl=;!"),
-    (Sought::Heads, 2, "pearl=;opal=;!"),
-    (Sought::Heads, 3, "pearl=;opal=;agate=;!"),
-    (Sought::Heads, 4, "pearl=;opal=;agate=;."),
+// What is sought in `stones`.
+static STOPS: [Stop; 9] = [
+    (1, Sought::Found, 1, "pearl=x\n;!"),
+    (1, Sought::Found, 2, "pearl=x\n;opal=x\n;!"),
+    (1, Sought::Found, 3, "pearl=x\n;opal=x\n;pearl=y\n;!"),
+    (
+        1,
+        Sought::Found,
+        4,
+        "pearl=x\n;opal=x\n;pearl=y\n;agate=x\n;!",
+    ),
+    (
+        1,
+        Sought::Found,
+        5,
+        "pearl=x\n;opal=x\n;pearl=y\n;agate=x\n;.",
+    ),
+    (1, Sought::Heads, 1, "pearl=;!"),
+    (1, Sought::Heads, 2, "pearl=;opal=;!"),
+    (1, Sought::Heads, 3, "pearl=;opal=;agate=;!"),
+    (1, Sought::Heads, 4, "pearl=;opal=;agate=;."),
 ];
-
-fn stop_at_each(rt: &impl Abort, alloc: Global, desk: &mut PlainDesk) -> Result<(), Fail> {
-    install_files(alloc, desk, "a", "stones", STONES)?;
-    for (sought, most, text) in &STOPS {
-        let rows = hand_out(alloc, desk, 1, *sought, Strategy::Substring, "a", *most)?;
-        assert_eq!(rt; rows.as_str(), *text);
-    }
-    Ok(())
-}
 
 #[test]
 fn a_sink_stops_at_each_row(rt: HostRuntime) -> Result<(), Fail> {
     let mut desk = PlainDesk::new(rt.alloc());
-    stop_at_each(&rt, rt.alloc(), &mut desk)
+    install_files(rt.alloc(), &mut desk, "a", "stones", STONES)?;
+    check_stops(&rt, rt.alloc(), &mut desk, &STOPS)
 }
 
 // How many entries end by the word opal in the first edition, and none in the second.
@@ -282,10 +312,10 @@ fn check_many(rt: &impl Abort, alloc: Global, desk: &mut PlainDesk, row: Many) -
     let (found, words) = counts(alloc, desk, 1, strategy, query)?;
     assert_eq!(rt; found, entries, "{query}");
     assert_eq!(rt; words, heads, "{query}");
-    let rows = hand_out(alloc, desk, 1, Sought::Found, strategy, query, 2000)?;
-    assert_eq!(rt; row_count(rows.as_str()), entries, "{query}");
-    let rows = hand_out(alloc, desk, 1, Sought::Heads, strategy, query, 2000)?;
-    assert_eq!(rt; row_count(rows.as_str()), heads, "{query}");
+    let found = row_count(hand_out(alloc, desk, 1, Sought::Found, strategy, query, 2000)?.as_str());
+    assert_eq!(rt; found, entries, "{query}");
+    let words = row_count(hand_out(alloc, desk, 1, Sought::Heads, strategy, query, 2000)?.as_str());
+    assert_eq!(rt; words, heads, "{query}");
     Ok(())
 }
 

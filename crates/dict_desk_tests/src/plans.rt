@@ -366,12 +366,20 @@ fn fill(alloc: Global, summary: &mut Summary, gem: &Edition<'static>) -> Result<
     Ok(())
 }
 
-/// How many items there are after a change, or 64 where there is none.
-fn item_count(planned: &Result<Change, PlanFault>) -> usize {
-    match planned {
+/// What is answered to a command, and how many items there are after the change, or 64 where there is none.
+fn told_full(
+    alloc: Global,
+    summary: &Summary,
+    command: &Command<'_>,
+) -> Result<(String, usize), AllocError> {
+    let mut text = String::new(alloc);
+    let planned = plan(alloc, summary, command);
+    push_answer(alloc, &mut text, &planned)?;
+    let count = match &planned {
         Ok(change) => change.summary.items.len(),
         Err(_) => 64,
-    }
+    };
+    Ok((text, count))
 }
 
 fn check_full(
@@ -382,12 +390,10 @@ fn check_full(
     row: (Asked, &'static str, usize),
 ) -> Result<(), AllocError> {
     let (asked, answer, count) = row;
-    let mut text = String::new(alloc);
-    let planned = plan(alloc, summary, &asked.command(gem));
-    let put = push_answer(alloc, &mut text, &planned);
+    let (text, found) = told_full(alloc, summary, &asked.command(gem))?;
     assert_eq!(rt; text.as_str(), answer);
-    assert_eq!(rt; item_count(&planned), count);
-    put
+    assert_eq!(rt; found, count);
+    Ok(())
 }
 
 fn run_full(

@@ -6,12 +6,18 @@ use dict_json::{
     refused_edition_json,
 };
 use std::alloc::{AllocError, Global};
+use std::process::Abort;
 use std::test::Fail;
 
 // The place that a body says.
 fn told_place(alloc: Global, body: &[u8]) -> Result<String, Fail> {
     let place = read_place(alloc, body)?;
     Ok(format!(in alloc; "{place:?}")?)
+}
+
+fn say_place(rt: &impl Abort, alloc: Global, body: &[u8], place: &str) -> Result<(), Fail> {
+    assert_eq!(rt; told_place(alloc, body)?.as_str(), place, "{body:?}");
+    Ok(())
 }
 
 static PLACES: [(&str, &str); 5] = [
@@ -52,14 +58,10 @@ static NO_PLACES: [&[u8]; 24] = [
 #[test]
 fn places(rt: HostRuntime) -> Result<(), Fail> {
     for (body, place) in &PLACES {
-        assert_eq!(rt;
-            told_place(rt.alloc(), body.as_bytes())?.as_str(),
-            *place,
-            "{body}"
-        );
+        say_place(&rt, rt.alloc(), body.as_bytes(), place)?;
     }
     for body in &NO_PLACES {
-        assert_eq!(rt; told_place(rt.alloc(), body)?.as_str(), "None", "{body:?}");
+        say_place(&rt, rt.alloc(), body, "None")?;
     }
     Ok(())
 }
@@ -80,6 +82,15 @@ fn told_virtual(alloc: Global, body: &[u8]) -> Result<String, Fail> {
         told.push(',')?;
     }
     Ok(told)
+}
+
+fn say_virtual(rt: &impl Abort, alloc: Global, body: &str, wanted: &str) -> Result<(), Fail> {
+    assert_eq!(rt;
+        told_virtual(alloc, body.as_bytes())?.as_str(),
+        wanted,
+        "{body}"
+    );
+    Ok(())
 }
 
 static VIRTUAL: [(&str, &str); 5] = [
@@ -111,18 +122,10 @@ static NO_VIRTUAL: [&str; 12] = [
 #[test]
 fn virtual_bodies(rt: HostRuntime) -> Result<(), Fail> {
     for (body, told) in &VIRTUAL {
-        assert_eq!(rt;
-            told_virtual(rt.alloc(), body.as_bytes())?.as_str(),
-            *told,
-            "{body}"
-        );
+        say_virtual(&rt, rt.alloc(), body, told)?;
     }
     for body in &NO_VIRTUAL {
-        assert_eq!(rt;
-            told_virtual(rt.alloc(), body.as_bytes())?.as_str(),
-            "",
-            "{body}"
-        );
+        say_virtual(&rt, rt.alloc(), body, "")?;
     }
     Ok(())
 }
@@ -190,16 +193,16 @@ fn replies(rt: HostRuntime) -> Result<(), Fail> {
 #[test]
 fn refusals(rt: HostRuntime) -> Result<(), Fail> {
     let alloc = rt.alloc();
-    let text = refused_command_json(alloc, Refusal::NoFormer)?;
-    assert_eq!(rt; text.as_str(), "{\"reason\":\"NoFormer\",\"refusal\":23}");
-    let text = refused_edition_json(alloc, EditionRefusal::Interval, Some(4))?;
     assert_eq!(rt;
-        text.as_str(),
+        refused_command_json(alloc, Refusal::NoFormer)?.as_str(),
+        "{\"reason\":\"NoFormer\",\"refusal\":23}"
+    );
+    assert_eq!(rt;
+        refused_edition_json(alloc, EditionRefusal::Interval, Some(4))?.as_str(),
         "{\"fault\":4,\"line\":4,\"reason\":\"Interval\"}"
     );
-    let text = refused_edition_json(alloc, EditionRefusal::LastLine, None)?;
     assert_eq!(rt;
-        text.as_str(),
+        refused_edition_json(alloc, EditionRefusal::LastLine, None)?.as_str(),
         "{\"fault\":14,\"line\":null,\"reason\":\"LastLine\"}"
     );
     Ok(())
@@ -238,27 +241,42 @@ fn group(alloc: Global) -> Result<Item, AllocError> {
     })
 }
 
-fn push_all(alloc: Global, summary: &mut Summary) -> Result<(), AllocError> {
-    let gems = stored(alloc, 1, "Gems")?;
-    summary.items.push(regular(alloc, "gem", gems, None)?)?;
+// A database that has no former edition.
+fn gems(alloc: Global) -> Result<Item, AllocError> {
+    let current = stored(alloc, 1, "Gems")?;
+    regular(alloc, "gem", current, None)
+}
+
+// One that has.
+fn ores(alloc: Global) -> Result<Item, AllocError> {
     let current = stored(alloc, 3, "A \"\\\u{7f}é")?;
     let former = stored(alloc, 2, "Ores")?;
-    summary
-        .items
-        .push(regular(alloc, "ore", current, Some(former))?)?;
+    regular(alloc, "ore", current, Some(former))
+}
+
+fn push_all(alloc: Global, summary: &mut Summary) -> Result<(), AllocError> {
+    summary.items.push(gems(alloc)?)?;
+    summary.items.push(ores(alloc)?)?;
     summary.items.push(group(alloc)?)?;
     Ok(())
 }
 
+// The list of the three, or of none.
+fn told_list(alloc: Global, is_filled: bool) -> Result<String, AllocError> {
+    let mut summary = Summary::new(alloc);
+    if is_filled {
+        push_all(alloc, &mut summary)?;
+    }
+    list_json(alloc, &summary)
+}
+
 #[test]
 fn lists(rt: HostRuntime) -> Result<(), Fail> {
-    let mut summary = Summary::new(rt.alloc());
-    assert_eq!(rt; list_json(rt.alloc(), &summary)?.as_str(), "[]");
-    push_all(rt.alloc(), &mut summary)?;
+    assert_eq!(rt; told_list(rt.alloc(), false)?.as_str(), "[]");
     let wanted =
         "[{\"current\":1,\"former\":null,\"kind\":\"regular\",\"name\":\"gem\",\"title\":\"Gems\"},\
         {\"current\":3,\"former\":2,\"kind\":\"regular\",\"name\":\"ore\",\"title\":\"A \\\"\\\\\u{7f}é\"},\
         {\"kind\":\"virtual\",\"members\":[\"ore\",\"gem\"],\"name\":\"all\",\"title\":\"All\"}]";
-    assert_eq!(rt; list_json(rt.alloc(), &summary)?.as_str(), wanted);
+    assert_eq!(rt; told_list(rt.alloc(), true)?.as_str(), wanted);
     Ok(())
 }

@@ -1,5 +1,5 @@
 // The octets that `curl` 7.88.1 sends for the commands in `docs/FORMATS.md`, taken down at a socket.
-use crate::answers::{response, told};
+use crate::table::ask;
 use dict_desk::PlainDesk;
 use std::alloc::Global;
 use std::process::Abort;
@@ -50,9 +50,7 @@ static SENT: [Sent; 7] = [
 // Sends them one after the other.
 fn send(rt: &impl Abort, alloc: Global, desk: &mut PlainDesk) -> Result<(), Fail> {
     for Sent(request, status, body) in SENT {
-        let wanted = response(alloc, status, body)?;
-        let answer = told(alloc, desk, request.as_bytes())?;
-        assert_eq!(rt; answer.as_str(), wanted.as_str(), "{request}");
+        ask(rt, alloc, desk, request, (status, body))?;
     }
     Ok(())
 }

@@ -43,6 +43,18 @@ static ROWS: [Row; 5] = [
     ),
 ];
 
+// This request is answered 503.
+fn is_unavailable<K: Keeper>(
+    rt: &impl Abort,
+    alloc: Global,
+    desk: &mut K,
+    request: &str,
+) -> Result<(), Fail> {
+    let answer = told(alloc, desk, request.as_bytes())?;
+    assert_eq!(rt; answer.as_str(), UNAVAILABLE, "{request}");
+    Ok(())
+}
+
 // The requests of these rows are answered 503.
 fn are_unavailable<K: Keeper>(
     rt: &impl Abort,
@@ -52,9 +64,7 @@ fn are_unavailable<K: Keeper>(
 ) -> Result<(), Fail> {
     for row in rows {
         let request = request_of(alloc, *row)?;
-        let answer = told(alloc, desk, request.as_bytes())?;
-        let is_so = answer.as_str() == UNAVAILABLE;
-        assert!(rt; is_so, "{request}");
+        is_unavailable(rt, alloc, desk, &request)?;
     }
     Ok(())
 }
@@ -96,9 +106,7 @@ fn meet_no_store(
     let (before, after) = ROWS.split_at(which.min(ROWS.len()));
     run(rt, alloc, desk, before)?;
     are_unavailable(rt, alloc, desk, after)?;
-    let answer = told(alloc, desk, b"GET /databases HTTP/1.1\r\n\r\n")?;
-    assert_eq!(rt; answer.as_str(), UNAVAILABLE);
-    Ok(())
+    is_unavailable(rt, alloc, desk, "GET /databases HTTP/1.1\r\n\r\n")
 }
 
 #[test]

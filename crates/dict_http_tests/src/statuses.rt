@@ -37,10 +37,15 @@ fn wanted(alloc: Global, path: &str, allow: &str, is_served: bool) -> Result<Str
     }
 }
 
-/// What a request without an id and without a body is answered over an empty catalogue.
+/// What a request is answered over an empty catalogue.
 fn told_anew(alloc: Global, request: &str) -> Result<String, Fail> {
     let mut desk = PlainDesk::new(alloc);
     told(alloc, &mut desk, request.as_bytes())
+}
+
+fn look(rt: &impl Abort, alloc: Global, request: &str, wanted: &str) -> Result<(), Fail> {
+    assert_eq!(rt; told_anew(alloc, request)?.as_str(), wanted, "{request}");
+    Ok(())
 }
 
 // Asks for a path by these methods, which it has or hasn't.
@@ -53,9 +58,21 @@ fn ask(
 ) -> Result<(), Fail> {
     for method in methods {
         let request = format!(in alloc; "{method} {path} HTTP/1.1\r\n\r\n")?;
-        assert_eq!(rt; told_anew(alloc, &request)?.as_str(), wanted, "{request}");
+        look(rt, alloc, &request, wanted)?;
     }
     Ok(())
+}
+
+// The same, by what is wanted of methods that the path has or hasn't.
+fn ask_as(
+    rt: &impl Abort,
+    alloc: Global,
+    (path, allow): (&str, &str),
+    methods: &[&str],
+    is_served: bool,
+) -> Result<(), Fail> {
+    let text = wanted(alloc, path, allow, is_served)?;
+    ask(rt, alloc, path, methods, &text)
 }
 
 static UNKNOWN_METHODS: [&str; 4] = ["PATCH", "HEAD", "get", "put"];
@@ -65,11 +82,9 @@ fn methods(rt: HostRuntime) -> Result<(), Fail> {
     let alloc = rt.alloc();
     for Served(path, allow, serves) in SERVED {
         for (method, is_served) in METHODS.iter().zip(serves.iter()) {
-            let text = wanted(alloc, path, allow, *is_served)?;
-            ask(&rt, alloc, path, &[*method], &text)?;
+            ask_as(&rt, alloc, (path, allow), &[*method], *is_served)?;
         }
-        let text = wanted(alloc, path, allow, false)?;
-        ask(&rt, alloc, path, &UNKNOWN_METHODS, &text)?;
+        ask_as(&rt, alloc, (path, allow), &UNKNOWN_METHODS, false)?;
     }
     Ok(())
 }
@@ -114,11 +129,7 @@ fn names_are_not_decoded(rt: HostRuntime) -> Result<(), Fail> {
         let request = format!(in alloc;
             "DELETE /databases/{name} HTTP/1.1\r\nREQUEST-id: \t r1 \r\n\r\n"
         )?;
-        assert_eq!(rt;
-            told_anew(alloc, &request)?.as_str(),
-            text.as_str(),
-            "{name}"
-        );
+        look(&rt, alloc, &request, &text)?;
     }
     Ok(())
 }

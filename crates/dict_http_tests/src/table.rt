@@ -234,6 +234,20 @@ pub(crate) fn request_of(alloc: Global, row: Row) -> Result<String, Fail> {
     Ok(format!(in alloc; "{asked} HTTP/1.1\r\n{ids}Content-Length: {len}\r\n\r\n{body}")?)
 }
 
+/// A request is answered by this status and this body.
+pub(crate) fn ask<K: Keeper>(
+    rt: &impl Abort,
+    alloc: Global,
+    desk: &mut K,
+    request: &str,
+    (status, body): (&str, &str),
+) -> Result<(), Fail> {
+    let wanted = response(alloc, status, body)?;
+    let answer = told(alloc, desk, request.as_bytes())?;
+    assert_eq!(rt; answer.as_str(), wanted.as_str(), "{request}");
+    Ok(())
+}
+
 /// The requests of a table one after another, each answered as its row says.
 pub(crate) fn run<K: Keeper>(
     rt: &impl Abort,
@@ -243,9 +257,7 @@ pub(crate) fn run<K: Keeper>(
 ) -> Result<(), Fail> {
     for row in rows {
         let request = request_of(alloc, *row)?;
-        let wanted = response(alloc, row.3, row.4)?;
-        let answer = told(alloc, desk, request.as_bytes())?;
-        assert_eq!(rt; answer.as_str(), wanted.as_str(), "{request}");
+        ask(rt, alloc, desk, &request, (row.3, row.4))?;
     }
     Ok(())
 }

@@ -1,7 +1,7 @@
 // What the program can be asked for.
 
 /// What the words of a command line ask for. Files are told by their paths.
-#[derive(Debug, Drop, PartialEq, Eq)]
+#[derive(Drop)]
 pub enum Task<'w> {
     /// A session on the standard streams over the database that an index and a text make, under a name.
     Plain {
@@ -42,7 +42,7 @@ pub enum Task<'w> {
 }
 
 /// What is changed of the item.
-#[derive(Debug, Drop, PartialEq, Eq)]
+#[derive(Drop)]
 pub enum Change<'w> {
     /// The edition that an index and a text make becomes the current one.
     Install {

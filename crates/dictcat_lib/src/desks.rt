@@ -30,6 +30,11 @@ pub(crate) fn open_desk<'w>(
     }
 }
 
+// Closes the file of a desk.
+pub(crate) fn close_desk(desk: Desk<FileStore<File>>) {
+    close_file(desk.into_connection());
+}
+
 // The desk of the same file, which is opened again, after this one's store failed.
 pub(crate) fn reopen_desk<'w>(
     rt: &HostRuntime,
@@ -42,7 +47,7 @@ pub(crate) fn reopen_desk<'w>(
     ensures follows { IfOk result (Follows (Shows ⟦<FileStore<File> as Store>⟧) (LeavesOneOf ⟦<FileStore<File> as Store>⟧) (IsTrusted ⟦<FileStore<File> as Store>⟧) desk) }
 {
     let Some(options) = options(rt) else {
-        close_file(desk.into_connection());
+        close_desk(desk);
         return Err(Fault::CannotRead(file));
     };
     match desk.reopen(options) {

@@ -2,8 +2,7 @@
 ghost use Rattle.dict_io.specs.Streams.{change};
 ghost use Rattle.dictcat_lib.specs.FileWork.{FileWorkEnds};
 
-use crate::desks::{open_desk, reopen_desk};
-use crate::stores::close_file;
+use crate::desks::{close_desk, open_desk, reopen_desk};
 use crate::work::{Work, work_over};
 use dict_io::Sink;
 use dict_printed::Fault;
@@ -38,7 +37,7 @@ impl<'w> Desks<'w, Desk<FileStore<File>>> for CatalogueFile<'_, 'w> {
     }
 
     fn close(&mut self, desk: Desk<FileStore<File>>) {
-        close_file(desk.into_connection());
+        close_desk(desk);
     }
 }
 
