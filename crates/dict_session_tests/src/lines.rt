@@ -33,6 +33,14 @@ fn ask(rt: &impl Abort, alloc: Global, rows: &[(&str, &str)]) -> Result<(), Allo
     Ok(())
 }
 
+// These lines ask for nothing, for this cause.
+fn refuse(rt: &impl Abort, alloc: Global, lines: &[&[u8]], cause: &str) -> Result<(), AllocError> {
+    for line in lines {
+        assert_eq!(rt; told(alloc, line)?.as_str(), cause, "{line:?}");
+    }
+    Ok(())
+}
+
 static DEFINITIONS: [(&str, &str); 23] = [
     ("DEFINE gem opal", "Define|gem|opal|"),
     ("define gem OPAL", "Define|gem|OPAL|"),
@@ -103,48 +111,48 @@ static OTHERS: [(&str, &str); 24] = [
     ("SHOW INFO \"\"", "ShowInfo||"),
 ];
 
-static ILLEGAL: [&str; 31] = [
-    "DEFINE",
-    "DEFINE gem",
-    "DEFINE gem fire opal",
-    "DEFINE gem prefix fire opal",
-    "DEFINE gem\"opal\"",
-    "DEFINE gem opal\\",
-    "DEFINE gem \"opal",
-    "DEFINE gem 'opal\"",
-    "DEFINE gem \"a\tb\"",
-    "DEFINE gem a\\\tb",
-    "MATCH",
-    "MATCH gem",
-    "MATCH gem prefix",
-    "MATCH gem prefix fire opal",
-    "SHOW",
-    "SHOW \"\"",
-    "SHOW X",
-    "SHOW DATABASE",
-    "SHOW DB x",
-    "SHOW STRAT \"\"",
-    "SHOW SERVER x",
-    "SHOW INFO",
-    "SHOW INFO a b",
-    "STATUS now",
-    "HELP me",
-    "QUIT x",
-    "QUIT \"\"",
-    "CLIENT \"a",
-    "NOTHING \"a",
-    "\\",
-    "OPTION 'mime",
+static ILLEGAL: [&[u8]; 31] = [
+    b"DEFINE",
+    b"DEFINE gem",
+    b"DEFINE gem fire opal",
+    b"DEFINE gem prefix fire opal",
+    b"DEFINE gem\"opal\"",
+    b"DEFINE gem opal\\",
+    b"DEFINE gem \"opal",
+    b"DEFINE gem 'opal\"",
+    b"DEFINE gem \"a\tb\"",
+    b"DEFINE gem a\\\tb",
+    b"MATCH",
+    b"MATCH gem",
+    b"MATCH gem prefix",
+    b"MATCH gem prefix fire opal",
+    b"SHOW",
+    b"SHOW \"\"",
+    b"SHOW X",
+    b"SHOW DATABASE",
+    b"SHOW DB x",
+    b"SHOW STRAT \"\"",
+    b"SHOW SERVER x",
+    b"SHOW INFO",
+    b"SHOW INFO a b",
+    b"STATUS now",
+    b"HELP me",
+    b"QUIT x",
+    b"QUIT \"\"",
+    b"CLIENT \"a",
+    b"NOTHING \"a",
+    b"\\",
+    b"OPTION 'mime",
 ];
 
-static LEFT_OUT: [&str; 7] = [
-    "OPTION",
-    "option mime",
-    "OPTION a b c d e",
-    "AUTH user secret",
-    "\"auth\"",
-    "SASLAUTH",
-    "SaslAuth 'a' b",
+static LEFT_OUT: [&[u8]; 7] = [
+    b"OPTION",
+    b"option mime",
+    b"OPTION a b c d e",
+    b"AUTH user secret",
+    b"\"auth\"",
+    b"SASLAUTH",
+    b"SaslAuth 'a' b",
 ];
 
 static UNKNOWN: [&[u8]; 21] = [
@@ -184,27 +192,9 @@ fn what_lines_ask_for(rt: HostRuntime) -> Result<(), Fail> {
 
 #[test]
 fn lines_that_ask_for_nothing(rt: HostRuntime) -> Result<(), Fail> {
-    for line in &ILLEGAL {
-        assert_eq!(rt;
-            told(rt.alloc(), line.as_bytes())?.as_str(),
-            "IllegalParameters",
-            "{line:?}"
-        );
-    }
-    for line in &LEFT_OUT {
-        assert_eq!(rt;
-            told(rt.alloc(), line.as_bytes())?.as_str(),
-            "NotImplemented",
-            "{line:?}"
-        );
-    }
-    for line in &UNKNOWN {
-        assert_eq!(rt;
-            told(rt.alloc(), line)?.as_str(),
-            "NotRecognized",
-            "{line:?}"
-        );
-    }
+    refuse(&rt, rt.alloc(), &ILLEGAL, "IllegalParameters")?;
+    refuse(&rt, rt.alloc(), &LEFT_OUT, "NotImplemented")?;
+    refuse(&rt, rt.alloc(), &UNKNOWN, "NotRecognized")?;
     Ok(())
 }
 

@@ -265,18 +265,26 @@ static WHOLE: [(Reply<'static>, &str); 4] = [
     ),
 ];
 
+fn put_within(
+    rt: &impl Abort,
+    alloc: Global,
+    reply: &Reply,
+    text: &str,
+    room: usize,
+) -> Result<(), Fail> {
+    let (taken, is_ok) = told_within(alloc, reply, room)?;
+    let front = text.get(..room).unwrap_or(text);
+    assert_eq!(rt; is_ok, room >= text.len(), "room for {room}");
+    assert_eq!(rt; taken.as_str(), front, "room for {room}");
+    Ok(())
+}
+
 // A sink with room for k octets takes the first k, and the reply is Ok only with room for all.
 #[test]
 fn a_sink_with_little_room(rt: HostRuntime) -> Result<(), Fail> {
     for (reply, text) in &WHOLE {
         for room in 0..text.len() + 2 {
-            let (taken, is_ok) = told_within(rt.alloc(), reply, room)?;
-            assert_eq!(rt; is_ok, room >= text.len(), "room for {room}");
-            assert_eq!(rt;
-                taken.as_str(),
-                text.get(..room).unwrap_or(text),
-                "room for {room}"
-            );
+            put_within(&rt, rt.alloc(), reply, text, room)?;
         }
     }
     Ok(())

@@ -3,7 +3,7 @@ use crate::files::{GEM, STONES, desk_of, ore_gem_all};
 use dict_desk::{Lookup, PlainDesk};
 use dict_io::{LimitedSink, OverRead};
 use dict_session::{Session, Step, is_host, one_cut, run, session_lines_are_short, spoken_answers};
-use std::alloc::Global;
+use std::alloc::{AllocError, Global};
 use std::process::Abort;
 use std::test::Fail;
 
@@ -235,6 +235,19 @@ fn feed_cut(
     Ok(())
 }
 
+// Feeds a row octet by octet, and cut in two at each place.
+fn feed_row(
+    rt: &impl Abort,
+    alloc: Global,
+    desk: &mut PlainDesk,
+    input: &[u8],
+    want: &str,
+) -> Result<(), Fail> {
+    let told = told_feed(alloc, desk, (b"", b"", input), 1000)?;
+    assert_eq!(rt; told.as_str(), want);
+    feed_cut(rt, alloc, desk, input, want)
+}
+
 // Feeds the rows octet by octet, and cut in two at each place.
 fn feed_rows(
     rt: &impl Abort,
@@ -245,9 +258,7 @@ fn feed_rows(
     for (input, is_over, answers) in rows {
         let step = if *is_over { "Quit" } else { "More" };
         let want = format!(in alloc; "{step} {answers}")?;
-        let told = told_feed(alloc, desk, (b"", b"", input.as_bytes()), 1000)?;
-        assert_eq!(rt; told.as_str(), want.as_str());
-        feed_cut(rt, alloc, desk, input.as_bytes(), &want)?;
+        feed_row(rt, alloc, desk, input.as_bytes(), &want)?;
     }
     Ok(())
 }
@@ -324,17 +335,27 @@ fn a_full_sink_breaks_a_list_off(rt: HostRuntime) -> Result<(), Fail> {
     break_off(&rt, rt.alloc(), &mut desk)
 }
 
-// What a session comes to by its greeting into a sink with room for three octets, and what comes to another sink by a
-// second greeting and a line.
+// What a session comes to by its greeting into one sink, and what comes to another by a second greeting and a line.
+fn told_both<D: Lookup>(
+    alloc: Global,
+    session: &mut Session,
+    desk: &mut D,
+    full: &mut LimitedSink,
+    other: &mut LimitedSink,
+) -> Result<String, AllocError> {
+    let first = session.greet(full);
+    let second = session.greet(other);
+    let third = session.feed(alloc, b"STATUS\r\n", desk, other);
+    let (written, more) = (text_of(full), text_of(other));
+    format!(in alloc; "{first:?} {written} {second:?} {third:?} {more}")
+}
+
+// The same where the first has room for three octets.
 fn told_greeting(alloc: Global, session: &mut Session) -> Result<String, Fail> {
     let mut desk = PlainDesk::new(alloc);
     let mut full = LimitedSink::new(alloc, 3)?;
     let mut other = LimitedSink::new(alloc, 1000)?;
-    let first = session.greet(&mut full);
-    let second = session.greet(&mut other);
-    let third = session.feed(alloc, b"STATUS\r\n", &mut desk, &mut other);
-    let (written, more) = (text_of(&full), text_of(&other));
-    Ok(format!(in alloc; "{first:?} {written} {second:?} {third:?} {more}")?)
+    Ok(told_both(alloc, session, &mut desk, &mut full, &mut other)?)
 }
 
 #[test]
