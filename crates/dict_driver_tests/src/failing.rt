@@ -51,23 +51,22 @@ fn meet_no_memory<K: Keeper>(
     alloc: Global,
     hub: &mut Hub,
     desk: &mut K,
-    wanted: (&str, &str, &str),
+    wanted: (&'static str, &'static str, &'static str),
 ) -> Result<(), Fail> {
     play(rt, alloc, hub, desk, &A_READER_AND_TWO_EDITORS)?;
-    let line = Event::Bytes(1, b"DEFINE gem opal\r\n");
-    assert_eq!(rt; told(alloc, hub, desk, line)?.as_str(), wanted.0);
-    let request = Event::Bytes(2, DELETE);
-    assert_eq!(rt; told(alloc, hub, desk, request)?.as_str(), wanted.1);
-    let request = Event::Bytes(3, DELETE);
-    assert_eq!(rt; told(alloc, hub, desk, request)?.as_str(), wanted.2);
-    Ok(())
+    let rows = [
+        (Event::Bytes(1, b"DEFINE gem opal\r\n"), wanted.0),
+        (Event::Bytes(2, DELETE), wanted.1),
+        (Event::Bytes(3, DELETE), wanted.2),
+    ];
+    play(rt, alloc, hub, desk, &rows)
 }
 
 fn meet_anew<K: Keeper>(
     rt: &impl Abort,
     alloc: Global,
     desk: &mut K,
-    wanted: (&str, &str, &str),
+    wanted: (&'static str, &'static str, &'static str),
 ) -> Result<(), Fail> {
     let mut hub = Hub::new(alloc, HOST)?;
     meet_no_memory(rt, alloc, &mut hub, desk, wanted)
@@ -78,7 +77,7 @@ fn meet_anew<K: Keeper>(
 fn a_call_finds_no_memory(rt: HostRuntime) -> Result<(), Fail> {
     for (calls, reader, editor, other) in &ROWS {
         let mut desk = FailingDesk::new(gem_desk(rt.alloc())?, *calls, false);
-        meet_anew(&rt, rt.alloc(), &mut desk, (reader, editor, other))?;
+        meet_anew(&rt, rt.alloc(), &mut desk, (*reader, *editor, *other))?;
     }
     Ok(())
 }
@@ -152,6 +151,21 @@ static ONE_OPENED: [Row; 1] = [(
 
 static ONE_ANSWERED: [Row; 1] = [(Event::Bytes(0, b"DEFINE gem opal\r\n"), FOUND_TOLD)];
 
+fn check_room(
+    rt: &impl Abort,
+    alloc: Global,
+    hub: &mut Hub,
+    desk: &mut PlainDesk,
+    room: usize,
+) -> Result<(), Fail> {
+    let id = (room as u64).saturating_add(1);
+    told(alloc, hub, desk, Event::Opened(id, Kind::Dict))?;
+    let answer = told_within(alloc, hub, desk, id, room)?;
+    let taken = answer.strip_prefix("Ok(Close) Err(UnknownConnection) ");
+    assert_eq!(rt; taken, FOUND.get(..room));
+    Ok(())
+}
+
 // A sink that fails within an answer closes its connection alone.
 fn meet_no_room(
     rt: &impl Abort,
@@ -161,11 +175,7 @@ fn meet_no_room(
 ) -> Result<(), Fail> {
     play(rt, alloc, hub, desk, &ONE_OPENED)?;
     for room in 0..FOUND.len() {
-        let id = (room as u64).saturating_add(1);
-        told(alloc, hub, desk, Event::Opened(id, Kind::Dict))?;
-        let answer = told_within(alloc, hub, desk, id, room)?;
-        let taken = answer.strip_prefix("Ok(Close) Err(UnknownConnection) ");
-        assert_eq!(rt; taken, FOUND.get(..room));
+        check_room(rt, alloc, hub, desk, room)?;
     }
     play(rt, alloc, hub, desk, &ONE_ANSWERED)
 }

@@ -81,13 +81,19 @@ fn take_pieces(
     Ok(0)
 }
 
-#[test]
-fn a_request_octet_by_octet(rt: HostRuntime) -> Result<(), Fail> {
-    let mut pieces = Vec::new(rt.alloc());
+// What is told of an install whose octets come one by one.
+fn told_octets(alloc: Global) -> Result<String, Fail> {
+    let mut pieces = Vec::new(alloc);
     for octet in PUT.chunks(1) {
         pieces.push(octet)?;
     }
-    let (count, told) = (pieces.len(), told_pieces(rt.alloc(), &pieces, 1000)?);
+    told_pieces(alloc, &pieces, 1000)
+}
+
+#[test]
+fn a_request_octet_by_octet(rt: HostRuntime) -> Result<(), Fail> {
+    let told = told_octets(rt.alloc())?;
+    let count = PUT.len();
     let wanted = format!(in rt.alloc(); "{count} {INSTALLED}")?;
     assert_eq!(rt; told.as_str(), wanted.as_str());
     Ok(())
