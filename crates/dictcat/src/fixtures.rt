@@ -95,11 +95,16 @@ pub(crate) fn run(
     outcome(rt, all.as_slice(), &Examples { alloc }, input, room)
 }
 
+/// Whether the status, what is printed and what is told are these.
+pub(crate) fn is_so(found: &Outcome, status: u8, printed: &str, told: &str) -> bool {
+    found.0 == status && found.1.as_str() == printed && found.2.as_str() == told
+}
+
 /// The first row that comes out otherwise, and how; nothing where each is as it says.
 pub(crate) fn differing(rt: &HostRuntime, file: &str, rows: &[Row]) -> Result<String, Fail> {
     for (words, input, status, printed, told) in rows {
         let found = run(rt, file, *words, *input, ROOM)?;
-        if found.0 != *status || found.1.as_str() != *printed || found.2.as_str() != *told {
+        if !is_so(&found, *status, printed, told) {
             return Ok(format!(in rt.alloc(); "{words:?} gave {found:?}")?);
         }
     }

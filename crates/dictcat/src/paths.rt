@@ -41,6 +41,17 @@ fn told_otherwise(rt: &HostRuntime, file: &str, told: &str) -> Result<String, Fa
     Ok(String::new(rt.alloc()))
 }
 
+// The same of the first path of which it tells something else.
+fn all_told_otherwise(rt: &HostRuntime) -> Result<String, Fail> {
+    for (path, told) in &PATHS {
+        let found = told_otherwise(rt, path, told)?;
+        if !found.is_empty() {
+            return Ok(found);
+        }
+    }
+    Ok(String::new(rt.alloc()))
+}
+
 // A SQLite file with a table `t(x)`, whose one row has 7: octets, each with the place up to which zeros follow.
 static OTHERS: [(&[u8], usize); 5] = [
     (
@@ -88,22 +99,35 @@ static MADE: [Row; 2] = [
     (&["audit", "FILE"], "", 0, "sound\n", ""),
 ];
 
+// What `create` makes a catalogue of.
+static MADE_OF: [&str; 2] = ["dictcat_empty.db", "dictcat_others.db"];
+
+// How the first of these becomes none, if one does.
+fn unmade(rt: &HostRuntime) -> Result<String, Fail> {
+    for file in &MADE_OF {
+        let found = differing(rt, file, &MADE)?;
+        if !found.is_empty() {
+            return Ok(found);
+        }
+    }
+    Ok(String::new(rt.alloc()))
+}
+
+fn clear(rt: &HostRuntime) -> Result<(), Fail> {
+    fs::remove_dir(rt, "dictcat_folder.db")?;
+    remove(rt, "dictcat_text.db")?;
+    remove(rt, "dictcat_empty.db")?;
+    remove(rt, "dictcat_others.db")
+}
+
 #[test]
 fn paths_without_a_catalogue(rt: HostRuntime) -> Result<(), Fail> {
     set_up(&rt)?;
-    for (path, told) in &PATHS {
-        assert_eq!(rt; told_otherwise(&rt, path, told)?.as_str(), "");
-    }
+    assert_eq!(rt; all_told_otherwise(&rt)?.as_str(), "");
     assert!(rt; !fs::exists(&rt, "dictcat_nosuch.db")?);
-    for file in ["dictcat_empty.db", "dictcat_others.db"] {
-        assert_eq!(rt; differing(&rt, file, &MADE)?.as_str(), "");
-    }
+    assert_eq!(rt; unmade(&rt)?.as_str(), "");
     assert!(rt; others_stand(&rt)?);
-    fs::remove_dir(&rt, "dictcat_folder.db")?;
-    for file in ["dictcat_text.db", "dictcat_empty.db", "dictcat_others.db"] {
-        remove(&rt, file)?;
-    }
-    Ok(())
+    clear(&rt)
 }
 
 // How many commands a catalogue accepted.

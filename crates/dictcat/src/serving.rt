@@ -31,13 +31,18 @@ fn is_in_use(rt: &HostRuntime, dict: &str, http: &str, used: &str) -> Result<boo
     Ok(found.0 == 3 && found.1.is_empty() && told.strip_suffix("\n") == Some(used))
 }
 
+// Whether an address that is held is told to be in use, for readers and for editors.
+fn a_held_is_in_use(rt: &HostRuntime) -> Result<bool, Fail> {
+    let holder = TcpListener::bind(rt, FREE)?;
+    let used = format!(in rt.alloc(); "{}", holder.local_addr()?)?;
+    let used = used.as_str();
+    Ok(is_in_use(rt, used, "none", used)? && is_in_use(rt, FREE, used, used)?)
+}
+
 #[test]
 fn a_server_ends_after_its_rounds(rt: HostRuntime) -> Result<(), Fail> {
     assert_eq!(rt; run(&rt, FILE, &["create", "FILE"], "", ROOM)?.0, 0);
     assert!(rt; is_served(&served(&rt, FREE, FREE)?));
-    let holder = TcpListener::bind(&rt, FREE)?;
-    let used = format!(in rt.alloc(); "{}", holder.local_addr()?)?;
-    assert!(rt; is_in_use(&rt, used.as_str(), "none", used.as_str())?);
-    assert!(rt; is_in_use(&rt, FREE, used.as_str(), used.as_str())?);
+    assert!(rt; a_held_is_in_use(&rt)?);
     remove(&rt, FILE)
 }

@@ -119,6 +119,19 @@ fn cut_where(
     Ok(None)
 }
 
+// The same where the next have one octet, and where they have all that are left.
+fn cut_anywhere(
+    alloc: Global,
+    database: Database,
+    input: &str,
+    answer: &str,
+) -> Result<Option<usize>, Fail> {
+    match cut_where(alloc, database, input, 1, answer)? {
+        None => cut_where(alloc, database, input, 1000, answer),
+        found => Ok(found),
+    }
+}
+
 static ANSWERS: [(Database, &str, &str); 36] = [
     (GEM, "", ""),
     (GEM, "DEFINE gem opal", ""),
@@ -197,10 +210,8 @@ static ANSWERS: [(Database, &str, &str); 36] = [
 #[test]
 fn answers_in_any_pieces(rt: HostRuntime) -> Result<(), Fail> {
     for (database, input, answer) in &ANSWERS {
-        for next_size in [1, 1000] {
-            let found = cut_where(rt.alloc(), *database, *input, next_size, *answer)?;
-            assert_eq!(rt; found, None, "{input}");
-        }
+        let found = cut_anywhere(rt.alloc(), *database, *input, *answer)?;
+        assert_eq!(rt; found, None, "{input}");
     }
     Ok(())
 }
