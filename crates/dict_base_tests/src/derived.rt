@@ -1,4 +1,5 @@
 //! Keys at every edge, and what is selected beside the filter of a whole list.
+use crate::checks::{same_text, same_text_of};
 use dict_derived::{
     Derived, NotDerived, PieceReader, Pieces, Selection, derive, grams_of, is_tested, range_law,
     search_laws, select, words_of,
@@ -102,10 +103,11 @@ fn the_edges_are_found_by_their_selections(rt: HostRuntime) -> Result<(), Fail> 
         list.push(derive(rt.alloc(), headword)?)?;
     }
     for text in &EDGES {
-        assert_eq!(rt;
+        same_text_of(
+            &rt,
             told_others(rt.alloc(), text, &list)?.as_str(),
             "",
-            "{text:?}"
+            text,
         );
     }
     range_law();
@@ -141,9 +143,10 @@ fn told_selection(alloc: Global, strategy: Strategy, query: &[u8]) -> Result<Str
 #[test]
 fn octet_255_ends_a_range(rt: HostRuntime) -> Result<(), Fail> {
     for (strategy, query, told) in &SELECTED {
-        assert_eq!(rt;
+        same_text(
+            &rt,
             told_selection(rt.alloc(), *strategy, query)?.as_str(),
-            *told
+            *told,
         );
     }
     Ok(())
@@ -182,8 +185,16 @@ fn told_grams(alloc: Global, key: &[u8]) -> Result<String, AllocError> {
 #[test]
 fn words_and_grams_once_and_in_order(rt: HostRuntime) -> Result<(), Fail> {
     for (key, words, grams) in &PIECES {
-        assert_eq!(rt; told_words(rt.alloc(), key.as_bytes())?.as_str(), *words);
-        assert_eq!(rt; told_grams(rt.alloc(), key.as_bytes())?.as_str(), *grams);
+        same_text(
+            &rt,
+            told_words(rt.alloc(), key.as_bytes())?.as_str(),
+            *words,
+        );
+        same_text(
+            &rt,
+            told_grams(rt.alloc(), key.as_bytes())?.as_str(),
+            *grams,
+        );
     }
     Ok(())
 }
@@ -226,7 +237,7 @@ fn selections_find_what_the_whole_list_has(rt: HostRuntime) -> Result<(), Fail> 
     }
     for _ in 0..20 {
         let text = headword(alloc, &mut state)?;
-        assert_eq!(rt; told_others(alloc, &text, &list)?.as_str(), "", "{text:?}");
+        same_text_of(&rt, told_others(alloc, &text, &list)?.as_str(), "", &text);
     }
     Ok(())
 }
@@ -272,14 +283,20 @@ fn told_taken(
 #[test]
 fn the_derived_rows_are_taken_and_no_others(rt: HostRuntime) -> Result<(), Fail> {
     let alloc = rt.alloc();
-    assert_eq!(rt;
+    same_text(
+        &rt,
         told_taken(alloc, Pieces::Words, &WORDS)?.as_str(),
-        "+++- all"
+        "+++- all",
     );
-    assert_eq!(rt; told_taken(alloc, Pieces::Grams, &GRAMS)?.as_str(), "+ all");
-    assert_eq!(rt;
+    same_text(
+        &rt,
+        told_taken(alloc, Pieces::Grams, &GRAMS)?.as_str(),
+        "+ all",
+    );
+    same_text(
+        &rt,
         told_taken(alloc, Pieces::Words, &OTHERS)?.as_str(),
-        "----+- others"
+        "----+- others",
     );
     Ok(())
 }

@@ -1,5 +1,6 @@
 //! Sources and sinks over readers and writers.
 
+use crate::checks::same;
 use dict_io::{LimitedSink, OverRead, OverWrite, Sink, SinkFault, Source, SourceFault, put_all};
 use std::io::{Error, ErrorKind, Read, Result as IoResult, Write};
 use std::test::Fail;
@@ -37,10 +38,10 @@ impl Read for Interrupted {
 #[test]
 fn a_writer_of_single_octets(rt: HostRuntime) -> Result<(), Fail> {
     let mut patient = OverWrite::new(OneAtATime { calls_left: 8 });
-    assert_eq!(rt; patient.put(b"250 ok\r\n"), Ok(()));
-    assert_eq!(rt; patient.into_inner().calls_left, 0);
+    same(&rt, &patient.put(b"250 ok\r\n"), &Ok(()));
+    same(&rt, &patient.into_inner().calls_left, &0);
     let mut hasty = OverWrite::new(OneAtATime { calls_left: 7 });
-    assert_eq!(rt; hasty.put(b"250 ok\r\n"), Err(SinkFault));
+    same(&rt, &hasty.put(b"250 ok\r\n"), &Err(SinkFault));
     Ok(())
 }
 
@@ -48,10 +49,10 @@ fn a_writer_of_single_octets(rt: HostRuntime) -> Result<(), Fail> {
 fn a_writer_without_room(rt: HostRuntime) -> Result<(), Fail> {
     let mut room = [0u8; 5];
     let mut sink = OverWrite::new(room.as_mut_slice());
-    assert_eq!(rt; sink.put(b"250 ok\r\n"), Err(SinkFault));
+    same(&rt, &sink.put(b"250 ok\r\n"), &Err(SinkFault));
     let left = sink.into_inner();
     assert!(rt; left.is_empty());
-    assert_eq!(rt; room.as_slice(), b"250 o".as_slice());
+    same(&rt, &room.as_slice(), &b"250 o".as_slice());
     Ok(())
 }
 
@@ -59,10 +60,10 @@ fn a_writer_without_room(rt: HostRuntime) -> Result<(), Fail> {
 fn a_sink_of_limited_room(rt: HostRuntime) -> Result<(), Fail> {
     let mut sink = LimitedSink::new(rt.alloc(), 3)?;
     let puts = [sink.put(b"ab"), sink.put(b""), sink.put(b"cd")];
-    assert_eq!(rt; puts, [Ok(()), Ok(()), Err(SinkFault)]);
-    assert_eq!(rt; sink.taken(), b"abc".as_slice());
-    assert_eq!(rt; sink.put(b"e"), Err(SinkFault));
-    assert_eq!(rt; sink.taken(), b"abc".as_slice());
+    same(&rt, &puts, &[Ok(()), Ok(()), Err(SinkFault)]);
+    same(&rt, &sink.taken(), &b"abc".as_slice());
+    same(&rt, &sink.put(b"e"), &Err(SinkFault));
+    same(&rt, &sink.taken(), &b"abc".as_slice());
     Ok(())
 }
 
@@ -70,11 +71,11 @@ fn a_sink_of_limited_room(rt: HostRuntime) -> Result<(), Fail> {
 fn a_reader_in_memory(rt: HostRuntime) -> Result<(), Fail> {
     let mut source = OverRead::new(b"abcde".as_slice());
     let mut room = [0u8; 3];
-    assert_eq!(rt; source.take(&mut room), Ok(3));
-    assert_eq!(rt; room.as_slice(), b"abc".as_slice());
-    assert_eq!(rt; source.take(&mut room), Ok(2));
-    assert_eq!(rt; room.get(..2), Some(b"de".as_slice()));
-    assert_eq!(rt; source.take(&mut room), Ok(0));
+    same(&rt, &source.take(&mut room), &Ok(3));
+    same(&rt, &room.as_slice(), &b"abc".as_slice());
+    same(&rt, &source.take(&mut room), &Ok(2));
+    same(&rt, &room.get(..2), &Some(b"de".as_slice()));
+    same(&rt, &source.take(&mut room), &Ok(0));
     Ok(())
 }
 
@@ -82,7 +83,7 @@ fn a_reader_in_memory(rt: HostRuntime) -> Result<(), Fail> {
 fn a_reader_that_is_interrupted(rt: HostRuntime) -> Result<(), Fail> {
     let mut source = OverRead::new(Interrupted);
     let mut room = [0u8; 3];
-    assert_eq!(rt; source.take(&mut room), Err(SourceFault));
+    same(&rt, &source.take(&mut room), &Err(SourceFault));
     Ok(())
 }
 
@@ -90,6 +91,6 @@ fn a_reader_that_is_interrupted(rt: HostRuntime) -> Result<(), Fail> {
 fn parts_in_order(rt: HostRuntime) -> Result<(), Fail> {
     let mut sink = OverWrite::new(Vec::new(rt.alloc()));
     put_all(&mut sink, &[b"a", b"", b"bc"])?;
-    assert_eq!(rt; sink.into_inner().as_slice(), b"abc".as_slice());
+    same(&rt, &sink.into_inner().as_slice(), &b"abc".as_slice());
     Ok(())
 }

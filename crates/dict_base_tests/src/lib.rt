@@ -5,6 +5,8 @@
 #[cfg(test)]
 mod b64;
 #[cfg(test)]
+mod checks;
+#[cfg(test)]
 mod derived;
 #[cfg(test)]
 mod io;

@@ -1,5 +1,6 @@
 //! Keys, words and strategies, and which queries hit which keys.
 
+use crate::checks::{holds, same};
 use dict_match::{
     Strategy, hit_laws, key_laws, key_of, matches, strategy_laws, word_laws, words, worked_keys,
 };
@@ -95,11 +96,8 @@ static ROWS: [(&str, &str, &str); 68] = [
 fn hits_by_the_rules(rt: HostRuntime) {
     for (query, key, finders) in &ROWS {
         for strategy in Strategy::ALL {
-            assert_eq!(rt;
-                matches(strategy, query.as_bytes(), key.as_bytes()),
-                finders.contains(strategy.name()),
-                "by {strategy:?}: {query:?} in {key:?}"
-            );
+            let is_found = matches(strategy, query.as_bytes(), key.as_bytes());
+            holds(&rt, is_found == finders.contains(strategy.name()), key);
         }
     }
     hit_laws();
@@ -142,10 +140,10 @@ fn is_named(strategy: Strategy, name: &str, title: &str) -> bool {
 fn names_and_titles(rt: HostRuntime) {
     for ((strategy, name, title), listed) in NAMES.iter().zip(Strategy::ALL) {
         let is_listed = listed == *strategy && is_named(listed, name, title);
-        assert!(rt; is_listed, "{name}");
+        holds(&rt, is_listed, name);
     }
     for name in &NO_NAMES {
-        assert_eq!(rt; Strategy::by_name(name), None, "{name:?}");
+        holds(&rt, Strategy::by_name(name).is_none(), name);
     }
     strategy_laws();
 }
@@ -176,9 +174,10 @@ static KEYS: [(&str, &str); 20] = [
 #[test]
 fn keys_by_the_rules(rt: HostRuntime) -> Result<(), Fail> {
     for (text, key) in &KEYS {
-        assert!(rt;
+        holds(
+            &rt,
             key_of(rt.alloc(), text)?.as_bytes() == key.as_bytes(),
-            "in {text:?}"
+            text,
         );
     }
     worked_keys();
@@ -194,9 +193,9 @@ fn words_by_the_rules(rt: HostRuntime) {
     assert!(rt; left.next() == Some(b"\xc3\xa9".as_slice()));
     assert!(rt; left.next().is_none());
     assert!(rt; left.next().is_none());
-    assert_eq!(rt; words(b"").count(), 0);
-    assert_eq!(rt; words(b" \t ").count(), 0);
-    assert_eq!(rt; words(b"a").count(), 1);
-    assert_eq!(rt; words(b"a\nb c").count(), 2);
+    same(&rt, &words(b"").count(), &0);
+    same(&rt, &words(b" \t ").count(), &0);
+    same(&rt, &words(b"a").count(), &1);
+    same(&rt, &words(b"a\nb c").count(), &2);
     word_laws();
 }

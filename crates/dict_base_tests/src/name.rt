@@ -1,5 +1,6 @@
 //! Names, ids and titles.
 
+use crate::checks::holds;
 use dict_name::{is_name, is_request_id, is_title};
 
 static NAMES: [(&str, bool); 15] = [
@@ -23,7 +24,7 @@ static NAMES: [(&str, bool); 15] = [
 #[test]
 fn names(rt: HostRuntime) {
     for (name, lawful) in &NAMES {
-        assert_eq!(rt; is_name(name), *lawful, "{name:?}");
+        holds(&rt, is_name(name) == *lawful, name);
     }
 }
 
@@ -48,7 +49,7 @@ static IDS: [(&str, bool); 9] = [
 #[test]
 fn request_ids(rt: HostRuntime) {
     for (id, lawful) in &IDS {
-        assert_eq!(rt; is_request_id(id), *lawful, "{id:?}");
+        holds(&rt, is_request_id(id) == *lawful, id);
     }
 }
 
@@ -65,6 +66,6 @@ static TITLES: [(&str, bool); 7] = [
 #[test]
 fn titles(rt: HostRuntime) {
     for (title, lawful) in &TITLES {
-        assert_eq!(rt; is_title(title), *lawful, "{title:?}");
+        holds(&rt, is_title(title) == *lawful, title);
     }
 }

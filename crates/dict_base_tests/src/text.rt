@@ -1,4 +1,5 @@
 //! Characters, blanks and lines.
+use crate::checks::same;
 use dict_text::{
     has_control, is_blank, is_blank_octet, is_control, is_control_octet, text_lines,
     without_blanks_at_ends, without_leading_blanks,
@@ -35,13 +36,13 @@ fn blanks_at_ends(rt: HostRuntime) {
 
 #[test]
 fn lines_of_texts(rt: HostRuntime) -> Result<(), Fail> {
-    assert_eq!(rt; text_lines(b"").count(), 0);
+    same(&rt, &text_lines(b"").count(), &0);
     let lines: Vec<&[u8]> = text_lines(b"a\n\n.b").collect(rt.alloc())?;
-    assert_eq!(rt; lines.len(), 3);
+    same(&rt, &lines.len(), &3);
     assert!(rt; lines[0] == b"a".as_slice());
     assert!(rt; lines[1].is_empty());
     assert!(rt; lines[2] == b".b".as_slice());
-    assert_eq!(rt; text_lines(b"a\n").count(), 1);
-    assert_eq!(rt; text_lines(b"\n").count(), 1);
+    same(&rt, &text_lines(b"a\n").count(), &1);
+    same(&rt, &text_lines(b"\n").count(), &1);
     Ok(())
 }

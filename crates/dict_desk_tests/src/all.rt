@@ -1,6 +1,7 @@
 // Commands one after another.
 use super::asked::{Asked, push_kept, push_refusal};
 use super::files::{GEM, read};
+use crate::checks::{same, same_text};
 use dict_catalogue::{Kept, Refusal};
 use dict_desk::{Fault, Halted, Lookup, PlainDesk, apply_all};
 use dict_index::Edition;
@@ -35,10 +36,10 @@ fn told_four(alloc: Global, desk: &mut PlainDesk, gem: &Edition<'static>) -> Res
 
 /// What comes after it: nothing is there, and no command is no answer.
 fn check_after(rt: &impl Abort, alloc: Global, desk: &mut PlainDesk) -> Result<(), Fail> {
-    assert_eq!(rt; desk.summary()?.items.len(), 0);
-    assert_eq!(rt; desk.summary()?.accepted, 2);
+    same(rt, &desk.summary()?.items.len(), &0);
+    same(rt, &desk.summary()?.accepted, &2);
     let count = apply_all(alloc, desk, &[])?.len();
-    assert_eq!(rt; count, 0);
+    same(rt, &count, &0);
     Ok(())
 }
 
@@ -48,9 +49,10 @@ fn each_in_turn(rt: HostRuntime) -> Result<(), Fail> {
     let gem = read(alloc, GEM)?;
     let mut desk = PlainDesk::new(alloc);
     let text = told_four(alloc, &mut desk, &gem)?;
-    assert_eq!(rt;
+    same_text(
+        &rt,
         text.as_str(),
-        "1 Install gem #1; 23 NoFormer; 1 Install gem #1; 2 Retire gem; "
+        "1 Install gem #1; 23 NoFormer; 1 Install gem #1; 2 Retire gem; ",
     );
     check_after(&rt, alloc, &mut desk)
 }
@@ -61,5 +63,5 @@ fn a_halt(rt: HostRuntime) {
         stand: 2,
         fault: Fault::Disk,
     };
-    assert_eq!(rt; halted.fault.number(), 41);
+    same(&rt, &halted.fault.number(), &41);
 }

@@ -1,6 +1,7 @@
 // Commands on a catalogue in memory, and what it shows after them.
 use super::asked::{Asked, listed, push_kept, push_refusal};
 use super::files::{GEM, install, read};
+use crate::checks::{same, same_text, same_text_of};
 use dict_catalogue::{Command, Kept};
 use dict_desk::{Fault, Keeper, Lookup, PlainDesk};
 use dict_index::Edition;
@@ -46,9 +47,9 @@ fn check(
 ) -> Result<(), Fail> {
     let Row(id, asked, answer, after) = row;
     let answered = answered(alloc, desk, id, &asked.command(gem))?;
-    assert_eq!(rt; answered.as_str(), answer);
+    same_text(rt, answered.as_str(), answer);
     let items = listed(alloc, desk.summary()?)?;
-    assert_eq!(rt; items.as_str(), after);
+    same_text(rt, items.as_str(), after);
     Ok(())
 }
 
@@ -294,7 +295,7 @@ fn kept_under(alloc: Global, desk: &mut PlainDesk, id: &str) -> Result<String, F
 fn check_kept(rt: &impl Abort, alloc: Global, desk: &mut PlainDesk) -> Result<(), Fail> {
     for (id, reply) in &KEPT {
         let kept = kept_under(alloc, desk, id)?;
-        assert_eq!(rt; kept.as_str(), *reply, "{id:?}");
+        same_text_of(rt, kept.as_str(), *reply, id);
     }
     Ok(())
 }
@@ -319,7 +320,7 @@ fn fill(
         let name = format!(in alloc; "gem{n}")?;
         install(desk, name.as_str(), name.as_str(), gem)?;
     }
-    assert_eq!(rt; desk.summary()?.items.len(), 64);
+    same(rt, &desk.summary()?.items.len(), &64);
     Ok(())
 }
 
@@ -338,7 +339,7 @@ fn check_answer(
 ) -> Result<(), Fail> {
     let (asked, answer) = row;
     let answered = answered(alloc, desk, "more", &asked.command(gem))?;
-    assert_eq!(rt; answered.as_str(), answer);
+    same_text(rt, answered.as_str(), answer);
     Ok(())
 }
 

@@ -1,5 +1,6 @@
 // Pairs of files that are read, and that are refused.
 use super::files::GEM;
+use crate::checks::{holds, same, same_text, same_text_of};
 use bstr::ByteSlice;
 use dict_index::{Edition, Entry, IndexFault, Refusal, entry_key, is_edition_text, read_edition};
 use std::alloc::{AllocError, Global};
@@ -31,8 +32,8 @@ fn check(
     told: Told,
 ) -> Result<(), Fail> {
     let Told(name, line) = told_of(alloc, index, text)?;
-    assert_eq!(rt; name, told.0);
-    assert_eq!(rt; line, told.1, "{name}");
+    same_text(rt, name, told.0);
+    same(rt, &line, &told.1);
     Ok(())
 }
 
@@ -140,11 +141,11 @@ fn check_edition(
 ) -> Result<(), Fail> {
     let Case(_, text, title, info, entries) = case;
     edition.is_well_formed();
-    assert_eq!(rt; edition.title(), *title);
-    assert_eq!(rt; edition.info(), *info, "of {title}");
-    assert!(rt; edition.text() == *text, "text of {title}");
+    same_text(rt, edition.title(), *title);
+    same_text_of(rt, edition.info(), *info, title);
+    holds(rt, edition.text() == *text, title);
     let read = entries_in(alloc, edition.entries())?;
-    assert_eq!(rt; read.as_str(), *entries, "entries of {title}");
+    same_text_of(rt, read.as_str(), *entries, title);
     Ok(())
 }
 
@@ -181,8 +182,8 @@ static REFUSALS: [(Refusal, u8, &str); 14] = [
 #[test]
 fn numbers_and_names(rt: HostRuntime) {
     for (refusal, number, name) in &REFUSALS {
-        assert_eq!(rt; refusal.number(), *number);
-        assert_eq!(rt; refusal.name(), *name);
+        same(&rt, &refusal.number(), number);
+        same_text(&rt, refusal.name(), *name);
     }
 }
 
@@ -202,8 +203,8 @@ static HEADWORDS: [(&str, &str); 10] = [
 
 fn check_headword(rt: &impl Abort, alloc: Global, headword: &str, key: &str) -> Result<(), Fail> {
     match entry_key(alloc, headword)? {
-        Some(found) => assert_eq!(rt; as_text(found.as_bytes()), key, "of {headword}"),
-        None => assert_eq!(rt; "", key, "of {headword}"),
+        Some(found) => same_text_of(rt, as_text(found.as_bytes()), key, headword),
+        None => same_text_of(rt, "", key, headword),
     }
     Ok(())
 }
@@ -242,7 +243,7 @@ fn line_fits(alloc: Global, count: usize) -> Result<bool, AllocError> {
 #[test]
 fn texts_keep_their_limits(rt: HostRuntime) -> Result<(), Fail> {
     for (text, is_lawful) in &TEXTS {
-        assert_eq!(rt; is_edition_text(text), *is_lawful);
+        same(&rt, &is_edition_text(text), is_lawful);
     }
     assert!(rt; line_fits(rt.alloc(), 1021)?);
     assert!(rt; !line_fits(rt.alloc(), 1022)?);

@@ -9,6 +9,8 @@ mod asked;
 #[cfg(test)]
 mod callers;
 #[cfg(test)]
+mod checks;
+#[cfg(test)]
 mod commands;
 #[cfg(test)]
 mod editions;

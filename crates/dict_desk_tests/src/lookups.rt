@@ -1,6 +1,7 @@
 // Lookups in a catalogue in memory.
 use super::files::{EDGE, Files, GEM, ORE, STONES, TELL, install, install_files};
 use super::rows::{Sought, counts, hand_out};
+use crate::checks::{holds, same, same_text_of};
 use dict_desk::PlainDesk;
 use dict_index::read_edition;
 use dict_match::Strategy;
@@ -33,7 +34,7 @@ fn check_out(
     (most, wanted): (usize, &str),
 ) -> Result<(), Fail> {
     let rows = hand_out(alloc, desk, number, sought, strategy, query, most)?;
-    assert_eq!(rt; rows.as_str(), wanted, "{query:?}");
+    same_text_of(rt, rows.as_str(), wanted, query);
     Ok(())
 }
 
@@ -43,8 +44,8 @@ fn check(rt: &impl Abort, alloc: Global, desk: &mut PlainDesk, row: Row) -> Resu
     check_out(rt, alloc, desk, (number, Sought::Found), by, (9, found))?;
     check_out(rt, alloc, desk, (number, Sought::Heads), by, (9, heads))?;
     let (entries, words) = counts(alloc, desk, number, strategy, query)?;
-    assert_eq!(rt; entries, row_count(found), "{query:?}");
-    assert_eq!(rt; words, row_count(heads), "{query:?}");
+    holds(rt, entries == row_count(found), query);
+    holds(rt, words == row_count(heads), query);
     Ok(())
 }
 
@@ -251,9 +252,9 @@ fn check_opals(
     opals: u64,
 ) -> Result<(), Fail> {
     let (first, _) = counts(alloc, desk, 1, Strategy::Last, "opal")?;
-    assert_eq!(rt; first, opals);
+    same(rt, &first, &opals);
     let (second, _) = counts(alloc, desk, 2, Strategy::Last, "opal")?;
-    assert_eq!(rt; second, 0);
+    same(rt, &second, &0);
     Ok(())
 }
 
@@ -310,12 +311,12 @@ static THOUSAND: [Many; 11] = [
 fn check_many(rt: &impl Abort, alloc: Global, desk: &mut PlainDesk, row: Many) -> Result<(), Fail> {
     let Many(strategy, query, entries, heads) = row;
     let (found, words) = counts(alloc, desk, 1, strategy, query)?;
-    assert_eq!(rt; found, entries, "{query}");
-    assert_eq!(rt; words, heads, "{query}");
+    holds(rt, found == entries, query);
+    holds(rt, words == heads, query);
     let found = row_count(hand_out(alloc, desk, 1, Sought::Found, strategy, query, 2000)?.as_str());
-    assert_eq!(rt; found, entries, "{query}");
+    holds(rt, found == entries, query);
     let words = row_count(hand_out(alloc, desk, 1, Sought::Heads, strategy, query, 2000)?.as_str());
-    assert_eq!(rt; words, heads, "{query}");
+    holds(rt, words == heads, query);
     Ok(())
 }
 

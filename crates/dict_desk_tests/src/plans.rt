@@ -1,6 +1,7 @@
 // What is planned for commands, one after another.
 use super::asked::{Asked, listed, push_gone, push_kept, push_refusal};
 use super::files::{GEM, read};
+use crate::checks::{same, same_text};
 use dict_catalogue::{Change, Command, PlanFault, Refusal, Summary, Verb, plan};
 use dict_index::Edition;
 use std::alloc::{AllocError, Global};
@@ -55,9 +56,9 @@ fn check(
     let Row(asked, answer, after) = row;
     let mut text = String::new(alloc);
     step(alloc, &mut text, summary, &asked.command(gem))?;
-    assert_eq!(rt; text.as_str(), answer);
+    same_text(rt, text.as_str(), answer);
     let items = listed(alloc, summary)?;
-    assert_eq!(rt; items.as_str(), after);
+    same_text(rt, items.as_str(), after);
     Ok(())
 }
 
@@ -130,8 +131,8 @@ static ONE: [Row; 15] = [
 #[test]
 fn editions_of_one_database(rt: HostRuntime) -> Result<(), Fail> {
     let (installs, accepted) = run_both(&rt, rt.alloc(), &[], &ONE)?;
-    assert_eq!(rt; installs, 5);
-    assert_eq!(rt; accepted, 10);
+    same(&rt, &installs, &5);
+    same(&rt, &accepted, &10);
     Ok(())
 }
 
@@ -193,7 +194,7 @@ static OF_THREE: [Row; 11] = [
 #[test]
 fn databases_and_virtual_ones(rt: HostRuntime) -> Result<(), Fail> {
     let (installs, _) = run_both(&rt, rt.alloc(), &MADE, &OF_THREE)?;
-    assert_eq!(rt; installs, 4);
+    same(&rt, &installs, &4);
     Ok(())
 }
 
@@ -391,8 +392,8 @@ fn check_full(
 ) -> Result<(), AllocError> {
     let (asked, answer, count) = row;
     let (text, found) = told_full(alloc, summary, &asked.command(gem))?;
-    assert_eq!(rt; text.as_str(), answer);
-    assert_eq!(rt; found, count);
+    same_text(rt, text.as_str(), answer);
+    same(rt, &found, &count);
     Ok(())
 }
 
@@ -435,8 +436,8 @@ static REFUSALS: [(Refusal, u8, &str); 13] = [
 #[test]
 fn refusals_by_number_and_name(rt: HostRuntime) {
     for (refusal, number, name) in &REFUSALS {
-        assert_eq!(rt; refusal.number(), *number);
-        assert_eq!(rt; refusal.name(), *name);
+        same(&rt, &refusal.number(), number);
+        same_text(&rt, refusal.name(), *name);
     }
 }
 
@@ -446,7 +447,7 @@ fn what_a_command_is_about(rt: HostRuntime) {
         name: "gem",
         place: 2,
     };
-    assert_eq!(rt; command.target(), "gem");
-    assert_eq!(rt; command.verb(), Verb::Place);
+    same_text(&rt, command.target(), "gem");
+    same(&rt, &command.verb(), &Verb::Place);
     command.is_lawful();
 }

@@ -1,4 +1,5 @@
 //! Addresses to which no socket can be bound.
+use crate::checks::{holds, same_text};
 use crate::serving::{FREE, Play};
 use dict_driver::{AddressFault, BindFault, Driver};
 use std::alloc::Global;
@@ -32,8 +33,8 @@ static UNREAD: [&str; 7] = [
 #[test]
 fn an_address_that_is_not_read(rt: HostRuntime) -> Result<(), Fail> {
     for text in &UNREAD {
-        assert_eq!(rt; told(&rt, rt.alloc(), text, "also none"), "dict unread");
-        assert_eq!(rt; told(&rt, rt.alloc(), FREE, text), "http unread");
+        same_text(&rt, told(&rt, rt.alloc(), text, "also none"), "dict unread");
+        same_text(&rt, told(&rt, rt.alloc(), FREE, text), "http unread");
     }
     Ok(())
 }
@@ -47,9 +48,9 @@ fn are_in_use(
     http: SocketAddr,
 ) -> Result<(), Fail> {
     let text = format!(in alloc; "{dict}")?;
-    assert_eq!(rt; told(net, alloc, &text, "none"), "dict unbound");
+    same_text(rt, told(net, alloc, &text, "none"), "dict unbound");
     let text = format!(in alloc; "{http}")?;
-    assert_eq!(rt; told(net, alloc, FREE, &text), "http unbound");
+    same_text(rt, told(net, alloc, FREE, &text), "http unbound");
     Ok(())
 }
 
@@ -60,7 +61,15 @@ fn free_ports(rt: HostRuntime) -> Result<(), Fail> {
     let (dict, http) = (play.dict, play.http);
     let are_bound = are_in_use(&rt, &rt, rt.alloc(), dict, http);
     drop(play);
-    assert!(rt; dict.ip().is_loopback() && http.ip().is_loopback());
-    assert!(rt; dict.port() > 0 && http.port() > 0 && dict != http);
+    holds(
+        &rt,
+        dict.ip().is_loopback() && http.ip().is_loopback(),
+        "loopback",
+    );
+    holds(
+        &rt,
+        dict.port() > 0 && http.port() > 0 && dict != http,
+        "ports",
+    );
     are_bound
 }

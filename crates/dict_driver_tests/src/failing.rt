@@ -1,6 +1,7 @@
 // Desks that fail at one of their calls, and sinks that fail at one of their octets.
 
 use super::files::{DELETE, DELETED_TOLD, HOST, Row, gem_desk, play, told};
+use crate::checks::same;
 use dict_desk::{Keeper, PlainDesk};
 use dict_failing_desk::FailingDesk;
 use dict_hub::{Event, Hub, Kind};
@@ -162,7 +163,7 @@ fn check_room(
     told(alloc, hub, desk, Event::Opened(id, Kind::Dict))?;
     let answer = told_within(alloc, hub, desk, id, room)?;
     let taken = answer.strip_prefix("Ok(Close) Err(UnknownConnection) ");
-    assert_eq!(rt; taken, FOUND.get(..room));
+    same(rt, &taken, &FOUND.get(..room));
     Ok(())
 }
 

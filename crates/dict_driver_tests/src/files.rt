@@ -1,4 +1,5 @@
 // A catalogue in memory, and what a hub puts over it.
+use crate::checks::same_text;
 use dict_desk::{Keeper, PlainDesk};
 use dict_http::Service;
 use dict_hub::{Event, Hub, take_piece};
@@ -59,7 +60,7 @@ pub(crate) fn play<K: Keeper>(
     rows: &[Row],
 ) -> Result<(), Fail> {
     for (event, wanted) in rows {
-        assert_eq!(rt; told(alloc, hub, desk, *event)?.as_str(), *wanted);
+        same_text(rt, told(alloc, hub, desk, *event)?.as_str(), *wanted);
     }
     Ok(())
 }

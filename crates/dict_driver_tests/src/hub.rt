@@ -1,5 +1,6 @@
 //! Which connections are open, and what an editor's octets are answered piece by piece.
 use super::files::{HOST, PUT, Row, play, play_anew};
+use crate::checks::{same, same_text};
 use dict_desk::PlainDesk;
 use dict_http::Service;
 use dict_hub::{Book, Event, Hub, HubFault, Kind, Out, take_piece};
@@ -11,9 +12,9 @@ use std::test::Fail;
 // Opens each of 65,536 connections twice and closes it.
 fn one_by_one(rt: &impl Abort, book: &mut Book) {
     for id in 0..65_536u64 {
-        assert!(rt; book.open(id).is_ok());
-        assert_eq!(rt; book.place_of(id), Some(0));
-        assert_eq!(rt; book.open(id), Err(HubFault::UnknownConnection));
+        same(rt, &book.open(id).is_ok(), &true);
+        same(rt, &book.place_of(id), &Some(0));
+        same(rt, &book.open(id), &Err(HubFault::UnknownConnection));
         if book.len() > 0 {
             book.close(0);
         }
@@ -23,33 +24,34 @@ fn one_by_one(rt: &impl Abort, book: &mut Book) {
 // Opens 64 at once, closes one of them, and may open another.
 fn at_once(rt: &impl Abort, book: &mut Book) {
     for id in 65_536..65_600u64 {
-        assert!(rt; book.open(id).is_ok());
+        same(rt, &book.open(id).is_ok(), &true);
     }
-    assert_eq!(rt; book.open(65_600), Err(HubFault::TooMany));
-    assert_eq!(rt; book.open(65_599), Err(HubFault::UnknownConnection));
-    assert_eq!(rt; book.place_of(65_540), Some(4));
+    same(rt, &book.open(65_600), &Err(HubFault::TooMany));
+    same(rt, &book.open(65_599), &Err(HubFault::UnknownConnection));
+    same(rt, &book.place_of(65_540), &Some(4));
     if book.len() > 4 {
         book.close(4);
     }
-    assert_eq!(rt; book.place_of(65_540), None);
-    assert_eq!(rt; book.place_of(65_541), Some(4));
-    assert!(rt; book.len() == 63 && book.admits(65_600).is_ok());
+    same(rt, &book.place_of(65_540), &None);
+    same(rt, &book.place_of(65_541), &Some(4));
+    same(rt, &book.len(), &63);
+    same(rt, &book.admits(65_600).is_ok(), &true);
 }
 
 #[test]
 fn connections_open_and_close(rt: HostRuntime) -> Result<(), Fail> {
     let mut book = Book::new(rt.alloc())?;
     one_by_one(&rt, &mut book);
-    assert_eq!(rt; book.open(65_535), Err(HubFault::UnknownConnection));
+    same(&rt, &book.open(65_535), &Err(HubFault::UnknownConnection));
     at_once(&rt, &mut book);
     Ok(())
 }
 
 #[test]
 fn fault_numbers(rt: HostRuntime) {
-    assert_eq!(rt; HubFault::UnknownConnection.number(), 50);
-    assert_eq!(rt; HubFault::TooMany.number(), 51);
-    assert_eq!(rt; HubFault::Memory.number(), 52);
+    same(&rt, &HubFault::UnknownConnection.number(), &50);
+    same(&rt, &HubFault::TooMany.number(), &51);
+    same(&rt, &HubFault::Memory.number(), &52);
 }
 
 const INSTALLED: &str =
@@ -95,7 +97,7 @@ fn a_request_octet_by_octet(rt: HostRuntime) -> Result<(), Fail> {
     let told = told_octets(rt.alloc())?;
     let count = PUT.len();
     let wanted = format!(in rt.alloc(); "{count} {INSTALLED}")?;
-    assert_eq!(rt; told.as_str(), wanted.as_str());
+    same_text(&rt, told.as_str(), wanted.as_str());
     Ok(())
 }
 
@@ -104,7 +106,7 @@ fn a_request_octet_by_octet(rt: HostRuntime) -> Result<(), Fail> {
 fn one_request_a_connection(rt: HostRuntime) -> Result<(), Fail> {
     let piece =
         b"DELETE /databases/gem HTTP/1.1\r\n\r\nDELETE /databases/gem HTTP/1.1\r\n\r\n".as_slice();
-    assert_eq!(rt; told_pieces(rt.alloc(), &[piece], 3)?.as_str(), "1 HTT");
+    same_text(&rt, told_pieces(rt.alloc(), &[piece], 3)?.as_str(), "1 HTT");
     Ok(())
 }
 
@@ -168,7 +170,7 @@ fn open_many(
     for id in 1..65u64 {
         let kind = if id % 2 == 0 { Kind::Http } else { Kind::Dict };
         let out = hub.event(desk, Event::Opened(id, kind), &mut sink);
-        assert_eq!(rt; out, Ok(Out::More));
+        same(rt, &out, &Ok(Out::More));
     }
     Ok(())
 }

@@ -1,6 +1,7 @@
 // One connection over octets in memory, by single turns.
 ghost use Rattle.std.specs.Prelude.{Some, None};
 
+use crate::checks::same;
 use dict_desk::PlainDesk;
 use dict_driver::{Connection, MOST_WAITING, Queue, Stage, Transport};
 use dict_hub::{Hub, Kind};
@@ -128,10 +129,11 @@ fn run_anew(
 
 #[test]
 fn stages(rt: HostRuntime) -> Result<(), Fail> {
-    assert_eq!(rt; run_anew(rt.alloc(), b"STATUS\r\n", 10, &BY_TENS)?, 7);
-    assert_eq!(rt;
-        run_anew(rt.alloc(), b"QUIT\r\nS\r\nSTATUS\r\n", 100, &DRAINED)?,
-        7
+    same(&rt, &run_anew(rt.alloc(), b"STATUS\r\n", 10, &BY_TENS)?, &7);
+    same(
+        &rt,
+        &run_anew(rt.alloc(), b"QUIT\r\nS\r\nSTATUS\r\n", 100, &DRAINED)?,
+        &7,
     );
     Ok(())
 }
@@ -149,9 +151,10 @@ fn octets_in_order(rt: HostRuntime) -> Result<(), Fail> {
         queue.put(text.as_bytes())?;
     }
     for want in [5, 5, 1] {
-        assert_eq!(rt; queue.send(&mut transport)?, want);
+        same(&rt, &queue.send(&mut transport)?, &want);
     }
-    assert!(rt; queue.is_empty() && transport.taken.as_slice() == b"firstsecond".as_slice());
+    same(&rt, &queue.is_empty(), &true);
+    same(&rt, &transport.taken.as_slice(), &b"firstsecond".as_slice());
     Ok(())
 }
 
@@ -163,6 +166,8 @@ fn a_full_queue(rt: HostRuntime) -> Result<(), Fail> {
     for _ in 0..256u32 {
         queue.put(&block)?;
     }
-    assert!(rt; queue.put(b"x").is_err() && queue.len() == MOST_WAITING && queue.failures() == 1);
+    same(&rt, &queue.put(b"x").is_err(), &true);
+    same(&rt, &queue.len(), &MOST_WAITING);
+    same(&rt, &queue.failures(), &1);
     Ok(())
 }

@@ -1,4 +1,5 @@
 // So many rounds, one after another.
+use crate::checks::same;
 use crate::serving::{Play, Step};
 use dict_driver::{Served, pace};
 use std::net::{Net, TcpStream};
@@ -27,6 +28,6 @@ fn three_rounds(rt: HostRuntime) -> Result<(), Fail> {
     let mut play = Play::new(&rt, rt.alloc())?;
     let counted = count_three(&rt, &mut play);
     drop(play);
-    assert_eq!(rt; counted?, 3);
+    same(&rt, &counted?, &3);
     Ok(())
 }

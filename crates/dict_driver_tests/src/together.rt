@@ -1,5 +1,6 @@
 // Many connections at once, octet by octet, each beside the same session or request alone.
 use super::files::{HOST, PUT, gem_desk};
+use crate::checks::same;
 use dict_desk::PlainDesk;
 use dict_http::{Need, Service, need};
 use dict_hub::{Event, Hub, HubFault, Kind};
@@ -115,9 +116,9 @@ fn end_each(
     sinks: &mut [LimitedSink],
 ) -> Result<(), Fail> {
     for (id, sink) in (1..65u64).zip(sinks.iter_mut()) {
-        assert!(rt; is_as_alone(alloc, id, sink.taken())?, "{id}");
+        same(rt, &is_as_alone(alloc, id, sink.taken())?, &true);
         let end = hub.event(desk, Event::Ended(id), sink);
-        assert_eq!(rt; end, Err(HubFault::UnknownConnection), "{id}");
+        same(rt, &end, &Err(HubFault::UnknownConnection));
     }
     Ok(())
 }

@@ -1,5 +1,6 @@
 // Requests over a desk in memory, answered octet for octet.
 
+use crate::checks::{holds, same, same_text, same_text_of};
 use dict_catalogue::{Kept, Verb};
 use dict_desk::{Keeper, PlainDesk};
 use dict_http::{Answer, Need, Service, Status, kept_json, need};
@@ -70,7 +71,7 @@ fn is_framed(alloc: Global, answer: &[u8]) -> Result<bool, Fail> {
 #[test]
 fn lengths_of_bodies(rt: HostRuntime) -> Result<(), Fail> {
     for answer in &WHOLE {
-        assert!(rt; is_framed(rt.alloc(), answer.as_bytes())?, "{answer}");
+        holds(&rt, is_framed(rt.alloc(), answer.as_bytes())?, answer);
     }
     Ok(())
 }
@@ -150,10 +151,11 @@ fn send<K: Keeper>(
     rows: &[(&str, &str)],
 ) -> Result<(), Fail> {
     for (request, answer) in rows {
-        assert_eq!(rt;
+        same_text_of(
+            rt,
             told(alloc, desk, request.as_bytes())?.as_str(),
             *answer,
-            "{request}"
+            request,
         );
     }
     Ok(())
@@ -187,11 +189,16 @@ fn told_kept(alloc: Global) -> Result<String, Fail> {
 #[test]
 fn replies(rt: HostRuntime) -> Result<(), Fail> {
     let wanted = "{\"edition\":1,\"name\":\"gem\",\"number\":1,\"verb\":\"install\"}";
-    assert_eq!(rt; told_kept(rt.alloc())?.as_str(), wanted);
-    assert_eq!(rt; need(b"GET /databases HTTP/1.1\r\n\r\n"), Need::Whole(27));
-    assert_eq!(rt;
-        need(b"GET /databases HTTP/9\r\n\r\n"),
-        Need::Refused(Status::BadRequest)
+    same_text(&rt, told_kept(rt.alloc())?.as_str(), wanted);
+    same(
+        &rt,
+        &need(b"GET /databases HTTP/1.1\r\n\r\n"),
+        &Need::Whole(27),
+    );
+    same(
+        &rt,
+        &need(b"GET /databases HTTP/9\r\n\r\n"),
+        &Need::Refused(Status::BadRequest),
     );
     Ok(())
 }
@@ -209,7 +216,11 @@ fn told_put(alloc: Global) -> Result<String, Fail> {
 
 #[test]
 fn an_answer_is_put(rt: HostRuntime) -> Result<(), Fail> {
-    assert_eq!(rt; told_put(rt.alloc())?.as_str(), "true false false abcde");
-    assert_eq!(rt; Answer::Fixed("a").octets(), b"a".as_slice());
+    same_text(
+        &rt,
+        told_put(rt.alloc())?.as_str(),
+        "true false false abcde",
+    );
+    same(&rt, &Answer::Fixed("a").octets(), &b"a".as_slice());
     Ok(())
 }

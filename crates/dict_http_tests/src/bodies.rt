@@ -1,4 +1,5 @@
 //! What bodies are taken, and what is written.
+use crate::checks::{same_text, same_text_of};
 use dict_catalogue::{Item, Kept, Refusal, StoredTitle, Summary, Verb};
 use dict_index::Refusal as EditionRefusal;
 use dict_json::{
@@ -16,7 +17,7 @@ fn told_place(alloc: Global, body: &[u8]) -> Result<String, Fail> {
 }
 
 fn say_place(rt: &impl Abort, alloc: Global, body: &[u8], place: &str) -> Result<(), Fail> {
-    assert_eq!(rt; told_place(alloc, body)?.as_str(), place, "{body:?}");
+    same_text(rt, told_place(alloc, body)?.as_str(), place);
     Ok(())
 }
 
@@ -85,10 +86,11 @@ fn told_virtual(alloc: Global, body: &[u8]) -> Result<String, Fail> {
 }
 
 fn say_virtual(rt: &impl Abort, alloc: Global, body: &str, wanted: &str) -> Result<(), Fail> {
-    assert_eq!(rt;
+    same_text_of(
+        rt,
         told_virtual(alloc, body.as_bytes())?.as_str(),
         wanted,
-        "{body}"
+        body,
     );
     Ok(())
 }
@@ -182,9 +184,10 @@ fn told_kept(
 #[test]
 fn replies(rt: HostRuntime) -> Result<(), Fail> {
     for (number, verb, edition, json) in &KEPT {
-        assert_eq!(rt;
+        same_text(
+            &rt,
             told_kept(rt.alloc(), *number, *verb, *edition)?.as_str(),
-            *json
+            *json,
         );
     }
     Ok(())
@@ -193,17 +196,20 @@ fn replies(rt: HostRuntime) -> Result<(), Fail> {
 #[test]
 fn refusals(rt: HostRuntime) -> Result<(), Fail> {
     let alloc = rt.alloc();
-    assert_eq!(rt;
+    same_text(
+        &rt,
         refused_command_json(alloc, Refusal::NoFormer)?.as_str(),
-        "{\"reason\":\"NoFormer\",\"refusal\":23}"
+        "{\"reason\":\"NoFormer\",\"refusal\":23}",
     );
-    assert_eq!(rt;
+    same_text(
+        &rt,
         refused_edition_json(alloc, EditionRefusal::Interval, Some(4))?.as_str(),
-        "{\"fault\":4,\"line\":4,\"reason\":\"Interval\"}"
+        "{\"fault\":4,\"line\":4,\"reason\":\"Interval\"}",
     );
-    assert_eq!(rt;
+    same_text(
+        &rt,
         refused_edition_json(alloc, EditionRefusal::LastLine, None)?.as_str(),
-        "{\"fault\":14,\"line\":null,\"reason\":\"LastLine\"}"
+        "{\"fault\":14,\"line\":null,\"reason\":\"LastLine\"}",
     );
     Ok(())
 }
@@ -272,11 +278,11 @@ fn told_list(alloc: Global, is_filled: bool) -> Result<String, AllocError> {
 
 #[test]
 fn lists(rt: HostRuntime) -> Result<(), Fail> {
-    assert_eq!(rt; told_list(rt.alloc(), false)?.as_str(), "[]");
+    same_text(&rt, told_list(rt.alloc(), false)?.as_str(), "[]");
     let wanted =
         "[{\"current\":1,\"former\":null,\"kind\":\"regular\",\"name\":\"gem\",\"title\":\"Gems\"},\
         {\"current\":3,\"former\":2,\"kind\":\"regular\",\"name\":\"ore\",\"title\":\"A \\\"\\\\\u{7f}é\"},\
         {\"kind\":\"virtual\",\"members\":[\"ore\",\"gem\"],\"name\":\"all\",\"title\":\"All\"}]";
-    assert_eq!(rt; told_list(rt.alloc(), true)?.as_str(), wanted);
+    same_text(&rt, told_list(rt.alloc(), true)?.as_str(), wanted);
     Ok(())
 }

@@ -1,6 +1,7 @@
 // Desks that fail at one of their calls.
 
 use crate::answers::told;
+use crate::checks::same_text_of;
 use crate::table::{INSTALL, Row, request_of, run};
 use dict_desk::{Keeper, PlainDesk};
 use dict_failing_desk::FailingDesk;
@@ -51,7 +52,7 @@ fn is_unavailable<K: Keeper>(
     request: &str,
 ) -> Result<(), Fail> {
     let answer = told(alloc, desk, request.as_bytes())?;
-    assert_eq!(rt; answer.as_str(), UNAVAILABLE, "{request}");
+    same_text_of(rt, answer.as_str(), UNAVAILABLE, request);
     Ok(())
 }
 

@@ -1,4 +1,5 @@
 //! What heads are taken, and what is needed at each front of a request.
+use crate::checks::{same, same_text};
 use dict_head::{Need, Reading, Status, Values, need, read_request};
 use std::alloc::Global;
 use std::test::Fail;
@@ -76,7 +77,7 @@ static HEADS: [(&[u8], Need); 30] = [
 #[test]
 fn heads_and_lengths(rt: HostRuntime) {
     for (octets, wanted) in &HEADS {
-        assert_eq!(rt; need(octets), *wanted, "{octets:?}");
+        same(&rt, &need(octets), wanted);
     }
 }
 
@@ -85,9 +86,9 @@ fn fronts(rt: HostRuntime) {
     let put =
         b"PUT /virtual/all HTTP/1.1\r\nRequest-Id: r2\r\nContent-Length: 33\r\n\r\n{\"members\":[\"gem\"],\"title\":\"All\"}";
     for n in 0..put.len() {
-        assert_eq!(rt; need(&put[..n]), Need::More);
+        same(&rt, &need(&put[..n]), &Need::More);
     }
-    assert_eq!(rt; need(put), Need::Whole(put.len()));
+    same(&rt, &need(put), &Need::Whole(put.len()));
 }
 
 #[test]
@@ -96,7 +97,7 @@ fn whatever_follows(rt: HostRuntime) -> Result<(), Fail> {
     for octet in 0..=255 {
         let mut longer = put.to_vec(rt.alloc())?;
         longer.push(octet)?;
-        assert_eq!(rt; need(&longer), Need::Whole(put.len()));
+        same(&rt, &need(&longer), &Need::Whole(put.len()));
     }
     Ok(())
 }
@@ -177,9 +178,10 @@ static LIMITS: [(&str, &str, usize, &str, &str); 10] = [
 #[test]
 fn lengths_and_counts(rt: HostRuntime) -> Result<(), Fail> {
     for (front, text, count, end, wanted) in &LIMITS {
-        assert_eq!(rt;
+        same_text(
+            &rt,
             told_filled(rt.alloc(), front, text, *count, end)?.as_str(),
-            *wanted
+            *wanted,
         );
     }
     Ok(())
@@ -219,7 +221,7 @@ static REQUESTS: [(&[u8], &str); 3] = [
 #[test]
 fn requests(rt: HostRuntime) -> Result<(), Fail> {
     for (octets, wanted) in &REQUESTS {
-        assert_eq!(rt; told(rt.alloc(), octets)?.as_str(), *wanted);
+        same_text(&rt, told(rt.alloc(), octets)?.as_str(), *wanted);
     }
     Ok(())
 }

@@ -7,6 +7,8 @@ mod answers;
 #[cfg(test)]
 mod bodies;
 #[cfg(test)]
+mod checks;
+#[cfg(test)]
 mod curl;
 #[cfg(test)]
 mod failing;

@@ -1,4 +1,5 @@
 //! Which paths have which forms.
+use crate::checks::same_text_of;
 use dict_route::Routes;
 use std::alloc::Global;
 use std::process::Abort;
@@ -62,7 +63,7 @@ fn told(alloc: Global, routes: &Routes, path: &str) -> Result<String, Fail> {
 
 fn find_all(rt: &impl Abort, alloc: Global, routes: &Routes) -> Result<(), Fail> {
     for (path, form) in &PATHS {
-        assert_eq!(rt; told(alloc, routes, path)?.as_str(), *form, "{path}");
+        same_text_of(rt, told(alloc, routes, path)?.as_str(), *form, path);
     }
     Ok(())
 }

@@ -1,5 +1,6 @@
 // Which methods and which paths are served.
 use crate::answers::{response, told};
+use crate::checks::same_text_of;
 use dict_desk::PlainDesk;
 use std::alloc::Global;
 use std::process::Abort;
@@ -44,7 +45,7 @@ fn told_anew(alloc: Global, request: &str) -> Result<String, Fail> {
 }
 
 fn look(rt: &impl Abort, alloc: Global, request: &str, wanted: &str) -> Result<(), Fail> {
-    assert_eq!(rt; told_anew(alloc, request)?.as_str(), wanted, "{request}");
+    same_text_of(rt, told_anew(alloc, request)?.as_str(), wanted, request);
     Ok(())
 }
 

@@ -1,5 +1,6 @@
 // Requests one after another, each with its answer.
 use crate::answers::{response, told};
+use crate::checks::same_text_of;
 use dict_desk::{Keeper, PlainDesk};
 use std::alloc::Global;
 use std::process::Abort;
@@ -244,7 +245,7 @@ pub(crate) fn ask<K: Keeper>(
 ) -> Result<(), Fail> {
     let wanted = response(alloc, status, body)?;
     let answer = told(alloc, desk, request.as_bytes())?;
-    assert_eq!(rt; answer.as_str(), wanted.as_str(), "{request}");
+    same_text_of(rt, answer.as_str(), wanted.as_str(), request);
     Ok(())
 }
 

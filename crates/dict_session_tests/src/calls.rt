@@ -1,3 +1,4 @@
+use crate::checks::same;
 use dict_io::OverWrite;
 use dict_proto::{Reply, write_reply};
 use std::io::{Result as IoResult, Write};
@@ -60,7 +61,7 @@ static CALLS: [(Reply<'static>, usize); 6] = [
 #[test]
 fn a_writer_is_called_once_a_line(rt: HostRuntime) -> Result<(), Fail> {
     for (reply, calls) in &CALLS {
-        assert_eq!(rt; calls_for(reply)?, *calls);
+        same(&rt, &calls_for(reply)?, calls);
     }
     Ok(())
 }

@@ -1,5 +1,6 @@
 // Desks, readers and writers that fail.
 
+use crate::checks::{same, same_text};
 use crate::files::{Files, GEM, STONES, desk_of};
 use crate::sessions::{text_of, told_feed, told_run};
 use dict_desk::PlainDesk;
@@ -100,10 +101,10 @@ fn told_failing(alloc: Global, line: &str, calls_left: u64) -> Result<String, Fa
 #[test]
 fn a_desk_fails_at_each_of_its_calls(rt: HostRuntime) -> Result<(), Fail> {
     for (line, calls_left, told) in &ROWS {
-        assert_eq!(rt;
+        same_text(
+            &rt,
             told_failing(rt.alloc(), line, *calls_left)?.as_str(),
             *told,
-            "{calls_left}"
         );
     }
     Ok(())
@@ -119,7 +120,7 @@ fn told_failed_run(alloc: Global) -> Result<String, Fail> {
 fn a_failed_desk_ends_a_run(rt: HostRuntime) -> Result<(), Fail> {
     let want =
         "Err(Broken) 220 gems.test dictcat ready <7@gems.test>\r\n150 1 definitions retrieved\r\n";
-    assert_eq!(rt; told_failed_run(rt.alloc())?.as_str(), want);
+    same_text(&rt, told_failed_run(rt.alloc())?.as_str(), want);
     Ok(())
 }
 
@@ -154,7 +155,7 @@ fn a_reader_fails_after_an_answer(rt: HostRuntime) -> Result<(), Fail> {
     let mut desk = PlainDesk::new(rt.alloc());
     let told = told_torn(rt.alloc(), &mut desk)?;
     let want = "Err(Read) 220 gems.test dictcat ready <7@gems.test>\r\n210 0 databases\r\n";
-    assert_eq!(rt; told.as_str(), want);
+    same_text(&rt, told.as_str(), want);
     Ok(())
 }
 
@@ -171,7 +172,7 @@ fn told_within(alloc: Global, room: usize) -> Result<String, Fail> {
 fn a_full_writer_ends_a_run(rt: HostRuntime) -> Result<(), Fail> {
     for room in 0..WHOLE.len() {
         let told = told_within(rt.alloc(), room)?;
-        assert_eq!(rt; told.strip_prefix("Err(Write) "), WHOLE.get(..room));
+        same(&rt, &told.strip_prefix("Err(Write) "), &WHOLE.get(..room));
     }
     Ok(())
 }

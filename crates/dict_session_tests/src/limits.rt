@@ -1,4 +1,5 @@
 // Sessions at the limits: lines of the greatest lengths, keys with the last character, catalogues that become empty.
+use crate::checks::same_text;
 use crate::files::{EDGE, apply, desk_of, ore_gem_all};
 use crate::sessions::{Row, answer_rows, told_run};
 use dict_catalogue::Command;
@@ -40,11 +41,7 @@ static LENGTHS: [(usize, &str); 4] = [
 #[test]
 fn lines_of_the_greatest_lengths(rt: HostRuntime) -> Result<(), Fail> {
     for (letters, told) in &LENGTHS {
-        assert_eq!(rt;
-            told_client(rt.alloc(), *letters)?.as_str(),
-            *told,
-            "{letters}"
-        );
+        same_text(&rt, told_client(rt.alloc(), *letters)?.as_str(), *told);
     }
     Ok(())
 }

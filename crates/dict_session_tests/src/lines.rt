@@ -1,4 +1,5 @@
 //! What the lines of clients ask for.
+use crate::checks::{same_text, same_text_of};
 use dict_line::{Request, one_reading, parse_line, worked_lines, worked_meanings};
 use std::alloc::{AllocError, Global};
 use std::process::Abort;
@@ -28,7 +29,7 @@ fn told(alloc: Global, line: &[u8]) -> Result<String, AllocError> {
 
 fn ask(rt: &impl Abort, alloc: Global, rows: &[(&str, &str)]) -> Result<(), AllocError> {
     for (line, wanted) in rows {
-        assert_eq!(rt; told(alloc, line.as_bytes())?.as_str(), *wanted, "{line:?}");
+        same_text_of(rt, told(alloc, line.as_bytes())?.as_str(), *wanted, line);
     }
     Ok(())
 }
@@ -36,7 +37,7 @@ fn ask(rt: &impl Abort, alloc: Global, rows: &[(&str, &str)]) -> Result<(), Allo
 // These lines ask for nothing, for this cause.
 fn refuse(rt: &impl Abort, alloc: Global, lines: &[&[u8]], cause: &str) -> Result<(), AllocError> {
     for line in lines {
-        assert_eq!(rt; told(alloc, line)?.as_str(), cause, "{line:?}");
+        same_text(rt, told(alloc, line)?.as_str(), cause);
     }
     Ok(())
 }
@@ -224,9 +225,10 @@ static LONG: [(&str, &str, usize, &str); 6] = [
 #[test]
 fn long_lines(rt: HostRuntime) -> Result<(), Fail> {
     for (front, text, count, wanted) in &LONG {
-        assert_eq!(rt;
+        same_text(
+            &rt,
             told_long(rt.alloc(), front, text, *count)?.as_str(),
-            *wanted
+            *wanted,
         );
     }
     Ok(())

@@ -1,4 +1,5 @@
 //! The octets of each reply.
+use crate::checks::{holds, same, same_text};
 use dict_io::{LimitedSink, OverWrite, Sink, put_all};
 use dict_proto::{Reply, list_is_a_block, put_quoted, reply_lines_are_short, write_reply};
 use std::alloc::Global;
@@ -19,7 +20,7 @@ fn puts(alloc: Global, reply: &Reply, text: &str) -> Result<bool, Fail> {
 
 fn put_rows(rt: &impl Abort, alloc: Global, rows: &[(Reply, &str)]) -> Result<(), Fail> {
     for (reply, text) in rows {
-        assert!(rt; puts(alloc, reply, text)?, "{text}");
+        holds(rt, puts(alloc, reply, text)?, text);
     }
     Ok(())
 }
@@ -211,7 +212,7 @@ fn long_texts(rt: HostRuntime) -> Result<(), Fail> {
         let body = long_text(alloc, letters, "\n.y\n")?;
         let text = long_text(alloc, letters, "\r\n..y\r\n.\r\n")?;
         let reply = Reply::InfoText(body.as_bytes());
-        assert!(rt; puts(alloc, &reply, text.as_str())?, "{letters}");
+        holds(&rt, puts(alloc, &reply, text.as_str())?, "a long text");
     }
     Ok(())
 }
@@ -223,9 +224,10 @@ fn quotes(rt: HostRuntime) -> Result<(), Fail> {
     put_all(&mut sink, &[b" ", b"-", b" "])?;
     put_quoted(&mut sink, "say \"a\\b\"")?;
     sink.put(b"\r\n")?;
-    assert_eq!(rt;
-        sink.into_inner().as_slice(),
-        b"\"Gems\" - \"say \\\"a\\\\b\\\"\"\r\n".as_slice()
+    same(
+        &rt,
+        &sink.into_inner().as_slice(),
+        &b"\"Gems\" - \"say \\\"a\\\\b\\\"\"\r\n".as_slice(),
     );
     Ok(())
 }
@@ -274,8 +276,8 @@ fn put_within(
 ) -> Result<(), Fail> {
     let (taken, is_ok) = told_within(alloc, reply, room)?;
     let front = text.get(..room).unwrap_or(text);
-    assert_eq!(rt; is_ok, room >= text.len(), "room for {room}");
-    assert_eq!(rt; taken.as_str(), front, "room for {room}");
+    holds(rt, is_ok == (room >= text.len()), text);
+    same_text(rt, taken.as_str(), front);
     Ok(())
 }
 

@@ -1,4 +1,5 @@
 // Sessions over catalogues in memory.
+use crate::checks::{same, same_text};
 use crate::files::{GEM, STONES, desk_of, ore_gem_all};
 use dict_desk::{Lookup, PlainDesk};
 use dict_io::{LimitedSink, OverRead};
@@ -173,7 +174,11 @@ fn run_rows(
         let want = format!(in alloc;
             "Ok({end}) 220 gems.test dictcat ready <7@gems.test>\r\n{answers}"
         )?;
-        assert_eq!(rt; told_run(alloc, desk, input, 1000)?.as_str(), want.as_str());
+        same_text(
+            rt,
+            told_run(alloc, desk, input, 1000)?.as_str(),
+            want.as_str(),
+        );
     }
     Ok(())
 }
@@ -230,7 +235,7 @@ fn feed_cut(
     for place in 0..=input.len() {
         let (first, second) = input.split_at(place);
         let told = told_feed(alloc, desk, (first, second, b""), 1000)?;
-        assert_eq!(rt; told.as_str(), want, "cut at {place}");
+        same_text(rt, told.as_str(), want);
     }
     Ok(())
 }
@@ -244,7 +249,7 @@ fn feed_row(
     want: &str,
 ) -> Result<(), Fail> {
     let told = told_feed(alloc, desk, (b"", b"", input), 1000)?;
-    assert_eq!(rt; told.as_str(), want);
+    same_text(rt, told.as_str(), want);
     feed_cut(rt, alloc, desk, input, want)
 }
 
@@ -324,7 +329,7 @@ fn break_off(rt: &impl Abort, alloc: Global, desk: &mut PlainDesk) -> Result<(),
         );
         let told = told_feed(alloc, desk, pieces, room)?;
         let front = ALL_STONES.get(..room);
-        assert_eq!(rt; told.strip_prefix("Broken "), front);
+        same(rt, &told.strip_prefix("Broken "), &front);
     }
     Ok(())
 }
@@ -362,7 +367,7 @@ fn told_greeting(alloc: Global, session: &mut Session) -> Result<String, Fail> {
 fn a_full_sink_breaks_the_greeting_off(rt: HostRuntime) -> Result<(), Fail> {
     let mut session = Session::new(rt.alloc(), "gems.test", 7)?;
     let told = told_greeting(rt.alloc(), &mut session)?;
-    assert_eq!(rt; told.as_str(), "Broken 220 Broken Broken ");
+    same_text(&rt, told.as_str(), "Broken 220 Broken Broken ");
     Ok(())
 }
 

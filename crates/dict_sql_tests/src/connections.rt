@@ -1,5 +1,6 @@
 //! Connections over memory and over files that memory holds, and texts of the tests' own.
 
+use crate::checks::{holds, same_text};
 use crate::{keyed, plain};
 use dict_sql::records::ReadError;
 use sqlite::{Alter, Connection, Error, FileStore, Files, Options};
@@ -36,7 +37,7 @@ pub(crate) fn compare_numbers<S: Alter>(
     rows: &[(&str, i64)],
 ) -> Result<(), Fail> {
     for (text, expected) in rows {
-        assert_eq!(rt; number(conn, *text)?, *expected, "{text}");
+        holds(rt, number(conn, *text)? == *expected, text);
     }
     Ok(())
 }
@@ -58,7 +59,7 @@ pub(crate) fn compare(
     expected: &str,
 ) -> Result<(), Fail> {
     let text = found?;
-    assert_eq!(rt; text.as_str(), expected);
+    same_text(rt, text.as_str(), expected);
     Ok(())
 }
 

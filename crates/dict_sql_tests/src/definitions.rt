@@ -1,3 +1,4 @@
+use crate::checks::holds;
 use dict_tables::{
     StoreTable, has_room, has_table, is_name_used, is_own_index_name_used, is_own_name_referred,
     is_own_name_used, waits_for_counter,
@@ -250,9 +251,10 @@ fn miss_others(
     parts: &[(&str, &str)],
 ) -> Result<(), Fail> {
     for (part, other) in parts {
-        assert!(rt;
+        holds(
+            rt,
             !is_found(alloc, table, statement, *part, *other)?,
-            "{other}"
+            other,
         );
     }
     Ok(())
@@ -393,7 +395,7 @@ fn compare(
     expected: bool,
 ) -> Result<(), Fail> {
     for more in others {
-        assert_eq!(rt; ask(alloc, first, *more, asked)?, expected, "{more}");
+        holds(rt, ask(alloc, first, *more, asked)? == expected, more);
     }
     Ok(())
 }

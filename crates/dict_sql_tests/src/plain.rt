@@ -1,5 +1,6 @@
 //! The statements of each table on their happy path, with other tables before and after them. The tables are made by one transaction.
 
+use crate::checks::holds;
 use crate::connections::{Part, compare_numbers, over_files as run_over_files, over_memory, raw};
 use dict_tables::{StoreTable, has_table, is_name_used};
 use rows::{drop_kept, make_all, put_all};
@@ -23,7 +24,7 @@ pub(crate) fn fill<S: Alter>(
         "CREATE TABLE first (a TEXT NOT NULL UNIQUE REFERENCES first (a)) STRICT; INSERT INTO first VALUES ('it''s')",
     )?;
     make_all(conn)?;
-    assert!(rt; make_all(conn).is_err());
+    holds(rt, make_all(conn).is_err(), "made twice");
     raw(
         conn,
         "CREATE TABLE last (b INTEGER PRIMARY KEY, c BLOB) STRICT; INSERT INTO last VALUES (1, x''), (2, NULL)",
@@ -50,13 +51,13 @@ pub(crate) fn drop_and_look<S: Alter>(
     conn: &mut Connection<S>,
 ) -> Result<(), Fail> {
     drop_kept(conn)?;
-    assert!(rt; !is_name_used(conn.schema(), b"kept"));
+    holds(rt, !is_name_used(conn.schema(), b"kept"), "kept");
     compare_numbers(rt, conn, &COUNTS)?;
     raw(
         conn,
         "CREATE TABLE kept (id TEXT NOT NULL PRIMARY KEY, number INTEGER NOT NULL UNIQUE) STRICT",
     )?;
-    assert!(rt; !has_table(conn.schema(), StoreTable::Kept));
+    holds(rt, !has_table(conn.schema(), StoreTable::Kept), "kept");
     Ok(())
 }
 

@@ -1,6 +1,7 @@
 //! The same commands over a catalogue in memory and over one file.
 
 use crate::asked::{Asked, Editions, read_editions, told};
+use crate::checks::{holds, same, same_text, same_text_of};
 use crate::desks::{applied, dumped, made_in};
 use crate::refused::has_numbers;
 use crate::shown::{listed, shown};
@@ -37,9 +38,9 @@ fn play<K: Keeper>(
 ) -> Result<(), Fail> {
     for Row(id, asked, wanted, after) in rows {
         let told = answer(alloc, desk, editions, id, *asked)?;
-        assert_eq!(rt; told.as_str(), *wanted, "{id:?}");
+        same_text_of(rt, told.as_str(), *wanted, id);
         let items = listed(alloc, desk.summary()?)?;
-        assert_eq!(rt; items.as_str(), *after, "{id:?}");
+        same_text_of(rt, items.as_str(), *after, id);
     }
     Ok(())
 }
@@ -54,8 +55,8 @@ fn play_as_wanted<S: Alter + Drop>(
     wanted: &str,
 ) -> Result<(), Fail> {
     play(rt, alloc, desk, editions, rows)?;
-    assert_eq!(rt; shown(alloc, desk)?.as_str(), wanted);
-    assert_eq!(rt; desk.audit(), Ok(()));
+    same_text(rt, shown(alloc, desk)?.as_str(), wanted);
+    same(rt, &desk.audit(), &Ok(()));
     Ok(())
 }
 
@@ -302,7 +303,7 @@ fn play_nothing<S: Alter + Drop>(
     let is_free = matches!(desk.kept("x"), Ok(None));
     let conn = desk.into_connection();
     end?;
-    assert!(rt; is_free);
+    holds(rt, is_free, "a connection in no transaction");
     Ok(conn)
 }
 
@@ -324,7 +325,7 @@ fn what_acts_on_nothing_leaves_all_rows(rt: HostRuntime) -> Result<(), Fail> {
     let alloc = rt.alloc();
     let conn = Connection::open_in_memory(alloc)?;
     let (before, after) = around_nothing(&rt, alloc, conn)?;
-    assert_eq!(rt; after.as_str(), before.as_str());
+    same_text(&rt, after.as_str(), before.as_str());
     Ok(())
 }
 
@@ -366,7 +367,7 @@ fn answer_all<K: Keeper>(
 ) -> Result<(), Fail> {
     for (id, one, wanted) in asked {
         let told = answer(alloc, desk, editions, id, *one)?;
-        assert_eq!(rt; told.as_str(), *wanted);
+        same_text(rt, told.as_str(), *wanted);
     }
     Ok(())
 }
@@ -381,7 +382,7 @@ fn fill_up<S: Alter + Drop>(
     let mut desk = applied(alloc, &editions, conn, true, &[])?;
     fill(alloc, &mut desk, &editions)?;
     answer_all(rt, alloc, &mut desk, &editions, &FULL)?;
-    assert_eq!(rt; desk.audit(), Ok(()));
+    same(rt, &desk.audit(), &Ok(()));
     Ok(())
 }
 
@@ -439,8 +440,8 @@ fn made_has<S: Alter + Drop>(
 fn rows_of_editions(rt: HostRuntime) -> Result<(), Fail> {
     let alloc = rt.alloc();
     let empty = Connection::open_in_memory(alloc)?;
-    assert!(rt; made_has(alloc, empty, &[], &NEW)?);
+    holds(&rt, made_has(alloc, empty, &[], &NEW)?, "new");
     let conn = Connection::open_in_memory(alloc)?;
-    assert!(rt; made_has(alloc, conn, &INSTALLED, &ROWS)?);
+    holds(&rt, made_has(alloc, conn, &INSTALLED, &ROWS)?, "installed");
     Ok(())
 }

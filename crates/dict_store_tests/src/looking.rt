@@ -1,5 +1,6 @@
 //! What readers ask of a desk over a file, and of one in memory.
 use crate::asked::{Asked, read_editions};
+use crate::checks::same_text;
 use crate::desks::{accept_all, applied};
 use crate::shown::Rows;
 use dict_desk::{End, Fault, Lookup, PlainDesk, What};
@@ -107,7 +108,7 @@ fn answer<L: Lookup>(alloc: Global, desk: &mut L, row: Row) -> Result<String, Fa
 
 fn answers_all<L: Lookup>(rt: &impl Abort, alloc: Global, desk: &mut L) -> Result<(), Fail> {
     for row in &ASKED {
-        assert_eq!(rt; answer(alloc, desk, *row)?.as_str(), row.3);
+        same_text(rt, answer(alloc, desk, *row)?.as_str(), row.3);
     }
     Ok(())
 }

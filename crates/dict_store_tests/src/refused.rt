@@ -1,5 +1,6 @@
 //! Databases in which no store is made, and files that are not adopted: nothing of them changes.
 use crate::asked::{Asked, read_editions};
+use crate::checks::holds;
 use crate::desks::{applied, desk_over, dumped, made_in};
 use dict_desk::Fault;
 use sqlite::{Alter, Connection, Error};
@@ -142,20 +143,29 @@ fn refused_files(rt: HostRuntime) -> Result<(), Fail> {
     let alloc = rt.alloc();
     for text in &IN_USE {
         let conn = batched(Connection::open_in_memory(alloc)?, *text)?;
-        assert!(rt;
+        holds(
+            &rt,
             is_refused(alloc, conn, true, Fault::NotACatalogue),
-            "{text}"
+            text,
         );
     }
     for (statement, wanted) in &STATEMENTS {
         let conn = made_in(alloc, Connection::open_in_memory(alloc)?, &CATALOGUE)?;
         let conn = batched(conn, *statement)?;
-        assert!(rt; is_refused(alloc, conn, false, *wanted), "{statement}");
+        holds(&rt, is_refused(alloc, conn, false, *wanted), statement);
     }
     let empty = Connection::open_in_memory(alloc)?;
-    assert!(rt; is_refused(alloc, empty, false, Fault::NotACatalogue));
+    holds(
+        &rt,
+        is_refused(alloc, empty, false, Fault::NotACatalogue),
+        "empty",
+    );
     let made = made_in(alloc, Connection::open_in_memory(alloc)?, &[])?;
-    assert!(rt; is_refused(alloc, made, true, Fault::NotACatalogue));
+    holds(
+        &rt,
+        is_refused(alloc, made, true, Fault::NotACatalogue),
+        "made",
+    );
     Ok(())
 }
 
@@ -199,6 +209,6 @@ fn others_stay<S: Alter + Drop>(alloc: Global, conn: Connection<S>) -> Result<bo
 #[test]
 fn other_tables_stay(rt: HostRuntime) -> Result<(), Fail> {
     let conn = Connection::open_in_memory(rt.alloc())?;
-    assert!(rt; others_stay(rt.alloc(), conn)?);
+    holds(&rt, others_stay(rt.alloc(), conn)?, "others");
     Ok(())
 }

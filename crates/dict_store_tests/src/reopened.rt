@@ -1,5 +1,6 @@
 //! Desks over files in memory that are opened anew.
 use crate::asked::{Asked, Editions, read_editions};
+use crate::checks::holds;
 use crate::desks::{accept_all, desk_over};
 use crate::files::{Octets, disk, opened, options};
 use crate::stops::made;
@@ -138,7 +139,8 @@ fn a_stop_leaves_the_catalogue(rt: HostRuntime) -> Result<(), Fail> {
         db: Vec::new(alloc),
     };
     let editions = read_editions(alloc)?;
-    assert!(rt; met_at(alloc, &editions, &nothing, u64::MAX, true)? == Met::Reopened);
+    let is_reopened = met_at(alloc, &editions, &nothing, u64::MAX, true)? == Met::Reopened;
+    holds(&rt, is_reopened, "two new files");
     Ok(())
 }
 
@@ -158,6 +160,7 @@ fn the_same_files_after_a_failure(rt: HostRuntime) -> Result<(), Fail> {
             Met::Other => return Err("other files were opened")?,
         }
     }
-    assert!(rt; reopened > 0 && spent > 0, "{reopened} {spent}");
+    holds(&rt, reopened > 0, "reopened");
+    holds(&rt, spent > 0, "spent");
     Ok(())
 }

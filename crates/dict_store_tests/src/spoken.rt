@@ -1,5 +1,6 @@
 //! Sessions over a database in memory.
 use crate::asked::Asked;
+use crate::checks::same_text;
 use crate::desks::made_in;
 use dict_desk::Fault;
 use dict_io::{LimitedSink, OverRead};
@@ -62,11 +63,11 @@ fn two_sessions(rt: HostRuntime) -> Result<(), Fail> {
     let alloc = rt.alloc();
     let conn = made_in(alloc, Connection::open_in_memory(alloc)?, &GEM)?;
     let (first, second) = spoken_twice(alloc, conn)?;
-    assert_eq!(rt; first.as_str(), FOUND);
-    assert_eq!(rt; second.as_str(), SHOWN);
+    same_text(&rt, first.as_str(), FOUND);
+    same_text(&rt, second.as_str(), SHOWN);
     let conn = Connection::open_in_memory(alloc)?;
     let (first, second) = spoken_twice(alloc, conn)?;
-    assert_eq!(rt; first.as_str(), "no catalogue");
-    assert_eq!(rt; second.as_str(), "no catalogue");
+    same_text(&rt, first.as_str(), "no catalogue");
+    same_text(&rt, second.as_str(), "no catalogue");
     Ok(())
 }

@@ -3,6 +3,7 @@
 //! A run begins with the opening of two files that hold a catalogue. One of them fails at one of its calls, or from it on.
 
 use crate::asked::{Asked, Editions, read_editions, requests, told, told_outcome};
+use crate::checks::{holds, same, same_text};
 use crate::desks::{accept_all, desk_over};
 use crate::files::{Failing, Octets, closed, crashed, disk, opened};
 use crate::shown::{Rows, shown};
@@ -144,7 +145,11 @@ fn done<S: Alter + Drop>(
 ) -> Result<Ended, Fail> {
     match apply_to_file(alloc, desk, sweep.requests) {
         Ok(outcomes) => {
-            assert!(rt; are_answered(alloc, &outcomes, sweep.answers)?);
+            holds(
+                rt,
+                are_answered(alloc, &outcomes, sweep.answers)?,
+                "the answers",
+            );
             Ok(Ended {
                 is_open: true,
                 stand: outcomes.len(),
@@ -152,7 +157,11 @@ fn done<S: Alter + Drop>(
             })
         }
         Err(halted) => {
-            assert!(rt; finds_none(alloc, desk)? && is_closed(desk));
+            holds(
+                rt,
+                finds_none(alloc, desk)? && is_closed(desk),
+                "a closed desk",
+            );
             Ok(Ended {
                 is_open: true,
                 stand: halted.stand,
@@ -181,17 +190,20 @@ fn stands<K: Keeper>(
     let now = shown(alloc, desk)?;
     let next = ended.stand.saturating_add(1);
     let may_be_next = ended.is_open && ended.fault.is_some();
-    assert!(rt;
-        is_shown(sweep.states, ended.stand, now.as_str())
-            || (may_be_next && is_shown(sweep.states, next, now.as_str()))
-    );
+    let is_this = is_shown(sweep.states, ended.stand, now.as_str());
+    let is_next = may_be_next && is_shown(sweep.states, next, now.as_str());
+    holds(rt, is_this || is_next, now.as_str());
     let first = ended.stand.min(sweep.requests.len().saturating_sub(1));
     for (request, wanted) in sweep.requests.iter().zip(sweep.answers.iter()).skip(first) {
         let answer = told(alloc, &desk.apply(request.0, &request.1))?;
-        assert_eq!(rt; answer.as_str(), wanted.as_str());
+        same_text(rt, answer.as_str(), wanted.as_str());
     }
     let last = shown(alloc, desk)?;
-    assert!(rt; is_shown(sweep.states, sweep.requests.len(), last.as_str()));
+    holds(
+        rt,
+        is_shown(sweep.states, sweep.requests.len(), last.as_str()),
+        last.as_str(),
+    );
     Ok(())
 }
 
@@ -245,7 +257,7 @@ fn work_on<S: Alter + Drop>(
         Work::Run(sweep) => done(rt, alloc, desk, sweep),
         Work::Look(sweep, ended) => {
             stands(rt, alloc, desk, sweep, *ended)?;
-            assert_eq!(rt; desk.audit(), Ok(()));
+            same(rt, &desk.audit(), &Ok(()));
             Ok(*ended)
         }
     }
@@ -349,8 +361,8 @@ fn fails_at(
     let has_failed = files.log.calls > log_call || files.db.calls > db_call;
     let ended = ended?;
     match ended.fault {
-        Some(fault) => assert!(rt; has_failed && fault == Fault::Disk, "{call}"),
-        None => assert!(rt; ended.is_open),
+        Some(fault) => holds(rt, has_failed && fault == Fault::Disk, "a failed call"),
+        None => holds(rt, ended.is_open, "a desk"),
     }
     let (_, looked) = over_failing(rt, alloc, files, &Work::Look(sweep, ended));
     let _looked = looked?;
@@ -362,7 +374,7 @@ fn sweep_all(rt: &impl Abort, alloc: Global, sweep: &Sweep<'_>, mode: Mode) -> R
     let mut halted = sweep.requests.is_empty() || !mode.in_log;
     for call in 0..5_000u64 {
         let Some(ended) = fails_at(rt, alloc, sweep, mode, call)? else {
-            assert!(rt; halted);
+            holds(rt, halted, "a failure");
             return Ok(());
         };
         halted = halted || (ended.is_open && ended.fault.is_some());

@@ -1,6 +1,7 @@
 //! Catalogues in files that are changed, listed, asked and read whole.
 use super::fixtures::{GEM_INDEX, GEM_TEXT, ROOM, Row, differing, is_so, outcome, remove, run};
 use super::rows;
+use crate::checks::{holds, same_text};
 use dict_tasks::OverFiles;
 use std::fs;
 use std::process::Abort;
@@ -10,7 +11,7 @@ use std::test::Fail;
 fn play(test: &impl Abort, rt: &HostRuntime, file: &str, rows: &[Row]) -> Result<(), Fail> {
     let told = differing(rt, file, rows)?;
     let is_as_wanted = told.is_empty();
-    assert!(test; is_as_wanted, "{told}");
+    holds(test, is_as_wanted, told.as_str());
     remove(rt, file)
 }
 
@@ -24,7 +25,7 @@ fn commands_one_after_another(rt: HostRuntime) -> Result<(), Fail> {
     play(&rt, &rt, "dictcat_words.db", &rows::WORDS)?;
     play(&rt, &rt, "dictcat_retired.db", &rows::RETIRED)?;
     play(&rt, &rt, "dictcat_unserved.db", &rows::UNSERVED)?;
-    assert_eq!(rt; differing(&rt, "", &rows::PLAIN)?.as_str(), "");
+    same_text(&rt, differing(&rt, "", &rows::PLAIN)?.as_str(), "");
     Ok(())
 }
 
@@ -81,7 +82,7 @@ fn is_cut(rt: &HostRuntime, file: &str, cut: &Cut) -> Result<bool, Fail> {
 fn outputs_that_are_full(rt: HostRuntime) -> Result<(), Fail> {
     let file = "dictcat_cut.db";
     for cut in &CUT {
-        assert!(rt; is_cut(&rt, file, cut)?, "{:?}", cut.0);
+        holds(&rt, is_cut(&rt, file, cut)?, cut.4);
     }
     remove(&rt, file)
 }
@@ -137,7 +138,7 @@ fn files_of_the_machine_are_read(rt: HostRuntime) -> Result<(), Fail> {
     fs::write(&rt, "dictcat_asked.index", GEM_INDEX)?;
     fs::write(&rt, "dictcat_asked.dict", GEM_TEXT)?;
     for asked in &OVER_FILES {
-        assert!(rt; is_answered(&rt, asked)?, "{:?}", asked.0);
+        holds(&rt, is_answered(&rt, asked)?, asked.3);
     }
     fs::remove_file(&rt, "dictcat_asked.index")?;
     fs::remove_file(&rt, "dictcat_asked.dict")?;

@@ -1,22 +1,15 @@
 //! dictcat on the command line. Its tests run the program's commands: over files, over databases that were read, with
-//! words that aren't well, and of its servers; and a server over loopback, both ends in one thread, whose store fails on
-//! the way.
+//! words that aren't well, and of its servers.
 #![tactic(auto)]
 
 #[cfg(test)]
 mod catalogues;
 #[cfg(test)]
-mod clients;
-#[cfg(test)]
-mod disks;
+mod checks;
 #[cfg(test)]
 mod fixtures;
 #[cfg(test)]
 mod paths;
-#[cfg(test)]
-mod printed;
-#[cfg(test)]
-mod reopening;
 #[cfg(test)]
 mod rows;
 #[cfg(test)]

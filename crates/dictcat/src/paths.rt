@@ -1,5 +1,6 @@
 //! Paths without a catalogue, and files that become one.
 use super::fixtures::{ROOM, Row, differing, remove, run};
+use crate::checks::{holds, same, same_text};
 use dict_desk::{Fault, Lookup};
 use dict_store::Desk;
 use sqlite::{Alter, Unknown};
@@ -123,10 +124,10 @@ fn clear(rt: &HostRuntime) -> Result<(), Fail> {
 #[test]
 fn paths_without_a_catalogue(rt: HostRuntime) -> Result<(), Fail> {
     set_up(&rt)?;
-    assert_eq!(rt; all_told_otherwise(&rt)?.as_str(), "");
-    assert!(rt; !fs::exists(&rt, "dictcat_nosuch.db")?);
-    assert_eq!(rt; unmade(&rt)?.as_str(), "");
-    assert!(rt; others_stand(&rt)?);
+    same_text(&rt, all_told_otherwise(&rt)?.as_str(), "");
+    holds(&rt, !fs::exists(&rt, "dictcat_nosuch.db")?, "nosuch");
+    same_text(&rt, unmade(&rt)?.as_str(), "");
+    holds(&rt, others_stand(&rt)?, "others");
     clear(&rt)
 }
 
@@ -157,8 +158,8 @@ static INSTALLED: [Row; 2] = [
 #[test]
 fn a_desk_from_a_path(rt: HostRuntime) -> Result<(), Fail> {
     let path = "dictcat_desk.db";
-    assert_eq!(rt; accepted_at(&rt, path), Err(Fault::NotACatalogue));
-    assert_eq!(rt; differing(&rt, path, &INSTALLED)?.as_str(), "");
-    assert_eq!(rt; accepted_at(&rt, path), Ok(1));
+    same(&rt, &accepted_at(&rt, path), &Err(Fault::NotACatalogue));
+    same_text(&rt, differing(&rt, path, &INSTALLED)?.as_str(), "");
+    same(&rt, &accepted_at(&rt, path), &Ok(1));
     remove(&rt, path)
 }

@@ -1,5 +1,6 @@
 //! Servers that end after some rounds, and those whose addresses are used.
 use super::fixtures::{Outcome, ROOM, remove, run};
+use crate::checks::{holds, same};
 use std::net::TcpListener;
 use std::test::Fail;
 
@@ -41,8 +42,8 @@ fn a_held_is_in_use(rt: &HostRuntime) -> Result<bool, Fail> {
 
 #[test]
 fn a_server_ends_after_its_rounds(rt: HostRuntime) -> Result<(), Fail> {
-    assert_eq!(rt; run(&rt, FILE, &["create", "FILE"], "", ROOM)?.0, 0);
-    assert!(rt; is_served(&served(&rt, FREE, FREE)?));
-    assert!(rt; a_held_is_in_use(&rt)?);
+    same(&rt, &run(&rt, FILE, &["create", "FILE"], "", ROOM)?.0, &0);
+    holds(&rt, is_served(&served(&rt, FREE, FREE)?), "served");
+    holds(&rt, a_held_is_in_use(&rt)?, "in use");
     remove(&rt, FILE)
 }

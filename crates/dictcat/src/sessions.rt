@@ -1,5 +1,6 @@
 //! Sessions over databases that were read, cut in any way.
 use super::fixtures::{GEM_INDEX, GEM_TEXT, taken};
+use crate::checks::{holds, same, same_text};
 use dict_io::{LimitedSink, OverRead};
 use dictcat_lib::run_plain;
 use std::alloc::Global;
@@ -211,7 +212,7 @@ static ANSWERS: [(Database, &str, &str); 36] = [
 fn answers_in_any_pieces(rt: HostRuntime) -> Result<(), Fail> {
     for (database, input, answer) in &ANSWERS {
         let found = cut_anywhere(rt.alloc(), *database, *input, *answer)?;
-        assert_eq!(rt; found, None, "{input}");
+        holds(&rt, found.is_none(), input);
     }
     Ok(())
 }
@@ -237,7 +238,7 @@ fn a_line_is_answered_before_the_next_piece_is_read(rt: HostRuntime) -> Result<(
             next_size: 6,
             fails: true,
         };
-        assert!(rt; is_answered(rt.alloc(), GEM, pieces, *answer)?, "{input}");
+        holds(&rt, is_answered(rt.alloc(), GEM, pieces, *answer)?, input);
     }
     Ok(())
 }
@@ -261,11 +262,12 @@ fn a_full_sink_ends_the_session(rt: HostRuntime) -> Result<(), Fail> {
     for room in 0..WHOLE.len() {
         let written = into_room(rt.alloc(), room)?;
         let begun = written.as_str().strip_suffix("!session ended by a fault");
-        assert_eq!(rt;
-            begun.map(|text| text.as_bytes()),
-            WHOLE.as_bytes().get(..room)
+        same(
+            &rt,
+            &begun.map(|text| text.as_bytes()),
+            &WHOLE.as_bytes().get(..room),
         );
     }
-    assert_eq!(rt; into_room(rt.alloc(), WHOLE.len())?.as_str(), WHOLE);
+    same_text(&rt, into_room(rt.alloc(), WHOLE.len())?.as_str(), WHOLE);
     Ok(())
 }

@@ -1,5 +1,6 @@
 //! Words that ask for help or the version, and words that aren't well.
 use super::fixtures::{ROOM, Row, differing, run, taken};
+use crate::checks::{holds, same_text};
 use clap::error::ErrorKind;
 use dict_io::LimitedSink;
 use dict_words::command_line;
@@ -141,7 +142,7 @@ static WORDS: [Row; 10] = [
 
 #[test]
 fn shows_help_and_tells_mistakes(rt: HostRuntime) -> Result<(), Fail> {
-    assert_eq!(rt; differing(&rt, "", &WORDS)?.as_str(), "");
+    same_text(&rt, differing(&rt, "", &WORDS)?.as_str(), "");
     Ok(())
 }
 
@@ -164,7 +165,7 @@ fn has_example(rt: &HostRuntime, name: &str) -> Result<bool, Fail> {
 #[test]
 fn each_help_has_an_example_and_the_statuses(rt: HostRuntime) -> Result<(), Fail> {
     for name in &NAMES {
-        assert!(rt; has_example(&rt, name)?, "{name}");
+        holds(&rt, has_example(&rt, name)?, name);
     }
     Ok(())
 }
@@ -189,8 +190,16 @@ fn said_by_clap(rt: &HostRuntime) -> Result<String, Fail> {
 
 #[test]
 fn refuses_words_that_are_no_texts(rt: HostRuntime) -> Result<(), Fail> {
-    assert!(rt; is_refused(&rt, io::ErrorKind::OutOfMemory, 4, "fault 40 Memory\n")?);
-    assert!(rt; is_refused(&rt, io::ErrorKind::InvalidData, 2, NOT_TEXT)?);
-    assert_eq!(rt; said_by_clap(&rt)?.as_str(), NOT_TEXT);
+    holds(
+        &rt,
+        is_refused(&rt, io::ErrorKind::OutOfMemory, 4, "fault 40 Memory\n")?,
+        "memory",
+    );
+    holds(
+        &rt,
+        is_refused(&rt, io::ErrorKind::InvalidData, 2, NOT_TEXT)?,
+        NOT_TEXT,
+    );
+    same_text(&rt, said_by_clap(&rt)?.as_str(), NOT_TEXT);
     Ok(())
 }

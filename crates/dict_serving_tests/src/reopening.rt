@@ -1,6 +1,8 @@
 //! A session that meets a failed store, and answers once the catalogue is opened anew.
+use crate::checks::same;
 use crate::clients::Client;
 use crate::disks::Disks;
+use dict_desk::Keeper;
 use dict_driver::Driver;
 use dict_serving::{Desks, serve_rounds};
 use sqlite_disk::{Crash, Files, Fuse, Memory};
@@ -26,94 +28,104 @@ const INSTALLED: &[u8] =
 
 const FOUND: &[u8] = b"150 1 definitions retrieved\r\n151 \"b\" a \"A\"\r\nc\r\n.\r\n250 ok\r\n";
 
-/// A server over a catalogue on two disks.
-#[derive(Drop)]
-struct Server<D: Crash + Drop> {
-    disks: Disks<D>,
-    driver: Driver<'static>,
-}
-
-impl<D: Crash + Drop> Server<D> {
-    // So many rounds.
-    fn serve(&mut self, rounds: u64) -> Result<(), Fail> {
-        let Ok(desk) = self.disks.open() else {
-            return Err("not opened")?;
-        };
-        let wait = Duration::from_millis(20);
-        match serve_rounds(&mut self.disks, &mut self.driver, desk, rounds, wait) {
-            Ok(desk) => self.disks.close(desk),
-            Err(_) => return Err("serving failed")?,
-        }
-        Ok(())
+// So many rounds over the desk that is opened, which is closed after them.
+fn serve<'w, K: Keeper + Drop, W: Desks<'w, K>>(
+    desks: &mut W,
+    driver: &mut Driver,
+    rounds: u64,
+) -> Result<(), Fail> {
+    let Ok(desk) = desks.open() else {
+        return Err("not opened")?;
+    };
+    let wait = Duration::from_millis(20);
+    match serve_rounds(desks, driver, desk, rounds, wait) {
+        Ok(desk) => desks.close(desk),
+        Err(_) => return Err("serving failed")?,
     }
+    Ok(())
 }
 
 // An editor's install meets the failure, in the middle of a line of the reader.
-fn fail_an_install<D: Crash + Drop>(
-    server: &mut Server<D>,
+fn fail_an_install<'w, K: Keeper + Drop, W: Desks<'w, K>>(
+    desks: &mut W,
+    driver: &mut Driver,
     reader: &mut Client,
     editor: &mut Client,
 ) -> Result<(), Fail> {
     editor.send(PUT)?;
     reader.send(b"DEFINE a b")?;
-    server.serve(3)?;
+    serve(desks, driver, 3)?;
     editor.look(UNAVAILABLE)?;
     reader.send(b"\r\n")
 }
 
 // The install that is sent again is done. The reader is told that nothing was installed before, and then finds the entry.
-fn install_again<D: Crash + Drop>(
-    server: &mut Server<D>,
+fn install_again<'w, K: Keeper + Drop, W: Desks<'w, K>>(
+    desks: &mut W,
+    driver: &mut Driver,
     reader: &mut Client,
     editor: &mut Client,
 ) -> Result<(), Fail> {
     editor.send(PUT)?;
-    server.serve(3)?;
+    serve(desks, driver, 3)?;
     reader.look(b"550 invalid database\r\n")?;
     editor.look(INSTALLED)?;
     reader.send(b"DEFINE a b\r\n")?;
-    server.serve(3)?;
+    serve(desks, driver, 3)?;
     reader.look(FOUND)
 }
 
 // What is done by an editor who connects now, beside a reader.
-fn by_an_editor<D: Crash + Drop>(
-    net: &impl Net<Stream = TcpStream>,
+fn by_an_editor<'w, N: Net<Stream = TcpStream>, K: Keeper + Drop, W: Desks<'w, K>>(
+    net: &N,
     alloc: Global,
-    server: &mut Server<D>,
+    desks: &mut W,
+    driver: &mut Driver,
     reader: &mut Client,
     is_again: bool,
 ) -> Result<(), Fail> {
-    let (_, http) = server.driver.addresses();
+    let (_, http) = driver.addresses();
     let mut editor = Client::new(net, alloc, http)?;
     if is_again {
-        install_again(server, reader, &mut editor)
+        install_again(desks, driver, reader, &mut editor)
     } else {
-        fail_an_install(server, reader, &mut editor)
+        fail_an_install(desks, driver, reader, &mut editor)
     }
 }
 
 // A reader's session is open, and goes on over the catalogue that is opened anew after the failure.
-fn go_on<D: Crash + Drop>(
-    net: &impl Net<Stream = TcpStream>,
+fn go_on<'w, N: Net<Stream = TcpStream>, K: Keeper + Drop, W: Desks<'w, K>>(
+    net: &N,
     alloc: Global,
-    server: &mut Server<D>,
+    desks: &mut W,
+    driver: &mut Driver,
     reader: &mut Client,
 ) -> Result<(), Fail> {
-    server.serve(2)?;
+    serve(desks, driver, 2)?;
     reader.look(GREETING)?;
-    by_an_editor(net, alloc, server, reader, false)?;
-    by_an_editor(net, alloc, server, reader, true)
+    by_an_editor(net, alloc, desks, driver, reader, false)?;
+    by_an_editor(net, alloc, desks, driver, reader, true)
 }
 
-fn meet_a_failure<D: Crash + Drop>(
-    net: &impl Net<Stream = TcpStream>,
+fn meet_a_failure<'w, N: Net<Stream = TcpStream>, K: Keeper + Drop, W: Desks<'w, K>>(
+    net: &N,
     alloc: Global,
-    server: &mut Server<D>,
+    desks: &mut W,
+    driver: &mut Driver,
 ) -> Result<(), Fail> {
-    let (dict, _) = server.driver.addresses();
+    let (dict, _) = driver.addresses();
     let mut reader = Client::new(net, alloc, dict)?;
-    go_on(net, alloc, server, &mut reader)
+    go_on(net, alloc, desks, driver, &mut reader)
+}
+
+// The same over a new server.
+fn meet_a_failure_anew<'w, K: Keeper + Drop, W: Desks<'w, K>>(
+    rt: &HostRuntime,
+    alloc: Global,
+    desks: &mut W,
+) -> Result<(), Fail> {
+    let mut driver = Driver::bind(rt, alloc, FREE, FREE, "localhost")?;
+    meet_a_failure(rt, alloc, desks, &mut driver)
 }
 
 // How often the catalogue on these disks was opened anew.
@@ -122,12 +134,9 @@ fn outlived<D: Crash + Drop>(
     alloc: Global,
     files: Files<D>,
 ) -> Result<u64, Fail> {
-    let mut server = Server {
-        disks: Disks::new(alloc, files),
-        driver: Driver::bind(rt, alloc, FREE, FREE, "localhost")?,
-    };
-    meet_a_failure(rt, alloc, &mut server)?;
-    Ok(server.disks.reopened)
+    let mut disks = Disks::new(alloc, files);
+    meet_a_failure_anew(rt, alloc, &mut disks)?;
+    Ok(disks.reopened)
 }
 
 #[test]
@@ -138,6 +147,6 @@ fn a_session_outlives_a_failed_store(rt: HostRuntime) -> Result<(), Fail> {
         log: Fuse::new(Memory::new(alloc), 40),
         db: Fuse::new(Memory::new(alloc), u64::MAX),
     };
-    assert_eq!(rt; outlived(&rt, alloc, files)?, 1);
+    same(&rt, &outlived(&rt, alloc, files)?, &1);
     Ok(())
 }

@@ -1,5 +1,5 @@
 //! The lines of faults.
-use super::fixtures::taken;
+use crate::checks::{holds, same};
 use dict_catalogue::Refusal as CommandRefusal;
 use dict_index::Refusal;
 use dict_io::LimitedSink;
@@ -50,24 +50,19 @@ static FAULTS: [(Fault<'static>, &str, u8); 13] = [
     (Fault::Memory, "fault 40 Memory\n", 4),
 ];
 
-// A fault's line, as a sink takes it.
-fn line_of(alloc: Global, fault: &Fault<'static>) -> Result<String, Fail> {
-    let mut sink = LimitedSink::new(alloc, 100)?;
-    fault.put_line(&mut sink)?;
-    taken(alloc, &sink)
-}
-
 // Whether this is a fault's line, and its text by `Display` with the line's end.
 fn is_told(alloc: Global, fault: &Fault<'static>, line: &str) -> Result<bool, Fail> {
     let text = format!(in alloc; "{fault}\n")?;
-    Ok(text.as_str() == line && line_of(alloc, fault)?.as_str() == line)
+    let mut sink = LimitedSink::new(alloc, 100)?;
+    fault.put_line(&mut sink)?;
+    Ok(text.as_str() == line && sink.taken() == line.as_bytes())
 }
 
 #[test]
 fn each_fault_has_a_line_and_a_status(rt: HostRuntime) -> Result<(), Fail> {
     for (fault, text, status) in &FAULTS {
-        assert!(rt; is_told(rt.alloc(), fault, text)?, "{text}");
-        assert_eq!(rt; fault.status(), *status);
+        holds(&rt, is_told(rt.alloc(), fault, text)?, text);
+        same(&rt, &fault.status(), status);
     }
     Ok(())
 }

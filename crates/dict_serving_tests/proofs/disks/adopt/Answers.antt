@@ -1,7 +1,7 @@
 use Rattle.std.proofs.Common.{subst, sym}
 use Rattle.dict_serving.specs.Serving.{IsOfFile}
-use Rattle.dictcat.proofs.FaultLemmas.{opening_of_file}
-use Rattle.dictcat.proofs.disks.adopt.Goals as goal
+use Rattle.dict_serving_tests.proofs.FaultLemmas.{opening_of_file}
+use Rattle.dict_serving_tests.proofs.disks.adopt.Goals as goal
 
 pub returns-in-Ok : goal.returns-in-Ok
 returns-in-Ok g c = record {

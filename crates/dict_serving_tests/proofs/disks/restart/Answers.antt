@@ -1,7 +1,7 @@
 use Rattle.std.proofs.Common.{subst, sym}
 use Rattle.dict_serving.specs.Serving.{IsOfFile}
-use Rattle.dictcat.proofs.FaultLemmas.{restart_of_file}
-use Rattle.dictcat.proofs.disks.restart.Goals as goal
+use Rattle.dict_serving_tests.proofs.FaultLemmas.{restart_of_file}
+use Rattle.dict_serving_tests.proofs.disks.restart.Goals as goal
 
 pub returns-in-Ok-clause-opened : goal.returns-in-Ok-clause-opened
 returns-in-Ok-clause-opened g c = record {
