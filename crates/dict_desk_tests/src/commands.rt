@@ -260,18 +260,11 @@ static REFUSED: [Row; 17] = [
 ];
 
 #[test]
-fn editions_are_swapped(rt: HostRuntime) -> Result<(), Fail> {
-    run_anew(&rt, rt.alloc(), &SWAPPED)
-}
-
-#[test]
-fn virtual_items_are_put_and_placed(rt: HostRuntime) -> Result<(), Fail> {
-    run_anew(&rt, rt.alloc(), &PLACED)
-}
-
-#[test]
-fn each_refusal_changes_nothing(rt: HostRuntime) -> Result<(), Fail> {
-    run_anew(&rt, rt.alloc(), &REFUSED)
+fn commands_over_a_new_desk(rt: HostRuntime) -> Result<(), Fail> {
+    for rows in [SWAPPED.as_slice(), PLACED.as_slice(), REFUSED.as_slice()] {
+        run_anew(&rt, rt.alloc(), rows)?;
+    }
+    Ok(())
 }
 
 /// Ids, and the replies that are kept under them after the rows of `ONCE`.

@@ -128,14 +128,6 @@ static ONE: [Row; 15] = [
     Row(Asked::Retire("gem"), "21 Unknown", ""),
 ];
 
-#[test]
-fn editions_of_one_database(rt: HostRuntime) -> Result<(), Fail> {
-    let (installs, accepted) = run_both(&rt, rt.alloc(), &[], &ONE)?;
-    same(&rt, &installs, &5);
-    same(&rt, &accepted, &10);
-    Ok(())
-}
-
 const THREE: &str = "ore Gems 1; gem Gems 2; all All +ore +gem; ";
 
 // `ore`, `gem` and the virtual `all` of both.
@@ -191,13 +183,6 @@ static OF_THREE: [Row; 11] = [
     Row(Asked::Retire("ruby"), "11 Retire ruby -4", ""),
 ];
 
-#[test]
-fn databases_and_virtual_ones(rt: HostRuntime) -> Result<(), Fail> {
-    let (installs, _) = run_both(&rt, rt.alloc(), &MADE, &OF_THREE)?;
-    same(&rt, &installs, &4);
-    Ok(())
-}
-
 static PLACES: [Row; 9] = [
     Row(Asked::Place("gem", 3), "30 BadPlace", THREE),
     Row(Asked::Place("gem", 4_294_967_295), "30 BadPlace", THREE),
@@ -229,12 +214,6 @@ static PLACES: [Row; 9] = [
         "ore Gems 1; all All +ore +gem; gem Gems 2; ",
     ),
 ];
-
-#[test]
-fn places(rt: HostRuntime) -> Result<(), Fail> {
-    run_both(&rt, rt.alloc(), &MADE, &PLACES)?;
-    Ok(())
-}
 
 const MANY: &[&str] = &["zz"; 65];
 
@@ -283,8 +262,15 @@ static REFUSED: [Row; 17] = [
 ];
 
 #[test]
-fn virtual_items_that_are_refused(rt: HostRuntime) -> Result<(), Fail> {
-    run_both(&rt, rt.alloc(), &MADE, &REFUSED)?;
+fn commands_one_after_another(rt: HostRuntime) -> Result<(), Fail> {
+    for (first, rows, accepted) in [
+        ([].as_slice(), ONE.as_slice(), (5, 10)),
+        (MADE.as_slice(), OF_THREE.as_slice(), (4, 11)),
+        (MADE.as_slice(), PLACES.as_slice(), (2, 8)),
+        (MADE.as_slice(), REFUSED.as_slice(), (2, 4)),
+    ] {
+        same(&rt, &run_both(&rt, rt.alloc(), first, rows)?, &accepted);
+    }
     Ok(())
 }
 
