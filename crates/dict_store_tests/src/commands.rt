@@ -1,7 +1,7 @@
 //! The same commands over a catalogue in memory and over one file.
 
 use crate::asked::{Asked, Editions, read_editions, told};
-use crate::checks::{holds, same, same_text, same_text_of};
+use crate::checks::{holds, same_text};
 use crate::desks::{applied, dumped, made_in};
 use crate::refused::has_numbers;
 use crate::shown::{listed, shown};
@@ -38,9 +38,9 @@ fn play<K: Keeper>(
 ) -> Result<(), Fail> {
     for Row(id, asked, wanted, after) in rows {
         let told = answer(alloc, desk, editions, id, *asked)?;
-        same_text_of(rt, told.as_str(), *wanted, id);
+        same_text(rt, told.as_str(), *wanted, id);
         let items = listed(alloc, desk.summary()?)?;
-        same_text_of(rt, items.as_str(), *after, id);
+        same_text(rt, items.as_str(), *after, id);
     }
     Ok(())
 }
@@ -55,8 +55,8 @@ fn play_as_wanted<S: Alter + Drop>(
     wanted: &str,
 ) -> Result<(), Fail> {
     play(rt, alloc, desk, editions, rows)?;
-    same_text(rt, shown(alloc, desk)?.as_str(), wanted);
-    same(rt, &desk.audit(), &Ok(()));
+    same_text(rt, shown(alloc, desk)?.as_str(), wanted, "both desks");
+    holds(rt, desk.audit().is_ok(), "a sound desk");
     Ok(())
 }
 
@@ -325,7 +325,7 @@ fn what_acts_on_nothing_leaves_all_rows(rt: HostRuntime) -> Result<(), Fail> {
     let alloc = rt.alloc();
     let conn = Connection::open_in_memory(alloc)?;
     let (before, after) = around_nothing(&rt, alloc, conn)?;
-    same_text(&rt, after.as_str(), before.as_str());
+    same_text(&rt, after.as_str(), before.as_str(), "all rows");
     Ok(())
 }
 
@@ -367,7 +367,7 @@ fn answer_all<K: Keeper>(
 ) -> Result<(), Fail> {
     for (id, one, wanted) in asked {
         let told = answer(alloc, desk, editions, id, *one)?;
-        same_text(rt, told.as_str(), *wanted);
+        same_text(rt, told.as_str(), *wanted, id);
     }
     Ok(())
 }
@@ -382,7 +382,7 @@ fn fill_up<S: Alter + Drop>(
     let mut desk = applied(alloc, &editions, conn, true, &[])?;
     fill(alloc, &mut desk, &editions)?;
     answer_all(rt, alloc, &mut desk, &editions, &FULL)?;
-    same(rt, &desk.audit(), &Ok(()));
+    holds(rt, desk.audit().is_ok(), "a sound desk");
     Ok(())
 }
 

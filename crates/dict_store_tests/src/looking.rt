@@ -108,7 +108,7 @@ fn answer<L: Lookup>(alloc: Global, desk: &mut L, row: Row) -> Result<String, Fa
 
 fn answers_all<L: Lookup>(rt: &impl Abort, alloc: Global, desk: &mut L) -> Result<(), Fail> {
     for row in &ASKED {
-        same_text(rt, answer(alloc, desk, *row)?.as_str(), row.3);
+        same_text(rt, answer(alloc, desk, *row)?.as_str(), row.3, "a row");
     }
     Ok(())
 }

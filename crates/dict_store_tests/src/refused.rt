@@ -87,13 +87,6 @@ static STATEMENTS: [(&str, Fault); 24] = [
     ("DROP TABLE mark", Fault::NotACatalogue),
 ];
 
-/// The fault that a database is refused by, if it is, and whether all rows are as they were.
-#[derive(Clone, Copy)]
-struct End {
-    fault: Option<Fault>,
-    is_same: bool,
-}
-
 fn is_same(one: Result<String, AllocError>, other: Result<String, AllocError>) -> bool {
     match (one, other) {
         (Ok(one), Ok(other)) => one.as_str() == other.as_str(),
@@ -101,34 +94,22 @@ fn is_same(one: Result<String, AllocError>, other: Result<String, AllocError>) -
     }
 }
 
-// What comes of making a store in a database, or of adopting the one in it.
-fn end_of<S: Alter + Drop>(alloc: Global, conn: Connection<S>, is_new: bool) -> End {
-    let mut conn = conn;
-    let before = dumped(alloc, &mut conn);
-    match desk_over(alloc, conn, is_new) {
-        Ok(_) => End {
-            fault: None,
-            is_same: false,
-        },
-        Err((conn, fault)) => {
-            let mut conn = conn;
-            End {
-                fault: Some(fault),
-                is_same: is_same(before, dumped(alloc, &mut conn)),
-            }
-        }
-    }
-}
-
-// Whether a database is refused by this fault, and stays as it is.
+// Whether no store is made in a database, or the one in it is not adopted, by this fault, and all rows stay as they were.
 fn is_refused<S: Alter + Drop>(
     alloc: Global,
     conn: Connection<S>,
     is_new: bool,
     wanted: Fault,
 ) -> bool {
-    let end = end_of(alloc, conn, is_new);
-    end.fault == Some(wanted) && end.is_same
+    let mut conn = conn;
+    let before = dumped(alloc, &mut conn);
+    match desk_over(alloc, conn, is_new) {
+        Ok(_) => false,
+        Err((conn, fault)) => {
+            let mut conn = conn;
+            fault == wanted && is_same(before, dumped(alloc, &mut conn))
+        }
+    }
 }
 
 // The database after these statements.

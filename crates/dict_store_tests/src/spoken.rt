@@ -63,11 +63,11 @@ fn two_sessions(rt: HostRuntime) -> Result<(), Fail> {
     let alloc = rt.alloc();
     let conn = made_in(alloc, Connection::open_in_memory(alloc)?, &GEM)?;
     let (first, second) = spoken_twice(alloc, conn)?;
-    same_text(&rt, first.as_str(), FOUND);
-    same_text(&rt, second.as_str(), SHOWN);
+    same_text(&rt, first.as_str(), FOUND, "the first");
+    same_text(&rt, second.as_str(), SHOWN, "the second");
     let conn = Connection::open_in_memory(alloc)?;
     let (first, second) = spoken_twice(alloc, conn)?;
-    same_text(&rt, first.as_str(), "no catalogue");
-    same_text(&rt, second.as_str(), "no catalogue");
+    same_text(&rt, first.as_str(), "no catalogue", "an empty file");
+    same_text(&rt, second.as_str(), "no catalogue", "an empty file");
     Ok(())
 }

@@ -3,7 +3,7 @@
 //! A run begins with the opening of two files that hold a catalogue. One of them fails at one of its calls, or from it on.
 
 use crate::asked::{Asked, Editions, read_editions, requests, told, told_outcome};
-use crate::checks::{holds, same, same_text};
+use crate::checks::{holds, same_text};
 use crate::desks::{accept_all, desk_over};
 use crate::files::{Failing, Octets, closed, crashed, disk, opened};
 use crate::shown::{Rows, shown};
@@ -114,26 +114,20 @@ fn are_answered(
     Ok(outcomes.len() == wanted.len())
 }
 
-// Each lookup of a closed desk answers so.
-fn finds_none<L: Lookup>(alloc: Global, desk: &mut L) -> Result<bool, Fail> {
+// Each call of a closed desk answers so.
+fn answers_nothing<K: Keeper>(alloc: Global, desk: &mut K) -> Result<bool, Fail> {
     let query = key_of(alloc, "o")?;
     let mut rows = Rows::new(alloc, 9);
+    let retire = Command::Retire { name: "gem" };
     Ok(
         desk.find(1, Strategy::Suffix, &query, &mut rows) == Err(Fault::Closed)
             && desk.heads(1, Strategy::Suffix, &query, &mut rows) == Err(Fault::Closed)
             && desk.count(1, Strategy::Suffix, &query, What::Entries) == Err(Fault::Closed)
             && desk.info(1, &mut rows) == Err(Fault::Closed)
-            && matches!(desk.summary(), Err(Fault::Closed)),
+            && matches!(desk.summary(), Err(Fault::Closed))
+            && matches!(desk.kept("a"), Err(Fault::Closed))
+            && matches!(desk.apply("z", &retire), Err(Fault::Closed)),
     )
-}
-
-// Each other call of a closed desk answers so.
-fn is_closed<S: Alter + Drop>(desk: &mut Desk<S>) -> bool {
-    let retire = Command::Retire { name: "gem" };
-    desk.is_closed()
-        && matches!(desk.kept("a"), Err(Fault::Closed))
-        && matches!(desk.apply("z", &retire), Err(Fault::Closed))
-        && desk.audit() == Err(Fault::Closed)
 }
 
 // Does the commands.
@@ -159,9 +153,10 @@ fn done<S: Alter + Drop>(
         Err(halted) => {
             holds(
                 rt,
-                finds_none(alloc, desk)? && is_closed(desk),
+                desk.is_closed() && desk.audit() == Err(Fault::Closed),
                 "a closed desk",
             );
+            holds(rt, answers_nothing(alloc, desk)?, "each call of it");
             Ok(Ended {
                 is_open: true,
                 stand: halted.stand,
@@ -196,7 +191,7 @@ fn stands<K: Keeper>(
     let first = ended.stand.min(sweep.requests.len().saturating_sub(1));
     for (request, wanted) in sweep.requests.iter().zip(sweep.answers.iter()).skip(first) {
         let answer = told(alloc, &desk.apply(request.0, &request.1))?;
-        same_text(rt, answer.as_str(), wanted.as_str());
+        same_text(rt, answer.as_str(), wanted.as_str(), request.0);
     }
     let last = shown(alloc, desk)?;
     holds(
@@ -257,7 +252,7 @@ fn work_on<S: Alter + Drop>(
         Work::Run(sweep) => done(rt, alloc, desk, sweep),
         Work::Look(sweep, ended) => {
             stands(rt, alloc, desk, sweep, *ended)?;
-            same(rt, &desk.audit(), &Ok(()));
+            holds(rt, desk.audit().is_ok(), "a sound desk");
             Ok(*ended)
         }
     }
