@@ -139,10 +139,11 @@ impl<'a> PieceReader<'a> {
 
     /// Takes the next row, in the order of the table's key.
     ///
-    /// The error tells that no rows which go on so are those that are derived.
+    /// The error tells that no rows which go on so are those that are derived. The reader is as it was then: the row isn't taken.
     pub fn take(&mut self, edition: i64, piece: Vec<u8>, ord: i64) -> Result<(), NotDerived>
         ensures taken { OnOk result ((pieces : Pieces) (number : ℤ) (keys : List (List ℕ)) (rows : List Piece) → HasTaken pieces number keys self.old rows → HasTaken pieces number keys self.new (rows ++ record { edition = edition; piece = piece.items; ord = ord } ∷ [])) }
         ensures refused { OnErr result ((pieces : Pieces) (number : ℤ) (keys : List (List ℕ)) (rows more : List Piece) → HasTaken pieces number keys self.old rows → AreDerived pieces number keys (rows ++ record { edition = edition; piece = piece.items; ord = ord } ∷ more) → ⊥) }
+        ensures unchanged { OnErr result (self.new ≡ self.old) }
     {
         let goes_on = is_behind(&self.last, piece.as_slice(), ord);
         if self.taken >= self.due || !goes_on || !self.is_due(edition, piece.as_slice(), ord) {
