@@ -3,6 +3,7 @@ use Rattle.std.proofs.Common.{◌≡◌, ◌⊎◌, ◌≤◌, ◌+◌, ◌^◌,
 use Rattle.std.proofs.lemmas.List.{length-append}
 use Rattle.sqlite.specs.Order.{Row}
 use Rattle.sqlite.specs.State.{IsUnchanged}
+use Rattle.sqlite.specs.Given.{IsEnded}
 use Rattle.sqlite.specs.Held.{Held, state}
 use Rattle.sqlite.specs.declared.error.Error.{Error}
 use Rattle.sqlite.proofs.Callers.{unchanged_then}
@@ -19,9 +20,9 @@ module _ {S : Type 0} (g : Ghosts S) (old mid new : Held S) where
   stays_then (inl is) next = subst (λ s. IsUnchanged (state g s) (state g new)) is next
   stays_then (inr same) next = unchanged_then (state g old) (state g mid) (state g new) same next
 
-  pub fails_later : HasStayed → (what : Scan) (given : List Row) (e : Error) → FailsToRead (state g mid) (state g new) e → FailsToCount g what old new given e
-  fails_later (inl is) what given e fails = inl (subst (λ s. FailsToRead (state g s) (state g new) e) is fails)
-  fails_later (inr same) what given e fails = inr (inl (mid, same, fails))
+  pub fails_later : HasStayed → (what : Scan) (given : List Row) (e : Error) → FailsToRead (state g mid) (state g new) e → IsEnded new → FailsToCount g what old new given e
+  fails_later (inl is) what given e fails ended = inl (subst (λ s. FailsToRead (state g s) (state g new) e) is fails, ended)
+  fails_later (inr same) what given e fails ended = inr (inl (mid, same, fails, ended))
 
 module _ {S : Type 0} (g : Ghosts S) (new : Held S) (what : Scan) (given : List Row) where
   -- so many rows were passed

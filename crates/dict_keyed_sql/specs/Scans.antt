@@ -138,9 +138,9 @@ module _ {S : Type 0} (g : Ghosts S) where
   abbrev pub HasRest : Scan → Held S → List Row → ℕ → Type 0
   HasRest what new given count = (rest : List Row) × (length rest ≡ count) × IsWhole what (state g new).now (given ++ rest)
 
-  -- The store failed or the limit was met, perhaps behind some rows that were passed; or more rows were passed than are counted.
+  -- The store failed or the limit was met, perhaps behind some rows that were passed, and nothing more is given; or more rows were passed than are counted.
   abbrev pub FailsToCount : Scan → Held S → Held S → List Row → Error → Type 0
   FailsToCount what old new given e =
-      FailsToRead (state g old) (state g new) e
-      ⊎ (((mid : Held S) × IsUnchanged (state g old) (state g mid) × FailsToRead (state g mid) (state g new) e)
+      (FailsToRead (state g old) (state g new) e × kit.IsEnded new)
+      ⊎ (((mid : Held S) × IsUnchanged (state g old) (state g mid) × FailsToRead (state g mid) (state g new) e × kit.IsEnded new)
       ⊎ ((e ≡ SqliteFailure OutOfMemory) × (rest : List Row) × (2 ^ 64 ≤ length rest + 1) × HasGiven what new (given ++ rest)))

@@ -33,7 +33,7 @@ fn pass_row<S: Alter>(rows: &mut Rows<'_, S>) -> Result<bool, Error>
 
 /// Counts the rows that a reading still has to give, to its end. No row is held.
 ///
-/// An error is the store's, or tells that the limit on steps was met; or, as `OutOfMemory`, that there are 2^64 - 1 rows or more.
+/// An error is the store's, or tells that the limit on steps was met, and nothing more is given then; or, as `OutOfMemory`, that there are 2^64 - 1 rows or more.
 pub fn count_rows<S: Alter>(rows: &mut Rows<'_, S>) -> Result<u64, Error>
     ensures same_reference { rows.new.conn.ghost_name ≡ rows.old.conn.ghost_name }
     ensures counted { HasCleanDisk (state S.Store rows.new.conn.now) → IfOk result (λ count. (what : Scan) (given : List SqlRow) → HasGiven S.Store what rows.old.conn.now given → HasRest S.Store what rows.new.conn.now given count) }

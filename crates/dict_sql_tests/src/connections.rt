@@ -4,7 +4,7 @@ use crate::checks::{holds, same_text};
 use crate::{keyed, plain};
 use dict_sql::records::ReadError;
 use sqlite::{Alter, Connection, Error, FileStore, Files, Options};
-use sqlite_disk::Disk;
+use sqlite_disk::{Disk, Memory};
 use std::alloc::Global;
 use std::fmt::Debug;
 use std::process::Abort;
@@ -132,8 +132,8 @@ fn in_files<D: Disk + Drop>(
     close(conn)
 }
 
-/// The tables are filled in two files, and stand in the second of them, with another log.
-pub(crate) fn over_files<D: Disk + Drop>(
+// The tables are filled in two files, and stand in the second of them, with another log.
+fn over_files<D: Disk + Drop>(
     rt: &impl Abort,
     alloc: Global,
     files: Files<D>,
@@ -142,5 +142,18 @@ pub(crate) fn over_files<D: Disk + Drop>(
 ) -> Result<(), Fail> {
     let db = in_files(rt, alloc, files, part, false)?;
     in_files(rt, alloc, Files { log, db }, part, true)?;
+    Ok(())
+}
+
+#[test]
+fn in_two_files(rt: HostRuntime) -> Result<(), Fail> {
+    let alloc = rt.alloc();
+    for part in [Part::Plain, Part::Keyed] {
+        let files = Files {
+            log: Memory::new(alloc),
+            db: Memory::new(alloc),
+        };
+        over_files(&rt, alloc, files, Memory::new(alloc), part)?;
+    }
     Ok(())
 }

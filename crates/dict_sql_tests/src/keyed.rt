@@ -1,9 +1,8 @@
 //! The statements of the keyed tables on their happy path, with other tables before and after them.
 
-use crate::connections::{Part, compare_numbers, over_files as run_over_files, over_memory, raw};
+use crate::connections::{Part, compare_numbers, over_memory, raw};
 use rows::{empty_all, put_all};
-use sqlite::{Alter, Connection, Files};
-use sqlite_disk::Memory;
+use sqlite::{Alter, Connection};
 use std::alloc::Global;
 use std::process::Abort;
 use std::test::Fail;
@@ -54,16 +53,6 @@ pub(crate) fn look<S: Alter>(
 #[test]
 fn in_memory(rt: HostRuntime) -> Result<(), Fail> {
     over_memory(&rt, rt.alloc(), Part::Keyed)
-}
-
-#[test]
-fn over_files(rt: HostRuntime) -> Result<(), Fail> {
-    let alloc = rt.alloc();
-    let files = Files {
-        log: Memory::new(alloc),
-        db: Memory::new(alloc),
-    };
-    run_over_files(&rt, alloc, files, Memory::new(alloc), Part::Keyed)
 }
 
 #[test]

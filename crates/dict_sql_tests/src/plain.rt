@@ -1,11 +1,10 @@
 //! The statements of each table on their happy path, with other tables before and after them. The tables are made by one transaction.
 
 use crate::checks::holds;
-use crate::connections::{Part, compare_numbers, over_files as run_over_files, over_memory, raw};
+use crate::connections::{Part, compare_numbers, over_memory, raw};
 use dict_tables::{StoreTable, has_table, is_name_used};
 use rows::{drop_kept, make_all, put_all};
-use sqlite::{Alter, Connection, Files};
-use sqlite_disk::Memory;
+use sqlite::{Alter, Connection};
 use std::alloc::Global;
 use std::process::Abort;
 use std::test::Fail;
@@ -64,14 +63,4 @@ pub(crate) fn drop_and_look<S: Alter>(
 #[test]
 fn in_memory(rt: HostRuntime) -> Result<(), Fail> {
     over_memory(&rt, rt.alloc(), Part::Plain)
-}
-
-#[test]
-fn over_files(rt: HostRuntime) -> Result<(), Fail> {
-    let alloc = rt.alloc();
-    let files = Files {
-        log: Memory::new(alloc),
-        db: Memory::new(alloc),
-    };
-    run_over_files(&rt, alloc, files, Memory::new(alloc), Part::Plain)
 }

@@ -71,7 +71,7 @@ fn rest<S: Alter, R: Record + Drop>(
     rows: &mut Rows<'_, S>,
 ) -> Result<Vec<R>, ReadError> {
     let mut all = Vec::new(alloc);
-    'rows: for _ in 0..1000 {
+    'rows: for _ in 0..20_000 {
         match next_keyed(rows)? {
             Some(record) => all.push(record)?,
             None => return Ok(all),

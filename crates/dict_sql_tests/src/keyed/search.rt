@@ -1,5 +1,6 @@
 //! What is found by a selection and then by the test, beside the filter of a whole list.
 
+use super::indexes;
 use super::reads::{Wanted, places};
 use super::rows::empty_all;
 use crate::connections::raw;
@@ -209,14 +210,15 @@ fn compare<S: Alter>(
     Ok(())
 }
 
-/// By each strategy, what the tables find is what the whole list has, each entry once and in order.
+/// By each strategy, what the tables find by their indexes is what the whole list has, each entry once and in order.
 pub(crate) fn run<S: Alter>(
     rt: &impl Abort,
     alloc: Global,
     conn: &mut Connection<S>,
 ) -> Result<(), Fail> {
     empty_all(conn)?;
-    let headwords = some_headwords(alloc, 900)?;
+    let headwords = some_headwords(alloc, 10_000)?;
     fill(alloc, conn, headwords.as_slice())?;
+    indexes::run(rt, conn)?;
     compare(rt, alloc, conn, headwords.as_slice())
 }

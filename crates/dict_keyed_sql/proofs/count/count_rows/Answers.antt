@@ -16,7 +16,7 @@ returns-in_err-pass_row-clause-failed g c clean =
     let early : HasCleanDisk (state g.S.Store mid) = omega (arith, c.pass_row.ensures.survives.clean, clean) in
     let e = c.in_err-pass_row.field-0.0 in
     passed_on (λ e. (what : Scan) (given : List Row) → HasGiven g.S.Store what old given → FailsToCount g.S.Store what old new given e) e c.from_residual.result c.from_residual.ensures.1
-    (λ what given h. let had = c.loop-passed.invariant.passed early what given h in fails_later g.S.Store old mid new (c.loop-passed.invariant.stayed early) what given e (c.in_err-pass_row.ensures.failed clean what (given ++ had.0) had.2))
+    (λ what given h. let had = c.loop-passed.invariant.passed early what given h in fails_later g.S.Store old mid new (c.loop-passed.invariant.stayed early) what given e (c.in_err-pass_row.ensures.failed clean what (given ++ had.0) had.2) c.in_err-pass_row.ensures.stops)
 
 pub loop-passed-preserved : goal.loop-passed-preserved
 loop-passed-preserved g c =
