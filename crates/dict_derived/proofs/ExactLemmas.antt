@@ -51,7 +51,7 @@ same_row = eq_by_cmp piece_cmp
 laws : IsEquivalence same_row
 laws = eq_by_cmp_equiv total
 
-tells : (x y : Piece) → Decides (same_row x y) (x ≡ y)
+pub tells : (x y : Piece) → Decides (same_row x y) (x ≡ y)
 tells x y = (
   (λ h. exact x y ((Equal-is (piece_cmp x y)).0 h)),
   (λ e. (Equal-is (piece_cmp x y)).1 (ap (piece_cmp x) (sym e) ∙ tied_itself total x)),

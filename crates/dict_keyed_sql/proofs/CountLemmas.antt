@@ -1,5 +1,5 @@
 -- Rows that are passed one after another.
-use Rattle.std.proofs.Common.{◌≡◌, ◌⊎◌, ◌≤◌, ◌+◌, ◌^◌, ◌++◌, ℕ, List, [], ◌∷◌, length, inl, inr, refl, sym, ap, subst, ◌∙◌, append_assoc}
+use Rattle.std.proofs.Common.{◌≡◌, ◌⊎◌, ◌+◌, ◌++◌, ℕ, List, [], ◌∷◌, length, inl, inr, ap, subst, ◌∙◌, append_assoc}
 use Rattle.std.proofs.lemmas.List.{length-append}
 use Rattle.sqlite.specs.Order.{Row}
 use Rattle.sqlite.specs.State.{IsUnchanged}
@@ -9,7 +9,7 @@ use Rattle.sqlite.specs.declared.error.Error.{Error}
 use Rattle.sqlite.proofs.Callers.{unchanged_then}
 use Rattle.sqlite_trees.specs.declared.store.Store.{Ghosts}
 use Rattle.dict_sql.specs.Reads.{FailsToRead}
-use Rattle.dict_keyed_sql.specs.Scans.{Scan, HasGiven, IsWhole, HasRest, FailsToCount}
+use Rattle.dict_keyed_sql.specs.Scans.{Scan, HasGiven, FailsToCount}
 
 module _ {S : Type 0} (g : Ghosts S) (old mid new : Held S) where
   -- nothing was read yet, or nothing has changed

@@ -80,18 +80,18 @@ module _ (which : KeyIndex) (old new : Database) (has : Has entry old) (made : I
   on_entries : table_in (codes "entry") old ≡ Some (entry has.1)
   on_entries = let named = has.2.named in let is = has.2.is in rw (named, is) refl
 
-  abbrev is : new.schema ≡ indexed old.schema (entry has.1) (index_of which)
-  is = made.schema (entry has.1) on_entries
+  pub is_indexed : new.schema ≡ indexed old.schema (entry has.1) (index_of which)
+  is_indexed = made.schema (entry has.1) on_entries
 
   pub indexed_own : (table : ℕ → Table) → HasOwn old.schema table → HasOwn new.schema table
-  indexed_own table own = subst (λ s. HasOwn s table) (sym is) (own_stays old.schema (entry has.1) which table own)
+  indexed_own table own = subst (λ s. HasOwn s table) (sym is_indexed) (own_stays old.schema (entry has.1) which table own)
 
   pub indexed_rows : (name : List ℕ) (u : Table) → table_in name old ≡ Some u → rows_of name new ≡ rows_of name old
-  indexed_rows name u there = ap (λ (s : Schema). rows_of name (record { schema = s; trees = new.trees })) is ∙ rows_stay old.schema (entry has.1) which old.trees new.trees made.rows name u there
+  indexed_rows name u there = ap (λ (s : Schema). rows_of name (record { schema = s; trees = new.trees })) is_indexed ∙ rows_stay old.schema (entry has.1) which old.trees new.trees made.rows name u there
 
   -- the index that is made is the only one of its name
   pub indexed_there : is_used old.schema (index_of which).name ≡ false → HasIndex new.schema which
-  indexed_there unused = subst (λ s. HasIndex s which) (sym is) (index_there old.schema (entry has.1) which on_entries unused)
+  indexed_there unused = subst (λ s. HasIndex s which) (sym is_indexed) (index_there old.schema (entry has.1) which on_entries unused)
 
 -- ---- an index that is found
 

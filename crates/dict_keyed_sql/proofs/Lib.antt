@@ -1,6 +1,7 @@
 pub mod ConditionLemmas
 pub mod CountLemmas
 pub mod CreateTexts
+pub mod DefinitionLemmas
 pub mod DeleteTexts
 pub mod DropTexts
 pub mod EqualLemmas
@@ -15,6 +16,9 @@ pub mod JoinFaults
 pub mod JoinLemmas
 pub mod JoinParts
 pub mod KeyTexts
+pub mod ListingLemmas
+pub mod MadeLemmas
+pub mod NamedLemmas
 pub mod OnceLemmas
 pub mod ReadTexts
 pub mod ScanLemmas

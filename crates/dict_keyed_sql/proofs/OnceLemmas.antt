@@ -107,14 +107,14 @@ word_once n w db apart = each_once n (rows_of (codes "entry") db) (rows_with (co
 
 -- ---- the rows of two pieces that name one place
 
-swap : (u v : Value) → equal_values u v ≡ true → equal_values v u ≡ true
+pub swap : (u v : Value) → equal_values u v ≡ true → equal_values v u ≡ true
 swap u Null h = absurd (let both : true ≡ false = sym h ∙ none_null u in cc)
 swap u (Int n) h = same_flips (Int n) u ∙ as_same u (Int n) h
 swap u (Real x) h = same_flips (Real x) u ∙ as_same u (Real x) h
 swap u (Text t) h = same_flips (Text t) u ∙ as_same u (Text t) h
 swap u (Blob b) h = same_flips (Blob b) u ∙ as_same u (Blob b) h
 
-filter_twice : {X : Type 0} (p q : X → Bool) (xs : List X) → filter (λ x. p x && q x) xs ≡ filter q (filter p xs)
+pub filter_twice : {X : Type 0} (p q : X → Bool) (xs : List X) → filter (λ x. p x && q x) xs ≡ filter q (filter p xs)
 filter_twice p q [] = refl
 filter_twice p q (x ∷ xs) = elim (cases_Bool (p x)) [
   | inl held ↦ elim (cases_Bool (q x)) [ inl also ↦ rw (held, also) (ap (λ rest. x ∷ rest) (filter_twice p q xs)) | inr missed ↦ rw (held, missed) (filter_twice p q xs) ]

@@ -1,5 +1,7 @@
 pub mod Indexes
 pub mod Joined
+pub mod Made
+pub mod Pieces
 pub mod Scans
 pub mod Tables
 pub mod Texts

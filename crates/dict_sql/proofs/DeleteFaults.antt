@@ -30,7 +30,7 @@ use Rattle.dict_sql.specs.Effects.{HasApartRowids, rows_of, table_in, shown}
 use Rattle.dict_sql.specs.Refusals.{IsInterrupted, RefusesLoss, RefusesToRemove, without_rows}
 use Rattle.dict_sql.proofs.AddFaults.{with_same, flipped}
 use Rattle.dict_sql.proofs.DeleteEffects.{program, edit, no_works, took, task, left_rows}
-use Rattle.dict_sql.proofs.DropLemmas.{not_parent}
+use Rattle.dict_tables.proofs.NameLemmas.{not_parent}
 use Rattle.dict_sql.proofs.FaultLemmas.{failed_step, fails_for, same_refers, same_stop, no_stop}
 use Rattle.dict_sql.proofs.ListLemmas.{passes}
 

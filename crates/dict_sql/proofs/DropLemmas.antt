@@ -1,10 +1,6 @@
 -- What the DROP TABLE of a table does, over any schema that has it.
-use Rattle.std.proofs.Common.{◌≡◌, ◌==◌, ℕ, ◌+◌, List, [], ◌∷◌, codes, map, filter, find, Bool, true, false, not, ◌&&◌, is_some, Some, None, Option, Ok, MatchBool, if◌then◌else◌, inl, inr, refl, sym, ap, subst, ◌∙◌}
+use Rattle.std.proofs.Common.{◌≡◌, ◌==◌, ℕ, ◌+◌, List, [], ◌∷◌, codes, filter, find, Bool, true, false, not, ◌&&◌, is_some, Some, None, Option, Ok, MatchBool, if◌then◌else◌, inl, inr, refl, sym, ap, subst, ◌∙◌}
 use Rattle.std.proofs.lemmas.Bool.{cases_Bool}
-use Rattle.std.proofs.Math.Dec.{T, eqb_refl}
-use Rattle.std.specs.Ordering.{is_eq, nat_cmp}
-use Rattle.std.specs.Cmp.Lexicographic.{slice_cmp}
-use Rattle.std.specs.Char.{to_ascii_lowercase}
 use Rattle.std.specs.List.{AllByRecursion, list_any, position_from}
 use Rattle.sqlite.specs.Table.{Table}
 use Rattle.sqlite.specs.Schema.{Schema}
@@ -31,6 +27,7 @@ use Rattle.sqlite_ast.specs.declared.Statement.TheVariants as written
 use Rattle.sqlite_syntax.specs.declared.statement.Parsed.{Parsed}
 use Rattle.dict_tables.specs.Found.{HasTable, is_in}
 use Rattle.dict_tables.proofs.PlaceLemmas.{found}
+use Rattle.dict_tables.proofs.NameLemmas.{itself, found_is, not_parent}
 use Rattle.dict_tables.specs.Tables.{mark, item, member, edition, entry, kept}
 use Rattle.dict_tables.specs.declared.tables.StoreTable.{StoreTable}
 use Rattle.dict_tables.specs.declared.tables.StoreTable.TheVariants as store
@@ -39,13 +36,6 @@ use Rattle.dict_sql.specs.Drops.{drop_text, IsDropped}
 use Rattle.dict_tables.specs.Tables.{table_of}
 use Rattle.dict_sql.proofs.InsertLemmas.{went, same_value}
 use Rattle.dict_sql.proofs.TextLemmas.{parsed_or}
-
-itself : (n : ℕ) → n == n ≡ true
-itself n = from_T (n == n) (eqb_refl n)
-  where
-    from_T : (b : Bool) → T b → b ≡ true
-    from_T true h = refl
-    from_T false h = absurd h
 
 pub not_taken : (b : Bool) (P Q : Type 0) → b ≡ false → MatchBool b P Q → Q
 not_taken true P Q e h = absurd (let both = e in cc)
@@ -57,19 +47,8 @@ not_counted task db next false o e h = same_value h
 
 -- ---- names
 
-same_as : (a b c : List ℕ) → same_name a b ≡ true → same_name c a ≡ same_name c b
-unfolding same_name
-same_as a b c h = ap (λ l. is_eq (slice_cmp nat_cmp (map to_ascii_lowercase c) l)) ((lowered a b).0 h)
-
 same_before : (a b c : List ℕ) → same_name a c ≡ true → same_name b c ≡ true → same_name a b ≡ true
 same_before a b c one two = (lowered a b).1 ((lowered a c).0 one ∙ sym ((lowered b c).0 two))
-
-find_same : {X : Type 0} (p q : X → Bool) → ((x : X) → p x ≡ q x) → (xs : List X) → find p xs ≡ find q xs
-find_same p q same [] = refl
-find_same p q same (x ∷ xs) = elim (cases_Bool (q x)) [
-  | inl hit ↦ rw (same x, hit) refl
-  | inr miss ↦ rw (same x, miss) (find_same p q same xs)
-]
 
 no_place : {X : Type 0} (p : X → Bool) (xs : List X) → AllByRecursion (λ x. p x ≡ false) xs → (n : ℕ) → position_from p n xs ≡ None
 no_place p [] h n = refl
@@ -107,18 +86,9 @@ module _ (name : List ℕ) (stays : Table → Bool) where
 -- ---- no foreign key leads into it, so none acts
 
 module _ (schema : Schema) (at : ℕ) (table : Table) (has : HasTable schema at table) where
-  found_is : find (λ t. same_name t.name table.name) schema.tables ≡ Some table
-  found_is = let named = has.named in let is = has.is in sym (found (λ t. same_name t.name table.name) schema.tables) ∙ rw (named, is) refl
-
-  pub not_parent : (ref : Reference) → is_in table.tree (find (λ t. same_name t.name ref.parent) schema.tables) ≡ false → same_name table.name ref.parent ≡ false
-  not_parent ref out = elim (cases_Bool (same_name table.name ref.parent)) [
-    | inl hit ↦ absurd (let parent = sym (find_same (λ t. same_name t.name table.name) (λ t. same_name t.name ref.parent) (λ t. same_as table.name ref.parent t.name hit) schema.tables) ∙ found_is in let both : true ≡ false = sym (itself table.tree) ∙ rw parent at out in cc)
-    | inr miss ↦ miss
-  ]
-
   acts_by : (keys : Keys) (refs : List Reference) → AllByRecursion (λ (ref : Reference). is_in table.tree (find (λ t. same_name t.name ref.parent) schema.tables) ≡ false) refs → list_any (λ (ref : Reference). same_name table.name ref.parent && is_some (deed_for keys true ref)) refs ≡ false
   acts_by keys [] h = refl
-  acts_by keys (ref ∷ refs) h = rw (not_parent ref h.0) (acts_by keys refs h.1)
+  acts_by keys (ref ∷ refs) h = rw (not_parent schema at table has ref h.0) (acts_by keys refs h.1)
 
   acts_among : (keys : Keys) (ts : List Table) → AllByRecursion (λ child. AllByRecursion (λ (ref : Reference). is_in table.tree (find (λ t. same_name t.name ref.parent) schema.tables) ≡ false) child.references) ts
       → list_any (λ (t : Table). list_any (λ (ref : Reference). same_name table.name ref.parent && is_some (deed_for keys true ref)) t.references) ts ≡ false

@@ -3,4 +3,4 @@ pub use Rattle.sqlite_catalog.proofs.LayoutLemmas.{index_owner}
 pub use Rattle.sqlite_catalog.proofs.SoundLemmas.{lowered}
 pub use Rattle.sqlite_catalog.proofs.StepLemmas.{table_below}
 pub use Rattle.sqlite_rules.proofs.ListLemmas.{all_has}
-pub use Rattle.sqlite_value.proofs.OrderLemmas.{value_cmp-Int, value_cmp_total}
+pub use Rattle.sqlite_value.proofs.OrderLemmas.{value_cmp-Blob, value_cmp-Int, value_cmp_total}

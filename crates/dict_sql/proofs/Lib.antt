@@ -30,6 +30,7 @@ pub mod DeleteFaults
 pub mod DeleteRefusals
 pub mod CreateFaults
 pub mod MakeLemmas
+pub mod DroppedLemmas
 pub mod DropFaults
 pub mod Callers
 pub mod NumberLemmas

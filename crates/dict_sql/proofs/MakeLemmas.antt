@@ -1,6 +1,6 @@
 -- What a database has once tables were made in it, one after the other.
-use Rattle.std.proofs.Common.{◌≡◌, ◌==◌, ◌<◌, ◌≤◌, ◌+◌, ◌^◌, ◌++◌, take, length, get_or, IsTrue, OnOk, Ok, Err, Result, rules, zero, suc, ℕ, List, [], ◌∷◌, find, false, Some, slice_get, inl, inr, refl, sym, ap, subst, ◌∙◌, arith}
-use Rattle.std.specs.List.{AllByRecursion, AllZip}
+use Rattle.std.proofs.Common.{◌≡◌, ◌==◌, ◌<◌, ◌≤◌, ◌+◌, ◌^◌, ◌++◌, take, length, get_or, IsTrue, OnOk, Ok, Err, Result, rules, zero, suc, ℕ, List, [], ◌∷◌, find, true, false, Some, slice_get, inl, inr, refl, sym, ap, subst, ◌∙◌, arith}
+use Rattle.std.specs.List.{AllByRecursion, AllZip, list_any}
 use Rattle.sqlite.specs.Table.{Table}
 use Rattle.sqlite.specs.Schema.{Schema}
 use Rattle.sqlite.specs.Effect.{Database, IsDatabase}
@@ -19,13 +19,14 @@ use Rattle.sqlite_schema.specs.declared.schema.Index.{Index}
 use Rattle.sqlite_catalog.specs.Listing.{IsTableRow, IsIndexRow}
 use Rattle.dict_tables.specs.Tables.{table_of, store_tables}
 use Rattle.dict_tables.specs.Found.{HasOwn}
-use Rattle.dict_tables.specs.Room.{HasRoom, LeavesRoom}
+use Rattle.dict_tables.specs.Room.{HasRoom, LeavesRoom, is_referred}
+use Rattle.dict_tables.specs.Definitions.{IsDefinition, are_named_apart, names_of}
 use Rattle.dict_tables.specs.declared.tables.StoreTable.{StoreTable}
 use Rattle.dict_tables.proofs.PlaceLemmas.{found}
 use Rattle.dict_tables.proofs.FindLemmas.{find_before}
 use Rattle.dict_tables.proofs.FoundLemmas.{weaker}
 use Rattle.dict_tables.proofs.TableLemmas.{name_is}
-use Rattle.dict_tables.proofs.MadeLemmas.{differ, found_is, made_own, kept_own, room_kept, room_for, made_table, made_at}
+use Rattle.dict_tables.proofs.MadeLemmas.{differ, found_is, made_own, kept_own, room_kept, room_for, unused_still, store_defined, store_apart}
 use Rattle.dict_sql.specs.Effects.{rows_of, table_in, GoesOn, CountsFaults}
 use Rattle.dict_sql.specs.Creates.{IsFree, IsMade, AreApart, MadeInTurn, AreMade, IsReady, FailsToMake, FailsToMakeAll}
 
@@ -49,13 +50,17 @@ all_both P Q R so (x ∷ xs) a b = (so x a.0 b.0, all_both P Q R so xs a.1 b.1)
 
 -- ---- one table
 
-module _ (t : StoreTable) (old new : Database) (made : IsMade (table_of t 0) old new) where
+module _ (table : Table) (old new : Database) (made : IsMade table old new) where
+  abbrev its : Table
+  its = record table { tree = next_tree old.schema }
+
   -- its tree is within the bound of every tree's
   low : next_tree old.schema < 2 ^ 31
   low =
       let listed = subst (λ (s : Schema). AllByRecursion (λ u. (row : Row) × IsTableRow row u) s.tables) made.schema (zip_each IsTableRow _ new.schema.tables made.sound.lists.listed.tables) in
-      let mine = all_last (λ (u : Table). (row : Row) × IsTableRow row u) old.schema.tables (made_table old.schema t) listed in
-      omega (arith, mine.1.described.low, made_at old.schema t)
+      let mine = all_last (λ (u : Table). (row : Row) × IsTableRow row u) old.schema.tables its listed in
+      let tree : its.tree ≡ next_tree old.schema = refl in
+      omega (arith, mine.1.described.low, tree)
 
   -- no index was over it before
   unowned : IsDatabase old → AllByRecursion (λ index. (index.table == next_tree old.schema) ≡ false) old.schema.indexes
@@ -66,28 +71,36 @@ module _ (t : StoreTable) (old new : Database) (made : IsMade (table_of t 0) old
           let owner = index_owner h.1.table index (column h.0 4) h.1.defined in
           differ index.table (next_tree old.schema) (omega (arith, owner, table_below old.schema h.1.table h.1.listed))
 
-  pub one_own : IsDatabase old → LeavesRoom old.schema (table_of t 0) → HasOwn new.schema (table_of t)
-  one_own sound room = subst (λ s. HasOwn s (table_of t)) (sym made.schema) (made_own old.schema t room low (unowned sound))
-
-  pub one_keeps : (other : StoreTable) → HasOwn old.schema (table_of other) → HasOwn new.schema (table_of other)
-  one_keeps other own = subst (λ s. HasOwn s (table_of other)) (sym made.schema) (kept_own old.schema t other own)
-
-  pub one_leaves : (other : StoreTable) → (t ≡ other → ⊥) → LeavesRoom old.schema (table_of other 0) → LeavesRoom new.schema (table_of other 0)
-  one_leaves other apart room = subst (λ s. LeavesRoom s (table_of other 0)) (sym made.schema) (room_kept old.schema t other apart room)
+  pub found_later : (name : List ℕ) (u : Table) → table_in name old ≡ Some u → table_in name new ≡ Some u
+  found_later name u there =
+      let at : find (λ v. same_name v.name name) old.schema.tables ≡ Some u = sym (found (λ v. same_name v.name name) old.schema.tables) ∙ there in
+      found (λ v. same_name v.name name) new.schema.tables ∙ ap (λ (s : Schema). find (λ v. same_name v.name name) s.tables) made.schema ∙ find_before (λ v. same_name v.name name) old.schema.tables (its ∷ []) u at
 
   -- a table that was there has the rows that it had
   pub one_rows : (name : List ℕ) (u : Table) → table_in name old ≡ Some u → rows_of name new ≡ rows_of name old
   one_rows name u there =
       let at : find (λ v. same_name v.name name) old.schema.tables ≡ Some u = sym (found (λ v. same_name v.name name) old.schema.tables) ∙ there in
-      let later : table_in name new ≡ Some u =
-      found (λ v. same_name v.name name) new.schema.tables ∙ ap (λ (s : Schema). find (λ v. same_name v.name name) s.tables) made.schema ∙ find_before (λ v. same_name v.name name) old.schema.tables (made_table old.schema t ∷ []) u at in
+      let later = found_later name u there in
       let same : new.trees u.tree ≡ old.trees u.tree = found_is (λ v. new.trees v.tree ≡ old.trees v.tree) (λ v. same_name v.name name) old.schema.tables u made.others at in
       rw (later, there, same) refl
 
   one_others : (last : Database) → AllByRecursion (λ u. last.trees u.tree ≡ new.trees u.tree) new.schema.tables → AllByRecursion (λ u. last.trees u.tree ≡ old.trees u.tree) old.schema.tables
   one_others last h =
-      let front = all_front (λ (u : Table). last.trees u.tree ≡ new.trees u.tree) old.schema.tables (made_table old.schema t ∷ []) (subst (λ (s : Schema). AllByRecursion (λ u. last.trees u.tree ≡ new.trees u.tree) s.tables) made.schema h) in
+      let front = all_front (λ (u : Table). last.trees u.tree ≡ new.trees u.tree) old.schema.tables (its ∷ []) (subst (λ (s : Schema). AllByRecursion (λ u. last.trees u.tree ≡ new.trees u.tree) s.tables) made.schema h) in
       all_both (λ (u : Table). last.trees u.tree ≡ new.trees u.tree) (λ u. new.trees u.tree ≡ old.trees u.tree) (λ u. last.trees u.tree ≡ old.trees u.tree) (λ u a b. a ∙ b) old.schema.tables front made.others
+
+module _ (table : ℕ → Table) (defined : IsDefinition table) (old new : Database) (made : IsMade (table 0) old new) where
+  pub one_own : IsDatabase old → is_used old.schema (table 0).name ≡ false → is_referred old.schema (table 0).name ≡ false → HasOwn new.schema table
+  one_own sound unused unreferred = subst (λ s. HasOwn s table) (sym made.schema) (made_own old.schema table defined unused unreferred (low (table 0) old new made) (unowned (table 0) old new made sound))
+
+  pub one_keeps : (other : ℕ → Table) → IsDefinition other → HasOwn old.schema other → HasOwn new.schema other
+  one_keeps other also own = subst (λ s. HasOwn s other) (sym made.schema) (kept_own old.schema table defined other also own)
+
+  pub one_leaves : (other : Table) → are_named_apart (table 0) other ≡ true → LeavesRoom old.schema other → LeavesRoom new.schema other
+  one_leaves other apart room = subst (λ s. LeavesRoom s other) (sym made.schema) (room_kept old.schema table defined other apart room)
+
+  pub one_unused : (name : List ℕ) → list_any (λ own. same_name own name) (names_of (table 0)) ≡ false → is_used old.schema name ≡ false → is_used new.schema name ≡ false
+  one_unused name apart free = subst (λ s. is_used s name ≡ false) (sym made.schema) (unused_still old.schema table defined name apart free)
 
 -- ---- several, one after the other
 
@@ -105,31 +118,27 @@ turn_counted (t ∷ ts) old new h counted = turn_counted ts h.0 new h.2 h.1.coun
 
 turn_keeps : (other : StoreTable) (ts : List StoreTable) (old new : Database) → MadeInTurn ts old new → HasOwn old.schema (table_of other) → HasOwn new.schema (table_of other)
 turn_keeps other [] old new h own = subst (λ (d : Database). HasOwn d.schema (table_of other)) (sym h) own
-turn_keeps other (t ∷ ts) old new h own = turn_keeps other ts h.0 new h.2 (one_keeps t old h.0 h.1 other own)
+turn_keeps other (t ∷ ts) old new h own = turn_keeps other ts h.0 new h.2 (one_keeps (table_of t) (store_defined t) old h.0 h.1 (table_of other) (store_defined other) own)
 
 pub turn_leaves : (other : StoreTable) (ts : List StoreTable) (old new : Database) → AllByRecursion (λ t. t ≡ other → ⊥) ts → MadeInTurn ts old new → LeavesRoom old.schema (table_of other 0) → LeavesRoom new.schema (table_of other 0)
 turn_leaves other [] old new apart h room = subst (λ (d : Database). LeavesRoom d.schema (table_of other 0)) (sym h) room
-turn_leaves other (t ∷ ts) old new apart h room = turn_leaves other ts h.0 new apart.1 h.2 (one_leaves t old h.0 h.1 other apart.0 room)
+turn_leaves other (t ∷ ts) old new apart h room = turn_leaves other ts h.0 new apart.1 h.2 (one_leaves (table_of t) (store_defined t) old h.0 h.1 (table_of other 0) (store_apart t other apart.0) room)
 
 turn_rows : (name : List ℕ) (u : Table) (ts : List StoreTable) (old new : Database) → MadeInTurn ts old new → table_in name old ≡ Some u → rows_of name new ≡ rows_of name old
 turn_rows name u [] old new h there = ap (rows_of name) h
-turn_rows name u (t ∷ ts) old new h there =
-    let at : find (λ v. same_name v.name name) old.schema.tables ≡ Some u = sym (found (λ v. same_name v.name name) old.schema.tables) ∙ there in
-    let later : table_in name h.0 ≡ Some u =
-    found (λ v. same_name v.name name) h.0.schema.tables ∙ ap (λ (s : Schema). find (λ v. same_name v.name name) s.tables) h.1.schema ∙ find_before (λ v. same_name v.name name) old.schema.tables (made_table old.schema t ∷ []) u at in
-    turn_rows name u ts h.0 new h.2 later ∙ one_rows t old h.0 h.1 name u there
+turn_rows name u (t ∷ ts) old new h there = turn_rows name u ts h.0 new h.2 (found_later (table_of t 0) old h.0 h.1 name u there) ∙ one_rows (table_of t 0) old h.0 h.1 name u there
 
 turn_others : (ts : List StoreTable) (old new : Database) → MadeInTurn ts old new → AllByRecursion (λ u. new.trees u.tree ≡ old.trees u.tree) old.schema.tables
 turn_others [] old new h = subst (λ (d : Database). AllByRecursion (λ u. d.trees u.tree ≡ old.trees u.tree) old.schema.tables) (sym h) (same_all old old.schema.tables)
-turn_others (t ∷ ts) old new h = one_others t old h.0 h.1 new (turn_others ts h.0 new h.2)
+turn_others (t ∷ ts) old new h = one_others (table_of t 0) old h.0 h.1 new (turn_others ts h.0 new h.2)
 
 leaves_all : (t : StoreTable) (old new : Database) → IsMade (table_of t 0) old new → (ts : List StoreTable) → AllByRecursion (λ o. t ≡ o → ⊥) ts → AllByRecursion (λ o. LeavesRoom old.schema (table_of o 0)) ts → AllByRecursion (λ o. LeavesRoom new.schema (table_of o 0)) ts
-leaves_all t old new made ts apart room = all_both (λ o. t ≡ o → ⊥) (λ o. LeavesRoom old.schema (table_of o 0)) (λ o. LeavesRoom new.schema (table_of o 0)) (λ o a b. one_leaves t old new made o a b) ts apart room
+leaves_all t old new made ts apart room = all_both (λ o. t ≡ o → ⊥) (λ o. LeavesRoom old.schema (table_of o 0)) (λ o. LeavesRoom new.schema (table_of o 0)) (λ o a b. one_leaves (table_of t) (store_defined t) old new made (table_of o 0) (store_apart t o a) b) ts apart room
 
 turn_own : (ts : List StoreTable) (old new : Database) → AreApart ts → MadeInTurn ts old new → IsDatabase old → AllByRecursion (λ t. LeavesRoom old.schema (table_of t 0)) ts → AllByRecursion (λ t. HasOwn new.schema (table_of t)) ts
 turn_own [] old new apart h sound room = tt
 turn_own (t ∷ ts) old new apart h sound room = (
-  turn_keeps t ts h.0 new h.2 (one_own t old h.0 h.1 sound room.0),
+  turn_keeps t ts h.0 new h.2 (one_own (table_of t) (store_defined t) old h.0 h.1 sound room.0.unused room.0.unreferred),
   turn_own ts h.0 new apart.1 h.2 h.1.sound (leaves_all t old h.0 h.1 ts apart.0 room.1),
 )
 
@@ -139,7 +148,7 @@ own_found t db own = let named : table_named db.schema (table_of t 0).name ≡ S
 turn_empty : (ts : List StoreTable) (old new : Database) → AreApart ts → MadeInTurn ts old new → IsDatabase old → AllByRecursion (λ t. LeavesRoom old.schema (table_of t 0)) ts → AllByRecursion (λ t. rows_of (table_of t 0).name new ≡ []) ts
 turn_empty [] old new apart h sound room = tt
 turn_empty (t ∷ ts) old new apart h sound room =
-    let own = one_own t old h.0 h.1 sound room.0 in (
+    let own = one_own (table_of t) (store_defined t) old h.0 h.1 sound room.0.unused room.0.unreferred in (
       turn_rows (table_of t 0).name (table_of t own.tree) ts h.0 new h.2 (own_found t h.0 own) ∙ h.1.empty,
       turn_empty ts h.0 new apart.1 h.2 h.1.sound (leaves_all t old h.0 h.1 ts apart.0 room.1),
     )

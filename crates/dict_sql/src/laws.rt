@@ -1,28 +1,41 @@
 //! Laws of what the statements do: each function does nothing, and its contract is the law.
 
-ghost use Rattle.std.specs.Prelude.{◌≡◌, ◌≤◌, ℕ, Bool, List, [], Some};
+ghost use Rattle.std.specs.Prelude.{◌≡◌, ◌≤◌, ℕ, Bool, true, false, List, [], Some, None};
+ghost use Rattle.std.specs.List.{list_any};
 ghost use Rattle.sqlite.specs.Order.{Row};
 ghost use Rattle.sqlite.specs.Table.{Table};
 ghost use Rattle.sqlite.specs.Effect.{Database, IsDatabase};
 ghost use Rattle.sqlite.specs.Held.{state};
 ghost use Rattle.sqlite.specs.Steps.{FailsToCommit};
 ghost use Rattle.sqlite.specs.declared.error.Error.{Error};
-ghost use Rattle.dict_tables.specs.Tables.{table_of};
+ghost use Rattle.sqlite.specs.Change.{is_used};
+ghost use Rattle.sqlite_schema.specs.Names.{same_name, index_named, view_named};
+ghost use Rattle.dict_tables.specs.Definitions.{IsDefinition, are_named_apart, names_of};
 ghost use Rattle.dict_tables.specs.Found.{HasOwn};
-ghost use Rattle.dict_tables.specs.Room.{LeavesRoom};
-ghost use Rattle.dict_tables.specs.declared.tables.StoreTable.{StoreTable};
+ghost use Rattle.dict_tables.specs.Room.{LeavesRoom, is_referred};
 ghost use Rattle.dict_sql.specs.Effects.{Has, HasApartRowids, IsAdded, IsRemoved, CountsFaults, rows_of, table_in};
 ghost use Rattle.dict_sql.specs.Creates.{IsMade};
+ghost use Rattle.dict_sql.specs.Drops.{IsDropped};
 ghost use Rattle.dict_sql.specs.Reads.{IsListing, FailsToRead};
 
 use sqlite::Alter;
 
-/// A table that is made where there is room for it is had as the statements need it, and those that were had are had still. The room for the others stays, and so do the rows of every table that was there.
+/// A table that is made where its name is free and no foreign key names it is had as the statements need it, and those that were had are had still. The room for another that takes no name of it stays, as does a name that is free, and so do the rows of every table that was there.
 pub fn made_laws()
-    ensures made { (table : StoreTable) (old new : Database) → IsMade (table_of table 0) old new → IsDatabase old → LeavesRoom old.schema (table_of table 0) → HasOwn new.schema (table_of table) }
-    ensures kept { (table : StoreTable) (old new : Database) → IsMade (table_of table 0) old new → (other : StoreTable) → HasOwn old.schema (table_of other) → HasOwn new.schema (table_of other) }
-    ensures room { (table : StoreTable) (old new : Database) → IsMade (table_of table 0) old new → (other : StoreTable) → (table ≡ other → ⊥) → LeavesRoom old.schema (table_of other 0) → LeavesRoom new.schema (table_of other 0) }
-    ensures rows { (table : StoreTable) (old new : Database) → IsMade (table_of table 0) old new → (name : List ℕ) (there : Table) → table_in name old ≡ Some there → rows_of name new ≡ rows_of name old }
+    ensures made { (table : ℕ → Table) → IsDefinition table → (old new : Database) → IsMade (table 0) old new → IsDatabase old → is_used old.schema (table 0).name ≡ false → is_referred old.schema (table 0).name ≡ false → HasOwn new.schema table }
+    ensures kept { (table : ℕ → Table) → IsDefinition table → (old new : Database) → IsMade (table 0) old new → (other : ℕ → Table) → IsDefinition other → HasOwn old.schema other → HasOwn new.schema other }
+    ensures room { (table : ℕ → Table) → IsDefinition table → (old new : Database) → IsMade (table 0) old new → (other : Table) → are_named_apart (table 0) other ≡ true → LeavesRoom old.schema other → LeavesRoom new.schema other }
+    ensures unused { (table : ℕ → Table) → IsDefinition table → (old new : Database) → IsMade (table 0) old new → (name : List ℕ) → list_any (λ own. same_name own name) (names_of (table 0)) ≡ false → is_used old.schema name ≡ false → is_used new.schema name ≡ false }
+    ensures rows { (table : Table) (old new : Database) → IsMade table old new → (name : List ℕ) (there : Table) → table_in name old ≡ Some there → rows_of name new ≡ rows_of name old }
+{}
+
+/// Where a table was dropped, each of another name that was had is had still, with its rows, and what there was room for has room. No foreign key names the one that went, and its name is free where no index and no view has it.
+pub fn dropped_laws()
+    ensures kept { (table : ℕ → Table) → IsDefinition table → (old new : Database) → IsDropped (table 0).name old new → HasOwn old.schema table → (other : ℕ → Table) → IsDefinition other → same_name (other 0).name (table 0).name ≡ false → HasOwn old.schema other → HasOwn new.schema other }
+    ensures rows { (table : ℕ → Table) → IsDefinition table → (old new : Database) → IsDropped (table 0).name old new → HasOwn old.schema table → (other : ℕ → Table) → IsDefinition other → same_name (other 0).name (table 0).name ≡ false → HasOwn old.schema other → rows_of (other 0).name new ≡ rows_of (other 0).name old }
+    ensures room { (table : ℕ → Table) → IsDefinition table → (old new : Database) → IsDropped (table 0).name old new → HasOwn old.schema table → (other : Table) → LeavesRoom old.schema other → LeavesRoom new.schema other }
+    ensures unreferred { (table : ℕ → Table) → IsDefinition table → (old new : Database) → IsDropped (table 0).name old new → HasOwn old.schema table → is_referred new.schema (table 0).name ≡ false }
+    ensures unused { (table : ℕ → Table) → IsDefinition table → (old new : Database) → IsDropped (table 0).name old new → HasOwn old.schema table → IsDatabase old → index_named old.schema (table 0).name ≡ None → view_named old.schema (table 0).name ≡ None → is_used new.schema (table 0).name ≡ false }
 {}
 
 /// A table that a test found is one that the statements can use, and a statement that leaves the schema leaves it so.

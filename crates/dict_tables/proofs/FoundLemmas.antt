@@ -66,7 +66,7 @@ first_is p (y ∷ ys) x only = elim (cases_Bool (p y)) [
 
 -- ---- a table that is found by its name
 
-place_of : {X : Type 0} (xs : List X) (o : Option ℕ) (x : X) → option_and_then (slice_get xs) o ≡ Some x → (at : ℕ) × (o ≡ Some at) × (slice_get xs at ≡ Some x)
+pub place_of : {X : Type 0} (xs : List X) (o : Option ℕ) (x : X) → option_and_then (slice_get xs) o ≡ Some x → (at : ℕ) × (o ≡ Some at) × (slice_get xs at ≡ Some x)
 place_of xs None x h = absurd (let e = h in cc)
 place_of xs (Some at) x h = (at, refl, h)
 

@@ -1,13 +1,14 @@
 -- A schema in which a table was made has it, and those that it had.
-use Rattle.std.proofs.Common.{◌≡◌, ◌==◌, ◌<◌, ◌+◌, ◌^◌, ℕ, zero, suc, List, [], ◌∷◌, ◌++◌, length, filter, find, map, not, Bool, true, false, ◌&&◌, ◌||◌, Option, Some, None, slice_get, inl, inr, refl, ap, subst, ◌∙◌, arith, codes}
+use Rattle.std.proofs.Common.{◌≡◌, ◌==◌, ◌<◌, ◌+◌, ◌^◌, ℕ, zero, suc, List, [], ◌∷◌, ◌++◌, length, filter, find, map, not, Bool, true, false, ◌&&◌, ◌||◌, Option, Some, None, slice_get, inl, inr, refl, sym, ap, subst, ◌∙◌, arith, codes}
 use Rattle.std.proofs.lemmas.Bool.{cases_Bool}
 use Rattle.std.proofs.lemmas.List.Elements.{filter-append}
 use Rattle.std.proofs.lemmas.List.Folds.{list_any-append}
 use Rattle.std.specs.List.{AllByRecursion, position_from, list_any, list_all}
-use Rattle.std.specs.Fmt.{digits}
+use Rattle.std.specs.Fmt.{digits, decimal}
 use Rattle.sqlite.specs.Schema.{Schema}
 use Rattle.sqlite.specs.Table.{Table}
 use Rattle.sqlite.specs.Change.{created, next_tree, is_used, automatics}
+use Rattle.sqlite_catalog.specs.Listing.{automatic}
 use Rattle.sqlite_schema.specs.Names.{table_named, index_named, view_named, same_name}
 use Rattle.sqlite_schema.specs.declared.schema.Reference.{Reference}
 use Rattle.sqlite_schema.specs.declared.schema.Index.{Index}
@@ -15,11 +16,11 @@ use Rattle.dict_tables.proofs.KitLemmas.{table_below, no_table, no_index, no_vie
 use Rattle.dict_tables.specs.Tables.{table_of}
 use Rattle.dict_tables.specs.Found.{HasOwn, is_in, is_further_key}
 use Rattle.dict_tables.specs.Room.{HasRoom, LeavesRoom, is_referred}
+use Rattle.dict_tables.specs.Definitions.{IsDefinition, names_of, are_named_apart}
 use Rattle.dict_tables.specs.declared.tables.StoreTable.{StoreTable}
 use Rattle.dict_tables.specs.declared.tables.StoreTable.TheVariants.{Mark, Item, Member, Edition, Entry, Kept}
 use Rattle.dict_tables.proofs.PlaceLemmas.{slice_get-middle}
 use Rattle.dict_tables.proofs.FindLemmas.{find_past, find_before}
-use Rattle.dict_tables.proofs.TableLemmas.{name_is, tree_is}
 use Rattle.dict_tables.proofs.FoundLemmas.{none_passes, weaker}
 
 -- ---- lists with one more at their end
@@ -100,63 +101,50 @@ leads_past : (p : Table → Bool) (tables : List Table) (made : Table) → AllBy
 leads_past p tables made below other (Some t) is = rw (find_before p tables (made ∷ []) t is) (differ t.tree made.tree (found_is (λ u. u.tree < made.tree) p tables t below is))
 leads_past p tables made below other None is = rw (find_past p tables (made ∷ []) is, other) refl
 
--- ---- what the tables have in common
+-- ---- what a definition says of a table in its tree
 
-no_references : (w : StoreTable) (n : ℕ) → (table_of w n).references ≡ []
-no_references Mark n = refl
-no_references Item n = refl
-no_references Member n = refl
-no_references Edition n = refl
-no_references Entry n = refl
-no_references Kept n = refl
+module _ (table : ℕ → Table) (defined : IsDefinition table) (n : ℕ) where
+  pub name_in : (table n).name ≡ (table 0).name
+  name_in = ap (λ (t : Table). t.name) (defined.same n)
+
+  pub tree_in : (table n).tree ≡ n
+  tree_in = ap (λ (t : Table). t.tree) (defined.same n)
+
+  no_references : (table n).references ≡ []
+  no_references = ap (λ (t : Table). t.references) (defined.same n) ∙ defined.unreferring
 
 -- the indexes that are made with a table
-abbrev keys_of : StoreTable → ℕ → ℕ → List Index
-keys_of w n m = automatics (table_of w n) 0 m (table_of w n).uniques
+abbrev keys_of : Table → ℕ → List Index
+keys_of t m = automatics t 0 m t.uniques
 
-own_keys : (w : StoreTable) (n m : ℕ) → AllByRecursion (λ index. is_further_key (table_of w n) index ≡ false) (keys_of w n m)
-own_keys Mark n m = tt
-own_keys Item n m = (rw (is_itself n) refl, tt)
-own_keys Member n m = (rw (is_itself n) refl, (rw (is_itself n) refl, tt))
-own_keys Edition n m = tt
-own_keys Entry n m = (rw (is_itself n) refl, tt)
-own_keys Kept n m = (rw (is_itself n) refl, (rw (is_itself n) refl, tt))
+-- each is over its tree
+over_tree : (t : Table) (P : Index → Type 0) → ((index : Index) → index.table ≡ t.tree → P index) → (at m : ℕ) (keys : List (List ℕ)) → AllByRecursion P (automatics t at m keys)
+over_tree t P so at m [] = tt
+over_tree t P so at m (key ∷ keys) = (so (automatic t at key m) refl, over_tree t P so (at + 1) (m + 1) keys)
 
-other_keys : (w : StoreTable) (n m : ℕ) (o : Table) → (n == o.tree) ≡ false → AllByRecursion (λ index. is_further_key o index ≡ false) (keys_of w n m)
-other_keys Mark n m o other = tt
-other_keys Item n m o other = (rw other refl, tt)
-other_keys Member n m o other = (rw other refl, (rw other refl, tt))
-other_keys Edition n m o other = tt
-other_keys Entry n m o other = (rw other refl, tt)
-other_keys Kept n m o other = (rw other refl, (rw other refl, tt))
+other_keys : (t : Table) (m : ℕ) (o : Table) → (t.tree == o.tree) ≡ false → AllByRecursion (λ index. is_further_key o index ≡ false) (keys_of t m)
+other_keys t m o other = over_tree t (λ index. is_further_key o index ≡ false) each 0 m t.uniques
+  where
+    each : (index : Index) → index.table ≡ t.tree → is_further_key o index ≡ false
+    each index over = let e : (index.table == o.tree) ≡ false = ap (λ n. n == o.tree) over ∙ other in rw e refl
 
--- ---- a schema in which one of them was made
+-- their names don't depend on their trees
+keys_named : (t u : Table) → t.name ≡ u.name → (P : List ℕ → Type 0) (at m k : ℕ) (keys : List (List ℕ)) → AllByRecursion P (map (λ (i : Index). i.name) (automatics t at m keys)) → AllByRecursion (λ (i : Index). P i.name) (automatics u at k keys)
+keys_named t u same P at m k [] h = tt
+keys_named t u same P at m k (key ∷ keys) h = (subst (λ name. P (codes "sqlite_autoindex_" ++ (name ++ (codes "_" ++ decimal (at + 1))))) same h.0, keys_named t u same P (at + 1) (m + 1) (k + 1) keys h.1)
 
-abbrev with_made : Schema → StoreTable → Schema
-with_made schema w =
-    record schema { tables = schema.tables ++ table_of w (next_tree schema) ∷ []; indexes = schema.indexes ++ keys_of w (next_tree schema) (next_tree schema + 1) }
+-- ---- a schema in which one was made
 
-made_is : (schema : Schema) (w : StoreTable) → with_made schema w ≡ created schema (table_of w 0)
-made_is schema Mark = refl
-made_is schema Item = refl
-made_is schema Member = refl
-made_is schema Edition = refl
-made_is schema Entry = refl
-made_is schema Kept = refl
+abbrev with_made : Schema → (ℕ → Table) → Schema
+with_made schema table =
+    record schema { tables = schema.tables ++ table (next_tree schema) ∷ []; indexes = schema.indexes ++ keys_of (table (next_tree schema)) (next_tree schema + 1) }
 
--- the table that `created` adds
-abbrev pub made_table : Schema → StoreTable → Table
-made_table schema w = record (table_of w 0) { tree = next_tree schema }
+made_is : (schema : Schema) (table : ℕ → Table) → IsDefinition table → with_made schema table ≡ created schema (table 0)
+made_is schema table defined = ap (λ (t : Table). record schema { tables = schema.tables ++ t ∷ []; indexes = schema.indexes ++ keys_of t (next_tree schema + 1) }) (defined.same (next_tree schema))
 
-pub made_at : (schema : Schema) (w : StoreTable) → (made_table schema w).tree ≡ next_tree schema
-made_at schema w = refl
-
-module _ (schema : Schema) (w : StoreTable) where
-  abbrev tree : ℕ
-  tree = next_tree schema
-
+module _ (schema : Schema) (table : ℕ → Table) (defined : IsDefinition table) where
   abbrev made : Table
-  made = table_of w (next_tree schema)
+  made = table (next_tree schema)
 
   below : AllByRecursion (λ t. t.tree < next_tree schema) schema.tables
   below = all_from (λ t. t.tree < next_tree schema) schema.tables (table_below schema)
@@ -165,34 +153,34 @@ module _ (schema : Schema) (w : StoreTable) where
   Leads n tables child = AllByRecursion (λ (ref : Reference). is_in n (find (λ t. same_name t.name ref.parent) tables) ≡ false) child.references
 
   leads_from_made : (n : ℕ) (tables : List Table) → Leads n tables made
-  leads_from_made n tables = rw (no_references w (next_tree schema)) tt
+  leads_from_made n tables = rw (no_references table defined (next_tree schema)) tt
 
   -- ---- it has the table that was made
 
-  module _ (room : LeavesRoom schema (table_of w 0)) (low : next_tree schema < 2 ^ 31) (owned : AllByRecursion (λ index. (index.table == next_tree schema) ≡ false) schema.indexes) where
-    named : table_named (with_made schema w) made.name ≡ Some (0 + length schema.tables)
+  module _ (unused : is_used schema (table 0).name ≡ false) (free : is_referred schema (table 0).name ≡ false) (low : next_tree schema < 2 ^ 31) (owned : AllByRecursion (λ index. (index.table == next_tree schema) ≡ false) schema.indexes) where
+    named : table_named (with_made schema table) made.name ≡ Some (0 + length schema.tables)
     named =
-        let none : table_named schema made.name ≡ None = rw (name_is w (next_tree schema)) (no_table schema (table_of w 0).name room.unused) in
+        let none : table_named schema made.name ≡ None = rw (name_in table defined (next_tree schema)) (no_table schema (table 0).name unused) in
         position_past (λ t. same_name t.name made.name) 0 schema.tables made none (same_itself made.name)
 
     under_it : AllByRecursion (λ t. t.tree < made.tree) schema.tables
-    under_it = rw (tree_is w (next_tree schema)) below
+    under_it = rw (tree_in table defined (next_tree schema)) below
 
-    ref_past : (ref : Reference) → same_name (table_of w 0).name ref.parent ≡ false → is_in made.tree (find (λ t. same_name t.name ref.parent) (schema.tables ++ made ∷ [])) ≡ false
-    ref_past ref free =
-        let other : same_name made.name ref.parent ≡ false = ap (λ n. same_name n ref.parent) (name_is w (next_tree schema)) ∙ free in
+    ref_past : (ref : Reference) → same_name (table 0).name ref.parent ≡ false → is_in made.tree (find (λ t. same_name t.name ref.parent) (schema.tables ++ made ∷ [])) ≡ false
+    ref_past ref apart =
+        let other : same_name made.name ref.parent ≡ false = ap (λ n. same_name n ref.parent) (name_in table defined (next_tree schema)) ∙ apart in
         leads_past (λ t. same_name t.name ref.parent) schema.tables made under_it other (find (λ t. same_name t.name ref.parent) schema.tables) refl
 
-    child_past : (child : Table) → list_any (λ (ref : Reference). same_name (table_of w 0).name ref.parent) child.references ≡ false → Leads made.tree (schema.tables ++ made ∷ []) child
-    child_past child free =
-        weaker (λ (ref : Reference). same_name (table_of w 0).name ref.parent ≡ false) (λ (ref : Reference). is_in made.tree (find (λ t. same_name t.name ref.parent) (schema.tables ++ made ∷ [])) ≡ false) ref_past child.references
-        (none_passes (λ (ref : Reference). same_name (table_of w 0).name ref.parent) child.references free)
+    child_past : (child : Table) → list_any (λ (ref : Reference). same_name (table 0).name ref.parent) child.references ≡ false → Leads made.tree (schema.tables ++ made ∷ []) child
+    child_past child apart =
+        weaker (λ (ref : Reference). same_name (table 0).name ref.parent ≡ false) (λ (ref : Reference). is_in made.tree (find (λ t. same_name t.name ref.parent) (schema.tables ++ made ∷ [])) ≡ false) ref_past child.references
+        (none_passes (λ (ref : Reference). same_name (table 0).name ref.parent) child.references apart)
 
     unreferred : AllByRecursion (Leads made.tree (schema.tables ++ made ∷ [])) (schema.tables ++ made ∷ [])
     unreferred =
-        let free = none_passes (λ child. list_any (λ (ref : Reference). same_name (table_of w 0).name ref.parent) child.references) schema.tables room.unreferred in
         all_join (Leads made.tree (schema.tables ++ made ∷ [])) schema.tables (made ∷ [])
-        (weaker (λ child. list_any (λ (ref : Reference). same_name (table_of w 0).name ref.parent) child.references ≡ false) (Leads made.tree (schema.tables ++ made ∷ [])) child_past schema.tables free)
+        (weaker (λ child. list_any (λ (ref : Reference). same_name (table 0).name ref.parent) child.references ≡ false) (Leads made.tree (schema.tables ++ made ∷ [])) child_past schema.tables
+        (none_passes (λ child. list_any (λ (ref : Reference). same_name (table 0).name ref.parent) child.references) schema.tables free))
         (leads_from_made made.tree (schema.tables ++ made ∷ []), tt)
 
     none_there : AllByRecursion (λ t. (t.tree == made.tree) ≡ false) schema.tables
@@ -206,40 +194,40 @@ module _ (schema : Schema) (w : StoreTable) where
 
     no_key : (index : Index) → (index.table == next_tree schema) ≡ false → is_further_key made index ≡ false
     no_key index other =
-        let e : (index.table == made.tree) ≡ false = ap (λ n. index.table == n) (tree_is w (next_tree schema)) ∙ other in
+        let e : (index.table == made.tree) ≡ false = ap (λ n. index.table == n) (tree_in table defined (next_tree schema)) ∙ other in
         rw e refl
 
-    keyed : AllByRecursion (λ index. is_further_key made index ≡ false) (schema.indexes ++ keys_of w (next_tree schema) (next_tree schema + 1))
+    keyed : AllByRecursion (λ index. is_further_key made index ≡ false) (schema.indexes ++ keys_of made (next_tree schema + 1))
     keyed =
-        all_join (λ index. is_further_key made index ≡ false) schema.indexes (keys_of w (next_tree schema) (next_tree schema + 1))
-        (weaker (λ index. (index.table == next_tree schema) ≡ false) (λ index. is_further_key made index ≡ false) no_key schema.indexes owned) (own_keys w (next_tree schema) (next_tree schema + 1))
+        all_join (λ index. is_further_key made index ≡ false) schema.indexes (keys_of made (next_tree schema + 1))
+        (weaker (λ index. (index.table == next_tree schema) ≡ false) (λ index. is_further_key made index ≡ false) no_key schema.indexes owned) (defined.keyed (next_tree schema) (next_tree schema + 1))
 
-    pub made_own : HasOwn (created schema (table_of w 0)) (table_of w)
-    made_own = subst (λ s. HasOwn s (table_of w)) (made_is schema w) (record {
+    pub made_own : HasOwn (created schema (table 0)) table
+    made_own = subst (λ s. HasOwn s table) (made_is schema table defined) (record {
       at = 0 + length schema.tables;
       tree = next_tree schema;
       has = record {
         named = named;
         is = let e : 0 + length schema.tables ≡ length schema.tables = omega arith in rw e (slice_get-middle schema.tables made []);
         alone = alone;
-        stored = rw (tree_is w (next_tree schema)) low;
+        stored = rw (tree_in table defined (next_tree schema)) low;
         unreferred = unreferred;
       };
-      only = subst (λ n. filter (λ t. t.tree == n) (schema.tables ++ made ∷ []) ≡ made ∷ []) (tree_is w (next_tree schema)) only;
+      only = subst (λ n. filter (λ t. t.tree == n) (schema.tables ++ made ∷ []) ≡ made ∷ []) (tree_in table defined (next_tree schema)) only;
       keyed = keyed;
     })
 
   -- ---- and those that were there
 
-  module _ (other : StoreTable) (own : HasOwn schema (table_of other)) where
+  module _ (other : ℕ → Table) (also : IsDefinition other) (own : HasOwn schema other) where
     abbrev its : Table
-    its = table_of other own.tree
+    its = other own.tree
 
     under : its.tree < next_tree schema
     under = found_is (λ t. t.tree < next_tree schema) (λ t. t.tree == its.tree) schema.tables its below own.has.alone
 
     apart : (made.tree == its.tree) ≡ false
-    apart = rw (tree_is w (next_tree schema)) (differ_back its.tree (next_tree schema) under)
+    apart = rw (tree_in table defined (next_tree schema)) (differ_back its.tree (next_tree schema) under)
 
     ref_kept : (ref : Reference) → is_in its.tree (find (λ t. same_name t.name ref.parent) schema.tables) ≡ false → is_in its.tree (find (λ t. same_name t.name ref.parent) (schema.tables ++ made ∷ [])) ≡ false
     ref_kept ref e = leads_elsewhere its.tree (λ t. same_name t.name ref.parent) schema.tables made apart (find (λ t. same_name t.name ref.parent) schema.tables) refl e
@@ -255,18 +243,16 @@ module _ (schema : Schema) (w : StoreTable) where
         (weaker (Leads its.tree schema.tables) (Leads its.tree (schema.tables ++ made ∷ [])) child_kept schema.tables own.has.unreferred)
         (leads_from_made its.tree (schema.tables ++ made ∷ []), tt)
 
-    still_keyed : AllByRecursion (λ index. is_further_key its index ≡ false) (schema.indexes ++ keys_of w (next_tree schema) (next_tree schema + 1))
-    still_keyed =
-        all_join (λ index. is_further_key its index ≡ false) schema.indexes (keys_of w (next_tree schema) (next_tree schema + 1)) own.keyed
-        (other_keys w (next_tree schema) (next_tree schema + 1) its (differ_back its.tree (next_tree schema) under))
+    still_keyed : AllByRecursion (λ index. is_further_key its index ≡ false) (schema.indexes ++ keys_of made (next_tree schema + 1))
+    still_keyed = all_join (λ index. is_further_key its index ≡ false) schema.indexes (keys_of made (next_tree schema + 1)) own.keyed (other_keys made (next_tree schema + 1) its apart)
 
     still_only : filter (λ t. t.tree == own.tree) (schema.tables ++ made ∷ []) ≡ its ∷ []
     still_only =
-        let e : (made.tree == own.tree) ≡ false = rw (← tree_is other own.tree) apart in
+        let e : (made.tree == own.tree) ≡ false = rw (← tree_in other also own.tree) apart in
         filter-append (λ t. t.tree == own.tree) schema.tables (made ∷ []) ∙ rw (own.only, e) refl
 
-    pub kept_own : HasOwn (created schema (table_of w 0)) (table_of other)
-    kept_own = subst (λ s. HasOwn s (table_of other)) (made_is schema w) (record {
+    pub kept_own : HasOwn (created schema (table 0)) other
+    kept_own = subst (λ s. HasOwn s other) (made_is schema table defined) (record {
       at = own.at;
       tree = own.tree;
       has = record {
@@ -282,51 +268,8 @@ module _ (schema : Schema) (w : StoreTable) where
 
 -- ---- room for the others
 
--- the names that a table takes
-abbrev names_of : StoreTable → List (List ℕ)
-names_of w = (table_of w 0).name ∷ map (λ (i : Index). i.name) (keys_of w 0 0)
-
 abbrev is_apart : List (List ℕ) → List ℕ → Bool
 is_apart names name = not (list_any (λ own. same_name own name) names)
-
-apart_names : (w o : StoreTable) → (w ≡ o → ⊥) → list_all (is_apart (names_of w)) (names_of o) ≡ true
-unfolding same_name
-apart_names Mark Mark other = absurd (other refl)
-apart_names Mark Item other = refl
-apart_names Mark Member other = refl
-apart_names Mark Edition other = refl
-apart_names Mark Entry other = refl
-apart_names Mark Kept other = refl
-apart_names Item Mark other = refl
-apart_names Item Item other = absurd (other refl)
-apart_names Item Member other = refl
-apart_names Item Edition other = refl
-apart_names Item Entry other = refl
-apart_names Item Kept other = refl
-apart_names Member Mark other = refl
-apart_names Member Item other = refl
-apart_names Member Member other = absurd (other refl)
-apart_names Member Edition other = refl
-apart_names Member Entry other = refl
-apart_names Member Kept other = refl
-apart_names Edition Mark other = refl
-apart_names Edition Item other = refl
-apart_names Edition Member other = refl
-apart_names Edition Edition other = absurd (other refl)
-apart_names Edition Entry other = refl
-apart_names Edition Kept other = refl
-apart_names Entry Mark other = refl
-apart_names Entry Item other = refl
-apart_names Entry Member other = refl
-apart_names Entry Edition other = refl
-apart_names Entry Entry other = absurd (other refl)
-apart_names Entry Kept other = refl
-apart_names Kept Mark other = refl
-apart_names Kept Item other = refl
-apart_names Kept Member other = refl
-apart_names Kept Edition other = refl
-apart_names Kept Entry other = refl
-apart_names Kept Kept other = absurd (other refl)
 
 neither : (a b : Bool) → (a || b) ≡ false → (a ≡ false) × (b ≡ false)
 neither false b h = (refl, h)
@@ -348,39 +291,89 @@ joined : {X Y : Type 0} (f : X → Y) (P : Y → Type 0) (Q R : X → Type 0) �
 joined f P Q R so [] a b = tt
 joined f P Q R so (x ∷ xs) a b = (so x a.0 b.0, joined f P Q R so xs a.1 b.1)
 
--- the names of the indexes don't depend on their trees
-keys_named : (w : StoreTable) (n m : ℕ) (P : List ℕ → Type 0) → AllByRecursion P (map (λ (i : Index). i.name) (keys_of w 0 0)) → AllByRecursion (λ (i : Index). P i.name) (keys_of w n m)
-keys_named Mark n m P h = h
-keys_named Item n m P h = h
-keys_named Member n m P h = h
-keys_named Edition n m P h = h
-keys_named Entry n m P h = h
-keys_named Kept n m P h = h
+module _ (schema : Schema) (table : ℕ → Table) (defined : IsDefinition table) where
+  -- its keys are the same in each tree
+  same_keys : (n : ℕ) → (table n).uniques ≡ (table 0).uniques
+  same_keys n = ap (λ (t : Table). t.uniques) (defined.same n)
 
-module _ (schema : Schema) (w : StoreTable) where
-  free_still : (name : List ℕ) → is_apart (names_of w) name ≡ true → is_used schema name ≡ false → is_used (with_made schema w) name ≡ false
+  free_still : (name : List ℕ) → is_apart (names_of (table 0)) name ≡ true → is_used schema name ≡ false → is_used (with_made schema table) name ≡ false
   free_still name other free =
-      let none = none_passes (λ own. same_name own name) (names_of w) (not_true (list_any (λ own. same_name own name) (names_of w)) other) in
-      let mine : same_name (table_of w (next_tree schema)).name name ≡ false = ap (λ n. same_name n name) (name_is w (next_tree schema)) ∙ none.0 in
-      let keys = keys_named w (next_tree schema) (next_tree schema + 1) (λ own. same_name own name ≡ false) none.1 in
-      let t : table_named (with_made schema w) name ≡ None = position_none (λ t. same_name t.name name) 0 schema.tables (table_of w (next_tree schema) ∷ []) (no_table schema name free) (mine, tt) in
-      let i : index_named (with_made schema w) name ≡ None = position_none (λ (i : Index). same_name i.name name) 0 schema.indexes (keys_of w (next_tree schema) (next_tree schema + 1)) (no_index schema name free) keys in
+      let made = table (next_tree schema) in
+      let none = none_passes (λ own. same_name own name) (names_of (table 0)) (not_true (list_any (λ own. same_name own name) (names_of (table 0))) other) in
+      let mine : same_name (table (next_tree schema)).name name ≡ false = ap (λ n. same_name n name) (name_in table defined (next_tree schema)) ∙ none.0 in
+      let keys : AllByRecursion (λ (i : Index). same_name i.name name ≡ false) (keys_of (table (next_tree schema)) (next_tree schema + 1)) =
+      subst (λ uniques. AllByRecursion (λ (i : Index). same_name i.name name ≡ false) (automatics (table (next_tree schema)) 0 (next_tree schema + 1) uniques)) (sym (same_keys (next_tree schema)))
+      (keys_named (table 0) (table (next_tree schema)) (sym (name_in table defined (next_tree schema))) (λ own. same_name own name ≡ false) 0 0 (next_tree schema + 1) (table 0).uniques none.1) in
+      let t : table_named (with_made schema table) name ≡ None = position_none (λ t. same_name t.name name) 0 schema.tables (table (next_tree schema) ∷ []) (no_table schema name free) (mine, tt) in
+      let i : index_named (with_made schema table) name ≡ None = position_none (λ (i : Index). same_name i.name name) 0 schema.indexes (keys_of (table (next_tree schema)) (next_tree schema + 1)) (no_index schema name free) keys in
       let v : view_named schema name ≡ None = no_view schema name free in
       rw (t, i, v) refl
 
-  unreferred_still : (name : List ℕ) → is_referred schema name ≡ false → is_referred (with_made schema w) name ≡ false
-  unreferred_still name free =
-      list_any-append (λ child. list_any (λ (ref : Reference). same_name name ref.parent) child.references) schema.tables (table_of w (next_tree schema) ∷ []) ∙ rw (free, no_references w (next_tree schema)) refl
+  pub unused_still : (name : List ℕ) → list_any (λ own. same_name own name) (names_of (table 0)) ≡ false → is_used schema name ≡ false → is_used (created schema (table 0)) name ≡ false
+  unused_still name apart free = subst (λ s. is_used s name ≡ false) (made_is schema table defined) (free_still name (ap not apart) free)
 
-  pub room_kept : (o : StoreTable) → (w ≡ o → ⊥) → LeavesRoom schema (table_of o 0) → LeavesRoom (created schema (table_of w 0)) (table_of o 0)
-  room_kept o other room =
-      let apart = all_pass (is_apart (names_of w)) (names_of o) (apart_names w o other) in
-      subst (λ s. LeavesRoom s (table_of o 0)) (made_is schema w) (record {
-        unused = free_still (table_of o 0).name apart.0 room.unused;
-        unreferred = unreferred_still (table_of o 0).name room.unreferred;
-        unindexed = joined (λ (i : Index). i.name) (λ name. is_apart (names_of w) name ≡ true) (λ (i : Index). is_used schema i.name ≡ false) (λ (i : Index). is_used (with_made schema w) i.name ≡ false) (λ i a f. free_still i.name a f)
-            (keys_of o 0 0) apart.1 room.unindexed;
+  unreferred_still : (name : List ℕ) → is_referred schema name ≡ false → is_referred (with_made schema table) name ≡ false
+  unreferred_still name free =
+      list_any-append (λ child. list_any (λ (ref : Reference). same_name name ref.parent) child.references) schema.tables (table (next_tree schema) ∷ []) ∙ rw (free, no_references table defined (next_tree schema)) refl
+
+  pub room_kept : (other : Table) → are_named_apart (table 0) other ≡ true → LeavesRoom schema other → LeavesRoom (created schema (table 0)) other
+  room_kept other names room =
+      let apart = all_pass (is_apart (names_of (table 0))) (names_of other) names in
+      subst (λ s. LeavesRoom s other) (made_is schema table defined) (record {
+        unused = free_still other.name apart.0 room.unused;
+        unreferred = unreferred_still other.name room.unreferred;
+        unindexed = joined (λ (i : Index). i.name) (λ name. is_apart (names_of (table 0)) name ≡ true) (λ (i : Index). is_used schema i.name ≡ false) (λ (i : Index). is_used (with_made schema table) i.name ≡ false) (λ i a f. free_still i.name a f)
+            (automatics other 0 0 other.uniques) apart.1 room.unindexed;
       })
+
+-- ---- the tables of schema 1
+
+pub store_defined : (t : StoreTable) → IsDefinition (table_of t)
+store_defined Mark = record { same = λ n. refl; unreferring = refl; keyed = λ n m. tt }
+store_defined Item = record { same = λ n. refl; unreferring = refl; keyed = λ n m. (rw (is_itself n) refl, tt) }
+store_defined Member = record { same = λ n. refl; unreferring = refl; keyed = λ n m. (rw (is_itself n) refl, (rw (is_itself n) refl, tt)) }
+store_defined Edition = record { same = λ n. refl; unreferring = refl; keyed = λ n m. tt }
+store_defined Entry = record { same = λ n. refl; unreferring = refl; keyed = λ n m. (rw (is_itself n) refl, tt) }
+store_defined Kept = record { same = λ n. refl; unreferring = refl; keyed = λ n m. (rw (is_itself n) refl, (rw (is_itself n) refl, tt)) }
+
+pub store_apart : (w o : StoreTable) → (w ≡ o → ⊥) → are_named_apart (table_of w 0) (table_of o 0) ≡ true
+unfolding same_name
+store_apart Mark Mark other = absurd (other refl)
+store_apart Mark Item other = refl
+store_apart Mark Member other = refl
+store_apart Mark Edition other = refl
+store_apart Mark Entry other = refl
+store_apart Mark Kept other = refl
+store_apart Item Mark other = refl
+store_apart Item Item other = absurd (other refl)
+store_apart Item Member other = refl
+store_apart Item Edition other = refl
+store_apart Item Entry other = refl
+store_apart Item Kept other = refl
+store_apart Member Mark other = refl
+store_apart Member Item other = refl
+store_apart Member Member other = absurd (other refl)
+store_apart Member Edition other = refl
+store_apart Member Entry other = refl
+store_apart Member Kept other = refl
+store_apart Edition Mark other = refl
+store_apart Edition Item other = refl
+store_apart Edition Member other = refl
+store_apart Edition Edition other = absurd (other refl)
+store_apart Edition Entry other = refl
+store_apart Edition Kept other = refl
+store_apart Entry Mark other = refl
+store_apart Entry Item other = refl
+store_apart Entry Member other = refl
+store_apart Entry Edition other = refl
+store_apart Entry Entry other = absurd (other refl)
+store_apart Entry Kept other = refl
+store_apart Kept Mark other = refl
+store_apart Kept Item other = refl
+store_apart Kept Member other = refl
+store_apart Kept Edition other = refl
+store_apart Kept Entry other = refl
+store_apart Kept Kept other = absurd (other refl)
 
 -- ---- room for all is room for each
 

@@ -1,4 +1,4 @@
-use Rattle.std.proofs.Common.{List, ◌∷◌, ◌++◌, Some, None, sym, subst}
+use Rattle.std.proofs.Common.{List, Some, None, sym, subst}
 use Rattle.sqlite.specs.Order.{Row}
 use Rattle.sqlite.specs.Given as kit
 use Rattle.sqlite.specs.Held.{state}

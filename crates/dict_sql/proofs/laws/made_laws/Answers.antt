@@ -1,4 +1,4 @@
-use Rattle.dict_sql.proofs.MakeLemmas.{one_own, one_keeps, one_leaves, one_rows}
+use Rattle.dict_sql.proofs.MakeLemmas.{one_own, one_keeps, one_leaves, one_unused, one_rows}
 use Rattle.dict_sql.proofs.laws.made_laws.Goals as goal
 
 pub returns-clause-made : goal.returns-clause-made
@@ -9,6 +9,9 @@ returns-clause-kept c = one_keeps
 
 pub returns-clause-room : goal.returns-clause-room
 returns-clause-room c = one_leaves
+
+pub returns-clause-unused : goal.returns-clause-unused
+returns-clause-unused c = one_unused
 
 pub returns-clause-rows : goal.returns-clause-rows
 returns-clause-rows c = one_rows

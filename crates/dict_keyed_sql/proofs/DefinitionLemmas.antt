@@ -1,0 +1,71 @@
+-- The tables of what is derived are defined for whichever tree they are made in, and there is room for them.
+use Rattle.std.proofs.Common.{◌≡◌, ◌==◌, ℕ, List, [], ◌∷◌, map, true, false, codes, refl, sym, subst, arith}
+use Rattle.std.specs.Fmt.{digits}
+use Rattle.sqlite.specs.Change.{automatics}
+use Rattle.sqlite_schema.specs.Names.{same_name}
+use Rattle.sqlite_schema.specs.declared.schema.Index.{Index}
+use Rattle.dict_tables.specs.Definitions.{IsDefinition, are_named_apart}
+use Rattle.dict_tables.specs.Tables as store
+use Rattle.dict_tables.specs.declared.tables.StoreTable.{StoreTable}
+use Rattle.dict_tables.specs.declared.tables.StoreTable.TheVariants as made
+use Rattle.dict_keyed_sql.specs.Tables.{table_of}
+use Rattle.dict_keyed_sql.specs.declared.tables.KeyedTable.{KeyedTable}
+use Rattle.dict_keyed_sql.specs.declared.tables.KeyedTable.TheVariants.{Entry, Word, Gram}
+
+itself : (n : ℕ) → (n == n) ≡ true
+itself n = search arith
+
+pub keyed_defined : (t : KeyedTable) → IsDefinition (table_of t)
+keyed_defined Entry = record { same = λ n. refl; unreferring = refl; keyed = λ n m. (rw (itself n) refl, tt) }
+keyed_defined Word = record { same = λ n. refl; unreferring = refl; keyed = λ n m. (rw (itself n) refl, tt) }
+keyed_defined Gram = record { same = λ n. refl; unreferring = refl; keyed = λ n m. (rw (itself n) refl, tt) }
+
+pub keyed_apart : (t o : KeyedTable) → (t ≡ o → ⊥) → are_named_apart (table_of t 0) (table_of o 0) ≡ true
+unfolding same_name
+keyed_apart Entry Entry other = absurd (other refl)
+keyed_apart Entry Word other = refl
+keyed_apart Entry Gram other = refl
+keyed_apart Word Entry other = refl
+keyed_apart Word Word other = absurd (other refl)
+keyed_apart Word Gram other = refl
+keyed_apart Gram Entry other = refl
+keyed_apart Gram Word other = refl
+keyed_apart Gram Gram other = absurd (other refl)
+
+pub from_store : (t : KeyedTable) (o : StoreTable) → same_name (table_of t 0).name (store.table_of o 0).name ≡ false → (are_named_apart (table_of t 0) (store.table_of o 0) ≡ true) × (are_named_apart (store.table_of o 0) (table_of t 0) ≡ true)
+unfolding same_name
+from_store Entry made.Mark other = (refl, refl)
+from_store Entry made.Item other = (refl, refl)
+from_store Entry made.Member other = (refl, refl)
+from_store Entry made.Edition other = (refl, refl)
+from_store Entry made.Entry other = absurd (let e = other in cc)
+from_store Entry made.Kept other = (refl, refl)
+from_store Word made.Mark other = (refl, refl)
+from_store Word made.Item other = (refl, refl)
+from_store Word made.Member other = (refl, refl)
+from_store Word made.Edition other = (refl, refl)
+from_store Word made.Entry other = (refl, refl)
+from_store Word made.Kept other = (refl, refl)
+from_store Gram made.Mark other = (refl, refl)
+from_store Gram made.Item other = (refl, refl)
+from_store Gram made.Member other = (refl, refl)
+from_store Gram made.Edition other = (refl, refl)
+from_store Gram made.Entry other = (refl, refl)
+from_store Gram made.Kept other = (refl, refl)
+
+-- ---- the names of the indexes that are made with them
+
+abbrev IsMadeWith : KeyedTable → List ℕ → Type 0
+IsMadeWith t name = map (λ (i : Index). i.name) (automatics (table_of t 0) 0 0 (table_of t 0).uniques) ≡ name ∷ []
+
+pub entry_names : (t : KeyedTable) → t ≡ Entry → IsMadeWith t (codes "sqlite_autoindex_entry_1")
+unfolding digits
+entry_names t is = subst (λ k. IsMadeWith k (codes "sqlite_autoindex_entry_1")) (sym is) refl
+
+pub word_names : (t : KeyedTable) → t ≡ Word → IsMadeWith t (codes "sqlite_autoindex_word_1")
+unfolding digits
+word_names t is = subst (λ k. IsMadeWith k (codes "sqlite_autoindex_word_1")) (sym is) refl
+
+pub gram_names : (t : KeyedTable) → t ≡ Gram → IsMadeWith t (codes "sqlite_autoindex_gram_1")
+unfolding digits
+gram_names t is = subst (λ k. IsMadeWith k (codes "sqlite_autoindex_gram_1")) (sym is) refl

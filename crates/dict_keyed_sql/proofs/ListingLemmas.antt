@@ -1,0 +1,21 @@
+-- All rows of a table that are read are those that it has.
+use Rattle.std.proofs.Common.{◌≡◌, List, [], ◌∷◌, filter, true, refl, ap, subst}
+use Rattle.std.specs.List.Sorted.{IsPermutation}
+use Rattle.sqlite.specs.Effect.{Database}
+use Rattle.sqlite.specs.Order.{Row}
+use Rattle.dict_sql.specs.Effects.{rows_of}
+use Rattle.dict_sql.specs.Reads.{IsListing}
+use Rattle.dict_keyed_sql.specs.Tables.{table_of}
+use Rattle.dict_keyed_sql.specs.Scans.{IsWhole, whole_order}
+use Rattle.dict_keyed_sql.specs.Scans.Scan.{All}
+use Rattle.dict_keyed_sql.specs.declared.tables.KeyedTable.{KeyedTable}
+
+all_pass : {X : Type 0} (xs : List X) → filter (λ _. true) xs ≡ xs
+all_pass [] = refl
+all_pass (x ∷ xs) = ap (λ l. x ∷ l) (all_pass xs)
+
+pub listed : (table : KeyedTable) (db : Database) (rows : List Row) → IsWhole (All table) db rows → IsListing (table_of table 0).name (whole_order table) db rows
+listed table db rows whole = record {
+  same = subst (λ l. IsPermutation l rows) (all_pass (rows_of (table_of table 0).name db)) whole.same;
+  sorted = whole.sorted;
+}

@@ -1,0 +1,53 @@
+-- The tables and the indexes of what is derived, made one after the other.
+use Rattle.std.specs.Prelude.{◌≡◌, ℕ, false, List, [], Some}
+use Rattle.sqlite.specs.Table.{Table}
+use Rattle.sqlite.specs.Schema.{Schema}
+use Rattle.sqlite.specs.Effect.{Database, IsDatabase}
+use Rattle.sqlite.specs.Change.{is_used}
+use Rattle.sqlite.specs.Does.{lacks_sequence}
+use Rattle.dict_tables.specs.Definitions.{IsDefinition}
+use Rattle.dict_tables.specs.Found.{HasOwn}
+use Rattle.dict_tables.specs.Room.{LeavesRoom}
+use Rattle.dict_sql.specs.Creates.{IsMade}
+use Rattle.dict_sql.specs.Effects.{rows_of, table_in}
+use Rattle.dict_keyed_sql.specs.Tables.{table_of, entry, word, gram}
+use Rattle.dict_keyed_sql.specs.Indexes.{index_of, HasIndex, IsIndexed}
+use Rattle.dict_keyed_sql.specs.declared.indexes.KeyIndex.{KeyIndex}
+use Rattle.dict_keyed_sql.specs.declared.indexes.KeyIndex.TheVariants.{Key, Reversed}
+use Rattle.dict_keyed_sql.specs.declared.tables.KeyedTable.{KeyedTable}
+
+-- There is room for each of the tables, the names of the indexes are free, and no table with AUTOINCREMENT waits for its counter, which a CREATE would make too.
+pub record HasKeyedRoom (schema : Schema) : Type 0 where
+  pub entries : LeavesRoom schema (entry 0)
+  pub words : LeavesRoom schema (word 0)
+  pub grams : LeavesRoom schema (gram 0)
+  pub key : is_used schema (index_of Key).name ≡ false
+  pub reversed : is_used schema (index_of Reversed).name ≡ false
+  pub counted : lacks_sequence schema ≡ false
+
+-- Whether a schema has that room is tested by `has_keyed_room`; that the database of an open connection is sound is known of every one.
+pub record IsReady (db : Database) : Type 0 where
+  pub has_room : HasKeyedRoom db.schema
+  pub sound : IsDatabase db
+
+-- what the statements do, one after the other
+pub record MadeInTurn (old new : Database) : Type 0 where
+  pub entries : Database
+  pub words : Database
+  pub grams : Database
+  pub keyed : Database
+  pub entry_made : IsMade (entry 0) old entries
+  pub word_made : IsMade (word 0) entries words
+  pub gram_made : IsMade (gram 0) words grams
+  pub key_made : IsIndexed Key grams keyed
+  pub reversed_made : IsIndexed Reversed keyed new
+
+-- The tables are there as the statements need them, without rows, and both indexes. Each table that was had is had still, and the rows of every table are as before.
+pub record AreMade (old new : Database) : Type 0 where
+  pub in_turn : MadeInTurn old new
+  pub own : (table : KeyedTable) → HasOwn new.schema (table_of table)
+  pub empty : (table : KeyedTable) → rows_of (table_of table 0).name new ≡ []
+  pub indexed : (which : KeyIndex) → HasIndex new.schema which
+  pub kept : (other : ℕ → Table) → IsDefinition other → HasOwn old.schema other → HasOwn new.schema other
+  pub rows : (name : List ℕ) (there : Table) → table_in name old ≡ Some there → rows_of name new ≡ rows_of name old
+  pub sound : IsDatabase new
