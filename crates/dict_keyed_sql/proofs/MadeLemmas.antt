@@ -5,6 +5,7 @@ use Rattle.sqlite.specs.Table.{Table}
 use Rattle.sqlite.specs.Schema.{Schema}
 use Rattle.sqlite.specs.Effect.{Database, IsDatabase}
 use Rattle.sqlite.specs.Change.{is_used, indexed, next_tree, automatics}
+use Rattle.sqlite.specs.Does.{lacks_sequence}
 use Rattle.sqlite.specs.State.{State, KeepsCommit}
 use Rattle.sqlite.specs.declared.error.Error.{Error}
 use Rattle.sqlite.specs.declared.error.Error.TheVariants.{SqliteFailure}
@@ -27,7 +28,7 @@ use Rattle.dict_sql.proofs.KitLemmas.{all_has}
 use Rattle.dict_sql.proofs.MakeLemmas.{one_own, one_keeps, one_leaves, one_unused, one_rows, found_later, more_since, keeps_then, goes_keeps, goes_then}
 use Rattle.dict_keyed_sql.specs.Tables.{table_of, entry, word, gram}
 use Rattle.dict_keyed_sql.specs.Indexes.{index_of, HasIndex, HasToIndex, IsIndexed, RefusesToIndex}
-use Rattle.dict_keyed_sql.specs.Made.{IsReady, AreMade}
+use Rattle.dict_keyed_sql.specs.Made.{IsKeyedReady, AreKeyedMade}
 use Rattle.dict_keyed_sql.specs.declared.indexes.KeyIndex.{KeyIndex}
 use Rattle.dict_keyed_sql.specs.declared.indexes.KeyIndex.TheVariants.{Key, Reversed}
 use Rattle.dict_keyed_sql.specs.declared.tables.KeyedTable.{KeyedTable}
@@ -114,7 +115,7 @@ module _ (which : KeyIndex) (old new : Database) (has : Has entry old) (made : I
 
 -- ---- step by step
 
-module _ (old : Database) (ready : IsReady old) where
+module _ (old : Database) (ready : IsKeyedReady old) where
   pub room_of : (t : KeyedTable) → LeavesRoom old.schema (table_of t 0)
   room_of Entry = ready.has_room.entries
   room_of Word = ready.has_room.words
@@ -209,7 +210,10 @@ module _ (old : Database) (ready : IsReady old) where
             index_all Key = index_stays Reversed keyed new has_still reversed_made Key (indexed_there Key grams keyed has_entries key_made (index_free Key))
             index_all Reversed = indexed_there Reversed keyed new has_still reversed_made second_to_index.unused
 
-            pub all_made : AreMade old new
+            counted : lacks_sequence new.schema ≡ false
+            counted = ap lacks_sequence (is_indexed Reversed keyed new has_still reversed_made) ∙ ap lacks_sequence (is_indexed Key grams keyed has_entries key_made) ∙ gram_made.counted
+
+            pub all_made : AreKeyedMade old new
             all_made = record {
               in_turn = record { entries = entries; words = words; grams = grams; keyed = keyed; entry_made = entry_made; word_made = word_made; gram_made = gram_made; key_made = key_made; reversed_made = reversed_made };
               own = own_all;
@@ -217,6 +221,7 @@ module _ (old : Database) (ready : IsReady old) where
               indexed = index_all;
               kept = from_old.kept;
               rows = from_old.rows;
+              counted = counted;
               sound = reversed_made.sound;
             }
 
@@ -257,7 +262,7 @@ fails_behind Refuses TooBig old mid new e before unrefused f = record {
   keeps = record { was_open = λ open'. before.keeps.was_open (f.keeps.was_open open'); committed = λ open'. f.keeps.committed open' ∙ before.keeps.committed (f.keeps.was_open open') };
   cause = λ within. elim (f.cause (before.mode within)) [
     | inl refused ↦ inl (unrefused refused.1.0.was_open refused.0)
-    | inr fell ↦ inr (fell.3.autocommit, λ open'. (fell.3.undone open').0 ∙ before.keeps.committed (fell.3.was_open open'))
+    | inr fell ↦ inr (fell.0, fell.1, fell.3.autocommit, λ open'. (fell.3.undone open').0 ∙ before.keeps.committed (fell.3.was_open open'))
   ];
   counts = λ named. more_since old.faults mid.faults new.faults before.faults (f.counts named);
 }

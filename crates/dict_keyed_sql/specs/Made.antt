@@ -26,12 +26,12 @@ pub record HasKeyedRoom (schema : Schema) : Type 0 where
   pub counted : lacks_sequence schema ≡ false
 
 -- Whether a schema has that room is tested by `has_keyed_room`; that the database of an open connection is sound is known of every one.
-pub record IsReady (db : Database) : Type 0 where
+pub record IsKeyedReady (db : Database) : Type 0 where
   pub has_room : HasKeyedRoom db.schema
   pub sound : IsDatabase db
 
 -- what the statements do, one after the other
-pub record MadeInTurn (old new : Database) : Type 0 where
+pub record KeyedInTurn (old new : Database) : Type 0 where
   pub entries : Database
   pub words : Database
   pub grams : Database
@@ -42,12 +42,13 @@ pub record MadeInTurn (old new : Database) : Type 0 where
   pub key_made : IsIndexed Key grams keyed
   pub reversed_made : IsIndexed Reversed keyed new
 
--- The tables are there as the statements need them, without rows, and both indexes. Each table that was had is had still, and the rows of every table are as before.
-pub record AreMade (old new : Database) : Type 0 where
-  pub in_turn : MadeInTurn old new
+-- The tables are there as the statements need them, without rows, and both indexes. Each table that was had is had still, the rows of every table are as before, and no table waits for its counter.
+pub record AreKeyedMade (old new : Database) : Type 0 where
+  pub in_turn : KeyedInTurn old new
   pub own : (table : KeyedTable) → HasOwn new.schema (table_of table)
   pub empty : (table : KeyedTable) → rows_of (table_of table 0).name new ≡ []
   pub indexed : (which : KeyIndex) → HasIndex new.schema which
   pub kept : (other : ℕ → Table) → IsDefinition other → HasOwn old.schema other → HasOwn new.schema other
   pub rows : (name : List ℕ) (there : Table) → table_in name old ≡ Some there → rows_of name new ≡ rows_of name old
+  pub counted : lacks_sequence new.schema ≡ false
   pub sound : IsDatabase new

@@ -4,7 +4,7 @@ ghost use Rattle.std.specs.Prelude.{◌≡◌, IfErr, OnOk};
 ghost use Rattle.sqlite.specs.State.{HasCleanDisk, Survives};
 ghost use Rattle.dict_sql.specs.Effects.{GoesOn, WhileOpen, seen};
 ghost use Rattle.dict_sql.specs.Creates.{IsFree, Makes, FailsToMake, FailsToMakeAll};
-ghost use Rattle.dict_keyed_sql.specs.Made.{IsReady, AreMade};
+ghost use Rattle.dict_keyed_sql.specs.Made.{IsKeyedReady, AreKeyedMade};
 ghost use Rattle.dict_keyed_sql.specs.Tables.{table_of};
 ghost use Rattle.dict_keyed_sql.specs.Texts.{create_text};
 
@@ -42,13 +42,13 @@ pub fn create_keyed_table<S: Alter>(
     tx.execute(text_of(table), &[])
 }
 
-/// Makes all three tables and the indexes of the entries by their keys, where there is room for them: they are there as every statement needs them, and have no rows. What was there stays, so that a transaction may make them beside other tables, and fill them.
+/// Makes all three tables and the indexes of the entries by their keys, where there is room for them: they are there as every statement needs them, and have no rows. What was there stays, so that a transaction may make them behind other tables, and fill them all.
 ///
-/// An error is the store's, or tells that there are too many trees.
+/// An error commits nothing: it is the store's, and the transaction is undone, or it tells that there are too many trees.
 pub fn create_keyed_tables<S: Alter>(tx: &mut Transaction<'_, S>) -> Result<(), Error>
-    requires { WhileOpen (seen S.Store tx.old) IsReady }
+    requires { WhileOpen (seen S.Store tx.old) IsKeyedReady }
     ensures same_reference { tx.new.conn.ghost_name ≡ tx.old.conn.ghost_name }
-    ensures made { HasCleanDisk (seen S.Store tx.new) → OnOk result (AreMade (seen S.Store tx.old).now (seen S.Store tx.new).now × GoesOn (seen S.Store tx.old) (seen S.Store tx.new)) }
+    ensures made { HasCleanDisk (seen S.Store tx.new) → OnOk result (AreKeyedMade (seen S.Store tx.old).now (seen S.Store tx.new).now × GoesOn (seen S.Store tx.old) (seen S.Store tx.new)) }
     ensures failed { HasCleanDisk (seen S.Store tx.new) → IfErr result (FailsToMakeAll (seen S.Store tx.old) (seen S.Store tx.new)) }
     ensures survives { Survives (seen S.Store tx.old) (seen S.Store tx.new) (λ _. ⊥) }
 {

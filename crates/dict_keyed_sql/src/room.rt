@@ -33,7 +33,7 @@ pub fn has_room_for(schema: &Schema, table: KeyedTable) -> bool
         && !is_name_used(schema, own_index(table).as_bytes())
 }
 
-/// Whether all tables and indexes can be made: there is room for each table, the names of the indexes are free, and no table waits for its counter.
+/// Whether all tables and indexes can be made: there is room for each table, the names of the indexes are free, and no table waits for its counter. `dict_tables::has_room` asks nothing of the names of the indexes that are made with `word` and `gram`.
 pub fn has_keyed_room(schema: &Schema) -> bool
     ensures { IsTrue result ↔ HasKeyedRoom schema.now }
 {

@@ -1,9 +1,11 @@
 -- What a database has once a table was dropped.
-use Rattle.std.proofs.Common.{◌≡◌, ◌==◌, ℕ, find, not, false, Some, None, refl, sym, ap, subst, ◌∙◌}
+use Rattle.std.proofs.Common.{◌≡◌, ◌==◌, ℕ, find, not, false, Some, None, refl, sym, ap, subst, ◌∙◌, codes, List, true}
+use Rattle.std.specs.List.{AllByRecursion}
 use Rattle.sqlite.specs.Table.{Table}
 use Rattle.sqlite.specs.Schema.{Schema}
 use Rattle.sqlite.specs.Effect.{Database, IsDatabase}
 use Rattle.sqlite.specs.Change.{is_used, without_table}
+use Rattle.sqlite.specs.Does.{lacks_sequence}
 use Rattle.sqlite_schema.specs.Names.{same_name, table_named, index_named, view_named}
 use Rattle.sqlite_schema.specs.declared.schema.Index.{Index}
 use Rattle.dict_tables.specs.Definitions.{IsDefinition}
@@ -11,7 +13,7 @@ use Rattle.dict_tables.specs.Found.{HasOwn}
 use Rattle.dict_tables.specs.Room.{LeavesRoom, is_referred}
 use Rattle.dict_tables.proofs.PlaceLemmas.{found}
 use Rattle.dict_tables.proofs.MadeLemmas.{found_is, name_in, tree_in}
-use Rattle.dict_tables.proofs.DroppedLemmas.{dropped_own, dropped_unreferred, dropped_room, still_found, none_left}
+use Rattle.dict_tables.proofs.DroppedLemmas.{dropped_own, dropped_unreferred, dropped_room, still_found, none_left, free_left, freed_left, counted_left}
 use Rattle.dict_sql.specs.Effects.{rows_of, table_in}
 use Rattle.dict_sql.specs.Drops.{IsDropped}
 
@@ -48,3 +50,12 @@ module _ (table : ℕ → Table) (defined : IsDefinition table) (old new : Datab
       let i : index_named new.schema (table 0).name ≡ None = ap (λ (s : Schema). index_named s (table 0).name) left ∙ none_left (λ (i : Index). not (i.table == own.tree)) (λ (i : Index). same_name i.name (table 0).name) 0 0 old.schema.indexes index in
       let v : view_named new.schema (table 0).name ≡ None = ap (λ (s : Schema). view_named s (table 0).name) left ∙ view in
       rw (t, i, v) refl
+
+  pub drop_frees : (name : List ℕ) → table_named old.schema name ≡ None → view_named old.schema name ≡ None → AllByRecursion (λ (index : Index). same_name index.name name ≡ true → index.table ≡ own.tree) old.schema.indexes → is_used new.schema name ≡ false
+  drop_frees name table' view mine = subst (λ s. is_used s name ≡ false) (sym left) (freed_left old.schema table defined own name table' view mine)
+
+  pub drop_still_free : (name : List ℕ) → is_used old.schema name ≡ false → is_used new.schema name ≡ false
+  drop_still_free name free = subst (λ s. is_used s name ≡ false) (sym left) (free_left old.schema table defined own name free)
+
+  pub drop_counted : same_name (table 0).name (codes "sqlite_sequence") ≡ false → lacks_sequence old.schema ≡ false → lacks_sequence new.schema ≡ false
+  drop_counted other lacks = subst (λ s. lacks_sequence s ≡ false) (sym left) (counted_left old.schema table defined own other lacks)

@@ -229,7 +229,7 @@ module _ (ts : List StoreTable) (i : ℕ) (t : StoreTable) (at : slice_get ts i 
     keeps = record { was_open = λ open'. keeps.was_open (f.keeps.was_open open'); committed = λ open'. f.keeps.committed open' ∙ keeps.committed (f.keeps.was_open open') };
     cause = λ within. elim (f.cause (mode within)) [
       | inl refused ↦ inl (unrefused e refused.1.0.was_open refused.0)
-      | inr fell ↦ inr (fell.3.autocommit, λ open'. (fell.3.undone open').0 ∙ keeps.committed (fell.3.was_open open'))
+      | inr fell ↦ inr (fell.0, fell.1, fell.3.autocommit, λ open'. (fell.3.undone open').0 ∙ keeps.committed (fell.3.was_open open'))
     ];
     counts = λ named. more_since old.faults mid.faults new.faults faults (f.counts named);
   }

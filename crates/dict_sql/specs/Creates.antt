@@ -8,7 +8,8 @@ use Rattle.sqlite.specs.Change.{created, is_used}
 use Rattle.sqlite.specs.Does.{lacks_sequence}
 use Rattle.dict_tables.specs.declared.tables.StoreTable.{StoreTable}
 use Rattle.dict_tables.specs.declared.tables.StoreTable.TheVariants.{Mark, Item, Member, Edition, Entry, Kept}
-use Rattle.sqlite.specs.State.{State, KeepsCommit}
+use Rattle.sqlite.specs.State.{State, KeepsCommit, store_error}
+use Rattle.sqlite_trees.specs.declared.error.StoreError.{StoreError}
 use Rattle.sqlite.specs.declared.error.Error.{Error}
 use Rattle.sqlite.specs.declared.error.Error.TheVariants.{SqliteFailure}
 use Rattle.sqlite.specs.declared.error.ErrorCode.TheVariants as code
@@ -71,8 +72,8 @@ pub record IsReady (db : Database) : Type 0 where
   pub room : HasRoom db.schema
   pub sound : IsDatabase db
 
--- Several statements of a transaction failed: nothing was committed, and either there are too many trees, or the store failed and the transaction is undone.
+-- Several statements of a transaction failed: nothing was committed, and either the error tells that there are too many trees, or the store failed for the cause that the error names, and the transaction is undone.
 pub record FailsToMakeAll (old new : State) (e : Error) : Type 0 where
   pub keeps : KeepsCommit old new
-  pub cause : IsTrue old.in_transaction → (e ≡ SqliteFailure code.SchemaTooBig) ⊎ ((new.in_transaction ≡ false) × (IsTrue new.is_open → new.now ≡ old.committed))
+  pub cause : IsTrue old.in_transaction → (e ≡ SqliteFailure code.SchemaTooBig) ⊎ ((cause : StoreError) × (e ≡ store_error cause) × (new.in_transaction ≡ false) × (IsTrue new.is_open → new.now ≡ old.committed))
   pub counts : CountsFaults old new e

@@ -1,7 +1,7 @@
 //! Laws of what the statements do: each function does nothing, and its contract is the law.
 
-ghost use Rattle.std.specs.Prelude.{◌≡◌, ◌≤◌, ℕ, Bool, true, false, List, [], Some, None};
-ghost use Rattle.std.specs.List.{list_any};
+ghost use Rattle.std.specs.Prelude.{◌≡◌, ◌≤◌, ℕ, Bool, true, false, List, [], codes, Some, None};
+ghost use Rattle.std.specs.List.{AllByRecursion, list_any};
 ghost use Rattle.sqlite.specs.Order.{Row};
 ghost use Rattle.sqlite.specs.Table.{Table};
 ghost use Rattle.sqlite.specs.Effect.{Database, IsDatabase};
@@ -9,7 +9,9 @@ ghost use Rattle.sqlite.specs.Held.{state};
 ghost use Rattle.sqlite.specs.Steps.{FailsToCommit};
 ghost use Rattle.sqlite.specs.declared.error.Error.{Error};
 ghost use Rattle.sqlite.specs.Change.{is_used};
-ghost use Rattle.sqlite_schema.specs.Names.{same_name, index_named, view_named};
+ghost use Rattle.sqlite.specs.Does.{lacks_sequence};
+ghost use Rattle.sqlite_schema.specs.Names.{same_name, table_named, index_named, view_named};
+ghost use Rattle.sqlite_schema.specs.declared.schema.Index.{Index};
 ghost use Rattle.dict_tables.specs.Definitions.{IsDefinition, are_named_apart, names_of};
 ghost use Rattle.dict_tables.specs.Found.{HasOwn};
 ghost use Rattle.dict_tables.specs.Room.{LeavesRoom, is_referred};
@@ -29,13 +31,17 @@ pub fn made_laws()
     ensures rows { (table : Table) (old new : Database) → IsMade table old new → (name : List ℕ) (there : Table) → table_in name old ≡ Some there → rows_of name new ≡ rows_of name old }
 {}
 
-/// Where a table was dropped, each of another name that was had is had still, with its rows, and what there was room for has room. No foreign key names the one that went, and its name is free where no index and no view has it.
+/// Where a table was dropped, each of another name that was had is had still, with its rows, and what there was room for has room. No foreign key names the one that went. Its name is free where no index and no view has it, and so are those that its own indexes alone had; a name that was free is free still, and no table waits for its counter, if none did.
 pub fn dropped_laws()
     ensures kept { (table : ℕ → Table) → IsDefinition table → (old new : Database) → IsDropped (table 0).name old new → HasOwn old.schema table → (other : ℕ → Table) → IsDefinition other → same_name (other 0).name (table 0).name ≡ false → HasOwn old.schema other → HasOwn new.schema other }
     ensures rows { (table : ℕ → Table) → IsDefinition table → (old new : Database) → IsDropped (table 0).name old new → HasOwn old.schema table → (other : ℕ → Table) → IsDefinition other → same_name (other 0).name (table 0).name ≡ false → HasOwn old.schema other → rows_of (other 0).name new ≡ rows_of (other 0).name old }
     ensures room { (table : ℕ → Table) → IsDefinition table → (old new : Database) → IsDropped (table 0).name old new → HasOwn old.schema table → (other : Table) → LeavesRoom old.schema other → LeavesRoom new.schema other }
     ensures unreferred { (table : ℕ → Table) → IsDefinition table → (old new : Database) → IsDropped (table 0).name old new → HasOwn old.schema table → is_referred new.schema (table 0).name ≡ false }
-    ensures unused { (table : ℕ → Table) → IsDefinition table → (old new : Database) → IsDropped (table 0).name old new → HasOwn old.schema table → IsDatabase old → index_named old.schema (table 0).name ≡ None → view_named old.schema (table 0).name ≡ None → is_used new.schema (table 0).name ≡ false }
+    ensures gone { (table : ℕ → Table) → IsDefinition table → (old new : Database) → IsDropped (table 0).name old new → HasOwn old.schema table → IsDatabase old → index_named old.schema (table 0).name ≡ None → view_named old.schema (table 0).name ≡ None → is_used new.schema (table 0).name ≡ false }
+    ensures freed { (table : ℕ → Table) → IsDefinition table → (old new : Database) → IsDropped (table 0).name old new → (own : HasOwn old.schema table) → (name : List ℕ) → table_named old.schema name ≡ None → view_named old.schema name ≡ None
+        → AllByRecursion (λ (index : Index). same_name index.name name ≡ true → index.table ≡ own.tree) old.schema.indexes → is_used new.schema name ≡ false }
+    ensures unused { (table : ℕ → Table) → IsDefinition table → (old new : Database) → IsDropped (table 0).name old new → HasOwn old.schema table → (name : List ℕ) → is_used old.schema name ≡ false → is_used new.schema name ≡ false }
+    ensures counted { (table : ℕ → Table) → IsDefinition table → (old new : Database) → IsDropped (table 0).name old new → HasOwn old.schema table → same_name (table 0).name (codes "sqlite_sequence") ≡ false → lacks_sequence old.schema ≡ false → lacks_sequence new.schema ≡ false }
 {}
 
 /// A table that a test found is one that the statements can use, and a statement that leaves the schema leaves it so.

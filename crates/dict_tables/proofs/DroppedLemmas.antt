@@ -1,10 +1,11 @@
 -- A schema from which a table was dropped has the others that it had, and room for that table.
-use Rattle.std.proofs.Common.{◌≡◌, ◌==◌, ◌+◌, ℕ, List, [], ◌∷◌, filter, find, not, Bool, true, false, Some, None, slice_get, inl, inr, refl, sym, ap, subst, ◌∙◌, arith}
+use Rattle.std.proofs.Common.{◌≡◌, ◌==◌, ◌+◌, ℕ, List, [], ◌∷◌, filter, find, not, Bool, true, false, ◌&&◌, codes, is_some, Option, Some, None, slice_get, inl, inr, refl, sym, ap, subst, ◌∙◌, arith}
 use Rattle.std.proofs.lemmas.Bool.{cases_Bool}
 use Rattle.std.specs.List.{AllByRecursion, position_from, list_any}
 use Rattle.sqlite.specs.Schema.{Schema}
 use Rattle.sqlite.specs.Table.{Table}
 use Rattle.sqlite.specs.Change.{without_table, is_used, automatics}
+use Rattle.sqlite.specs.Does.{lacks_sequence}
 use Rattle.sqlite_schema.specs.Names.{table_named, index_named, view_named, same_name}
 use Rattle.sqlite_schema.specs.declared.schema.Reference.{Reference}
 use Rattle.sqlite_schema.specs.declared.schema.Index.{Index}
@@ -43,6 +44,13 @@ module _ {X : Type 0} (q : X → Bool) where
   none_left p n m (x ∷ xs) none = elim (cases_Bool (p x)) [
     | inl hit ↦ absurd (let e = rw hit at none in cc)
     | inr miss ↦ elim (cases_Bool (q x)) [ inl left ↦ rw left (rw miss (none_left p (n + 1) (m + 1) xs (rw miss at none))) | inr gone ↦ rw gone (none_left p (n + 1) m xs (rw miss at none)) ]
+  ]
+
+  none_passing : (p : X → Bool) (n : ℕ) (xs : List X) → AllByRecursion (λ x. p x ≡ true → q x ≡ false) xs → position_from p n (filter q xs) ≡ None
+  none_passing p n [] all = refl
+  none_passing p n (x ∷ xs) all = elim (cases_Bool (q x)) [
+    | inl left ↦ elim (cases_Bool (p x)) [ inl hit ↦ absurd (let both : true ≡ false = sym left ∙ all.0 hit in cc) | inr miss ↦ rw left (rw miss (none_passing p (n + 1) xs all.1)) ]
+    | inr gone ↦ rw gone (none_passing p n xs all.1)
   ]
 
 -- ---- where a foreign key leads
@@ -88,12 +96,57 @@ module _ (schema : Schema) (table : ℕ → Table) (defined : IsDefinition table
       schema.tables own.has.unreferred))
 
   -- what had no name that is in use has none
-  free_left : (name : List ℕ) → is_used schema name ≡ false → is_used left name ≡ false
+  pub free_left : (name : List ℕ) → is_used schema name ≡ false → is_used left name ≡ false
   free_left name free =
       let t : table_named left name ≡ None = none_left stays (λ t. same_name t.name name) 0 0 schema.tables (no_table schema name free) in
       let i : index_named left name ≡ None = none_left (λ (i : Index). not (i.table == own.tree)) (λ (i : Index). same_name i.name name) 0 0 schema.indexes (no_index schema name free) in
       let v : view_named schema name ≡ None = no_view schema name free in
       rw (t, i, v) refl
+
+  -- and what was the name of its own indexes alone has none
+  pub freed_left : (name : List ℕ) → table_named schema name ≡ None → view_named schema name ≡ None → AllByRecursion (λ (i : Index). same_name i.name name ≡ true → i.table ≡ own.tree) schema.indexes → is_used left name ≡ false
+  freed_left name table view mine =
+      let t : table_named left name ≡ None = none_left stays (λ t. same_name t.name name) 0 0 schema.tables table in
+      let i : index_named left name ≡ None = none_passing (λ (i : Index). not (i.table == own.tree)) (λ (i : Index). same_name i.name name) 0 schema.indexes
+      (weaker (λ (i : Index). same_name i.name name ≡ true → i.table ≡ own.tree) (λ (i : Index). same_name i.name name ≡ true → not (i.table == own.tree) ≡ false) (λ i over hit. its_own i.table (over hit)) schema.indexes mine) in
+      rw (t, i, view) refl
+    where
+      its_own : (n : ℕ) → n ≡ own.tree → not (n == own.tree) ≡ false
+      its_own n is = let e : (n == own.tree) ≡ true = search arith in rw e refl
+
+  -- ---- no table waits for its counter
+
+  abbrev counts : Table → Bool
+  counts t = t.is_counted
+
+  abbrev is_counter : Table → Bool
+  is_counter t = same_name t.name (codes "sqlite_sequence")
+
+  lacks_by_name : (s : Schema) → lacks_sequence s ≡ (list_any counts s.tables && not (is_some (find is_counter s.tables)))
+  lacks_by_name s = ap (λ (o : Option Table). list_any counts s.tables && not (is_some o)) (found is_counter s.tables)
+
+  pub counted_left : same_name (table 0).name (codes "sqlite_sequence") ≡ false → lacks_sequence schema ≡ false → lacks_sequence left ≡ false
+  counted_left other lacks = lacks_by_name left ∙ by (find is_counter schema.tables) refl
+    where
+      and_false : (a : Bool) → (a && false) ≡ false
+      and_false true = refl
+      and_false false = refl
+
+      and_true : (a : Bool) → (a && true) ≡ a
+      and_true true = refl
+      and_true false = refl
+
+      only_own : filter (λ t. t.tree == own.tree) schema.tables ≡ table own.tree ∷ []
+      only_own = own.only
+
+      by : (o : Option Table) → find is_counter schema.tables ≡ o → (list_any counts (filter stays schema.tables) && not (is_some (find is_counter (filter stays schema.tables)))) ≡ false
+      by (Some s) is =
+          let miss : is_counter (table own.tree) ≡ false = ap (λ n. same_name n (codes "sqlite_sequence")) (name_in table defined own.tree) ∙ other in
+          let away : (s.tree == own.tree) ≡ false = subst (λ o. is_in own.tree o ≡ false) is (leads_past own.tree is_counter schema.tables (table own.tree) only_own miss) in
+          rw (find_left stays is_counter schema.tables s is (not_it s.tree own.tree away)) (and_false _)
+      by None is =
+          let any : list_any counts schema.tables ≡ false = sym (and_true (list_any counts schema.tables)) ∙ sym (ap (λ (o : Option Table). list_any counts schema.tables && not (is_some o)) is) ∙ sym (lacks_by_name schema) ∙ lacks in
+          rw (passes_none counts (filter stays schema.tables) (all_left stays (λ t. counts t ≡ false) schema.tables (none_passes counts schema.tables any))) refl
 
   unreferred_left : (name : List ℕ) → is_referred schema name ≡ false → is_referred left name ≡ false
   unreferred_left name free = passes_none (λ child. list_any (λ (ref : Reference). same_name name ref.parent) child.references) (filter stays schema.tables) (all_left stays _ schema.tables (none_passes _ schema.tables free))

@@ -1,11 +1,13 @@
 //! What making a table does to a schema: each function does nothing, and its contract is the law.
 
-ghost use Rattle.std.specs.Prelude.{◌≡◌, ◌<◌, ◌^◌, ◌==◌, ℕ, List, true, false};
+ghost use Rattle.std.specs.Prelude.{◌≡◌, ◌<◌, ◌^◌, ◌==◌, ℕ, List, codes, true, false, None};
 ghost use Rattle.std.specs.List.{AllByRecursion, list_any};
 ghost use Rattle.sqlite.specs.Schema.{Schema};
 ghost use Rattle.sqlite.specs.Table.{Table};
 ghost use Rattle.sqlite.specs.Change.{created, next_tree, without_table, is_used};
-ghost use Rattle.sqlite_schema.specs.Names.{same_name};
+ghost use Rattle.sqlite.specs.Does.{lacks_sequence};
+ghost use Rattle.sqlite_schema.specs.Names.{same_name, table_named, view_named};
+ghost use Rattle.sqlite_schema.specs.declared.schema.Index.{Index};
 ghost use Rattle.dict_tables.specs.Tables.{table_of};
 ghost use Rattle.dict_tables.specs.Definitions.{IsDefinition, are_named_apart, names_of};
 ghost use Rattle.dict_tables.specs.Found.{HasOwn};
@@ -32,9 +34,13 @@ pub fn made_laws()
     ensures kept { (schema : Schema) (table : ℕ → Table) → IsDefinition table → (other : ℕ → Table) → IsDefinition other → HasOwn schema other → HasOwn (created schema (table 0)) other }
 {}
 
-/// Where a table was dropped, each other table that was had is had still, no foreign key names the one that went, and what there was room for has room.
+/// Where a table was dropped, each other table that was had is had still, no foreign key names the one that went, and what there was room for has room. A name that was free is free, and so is one that its own indexes alone had; no table waits for its counter, if none did.
 pub fn dropped_laws()
     ensures kept { (schema : Schema) (table : ℕ → Table) → IsDefinition table → (own : HasOwn schema table) → (other : ℕ → Table) → IsDefinition other → same_name (other 0).name (table 0).name ≡ false → HasOwn schema other → HasOwn (without_table schema own.tree) other }
     ensures unreferred { (schema : Schema) (table : ℕ → Table) → IsDefinition table → (own : HasOwn schema table) → is_referred (without_table schema own.tree) (table 0).name ≡ false }
     ensures room { (schema : Schema) (table : ℕ → Table) → IsDefinition table → (own : HasOwn schema table) → (other : Table) → LeavesRoom schema other → LeavesRoom (without_table schema own.tree) other }
+    ensures unused { (schema : Schema) (table : ℕ → Table) → IsDefinition table → (own : HasOwn schema table) → (name : List ℕ) → is_used schema name ≡ false → is_used (without_table schema own.tree) name ≡ false }
+    ensures freed { (schema : Schema) (table : ℕ → Table) → IsDefinition table → (own : HasOwn schema table) → (name : List ℕ) → table_named schema name ≡ None → view_named schema name ≡ None
+        → AllByRecursion (λ (index : Index). same_name index.name name ≡ true → index.table ≡ own.tree) schema.indexes → is_used (without_table schema own.tree) name ≡ false }
+    ensures counted { (schema : Schema) (table : ℕ → Table) → IsDefinition table → (own : HasOwn schema table) → same_name (table 0).name (codes "sqlite_sequence") ≡ false → lacks_sequence schema ≡ false → lacks_sequence (without_table schema own.tree) ≡ false }
 {}

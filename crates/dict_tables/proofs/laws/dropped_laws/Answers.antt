@@ -1,4 +1,4 @@
-use Rattle.dict_tables.proofs.DroppedLemmas.{dropped_own, dropped_unreferred, dropped_room}
+use Rattle.dict_tables.proofs.DroppedLemmas.{dropped_own, dropped_unreferred, dropped_room, free_left, freed_left, counted_left}
 use Rattle.dict_tables.proofs.laws.dropped_laws.Goals as goal
 
 pub returns-clause-kept : goal.returns-clause-kept
@@ -9,3 +9,12 @@ returns-clause-unreferred c = dropped_unreferred
 
 pub returns-clause-room : goal.returns-clause-room
 returns-clause-room c = dropped_room
+
+pub returns-clause-unused : goal.returns-clause-unused
+returns-clause-unused c = free_left
+
+pub returns-clause-freed : goal.returns-clause-freed
+returns-clause-freed c = freed_left
+
+pub returns-clause-counted : goal.returns-clause-counted
+returns-clause-counted c = counted_left
