@@ -169,7 +169,7 @@ fn with_server<'w>(alloc: Global, line: Command<'w>) -> Result<Command<'w>, Allo
             alloc,
             "http",
             "ADDR",
-            "The address for editors, as 127.0.0.1:8080",
+            "The address for editors, as 127.0.0.1:8628",
         ))?
         .arg(count(
             alloc,

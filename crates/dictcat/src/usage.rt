@@ -80,7 +80,7 @@ Arguments:
 
 Options:
       --dict <ADDR>  The address for readers, as 127.0.0.1:2628
-      --http <ADDR>  The address for editors, as 127.0.0.1:8080
+      --http <ADDR>  The address for editors, as 127.0.0.1:8628
       --rounds <N>   Ends after so many rounds; else it goes on
   -h, --help         Print help
 
