@@ -26,10 +26,6 @@ pub(crate) fn raw<S: Alter>(conn: &mut Connection<S>, text: &str) -> Result<(), 
     conn.execute_batch(text)
 }
 
-fn number<S: Alter>(conn: &mut Connection<S>, text: &str) -> Result<i64, Error> {
-    conn.query_row(text, &[])?.get(0)
-}
-
 /// Each text of a test's own answers its number.
 pub(crate) fn compare_numbers<S: Alter>(
     rt: &impl Abort,
@@ -37,7 +33,8 @@ pub(crate) fn compare_numbers<S: Alter>(
     rows: &[(&str, i64)],
 ) -> Result<(), Fail> {
     for (text, expected) in rows {
-        holds(rt, number(conn, *text)? == *expected, text);
+        let found: i64 = conn.query_row(*text, &[])?.get(0)?;
+        holds(rt, found == *expected, text);
     }
     Ok(())
 }
@@ -148,7 +145,7 @@ fn over_files<D: Disk + Drop>(
 #[test]
 fn in_two_files(rt: HostRuntime) -> Result<(), Fail> {
     let alloc = rt.alloc();
-    for part in [Part::Plain, Part::Keyed] {
+    for part in [Part::Plain, Part::Keyed, Part::WithoutKeys, Part::Dropped] {
         let files = Files {
             log: Memory::new(alloc),
             db: Memory::new(alloc),

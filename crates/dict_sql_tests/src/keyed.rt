@@ -10,6 +10,7 @@ use std::test::Fail;
 pub(crate) mod drops;
 pub(crate) mod indexes;
 pub(crate) mod inside;
+mod made;
 mod reads;
 mod rows;
 pub(crate) mod search;

@@ -1,4 +1,4 @@
-//! All tables and indexes are made by one transaction, which puts a row into each.
+//! All tables and indexes are made by one transaction, which puts a row into each table.
 
 ghost use Rattle.dict_sql.specs.Effects.{Has, WhileOpen, seen};
 ghost use Rattle.dict_keyed_sql.specs.Tables.{table_of};

@@ -119,16 +119,11 @@ fn remove<S: Alter>(conn: &mut Connection<S>, table: KeyedTable) -> Result<(), E
     commit(tx)
 }
 
-// Makes the table, and takes out of it what it hasn't.
-fn empty<S: Alter>(conn: &mut Connection<S>, table: KeyedTable) -> Result<(), Error> {
-    make(conn, table)?;
-    remove(conn, table)
-}
-
-/// Makes all tables, and leaves them empty.
+/// Makes all tables, takes out of each what it hasn't, and leaves them empty.
 pub(crate) fn empty_all<S: Alter>(conn: &mut Connection<S>) -> Result<(), Error> {
     for table in &TABLES {
-        empty(conn, *table)?;
+        make(conn, *table)?;
+        remove(conn, *table)?;
     }
     Ok(())
 }
