@@ -12,7 +12,7 @@ trap 'rm -rf "$work"' EXIT
 mkdir -p "$work/crates/match_keys/src"
 cp -r "$top/crates/dict_text" "$top/crates/dict_match" "$work/crates/"
 cp "$here/program.txt" "$work/crates/match_keys/src/main.rt"
-printf 'dict_text: memchr\ndict_match: dict_text memchr\nmatch_keys: dict_match\n' > "$work/crates.txt"
+{ sed -n '/^dict_text:/p; /^dict_match:/p' "$top/crates.txt"; echo 'match_keys: dict_match'; } > "$work/crates.txt"
 python3 "$here/keys.py" "${1:-65536}" > "$work/keys"
 rustc -O -o "$work/rust" "$here/main.rs"
 (cd "$work/crates/match_keys" && rt run -- "$work/keys") > "$work/built" 2>&1 || { cat "$work/built"; exit 1; }

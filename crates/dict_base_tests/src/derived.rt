@@ -8,7 +8,7 @@ use dict_match::{Key, Strategy, key_of, matches, words};
 use std::alloc::{AllocError, Global};
 use std::test::Fail;
 
-static EDGES: [&str; 22] = [
+static EDGES: [&str; 25] = [
     "",
     " ",
     "a",
@@ -28,9 +28,13 @@ static EDGES: [&str; 22] = [
     "+",
     "é",
     "été",
+    "ÉTÉ",
     "\u{10ffff}",
     "a\u{10ffff}",
-    "a\u{10ffff}b",
+    // a letter of four octets
+    "\u{3134a}",
+    "a\u{3134a}",
+    "a\u{3134a}b",
 ];
 
 /// Whether the selection has the entry.

@@ -2,7 +2,8 @@
 
 use crate::checks::{holds, same};
 use dict_match::{
-    Strategy, hit_laws, key_laws, key_of, matches, strategy_laws, word_laws, words, worked_keys,
+    Strategy, hit_laws, key_laws, key_of, matches, reserved_key_of, scalar_law, strategy_laws,
+    version_laws, word_laws, words, worked_ascii_keys, worked_keys,
 };
 use std::test::Fail;
 
@@ -148,40 +149,92 @@ fn names_and_titles(rt: HostRuntime) {
     strategy_laws();
 }
 
-static KEYS: [(&str, &str); 20] = [
-    ("Fire Opal", "fire opal"),
-    (" a - \tB ", "a b"),
-    ("00-database-short", "00databaseshort"),
-    ("o'clock", "oclock"),
-    ("+ +", "+ +"),
-    (" \t+ +\t ", "+ +"),
-    ("+a", "a"),
-    ("a+", "a"),
-    ("a+b", "ab"),
-    ("a + b", "a b"),
-    ("\t ", ""),
-    ("", ""),
-    ("ÉTÉ", "ÉtÉ"),
-    ("  Zürich\t\tHB  ", "zürich hb"),
-    ("\u{a0}X", "\u{a0}x"),
-    ("(x)", "x"),
-    ("-", "-"),
-    ("A1\u{7f}B", "a1b"),
-    ("The  \"Great\" Bear", "the great bear"),
-    ("the great bear", "the great bear"),
+// A text, its key by the first version of folding, and its key.
+static KEYS: [(&str, &str, &str); 55] = [
+    ("Fire Opal", "fire opal", "fire opal"),
+    (" a - \tB ", "a b", "a b"),
+    ("00-database-short", "00databaseshort", "00databaseshort"),
+    ("o'clock", "oclock", "oclock"),
+    ("+ +", "+ +", "+ +"),
+    (" \t+ +\t ", "+ +", "+ +"),
+    ("+a", "a", "a"),
+    ("a+", "a", "a"),
+    ("a+b", "ab", "ab"),
+    ("a + b", "a b", "a b"),
+    ("\t ", "", ""),
+    ("", "", ""),
+    ("ÉTÉ", "ÉtÉ", "été"),
+    ("  Zürich\t\tHB  ", "zürich hb", "zürich hb"),
+    ("ZÜRICH", "zÜrich", "zürich"),
+    ("(x)", "x", "x"),
+    ("-", "-", "-"),
+    ("A1\u{7f}B", "a1b", "a1b"),
+    ("The  \"Great\" Bear", "the great bear", "the great bear"),
+    ("the great bear", "the great bear", "the great bear"),
+    ("Straße", "straße", "strasse"),
+    ("STRASSE", "strasse", "strasse"),
+    ("\u{1e9e}", "\u{1e9e}", "ss"),
+    ("ΣΑΣ", "ΣΑΣ", "σασ"),
+    ("σας", "σας", "σασ"),
+    ("σασ", "σασ", "σασ"),
+    ("don\u{2019}t", "don\u{2019}t", "dont"),
+    ("don't", "dont", "dont"),
+    ("\u{2014}", "\u{2014}", "\u{2014}"),
+    (" \u{2014}\t", "\u{2014}", "\u{2014}"),
+    (" \u{2014} É- ", "\u{2014} É", "é"),
+    ("\u{2014} +", "\u{2014}", "\u{2014} +"),
+    // keys that are longer than their texts, and keys of which marks fall away
+    ("\u{149}", "\u{149}", "\u{2bc}n"),
+    ("\u{23a}", "\u{23a}", "\u{2c65}"),
+    ("\u{fb03}", "\u{fb03}", "ffi"),
+    ("\u{390}", "\u{390}", "\u{3b9}"),
+    ("\u{130}", "\u{130}", "i"),
+    ("I", "i", "i"),
+    ("\u{131}", "\u{131}", "\u{131}"),
+    // signs and letters past ASCII that fold into it
+    ("\u{212a}\u{17f}", "\u{212a}\u{17f}", "ks"),
+    ("00-databa\u{17f}e", "00databa\u{17f}e", "00database"),
+    // an accent that is a character of its own falls away
+    ("e\u{301}", "e\u{301}", "e"),
+    ("é", "é", "é"),
+    // numbers of the categories Nd, Nl and No
+    ("\u{661}", "\u{661}", "\u{661}"),
+    ("\u{2167}", "\u{2167}", "\u{2177}"),
+    ("\u{bd}", "\u{bd}", "\u{bd}"),
+    ("x\u{b2}", "x\u{b2}", "x\u{b2}"),
+    // what is no blank and nothing that is kept
+    ("a\u{a0}b", "a\u{a0}b", "ab"),
+    ("\u{a0}X", "\u{a0}x", "x"),
+    ("\u{10ffff}", "\u{10ffff}", "\u{10ffff}"),
+    ("A\u{10ffff}", "a\u{10ffff}", "a"),
+    // points, an accent, the virama; a script of four octets a letter
+    (
+        "\u{5d1}\u{5b0}\u{5bc}",
+        "\u{5d1}\u{5b0}\u{5bc}",
+        "\u{5d1}\u{5b0}\u{5bc}",
+    ),
+    ("\u{5d1}\u{591}", "\u{5d1}\u{591}", "\u{5d1}"),
+    (
+        "\u{939}\u{93f}\u{928}\u{94d}\u{926}\u{940}",
+        "\u{939}\u{93f}\u{928}\u{94d}\u{926}\u{940}",
+        "\u{939}\u{93f}\u{928}\u{926}\u{940}",
+    ),
+    ("\u{1e921}", "\u{1e921}", "\u{1e943}"),
 ];
 
 #[test]
 fn keys_by_the_rules(rt: HostRuntime) -> Result<(), Fail> {
-    for (text, key) in &KEYS {
-        holds(
-            &rt,
-            key_of(rt.alloc(), text)?.as_bytes() == key.as_bytes(),
-            text,
-        );
+    for (text, reserved, key) in &KEYS {
+        let found = reserved_key_of(rt.alloc(), text)?;
+        holds(&rt, found.as_bytes() == reserved.as_bytes(), text);
+        let found = key_of(rt.alloc(), text)?;
+        holds(&rt, found.as_bytes() == key.as_bytes(), text);
     }
+    worked_ascii_keys();
     worked_keys();
     key_laws();
+    version_laws();
+    scalar_law();
     Ok(())
 }
 

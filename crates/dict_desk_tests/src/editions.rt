@@ -86,7 +86,7 @@ struct Case(
     &'static str,
 );
 
-static CASES: [Case; 7] = [
+static CASES: [Case; 8] = [
     Case(
         b"00-database-short\tA\tZ\nopal\tZ\tP\nFire Opal\tZ\tP\ndot\to\tF\n",
         b"00-database-short\n  Gems\nopal\n  a stone\n.dot\n",
@@ -113,7 +113,14 @@ static CASES: [Case; 7] = [
         b"00-database-short\n  Gems\nx\n",
         "Gems",
         "",
-        "a=a 25 2 x\na\u{10ffff}=a\u{10ffff} 25 2 x\nb=b 25 2 x\n",
+        "a=a 25 2 x\na\u{10ffff}=a 25 2 x\nb=b 25 2 x\n",
+    ),
+    Case(
+        b"00-database-short\tA\tZ\n\xc3\x89T\xc3\x89\tZ\tC\n00-databa\xc5\xbfe-short\tZ\tC\n",
+        b"00-database-short\n  Mots\nx\n",
+        "Mots",
+        "",
+        "ÉTÉ=été 25 2 x\n00-databa\u{17f}e-short=00databaseshort 25 2 x\n",
     ),
     Case(
         b"00-database-short\tA\tX\n00-database-info\tX\tX\n",
@@ -188,7 +195,7 @@ fn numbers_and_names(rt: HostRuntime) {
 }
 
 // Headwords, and their keys, or the empty text where they have none.
-static HEADWORDS: [(&str, &str); 10] = [
+static HEADWORDS: [(&str, &str); 14] = [
     ("Fire Opal", "fire opal"),
     ("+", "+"),
     ("00-data", "00data"),
@@ -199,6 +206,11 @@ static HEADWORDS: [(&str, &str); 10] = [
     ("00-database-short", ""),
     ("00 Database", "00 database"),
     ("00databaseurl", ""),
+    ("ÉTÉ", "été"),
+    ("don\u{2019}t", "dont"),
+    ("\u{2014}", "\u{2014}"),
+    // by the first version its key is `00databaſe-short` without the sign, which is not reserved
+    ("00-databa\u{17f}e-short", "00databaseshort"),
 ];
 
 fn check_headword(rt: &impl Abort, alloc: Global, headword: &str, key: &str) -> Result<(), Fail> {

@@ -10,7 +10,7 @@ use Rattle.dict_b64.specs.Number.{Spells, IsDigit, alphabet, number_of}
 use Rattle.dict_b64.specs.Faults.{IsSomeDigit}
 use Rattle.dict_text.specs.Characters.{is_control, has_control}
 use Rattle.dict_text.specs.Lines.{text_lines}
-use Rattle.dict_match.specs.Key.{key_of}
+use Rattle.dict_match.specs.Key.{reserved_key_of}
 use Rattle.dict_index.specs.Cuts.{AreColumns}
 use Rattle.dict_index.specs.Line.{Line, IsLine, body_in}
 use Rattle.dict_index.specs.Reserved.{is_reserved, is_known}
@@ -180,11 +180,11 @@ no_control : (octets : List ℕ) → Decided (has_control octets ≡ false)
 no_control octets = is_false (has_control octets)
 
 is_headword : (h : List ℕ) → Decided (IsHeadword h)
-is_headword h = same_as ((1 ≤ length h) × ((length h ≤ 255) × ((has_control h ≡ false) × (key_of h ≢ [])))) (IsHeadword h)
+is_headword h = same_as ((1 ≤ length h) × ((length h ≤ 255) × ((has_control h ≡ false) × (reserved_key_of h ≢ [])))) (IsHeadword h)
     (λ p. (p.0, p.1.0, p.1.1.0, p.1.1.1)) (λ p. (p.0, (p.1, (p.2, p.3))))
-    (both (1 ≤ length h) ((length h ≤ 255) × ((has_control h ≡ false) × (key_of h ≢ []))) (at_most 1 (length h))
-    (both (length h ≤ 255) ((has_control h ≡ false) × (key_of h ≢ [])) (at_most (length h) 255)
-    (both ((has_control h ≡ false)) (key_of h ≢ []) (no_control h) (opposite (key_of h ≡ []) (same_list (key_of h) [])))))
+    (both (1 ≤ length h) ((length h ≤ 255) × ((has_control h ≡ false) × (reserved_key_of h ≢ []))) (at_most 1 (length h))
+    (both (length h ≤ 255) ((has_control h ≡ false) × (reserved_key_of h ≢ [])) (at_most (length h) 255)
+    (both ((has_control h ≡ false)) (reserved_key_of h ≢ []) (no_control h) (opposite (reserved_key_of h ≡ []) (same_list (reserved_key_of h) [])))))
 
 pub is_title : (t : List ℕ) → Decided (IsTitle t)
 is_title t = same_as ((1 ≤ length t) × ((length t ≤ 200) × (has_control t ≡ false))) (IsTitle t)
@@ -199,8 +199,8 @@ is_text : (octets : List ℕ) → Decided (IsText octets)
 is_text octets = both (IsUtf8 octets) (AllByRecursion IsTextOctet octets) (utf8 octets) (all IsTextOctet is_text_octet octets)
 
 none_has_key : (lines : List (List ℕ)) (key : List ℕ) → Decided (NoneHasKey lines key)
-none_has_key lines key = all (λ line. IfSays line (λ said. key_of said.headword ≢ key))
-    (λ line. if_it_says line (λ said. key_of said.headword ≢ key) (λ said. opposite (key_of said.headword ≡ key) (same_list (key_of said.headword) key))) lines
+none_has_key lines key = all (λ line. IfSays line (λ said. reserved_key_of said.headword ≢ key))
+    (λ line. if_it_says line (λ said. reserved_key_of said.headword ≢ key) (λ said. opposite (reserved_key_of said.headword ≡ key) (same_list (reserved_key_of said.headword) key))) lines
 
 -- a test of a line
 pub line_test : (f : Refusal) (text : List ℕ) (before : List (List ℕ)) (line : List ℕ) → Decided (PassesLine f text before line)
@@ -210,10 +210,10 @@ line_test Interval text before line = if_it_says line (λ said. said.offset + sa
 line_test Headword text before line = if_it_says line (λ said. IsHeadword said.headword) (λ said. is_headword said.headword)
 line_test BodyText text before line = if_it_says line (λ said. IsText (body_in text said)) (λ said. is_text (body_in text said))
 line_test BodyLine text before line = if_it_says line (λ said. HasShortLines (body_in text said)) (λ said. all (λ l. length l ≤ 1021) (λ l. at_most (length l) 1021) (text_lines (body_in text said)))
-line_test Reserved text before line = if_it_says line (λ said. IsTrue (is_reserved (key_of said.headword)) → IsTrue (is_known (key_of said.headword)))
-    (λ said. implied (IsTrue (is_reserved (key_of said.headword))) (IsTrue (is_known (key_of said.headword))) (is_true (is_reserved (key_of said.headword))) (is_true (is_known (key_of said.headword))))
-line_test ReservedTwice text before line = if_it_says line (λ said. IsTrue (is_known (key_of said.headword)) → NoneHasKey before (key_of said.headword))
-    (λ said. implied (IsTrue (is_known (key_of said.headword))) (NoneHasKey before (key_of said.headword)) (is_true (is_known (key_of said.headword))) (none_has_key before (key_of said.headword)))
+line_test Reserved text before line = if_it_says line (λ said. IsTrue (is_reserved (reserved_key_of said.headword)) → IsTrue (is_known (reserved_key_of said.headword)))
+    (λ said. implied (IsTrue (is_reserved (reserved_key_of said.headword))) (IsTrue (is_known (reserved_key_of said.headword))) (is_true (is_reserved (reserved_key_of said.headword))) (is_true (is_known (reserved_key_of said.headword))))
+line_test ReservedTwice text before line = if_it_says line (λ said. IsTrue (is_known (reserved_key_of said.headword)) → NoneHasKey before (reserved_key_of said.headword))
+    (λ said. implied (IsTrue (is_known (reserved_key_of said.headword))) (NoneHasKey before (reserved_key_of said.headword)) (is_true (is_known (reserved_key_of said.headword))) (none_has_key before (reserved_key_of said.headword)))
 line_test _ text before line = inl tt
 
 -- an index ends by LF, or not

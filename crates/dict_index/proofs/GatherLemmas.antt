@@ -6,7 +6,7 @@ use Rattle.std.specs.Prelude.{nat_eq, not, map, find, Option, Some, None, ◌||�
 use Rattle.std.specs.List.{AllZip, AllByRecursion, starts_with, list_any}
 use Rattle.std.specs.Option.{option_map}
 use Rattle.std.specs.Str.{bytes_eq}
-use Rattle.dict_match.specs.Key.{key_of}
+use Rattle.dict_match.specs.Key.{reserved_key_of}
 use Rattle.dict_index.specs.Line.{Line, IsLine, body_in}
 use Rattle.dict_index.specs.Reserved.{is_reserved, is_known, text_under, short_key, info_key}
 use Rattle.dict_index.specs.Tests.{NoneHasKey}
@@ -24,10 +24,10 @@ map_push f [] x = refl
 map_push f (y ∷ xs) x = ap (λ l. f y ∷ l) (map_push f xs x)
 
 -- a line that makes an entry is the last of those that do; one that doesn't changes nothing
-pub entry_lines_push : (said : List Line) (s : Line) (b : Bool) → is_reserved (key_of s.headword) ≡ b → entry_lines (said ++ s ∷ []) ≡ cond b (entry_lines said) (entry_lines said ++ s ∷ [])
+pub entry_lines_push : (said : List Line) (s : Line) (b : Bool) → is_reserved (reserved_key_of s.headword) ≡ b → entry_lines (said ++ s ∷ []) ≡ cond b (entry_lines said) (entry_lines said ++ s ∷ [])
 entry_lines_push [] s true e = rw e refl
 entry_lines_push [] s false e = rw e refl
-entry_lines_push (x ∷ said) s b e = by_first (is_reserved (key_of x.headword)) b (entry_lines said) s (entry_lines (said ++ s ∷ [])) (entry_lines_push said s b e)
+entry_lines_push (x ∷ said) s b e = by_first (is_reserved (reserved_key_of x.headword)) b (entry_lines said) s (entry_lines (said ++ s ∷ [])) (entry_lines_push said s b e)
   where
     by_first : (t b : Bool) (before : List Line) (s : Line) (after : List Line) → after ≡ cond b before (before ++ s ∷ []) →
         cond (not t) (x ∷ after) after ≡ cond b (cond (not t) (x ∷ before) before) (cond (not t) (x ∷ before) before ++ s ∷ [])
@@ -36,20 +36,20 @@ entry_lines_push (x ∷ said) s b e = by_first (is_reserved (key_of x.headword))
     by_first false false before s after h = ap (λ l. x ∷ l) h
 
 has_key : List ℕ → Line → Bool
-has_key key said = bytes_eq (key_of said.headword) key
+has_key key said = bytes_eq (reserved_key_of said.headword) key
 
 -- what is under a key, with a line more
-pub under_push : (key text : List ℕ) (said : List Line) (s : Line) → bytes_eq (key_of s.headword) key ≡ false → text_under key text (said ++ s ∷ []) ≡ text_under key text said
+pub under_push : (key text : List ℕ) (said : List Line) (s : Line) → bytes_eq (reserved_key_of s.headword) key ≡ false → text_under key text (said ++ s ∷ []) ≡ text_under key text said
 under_push key text [] s e = rw e refl
-under_push key text (x ∷ said) s e = by_first (bytes_eq (key_of x.headword) key) _ _ (under_push key text said s e)
+under_push key text (x ∷ said) s e = by_first (bytes_eq (reserved_key_of x.headword) key) _ _ (under_push key text said s e)
   where
     by_first : (t : Bool) (a b : Option Line) → option_map (body_in text) a ≡ option_map (body_in text) b → option_map (body_in text) (cond t (Some x) a) ≡ option_map (body_in text) (cond t (Some x) b)
     by_first true a b h = refl
     by_first false a b h = h
 
-pub under_first : (key text : List ℕ) (said : List Line) (s : Line) → text_under key text said ≡ None → bytes_eq (key_of s.headword) key ≡ true → text_under key text (said ++ s ∷ []) ≡ Some (body_in text s)
+pub under_first : (key text : List ℕ) (said : List Line) (s : Line) → text_under key text said ≡ None → bytes_eq (reserved_key_of s.headword) key ≡ true → text_under key text (said ++ s ∷ []) ≡ Some (body_in text s)
 under_first key text [] s none e = rw e refl
-under_first key text (x ∷ said) s none e = by_first (bytes_eq (key_of x.headword) key) (find (λ said. bytes_eq (key_of said.headword) key) said) _ none (λ h. under_first key text said s h e)
+under_first key text (x ∷ said) s none e = by_first (bytes_eq (reserved_key_of x.headword) key) (find (λ said. bytes_eq (reserved_key_of said.headword) key) said) _ none (λ h. under_first key text said s h e)
   where
     by_first : (t : Bool) (a b : Option Line) → option_map (body_in text) (cond t (Some x) a) ≡ None → (option_map (body_in text) a ≡ None → option_map (body_in text) b ≡ Some (body_in text s)) → option_map (body_in text) (cond t (Some x) b) ≡ Some (body_in text s)
     by_first true a b h k = absurd (let no : Some (body_in text x) ≡ None = h in cc)
@@ -60,21 +60,21 @@ pub none_has_key : (key text : List ℕ) (lines : List (List ℕ)) (said : List 
 none_has_key key text [] [] h none = tt
 none_has_key key text [] (s ∷ said) h none = absurd h
 none_has_key key text (l ∷ lines) [] h none = absurd h
-none_has_key key text (l ∷ lines) (s ∷ said) h none = by_first (λ k. none_has_key key text lines said h.1 k) (bytes_eq (key_of s.headword) key) refl none
+none_has_key key text (l ∷ lines) (s ∷ said) h none = by_first (λ k. none_has_key key text lines said h.1 k) (bytes_eq (reserved_key_of s.headword) key) refl none
   where
-    by_first : (text_under key text said ≡ None → NoneHasKey lines key) → (t : Bool) → bytes_eq (key_of s.headword) key ≡ t → option_map (body_in text) (cond t (Some s) (find (λ said. bytes_eq (key_of said.headword) key) said)) ≡ None → NoneHasKey (l ∷ lines) key
+    by_first : (text_under key text said ≡ None → NoneHasKey lines key) → (t : Bool) → bytes_eq (reserved_key_of s.headword) key ≡ t → option_map (body_in text) (cond t (Some s) (find (λ said. bytes_eq (reserved_key_of said.headword) key) said)) ≡ None → NoneHasKey (l ∷ lines) key
     by_first later true e k = absurd (let no : Some (body_in text s) ≡ None = k in cc)
-    by_first later false e k = (if_says l s (λ said. key_of said.headword ≢ key) h.0 (not_from_Decides _ (bytes_eq-Decides (key_of s.headword) key) e), later k)
+    by_first later false e k = (if_says l s (λ said. reserved_key_of said.headword ≢ key) h.0 (not_from_Decides _ (bytes_eq-Decides (reserved_key_of s.headword) key) e), later k)
 
 -- where a line has the key, something is under it
 pub some_has_key : (key text : List ℕ) (lines : List (List ℕ)) (said : List Line) → AllZip IsLine lines said → NoneHasKey lines key → text_under key text said ≡ None
 some_has_key key text [] [] h none = refl
 some_has_key key text [] (s ∷ said) h none = absurd h
 some_has_key key text (l ∷ lines) [] h none = absurd h
-some_has_key key text (l ∷ lines) (s ∷ said) h none = by_first (bytes_eq (key_of s.headword) key) refl (some_has_key key text lines said h.1 none.1)
+some_has_key key text (l ∷ lines) (s ∷ said) h none = by_first (bytes_eq (reserved_key_of s.headword) key) refl (some_has_key key text lines said h.1 none.1)
   where
-    by_first : (t : Bool) → bytes_eq (key_of s.headword) key ≡ t → text_under key text said ≡ None → option_map (body_in text) (cond t (Some s) (find (λ said. bytes_eq (key_of said.headword) key) said)) ≡ None
-    by_first true e k = absurd (none.0 s h.0 ((bytes_eq-Decides (key_of s.headword) key).0 e))
+    by_first : (t : Bool) → bytes_eq (reserved_key_of s.headword) key ≡ t → text_under key text said ≡ None → option_map (body_in text) (cond t (Some s) (find (λ said. bytes_eq (reserved_key_of said.headword) key) said)) ≡ None
+    by_first true e k = absurd (none.0 s h.0 ((bytes_eq-Decides (reserved_key_of s.headword) key).0 e))
     by_first false e k = k
 
 or_cases : (a b : Bool) → (a || b) ≡ true → (a ≡ true) ⊎ (b ≡ true)

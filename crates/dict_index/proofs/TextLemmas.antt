@@ -6,7 +6,7 @@ use Rattle.std.proofs.lemmas.Bool.Decides.{nat_tests}
 use Rattle.std.specs.Prelude.{slice_index_or}
 use Rattle.std.specs.List.{AllByRecursion}
 use Rattle.std.specs.Str.{IsUtf8, bytes_eq}
-use Rattle.dict_match.specs.Key.{key_of}
+use Rattle.dict_match.specs.Key.{reserved_key_of}
 use Rattle.dict_index.specs.Reserved.{first_line_of, without_key_line}
 use Rattle.dict_text.specs.Lines.{text_lines, onto_first_line}
 use Rattle.dict_index.specs.Cuts.{HasNo, IsCutAt}
@@ -46,19 +46,19 @@ pub behind_cut : (t xs ys : List ℕ) → IsCutAt 10 t xs ys → drop (length xs
 behind_cut t xs ys c = ap (drop (length xs + 1)) c.whole ∙ behind_seam xs 10 ys
 
 -- without the first line, where it has the key and where it hasn't
-pub key_line_cut : (key t xs ys : List ℕ) → IsCutAt 10 t xs ys → bytes_eq (key_of xs) key ≡ true → without_key_line key t ≡ ys
+pub key_line_cut : (key t xs ys : List ℕ) → IsCutAt 10 t xs ys → bytes_eq (reserved_key_of xs) key ≡ true → without_key_line key t ≡ ys
 key_line_cut key t xs ys c e =
     let first = first_line_at t xs ys c in
-    ap (λ l. cond (bytes_eq (key_of l) key) (drop (length l + 1) t) t) first ∙ (ap (λ b. cond b (drop (length xs + 1) t) t) e ∙ behind_cut t xs ys c)
+    ap (λ l. cond (bytes_eq (reserved_key_of l) key) (drop (length l + 1) t) t) first ∙ (ap (λ b. cond b (drop (length xs + 1) t) t) e ∙ behind_cut t xs ys c)
 
-pub other_line_cut : (key t xs ys : List ℕ) → IsCutAt 10 t xs ys → bytes_eq (key_of xs) key ≡ false → without_key_line key t ≡ t
-other_line_cut key t xs ys c e = ap (λ l. cond (bytes_eq (key_of l) key) (drop (length l + 1) t) t) (first_line_at t xs ys c) ∙ ap (λ b. cond b (drop (length xs + 1) t) t) e
+pub other_line_cut : (key t xs ys : List ℕ) → IsCutAt 10 t xs ys → bytes_eq (reserved_key_of xs) key ≡ false → without_key_line key t ≡ t
+other_line_cut key t xs ys c e = ap (λ l. cond (bytes_eq (reserved_key_of l) key) (drop (length l + 1) t) t) (first_line_at t xs ys c) ∙ ap (λ b. cond b (drop (length xs + 1) t) t) e
 
-pub key_line_whole : (key t : List ℕ) → HasNo 10 t → bytes_eq (key_of t) key ≡ true → without_key_line key t ≡ []
-key_line_whole key t h e = ap (λ l. cond (bytes_eq (key_of l) key) (drop (length l + 1) t) t) (first_line_whole t h) ∙ (ap (λ b. cond b (drop (length t + 1) t) t) e ∙ drop_all (length t + 1) t (omega arith))
+pub key_line_whole : (key t : List ℕ) → HasNo 10 t → bytes_eq (reserved_key_of t) key ≡ true → without_key_line key t ≡ []
+key_line_whole key t h e = ap (λ l. cond (bytes_eq (reserved_key_of l) key) (drop (length l + 1) t) t) (first_line_whole t h) ∙ (ap (λ b. cond b (drop (length t + 1) t) t) e ∙ drop_all (length t + 1) t (omega arith))
 
-pub other_line_whole : (key t : List ℕ) → HasNo 10 t → bytes_eq (key_of t) key ≡ false → without_key_line key t ≡ t
-other_line_whole key t h e = ap (λ l. cond (bytes_eq (key_of l) key) (drop (length l + 1) t) t) (first_line_whole t h) ∙ ap (λ b. cond b (drop (length t + 1) t) t) e
+pub other_line_whole : (key t : List ℕ) → HasNo 10 t → bytes_eq (reserved_key_of t) key ≡ false → without_key_line key t ≡ t
+other_line_whole key t h e = ap (λ l. cond (bytes_eq (reserved_key_of l) key) (drop (length l + 1) t) t) (first_line_whole t h) ∙ ap (λ b. cond b (drop (length t + 1) t) t) e
 
 -- an octet cuts a list or doesn't stand in it
 pub cut_or_none : (b : ℕ) (t : List ℕ) → HasNo b t ⊎ ((xs : List ℕ) × (ys : List ℕ) × IsCutAt b t xs ys)

@@ -13,7 +13,7 @@ use Rattle.dict_text.specs.Characters.{is_blank}
 use Rattle.dict_text.specs.Blanks.{without_blanks_at_ends}
 use Rattle.dict_text.specs.Lines.{text_lines}
 use Rattle.dict_name.specs.Names.{first_passes, last_passes, is_title}
-use Rattle.dict_match.specs.Key.{key_of}
+use Rattle.dict_match.specs.Key.{reserved_key_of}
 use Rattle.dict_index.specs.Cuts.{HasNo, IsCutAt}
 use Rattle.dict_index.specs.Line.{Line, IsLine, body_in}
 use Rattle.dict_index.specs.Reserved.{is_reserved, without_key_line, title_from, info_from, text_under, short_key, info_key}
@@ -47,13 +47,13 @@ found_has P test (x ∷ said) s h e = by_first (test x) e (found_has P test said
     by_first false k later = later k
 
 under_has : (P : List ℕ → Type 0) (key text : List ℕ) (said : List Line) (octets : List ℕ) → AllByRecursion (λ s. P (body_in text s)) said → text_under key text said ≡ Some octets → P octets
-under_has P key text said octets h e = by_found (find (λ s. bytes_eq (key_of s.headword) key) said) refl e
+under_has P key text said octets h e = by_found (find (λ s. bytes_eq (reserved_key_of s.headword) key) said) refl e
   where
-    by_found : (found : Option Line) → find (λ s. bytes_eq (key_of s.headword) key) said ≡ found → option_map (body_in text) found ≡ Some octets → P octets
+    by_found : (found : Option Line) → find (λ s. bytes_eq (reserved_key_of s.headword) key) said ≡ found → option_map (body_in text) found ≡ Some octets → P octets
     by_found None is k = absurd (let none : let o : Option (List ℕ) = None in o ≡ Some octets = k in cc)
     by_found (Some s) is k =
         let same : body_in text s ≡ octets = cc in
-        subst P same (found_has (λ s. P (body_in text s)) (λ s. bytes_eq (key_of s.headword) key) said s h is)
+        subst P same (found_has (λ s. P (body_in text s)) (λ s. bytes_eq (reserved_key_of s.headword) key) said s h is)
 
 -- what stands behind the first line of a text keeps the limits that the text keeps
 behind_keeps : (t xs ys : List ℕ) → IsCutAt 10 t xs ys → IsEditionText t → IsEditionText ys
@@ -68,17 +68,17 @@ nothing_keeps = ((IsUtf8-nil, tt), tt)
 rest_keeps : (key t : List ℕ) → IsEditionText t → IsEditionText (without_key_line key t)
 rest_keeps key t h = by_cut (cut_or_none 10 t)
   where
-    whole : (none : HasNo 10 t) (b : Bool) → bytes_eq (key_of t) key ≡ b → IsEditionText (without_key_line key t)
+    whole : (none : HasNo 10 t) (b : Bool) → bytes_eq (reserved_key_of t) key ≡ b → IsEditionText (without_key_line key t)
     whole none true e = subst IsEditionText (sym (key_line_whole key t none e)) nothing_keeps
     whole none false e = subst IsEditionText (sym (other_line_whole key t none e)) h
 
-    behind : (xs ys : List ℕ) → IsCutAt 10 t xs ys → (b : Bool) → bytes_eq (key_of xs) key ≡ b → IsEditionText (without_key_line key t)
+    behind : (xs ys : List ℕ) → IsCutAt 10 t xs ys → (b : Bool) → bytes_eq (reserved_key_of xs) key ≡ b → IsEditionText (without_key_line key t)
     behind xs ys c true e = subst IsEditionText (sym (key_line_cut key t xs ys c e)) (behind_keeps t xs ys c h)
     behind xs ys c false e = subst IsEditionText (sym (other_line_cut key t xs ys c e)) h
 
     by_cut : HasNo 10 t ⊎ ((xs : List ℕ) × (ys : List ℕ) × IsCutAt 10 t xs ys) → IsEditionText (without_key_line key t)
-    by_cut (inl none) = whole none (bytes_eq (key_of t) key) refl
-    by_cut (inr c) = behind c.0 c.1 c.2 (bytes_eq (key_of c.0) key) refl
+    by_cut (inl none) = whole none (bytes_eq (reserved_key_of t) key) refl
+    by_cut (inr c) = behind c.0 c.1 c.2 (bytes_eq (reserved_key_of c.0) key) refl
 
 -- the first line of a text is text
 first_utf8 : (t title : List ℕ) → IsUtf8 t → option_map without_blanks_at_ends (slice_get (text_lines t) 0) ≡ Some title → IsUtf8 title
@@ -121,38 +121,38 @@ IsGoodLine text said = IsUtf8 said.headword × IsHeadword said.headword × IsEdi
 -- the lines that make entries make well formed ones
 entries_good : (text : List ℕ) (said : List Line) → AllByRecursion (IsGoodLine text) said → AllByRecursion IsWellFormedEntry (map (entry_in text) (entry_lines said))
 entries_good text [] h = tt
-entries_good text (s ∷ said) h = by_key (is_reserved (key_of s.headword)) refl (entries_good text said h.1)
+entries_good text (s ∷ said) h = by_key (is_reserved (reserved_key_of s.headword)) refl (entries_good text said h.1)
   where
-    by_key : (b : Bool) → is_reserved (key_of s.headword) ≡ b → AllByRecursion IsWellFormedEntry (map (entry_in text) (entry_lines said)) → AllByRecursion IsWellFormedEntry (map (entry_in text) (cond (not b) (s ∷ entry_lines said) (entry_lines said)))
+    by_key : (b : Bool) → is_reserved (reserved_key_of s.headword) ≡ b → AllByRecursion IsWellFormedEntry (map (entry_in text) (entry_lines said)) → AllByRecursion IsWellFormedEntry (map (entry_in text) (cond (not b) (s ∷ entry_lines said) (entry_lines said)))
     by_key true e later = later
     by_key false e later = (record { headword = (h.0.0, h.0.1, e); body = h.0.2 }, later)
 
 -- a reserved line makes no entry, so there are fewer entries than lines
 entries_few : (said : List Line) → length (entry_lines said) ≤ length said
 entries_few [] = omega arith
-entries_few (s ∷ said) = by_key (is_reserved (key_of s.headword)) (entries_few said)
+entries_few (s ∷ said) = by_key (is_reserved (reserved_key_of s.headword)) (entries_few said)
   where
     by_key : (b : Bool) → length (entry_lines said) ≤ length said → length (cond (not b) (s ∷ entry_lines said) (entry_lines said)) ≤ length (s ∷ said)
     by_key true le = omega arith
     by_key false le = omega arith
 
-entries_fewer : (key : List ℕ) (said : List Line) (s : Line) → is_reserved key ≡ true → find (λ s. bytes_eq (key_of s.headword) key) said ≡ Some s → length (entry_lines said) < length said
+entries_fewer : (key : List ℕ) (said : List Line) (s : Line) → is_reserved key ≡ true → find (λ s. bytes_eq (reserved_key_of s.headword) key) said ≡ Some s → length (entry_lines said) < length said
 entries_fewer key [] s reserved e = absurd (cc)
-entries_fewer key (x ∷ said) s reserved e = by_first (bytes_eq (key_of x.headword) key) refl e (is_reserved (key_of x.headword)) refl (entries_few said) (entries_fewer key said s reserved)
+entries_fewer key (x ∷ said) s reserved e = by_first (bytes_eq (reserved_key_of x.headword) key) refl e (is_reserved (reserved_key_of x.headword)) refl (entries_few said) (entries_fewer key said s reserved)
   where
-    by_first : (b : Bool) → bytes_eq (key_of x.headword) key ≡ b → cond b (Some x) (find (λ s. bytes_eq (key_of s.headword) key) said) ≡ Some s → (r : Bool) → is_reserved (key_of x.headword) ≡ r
-        → length (entry_lines said) ≤ length said → (find (λ s. bytes_eq (key_of s.headword) key) said ≡ Some s → length (entry_lines said) < length said)
+    by_first : (b : Bool) → bytes_eq (reserved_key_of x.headword) key ≡ b → cond b (Some x) (find (λ s. bytes_eq (reserved_key_of s.headword) key) said) ≡ Some s → (r : Bool) → is_reserved (reserved_key_of x.headword) ≡ r
+        → length (entry_lines said) ≤ length said → (find (λ s. bytes_eq (reserved_key_of s.headword) key) said ≡ Some s → length (entry_lines said) < length said)
         → length (cond (not r) (x ∷ entry_lines said) (entry_lines said)) < length (x ∷ said)
     by_first b t k true is le later = omega arith
     by_first true t k false is le later =
-        let same : key_of x.headword ≡ key = (bytes_eq-Decides (key_of x.headword) key).0 t in
+        let same : reserved_key_of x.headword ≡ key = (bytes_eq-Decides (reserved_key_of x.headword) key).0 t in
         absurd (let bad : true ≡ false = sym reserved ∙ (ap is_reserved (sym same) ∙ is) in cc)
     by_first false t k false is le later = let lt = later k in omega arith
 
 under_fewer : (key text : List ℕ) (said : List Line) (octets : List ℕ) → is_reserved key ≡ true → text_under key text said ≡ Some octets → length (entry_lines said) < length said
-under_fewer key text said octets reserved e = by_found (find (λ s. bytes_eq (key_of s.headword) key) said) refl e
+under_fewer key text said octets reserved e = by_found (find (λ s. bytes_eq (reserved_key_of s.headword) key) said) refl e
   where
-    by_found : (found : Option Line) → find (λ s. bytes_eq (key_of s.headword) key) said ≡ found → option_map (body_in text) found ≡ Some octets → length (entry_lines said) < length said
+    by_found : (found : Option Line) → find (λ s. bytes_eq (reserved_key_of s.headword) key) said ≡ found → option_map (body_in text) found ≡ Some octets → length (entry_lines said) < length said
     by_found None is k = absurd (let none : let o : Option (List ℕ) = None in o ≡ Some octets = k in cc)
     by_found (Some s) is k = entries_fewer key said s reserved is
 
@@ -219,7 +219,7 @@ module _ (index text : List ℕ) (reading : ReadEdition) (h : IsReadEdition inde
 lines_within : (index text : List ℕ) (reading : ReadEdition) → IsReadEdition index text reading → AllByRecursion (λ said. said.offset + said.size ≤ length text) reading.lines
 lines_within index text reading h =
     subst (AllByRecursion (λ said. said.offset + said.size ≤ length text)) (sym h.entries)
-    (all_filter (λ said. said.offset + said.size ≤ length text) (λ said. not (is_reserved (key_of said.headword))) h.lines (said_all (λ said. said.offset + said.size ≤ length text) (text_lines index) h.lines h.said (λ k lt. (h.passes Interval k (λ o. lt)).1)))
+    (all_filter (λ said. said.offset + said.size ≤ length text) (λ said. not (is_reserved (reserved_key_of said.headword))) h.lines (said_all (λ said. said.offset + said.size ≤ length text) (text_lines index) h.lines h.said (λ k lt. (h.passes Interval k (λ o. lt)).1)))
 
 pub intervals_within : (index : List ℕ) (reading : ReadEdition) → IsReadEdition index reading.text reading → (entries : List ReadEntry) → map line_of entries ≡ reading.lines → AllByRecursion (LiesIn reading.text) entries
 intervals_within index reading h entries e = each entries (subst (AllByRecursion (λ said. said.offset + said.size ≤ length reading.text)) (sym e) (lines_within index reading.text reading h))

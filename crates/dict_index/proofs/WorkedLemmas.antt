@@ -9,7 +9,8 @@ use lib.Utf8.{encode}
 use Rattle.dict_b64.specs.Number.{Spells, alphabet}
 use Rattle.dict_text.specs.Characters.{is_control, has_control}
 use Rattle.dict_text.specs.Lines.{text_lines}
-use Rattle.dict_match.specs.Key.{key_of}
+use Rattle.dict_match.specs.Key.{reserved_key_of}
+use Rattle.dict_match.proofs.Computing.{keys}
 use Rattle.dict_index.specs.Cuts.{HasNo}
 use Rattle.dict_index.specs.Line.{Line, IsLine, body_in}
 use Rattle.dict_index.specs.Reserved.{is_reserved, is_known, title_in}
@@ -79,7 +80,7 @@ good headword body text e =
 
 -- a line that passes
 passes_by : (text : List ℕ) (before : List (List ℕ)) (line : List ℕ) (said : Line) → IsLine line said → count_by (λ octet. octet == 9) line ≡ 2 → nat_le (said.offset + said.size) (length text) ≡ true
-    → Good said.headword (body_in text said) → key_of said.headword ≢ [] → PassesLine Reserved text before line → PassesLine ReservedTwice text before line → (f : Refusal) → PassesLine f text before line
+    → Good said.headword (body_in text said) → reserved_key_of said.headword ≢ [] → PassesLine Reserved text before line → PassesLine ReservedTwice text before line → (f : Refusal) → PassesLine f text before line
 passes_by text before line said l tabs within g key reserved twice Columns = tabs
 passes_by text before line said l tabs within g key reserved twice Number = (said, l)
 passes_by text before line said l tabs within g key reserved twice Interval = if_says line said (λ said. said.offset + said.size ≤ length text) l (leb-true _ _ within)
@@ -92,21 +93,21 @@ passes_by text before line said l tabs within g key reserved twice _ = tt
 
 -- a line whose key isn't reserved
 entry_passes : (text : List ℕ) (before : List (List ℕ)) (line : List ℕ) (said : Line) → IsLine line said → count_by (λ octet. octet == 9) line ≡ 2 → nat_le (said.offset + said.size) (length text) ≡ true
-    → is_good said.headword (body_in text said) text ≡ true → key_of said.headword ≢ [] → is_reserved (key_of said.headword) ≡ false → (f : Refusal) → PassesLine f text before line
+    → is_good said.headword (body_in text said) text ≡ true → reserved_key_of said.headword ≢ [] → is_reserved (reserved_key_of said.headword) ≡ false → (f : Refusal) → PassesLine f text before line
 entry_passes text before line said l tabs within g key free f =
     passes_by text before line said l tabs within (good _ _ text g) key
-    (if_says line said (λ said. IsTrue (is_reserved (key_of said.headword)) → IsTrue (is_known (key_of said.headword))) l (λ e. absurd (reserved e)))
-    (if_says line said (λ said. IsTrue (is_known (key_of said.headword)) → NoneHasKey before (key_of said.headword)) l (λ e. absurd (reserved (known_is_reserved (key_of said.headword) e)))) f
+    (if_says line said (λ said. IsTrue (is_reserved (reserved_key_of said.headword)) → IsTrue (is_known (reserved_key_of said.headword))) l (λ e. absurd (reserved e)))
+    (if_says line said (λ said. IsTrue (is_known (reserved_key_of said.headword)) → NoneHasKey before (reserved_key_of said.headword)) l (λ e. absurd (reserved (known_is_reserved (reserved_key_of said.headword) e)))) f
   where
-    reserved : is_reserved (key_of said.headword) ≡ true → ⊥
+    reserved : is_reserved (reserved_key_of said.headword) ≡ true → ⊥
     reserved e = let bad : false ≡ true = sym free ∙ e in cc
 
 -- the first line, whose key is known
 first_passes : (text line : List ℕ) (said : Line) → IsLine line said → count_by (λ octet. octet == 9) line ≡ 2 → nat_le (said.offset + said.size) (length text) ≡ true
-    → is_good said.headword (body_in text said) text ≡ true → key_of said.headword ≢ [] → is_known (key_of said.headword) ≡ true → (f : Refusal) → PassesLine f text [] line
+    → is_good said.headword (body_in text said) text ≡ true → reserved_key_of said.headword ≢ [] → is_known (reserved_key_of said.headword) ≡ true → (f : Refusal) → PassesLine f text [] line
 first_passes text line said l tabs within g key known f =
     passes_by text [] line said l tabs within (good _ _ text g) key
-    (if_says line said (λ said. IsTrue (is_reserved (key_of said.headword)) → IsTrue (is_known (key_of said.headword))) l (λ e. known))
+    (if_says line said (λ said. IsTrue (is_reserved (reserved_key_of said.headword)) → IsTrue (is_known (reserved_key_of said.headword))) l (λ e. known))
     (λ other k e. tt) f
 
 -- one digit spells its value
@@ -143,19 +144,19 @@ unfolding worked_lines
 lines_are = refl
 
 pass_short : (f : Refusal) → PassesLine f worked_text [] (codes "00-database-short\tA\tZ")
-unfolding key_of chars encode is_utf8 short is_good is_plain is_text_octet
+unfolding keys chars encode is_utf8 short is_good is_plain is_text_octet
 pass_short = first_passes worked_text (codes "00-database-short\tA\tZ") short short_line refl refl refl (λ e. cc) refl
 
 pass_opal : (before : List (List ℕ)) (f : Refusal) → PassesLine f worked_text before (codes "opal\tZ\tP")
-unfolding key_of chars encode is_utf8 is_good is_plain is_text_octet
+unfolding keys chars encode is_utf8 is_good is_plain is_text_octet
 pass_opal before = entry_passes worked_text before (codes "opal\tZ\tP") opal opal_line refl refl refl (λ e. cc) refl
 
 pass_fire : (before : List (List ℕ)) (f : Refusal) → PassesLine f worked_text before (codes "Fire Opal\tZ\tP")
-unfolding key_of chars encode is_utf8 is_good is_plain is_text_octet
+unfolding keys chars encode is_utf8 is_good is_plain is_text_octet
 pass_fire before = entry_passes worked_text before (codes "Fire Opal\tZ\tP") fire_opal fire_line refl refl refl (λ e. cc) refl
 
 pass_dot : (before : List (List ℕ)) (f : Refusal) → PassesLine f worked_text before (codes "dot\to\tF")
-unfolding key_of chars encode is_utf8 is_good is_plain is_text_octet
+unfolding keys chars encode is_utf8 is_good is_plain is_text_octet
 pass_dot before = entry_passes worked_text before (codes "dot\to\tF") dot dot_line refl refl refl (λ e. cc) refl
 
 pass_each : (k : ℕ) → k < length worked_lines → (f : Refusal) → PassesLine f worked_text (take k worked_lines) (slice_index_or worked_lines k [])
@@ -186,14 +187,14 @@ unfolding worked_said
 said_is = (short_line, (opal_line, (fire_line, (dot_line, tt))))
 
 title_is : title_in worked_text worked_said ≡ Some (codes "Gems")
-unfolding worked_said short key_of chars encode
+unfolding worked_said short keys chars encode
 title_is = refl
 
 good_title : IsTitle (codes "Gems")
 good_title = (omega arith, omega arith, refl)
 
 pub worked : IsReadEdition worked_index worked_text worked_reading
-unfolding worked_said short key_of chars encode
+unfolding worked_said short keys chars encode
 worked = record {
   passes = all_pass worked_index worked_text wholes (pass_lines worked_index worked_text worked_lines (sym lines_are) pass_each) worked_said said_is (codes "Gems") title_is good_title;
   lines = worked_said;

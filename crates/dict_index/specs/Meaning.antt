@@ -2,7 +2,7 @@
 use Rattle.std.specs.Prelude.{◌≡◌, ℕ, ◌+◌, ◌<◌, ◌⊎◌, not, List, length, filter, Option, Some, None}
 use Rattle.std.specs.List.{AllZip}
 use Rattle.dict_text.specs.Lines.{text_lines}
-use Rattle.dict_match.specs.Key.{key_of}
+use Rattle.dict_match.specs.Key.{reserved_key_of}
 use Rattle.dict_index.specs.Line.{Line, IsLine}
 use Rattle.dict_index.specs.Reserved.{is_reserved, title_in, info_in}
 use Rattle.dict_index.specs.Edition.{Edition, ReadEdition, edition_of}
@@ -20,7 +20,7 @@ Tells refusal k line = (IsOfLine refusal × (line ≡ Some (k + 1))) ⊎ (¬ IsO
 
 -- the lines of the index that make entries, and what they say
 abbrev pub entry_lines : List Line → List Line
-entry_lines lines = filter (λ said. not (is_reserved (key_of said.headword))) lines
+entry_lines lines = filter (λ said. not (is_reserved (reserved_key_of said.headword))) lines
 
 -- no test fails, and the reading is what the lines say: its lines are those of the index in order, without the
 -- reserved ones

@@ -5,7 +5,7 @@ use Rattle.std.specs.Option.{option_map, option_map_or}
 use Rattle.std.specs.Str.{bytes_eq}
 use Rattle.dict_text.specs.Lines.{text_lines}
 use Rattle.dict_text.specs.Blanks.{without_blanks_at_ends}
-use Rattle.dict_match.specs.Key.{key_of}
+use Rattle.dict_match.specs.Key.{reserved_key_of}
 use Rattle.dict_index.specs.Line.{Line, body_in}
 
 abbrev pub short_key : List ℕ
@@ -25,7 +25,7 @@ is_known key = list_any (bytes_eq key) (short_key ∷ info_key ∷ codes "00data
 
 -- the body of the first line with this key
 abbrev pub text_under : List ℕ → List ℕ → List Line → Option (List ℕ)
-text_under key text lines = option_map (body_in text) (find (λ said. bytes_eq (key_of said.headword) key) lines)
+text_under key text lines = option_map (body_in text) (find (λ said. bytes_eq (reserved_key_of said.headword) key) lines)
 
 -- the first line of a text, or nothing where it has none
 abbrev pub first_line_of : List ℕ → List ℕ
@@ -33,7 +33,7 @@ first_line_of text = slice_index_or (text_lines text) 0 []
 
 -- a text without its first line and the LF behind that, where that line has this key
 abbrev pub without_key_line : List ℕ → List ℕ → List ℕ
-without_key_line key text = if bytes_eq (key_of (first_line_of text)) key then drop (length (first_line_of text) + 1) text else text
+without_key_line key text = if bytes_eq (reserved_key_of (first_line_of text)) key then drop (length (first_line_of text) + 1) text else text
 
 -- the first line that remains of the short text, without blanks at its ends
 abbrev pub title_from : Option (List ℕ) → Option (List ℕ)

@@ -4,7 +4,7 @@ use Rattle.std.specs.List.{AllByRecursion, AllZip}
 use Rattle.std.specs.Str.{IsUtf8}
 use Rattle.dict_text.specs.Characters.{is_control, has_control}
 use Rattle.dict_text.specs.Lines.{text_lines}
-use Rattle.dict_match.specs.Key.{key_of}
+use Rattle.dict_match.specs.Key.{reserved_key_of}
 use Rattle.dict_index.specs.Line.{Line, IsLine, body_in, tab}
 use Rattle.dict_index.specs.Reserved.{is_reserved, is_known, title_in}
 use Rattle.dict_index.specs.declared.fault.Refusal.{Refusal}
@@ -20,7 +20,7 @@ IfAllSay lines P = (all_said : List Line) → AllZip IsLine lines all_said → P
 
 -- 1 to 255 octets, no control character, and a key that isn't empty
 abbrev pub IsHeadword : List ℕ → Type 0
-IsHeadword headword = (1 ≤ length headword) × (length headword ≤ 255) × (has_control headword ≡ false) × (key_of headword ≢ [])
+IsHeadword headword = (1 ≤ length headword) × (length headword ≤ 255) × (has_control headword ≡ false) × (reserved_key_of headword ≢ [])
 
 -- LF, tab, or no control character
 abbrev pub IsTextOctet : ℕ → Type 0
@@ -36,7 +36,7 @@ HasShortLines octets = AllByRecursion (λ line. length line ≤ 1021) (text_line
 
 -- no line says a headword with this key
 abbrev pub NoneHasKey : List (List ℕ) → List ℕ → Type 0
-NoneHasKey lines key = AllByRecursion (λ line. IfSays line (λ said. key_of said.headword ≢ key)) lines
+NoneHasKey lines key = AllByRecursion (λ line. IfSays line (λ said. reserved_key_of said.headword ≢ key)) lines
 
 -- 1 to 200 octets, no control character
 abbrev pub IsTitle : List ℕ → Type 0
@@ -68,8 +68,8 @@ PassesLine Interval text before line = IfSays line (λ said. said.offset + said.
 PassesLine Headword text before line = IfSays line (λ said. IsHeadword said.headword)
 PassesLine BodyText text before line = IfSays line (λ said. IsText (body_in text said))
 PassesLine BodyLine text before line = IfSays line (λ said. HasShortLines (body_in text said))
-PassesLine Reserved text before line = IfSays line (λ said. IsTrue (is_reserved (key_of said.headword)) → IsTrue (is_known (key_of said.headword)))
-PassesLine ReservedTwice text before line = IfSays line (λ said. IsTrue (is_known (key_of said.headword)) → NoneHasKey before (key_of said.headword))
+PassesLine Reserved text before line = IfSays line (λ said. IsTrue (is_reserved (reserved_key_of said.headword)) → IsTrue (is_known (reserved_key_of said.headword)))
+PassesLine ReservedTwice text before line = IfSays line (λ said. IsTrue (is_known (reserved_key_of said.headword)) → NoneHasKey before (reserved_key_of said.headword))
 PassesLine _ text before line = Unit {0}
 
 -- the index and the text pass the test; a test of a line is made at the line with this number, from 0

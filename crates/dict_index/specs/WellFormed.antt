@@ -3,7 +3,7 @@ use Rattle.std.specs.Prelude.{◌≡◌, ◌≤◌, ℕ, List, length, false, Is
 use Rattle.std.specs.List.{AllByRecursion}
 use Rattle.std.specs.Str.{IsUtf8}
 use Rattle.dict_name.specs.Names.{is_title}
-use Rattle.dict_match.specs.Key.{key_of}
+use Rattle.dict_match.specs.Key.{reserved_key_of}
 use Rattle.dict_index.specs.Edition.{Entry, Edition}
 use Rattle.dict_index.specs.Reserved.{is_reserved}
 use Rattle.dict_index.specs.Tests.{IsHeadword, IsText, HasShortLines}
@@ -18,7 +18,7 @@ IsEditionText octets = IsText octets × HasShortLines octets
 
 -- UTF-8, 1 to 255 octets, no control character, and a key that is neither empty nor reserved
 abbrev pub IsEntryHeadword : List ℕ → Type 0
-IsEntryHeadword headword = IsUtf8 headword × IsHeadword headword × (is_reserved (key_of headword) ≡ false)
+IsEntryHeadword headword = IsUtf8 headword × IsHeadword headword × (is_reserved (reserved_key_of headword) ≡ false)
 
 pub record IsWellFormedEntry (entry : Entry) : Type 0 where
   pub headword : IsEntryHeadword entry.headword

@@ -7,7 +7,7 @@ use dict_match::Key;
 pub struct Entry<'a> {
     /// The headword, as the index has it.
     pub headword: &'a str,
-    /// The headword's key.
+    /// The headword's key, by which searches find it.
     pub key: Key,
     /// The text.
     pub body: &'a str,

@@ -1,16 +1,16 @@
 // The entries and the reserved texts of the lines of an index.
-ghost use Rattle.std.specs.Prelude.{◌≡◌, ℕ, List, [], ◌∷◌, ◌++◌, IfErr, OnOk, OnErr};
+ghost use Rattle.std.specs.Prelude.{◌≡◌, ℕ, List, [], ◌∷◌, ◌++◌, IfOk, IfErr, OnOk, OnErr};
 ghost use Rattle.std.specs.Str.{IsUtf8};
 ghost use Rattle.dict_index.specs.Reserved.{is_reserved, is_known};
 ghost use Rattle.dict_index.specs.Line.{IsLine};
-ghost use Rattle.dict_index.specs.Views.{line_of, HasBodyIn, HasItsKey};
+ghost use Rattle.dict_index.specs.Views.{line_of, HasBodyIn, HasItsKey, HasReservedKey};
 ghost use Rattle.dict_index.specs.Tests.{PassesLine};
 ghost use Rattle.dict_index.specs.declared.fault.Refusal.TheVariants.{Reserved, ReservedTwice};
 
 use crate::entry::Entry;
 use crate::fault::Refusal;
-use crate::line::{LineFault, as_text};
-use std::alloc::Global;
+use crate::line::{LineFault, as_text, searched_key};
+use std::alloc::{AllocError, Global};
 use std::collections::BTreeMap;
 
 /// What the lines so far say: their entries, and the texts of the known reserved keys.
@@ -39,6 +39,23 @@ fn is_known_key(key: &[u8]) -> bool
         || key.starts_with(b"00databasedictfmt".as_slice())
 }
 
+// The entry with the key that searches look at, in place of the one by which its headword would be reserved.
+fn with_its_key<'a>(alloc: Global, read: Entry<'a>) -> Result<Entry<'a>, AllocError>
+    requires { HasReservedKey read }
+    ensures key { IfOk result HasItsKey }
+    ensures line { IfOk result (λ entry. line_of entry ≡ line_of read.entry) }
+    ensures body { IfOk result (λ entry. entry.body.now ≡ read.entry.body.now) }
+{
+    let key = searched_key(alloc, read.headword, read.key)?;
+    Ok(Entry {
+        headword: read.headword,
+        key,
+        body: read.body,
+        offset: read.offset,
+        size: read.size,
+    })
+}
+
 impl<'a> Gathered<'a> {
     ghost use Rattle.dict_index.specs.Gathered.{HasGathered, IsGatherFault};
 
@@ -54,7 +71,7 @@ impl<'a> Gathered<'a> {
 
     // Adds a line's entry, or its text where its key is reserved.
     pub(crate) fn add(&mut self, alloc: Global, read: Entry<'a>) -> Result<(), LineFault>
-        requires key { HasItsKey read }
+        requires key { HasReservedKey read }
         requires text { IsUtf8 read.headword.now }
         ensures added { OnOk result ((text : List ℕ) (lines : List (List ℕ)) (line : List ℕ) →
             IsLine line (line_of read.entry) → HasBodyIn text read.entry → HasGathered text lines self.old → HasGathered text (lines ++ line ∷ []) self.new) }
@@ -64,7 +81,10 @@ impl<'a> Gathered<'a> {
             IsLine line (line_of read.entry) → HasGathered text lines self.old → IsGatherFault fault text lines line) }
     {
         if !is_reserved_key(read.key.as_bytes()) {
-            let Ok(()) = self.entries.push(read) else {
+            let Ok(entry) = with_its_key(alloc, read) else {
+                return Err(LineFault::Memory);
+            };
+            let Ok(()) = self.entries.push(entry) else {
                 return Err(LineFault::Memory);
             };
             return Ok(());

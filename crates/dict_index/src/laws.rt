@@ -1,7 +1,10 @@
 // What every index and every text mean.
-ghost use Rattle.std.specs.Prelude.{◌≡◌, ◌⊎◌, ℕ, List, Option};
+ghost use Rattle.std.specs.Prelude.{◌≡◌, ◌≢◌, ◌↔◌, ◌≤◌, ◌⊎◌, ℕ, false, List, [], length, Option};
+ghost use Rattle.dict_text.specs.Characters.{has_control};
+ghost use Rattle.dict_match.specs.Key.{key_of};
 ghost use Rattle.dict_index.specs.Edition.{Edition, ReadEdition};
 ghost use Rattle.dict_index.specs.Meaning.{IsReadEdition, IsEdition, IsFault};
+ghost use Rattle.dict_index.specs.Tests.{IsHeadword};
 ghost use Rattle.dict_index.specs.WellFormed.{IsWellFormedEdition};
 ghost use Rattle.dict_index.specs.Worked.{worked_index, worked_text, worked_reading};
 ghost use Rattle.dict_index.specs.declared.fault.Refusal.{Refusal};
@@ -24,6 +27,16 @@ pub fn one_meaning()
 /// It does nothing. Its clause is the law, by which a catalogue of editions that were read keeps its limits.
 pub fn well_formed_editions()
     ensures { (index text : List ℕ) (edition : Edition) → IsEdition index text edition → IsWellFormedEdition edition }
+{}
+
+/// A headword is lawful by whichever version of folding its key is looked at, since a key is empty by the one exactly
+/// where it is by the other: so an edition that was lawful before the second version is lawful by it, and each of its
+/// headwords has a key by which it is found.
+///
+/// It does nothing. Its clause is the law.
+pub fn lawful_headwords()
+    ensures { (headword : List ℕ) → IsHeadword headword
+        ↔ ((1 ≤ length headword) × (length headword ≤ 255) × (has_control headword ≡ false) × (key_of headword ≢ [])) }
 {}
 
 /// What a small database says that was worked by hand: the title `Gems`, no info, and three entries.

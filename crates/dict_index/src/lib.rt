@@ -17,6 +17,6 @@ mod whole;
 pub use edition::Edition;
 pub use entry::Entry;
 pub use fault::{IndexFault, Refusal};
-pub use laws::{one_meaning, well_formed_editions, worked_edition};
-pub use limits::{MAX_ENTRIES, entry_key, is_edition_text};
+pub use laws::{lawful_headwords, one_meaning, well_formed_editions, worked_edition};
+pub use limits::{entry_key, is_edition_text};
 pub use reading::read_edition;

@@ -4,13 +4,9 @@ ghost use Rattle.dict_match.specs.Key.{key_of};
 ghost use Rattle.dict_index.specs.WellFormed.{IsEditionText, IsEntryHeadword};
 
 use crate::gather::is_reserved_key;
-use crate::line::{has_short_lines, headword_key, text_of};
+use crate::line::{has_short_lines, headword_key, searched_key, text_of};
 use dict_match::Key;
 use std::alloc::{AllocError, Global};
-
-/// The most entries of an edition. The reserved ones aren't counted, and there is at least one of them among the
-/// lines of an index.
-pub const MAX_ENTRIES: usize = 65_535;
 
 /// Whether the octets may be an edition's info or an entry's body: UTF-8 without control characters but LF and tab,
 /// and no line of more than 1,021 octets.
@@ -20,16 +16,17 @@ pub fn is_edition_text(octets: &[u8]) -> bool
     text_of(octets).is_some() && has_short_lines(octets)
 }
 
-/// The key of a text, if the text may be the headword of an entry: 1 to 255 octets, no control character, and a key
-/// that is neither empty nor reserved. The only error is want of memory.
+/// The key of a text, if the text may be the headword of an entry: 1 to 255 octets, no control character, and a key by
+/// the first version of folding that is neither empty nor reserved. What is told is the key that searches look at. The
+/// only error is want of memory.
 pub fn entry_key(alloc: Global, headword: &str) -> Result<Option<Key>, AllocError>
     ensures { IfOk result (λ found. MatchOption found (¬ IsEntryHeadword headword.now) (λ key. IsEntryHeadword headword.now × (key ≡ key_of headword.now))) }
 {
-    let Some(key) = headword_key(alloc, headword)? else {
+    let Some(reserved) = headword_key(alloc, headword)? else {
         return Ok(None);
     };
-    if is_reserved_key(key.as_bytes()) {
+    if is_reserved_key(reserved.as_bytes()) {
         return Ok(None);
     }
-    Ok(Some(key))
+    Ok(Some(searched_key(alloc, headword, reserved)?))
 }

@@ -2,10 +2,10 @@
 ghost use Rattle.std.specs.Prelude.{◌≡◌, ℕ, ◌+◌, ◌<◌, ◌≤◌, ◌^◌, length, take, drop, MatchOption, MatchBool, IfOk, IfErr, OnOk, List};
 ghost use Rattle.std.specs.Str.{IsUtf8};
 ghost use Rattle.dict_b64.specs.Number.{Spells};
-ghost use Rattle.dict_match.specs.Key.{key_of};
+ghost use Rattle.dict_match.specs.Key.{key_of, reserved_key_of};
 ghost use Rattle.dict_index.specs.Cuts.{AreColumns};
 ghost use Rattle.dict_index.specs.Line.{IsLine};
-ghost use Rattle.dict_index.specs.Views.{line_of, HasBodyIn, HasItsKey};
+ghost use Rattle.dict_index.specs.Views.{line_of, HasBodyIn, HasReservedKey};
 ghost use Rattle.dict_index.specs.Refusals.{said_tests};
 ghost use Rattle.dict_index.specs.Refused.{PassesEach, IsLineFault};
 ghost use Rattle.dict_index.specs.Tests.{IsHeadword, IsText, IsTextOctet, HasShortLines};
@@ -15,7 +15,7 @@ use crate::entry::Entry;
 use crate::fault::Refusal;
 use bstr::ByteSlice;
 use dict_b64::read_number;
-use dict_match::{Key, key_of};
+use dict_match::{Key, key_of, reserved_key_of};
 use dict_text::{has_control, is_control_octet, text_lines};
 use std::alloc::{AllocError, Global};
 
@@ -52,18 +52,29 @@ pub(crate) fn cut_out(text: &[u8], offset: u64, size: u64) -> Option<&[u8]>
     Some(&text[offset as usize..end as usize])
 }
 
-// The key of a headword, if it may be one.
+// The key by which a headword is reserved, if the text may be a headword.
 pub(crate) fn headword_key(alloc: Global, headword: &str) -> Result<Option<Key>, AllocError>
-    ensures { IfOk result (λ found. MatchOption found (¬ IsHeadword headword.now) (λ key. IsHeadword headword.now × (key ≡ key_of headword.now))) }
+    ensures { IfOk result (λ found. MatchOption found (¬ IsHeadword headword.now) (λ key. IsHeadword headword.now × (key ≡ reserved_key_of headword.now))) }
 {
     if headword.is_empty() || headword.len() > MAX_HEADWORD || has_control(headword.as_bytes()) {
         return Ok(None);
     }
-    let key = key_of(alloc, headword)?;
+    let key = reserved_key_of(alloc, headword)?;
     if key.as_bytes().is_empty() {
         return Ok(None);
     }
     Ok(Some(key))
+}
+
+// The key that searches look at, of a headword with this key by the first version of folding: in ASCII it is that one.
+pub(crate) fn searched_key(alloc: Global, headword: &str, reserved: Key) -> Result<Key, AllocError>
+    requires { reserved ≡ reserved_key_of headword.now }
+    ensures { IfOk result (λ key. key ≡ key_of headword.now) }
+{
+    if headword.is_ascii() {
+        return Ok(reserved);
+    }
+    key_of(alloc, headword)
 }
 
 // Whether an octet is none of a control character, or LF, or tab.
@@ -128,7 +139,7 @@ pub(crate) fn read_line<'a>(
     requires { IsUtf8 line.now }
     ensures said { IfOk result (λ entry. IsLine line.now (line_of entry)) }
     ensures body { IfOk result (HasBodyIn text.now) }
-    ensures key { IfOk result HasItsKey }
+    ensures key { IfOk result HasReservedKey }
     ensures text { IfOk result (λ entry. IsUtf8 entry.headword.now) }
     ensures passes { OnOk result ((before : List (List ℕ)) → PassesEach said_tests text.now before line.now) }
     ensures refused { IfErr result (λ fault. IsLineFault fault text.now line.now) }

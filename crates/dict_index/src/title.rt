@@ -7,14 +7,14 @@ ghost use Rattle.std.specs.Option.{option_map};
 ghost use Rattle.std.specs.Str.{bytes_eq};
 ghost use Rattle.dict_text.specs.Lines.{text_lines};
 ghost use Rattle.dict_text.specs.Blanks.{without_blanks_at_ends};
-ghost use Rattle.dict_match.specs.Key.{key_of};
+ghost use Rattle.dict_match.specs.Key.{reserved_key_of};
 ghost use Rattle.dict_index.specs.Reserved.{without_key_line, short_key, info_key, title_from, info_from};
 ghost use Rattle.dict_index.specs.Tests.{IsTitle};
 
 use crate::columns::cut_at;
 use crate::fault::{IndexFault, Refusal};
 use crate::line::as_text;
-use dict_match::key_of;
+use dict_match::reserved_key_of;
 use dict_text::{has_control, without_blanks_at_ends};
 use std::alloc::{AllocError, Global};
 use std::collections::BTreeMap;
@@ -23,9 +23,9 @@ const MAX_TITLE: usize = 200;
 
 // Whether a line has the key.
 fn has_key(alloc: Global, line: &str, key: &[u8]) -> Result<bool, AllocError>
-    ensures { IfOk result (λ has. has ≡ bytes_eq (key_of line.now) key.now) }
+    ensures { IfOk result (λ has. has ≡ bytes_eq (reserved_key_of line.now) key.now) }
 {
-    let line_key = key_of(alloc, line)?;
+    let line_key = reserved_key_of(alloc, line)?;
     Ok(line_key.as_bytes() == key)
 }
 

@@ -9,3 +9,10 @@ pub mod MatchLemmas
 pub mod HitLemmas
 pub mod DecideLemmas
 pub mod WordLaws
+pub mod Scalars
+pub mod AsciiLaws
+pub mod JoinedLemmas
+pub mod FallbackLemmas
+pub mod EndLemmas
+pub mod VersionLaws
+pub mod Computing

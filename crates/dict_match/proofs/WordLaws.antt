@@ -8,8 +8,7 @@ use Rattle.dict_text.specs.Characters.{is_blank}
 use Rattle.dict_match.specs.Words.{words_between_blanks, EndsOrGoesOnBlank, AreLongestRuns}
 use Rattle.dict_match.proofs.FoldLemmas.{is_word}
 use Rattle.dict_match.proofs.SplitLemmas.{some_piece}
-use Rattle.dict_match.proofs.KeyLemmas.{IsBlank}
-use Rattle.dict_match.proofs.KeyLaws.{no_words-from_blanks}
+use Rattle.dict_match.proofs.KeyLemmas.{IsBlank, no_words-from_blanks}
 use Rattle.dict_match.proofs.WordLemmas.{words_between_blanks-run, positive, empty_list}
 
 abbrev IsSolid : ℕ → Type 0

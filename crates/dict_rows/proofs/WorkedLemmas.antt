@@ -9,7 +9,7 @@ use Rattle.std.proofs.lemmas.Str.{IsUtf8-from_is_utf8}
 use Rattle.dict_name.specs.Names.{is_name, is_title, is_request_id}
 use Rattle.dict_text.specs.Characters.{is_control}
 use Rattle.dict_text.specs.Lines.{text_lines}
-use Rattle.dict_match.specs.Key.{key_of}
+use Rattle.dict_match.proofs.Computing.{keys}
 use Rattle.dict_index.specs.Edition.{edition_of}
 use Rattle.dict_index.specs.Worked.{worked_index, worked_text, worked_reading}
 use Rattle.dict_index.specs.Tests.{IsTextOctet}
@@ -47,7 +47,7 @@ good_text text utf8 octets lines =
     ((IsUtf8-from_is_utf8 text utf8, all_from IsTextOctet is_text_octet text_octet text octets), all_from (λ line. length line ≤ 1021) (λ line. nat_le (length line) 1021) (λ line. leb-true (length line) 1021) (text_lines text) lines)
 
 iron : IsWellFormedEntry (record { headword = codes "iron"; body = codes "iron\n  ore\n" })
-unfolding key_of chars encode is_utf8 is_text_octet
+unfolding keys chars encode is_utf8 is_text_octet
 iron = record { headword = (IsUtf8-from_is_utf8 (codes "iron") refl, (omega arith, omega arith, refl, λ e. cc), refl); body = good_text (codes "iron\n  ore\n") refl refl refl }
 
 ores : IsWellFormedEdition (edition_of ore_reading)

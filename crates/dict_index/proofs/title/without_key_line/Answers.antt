@@ -1,6 +1,6 @@
 use Rattle.std.proofs.Common.{sym, ap, ◌∙◌, subst, arith}
 use Rattle.std.specs.Str.{bytes_eq}
-use Rattle.dict_match.specs.Key.{key_of}
+use Rattle.dict_match.specs.Key.{reserved_key_of}
 use Rattle.dict_index.specs.Cuts.{HasNo}
 use Rattle.dict_index.specs.Reserved.{without_key_line}
 use Rattle.dict_index.proofs.CutLemmas.{utf8_parts}
@@ -22,9 +22,9 @@ as_text-requires-then-branch-2 c = (utf8_parts _ _ _ 10 c.in-Some.ensures.whole 
 pub returns-then-branch-2 : goal.returns-then-branch-2
 returns-then-branch-2 c =
     c.as_text-then-branch-2.ensures ∙ sym (ap (without_key_line c.args.key.now) (sym c.as_bytes.ensures.value)
-    ∙ key_line_cut c.args.key.now _ _ _ c.in-Some.ensures (ap (λ l. bytes_eq (key_of l) c.args.key.now) (sym c.as_text.ensures) ∙ (sym c.in_ok-has_key-2.ensures ∙ c.if-branch-2.true)))
+    ∙ key_line_cut c.args.key.now _ _ _ c.in-Some.ensures (ap (λ l. bytes_eq (reserved_key_of l) c.args.key.now) (sym c.as_text.ensures) ∙ (sym c.in_ok-has_key-2.ensures ∙ c.if-branch-2.true)))
 
 pub returns-else-branch-2 : goal.returns-else-branch-2
 returns-else-branch-2 c =
     sym c.as_bytes.ensures.value ∙ sym (ap (without_key_line c.args.key.now) (sym c.as_bytes.ensures.value)
-    ∙ other_line_cut c.args.key.now _ _ _ c.in-Some.ensures (ap (λ l. bytes_eq (key_of l) c.args.key.now) (sym c.as_text.ensures) ∙ (sym c.in_ok-has_key-2.ensures ∙ c.if-branch-2.false)))
+    ∙ other_line_cut c.args.key.now _ _ _ c.in-Some.ensures (ap (λ l. bytes_eq (reserved_key_of l) c.args.key.now) (sym c.as_text.ensures) ∙ (sym c.in_ok-has_key-2.ensures ∙ c.if-branch-2.false)))

@@ -1,37 +1,75 @@
 use Rattle.std.proofs.Common.{refl}
-use Rattle.std.specs.Str.{chars}
-use lib.Utf8.{encode}
-use Rattle.dict_match.specs.Key.{key_of}
+use Rattle.dict_match.proofs.Computing.{keys}
 use Rattle.dict_match.proofs.laws.worked_keys.Goals as goal
 
-pub returns-clause-two_words : goal.returns-clause-two_words
-unfolding key_of chars encode
-returns-clause-two_words c = refl
+pub returns-clause-accents : goal.returns-clause-accents
+unfolding keys
+returns-clause-accents c = refl
 
-pub returns-clause-signs_alone : goal.returns-clause-signs_alone
-unfolding key_of chars encode
-returns-clause-signs_alone c = refl
+pub returns-clause-sharp_s : goal.returns-clause-sharp_s
+unfolding keys
+returns-clause-sharp_s c = refl
 
-pub returns-clause-signs_within : goal.returns-clause-signs_within
-unfolding key_of chars encode
-returns-clause-signs_within c = refl
+pub returns-clause-capital_sigmas : goal.returns-clause-capital_sigmas
+unfolding keys
+returns-clause-capital_sigmas c = refl
 
-pub returns-clause-apostrophe : goal.returns-clause-apostrophe
-unfolding key_of chars encode
-returns-clause-apostrophe c = refl
+pub returns-clause-last_sigma : goal.returns-clause-last_sigma
+unfolding keys
+returns-clause-last_sigma c = refl
 
-pub returns-clause-nothing_left : goal.returns-clause-nothing_left
-unfolding key_of chars encode
-returns-clause-nothing_left c = refl
+pub returns-clause-joining_mark : goal.returns-clause-joining_mark
+unfolding keys
+returns-clause-joining_mark c = refl
 
-pub returns-clause-sign_in_front : goal.returns-clause-sign_in_front
-unfolding key_of chars encode
-returns-clause-sign_in_front c = refl
+pub returns-clause-dash_alone : goal.returns-clause-dash_alone
+unfolding keys
+returns-clause-dash_alone c = refl
 
-pub returns-clause-blanks_alone : goal.returns-clause-blanks_alone
-unfolding key_of chars encode
-returns-clause-blanks_alone c = refl
+pub returns-clause-dash_between_blanks : goal.returns-clause-dash_between_blanks
+unfolding keys
+returns-clause-dash_between_blanks c = refl
 
-pub returns-clause-past_ascii : goal.returns-clause-past_ascii
-unfolding key_of chars encode
-returns-clause-past_ascii c = refl
+pub returns-clause-one_half : goal.returns-clause-one_half
+unfolding keys
+returns-clause-one_half c = refl
+
+pub returns-clause-longer : goal.returns-clause-longer
+unfolding keys
+returns-clause-longer c = refl
+
+pub returns-clause-dotted_i : goal.returns-clause-dotted_i
+unfolding keys
+returns-clause-dotted_i c = refl
+
+pub returns-clause-iota_with_marks : goal.returns-clause-iota_with_marks
+unfolding keys
+returns-clause-iota_with_marks c = refl
+
+pub returns-clause-combining_accent : goal.returns-clause-combining_accent
+unfolding keys
+returns-clause-combining_accent c = refl
+
+pub returns-clause-hebrew_points : goal.returns-clause-hebrew_points
+unfolding keys
+returns-clause-hebrew_points c = refl
+
+pub returns-clause-hebrew_accent : goal.returns-clause-hebrew_accent
+unfolding keys
+returns-clause-hebrew_accent c = refl
+
+pub returns-clause-devanagari : goal.returns-clause-devanagari
+unfolding keys
+returns-clause-devanagari c = refl
+
+pub returns-clause-long_s : goal.returns-clause-long_s
+unfolding keys
+returns-clause-long_s c = refl
+
+pub returns-clause-long_s_stays : goal.returns-clause-long_s_stays
+unfolding keys
+returns-clause-long_s_stays c = refl
+
+pub returns-clause-accents_by_the_first : goal.returns-clause-accents_by_the_first
+unfolding keys
+returns-clause-accents_by_the_first c = refl

@@ -1,0 +1,8 @@
+use Rattle.std.specs.Prelude.{filter}
+use Rattle.std.specs.String.{string_bytes}
+use Rattle.dict_match.specs.Key.{is_kept}
+use Rattle.dict_match.specs.Joined.{AreJoinedSoFar}
+use Rattle.dict_match.proofs.key.fold_case.Given as goal
+
+abbrev pub invariant-loop-c : goal.invariant-loop-c
+invariant-loop-c l = AreJoinedSoFar (filter is_kept l.yielded) (string_bytes l.joined.written) l.joined.between_words
