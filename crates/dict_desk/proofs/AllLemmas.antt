@@ -19,7 +19,7 @@ use Rattle.dict_catalogue.proofs.StepLemmas.{failing_first, none_failing, step_i
 use Rattle.dict_desk.specs.Faults.{has_failed_by, has_closed_by}
 use Rattle.dict_desk.specs.Applying.{Applies, Leaves, LeavesNoMore}
 use Rattle.dict_desk.specs.Requests.{request_meant, requests_meant}
-use Rattle.dict_desk.specs.AllApplied.{settled_answer, reply_shown, replies, has_acted, AllAnswered, HaltsAt}
+use Rattle.dict_desk.specs.AllApplied.{settled_answer, standing_answer, reply_shown, replies, has_acted, AllAnswered, HaltsAt, AreApplied}
 use Rattle.dict_desk.specs.declared.fault.Fault.{Fault}
 use Rattle.dict_desk.specs.declared.fault.Fault.TheVariants.{Refused, Memory, Disk, Closed, NotACatalogue, Damaged, NewerSchema}
 
@@ -232,3 +232,38 @@ still_so new old first by e none same = e ∙ ap (λ b. old || b) none ∙ or_no
 pub not_closed : (was : Bool) (answer : Result Kept Fault) (outcome : Result Kept Refusal) → settled_answer answer ≡ Ok outcome → (was ≡ true → answer ≡ Err Closed) → was ≡ false
 not_closed false answer outcome so closed = refl
 not_closed true answer outcome so closed = absurd (false≢true (ap is_ok (sym (ap settled_answer (closed refl)) ∙ so)))
+
+-- ---- the calls themselves
+
+-- an answer that stands, and one that doesn't
+pub stands_by : (answer : Result Kept Fault) (outcome : Result Kept Refusal) → settled_answer answer ≡ Ok outcome → answer ≡ standing_answer outcome
+stands_by (Ok kept) outcome so = ap (λ r. standing_answer (outcome_or outcome r)) so
+stands_by (Err (Refused refusal)) outcome so = ap (λ r. standing_answer (outcome_or outcome r)) so
+stands_by (Err Memory) outcome so = absurd (false≢true (ap is_ok so))
+stands_by (Err Disk) outcome so = absurd (false≢true (ap is_ok so))
+stands_by (Err Closed) outcome so = absurd (false≢true (ap is_ok so))
+stands_by (Err NotACatalogue) outcome so = absurd (false≢true (ap is_ok so))
+stands_by (Err Damaged) outcome so = absurd (false≢true (ap is_ok so))
+stands_by (Err NewerSchema) outcome so = absurd (false≢true (ap is_ok so))
+
+abbrev fault_or : Fault → Result (Result Kept Refusal) Fault → Fault
+fault_or other (Ok outcome) = other
+fault_or other (Err fault) = fault
+
+pub fails_by : (answer : Result Kept Fault) (fault : Fault) → settled_answer answer ≡ Err fault → answer ≡ Err fault
+fails_by (Ok kept) fault so = absurd (true≢false (ap is_ok so))
+fails_by (Err (Refused refusal)) fault so = absurd (true≢false (ap is_ok so))
+fails_by (Err Memory) fault so = ap (λ r. Err (fault_or fault r)) so
+fails_by (Err Disk) fault so = ap (λ r. Err (fault_or fault r)) so
+fails_by (Err Closed) fault so = ap (λ r. Err (fault_or fault r)) so
+fails_by (Err NotACatalogue) fault so = ap (λ r. Err (fault_or fault r)) so
+fails_by (Err Damaged) fault so = ap (λ r. Err (fault_or fault r)) so
+fails_by (Err NewerSchema) fault so = ap (λ r. Err (fault_or fault r)) so
+
+-- one more command was applied behind the others
+pub applied_one_more : {K : Type 0} (applies : K → Request → Result Kept Fault → K → Type 0) (old between new : K) (front : List Request) (outcomes : List (Result Kept Refusal)) (one : Request) (outcome : Result Kept Refusal)
+    → AreApplied applies old front outcomes between → applies between one (standing_answer outcome) new → AreApplied applies old (front ++ one ∷ []) (outcomes ++ outcome ∷ []) new
+applied_one_more applies old between new [] [] one outcome all last = (new, subst (λ k. applies k one (standing_answer outcome) new) all last, refl)
+applied_one_more applies old between new [] (other ∷ outcomes) one outcome all last = absurd all
+applied_one_more applies old between new (request ∷ front) [] one outcome all last = absurd all
+applied_one_more applies old between new (request ∷ front) (other ∷ outcomes) one outcome all last = (all.0, all.1, applied_one_more applies all.0 between new front outcomes one outcome all.2 last)

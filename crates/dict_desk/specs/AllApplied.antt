@@ -1,6 +1,6 @@
 -- Commands that are applied one after another, each in its turn: what they are answered, what they make of a catalogue,
 -- and what a stop may leave of them.
-use Rattle.std.specs.Prelude.{◌≡◌, ◌⊎◌, ◌+◌, ℕ, Bool, false, ◌||◌, List, [], ◌∷◌, map, take, Option, Some, MatchBool, Result, Ok, Err}
+use Rattle.std.specs.Prelude.{◌≡◌, ◌⊎◌, ◌+◌, ℕ, Bool, false, ◌||◌, List, [], ◌∷◌, ◌++◌, map, take, Option, Some, MatchBool, Result, Ok, Err}
 use Rattle.dict_catalogue.specs.Steps.{Catalogue, Reply, accepted, refused, Request, step, after, acts}
 use Rattle.dict_catalogue.specs.Views.{kept_shown}
 use Rattle.dict_catalogue.specs.declared.reply.Kept.{Kept}
@@ -66,3 +66,25 @@ HaltsAt Shows Before After before requests stand Closed = Stands Shows Before Af
 HaltsAt Shows Before After before requests stand NotACatalogue = ⊥
 HaltsAt Shows Before After before requests stand Damaged = ⊥
 HaltsAt Shows Before After before requests stand NewerSchema = ⊥
+
+-- ---- the calls themselves, where `applies` tells of two states that between them a command was applied and answered so
+
+-- what a command was answered that stands
+abbrev pub standing_answer : Result Kept Refusal → Result Kept Fault
+standing_answer (Ok kept) = Ok kept
+standing_answer (Err refusal) = Err (Refused refusal)
+
+-- From one state to another these commands were applied, each in its turn, and each was answered so.
+abbrev pub AreApplied : {K : Type 0} → (K → Request → Result Kept Fault → K → Type 0) → K → List Request → List (Result Kept Refusal) → K → Type 0
+AreApplied applies old [] [] new = new ≡ old
+AreApplied applies old [] (outcome ∷ outcomes) new = ⊥
+AreApplied applies old (request ∷ requests) [] new = ⊥
+AreApplied {K} applies old (request ∷ requests) (outcome ∷ outcomes) new =
+    (between : K) × applies old request (standing_answer outcome) between × AreApplied applies between requests outcomes new
+
+-- So many of these were answered, and the one behind them by this failure; or there was no room for the answers, and none was applied.
+abbrev pub HasHalted : {K : Type 0} → (K → Request → Result Kept Fault → K → Type 0) → K → List Request → ℕ → Fault → K → Type 0
+HasHalted {K} applies old requests stand fault new =
+    ((stand ≡ 0) × (fault ≡ Memory) × (new ≡ old))
+    ⊎ ((outcomes : List (Result Kept Refusal)) × (between : K) × (request : Request) × (take (stand + 1) requests ≡ take stand requests ++ request ∷ [])
+    × AreApplied applies old (take stand requests) outcomes between × applies between request (Err fault) new)

@@ -1,11 +1,13 @@
 // What keeps a catalogue.
-ghost use Rattle.std.specs.Prelude.{◌≡◌, ◌↔◌, ◌≤◌, ◌<◌, true, false, ◌||◌, List, Option, IfOk, IfErr, OnOk, Err, is_some, option_map, length, vec_len};
-ghost use Rattle.dict_catalogue.specs.Steps.{Catalogue, kept_under, step};
+ghost use Rattle.std.specs.Prelude.{◌≡◌, ◌↔◌, ◌≤◌, ◌<◌, true, false, ◌||◌, List, Option, Result, IfOk, IfErr, OnOk, Err, is_some, option_map, length, vec_len, ⊤};
+ghost use Rattle.dict_catalogue.specs.Steps.{Catalogue, Request, kept_under, step};
+ghost use Rattle.dict_catalogue.specs.declared.reply.Kept.{Kept as Reply};
 ghost use Rattle.dict_catalogue.specs.Views.{command_meant, kept_shown};
 ghost use Rattle.dict_desk.specs.Applying.{Applies, Leaves};
 ghost use Rattle.dict_desk.specs.Faults.{IsOfLookup, IsOfCommand, is_disk, has_failed_by, has_closed_by};
 ghost use Rattle.dict_desk.specs.Requests.{requests_meant};
-ghost use Rattle.dict_desk.specs.AllApplied.{settled_answer, AllAnswered, HaltsAt};
+ghost use Rattle.dict_desk.specs.AllApplied.{settled_answer, AllAnswered, HaltsAt, AreApplied, HasHalted};
+ghost use Rattle.dict_desk.specs.declared.fault.Fault.{Fault as Failure};
 
 use crate::fault::Fault;
 use crate::lookup::Lookup;
@@ -15,6 +17,10 @@ use thiserror::Error;
 
 /// Keeps a catalogue, and changes it by commands.
 pub trait Keeper: Lookup {
+    // Between two of its states a command was applied under the id of its request, and answered so. What applies commands in turn
+    // tells by it which of them were.
+    ghost applies: { Self → Request → Result Reply Failure → Self → Type 0 } = { λ _ _ _ _. ⊤ };
+
     /// The reply that is kept under the id of a request, if there is one.
     fn kept(&mut self, id: &str) -> Result<Option<Kept>, Fault>
         ensures value { Self.is_trusted self.new → (M : Catalogue) → Self.shows self.old M → IfOk result (λ reply. option_map kept_shown reply ≡ kept_under M.kept id.now) }
@@ -31,6 +37,7 @@ pub trait Keeper: Lookup {
     /// An unlawful id is refused; an id that is kept answers its reply again, and changes nothing, whatever the
     /// command; else the command's own tests decide. At `Ok` the command has done its effect, and its reply is kept.
     fn apply(&mut self, id: &str, command: &Command) -> Result<Kept, Fault>
+        ensures applied { applies self.old (record { id = id.now; command = command_meant command.now }) result self.new }
         ensures value { Self.is_trusted self.new → (M : Catalogue) → Self.shows self.old M → Applies (Self.shows self.new) M (step M id.now (command_meant command.now)) result }
         ensures trust { Self.is_trusted self.new → Self.is_trusted self.old }
         ensures leaves { Self.is_trusted self.new → (M : Catalogue) → Self.shows self.old M → Leaves (Self.leaves_one_of self.old) (Self.leaves_one_of self.new) (is_some (kept_under M.kept id.now)) (step M id.now (command_meant command.now)).catalogue result }
@@ -64,8 +71,8 @@ fn settled(answer: Result<Kept, Fault>) -> Result<Result<Kept, Refusal>, Fault>
 
 /// Applies commands one after another, each under the id of its request, and tells what each was answered.
 ///
-/// A refusal doesn't stop it. The first failure does: then it tells how many commands were answered before, which
-/// stand, and the failure. Where that is `Disk`, the command that failed is there whole or not at all once the desk is
+/// A refusal doesn't stop it. The first failure does: then it tells how many commands were answered before, refused ones among
+/// them, which stand, and the failure, which is that of the command behind them. Where that is `Disk`, the command that failed is there whole or not at all once the desk is
 /// opened anew. The list of the answers has its room before the first command is applied, so no memory is wanting for
 /// it once one is.
 pub fn apply_all<K: Keeper>(
@@ -75,6 +82,8 @@ pub fn apply_all<K: Keeper>(
 ) -> Result<Vec<Result<Kept, Refusal>>, Halted>
     ensures value { K.is_trusted desk.new → (M : Catalogue) → K.shows desk.old M → IfOk result (λ outcomes. AllAnswered (K.shows desk.new) (K.leaves_one_of desk.old) (K.leaves_one_of desk.new) M (requests_meant requests.now) outcomes.items) }
     ensures halted { K.is_trusted desk.new → (M : Catalogue) → K.shows desk.old M → IfErr result (λ halted. HaltsAt (K.shows desk.new) (K.leaves_one_of desk.old) (K.leaves_one_of desk.new) M (requests_meant requests.now) halted.stand halted.fault) }
+    ensures called { IfOk result (λ outcomes. AreApplied K.applies desk.old (requests_meant requests.now) outcomes.items desk.new) }
+    ensures failed { IfErr result (λ halted. HasHalted K.applies desk.old (requests_meant requests.now) halted.stand halted.fault desk.new) }
     ensures trust { K.is_trusted desk.new → K.is_trusted desk.old }
     ensures counted { IfOk result (λ outcomes. vec_len outcomes ≡ length requests.now) }
     ensures within { IfErr result (λ halted. halted.stand ≤ length requests.now) }

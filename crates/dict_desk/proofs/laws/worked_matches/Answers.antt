@@ -1,38 +1,38 @@
 use Rattle.std.proofs.Common.{refl}
 use Rattle.std.specs.Str.{chars}
 use lib.Utf8.{encode}
-use Rattle.dict_match.specs.Key.{key_of}
+use Rattle.dict_match.proofs.Computing.{keys}
 use Rattle.dict_match.specs.Matching.{is_hit}
 use Rattle.dict_match.specs.StrategyText.{name_of}
 use Rattle.dict_desk.specs.Asked.{searched, strategy_of}
 use Rattle.dict_desk.proofs.laws.worked_matches.Goals as goal
 
 pub returns-clause-name : goal.returns-clause-name
-unfolding searched key_of is_hit chars encode
+unfolding searched keys is_hit chars encode
 returns-clause-name c = refl
 
 pub returns-clause-star : goal.returns-clause-star
-unfolding searched key_of is_hit chars encode
+unfolding searched keys is_hit chars encode
 returns-clause-star c = refl
 
 pub returns-clause-first : goal.returns-clause-first
-unfolding searched key_of is_hit chars encode
+unfolding searched keys is_hit chars encode
 returns-clause-first c = refl
 
 pub returns-clause-listed : goal.returns-clause-listed
-unfolding searched key_of is_hit chars encode
+unfolding searched keys is_hit chars encode
 returns-clause-listed c = refl
 
 pub returns-clause-prefix : goal.returns-clause-prefix
-unfolding searched key_of is_hit chars encode
+unfolding searched keys is_hit chars encode
 returns-clause-prefix c = refl
 
 pub returns-clause-twice : goal.returns-clause-twice
-unfolding searched key_of is_hit chars encode
+unfolding searched keys is_hit chars encode
 returns-clause-twice c = refl
 
 pub returns-clause-once : goal.returns-clause-once
-unfolding searched key_of is_hit chars encode
+unfolding searched keys is_hit chars encode
 returns-clause-once c = refl
 
 pub returns-clause-period : goal.returns-clause-period
