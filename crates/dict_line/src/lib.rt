@@ -11,5 +11,5 @@ mod word;
 mod words;
 
 pub use laws::{one_reading, worked_lines, worked_meanings};
-pub use line::{MAX_LINE_CHARACTERS, MAX_LINE_OCTETS, parse_line};
+pub use line::{MAX_LINE_OCTETS, parse_line};
 pub use request::{LineFault, Request};

@@ -16,7 +16,7 @@ use std::alloc::Global;
 pub const MAX_LINE_OCTETS: usize = 6144;
 
 /// The most characters of a command line, its CR LF counted (RFC 2229, section 2.3).
-pub const MAX_LINE_CHARACTERS: usize = 1024;
+const MAX_LINE_CHARACTERS: usize = 1024;
 
 /// What a line, without its CR LF, asks for (RFC 2229, section 3). Command words and the second word of SHOW are
 /// compared without regard to ASCII case, and all other words are handed on byte for byte, each without its quoting

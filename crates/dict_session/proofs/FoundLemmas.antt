@@ -22,7 +22,7 @@ use Rattle.dict_desk.specs.Shown.{HasEdition, count_of, row}
 use Rattle.dict_desk.specs.Asked.{Database, first_finding, definitions_in, matches_in}
 use Rattle.dict_desk.specs.declared.lookup.What.{What}
 use Rattle.dict_desk.specs.declared.lookup.What.TheVariants.{Entries, Headwords}
-use Rattle.dict_proto.specs.Replies.{no_match_octets}
+use Rattle.dict_proto.specs.Replies.{no_match_octets, definition_count_octets, match_count_octets, list_end_octets, done_octets}
 use Rattle.dict_session.specs.Answers.{definition_of, definitions_answer, match_line, matches_answer}
 use Rattle.dict_session.specs.Places.{IsHeading}
 use Rattle.dict_session.specs.Rows.{rows_by, row_octets, octets_in, count_in, regular_as, at_place, octets_at, count_at, first_counted, count_octets, end_octets, counted_octets, found_octets, IsCounted}
@@ -291,3 +291,15 @@ module _ (query : Query) (items : List (Item Edition)) (all : List ℕ) (counted
       let test : (total (count_at query items) all == 0) ≡ false = grind (arith, nat_tests, some, is.count) in
       ap (λ (places : List ℕ). counted_octets query items places counted.count) is.places
       ∙ (ap (counted_octets query items all) is.count ∙ sym (ap (λ b. if b then no_match_octets else counted_octets query items all (total (count_at query items) all)) test))
+
+-- ---- the lines before and after the rows
+
+pub count_some : (what : What) (count : ℕ) → 0 < length (count_octets what count)
+unfolding definition_count_octets match_count_octets
+count_some Entries count = omega arith
+count_some Headwords count = omega arith
+
+pub end_some : (what : What) → 0 < length (end_octets what)
+unfolding done_octets list_end_octets
+end_some Entries = omega arith
+end_some Headwords = omega arith

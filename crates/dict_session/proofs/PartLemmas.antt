@@ -1,12 +1,13 @@
 -- What a front of octets is, where the desk broke them off; and what two calls leave of the desk.
-use Rattle.std.proofs.Common.{ℕ, List, ◌++◌, Bool, arith, length, ◌∙◌, length-append}
-use Rattle.std.specs.Prelude.{Option}
+use Rattle.std.proofs.Common.{ℕ, ◌<◌, List, ◌++◌, Bool, true, arith, length, take, drop, refl, sym, ap, ◌∙◌, inl, append_assoc, length-append, take-append-drop}
+use Rattle.std.specs.Prelude.{Option, Err}
 use Rattle.std.proofs.lemmas.List.{take-append-le, take_all}
 use Rattle.dict_io.specs.Streams.{Stream, PutsAll}
-use Rattle.dict_io.proofs.PutLemmas.{appends_longer, appends_after, front_after, front_longer}
+use Rattle.dict_io.proofs.PutLemmas.{all_after, appends_longer, appends_after, front_after, front_longer}
 use Rattle.dict_catalogue.specs.Steps.{Catalogue}
 use Rattle.dict_session.specs.Desks.{Stays}
-use Rattle.dict_session.specs.Ending.{PutsPart, Breaks}
+use Rattle.dict_session.specs.Spoken.{IsBeginning}
+use Rattle.dict_session.specs.Ending.{PutsPart, PutsBeginning, Breaks, PutsAnswer}
 use Rattle.dict_session.specs.declared.step.PutFault.{PutFault}
 use Rattle.dict_session.specs.declared.step.PutFault.TheVariants.{Sink, Desk}
 
@@ -32,13 +33,33 @@ pub breaks_longer : (failed : Bool) (fault : PutFault) (a b : Stream) (xs ys : L
 breaks_longer failed Sink a b xs ys p = front_longer a b xs ys p
 breaks_longer failed Desk a b xs ys p = (p.0, part_longer a b xs ys p.1)
 
-module _ {S : Type 0} (Shows : S → Catalogue → Type 0) (LeavesOneOf : S → List (Option Catalogue) → Type 0) (IsTrusted : S → Type 0) where
-  pub stays_same : (a : S) → Stays Shows LeavesOneOf IsTrusted a a
-  stays_same a = record { trust = λ t. t; shows = λ t m h. h; leaves = λ ms h. h }
+-- a front of some octets that stand behind others and before more, which are both there, is a beginning of all
+pub beginning_after : (xs ys zs : List ℕ) (k : ℕ) → 0 < length xs → 0 < length zs → IsBeginning (xs ++ take k ys) (xs ++ (ys ++ zs))
+beginning_after xs ys zs k some more = record {
+  rest = drop k ys ++ zs;
+  are = ap (λ l. xs ++ (l ++ zs)) (sym (take-append-drop k ys)) ∙ (ap (λ l. xs ++ l) (append_assoc (take k ys) (drop k ys) zs) ∙ sym (append_assoc xs (take k ys) (drop k ys ++ zs)));
+  some = λ e. omega (arith, ap length e, length-append xs (take k ys), some);
+  more = λ e. omega (arith, ap length e, length-append (drop k ys) zs, more);
+}
 
-  pub stays_after : (a b c : S) → Stays Shows LeavesOneOf IsTrusted a b → Stays Shows LeavesOneOf IsTrusted b c → Stays Shows LeavesOneOf IsTrusted a c
+-- xs was put, and then a front of ys, and zs was to come
+pub begun_after : (a b c : Stream) (xs ys zs : List ℕ) → 0 < length xs → 0 < length zs → PutsAll a b xs → PutsPart b c ys → PutsBeginning a c (xs ++ (ys ++ zs))
+begun_after a b c xs ys zs some more h p =
+    (xs ++ take p.front.0 ys, beginning_after xs ys zs p.front.0 some more, all_after a b c xs (take p.front.0 ys) h (record { octets = p.front.2; failures = p.failures }))
+
+-- an answer that was broken off among its rows
+pub breaks_answer : (failed : Bool) (fault : PutFault) (a b c : Stream) (xs ys zs : List ℕ) → 0 < length xs → 0 < length zs → PutsAll a b xs → Breaks failed fault b c ys → PutsAnswer failed (Err fault) a c (xs ++ (ys ++ zs)) true true
+breaks_answer failed Sink a b c xs ys zs some more h p = inl (front_after a b c xs (ys ++ zs) h (front_longer b c ys zs p))
+breaks_answer failed Desk a b c xs ys zs some more h p = (refl, p.0, begun_after a b c xs ys zs some more h p.1)
+
+module _ {S : Type 0} (Shows : S → Catalogue → Type 0) (LeavesOneOf : S → List (Option Catalogue) → Type 0) (IsTrusted : S → Type 0) (is_closed : S → Bool) where
+  pub stays_same : (a : S) → Stays Shows LeavesOneOf IsTrusted is_closed a a
+  stays_same a = record { trust = λ t. t; shows = λ t m h. h; leaves = λ ms h. h; closed = λ e. e }
+
+  pub stays_after : (a b c : S) → Stays Shows LeavesOneOf IsTrusted is_closed a b → Stays Shows LeavesOneOf IsTrusted is_closed b c → Stays Shows LeavesOneOf IsTrusted is_closed a c
   stays_after a b c h k = record {
     trust = λ t. h.trust (k.trust t);
     shows = λ t m s. k.shows t m (h.shows (k.trust t) m s);
     leaves = λ ms l. k.leaves ms (h.leaves ms l);
+    closed = λ e. k.closed (h.closed e);
   }

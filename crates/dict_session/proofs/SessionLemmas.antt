@@ -1,57 +1,59 @@
 -- What calls of a session leave, one after the other.
-use Rattle.std.proofs.Common.{◌≡◌, ℕ, Bool, List, [], ◌∷◌, ◌++◌, refl, true, false, inl, inr}
+use Rattle.std.proofs.Common.{◌≡◌, ℕ, List, [], ◌∷◌, ◌++◌, refl, true, false, inl, inr}
 use Rattle.dict_io.specs.Streams.{Stream}
 use Rattle.dict_line.specs.Meaning.{Meaning, meaning}
 use Rattle.dict_io.proofs.PutLemmas.{puts_none, all_after, front_longer, front_after}
 use Rattle.dict_session.specs.Lines.{cut, HasNoLineEnd}
 use Rattle.dict_session.specs.Answers.{is_quit}
+use Rattle.dict_session.specs.Desks.{Condition}
 use Rattle.dict_session.specs.Ending.{Finishes, Wrote}
 use Rattle.dict_session.specs.Session.{HasUnfinished, Keeps, Leaves, EndsLine}
 use Rattle.dict_session.specs.declared.session.Session.{Session}
 use Rattle.dict_session.specs.declared.step.Course.{Course}
 use Rattle.dict_session.specs.declared.step.Course.TheVariants.{More, Quit, SinkFailed, DeskFailed}
-use Rattle.dict_session.proofs.PartLemmas.{part_after, part_longer}
 use Rattle.dict_session.proofs.LineLemmas.{cut_is, cut_append}
-use Rattle.dict_session.proofs.SpokenLemmas.{speaks_append, speaks_end, speaks_longer, speaks_one, speaks_unavailable}
+use Rattle.dict_session.proofs.SpokenLemmas.{speaks_append, speaks_end, speaks_longer, speaks_one, speaks_unavailable, speaks_wider, breaks_append, breaks_end, breaks_one}
 
 -- one line was answered
-pub wrote_line : (d : Meaning → List ℕ) (f : Bool) (course : Course) (a b : Stream) (l : List ℕ) → Finishes d f course a b (meaning l) → Wrote d f course a b (l ∷ [])
-wrote_line d f More a b l (inl h) = (d (meaning l), speaks_one d l false h.1, h.0)
-wrote_line d f More a b l (inr h) = (_, speaks_unavailable d l h.0, h.1)
-wrote_line d f Quit a b l h = (d (meaning l), speaks_one d l true h.1, h.0)
-wrote_line d f SinkFailed a b l (inl h) = (d (meaning l), is_quit l, speaks_one d l (is_quit l) refl, h)
-wrote_line d f SinkFailed a b l (inr h) = (_, false, speaks_unavailable d l h.0, h.1)
-wrote_line d f DeskFailed a b l h = (h.1, (d (meaning l), is_quit l, speaks_one d l (is_quit l) refl, h.2))
+pub wrote_line : (d : Meaning → List ℕ) (f : Condition) (course : Course) (a b : Stream) (l : List ℕ) → Finishes d f course a b (meaning l) → Wrote d f course a b (l ∷ [])
+wrote_line d f More a b l (inl h) = (d (meaning l), speaks_one d f.closed l false h.1, h.0)
+wrote_line d f More a b l (inr h) = (_, speaks_unavailable d f.closed l h.0, h.1)
+wrote_line d f Quit a b l h = (d (meaning l), speaks_one d f.closed l true h.1, h.0)
+wrote_line d f SinkFailed a b l (inl h) = (d (meaning l), is_quit l, speaks_one d f.closed l (is_quit l) refl, h)
+wrote_line d f SinkFailed a b l (inr h) = (_, false, speaks_unavailable d f.closed l h.0, h.1)
+wrote_line d f DeskFailed a b l (asks, failed, (part, begins, put)) = (failed, (part, breaks_one d f.closed l part asks begins, put))
 
-pub leaves_line : (d : Meaning → List ℕ) (f : Bool) (course : Course) (s : Session) (a b : Stream) (bs l : List ℕ) → cut bs ≡ record { lines = l ∷ []; rest = [] } → EndsLine d f course s a b l → Leaves d f course s a b bs
+pub leaves_line : (d : Meaning → List ℕ) (f : Condition) (course : Course) (s : Session) (a b : Stream) (bs l : List ℕ) → cut bs ≡ record { lines = l ∷ []; rest = [] } → EndsLine d f course s a b l → Leaves d f course s a b bs
 leaves_line d f course s a b bs l e h = rw e (wrote_line d f course a b l h.0, h.1)
 
 -- no line was ended
-pub leaves_held : (d : Meaning → List ℕ) (f : Bool) (s : Session) (a : Stream) (bs : List ℕ) → HasNoLineEnd bs → HasUnfinished s bs → Leaves d f More s a a bs
+pub leaves_held : (d : Meaning → List ℕ) (f : Condition) (s : Session) (a : Stream) (bs : List ℕ) → HasNoLineEnd bs → HasUnfinished s bs → Leaves d f More s a a bs
 leaves_held d f s a bs none held =
     let e = cut_is bs [] bs (record { whole = refl; each = tt; unfinished = none }) in
     rw e (([], (refl, refl), puts_none a), held)
 
 -- lines that go on, and then more
-pub wrote_more : (d : Meaning → List ℕ) (f g : Bool) (course : Course) (a b c : Stream) (ls ms : List (List ℕ)) → Wrote d f More a b ls → Wrote d g course b c ms → Wrote d g course a c (ls ++ ms)
-wrote_more d f g More a b c ls ms (o, spoken, h) (p, more, k) = (o ++ p, speaks_append d ls ms o p false spoken more, all_after a b c o p h k)
-wrote_more d f g Quit a b c ls ms (o, spoken, h) (p, more, k) = (o ++ p, speaks_append d ls ms o p true spoken more, all_after a b c o p h k)
-wrote_more d f g SinkFailed a b c ls ms (o, spoken, h) (p, ended, more, k) = (o ++ p, ended, speaks_append d ls ms o p ended spoken more, front_after a b c o p h k)
-wrote_more d f g DeskFailed a b c ls ms (o, spoken, h) (failed, (p, ended, more, k)) = (failed, (o ++ p, ended, speaks_append d ls ms o p ended spoken more, part_after a b c o p h k))
+pub wrote_more : (d : Meaning → List ℕ) (f g : Condition) → (f.closed ≡ true → g.closed ≡ true) → (course : Course) (a b c : Stream) (ls ms : List (List ℕ)) → Wrote d f More a b ls → Wrote d g course b c ms → Wrote d g course a c (ls ++ ms)
+wrote_more d f g later More a b c ls ms (o, spoken, h) (p, more, k) =
+    (o ++ p, speaks_append d g.closed ls ms o p false (speaks_wider d f.closed g.closed later ls o false spoken) more, all_after a b c o p h k)
+wrote_more d f g later Quit a b c ls ms (o, spoken, h) (p, more, k) =
+    (o ++ p, speaks_append d g.closed ls ms o p true (speaks_wider d f.closed g.closed later ls o false spoken) more, all_after a b c o p h k)
+wrote_more d f g later SinkFailed a b c ls ms (o, spoken, h) (p, ended, more, k) =
+    (o ++ p, ended, speaks_append d g.closed ls ms o p ended (speaks_wider d f.closed g.closed later ls o false spoken) more, front_after a b c o p h k)
+wrote_more d f g later DeskFailed a b c ls ms (o, spoken, h) (failed, (p, breaks, k)) =
+    (failed, (o ++ p, breaks_append d g.closed ls ms o p (speaks_wider d f.closed g.closed later ls o false spoken) breaks, all_after a b c o p h k))
 
-pub leaves_more : (d : Meaning → List ℕ) (f g : Bool) (course : Course) (s t : Session) (a b c : Stream) (p q : List ℕ) → Leaves d f More s a b p → Leaves d g course t b c ((cut p).rest ++ q) → Leaves d g course t a c (p ++ q)
-leaves_more d f g course s t a b c p q h k = rw (cut_append p q) (wrote_more d f g course a b c (cut p).lines (cut ((cut p).rest ++ q)).lines h.0 k.0, k.1)
+pub leaves_more : (d : Meaning → List ℕ) (f g : Condition) → (f.closed ≡ true → g.closed ≡ true) → (course : Course) (s t : Session) (a b c : Stream) (p q : List ℕ) → Leaves d f More s a b p → Leaves d g course t b c ((cut p).rest ++ q) → Leaves d g course t a c (p ++ q)
+leaves_more d f g later course s t a b c p q h k = rw (cut_append p q) (wrote_more d f g later course a b c (cut p).lines (cut ((cut p).rest ++ q)).lines h.0 k.0, k.1)
 
 -- after the end nothing is answered
-wrote_ended : (d : Meaning → List ℕ) (f : Bool) (course : Course) (a b : Stream) (ls ms : List (List ℕ)) → (course ≡ More → ⊥) → Wrote d f course a b ls → Wrote d f course a b (ls ++ ms)
+wrote_ended : (d : Meaning → List ℕ) (f : Condition) (course : Course) (a b : Stream) (ls ms : List (List ℕ)) → (course ≡ More → ⊥) → Wrote d f course a b ls → Wrote d f course a b (ls ++ ms)
 wrote_ended d f More a b ls ms none h = absurd (none refl)
-wrote_ended d f Quit a b ls ms none (o, spoken, h) = (o, speaks_end d ls ms o spoken, h)
+wrote_ended d f Quit a b ls ms none (o, spoken, h) = (o, speaks_end d f.closed ls ms o spoken, h)
 wrote_ended d f SinkFailed a b ls ms none (o, ended, spoken, h) =
-    let (more, later, longer) = speaks_longer d ls ms o ended spoken in
+    let (more, later, longer) = speaks_longer d f.closed ls ms o ended spoken in
     (o ++ more, later, longer, front_longer a b o more h)
-wrote_ended d f DeskFailed a b ls ms none (failed, (o, ended, spoken, h)) =
-    let (more, later, longer) = speaks_longer d ls ms o ended spoken in
-    (failed, (o ++ more, later, longer, part_longer a b o more h))
+wrote_ended d f DeskFailed a b ls ms none (failed, (o, breaks, h)) = (failed, (o, breaks_end d f.closed ls ms o breaks, h))
 
 kept_ended : (course : Course) (s : Session) (rest other : List ℕ) → (course ≡ More → ⊥) → Keeps course s rest → Keeps course s other
 kept_ended More s rest other none h = absurd (none refl)
@@ -59,7 +61,7 @@ kept_ended Quit s rest other none h = h
 kept_ended SinkFailed s rest other none h = h
 kept_ended DeskFailed s rest other none h = h
 
-pub leaves_ended : (d : Meaning → List ℕ) (f : Bool) (course : Course) (s : Session) (a b : Stream) (p q : List ℕ) → (course ≡ More → ⊥) → Leaves d f course s a b p → Leaves d f course s a b (p ++ q)
+pub leaves_ended : (d : Meaning → List ℕ) (f : Condition) (course : Course) (s : Session) (a b : Stream) (p q : List ℕ) → (course ≡ More → ⊥) → Leaves d f course s a b p → Leaves d f course s a b (p ++ q)
 leaves_ended d f course s a b p q none h = rw (cut_append p q) (wrote_ended d f course a b (cut p).lines (cut ((cut p).rest ++ q)).lines none h.0, kept_ended course s _ _ none h.1)
 
 pub keeps_none : (course : Course) (s : Session) → (course ≡ More → ⊥) → Keeps course s []

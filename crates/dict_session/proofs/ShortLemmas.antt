@@ -344,16 +344,16 @@ answer_to-short d host w h not_implemented = reply_octets-short NotImplemented t
 
 -- ---- sessions
 
-speaks-short : (answer : Meaning → List ℕ) → ((asked : Meaning) → AreShortLines (answer asked)) → (ls : List (List ℕ)) (o : List ℕ) (ended : Bool) → Speaks answer ls o ended → AreShortLines o
-speaks-short answer each [] o ended h = subst AreShortLines (sym h.0) short_none
-speaks-short answer each (l ∷ ls) o ended (rest, inl h) = subst AreShortLines (sym h.0) (short_append (answer (meaning l)) rest (each (meaning l)) (by_quit (λ k. speaks-short answer each ls rest ended k) (is_quit l) h.1))
+speaks-short : (answer : Meaning → List ℕ) (closed : Bool) → ((asked : Meaning) → AreShortLines (answer asked)) → (ls : List (List ℕ)) (o : List ℕ) (ended : Bool) → Speaks answer closed ls o ended → AreShortLines o
+speaks-short answer closed each [] o ended h = subst AreShortLines (sym h.0) short_none
+speaks-short answer closed each (l ∷ ls) o ended (rest, inl h) = subst AreShortLines (sym h.0) (short_append (answer (meaning l)) rest (each (meaning l)) (by_quit (λ k. speaks-short answer closed each ls rest ended k) (is_quit l) h.1))
   where
-    by_quit : (Speaks answer ls rest ended → AreShortLines rest) → (q : Bool) → MatchBool q ((rest ≡ []) × (ended ≡ true)) (Speaks answer ls rest ended) → AreShortLines rest
+    by_quit : (Speaks answer closed ls rest ended → AreShortLines rest) → (q : Bool) → MatchBool q ((rest ≡ []) × (ended ≡ true)) (Speaks answer closed ls rest ended) → AreShortLines rest
     by_quit more true k = subst AreShortLines (sym k.0) short_none
     by_quit more false k = more k
-speaks-short answer each (l ∷ ls) o ended (rest, inr h) = subst AreShortLines (sym h.1) (short_append unavailable_octets rest (reply_octets-short Unavailable tt) (speaks-short answer each ls rest ended h.2))
+speaks-short answer closed each (l ∷ ls) o ended (rest, inr h) = subst AreShortLines (sym h.1) (short_append unavailable_octets rest (reply_octets-short Unavailable tt) (speaks-short answer closed each ls rest ended h.2))
 
-pub session-short : (d : Catalogue) (host : List ℕ) (connection : ℕ) (ls : List (List ℕ)) (o : List ℕ) (ended : Bool) → IsWellFormed d → IsTrue (is_host host) → connection < 2 ^ 64
-    → Speaks (answer_to d host) ls o ended → AreShortLines (banner_octets host connection ++ o)
-session-short d host connection ls o ended w h lt spoken =
-    short_append (banner_octets host connection) o (reply_octets-short (Banner (lent host) connection) (host-short host h, lt)) (speaks-short (answer_to d host) (answer_to-short d host w h) ls o ended spoken)
+pub session-short : (d : Catalogue) (host : List ℕ) (connection : ℕ) (closed : Bool) (ls : List (List ℕ)) (o : List ℕ) (ended : Bool) → IsWellFormed d → IsTrue (is_host host) → connection < 2 ^ 64
+    → Speaks (answer_to d host) closed ls o ended → AreShortLines (banner_octets host connection ++ o)
+session-short d host connection closed ls o ended w h lt spoken =
+    short_append (banner_octets host connection) o (reply_octets-short (Banner (lent host) connection) (host-short host h, lt)) (speaks-short (answer_to d host) closed (answer_to-short d host w h) ls o ended spoken)

@@ -1,5 +1,5 @@
 -- The answers to SHOW, STATUS and HELP as replies, one after the other, and over a catalogue's summary.
-use Rattle.std.proofs.Common.{◌≡◌, ◌≢◌, ℕ, suc, List, [], ◌∷◌, ◌++◌, Bor, Bool, true, false, ◌&&◌, refl, sym, ap, ◌∙◌, append-nil, append_assoc, ◌+◌, ◌<◌, length, map, take, drop, get_or, take-append-drop, arith, subst, inl, inr}
+use Rattle.std.proofs.Common.{◌≡◌, ◌≢◌, ℕ, suc, List, [], ◌∷◌, ◌++◌, Bor, Bool, true, false, ◌&&◌, refl, sym, ap, ◌∙◌, append-nil, append_assoc, ◌+◌, ◌<◌, length, map, take, drop, get_or, take-append-drop, arith, subst, inl, inr, length-append}
 use Rattle.std.specs.Prelude.{Option, None, Some, Result, Ok, Err, find, option_map, ◌==◌, Contains, if◌then◌else◌}
 use Rattle.std.specs.List.{flat_map}
 use Rattle.std.specs.Str.{bytes_eq}
@@ -16,7 +16,7 @@ use Rattle.dict_desk.specs.Asked.{Database, databases_named}
 use Rattle.dict_desk.specs.Shown.{HasEdition, info_rows}
 use Rattle.dict_proto.specs.declared.reply.Reply.TheVariants.{ListEnd, Help, ServerInformation, Done}
 use Rattle.dict_proto.specs.Replies.{reply_octets, list_end_octets, done_octets, invalid_database_octets, info_heading_octets, info_text_octets, no_databases_octets, database_count_octets, unavailable_octets, status_octets}
-use Rattle.dict_session.specs.Ending.{PutsPart, PutsAnswer}
+use Rattle.dict_session.specs.Ending.{PutsBeginning, PutsAnswer}
 use Rattle.dict_session.specs.declared.step.Answered.{Answered}
 use Rattle.dict_session.specs.declared.step.Answered.TheVariants.{Whole, Unavailable}
 use Rattle.dict_session.specs.declared.step.PutFault.{PutFault}
@@ -26,7 +26,6 @@ use Rattle.dict_desk.specs.declared.fault.Fault.{Fault}
 use Rattle.dict_desk.specs.declared.fault.Fault.TheVariants.{Refused, Memory, Disk, Closed, NotACatalogue, Damaged, NewerSchema}
 use Rattle.dict_session.specs.Rows.{shown_line, line_if_named, items_octets, members_octets, info_row, has_some}
 use Rattle.dict_session.specs.Shows.{databases_answer, items_answer, item_line, server_answer, info_answer, info_found, database_line, status_answer, help_answer}
-use Rattle.dict_session.proofs.PartLemmas.{part_of, part_after}
 use Rattle.dict_session.proofs.AskedLemmas.{named_as}
 
 pub help_is : flat_map reply_octets (Help ∷ Done ∷ []) ≡ help_answer
@@ -169,13 +168,21 @@ pub row_is : (edition : Edition) → flat_map info_row (info_rows edition) ++ do
 row_is edition =
     ap (λ (l : List ℕ). l ++ done_octets) (append-nil (info_heading_octets ++ info_text_octets edition.info)) ∙ append_assoc info_heading_octets (info_text_octets edition.info) done_octets
 
--- a front of the row that was begun, or nothing
-pub part_of_row : (a b : Stream) (edition : Edition) (front rest : List Entry) → info_rows edition ≡ front ++ rest → PutsAll a b (flat_map info_row front)
-    → PutsPart a b (info_heading_octets ++ (info_text_octets edition.info ++ done_octets))
-part_of_row a b edition front rest e h =
-    subst (PutsPart a b) (sym (append_assoc (flat_map info_row front) (flat_map info_row rest) done_octets)
-    ∙ (ap (λ (l : List ℕ). l ++ done_octets) (sym (flat_map-append info_row front rest) ∙ sym (ap (flat_map info_row) e)) ∙ row_is edition))
-    (part_of a b (flat_map info_row front) (flat_map info_row rest ++ done_octets) h)
+-- a beginning of the row that was begun
+pub part_of_row : (a b : Stream) (edition : Edition) (front rest : List Entry) → true ≡ has_some front → info_rows edition ≡ front ++ rest → PutsAll a b (flat_map info_row front)
+    → PutsBeginning a b (info_heading_octets ++ (info_text_octets edition.info ++ done_octets))
+unfolding done_octets info_heading_octets
+part_of_row a b edition [] rest some e h = cc
+part_of_row a b edition (row ∷ front) rest some e h = (
+  flat_map info_row (row ∷ front),
+  record {
+    rest = flat_map info_row rest ++ done_octets;
+    are = sym (row_is edition) ∙ (ap (λ (l : List ℕ). l ++ done_octets) (ap (flat_map info_row) e ∙ flat_map-append info_row (row ∷ front) rest) ∙ append_assoc (flat_map info_row (row ∷ front)) (flat_map info_row rest) done_octets);
+    some = λ none. cc none;
+    more = λ none. omega (arith, ap length none, length-append (flat_map info_row rest) done_octets);
+  },
+  h,
+)
 
 pub none_begun : (a b : Stream) (front : List Entry) → false ≡ has_some front → PutsAll a b (flat_map info_row front) → PutsAll a b []
 none_begun a b [] e h = h
@@ -183,19 +190,24 @@ none_begun a b (row ∷ front) e h = cc
 
 -- ---- what was put, and then an answer
 
-pub whole_after : (failed : Bool) (r : Result Answered PutFault) (a b c : Stream) (xs ys : List ℕ) → PutsAll a b xs → PutsAnswer failed r b c ys false → PutsAnswer failed r a c (xs ++ ys) true
+pub whole_after : (failed : Bool) (r : Result Answered PutFault) (a b c : Stream) (xs ys : List ℕ) → PutsAll a b xs → PutsAnswer failed r b c ys false false → PutsAnswer failed r a c (xs ++ ys) true true
 whole_after failed (Ok Whole) a b c xs ys h k = all_after a b c xs ys h k
 whole_after failed (Ok Unavailable) a b c xs ys h (e, k) = cc
 whole_after failed (Err Sink) a b c xs ys h (inl k) = inl (front_after a b c xs ys h k)
 whole_after failed (Err Sink) a b c xs ys h (inr (e, k)) = cc
 whole_after failed (Err Desk) a b c xs ys h (e, f, k) = cc
 
-pub none_before : (failed : Bool) (r : Result Answered PutFault) (a b c : Stream) (answer : List ℕ) (may : Bool) → PutsAll a b [] → PutsAnswer failed r b c answer may → PutsAnswer failed r a c answer may
-none_before failed (Ok Whole) a b c answer may h k = all_after a b c [] answer h k
-none_before failed (Ok Unavailable) a b c answer may h (e, k) = (e, all_after a b c [] unavailable_octets h k)
-none_before failed (Err Sink) a b c answer may h (inl k) = inl (front_after a b c [] answer h k)
-none_before failed (Err Sink) a b c answer may h (inr (e, k)) = inr (e, front_after a b c [] unavailable_octets h k)
-none_before failed (Err Desk) a b c answer may h (e, f, k) = (e, f, part_after a b c [] answer h k)
+pub none_before : (failed : Bool) (r : Result Answered PutFault) (a b c : Stream) (answer : List ℕ) (asks may : Bool) → PutsAll a b [] → PutsAnswer failed r b c answer asks may → PutsAnswer failed r a c answer asks may
+none_before failed (Ok Whole) a b c answer asks may h k = all_after a b c [] answer h k
+none_before failed (Ok Unavailable) a b c answer asks may h (e, k) = (e, all_after a b c [] unavailable_octets h k)
+none_before failed (Err Sink) a b c answer asks may h (inl k) = inl (front_after a b c [] answer h k)
+none_before failed (Err Sink) a b c answer asks may h (inr (e, k)) = inr (e, front_after a b c [] unavailable_octets h k)
+none_before failed (Err Desk) a b c answer asks may h (e, f, (part, begins, k)) = (e, f, (part, begins, all_after a b c [] part h k))
+
+-- what isn't open is closed
+pub not_open : (closed : Bool) → (closed ≡ false → false ≡ true) → closed ≡ true
+not_open true h = refl
+not_open false h = h refl
 
 pub lookup_failed : (fault : Fault) → IsOfLookup fault → is_failure fault ≡ true
 lookup_failed (Refused refusal) h = absurd h

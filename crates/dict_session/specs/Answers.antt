@@ -75,22 +75,39 @@ answer_to catalogue host not_recognized = not_recognized_octets
 answer_to catalogue host illegal_parameters = illegal_parameters_octets
 answer_to catalogue host not_implemented = not_implemented_octets
 
--- the answer needs the catalogue, or memory for words of the line or the key of one, and the 420 line may stand in its
--- place
-abbrev pub may_be_unavailable : Meaning → Bool
-may_be_unavailable (define name word) = true
-may_be_unavailable (matching name strategy word) = true
-may_be_unavailable show_databases = true
-may_be_unavailable show_strategies = false
-may_be_unavailable show_server = true
-may_be_unavailable (show_info name) = true
-may_be_unavailable client = false
-may_be_unavailable status = true
-may_be_unavailable help = false
-may_be_unavailable quit = false
-may_be_unavailable not_recognized = false
-may_be_unavailable illegal_parameters = false
-may_be_unavailable not_implemented = false
+-- the answer needs entries of the catalogue, or what an edition says of itself, and memory for words of the line or the key
+-- of one
+abbrev pub asks_entries : Meaning → Bool
+asks_entries (define name word) = true
+asks_entries (matching name strategy word) = true
+asks_entries show_databases = false
+asks_entries show_strategies = false
+asks_entries show_server = false
+asks_entries (show_info name) = true
+asks_entries client = false
+asks_entries status = false
+asks_entries help = false
+asks_entries quit = false
+asks_entries not_recognized = false
+asks_entries illegal_parameters = false
+asks_entries not_implemented = false
+
+-- the 420 line may stand in the answer's place: of an answer that needs entries where the desk failed or memory was
+-- refused, and of one that needs only the catalogue's summary where the desk is closed
+abbrev pub may_be_unavailable : Bool → Meaning → Bool
+may_be_unavailable closed (define name word) = true
+may_be_unavailable closed (matching name strategy word) = true
+may_be_unavailable closed show_databases = closed
+may_be_unavailable closed show_strategies = false
+may_be_unavailable closed show_server = closed
+may_be_unavailable closed (show_info name) = true
+may_be_unavailable closed client = false
+may_be_unavailable closed status = closed
+may_be_unavailable closed help = false
+may_be_unavailable closed quit = false
+may_be_unavailable closed not_recognized = false
+may_be_unavailable closed illegal_parameters = false
+may_be_unavailable closed not_implemented = false
 
 abbrev pub ends_session : Meaning → Bool
 ends_session (define name word) = false

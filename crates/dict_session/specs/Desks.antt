@@ -1,10 +1,20 @@
 -- What the calls of a session leave of the desk that it asks.
-use Rattle.std.specs.Prelude.{List, Option}
+use Rattle.std.specs.Prelude.{◌≡◌, Bool, true, List, Option}
 use Rattle.dict_catalogue.specs.Steps.{Catalogue}
 
--- A desk that may be trusted afterwards could be before, and shows what it showed; and a stop may leave nothing that it
--- couldn't leave before. The three relations are the desk's own.
-pub record Stays {S : Type 0} (Shows : S → Catalogue → Type 0) (LeavesOneOf : S → List (Option Catalogue) → Type 0) (IsTrusted : S → Type 0) (old new : S) : Type 0 where
+-- how a desk stands after a call: its last call by `&mut self` failed, and it is closed
+pub record Condition : Type 0 where
+  pub failed : Bool
+  pub closed : Bool
+
+-- the same by the desk's own tests
+abbrev pub condition : {S : Type 0} → (S → Bool) → (S → Bool) → S → Condition
+condition has_failed is_closed desk = record { failed = has_failed desk; closed = is_closed desk }
+
+-- A desk that may be trusted afterwards could be before, and shows what it showed; a stop may leave nothing that it couldn't
+-- leave before; and a closed desk stays closed. The four relations are the desk's own.
+pub record Stays {S : Type 0} (Shows : S → Catalogue → Type 0) (LeavesOneOf : S → List (Option Catalogue) → Type 0) (IsTrusted : S → Type 0) (is_closed : S → Bool) (old new : S) : Type 0 where
   pub trust : IsTrusted new → IsTrusted old
   pub shows : IsTrusted new → (catalogue : Catalogue) → Shows old catalogue → Shows new catalogue
   pub leaves : (ms : List (Option Catalogue)) → LeavesOneOf old ms → LeavesOneOf new ms
+  pub closed : is_closed old ≡ true → is_closed new ≡ true

@@ -3,8 +3,9 @@ use Rattle.std.specs.Prelude.{◌≡◌, ℕ, ◌⊎◌, List, Bool, true, false
 use Rattle.dict_io.specs.Streams.{Stream, AppendsFront, PutsAll, PutsFront}
 use Rattle.dict_line.specs.Meaning.{Meaning}
 use Rattle.dict_proto.specs.Replies.{unavailable_octets}
-use Rattle.dict_session.specs.Answers.{ends_session, may_be_unavailable}
-use Rattle.dict_session.specs.Spoken.{Speaks}
+use Rattle.dict_session.specs.Answers.{ends_session, asks_entries, may_be_unavailable}
+use Rattle.dict_session.specs.Spoken.{Speaks, IsBeginning, BreaksOff}
+use Rattle.dict_session.specs.Desks.{Condition}
 use Rattle.dict_session.specs.declared.step.Answered.{Answered}
 use Rattle.dict_session.specs.declared.step.Answered.TheVariants.{Whole, Unavailable}
 use Rattle.dict_session.specs.declared.step.PutFault.{PutFault}
@@ -19,23 +20,28 @@ pub record PutsPart (old new : Stream) (octets : List ℕ) : Type 0 where
   pub front : AppendsFront old.octets new.octets octets
   pub failures : new.failures ≡ old.failures
 
--- the sink failed, and a front of these octets was put; or the desk did, of whose last call `failed` tells it, and so
+-- a beginning of these octets was put, at least one of them and not all, and no call of the sink failed
+abbrev pub PutsBeginning : Stream → Stream → List ℕ → Type 0
+PutsBeginning old new octets = (part : List ℕ) × IsBeginning part octets × PutsAll old new part
+
+-- the sink failed, and a front of these rows was put; or the desk did, of whose last call `failed` tells it, and so
 abbrev pub Breaks : Bool → PutFault → Stream → Stream → List ℕ → Type 0
 Breaks failed Sink old new octets = PutsFront old new octets
 Breaks failed Desk old new octets = (failed ≡ true) × PutsPart old new octets
 
--- these octets were put, or broken off
+-- these rows were put, or broken off
 abbrev pub Delivers : {T : Type 0} → Bool → Result T PutFault → Stream → Stream → List ℕ → Type 0
 Delivers failed (Ok done) old new octets = PutsAll old new octets
 Delivers failed (Err fault) old new octets = Breaks failed fault old new octets
 
--- the answer was put, or where it may be unavailable the 420 line in its place, or where the sink or the desk failed a
--- front
-abbrev pub PutsAnswer : Bool → Result Answered PutFault → Stream → Stream → List ℕ → Bool → Type 0
-PutsAnswer failed (Ok Whole) old new answer may = PutsAll old new answer
-PutsAnswer failed (Ok Unavailable) old new answer may = (may ≡ true) × PutsAll old new unavailable_octets
-PutsAnswer failed (Err Sink) old new answer may = PutsFront old new answer ⊎ ((may ≡ true) × PutsFront old new unavailable_octets)
-PutsAnswer failed (Err Desk) old new answer may = (may ≡ true) × (failed ≡ true) × PutsPart old new answer
+-- the answer was put, or where it may be unavailable the 420 line in its place; or the sink failed, and a front of either
+-- was put; or where the answer asks for entries the desk did, of whose last call `failed` tells it, and a beginning of the
+-- answer was put
+abbrev pub PutsAnswer : Bool → Result Answered PutFault → Stream → Stream → List ℕ → Bool → Bool → Type 0
+PutsAnswer failed (Ok Whole) old new answer asks may = PutsAll old new answer
+PutsAnswer failed (Ok Unavailable) old new answer asks may = (may ≡ true) × PutsAll old new unavailable_octets
+PutsAnswer failed (Err Sink) old new answer asks may = PutsFront old new answer ⊎ ((may ≡ true) × PutsFront old new unavailable_octets)
+PutsAnswer failed (Err Desk) old new answer asks may = (asks ≡ true) × (failed ≡ true) × PutsBeginning old new answer
 
 -- a session that the sink or the desk broke off is broken
 abbrev pub step_at : Course → Step
@@ -44,14 +50,14 @@ step_at courses.Quit = steps.Quit
 step_at courses.SinkFailed = steps.Broken
 step_at courses.DeskFailed = steps.Broken
 
--- the call answered what one line asks, and a QUIT ends the session. `failed` tells whether the desk's last call failed
-abbrev pub Finishes : (Meaning → List ℕ) → Bool → Course → Stream → Stream → Meaning → Type 0
-Finishes answer failed courses.More old new asked = (PutsAll old new (answer asked) × (ends_session asked ≡ false))
-    ⊎ ((may_be_unavailable asked ≡ true) × PutsAll old new unavailable_octets)
-Finishes answer failed courses.Quit old new asked = PutsAll old new (answer asked) × (ends_session asked ≡ true)
-Finishes answer failed courses.SinkFailed old new asked = PutsFront old new (answer asked)
-    ⊎ ((may_be_unavailable asked ≡ true) × PutsFront old new unavailable_octets)
-Finishes answer failed courses.DeskFailed old new asked = (may_be_unavailable asked ≡ true) × (failed ≡ true) × PutsPart old new (answer asked)
+-- the call answered what one line asks, and a QUIT ends the session; the desk stands so after it
+abbrev pub Finishes : (Meaning → List ℕ) → Condition → Course → Stream → Stream → Meaning → Type 0
+Finishes answer desk courses.More old new asked = (PutsAll old new (answer asked) × (ends_session asked ≡ false))
+    ⊎ ((may_be_unavailable desk.closed asked ≡ true) × PutsAll old new unavailable_octets)
+Finishes answer desk courses.Quit old new asked = PutsAll old new (answer asked) × (ends_session asked ≡ true)
+Finishes answer desk courses.SinkFailed old new asked = PutsFront old new (answer asked)
+    ⊎ ((may_be_unavailable desk.closed asked ≡ true) × PutsFront old new unavailable_octets)
+Finishes answer desk courses.DeskFailed old new asked = (asks_entries asked ≡ true) × (desk.failed ≡ true) × PutsBeginning old new (answer asked)
 
 -- the call put these octets, and the session goes on; or the sink failed
 abbrev pub PutsLine : Course → Stream → Stream → List ℕ → Type 0
@@ -60,9 +66,10 @@ PutsLine courses.Quit old new octets = ⊥
 PutsLine courses.SinkFailed old new octets = PutsFront old new octets
 PutsLine courses.DeskFailed old new octets = ⊥
 
--- the call wrote what answers these lines, or where it broke off a front of that, and tells whether a QUIT was answered
-abbrev pub Wrote : (Meaning → List ℕ) → Bool → Course → Stream → Stream → List (List ℕ) → Type 0
-Wrote answer failed courses.More old new ls = (o : List ℕ) × Speaks answer ls o false × PutsAll old new o
-Wrote answer failed courses.Quit old new ls = (o : List ℕ) × Speaks answer ls o true × PutsAll old new o
-Wrote answer failed courses.SinkFailed old new ls = (o : List ℕ) × (ended : Bool) × Speaks answer ls o ended × PutsFront old new o
-Wrote answer failed courses.DeskFailed old new ls = (failed ≡ true) × ((o : List ℕ) × (ended : Bool) × Speaks answer ls o ended × PutsPart old new o)
+-- the call wrote what answers these lines, and tells whether a QUIT was answered; or the sink failed, and a front of that
+-- was written; or the desk's last call failed, and the answer to one of the lines was broken off behind its first octet
+abbrev pub Wrote : (Meaning → List ℕ) → Condition → Course → Stream → Stream → List (List ℕ) → Type 0
+Wrote answer desk courses.More old new ls = (o : List ℕ) × Speaks answer desk.closed ls o false × PutsAll old new o
+Wrote answer desk courses.Quit old new ls = (o : List ℕ) × Speaks answer desk.closed ls o true × PutsAll old new o
+Wrote answer desk courses.SinkFailed old new ls = (o : List ℕ) × (ended : Bool) × Speaks answer desk.closed ls o ended × PutsFront old new o
+Wrote answer desk courses.DeskFailed old new ls = (desk.failed ≡ true) × ((o : List ℕ) × BreaksOff answer desk.closed ls o × PutsAll old new o)

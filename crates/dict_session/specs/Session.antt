@@ -1,8 +1,9 @@
 -- What a session keeps between two pieces, and what a call leaves.
-use Rattle.std.specs.Prelude.{◌≡◌, ℕ, Bool, ◌<◌, List, [], length, MatchBool, ◌-◌, slice_index, ◌==◌, vec_capacity}
+use Rattle.std.specs.Prelude.{◌≡◌, ℕ, ◌<◌, List, [], length, MatchBool, ◌-◌, slice_index, ◌==◌, vec_capacity}
 use Rattle.dict_io.specs.Streams.{Stream}
 use Rattle.dict_line.specs.Meaning.{Meaning, meaning}
 use Rattle.dict_session.specs.Lines.{HasNoLineEnd, cut}
+use Rattle.dict_session.specs.Desks.{Condition}
 use Rattle.dict_session.specs.Ending.{Finishes, Wrote, step_at}
 use Rattle.dict_session.specs.declared.session.Session.{Session}
 use Rattle.dict_session.specs.declared.step.Step.{Step}
@@ -42,10 +43,10 @@ Keeps Quit s rest = Unit {0}
 Keeps SinkFailed s rest = Unit {0}
 Keeps DeskFailed s rest = Unit {0}
 
--- the call answered the lines that end in b, and keeps the rest of b; `failed` tells whether the desk's last call failed
-abbrev pub Leaves : (Meaning → List ℕ) → Bool → Course → Session → Stream → Stream → List ℕ → Type 0
-Leaves answer failed course s old new b = Wrote answer failed course old new (cut b).lines × Keeps course s (cut b).rest
+-- the call answered the lines that end in b, and keeps the rest of b; the desk stands so after it
+abbrev pub Leaves : (Meaning → List ℕ) → Condition → Course → Session → Stream → Stream → List ℕ → Type 0
+Leaves answer desk course s old new b = Wrote answer desk course old new (cut b).lines × Keeps course s (cut b).rest
 
 -- the call answered this line, and keeps nothing
-abbrev pub EndsLine : (Meaning → List ℕ) → Bool → Course → Session → Stream → Stream → List ℕ → Type 0
-EndsLine answer failed course s old new line = Finishes answer failed course old new (meaning line) × Keeps course s []
+abbrev pub EndsLine : (Meaning → List ℕ) → Condition → Course → Session → Stream → Stream → List ℕ → Type 0
+EndsLine answer desk course s old new line = Finishes answer desk course old new (meaning line) × Keeps course s []

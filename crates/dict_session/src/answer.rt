@@ -6,10 +6,10 @@ ghost use Rattle.dict_line.specs.Told.{Tells, requested};
 ghost use Rattle.dict_catalogue.specs.Steps.{Catalogue};
 ghost use Rattle.dict_proto.specs.Replies.{reply_octets};
 ghost use Rattle.dict_desk.specs.Asked.{strategy_of};
-ghost use Rattle.dict_session.specs.Answers.{answer_to, define_answer, match_answer, ends_session, may_be_unavailable};
-ghost use Rattle.dict_session.specs.Desks.{Stays};
+ghost use Rattle.dict_session.specs.Answers.{answer_to, define_answer, match_answer, ends_session, asks_entries, may_be_unavailable};
+ghost use Rattle.dict_session.specs.Desks.{Condition, condition, Stays};
 ghost use Rattle.dict_session.specs.Places.{asked_in, HoldsAsked};
-ghost use Rattle.dict_session.specs.Ending.{Delivers, Finishes, PutsAnswer, PutsLine};
+ghost use Rattle.dict_session.specs.Ending.{Finishes, PutsAnswer, PutsLine};
 
 use crate::asked::{Asked, asked_by};
 use crate::found::put_found;
@@ -33,8 +33,8 @@ pub(crate) fn answer_line<L: Lookup, K: Sink>(
     sink: &mut K,
 ) -> Course
     ensures value { L.is_trusted desk.new → (M : Catalogue) → L.shows desk.old M → (meaning : Meaning) → Tells asked meaning
-        → Finishes (answer_to M host.now) (L.has_failed desk.new) result (K.stream sink.old) (K.stream sink.new) meaning }
-    ensures desk { Stays L.shows L.leaves_one_of L.is_trusted desk.old desk.new }
+        → Finishes (answer_to M host.now) (condition L.has_failed L.is_closed desk.new) result (K.stream sink.old) (K.stream sink.new) meaning }
+    ensures desk { Stays L.shows L.leaves_one_of L.is_trusted L.is_closed desk.old desk.new }
 {
     match asked {
         Ok(request) => answer_request(alloc, desk, host, &request, sink),
@@ -44,8 +44,8 @@ pub(crate) fn answer_line<L: Lookup, K: Sink>(
 
 // Puts the answer to a line that is no command.
 fn answer_fault<K: Sink>(fault: LineFault, sink: &mut K) -> Course
-    ensures { (M : Catalogue) (host : List ℕ) (failed : Bool) (meaning : Meaning) → Tells (Err fault) meaning
-        → Finishes (answer_to M host) failed result (K.stream sink.old) (K.stream sink.new) meaning }
+    ensures { (M : Catalogue) (host : List ℕ) (desk : Condition) (meaning : Meaning) → Tells (Err fault) meaning
+        → Finishes (answer_to M host) desk result (K.stream sink.old) (K.stream sink.new) meaning }
 {
     match fault {
         LineFault::NotRecognized => put_line(&Reply::NotRecognized, sink),
@@ -74,8 +74,8 @@ fn answer_request<L: Lookup, K: Sink>(
     sink: &mut K,
 ) -> Course
     ensures value { L.is_trusted desk.new → (M : Catalogue) → L.shows desk.old M
-        → Finishes (answer_to M host.now) (L.has_failed desk.new) result (K.stream sink.old) (K.stream sink.new) (requested request.now) }
-    ensures desk { Stays L.shows L.leaves_one_of L.is_trusted desk.old desk.new }
+        → Finishes (answer_to M host.now) (condition L.has_failed L.is_closed desk.new) result (K.stream sink.old) (K.stream sink.new) (requested request.now) }
+    ensures desk { Stays L.shows L.leaves_one_of L.is_trusted L.is_closed desk.old desk.new }
 {
     match put_answer(alloc, desk, host, request, sink) {
         Ok(Answered::Whole) if is_quit(request) => Course::Quit,
@@ -101,8 +101,8 @@ fn put_answer<L: Lookup, K: Sink>(
     sink: &mut K,
 ) -> Result<Answered, PutFault>
     ensures value { L.is_trusted desk.new → (M : Catalogue) → L.shows desk.old M
-        → PutsAnswer (L.has_failed desk.new) result (K.stream sink.old) (K.stream sink.new) (answer_to M host.now (requested request.now)) (may_be_unavailable (requested request.now)) }
-    ensures desk { Stays L.shows L.leaves_one_of L.is_trusted desk.old desk.new }
+        → PutsAnswer (L.has_failed desk.new) result (K.stream sink.old) (K.stream sink.new) (answer_to M host.now (requested request.now)) (asks_entries (requested request.now)) (may_be_unavailable (L.is_closed desk.new) (requested request.now)) }
+    ensures desk { Stays L.shows L.leaves_one_of L.is_trusted L.is_closed desk.old desk.new }
 {
     match request {
         Request::Define { database, word } => {
@@ -133,7 +133,7 @@ fn put_answer<L: Lookup, K: Sink>(
 
 // An answer that was put whole, or that the sink broke off.
 pub(crate) fn whole(put: Result<(), SinkFault>) -> Result<Answered, PutFault>
-    ensures { (old new : Stream) (answer : List ℕ) (failed may : Bool) → Puts put old new answer → PutsAnswer failed result old new answer may }
+    ensures { (old new : Stream) (answer : List ℕ) (failed asks may : Bool) → Puts put old new answer → PutsAnswer failed result old new answer asks may }
 {
     match put {
         Ok(()) => Ok(Answered::Whole),
@@ -141,18 +141,8 @@ pub(crate) fn whole(put: Result<(), SinkFault>) -> Result<Answered, PutFault>
     }
 }
 
-// An answer that was put whole, or that the sink or the desk broke off.
-pub(crate) fn delivered(put: Result<(), PutFault>) -> Result<Answered, PutFault>
-    ensures { (old new : Stream) (answer : List ℕ) (failed : Bool) → Delivers failed put old new answer → PutsAnswer failed result old new answer true }
-{
-    match put {
-        Ok(()) => Ok(Answered::Whole),
-        Err(fault) => Err(fault),
-    }
-}
-
 pub(crate) fn put_whole<K: Sink>(reply: &Reply, sink: &mut K) -> Result<Answered, PutFault>
-    ensures { (failed may : Bool) → PutsAnswer failed result (K.stream sink.old) (K.stream sink.new) (reply_octets reply.now) may }
+    ensures { (failed asks may : Bool) → PutsAnswer failed result (K.stream sink.old) (K.stream sink.new) (reply_octets reply.now) asks may }
 {
     match write_reply(sink, reply) {
         Ok(()) => Ok(Answered::Whole),
@@ -161,7 +151,7 @@ pub(crate) fn put_whole<K: Sink>(reply: &Reply, sink: &mut K) -> Result<Answered
 }
 
 pub(crate) fn put_unavailable<K: Sink>(sink: &mut K) -> Result<Answered, PutFault>
-    ensures { (answer : List ℕ) (failed : Bool) → PutsAnswer failed result (K.stream sink.old) (K.stream sink.new) answer true }
+    ensures { (answer : List ℕ) (failed asks : Bool) → PutsAnswer failed result (K.stream sink.old) (K.stream sink.new) answer asks true }
 {
     match write_reply(sink, &Reply::Unavailable) {
         Ok(()) => Ok(Answered::Unavailable),
@@ -189,8 +179,8 @@ fn put_define<L: Lookup, K: Sink>(
     sink: &mut K,
 ) -> Result<Answered, PutFault>
     ensures value { L.is_trusted desk.new → (M : Catalogue) → L.shows desk.old M
-        → PutsAnswer (L.has_failed desk.new) result (K.stream sink.old) (K.stream sink.new) (define_answer M name.now word.now) true }
-    ensures desk { Stays L.shows L.leaves_one_of L.is_trusted desk.old desk.new }
+        → PutsAnswer (L.has_failed desk.new) result (K.stream sink.old) (K.stream sink.new) (define_answer M name.now word.now) true true }
+    ensures desk { Stays L.shows L.leaves_one_of L.is_trusted L.is_closed desk.old desk.new }
 {
     let asked = match asked_of(desk, name) {
         Ok(Some(asked)) => asked,
@@ -229,8 +219,8 @@ fn put_match<L: Lookup, K: Sink>(
     sink: &mut K,
 ) -> Result<Answered, PutFault>
     ensures value { L.is_trusted desk.new → (M : Catalogue) → L.shows desk.old M
-        → PutsAnswer (L.has_failed desk.new) result (K.stream sink.old) (K.stream sink.new) (match_answer M name.now strategy.now word.now) true }
-    ensures desk { Stays L.shows L.leaves_one_of L.is_trusted desk.old desk.new }
+        → PutsAnswer (L.has_failed desk.new) result (K.stream sink.old) (K.stream sink.new) (match_answer M name.now strategy.now word.now) true true }
+    ensures desk { Stays L.shows L.leaves_one_of L.is_trusted L.is_closed desk.old desk.new }
 {
     let asked = match asked_of(desk, name) {
         Ok(Some(asked)) => asked,

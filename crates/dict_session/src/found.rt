@@ -12,7 +12,7 @@ ghost use Rattle.dict_session.specs.Ending.{Delivers, PutsAnswer};
 ghost use Rattle.dict_session.specs.Places.{IsHeading};
 ghost use Rattle.dict_session.specs.Rows.{rows_by, row_octets, count_octets, end_octets, count_at, octets_at, first_counted, answering, counted_octets, found_octets, IsCounted};
 
-use crate::answer::{delivered, put_unavailable, put_whole};
+use crate::answer::{put_unavailable, put_whole, whole};
 use crate::asked::{Asked, Heading, heading_at, one_place};
 use crate::query::Query;
 use crate::rows::FoundRows;
@@ -44,7 +44,7 @@ fn heading_of<L: Lookup>(desk: &L, place: usize) -> Result<Option<Heading>, Faul
 // How many rows a query gives of the database at a place.
 fn count_at<L: Lookup>(desk: &mut L, place: usize, query: &Query) -> Result<u64, Fault>
     ensures value { L.is_trusted desk.new → (M : Catalogue) → L.shows desk.old M → IfOk result (λ count. count ≡ count_at query.now M.items place) }
-    ensures desk { Stays L.shows L.leaves_one_of L.is_trusted desk.old desk.new }
+    ensures desk { Stays L.shows L.leaves_one_of L.is_trusted L.is_closed desk.old desk.new }
     ensures open { L.is_closed desk.old ≡ false → OnOk result (L.is_closed desk.new ≡ false) }
 {
     match heading_of(desk, place) {
@@ -57,7 +57,7 @@ fn count_at<L: Lookup>(desk: &mut L, place: usize, query: &Query) -> Result<u64,
 // How many rows it gives of those at all the places.
 fn count_all<L: Lookup>(desk: &mut L, places: &[usize], query: &Query) -> Result<u64, Fault>
     ensures value { L.is_trusted desk.new → (M : Catalogue) → L.shows desk.old M → length places.now ≤ 64 → IfOk result (λ count. count ≡ total (count_at query.now M.items) places.now) }
-    ensures desk { Stays L.shows L.leaves_one_of L.is_trusted desk.old desk.new }
+    ensures desk { Stays L.shows L.leaves_one_of L.is_trusted L.is_closed desk.old desk.new }
     ensures open { L.is_closed desk.old ≡ false → OnOk result (L.is_closed desk.new ≡ false) }
 {
     let mut sum = 0u64;
@@ -73,7 +73,7 @@ fn count_all<L: Lookup>(desk: &mut L, places: &[usize], query: &Query) -> Result
 // The first place of whose database a query gives rows, and how many.
 fn count_first<L: Lookup>(desk: &mut L, places: &[usize], query: &Query) -> Result<Counted, Fault>
     ensures value { L.is_trusted desk.new → (M : Catalogue) → L.shows desk.old M → IfOk result (IsCounted query.now M.items (first_counted (count_at query.now M.items) places.now)) }
-    ensures desk { Stays L.shows L.leaves_one_of L.is_trusted desk.old desk.new }
+    ensures desk { Stays L.shows L.leaves_one_of L.is_trusted L.is_closed desk.old desk.new }
     ensures open { L.is_closed desk.old ≡ false → OnOk result (L.is_closed desk.new ≡ false) }
 {
     for place in places {
@@ -97,7 +97,7 @@ fn count_first<L: Lookup>(desk: &mut L, places: &[usize], query: &Query) -> Resu
 // Which of the databases asked give rows, and how many.
 fn count_asked<L: Lookup>(desk: &mut L, asked: Asked, query: &Query) -> Result<Counted, Fault>
     ensures value { L.is_trusted desk.new → (M : Catalogue) → L.shows desk.old M → length asked.places.items ≤ 64 → IfOk result (IsCounted query.now M.items (answering query.now M.items asked.places.items asked.is_first)) }
-    ensures desk { Stays L.shows L.leaves_one_of L.is_trusted desk.old desk.new }
+    ensures desk { Stays L.shows L.leaves_one_of L.is_trusted L.is_closed desk.old desk.new }
     ensures open { L.is_closed desk.old ≡ false → OnOk result (L.is_closed desk.new ≡ false) }
 {
     let Asked { places, is_first } = asked;
@@ -120,7 +120,7 @@ fn hand_out<L: Lookup, T: RowSink>(
     ensures value { L.is_trusted desk.new → (M : Catalogue) (edition : Edition) → L.shows desk.old M → HasEdition M number edition
         → Hands T.takes T.stops sink.old sink.new (rows_by query.now.what query.now.strategy query.now.key edition) result }
     ensures handed { (rows : List Entry) × Hands T.takes T.stops sink.old sink.new rows result }
-    ensures desk { Stays L.shows L.leaves_one_of L.is_trusted desk.old desk.new }
+    ensures desk { Stays L.shows L.leaves_one_of L.is_trusted L.is_closed desk.old desk.new }
     ensures open { OnOk result (L.is_closed desk.new ≡ false) }
     ensures failed { OnErr result (L.has_failed desk.new ≡ true) }
 {
@@ -141,7 +141,7 @@ fn deliver<L: Lookup, K: Sink>(
         → Delivers (L.has_failed desk.new) result (K.stream rows.old.sink.now) (K.stream rows.new.sink.now)
         (flat_map (row_octets rows.old.what rows.old.heading.now.name.bytes rows.old.heading.now.title.bytes) (rows_by query.now.what query.now.strategy query.now.key edition)) }
     ensures same_reference { rows.new.sink.ghost_name ≡ rows.old.sink.ghost_name }
-    ensures desk { Stays L.shows L.leaves_one_of L.is_trusted desk.old desk.new }
+    ensures desk { Stays L.shows L.leaves_one_of L.is_trusted L.is_closed desk.old desk.new }
     ensures open { OnOk result (L.is_closed desk.new ≡ false) }
 {
     match hand_out(desk, number, query, rows) {
@@ -161,7 +161,7 @@ fn put_rows<L: Lookup, K: Sink>(
     ensures value { L.is_trusted desk.new → (M : Catalogue) (edition : Edition) → L.shows desk.old M → HasEdition M heading.now.number edition
         → Delivers (L.has_failed desk.new) result (K.stream sink.old) (K.stream sink.new)
         (flat_map (row_octets query.now.what heading.now.name.bytes heading.now.title.bytes) (rows_by query.now.what query.now.strategy query.now.key edition)) }
-    ensures desk { Stays L.shows L.leaves_one_of L.is_trusted desk.old desk.new }
+    ensures desk { Stays L.shows L.leaves_one_of L.is_trusted L.is_closed desk.old desk.new }
     ensures open { OnOk result (L.is_closed desk.new ≡ false) }
 {
     let what = query.what;
@@ -183,7 +183,7 @@ fn put_at<L: Lookup, K: Sink>(
     requires { L.is_closed desk.old ≡ false }
     ensures value { L.is_trusted desk.new → (M : Catalogue) → L.shows desk.old M
         → Delivers (L.has_failed desk.new) result (K.stream sink.old) (K.stream sink.new) (octets_at query.now M.items place) }
-    ensures desk { Stays L.shows L.leaves_one_of L.is_trusted desk.old desk.new }
+    ensures desk { Stays L.shows L.leaves_one_of L.is_trusted L.is_closed desk.old desk.new }
     ensures open { OnOk result (L.is_closed desk.new ≡ false) }
 {
     match heading_of(desk, place) {
@@ -204,7 +204,7 @@ fn put_places<L: Lookup, K: Sink>(
     requires { L.is_closed desk.old ≡ false }
     ensures value { L.is_trusted desk.new → (M : Catalogue) → L.shows desk.old M
         → Delivers (L.has_failed desk.new) result (K.stream sink.old) (K.stream sink.new) (flat_map (octets_at query.now M.items) places.now) }
-    ensures desk { Stays L.shows L.leaves_one_of L.is_trusted desk.old desk.new }
+    ensures desk { Stays L.shows L.leaves_one_of L.is_trusted L.is_closed desk.old desk.new }
 {
     for place in places {
         match put_at(desk, *place, query, sink) {
@@ -241,11 +241,11 @@ fn put_counted<L: Lookup, K: Sink>(
     counted: &Counted,
     query: &Query,
     sink: &mut K,
-) -> Result<(), PutFault>
+) -> Result<Answered, PutFault>
     requires { L.is_closed desk.old ≡ false }
     ensures value { L.is_trusted desk.new → (M : Catalogue) → L.shows desk.old M
-        → Delivers (L.has_failed desk.new) result (K.stream sink.old) (K.stream sink.new) (counted_octets query.now M.items counted.now.places.items counted.now.count) }
-    ensures desk { Stays L.shows L.leaves_one_of L.is_trusted desk.old desk.new }
+        → PutsAnswer (L.has_failed desk.new) result (K.stream sink.old) (K.stream sink.new) (counted_octets query.now M.items counted.now.places.items counted.now.count) true true }
+    ensures desk { Stays L.shows L.leaves_one_of L.is_trusted L.is_closed desk.old desk.new }
 {
     match put_count(query.what, counted.count, sink) {
         Ok(()) => {}
@@ -255,10 +255,7 @@ fn put_counted<L: Lookup, K: Sink>(
         Ok(()) => {}
         Err(fault) => return Err(fault),
     }
-    match put_end(query.what, sink) {
-        Ok(()) => Ok(()),
-        Err(_) => Err(PutFault::Sink),
-    }
+    whole(put_end(query.what, sink))
 }
 
 // Puts what a query finds in the databases that are asked.
@@ -270,8 +267,8 @@ pub(crate) fn put_found<L: Lookup, K: Sink>(
 ) -> Result<Answered, PutFault>
     requires { L.is_closed desk.old ≡ false }
     ensures value { L.is_trusted desk.new → (M : Catalogue) → L.shows desk.old M → length asked.places.items ≤ 64
-        → PutsAnswer (L.has_failed desk.new) result (K.stream sink.old) (K.stream sink.new) (found_octets query.now M.items (answering query.now M.items asked.places.items asked.is_first)) true }
-    ensures desk { Stays L.shows L.leaves_one_of L.is_trusted desk.old desk.new }
+        → PutsAnswer (L.has_failed desk.new) result (K.stream sink.old) (K.stream sink.new) (found_octets query.now M.items (answering query.now M.items asked.places.items asked.is_first)) true true }
+    ensures desk { Stays L.shows L.leaves_one_of L.is_trusted L.is_closed desk.old desk.new }
 {
     let Ok(counted) = count_asked(desk, asked, query) else {
         return put_unavailable(sink);
@@ -279,5 +276,5 @@ pub(crate) fn put_found<L: Lookup, K: Sink>(
     if counted.count == 0 {
         return put_whole(&Reply::NoMatch, sink);
     }
-    delivered(put_counted(desk, &counted, query, sink))
+    put_counted(desk, &counted, query, sink)
 }

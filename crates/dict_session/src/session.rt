@@ -6,7 +6,7 @@ ghost use Rattle.dict_proto.specs.Replies.{banner_octets};
 ghost use Rattle.dict_session.specs.Answers.{answer_to};
 ghost use Rattle.dict_session.specs.declared.step.Step.TheVariants.{More};
 ghost use Rattle.dict_catalogue.specs.Steps.{Catalogue};
-ghost use Rattle.dict_session.specs.Desks.{Stays};
+ghost use Rattle.dict_session.specs.Desks.{condition, Stays};
 
 use crate::answer::{answer_line, put_line};
 use crate::step::{Course, Step};
@@ -87,8 +87,8 @@ impl<'h> Session<'h> {
         sink: &mut K,
     ) -> Step
         ensures answers { step_of self.old ≡ More → L.is_trusted desk.new → (M : Catalogue) → L.shows desk.old M → (rest : List ℕ) → HasUnfinished self.old rest
-            → Leaves (answer_to M (host_of self.old)) (L.has_failed desk.new) (course_of self.new) self.new (K.stream sink.old) (K.stream sink.new) (rest ++ piece.now) }
-        ensures desk { Stays L.shows L.leaves_one_of L.is_trusted desk.old desk.new }
+            → Leaves (answer_to M (host_of self.old)) (condition L.has_failed L.is_closed desk.new) (course_of self.new) self.new (K.stream sink.old) (K.stream sink.new) (rest ++ piece.now) }
+        ensures desk { Stays L.shows L.leaves_one_of L.is_trusted L.is_closed desk.old desk.new }
         ensures step { step_of self.new ≡ result }
         ensures same { IsSameSession self.old self.new }
         ensures ended { step_of self.old ≢ More → (result ≡ step_of self.old) × (K.stream sink.new ≡ K.stream sink.old) × (desk.new ≡ desk.old) }
@@ -105,8 +105,8 @@ impl<'h> Session<'h> {
         sink: &mut K,
     ) -> Course
         ensures answers { step_of self.old ≡ More → L.is_trusted desk.new → (M : Catalogue) → L.shows desk.old M → (rest : List ℕ) → HasUnfinished self.old rest
-            → Leaves (answer_to M (host_of self.old)) (L.has_failed desk.new) result self.new (K.stream sink.old) (K.stream sink.new) (rest ++ piece.now) }
-        ensures desk { Stays L.shows L.leaves_one_of L.is_trusted desk.old desk.new }
+            → Leaves (answer_to M (host_of self.old)) (condition L.has_failed L.is_closed desk.new) result self.new (K.stream sink.old) (K.stream sink.new) (rest ++ piece.now) }
+        ensures desk { Stays L.shows L.leaves_one_of L.is_trusted L.is_closed desk.old desk.new }
         ensures course { course_of self.new ≡ result }
         ensures same { IsSameSession self.old self.new }
         ensures ended { step_of self.old ≢ More → (result ≡ course_of self.old) × (K.stream sink.new ≡ K.stream sink.old) × (desk.new ≡ desk.old) }
@@ -127,8 +127,8 @@ impl<'h> Session<'h> {
         sink: &mut K,
     ) -> Course
         ensures answers { L.is_trusted desk.new → (M : Catalogue) → L.shows desk.old M → (rest : List ℕ) → HasUnfinished self.old rest
-            → Leaves (answer_to M (host_of self.old)) (L.has_failed desk.new) result self.new (K.stream sink.old) (K.stream sink.new) (rest ++ piece.now) }
-        ensures desk { Stays L.shows L.leaves_one_of L.is_trusted desk.old desk.new }
+            → Leaves (answer_to M (host_of self.old)) (condition L.has_failed L.is_closed desk.new) result self.new (K.stream sink.old) (K.stream sink.new) (rest ++ piece.now) }
+        ensures desk { Stays L.shows L.leaves_one_of L.is_trusted L.is_closed desk.old desk.new }
         ensures same { IsSameSession self.old self.new }
     {
         for octet in piece {
@@ -149,8 +149,8 @@ impl<'h> Session<'h> {
         sink: &mut K,
     ) -> Course
         ensures answers { L.is_trusted desk.new → (M : Catalogue) → L.shows desk.old M → (rest : List ℕ) → HasUnfinished self.old rest
-            → Leaves (answer_to M (host_of self.old)) (L.has_failed desk.new) result self.new (K.stream sink.old) (K.stream sink.new) (rest ++ octet ∷ []) }
-        ensures desk { Stays L.shows L.leaves_one_of L.is_trusted desk.old desk.new }
+            → Leaves (answer_to M (host_of self.old)) (condition L.has_failed L.is_closed desk.new) result self.new (K.stream sink.old) (K.stream sink.new) (rest ++ octet ∷ []) }
+        ensures desk { Stays L.shows L.leaves_one_of L.is_trusted L.is_closed desk.old desk.new }
         ensures same { IsSameSession self.old self.new }
     {
         if octet == b'\n' && self.after_cr {
@@ -196,8 +196,8 @@ impl<'h> Session<'h> {
     // Answers the line whose CR was read last, at its LF.
     fn end_line<L: Lookup, K: Sink>(&mut self, alloc: Global, desk: &mut L, sink: &mut K) -> Course
         ensures answers { L.is_trusted desk.new → (M : Catalogue) → L.shows desk.old M → (rest : List ℕ) → HasUnfinished self.old rest
-            → EndsLine (answer_to M (host_of self.old)) (L.has_failed desk.new) result self.new (K.stream sink.old) (K.stream sink.new) (take (length rest - 1) rest) }
-        ensures desk { Stays L.shows L.leaves_one_of L.is_trusted desk.old desk.new }
+            → EndsLine (answer_to M (host_of self.old)) (condition L.has_failed L.is_closed desk.new) result self.new (K.stream sink.old) (K.stream sink.new) (take (length rest - 1) rest) }
+        ensures desk { Stays L.shows L.leaves_one_of L.is_trusted L.is_closed desk.old desk.new }
         ensures same { IsSameSession self.old self.new }
     {
         match answer_line(alloc, desk, self.host, self.request(alloc), sink) {

@@ -1,5 +1,5 @@
 // The answers to SHOW, STATUS and HELP.
-ghost use Rattle.std.specs.Prelude.{◌≡◌, ◌++◌, Bool, map, true, false, find, length, option_map, IfOk};
+ghost use Rattle.std.specs.Prelude.{◌≡◌, ◌++◌, Bool, map, true, false, find, length, option_map, IsOk, IfOk};
 ghost use Rattle.std.specs.List.{flat_map};
 ghost use Rattle.dict_io.specs.Streams.{Puts};
 ghost use Rattle.dict_index.specs.Edition.{Edition};
@@ -80,7 +80,7 @@ pub(crate) fn put_databases<L: Lookup, K: Sink>(
     desk: &L,
     sink: &mut K,
 ) -> Result<Answered, PutFault>
-    ensures { (M : Catalogue) → L.shows desk.now M → (failed : Bool) → PutsAnswer failed result (K.stream sink.old) (K.stream sink.new) (databases_answer M) true }
+    ensures { (M : Catalogue) → L.shows desk.now M → (failed : Bool) → PutsAnswer failed result (K.stream sink.old) (K.stream sink.new) (databases_answer M) false (L.is_closed desk.now) }
 {
     match desk.summary() {
         Ok(summary) => whole(put_items(&summary.items, sink)),
@@ -124,7 +124,7 @@ pub(crate) fn put_server<L: Lookup, K: Sink>(
     host: &str,
     sink: &mut K,
 ) -> Result<Answered, PutFault>
-    ensures { (M : Catalogue) → L.shows desk.now M → (failed : Bool) → PutsAnswer failed result (K.stream sink.old) (K.stream sink.new) (server_answer M host.now) true }
+    ensures { (M : Catalogue) → L.shows desk.now M → (failed : Bool) → PutsAnswer failed result (K.stream sink.old) (K.stream sink.new) (server_answer M host.now) false (L.is_closed desk.now) }
 {
     match count_items(desk) {
         Ok(count) => {
@@ -186,9 +186,9 @@ fn put_row<L: Lookup, K: Sink>(
 ) -> Result<Answered, PutFault>
     requires { row.old.has_begun ≡ false }
     ensures value { L.is_trusted desk.new → (M : Catalogue) (edition : Edition) → L.shows desk.old M → HasEdition M number edition
-        → PutsAnswer (L.has_failed desk.new) result (K.stream row.old.sink.now) (K.stream row.new.sink.now) (info_heading_octets ++ (info_text_octets edition.info ++ done_octets)) true }
+        → PutsAnswer (L.has_failed desk.new) result (K.stream row.old.sink.now) (K.stream row.new.sink.now) (info_heading_octets ++ (info_text_octets edition.info ++ done_octets)) true true }
     ensures same_reference { row.new.sink.ghost_name ≡ row.old.sink.ghost_name }
-    ensures desk { Stays L.shows L.leaves_one_of L.is_trusted desk.old desk.new }
+    ensures desk { Stays L.shows L.leaves_one_of L.is_trusted L.is_closed desk.old desk.new }
 {
     match desk.info(number, row) {
         Ok(End::All) => put_whole(&Reply::Done, row.sink),
@@ -210,8 +210,8 @@ fn put_edition<L: Lookup, K: Sink>(
     sink: &mut K,
 ) -> Result<Answered, PutFault>
     ensures value { L.is_trusted desk.new → (M : Catalogue) (edition : Edition) → L.shows desk.old M → HasEdition M number edition
-        → PutsAnswer (L.has_failed desk.new) result (K.stream sink.old) (K.stream sink.new) (info_heading_octets ++ (info_text_octets edition.info ++ done_octets)) true }
-    ensures desk { Stays L.shows L.leaves_one_of L.is_trusted desk.old desk.new }
+        → PutsAnswer (L.has_failed desk.new) result (K.stream sink.old) (K.stream sink.new) (info_heading_octets ++ (info_text_octets edition.info ++ done_octets)) true true }
+    ensures desk { Stays L.shows L.leaves_one_of L.is_trusted L.is_closed desk.old desk.new }
 {
     let mut row = InfoRow {
         sink,
@@ -229,7 +229,8 @@ fn item_named<'i>(items: &'i [Item], name: &str) -> Option<&'i Item>
 
 // How many items the desk has.
 fn count_items<L: Lookup>(desk: &L) -> Result<u64, Fault>
-    ensures { (M : Catalogue) → L.shows desk.now M → IfOk result (λ count. count ≡ length M.items) }
+    ensures value { (M : Catalogue) → L.shows desk.now M → IfOk result (λ count. count ≡ length M.items) }
+    ensures open { L.is_closed desk.now ≡ false → IsOk result }
 {
     match desk.summary() {
         Ok(summary) => {
@@ -247,8 +248,8 @@ pub(crate) fn put_info<L: Lookup, K: Sink>(
     sink: &mut K,
 ) -> Result<Answered, PutFault>
     ensures value { L.is_trusted desk.new → (M : Catalogue) → L.shows desk.old M
-        → PutsAnswer (L.has_failed desk.new) result (K.stream sink.old) (K.stream sink.new) (info_answer M name.now) true }
-    ensures desk { Stays L.shows L.leaves_one_of L.is_trusted desk.old desk.new }
+        → PutsAnswer (L.has_failed desk.new) result (K.stream sink.old) (K.stream sink.new) (info_answer M name.now) true true }
+    ensures desk { Stays L.shows L.leaves_one_of L.is_trusted L.is_closed desk.old desk.new }
 {
     let Ok(summary) = desk.summary() else {
         return put_unavailable(sink);
@@ -266,7 +267,7 @@ pub(crate) fn put_info<L: Lookup, K: Sink>(
 
 // Puts the answer to STATUS.
 pub(crate) fn put_status<L: Lookup, K: Sink>(desk: &L, sink: &mut K) -> Result<Answered, PutFault>
-    ensures { (M : Catalogue) → L.shows desk.now M → (failed : Bool) → PutsAnswer failed result (K.stream sink.old) (K.stream sink.new) (status_answer M) true }
+    ensures { (M : Catalogue) → L.shows desk.now M → (failed : Bool) → PutsAnswer failed result (K.stream sink.old) (K.stream sink.new) (status_answer M) false (L.is_closed desk.now) }
 {
     match count_items(desk) {
         Ok(count) => put_whole(&Reply::Status(count), sink),

@@ -1,9 +1,6 @@
 // What a call of a session comes to.
 ghost use Rattle.std.specs.Prelude.{◌≡◌};
 ghost use Rattle.dict_session.specs.Ending.{step_at};
-ghost use Rattle.dict_session.specs.declared.step.PutFault.TheVariants.{Sink};
-
-use dict_io::SinkFault;
 
 /// What a call came to.
 #[derive(Clone, Copy, Debug, PartialEq, Eq)]
@@ -12,7 +9,8 @@ pub enum Step {
     More,
     /// A QUIT was answered, and nothing after it.
     Quit,
-    /// The sink failed, or the desk did after an answer's first octet, and a front of the answers was put.
+    /// The sink failed, and a front of the answers was put; or the desk did after an answer's first octet, and that answer was
+    /// broken off.
     Broken,
 }
 
@@ -49,14 +47,4 @@ pub(crate) enum Answered {
 pub(crate) enum PutFault {
     Sink,
     Desk,
-}
-
-impl From<SinkFault> for PutFault {
-    ghost use Rattle.dict_session.specs.declared.step.PutFault.TheVariants.{Sink};
-
-    ghost from_gives = { λ _ fault. fault ≡ Sink };
-
-    fn from(_: SinkFault) -> Self {
-        PutFault::Sink
-    }
 }

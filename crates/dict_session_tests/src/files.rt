@@ -21,11 +21,18 @@ pub(crate) const ORE: Files = Files(
     b"00-database-short\nOres\niron\n  ore\n",
 );
 
-/// Two headwords of which one is the other with the last character of all behind it.
+/// Two headwords of which one is the other with the last character of all behind it, which is no letter.
 pub(crate) const EDGE: Files = Files(
     "edge",
     b"00-database-short\tA\tZ\na\tZ\tC\na\xf4\x8f\xbf\xbf\tZ\tC\nb\tZ\tC\n",
     b"00-database-short\n  Gems\nx\n",
+);
+
+/// Headwords past ASCII, over one text: `ÉTÉ`, `Straße`, `ΣΑΣ`, `don’t`, `ŉ`, `İ`, `Ⱥ` and `हिन्दी`.
+pub(crate) const ETE: Files = Files(
+    "ete",
+    b"00-database-short\tA\tZ\n\xc3\x89T\xc3\x89\tZ\tH\nStra\xc3\x9fe\tZ\tH\n\xce\xa3\xce\x91\xce\xa3\tZ\tH\ndon\xe2\x80\x99t\tZ\tH\n\xc5\x89\tZ\tH\n\xc4\xb0\tZ\tH\n\xc8\xba\tZ\tH\n\xe0\xa4\xb9\xe0\xa4\xbf\xe0\xa4\xa8\xe0\xa5\x8d\xe0\xa4\xa6\xe0\xa5\x80\tZ\tH\n",
+    b"00-database-short\n  Mots\nsaison\n",
 );
 
 // Entries in another order than their headwords', with one headword twice, and what the database says of itself.

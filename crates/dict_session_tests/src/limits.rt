@@ -55,7 +55,7 @@ static EDGE_ROWS: [Row; 2] = [
     (
         "MATCH edge suffix \u{10ffff}\r\n",
         false,
-        "152 1 matches found\r\nedge \"a\u{10ffff}\"\r\n.\r\n250 ok\r\n",
+        "552 no match\r\n",
     ),
 ];
 

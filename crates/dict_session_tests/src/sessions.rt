@@ -3,7 +3,10 @@ use crate::checks::{same, same_text};
 use crate::files::{GEM, STONES, desk_of, ore_gem_all};
 use dict_desk::{Lookup, PlainDesk};
 use dict_io::{LimitedSink, OverRead};
-use dict_session::{Session, Step, is_host, one_cut, run, session_lines_are_short, spoken_answers};
+use dict_session::{
+    Session, Step, broken_is_a_front, is_host, one_cut, run, session_lines_are_short,
+    spoken_answers, spoken_or_unavailable,
+};
 use std::alloc::{AllocError, Global};
 use std::process::Abort;
 use std::test::Fail;
@@ -297,6 +300,8 @@ static BOTH_ROWS: [Row; 2] = [
 fn answers_over_one_database(rt: HostRuntime) -> Result<(), Fail> {
     one_cut();
     spoken_answers();
+    spoken_or_unavailable();
+    broken_is_a_front();
     session_lines_are_short();
     let mut desk = desk_of(rt.alloc(), &[STONES])?;
     answer_rows(&rt, rt.alloc(), &mut desk, &STONES_ROWS)

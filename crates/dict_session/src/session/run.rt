@@ -2,7 +2,7 @@
 ghost use Rattle.dict_io.specs.Streams.{change};
 ghost use Rattle.std.specs.Prelude.{◌≡◌, Err};
 ghost use Rattle.dict_catalogue.specs.Steps.{Catalogue};
-ghost use Rattle.dict_session.specs.Desks.{Stays};
+ghost use Rattle.dict_session.specs.Desks.{condition, Stays};
 ghost use Rattle.dict_session.specs.Run.{Ends};
 
 use crate::session::Session;
@@ -44,9 +44,9 @@ pub fn run<S: Source, K: Sink, L: Lookup>(
     host: &str,
     connection: u64,
 ) -> Result<End, SessionFault>
-    ensures answers { L.is_trusted desk.new → (M : Catalogue) → L.shows desk.old M → Ends M host.now connection (L.has_failed desk.new) result
+    ensures answers { L.is_trusted desk.new → (M : Catalogue) → L.shows desk.old M → Ends M host.now connection (condition L.has_failed L.is_closed desk.new) result
         (change S.stream reader.old reader.new) (change K.stream writer.old writer.new) }
-    ensures desk { Stays L.shows L.leaves_one_of L.is_trusted desk.old desk.new }
+    ensures desk { Stays L.shows L.leaves_one_of L.is_trusted L.is_closed desk.old desk.new }
     ensures memory { result ≡ Err SessionFault.Memory → (reader.new ≡ reader.old) × (writer.new ≡ writer.old) }
 {
     let Ok(mut session) = Session::new(alloc, host, connection) else {

@@ -9,7 +9,7 @@ use Rattle.dict_session.proofs.found.count_all.Goals as goal
 pub loop-place-init : goal.loop-place-init
 loop-place-init g c = record {
   left = λ trusted M shown few. refl;
-  desk = stays_same g.L.Lookup.shows g.L.Lookup.leaves_one_of g.L.Lookup.is_trusted c.args.desk.now;
+  desk = stays_same g.L.Lookup.shows g.L.Lookup.leaves_one_of g.L.Lookup.is_trusted g.L.Lookup.is_closed c.args.desk.now;
   is_open = λ e. e;
 }
 
@@ -27,12 +27,12 @@ loop-place-preserved g c = record {
       let bound = counts_few c.args.query.now M (take (i + 1) places) (g.met.L.Lookup.well_formed c.args.desk.now M shown) in
       let size : length (take (i + 1) places) ≡ i + 1 = length-take-le (i + 1) places (omega arith) in
       omega (arith, c.saturating_add-sum.ensures, before, one, more, bound, size, few));
-  desk = stays_after g.L.Lookup.shows g.L.Lookup.leaves_one_of g.L.Lookup.is_trusted _ _ _ c.loop-place.invariant.desk c.in-Ok.ensures.desk;
+  desk = stays_after g.L.Lookup.shows g.L.Lookup.leaves_one_of g.L.Lookup.is_trusted g.L.Lookup.is_closed _ _ _ c.loop-place.invariant.desk c.in-Ok.ensures.desk;
   is_open = λ e. c.in-Ok.ensures.open (c.loop-place.invariant.is_open e);
 }
 
 pub returns-in-Err-clause-desk : goal.returns-in-Err-clause-desk
-returns-in-Err-clause-desk g c = stays_after g.L.Lookup.shows g.L.Lookup.leaves_one_of g.L.Lookup.is_trusted _ _ _ c.loop-place.invariant.desk c.in-Err.ensures.desk
+returns-in-Err-clause-desk g c = stays_after g.L.Lookup.shows g.L.Lookup.leaves_one_of g.L.Lookup.is_trusted g.L.Lookup.is_closed _ _ _ c.loop-place.invariant.desk c.in-Err.ensures.desk
 
 pub returns-clause-value : goal.returns-clause-value
 returns-clause-value g c = λ trusted M shown few.

@@ -1,6 +1,6 @@
 use Rattle.std.proofs.Common.{List, ℕ, ◌++◌, take}
 use Rattle.dict_catalogue.specs.Steps.{Catalogue}
-use Rattle.dict_session.specs.Desks.{Stays}
+use Rattle.dict_session.specs.Desks.{condition, Stays}
 use Rattle.dict_session.specs.Session.{HasUnfinished, Leaves, IsSameSession, host_of}
 use Rattle.dict_session.specs.Answers.{answer_to}
 use Rattle.dict_session.specs.declared.step.Course.TheVariants.{More}
@@ -9,7 +9,7 @@ use Rattle.dict_session.proofs.session.Session.read.Given as goal
 abbrev pub invariant-loop-octet : goal.invariant-loop-octet
 invariant-loop-octet g l = record {
   left : g.L.Lookup.is_trusted l.desk → (M : Catalogue) → g.L.Lookup.shows l.fn.desk M → (rest : List ℕ) → HasUnfinished l.fn.self rest
-      → Leaves (answer_to M (host_of l.fn.self)) (g.L.Lookup.has_failed l.desk) More l.self (g.K.Sink.stream l.fn.sink) (g.K.Sink.stream l.sink) (rest ++ take l.octet-index l.piece);
-  desk : Stays g.L.Lookup.shows g.L.Lookup.leaves_one_of g.L.Lookup.is_trusted l.fn.desk l.desk;
+      → Leaves (answer_to M (host_of l.fn.self)) (condition g.L.Lookup.has_failed g.L.Lookup.is_closed l.desk) More l.self (g.K.Sink.stream l.fn.sink) (g.K.Sink.stream l.sink) (rest ++ take l.octet-index l.piece);
+  desk : Stays g.L.Lookup.shows g.L.Lookup.leaves_one_of g.L.Lookup.is_trusted g.L.Lookup.is_closed l.fn.desk l.desk;
   same : IsSameSession l.fn.self l.self;
 }

@@ -3,7 +3,7 @@ use Rattle.dict_io.specs.Streams.{Stream, PutsAll, GivesAll}
 use Rattle.dict_catalogue.specs.Steps.{Catalogue}
 use Rattle.dict_proto.specs.Replies.{banner_octets}
 use Rattle.dict_session.specs.Answers.{answer_to}
-use Rattle.dict_session.specs.Desks.{Stays}
+use Rattle.dict_session.specs.Desks.{condition, Stays}
 use Rattle.dict_session.specs.Session.{Leaves, step_of, host_of}
 use Rattle.dict_session.specs.declared.step.Step.TheVariants.{More}
 use Rattle.dict_session.specs.declared.step.Course.TheVariants as courses
@@ -12,8 +12,8 @@ use Rattle.dict_session.proofs.session.run.run.Given as goal
 abbrev pub invariant-reads : goal.invariant-reads
 invariant-reads g l = record {
   left : g.L.Lookup.is_trusted l.desk → (M : Catalogue) → g.L.Lookup.shows l.fn.desk M → (b : List ℕ) × GivesAll (g.S.Source.stream l.fn.reader) (g.S.Source.stream l.reader) b × (l._turn ≤ length b)
-      × ((greeted : Stream) × PutsAll (g.K.Sink.stream l.fn.writer) greeted (banner_octets l.host l.connection) × Leaves (answer_to M l.host) (g.L.Lookup.has_failed l.desk) courses.More l.session greeted (g.K.Sink.stream l.writer) b);
-  desk : Stays g.L.Lookup.shows g.L.Lookup.leaves_one_of g.L.Lookup.is_trusted l.fn.desk l.desk;
+      × ((greeted : Stream) × PutsAll (g.K.Sink.stream l.fn.writer) greeted (banner_octets l.host l.connection) × Leaves (answer_to M l.host) (condition g.L.Lookup.has_failed g.L.Lookup.is_closed l.desk) courses.More l.session greeted (g.K.Sink.stream l.writer) b);
+  desk : Stays g.L.Lookup.shows g.L.Lookup.leaves_one_of g.L.Lookup.is_trusted g.L.Lookup.is_closed l.fn.desk l.desk;
   step : step_of l.session ≡ More;
   host : host_of l.session ≡ l.host;
   space : length l.room ≡ 4096;
