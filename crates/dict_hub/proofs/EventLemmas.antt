@@ -1,5 +1,5 @@
 -- What a piece does, by whether its connection is open.
-use Rattle.std.proofs.Common.{◌≡◌, ◌++◌, ℕ, Bool, List, refl, sym, subst}
+use Rattle.std.proofs.Common.{◌≡◌, ◌++◌, ℕ, List, refl, sym, subst}
 use Rattle.std.specs.Prelude.{Option, Some, None, Result, Err, IfOk}
 use Rattle.dict_io.specs.Streams.{Stream}
 use Rattle.dict_catalogue.specs.Steps.{Catalogue}
@@ -11,16 +11,17 @@ use Rattle.dict_hub.specs.declared.hub.Hub.{Hub}
 use Rattle.dict_hub.specs.declared.asking.Out.{Out}
 use Rattle.dict_hub.specs.declared.fault.HubFault.{HubFault}
 use Rattle.dict_hub.specs.declared.fault.HubFault.TheVariants.{UnknownConnection}
+use Rattle.dict_session.specs.Desks.{Condition}
 
-pub serves_piece : (host : List ℕ) (failed : Bool) (Shows : Catalogue → Type 0) (Before After : List (Option Catalogue) → Type 0) (before : Catalogue)
+pub serves_piece : (host : List ℕ) (desk : Condition) (Shows : Catalogue → Type 0) (Before After : List (Option Catalogue) → Type 0) (before : Catalogue)
     (held : Option Holding) (what : Happening) (id : ℕ) (piece : List ℕ) (old new : Stream) (result : Result Out HubFault) → what ≡ came id piece
     → (held ≡ None → result ≡ Err UnknownConnection)
-    → ((one : Holding) → held ≡ Some one → IfOk result (λ out. Gets host failed Shows Before After before one.kind (one.octets ++ piece) out old new))
-    → IfOk result (λ out. Serves host failed Shows Before After before held what out old new)
-serves_piece host failed Shows Before After before None what id piece old new result is unknown known =
-    subst (λ r. IfOk r (λ out. Serves host failed Shows Before After before None what out old new)) (sym (unknown refl)) tt
-serves_piece host failed Shows Before After before (Some held) what id piece old new result is unknown known =
-    subst (λ w. IfOk result (λ out. Serves host failed Shows Before After before (Some held) w out old new)) (sym is) (known held refl)
+    → ((one : Holding) → held ≡ Some one → IfOk result (λ out. Gets host desk Shows Before After before one.kind (one.octets ++ piece) out old new))
+    → IfOk result (λ out. Serves host desk Shows Before After before held what out old new)
+serves_piece host desk Shows Before After before None what id piece old new result is unknown known =
+    subst (λ r. IfOk r (λ out. Serves host desk Shows Before After before None what out old new)) (sym (unknown refl)) tt
+serves_piece host desk Shows Before After before (Some held) what id piece old new result is unknown known =
+    subst (λ w. IfOk result (λ out. Serves host desk Shows Before After before (Some held) w out old new)) (sym is) (known held refl)
 
 pub own_piece : (hub : Hub) (held : Option Holding) (what : Happening) (id : ℕ) (piece : List ℕ) (result : Result Out HubFault) → what ≡ came id piece
     → (held ≡ None → result ≡ Err UnknownConnection)

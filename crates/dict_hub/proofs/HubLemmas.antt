@@ -1,6 +1,6 @@
 -- What stands beside an id once connections are opened, closed or changed.
 use Rattle.std.proofs.Common.{◌≡◌, ◌≢◌, ◌==◌, ◌+◌, ◌-◌, ◌<◌, ◌++◌, [], ◌∷◌, ℕ, true, List, All, length, get_or, refl, sym, ap, ◌∙◌, subst, inl, inr, arith}
-use Rattle.std.specs.Prelude.{Option, Some, None, Result, Ok, Err, OnErr, not, slice_set}
+use Rattle.std.specs.Prelude.{Option, Some, None, Result, Ok, Err, IsErrAnd, IfErr, OnErr, not, slice_set}
 use Rattle.std.specs.List.{AllPairs, remove, position_or_len}
 use Rattle.std.proofs.Math.Seq.{get_or-append_seam}
 use Rattle.std.proofs.lemmas.Bool.{eqb-true, eq-eqb}
@@ -152,6 +152,11 @@ new_absent ids id (Some greatest) count ok given place within is =
 pub on_err : {T E : Type 0} {P : Type 0} (result : Result T E) → P → OnErr result P
 on_err (Ok done) p = tt
 on_err (Err fault) p = p
+
+-- a fault that is passed on is that one, and what holds holds at it
+pub err_passed : {T E : Type 0} (result : Result T E) (e at : E) (Q : Type 0) → IsErrAnd result (λ f. f ≡ e) → e ≡ at → Q → IfErr result (λ fault. (fault ≡ at) × Q)
+err_passed (Ok done) e at Q h is q = tt
+err_passed (Err fault) e at Q h is q = (h ∙ is, q)
 
 -- one was greeted, and is kept or only its id is given
 pub keep_others : (host host' ids ids' : List ℕ) (lines mid lines' : List Line) (id : ℕ) (line : Line) (out : Out) → length lines ≡ length ids → mid ≡ lines → host' ≡ host

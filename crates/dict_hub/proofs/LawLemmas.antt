@@ -1,12 +1,11 @@
 -- What events give where nothing fails, and that it is a function of what one connection sees.
-use Rattle.std.proofs.Common.{◌≡◌, ◌==◌, ◌||◌, ℕ, Bool, true, false, List, [], ◌∷◌, ◌++◌, append_assoc, refl, sym, ap, ◌∙◌, subst, inl, inr}
-use Rattle.std.specs.Prelude.{◌⊎◌, Option, Some, None, MatchBool, map, if◌then◌else◌}
+use Rattle.std.proofs.Common.{◌≡◌, ◌==◌, ℕ, Bool, true, false, List, [], ◌∷◌, ◌++◌, refl, sym, ap, ◌∙◌, subst, inl, inr}
+use Rattle.std.specs.Prelude.{◌⊎◌, Option, Some, None, map, if◌then◌else◌}
 use Rattle.std.proofs.KnownBytes.{Appends-nil}
 use Rattle.std.proofs.lemmas.Bool.{eqb-true}
 use Rattle.dict_io.specs.Streams.{Stream, HasFailed, PutsAll}
 use Rattle.dict_catalogue.specs.Steps.{Catalogue}
-use Rattle.dict_line.specs.Meaning.{Meaning, meaning}
-use Rattle.dict_proto.specs.Replies.{unavailable_octets}
+use Rattle.dict_line.specs.Meaning.{Meaning}
 use Rattle.dict_head.specs.Heads.{Needs}
 use Rattle.dict_head.specs.declared.kinds.Need.TheVariants.{More as NeedsMore}
 use Rattle.dict_http.specs.Answers.{unavailable_text}
@@ -14,55 +13,24 @@ use Rattle.dict_http.specs.Responding.Ends.{answered, unchanged, unknown}
 use Rattle.dict_http.specs.Responding.Responds.{ended as responded, failed as unresponded}
 use Rattle.dict_http.specs.Settling.{Settled, Settles}
 use Rattle.dict_session.specs.Lines.{cut}
-use Rattle.dict_session.specs.Answers.{answer_to, is_quit}
-use Rattle.dict_session.specs.Spoken.{Speaks, answers, has_quit}
+use Rattle.dict_session.specs.Answers.{answer_to}
+use Rattle.dict_session.specs.Spoken.{Speaks, HasUnavailable, answers, has_quit}
 use Rattle.dict_hub.specs.Asking.{Answers}
 use Rattle.dict_hub.specs.Holding.{Holding}
 use Rattle.dict_hub.specs.Given.{Replies, Gets}
 use Rattle.dict_hub.specs.Events.{Happening, opened, came, ended, id_of, held_after, Serves}
-use Rattle.dict_hub.specs.Undisturbed.{Served, greeting, to_editor, IsServedOctets, IsServed, HasUnavailable, Lacks, IsDisturbed}
+use Rattle.dict_hub.specs.Undisturbed.{Served, greeting, to_editor, IsServedOctets, IsServed, Lacks, IsDisturbed}
 use Rattle.dict_hub.specs.Runs.{State, Standing, Accepted, Asked, asked, state_after, IsStep, Leads, IsUndisturbed, HasDisturbance, GoWell, events_of, GotSame}
 use Rattle.dict_hub.specs.declared.kind.Kind.{Kind}
 use Rattle.dict_hub.specs.declared.kind.Kind.TheVariants.{Dict, Http}
 use Rattle.dict_hub.specs.declared.asking.Out.{Out}
 use Rattle.dict_hub.specs.declared.asking.Out.TheVariants.{More, Close}
+use Rattle.dict_session.specs.Desks.{Condition}
 
--- a whole answer, or one that isn't, to the lines of a reader
-Spoken : (Meaning → List ℕ) → List (List ℕ) → List ℕ → Bool → Type 0
-Spoken answer ls o quits = ((o ≡ answers answer ls) × (quits ≡ has_quit ls)) ⊎ HasUnavailable answer ls o
-
-spoken_behind : (answer : Meaning → List ℕ) (l : List ℕ) (ls : List (List ℕ)) (o rest : List ℕ) (quits quit : Bool) → is_quit l ≡ quit → o ≡ answer (meaning l) ++ rest
-    → MatchBool quit ((rest ≡ []) × (quits ≡ true)) (Speaks answer ls rest quits) → (Speaks answer ls rest quits → Spoken answer ls rest quits) → Spoken answer (l ∷ ls) o quits
-unfolding Spoken
-spoken_behind answer l ls o rest quits true q is m cases = inl (
-  is ∙ ap (λ r. answer (meaning l) ++ r) (m.0 ∙ sym (ap (λ (v : Bool). if v then [] else answers answer ls) q)),
-  m.1 ∙ sym (ap (λ (v : Bool). v || has_quit ls) q),
-)
-spoken_behind answer l ls o rest quits false q is m cases = elim (cases m) [
-  | inl all ↦ inl (
-    is ∙ ap (λ r. answer (meaning l) ++ r) (all.0 ∙ sym (ap (λ (v : Bool). if v then [] else answers answer ls) q)),
-    all.1 ∙ sym (ap (λ (v : Bool). v || has_quit ls) q),
-  )
-  | inr some ↦ inr (record {
-    front = l ∷ some.front;
-    line = some.line;
-    behind = some.behind;
-    rest = some.rest;
-    are = ap (λ x. l ∷ x) some.are;
-    no_quit = ap (λ (v : Bool). v || has_quit some.front) q ∙ some.no_quit;
-    needs = some.needs;
-    is = is ∙ (ap (λ r. answer (meaning l) ++ r) some.is
-        ∙ (sym (append_assoc (answer (meaning l)) (answers answer some.front) (unavailable_octets ++ some.rest))
-        ∙ sym (ap (λ (v : Bool). (answer (meaning l) ++ (if v then [] else answers answer some.front)) ++ (unavailable_octets ++ some.rest)) q)));
-  })
-]
-
-spoken : (answer : Meaning → List ℕ) (ls : List (List ℕ)) (o : List ℕ) (quits : Bool) → Speaks answer ls o quits → Spoken answer ls o quits
-unfolding Spoken
-spoken answer [] o quits speaks = inl speaks
-spoken answer (l ∷ ls) o quits (rest, inl said) = spoken_behind answer l ls o rest quits (is_quit l) refl said.0 said.1 (λ behind. spoken answer ls rest quits behind)
-spoken answer (l ∷ ls) o quits (rest, inr un) =
-    inr (record { front = []; line = l; behind = ls; rest = rest; are = refl; no_quit = refl; needs = un.0; is = un.1 })
+-- what answers lines is the answers, or has the 420 line in it
+IsLaw : Type 0
+IsLaw = (answer : Meaning → List ℕ) (closed : Bool) (ls : List (List ℕ)) (o : List ℕ) (ended : Bool) → Speaks answer closed ls o ended
+    → ((o ≡ answers answer ls) × (ended ≡ has_quit ls)) ⊎ HasUnavailable answer closed ls o
 
 -- an answer as it is, and the octets, are what is served
 Gave : List ℕ → Catalogue → Option Holding → Happening → Out → Catalogue → Stream → Stream → Type 0
@@ -79,28 +47,28 @@ served_as out out' octets octets' M M' eo es em =
     ∙ ap (λ (x : Catalogue). let s : Served = record { out = out'; octets = octets'; catalogue = x } in s) em)
 
 -- the lines of a reader
-replies_gave : (host : List ℕ) (failed : Bool) (before after : Catalogue) (octets : List ℕ) (out : Out) (old new : Stream) → before ≡ after
-    → Replies (answer_to before host) failed (cut octets).lines out old new
+replies_gave : IsLaw → (host : List ℕ) (desk : Condition) (before after : Catalogue) (octets : List ℕ) (out : Out) (old new : Stream) → before ≡ after
+    → Replies (answer_to before host) desk (cut octets).lines out old new
     → ((put : List ℕ) × IsServedOctets host before Dict octets (record { out = out; octets = put; catalogue = after }) × PutsAll old new put)
-    ⊎ (HasFailed old.failures new.failures ⊎ Lacks host failed before Dict octets out old new)
-unfolding Spoken
-replies_gave host failed before after octets More old new same replies = elim (spoken (answer_to before host) (cut octets).lines replies.0 false replies.1) [
+    ⊎ (HasFailed old.failures new.failures ⊎ Lacks host desk before Dict octets out old new)
+unfolding IsLaw
+replies_gave law host desk before after octets More old new same replies = elim (law (answer_to before host) desk.closed (cut octets).lines replies.0 false replies.1) [
   | inl all ↦ inl (replies.0, served_as _ _ _ _ _ _ (ap (λ (v : Bool). if v then Close else More) all.1) all.0 (sym same), replies.2)
   | inr some ↦ inr (inr (inr (replies.0, some, replies.2)))
 ]
-replies_gave host failed before after octets Close old new same (put, quits, speaks, inl quit) = elim (spoken (answer_to before host) (cut octets).lines put quits speaks) [
-  | inl all ↦ inl (put, served_as _ _ _ _ _ _ (ap (λ (v : Bool). if v then Close else More) (sym quit.0 ∙ all.1)) all.0 (sym same), quit.1)
-  | inr some ↦ inr (inr (inr (put, some, quit.1)))
+replies_gave law host desk before after octets Close old new same (inl (put, speaks, puts)) = elim (law (answer_to before host) desk.closed (cut octets).lines put true speaks) [
+  | inl all ↦ inl (put, served_as _ _ _ _ _ _ (ap (λ (v : Bool). if v then Close else More) all.1) all.0 (sym same), puts)
+  | inr some ↦ inr (inr (inr (put, some, puts)))
 ]
-replies_gave host failed before after octets Close old new same (put, quits, speaks, inr (inl front)) = inr (inl front.failures)
-replies_gave host failed before after octets Close old new same (put, quits, speaks, inr (inr desk)) = inr (inr (inl (refl, desk.0)))
+replies_gave law host desk before after octets Close old new same (inr (inl (put, has_ended, speaks, front))) = inr (inl front.failures)
+replies_gave law host desk before after octets Close old new same (inr (inr (failed, broken))) = inr (inr (inl (refl, failed, broken)))
 
 -- an editor's request
-answers_gave : (host : List ℕ) (failed : Bool) (before after : Catalogue) (l k : List (Option Catalogue)) (octets : List ℕ) (old new : Stream)
+answers_gave : (host : List ℕ) (desk : Condition) (before after : Catalogue) (l k : List (Option Catalogue)) (octets : List ℕ) (old new : Stream)
     → Answers (λ M. M ≡ after) (λ ms. ms ≡ l) (λ ms. ms ≡ k) before octets old new
     → ((put : List ℕ) × IsServedOctets host before Http octets (record { out = Close; octets = put; catalogue = after }) × PutsAll old new put)
-    ⊎ (HasFailed old.failures new.failures ⊎ Lacks host failed before Http octets Close old new)
-answers_gave host failed before after l k octets old new given =
+    ⊎ (HasFailed old.failures new.failures ⊎ Lacks host desk before Http octets Close old new)
+answers_gave host desk before after l k octets old new given =
     let unavailable : given.answer ≡ unavailable_text → PutsAll old new given.answer → PutsAll old new unavailable_text = λ e puts. subst (λ (o : List ℕ). PutsAll old new o) e puts in
     elim given.puts [
       | inl puts ↦ elim given.responds [
@@ -113,33 +81,35 @@ answers_gave host failed before after l k octets old new given =
     ]
 
 -- octets of a connection of this kind
-gets_gave : (host : List ℕ) (failed : Bool) (before after : Catalogue) (l k : List (Option Catalogue)) (kind : Kind) (octets : List ℕ) (out : Out) (old new : Stream)
-    → Gets host failed (λ M. M ≡ after) (λ ms. ms ≡ l) (λ ms. ms ≡ k) before kind octets out old new
+gets_gave : IsLaw → (host : List ℕ) (desk : Condition) (before after : Catalogue) (l k : List (Option Catalogue)) (kind : Kind) (octets : List ℕ) (out : Out) (old new : Stream)
+    → Gets host desk (λ M. M ≡ after) (λ ms. ms ≡ l) (λ ms. ms ≡ k) before kind octets out old new
     → ((put : List ℕ) × IsServedOctets host before kind octets (record { out = out; octets = put; catalogue = after }) × PutsAll old new put)
-    ⊎ (HasFailed old.failures new.failures ⊎ Lacks host failed before kind octets out old new)
-gets_gave host failed before after l k Dict octets out old new gets = replies_gave host failed before after octets out old new gets.1.shows gets.0
-gets_gave host failed before after l k Http octets More old new gets =
+    ⊎ (HasFailed old.failures new.failures ⊎ Lacks host desk before kind octets out old new)
+gets_gave law host desk before after l k Dict octets out old new gets = replies_gave law host desk before after octets out old new gets.1.shows gets.0
+gets_gave law host desk before after l k Http octets More old new gets =
     inl ([], inl (gets.0, served_as _ _ _ _ _ _ refl refl (sym gets.2.shows)), puts_nothing old new gets.1)
-gets_gave host failed before after l k Http octets Close old new gets = answers_gave host failed before after l k octets old new gets
+gets_gave law host desk before after l k Http octets Close old new gets = answers_gave host desk before after l k octets old new gets
 
-serves_gave : (host : List ℕ) (failed : Bool) (before after : Catalogue) (l k : List (Option Catalogue)) (held : Option Holding) (what : Happening) (out : Out) (old new : Stream)
-    → Serves host failed (λ M. M ≡ after) (λ ms. ms ≡ l) (λ ms. ms ≡ k) before held what out old new
-    → Gave host before held what out after old new ⊎ IsDisturbed host failed before held what out old new
+serves_gave : IsLaw → (host : List ℕ) (desk : Condition) (before after : Catalogue) (l k : List (Option Catalogue)) (held : Option Holding) (what : Happening) (out : Out) (old new : Stream)
+    → Serves host desk (λ M. M ≡ after) (λ ms. ms ≡ l) (λ ms. ms ≡ k) before held what out old new
+    → Gave host before held what out after old new ⊎ IsDisturbed host desk before held what out old new
 unfolding Gave
-serves_gave host failed before after l k held (opened id Dict) More old new serves =
+serves_gave law host desk before after l k held (opened id Dict) More old new serves =
     inl (greeting host id Dict, served_as _ _ _ _ _ _ refl refl (sym serves.1.shows), serves.0)
-serves_gave host failed before after l k held (opened id Dict) Close old new serves = inr (inl serves.0.failures)
-serves_gave host failed before after l k held (opened id Http) More old new serves =
+serves_gave law host desk before after l k held (opened id Dict) Close old new serves = inr (inl serves.0.failures)
+serves_gave law host desk before after l k held (opened id Http) More old new serves =
     inl ([], served_as _ _ _ _ _ _ refl refl (sym serves.1.shows), puts_nothing old new serves.0)
-serves_gave host failed before after l k held (opened id Http) Close old new serves = absurd serves.0
-serves_gave host failed before after l k None (came id piece) out old new serves = absurd serves
-serves_gave host failed before after l k (Some held) (came id piece) out old new serves = gets_gave host failed before after l k held.kind (held.octets ++ piece) out old new serves
-serves_gave host failed before after l k held (ended id) out old new serves =
+serves_gave law host desk before after l k held (opened id Http) Close old new serves = absurd serves.0
+serves_gave law host desk before after l k None (came id piece) out old new serves = absurd serves
+serves_gave law host desk before after l k (Some held) (came id piece) out old new serves = gets_gave law host desk before after l k held.kind (held.octets ++ piece) out old new serves
+serves_gave law host desk before after l k held (ended id) out old new serves =
     inl ([], served_as _ _ _ _ _ _ serves.no_close refl (sym serves.stays.shows), puts_nothing old new serves.nothing)
 
-pub undisturbed_or : (state : State) (one : Accepted) → IsStep state one → IsUndisturbed state one ⊎ HasDisturbance state one
-unfolding Gave
-undisturbed_or state one step = serves_gave state.host one.failed one.before.catalogue one.after.catalogue one.before.leaves one.after.leaves (state.held (id_of one.what)) one.what one.out one.put.old one.put.new step
+pub undisturbed_or : ((answer : Meaning → List ℕ) (closed : Bool) (ls : List (List ℕ)) (o : List ℕ) (ended : Bool) → Speaks answer closed ls o ended
+    → ((o ≡ answers answer ls) × (ended ≡ has_quit ls)) ⊎ HasUnavailable answer closed ls o)
+    → (state : State) (one : Accepted) → IsStep state one → IsUndisturbed state one ⊎ HasDisturbance state one
+unfolding Gave IsLaw
+undisturbed_or law state one step = serves_gave law state.host one.desk one.before.catalogue one.after.catalogue one.before.leaves one.after.leaves (state.held (id_of one.what)) one.what one.out one.put.old one.put.new step
 
 -- octets that are served so are served in one way
 one_of_octets : ((M : Catalogue) (x : List ℕ) (a b : Settled) → Settles M x a → Settles M x b → a ≡ b) → ((M : Catalogue) (x : List ℕ) (a : Settled) → Needs x NeedsMore → Settles M x a → ⊥)

@@ -20,6 +20,7 @@ use Rattle.dict_hub.specs.declared.hub.Hub.{Hub}
 use Rattle.dict_hub.specs.declared.asking.Out.{Out}
 use Rattle.dict_hub.specs.declared.asking.Out.TheVariants.{More, Close}
 use Rattle.dict_hub.specs.declared.fault.HubFault.{HubFault}
+use Rattle.dict_session.specs.Desks.{Condition}
 
 -- one of the states that a stop may leave lists, after an answer that acted or not
 pinned_leaves : (Before After : List (Option Catalogue) → Type 0) (l : List (Option Catalogue)) (acts : Bool) (M : Catalogue) → Before l
@@ -67,29 +68,29 @@ pinned_stays Shows Before After before l here stays = record {
   holds = record { shows = refl; leaves = λ ms e. e };
 }
 
-pinned_gets : (host : List ℕ) (failed : Bool) (Shows : Catalogue → Type 0) (Before After : List (Option Catalogue) → Type 0) (before : Catalogue) (l : List (Option Catalogue)) (kind : Kind) (octets : List ℕ) (out : Out) (old new : Stream)
-    → Before l → Gets host failed Shows Before After before kind octets out old new
-    → Pinned Shows After (λ at. Gets host failed (λ M. M ≡ at.catalogue) (λ ms. ms ≡ l) (λ ms. ms ≡ at.leaves) before kind octets out old new)
-pinned_gets host failed Shows Before After before l Dict octets out old new here gets =
+pinned_gets : (host : List ℕ) (desk : Condition) (Shows : Catalogue → Type 0) (Before After : List (Option Catalogue) → Type 0) (before : Catalogue) (l : List (Option Catalogue)) (kind : Kind) (octets : List ℕ) (out : Out) (old new : Stream)
+    → Before l → Gets host desk Shows Before After before kind octets out old new
+    → Pinned Shows After (λ at. Gets host desk (λ M. M ≡ at.catalogue) (λ ms. ms ≡ l) (λ ms. ms ≡ at.leaves) before kind octets out old new)
+pinned_gets host desk Shows Before After before l Dict octets out old new here gets =
     let p = pinned_stays Shows Before After before l here gets.1 in
     record { at = p.at; shows = p.shows; leaves = p.leaves; holds = (gets.0, p.holds) }
-pinned_gets host failed Shows Before After before l Http octets More old new here gets =
+pinned_gets host desk Shows Before After before l Http octets More old new here gets =
     let p = pinned_stays Shows Before After before l here gets.2 in
     record { at = p.at; shows = p.shows; leaves = p.leaves; holds = (gets.0, gets.1, p.holds) }
-pinned_gets host failed Shows Before After before l Http octets Close old new here gets =
+pinned_gets host desk Shows Before After before l Http octets Close old new here gets =
     let p = pinned_responds Shows Before After before l (Settles before octets) gets.answer here gets.responds in
     record { at = p.at; shows = p.shows; leaves = p.leaves; holds = record { answer = gets.answer; responds = p.holds; puts = gets.puts } }
 
-pinned_serves : (host : List ℕ) (failed : Bool) (Shows : Catalogue → Type 0) (Before After : List (Option Catalogue) → Type 0) (before : Catalogue) (l : List (Option Catalogue)) (held : Option Holding) (what : Happening) (out : Out) (old new : Stream)
-    → Before l → Serves host failed Shows Before After before held what out old new
-    → Pinned Shows After (λ at. Serves host failed (λ M. M ≡ at.catalogue) (λ ms. ms ≡ l) (λ ms. ms ≡ at.leaves) before held what out old new)
-pinned_serves host failed Shows Before After before l held (opened id kind) out old new here serves =
+pinned_serves : (host : List ℕ) (desk : Condition) (Shows : Catalogue → Type 0) (Before After : List (Option Catalogue) → Type 0) (before : Catalogue) (l : List (Option Catalogue)) (held : Option Holding) (what : Happening) (out : Out) (old new : Stream)
+    → Before l → Serves host desk Shows Before After before held what out old new
+    → Pinned Shows After (λ at. Serves host desk (λ M. M ≡ at.catalogue) (λ ms. ms ≡ l) (λ ms. ms ≡ at.leaves) before held what out old new)
+pinned_serves host desk Shows Before After before l held (opened id kind) out old new here serves =
     let p = pinned_stays Shows Before After before l here serves.1 in
     record { at = p.at; shows = p.shows; leaves = p.leaves; holds = (serves.0, p.holds) }
-pinned_serves host failed Shows Before After before l None (came id piece) out old new here serves = absurd serves
-pinned_serves host failed Shows Before After before l (Some held) (came id piece) out old new here serves =
-    pinned_gets host failed Shows Before After before l held.kind (held.octets ++ piece) out old new here serves
-pinned_serves host failed Shows Before After before l held (ended id) out old new here serves =
+pinned_serves host desk Shows Before After before l None (came id piece) out old new here serves = absurd serves
+pinned_serves host desk Shows Before After before l (Some held) (came id piece) out old new here serves =
+    pinned_gets host desk Shows Before After before l held.kind (held.octets ++ piece) out old new here serves
+pinned_serves host desk Shows Before After before l held (ended id) out old new here serves =
     let p = pinned_stays Shows Before After before l here serves.stays in
     record { at = p.at; shows = p.shows; leaves = p.leaves; holds = record { no_close = serves.no_close; nothing = serves.nothing; stays = p.holds } }
 
@@ -117,23 +118,23 @@ held_all hub state what out own others id =
 
 -- an event that was served so, of a hub at a state, leads on
 pub leads_on : (Shows : Catalogue → Type 0) (Before After : List (Option Catalogue) → Type 0) (origin : State) (start : Standing) (events : List Accepted) (state : State) (stands : Standing)
-    (what : Happening) (failed : Bool) (put : Change) (old hub : Hub) (result : Result Out HubFault)
+    (what : Happening) (desk : Condition) (put : Change) (old hub : Hub) (result : Result Out HubFault)
     → Leads origin start events state stands → IsAt old state → Before stands.leaves
-    → ((held : Option Holding) → Has old (id_of what) held → IfOk result (λ out. Serves (host_of old) failed Shows Before After stands.catalogue held what out put.old put.new))
+    → ((held : Option Holding) → Has old (id_of what) held → IfOk result (λ out. Serves (host_of old) desk Shows Before After stands.catalogue held what out put.old put.new))
     → ((held : Option Holding) → Has old (id_of what) held → IfOk result (λ out. Has hub (id_of what) (held_after held what out)))
     → OnOk result ((other : ℕ) (held : Option Holding) → other ≢ id_of what → Has old other held → Has hub other held)
     → OnOk result (greatest_of hub ≡ greatest_after (greatest_of old) what)
     → host_of hub ≡ host_of old
-    → IfOk result (λ out. LeadsOn Shows After origin start events state stands what out failed put hub)
-leads_on Shows Before After origin start events state stands what failed put old hub (Err fault) leads at here serves own others greatest host = tt
-leads_on Shows Before After origin start events state stands what failed put old hub (Ok out) leads at here serves own others greatest host =
+    → IfOk result (λ out. LeadsOn Shows After origin start events state stands what out desk put hub)
+leads_on Shows Before After origin start events state stands what desk put old hub (Err fault) leads at here serves own others greatest host = tt
+leads_on Shows Before After origin start events state stands what desk put old hub (Ok out) leads at here serves own others greatest host =
     let held = state.held (id_of what) in
     let there = at.held (id_of what) in
-    let served = subst (λ (h : List ℕ). Serves h failed Shows Before After stands.catalogue held what out put.old put.new) at.host (serves held there) in
-    let p = pinned_serves state.host failed Shows Before After stands.catalogue stands.leaves held what out put.old put.new here served in
+    let served = subst (λ (h : List ℕ). Serves h desk Shows Before After stands.catalogue held what out put.old put.new) at.host (serves held there) in
+    let p = pinned_serves state.host desk Shows Before After stands.catalogue stands.leaves held what out put.old put.new here served in
     record {
       after = p.at;
-      leads = leads_further origin start events state stands (record { what = what; out = out; failed = failed; put = put; before = stands; after = p.at }) leads refl p.holds;
+      leads = leads_further origin start events state stands (record { what = what; out = out; desk = desk; put = put; before = stands; after = p.at }) leads refl p.holds;
       is_at = record {
         host = host ∙ at.host;
         greatest = greatest ∙ ap (λ g. greatest_after g what) at.greatest;
@@ -144,20 +145,20 @@ leads_on Shows Before After origin start events state stands what failed put old
     }
 
 -- an opening is served by its greeting
-pub serves_opened : (host : List ℕ) (failed : Bool) (Shows : Catalogue → Type 0) (Before After : List (Option Catalogue) → Type 0) (before : Catalogue) (held : Option Holding) (id : ℕ) (kind : Kind) (old new : Stream) (result : Result Out HubFault)
+pub serves_opened : (host : List ℕ) (desk : Condition) (Shows : Catalogue → Type 0) (Before After : List (Option Catalogue) → Type 0) (before : Catalogue) (held : Option Holding) (id : ℕ) (kind : Kind) (old new : Stream) (result : Result Out HubFault)
     → Stays Shows Before After before → IfOk result (λ out. Greets host id kind out old new)
-    → IfOk result (λ out. Serves host failed Shows Before After before held (opened id kind) out old new)
-serves_opened host failed Shows Before After before held id kind old new (Ok out) stays greets = (greets, stays)
-serves_opened host failed Shows Before After before held id kind old new (Err fault) stays greets = tt
+    → IfOk result (λ out. Serves host desk Shows Before After before held (opened id kind) out old new)
+serves_opened host desk Shows Before After before held id kind old new (Ok out) stays greets = (greets, stays)
+serves_opened host desk Shows Before After before held id kind old new (Err fault) stays greets = tt
 
 -- an end is served by nothing
-pub serves_ended : (host : List ℕ) (failed : Bool) (Shows : Catalogue → Type 0) (Before After : List (Option Catalogue) → Type 0) (before : Catalogue) (held : Option Holding) (id : ℕ) (stream : Stream) (fault : HubFault) (result : Result Out HubFault)
+pub serves_ended : (host : List ℕ) (desk : Condition) (Shows : Catalogue → Type 0) (Before After : List (Option Catalogue) → Type 0) (before : Catalogue) (held : Option Holding) (id : ℕ) (stream : Stream) (fault : HubFault) (result : Result Out HubFault)
     → Stays Shows Before After before → (held ≡ None → result ≡ Err fault) → ((one : Holding) → held ≡ Some one → result ≡ Ok More)
-    → IfOk result (λ out. Serves host failed Shows Before After before held (ended id) out stream stream)
-serves_ended host failed Shows Before After before None id stream fault result stays absent known =
-    subst (λ r. IfOk r (λ out. Serves host failed Shows Before After before None (ended id) out stream stream)) (sym (absent refl)) tt
-serves_ended host failed Shows Before After before (Some one) id stream fault result stays absent known =
-    subst (λ r. IfOk r (λ out. Serves host failed Shows Before After before (Some one) (ended id) out stream stream)) (sym (known one refl))
+    → IfOk result (λ out. Serves host desk Shows Before After before held (ended id) out stream stream)
+serves_ended host desk Shows Before After before None id stream fault result stays absent known =
+    subst (λ r. IfOk r (λ out. Serves host desk Shows Before After before None (ended id) out stream stream)) (sym (absent refl)) tt
+serves_ended host desk Shows Before After before (Some one) id stream fault result stays absent known =
+    subst (λ r. IfOk r (λ out. Serves host desk Shows Before After before (Some one) (ended id) out stream stream)) (sym (known one refl))
     (record { no_close = refl; nothing = refl; stays = stays })
 
 pub own_ended : (hub : Hub) (held : Option Holding) (id : ℕ) (fault : HubFault) (result : Result Out HubFault)

@@ -24,6 +24,7 @@ use Rattle.dict_hub.specs.declared.kind.Kind.{Kind}
 use Rattle.dict_hub.specs.declared.kind.Kind.TheVariants.{Dict, Http}
 use Rattle.dict_hub.specs.declared.asking.Out.{Out}
 use Rattle.dict_hub.specs.declared.asking.Out.TheVariants.{More, Close}
+use Rattle.dict_session.specs.Desks.{Condition}
 
 -- commands make this catalogue of that one
 record ByCommands (before M : Catalogue) : Type 0 where
@@ -78,25 +79,25 @@ by_responds before M l k octets text (responded settled is (unknown e (inl shows
 by_responds before M l k octets text (responded settled is (unknown e (inr shows) leaves)) = subst (λ N. ByCommands before N) shows (by_settled before octets settled is)
 by_responds before M l k octets text (unresponded e shows leaves) = by_none before M (sym shows)
 
-by_gets : (host : List ℕ) (failed : Bool) (before M : Catalogue) (l k : List (Option Catalogue)) (kind : Kind) (octets : List ℕ) (out : Out) (old new : Stream)
-    → Gets host failed (λ N. N ≡ M) (λ ms. ms ≡ l) (λ ms. ms ≡ k) before kind octets out old new → ByCommands before M
-by_gets host failed before M l k Dict octets out old new gets = by_none before M (sym gets.1.shows)
-by_gets host failed before M l k Http octets More old new gets = by_none before M (sym gets.2.shows)
-by_gets host failed before M l k Http octets Close old new gets = by_responds before M l k octets gets.answer gets.responds
+by_gets : (host : List ℕ) (desk : Condition) (before M : Catalogue) (l k : List (Option Catalogue)) (kind : Kind) (octets : List ℕ) (out : Out) (old new : Stream)
+    → Gets host desk (λ N. N ≡ M) (λ ms. ms ≡ l) (λ ms. ms ≡ k) before kind octets out old new → ByCommands before M
+by_gets host desk before M l k Dict octets out old new gets = by_none before M (sym gets.1.shows)
+by_gets host desk before M l k Http octets More old new gets = by_none before M (sym gets.2.shows)
+by_gets host desk before M l k Http octets Close old new gets = by_responds before M l k octets gets.answer gets.responds
 
-by_serves : (host : List ℕ) (failed : Bool) (before M : Catalogue) (l k : List (Option Catalogue)) (held : Option Holding) (what : Happening) (out : Out) (old new : Stream)
-    → Serves host failed (λ N. N ≡ M) (λ ms. ms ≡ l) (λ ms. ms ≡ k) before held what out old new → ByCommands before M
-by_serves host failed before M l k held (opened id kind) out old new serves = by_none before M (sym serves.1.shows)
-by_serves host failed before M l k None (came id piece) out old new serves = absurd serves
-by_serves host failed before M l k (Some held) (came id piece) out old new serves = by_gets host failed before M l k held.kind (held.octets ++ piece) out old new serves
-by_serves host failed before M l k held (ended id) out old new serves = by_none before M (sym serves.stays.shows)
+by_serves : (host : List ℕ) (desk : Condition) (before M : Catalogue) (l k : List (Option Catalogue)) (held : Option Holding) (what : Happening) (out : Out) (old new : Stream)
+    → Serves host desk (λ N. N ≡ M) (λ ms. ms ≡ l) (λ ms. ms ≡ k) before held what out old new → ByCommands before M
+by_serves host desk before M l k held (opened id kind) out old new serves = by_none before M (sym serves.1.shows)
+by_serves host desk before M l k None (came id piece) out old new serves = absurd serves
+by_serves host desk before M l k (Some held) (came id piece) out old new serves = by_gets host desk before M l k held.kind (held.octets ++ piece) out old new serves
+by_serves host desk before M l k held (ended id) out old new serves = by_none before M (sym serves.stays.shows)
 
 -- each run is some turns of a connection
 pub some_turns : (id : ℕ) (a a' : State) (p p' : Standing) (events : List Accepted) → Leads a p events a' p' → (turns : List Turn) × AreTurns id events turns
 some_turns id a a' p p' [] leads = ([], refl)
 some_turns id a a' p p' (one ∷ events) leads =
     let rest = some_turns id (state_after a one.what one.out) a' one.after p' events leads.2 in
-    let by = by_serves a.host one.failed one.before.catalogue one.after.catalogue one.before.leaves one.after.leaves (a.held (id_of one.what)) one.what one.out one.put.old one.put.new leads.1 in
+    let by = by_serves a.host one.desk one.before.catalogue one.after.catalogue one.before.leaves one.after.leaves (a.held (id_of one.what)) one.what one.out one.put.old one.put.new leads.1 in
     let told : (b : Bool) → (id_of one.what == id) ≡ b → (turns : List Turn) × AreTurns id (one ∷ events) turns
     = λ b. elim b as (λ v. (id_of one.what == id) ≡ v → (turns : List Turn) × AreTurns id (one ∷ events) turns) [
       | true ↦ λ e. (own one.what ∷ rest.0, inl (eqb-true _ _ e, (rest.0, refl, rest.1)))

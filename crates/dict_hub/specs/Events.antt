@@ -2,10 +2,12 @@
 use Rattle.std.specs.Prelude.{◌≡◌, ℕ, Bool, true, false, List, [], ◌++◌, Option, Some, None, Result, Ok, Err}
 use Rattle.dict_io.specs.Streams.{Stream}
 use Rattle.dict_catalogue.specs.Steps.{Catalogue}
+use Rattle.dict_session.specs.Desks.{Condition}
 use Rattle.dict_hub.specs.Books.{opening}
 use Rattle.dict_hub.specs.Holding.{Holding, left_by}
 use Rattle.dict_hub.specs.Given.{Greets, Gets, Stays}
 use Rattle.dict_hub.specs.declared.kind.Kind.{Kind}
+use Rattle.dict_hub.specs.declared.kind.Kind.TheVariants.{Dict, Http}
 use Rattle.dict_hub.specs.declared.fault.HubFault.{HubFault}
 use Rattle.dict_hub.specs.declared.fault.HubFault.TheVariants.{UnknownConnection}
 use Rattle.dict_hub.specs.declared.asking.Out.{Out}
@@ -42,11 +44,21 @@ admitted held greatest count (opened id kind) = opening id greatest count
 admitted held greatest count (came id piece) = of_open held
 admitted held greatest count (ended id) = of_open held
 
--- an end takes no memory
-abbrev pub takes_memory : Happening → Bool
-takes_memory (opened id kind) = true
-takes_memory (came id piece) = true
-takes_memory (ended id) = false
+-- an editor's request is held
+abbrev pub is_of_editor : Kind → Bool
+is_of_editor Dict = false
+is_of_editor Http = true
+
+abbrev pub holds_request : Option Holding → Bool
+holds_request None = false
+holds_request (Some held) = is_of_editor held.kind
+
+-- an opening takes memory, and so do octets of an editor's request; what a reader sends is held in room that was taken when it
+-- was opened, and an end takes none
+abbrev pub takes_memory : Option Holding → Happening → Bool
+takes_memory held (opened id kind) = true
+takes_memory held (came id piece) = holds_request held
+takes_memory held (ended id) = false
 
 abbrev pub greatest_after : Option ℕ → Happening → Option ℕ
 greatest_after greatest (opened id kind) = Some id
@@ -65,9 +77,9 @@ held_after held (came id piece) out = held_after_piece held piece out
 held_after held (ended id) out = None
 
 -- what octets that came put, where the connection is open
-abbrev pub ServesPiece : List ℕ → Bool → (Catalogue → Type 0) → (List (Option Catalogue) → Type 0) → (List (Option Catalogue) → Type 0) → Catalogue → Option Holding → List ℕ → Out → Stream → Stream → Type 0
-ServesPiece host failed Shows Before After before None piece out old new = ⊥
-ServesPiece host failed Shows Before After before (Some held) piece out old new = Gets host failed Shows Before After before held.kind (held.octets ++ piece) out old new
+abbrev pub ServesPiece : List ℕ → Condition → (Catalogue → Type 0) → (List (Option Catalogue) → Type 0) → (List (Option Catalogue) → Type 0) → Catalogue → Option Holding → List ℕ → Out → Stream → Stream → Type 0
+ServesPiece host desk Shows Before After before None piece out old new = ⊥
+ServesPiece host desk Shows Before After before (Some held) piece out old new = Gets host desk Shows Before After before held.kind (held.octets ++ piece) out old new
 
 -- an end puts nothing, and nothing is to be closed
 pub record Ends (Shows : Catalogue → Type 0) (Before After : List (Option Catalogue) → Type 0) (before : Catalogue) (out : Out) (old new : Stream) : Type 0 where
@@ -76,7 +88,7 @@ pub record Ends (Shows : Catalogue → Type 0) (Before After : List (Option Cata
   pub stays : Stays Shows Before After before
 
 -- what the event puts on its connection, and what it leaves of the catalogue
-abbrev pub Serves : List ℕ → Bool → (Catalogue → Type 0) → (List (Option Catalogue) → Type 0) → (List (Option Catalogue) → Type 0) → Catalogue → Option Holding → Happening → Out → Stream → Stream → Type 0
-Serves host failed Shows Before After before held (opened id kind) out old new = Greets host id kind out old new × Stays Shows Before After before
-Serves host failed Shows Before After before held (came id piece) out old new = ServesPiece host failed Shows Before After before held piece out old new
-Serves host failed Shows Before After before held (ended id) out old new = Ends Shows Before After before out old new
+abbrev pub Serves : List ℕ → Condition → (Catalogue → Type 0) → (List (Option Catalogue) → Type 0) → (List (Option Catalogue) → Type 0) → Catalogue → Option Holding → Happening → Out → Stream → Stream → Type 0
+Serves host desk Shows Before After before held (opened id kind) out old new = Greets host id kind out old new × Stays Shows Before After before
+Serves host desk Shows Before After before held (came id piece) out old new = ServesPiece host desk Shows Before After before held piece out old new
+Serves host desk Shows Before After before held (ended id) out old new = Ends Shows Before After before out old new

@@ -10,8 +10,8 @@ use Rattle.dict_head.specs.Heads.{Needs}
 use Rattle.dict_head.specs.declared.kinds.Need.TheVariants.{More as NeedsMore}
 use Rattle.dict_session.specs.Lines.{cut}
 use Rattle.dict_session.specs.Answers.{answer_to}
-use Rattle.dict_session.specs.Spoken.{Speaks}
-use Rattle.dict_session.specs.Ending.{PutsPart}
+use Rattle.dict_session.specs.Spoken.{Speaks, BreaksOff}
+use Rattle.dict_session.specs.Desks.{Condition}
 use Rattle.dict_hub.specs.Asking.{Answers}
 use Rattle.dict_hub.specs.declared.kind.Kind.{Kind}
 use Rattle.dict_hub.specs.declared.kind.Kind.TheVariants.{Dict, Http}
@@ -25,12 +25,13 @@ Greets host id Dict Close old new = PutsFront old new (banner_octets host id)
 Greets host id Http More old new = new ≡ old
 Greets host id Http Close old new = ⊥
 
--- These lines of a reader's are answered. They are closed by a QUIT, or where the sink or the desk failed, of which
--- `failed` tells the last, behind a front of the answers
-abbrev pub Replies : (Meaning → List ℕ) → Bool → List (List ℕ) → Out → Stream → Stream → Type 0
-Replies answer failed lines More old new = (octets : List ℕ) × Speaks answer lines octets false × PutsAll old new octets
-Replies answer failed lines Close old new = (octets : List ℕ) × (ended : Bool) × Speaks answer lines octets ended
-    × (((ended ≡ true) × PutsAll old new octets) ⊎ (PutsFront old new octets ⊎ ((failed ≡ true) × PutsPart old new octets)))
+-- these lines of a reader's are answered; they are closed by a QUIT, or where the sink failed behind a front of the answers, or
+-- where the desk's last call failed behind the first octet of one
+abbrev pub Replies : (Meaning → List ℕ) → Condition → List (List ℕ) → Out → Stream → Stream → Type 0
+Replies answer desk lines More old new = (octets : List ℕ) × Speaks answer desk.closed lines octets false × PutsAll old new octets
+Replies answer desk lines Close old new = ((octets : List ℕ) × Speaks answer desk.closed lines octets true × PutsAll old new octets)
+    ⊎ (((octets : List ℕ) × (ended : Bool) × Speaks answer desk.closed lines octets ended × PutsFront old new octets)
+    ⊎ ((desk.failed ≡ true) × ((octets : List ℕ) × BreaksOff answer desk.closed lines octets × PutsAll old new octets)))
 
 -- the catalogue stays, and nothing new may be left by a stop
 pub record Stays (Shows : Catalogue → Type 0) (Before After : List (Option Catalogue) → Type 0) (before : Catalogue) : Type 0 where
@@ -43,7 +44,7 @@ Asks Shows Before After before octets More old new = Needs octets NeedsMore × (
 Asks Shows Before After before octets Close old new = Answers Shows Before After before octets old new
 
 -- these octets have come on a connection of this kind
-abbrev pub Gets : List ℕ → Bool → (Catalogue → Type 0) → (List (Option Catalogue) → Type 0) → (List (Option Catalogue) → Type 0) → Catalogue → Kind → List ℕ → Out → Stream → Stream → Type 0
-Gets host failed Shows Before After before Dict octets out old new =
-    Replies (answer_to before host) failed (cut octets).lines out old new × Stays Shows Before After before
-Gets host failed Shows Before After before Http octets out old new = Asks Shows Before After before octets out old new
+abbrev pub Gets : List ℕ → Condition → (Catalogue → Type 0) → (List (Option Catalogue) → Type 0) → (List (Option Catalogue) → Type 0) → Catalogue → Kind → List ℕ → Out → Stream → Stream → Type 0
+Gets host desk Shows Before After before Dict octets out old new =
+    Replies (answer_to before host) desk (cut octets).lines out old new × Stays Shows Before After before
+Gets host desk Shows Before After before Http octets out old new = Asks Shows Before After before octets out old new

@@ -1,7 +1,8 @@
 -- Runs of events: where a list of accepted events leads, from a state of a hub and what its desk stands at.
-use Rattle.std.specs.Prelude.{◌≡◌, ◌==◌, ℕ, Bool, List, [], ◌∷◌, ◌++◌, filter, Option, None, if◌then◌else◌}
+use Rattle.std.specs.Prelude.{◌≡◌, ◌==◌, ℕ, List, [], ◌∷◌, ◌++◌, filter, Option, None, if◌then◌else◌}
 use Rattle.dict_io.specs.Streams.{Change, PutsAll}
 use Rattle.dict_catalogue.specs.Steps.{Catalogue}
+use Rattle.dict_session.specs.Desks.{Condition}
 use Rattle.dict_hub.specs.Holding.{Holding}
 use Rattle.dict_hub.specs.Events.{Happening, id_of, greatest_after, held_after, Serves}
 use Rattle.dict_hub.specs.Undisturbed.{IsServed, IsDisturbed}
@@ -38,19 +39,19 @@ pub record Standing : Type 0 where
   pub catalogue : Catalogue
   pub leaves : List (Option Catalogue)
 
--- an event that was accepted: how it was answered, whether the desk's last call failed then, what its connection's sink took,
--- and what the desk stood at before and after it
+-- an event that was accepted: how it was answered, how the desk stood after it, what its connection's sink took, and what the
+-- desk stood at before and after it
 pub record Accepted : Type 0 where
   pub what : Happening
   pub out : Out
-  pub failed : Bool
+  pub desk : Condition
   pub put : Change
   pub before : Standing
   pub after : Standing
 
 -- at this state the event is served so
 abbrev pub IsStep : State → Accepted → Type 0
-IsStep state one = Serves state.host one.failed (λ M. M ≡ one.after.catalogue) (λ ms. ms ≡ one.before.leaves) (λ ms. ms ≡ one.after.leaves)
+IsStep state one = Serves state.host one.desk (λ M. M ≡ one.after.catalogue) (λ ms. ms ≡ one.before.leaves) (λ ms. ms ≡ one.after.leaves)
     one.before.catalogue (state.held (id_of one.what)) one.what one.out one.put.old one.put.new
 
 -- the events lead from a state and what the desk stands at to another
@@ -61,9 +62,9 @@ Leads state stands (one ∷ events) end ends =
 
 -- The events lead to `state` and `stands`, and with this one on to where the hub and its desk are now
 pub record LeadsOn (Shows : Catalogue → Type 0) (Leaves : List (Option Catalogue) → Type 0) (origin : State) (start : Standing) (events : List Accepted)
-    (state : State) (stands : Standing) (what : Happening) (out : Out) (failed : Bool) (put : Change) (hub : Hub) : Type 0 where
+    (state : State) (stands : Standing) (what : Happening) (out : Out) (desk : Condition) (put : Change) (hub : Hub) : Type 0 where
   pub after : Standing
-  pub leads : Leads origin start (events ++ record { what = what; out = out; failed = failed; put = put; before = stands; after = after } ∷ []) (state_after state what out) after
+  pub leads : Leads origin start (events ++ record { what = what; out = out; desk = desk; put = put; before = stands; after = after } ∷ []) (state_after state what out) after
   pub is_at : IsAt hub (state_after state what out)
   pub shows : Shows after.catalogue
   pub leaves : Leaves after.leaves
@@ -76,7 +77,7 @@ IsUndisturbed state one = (octets : List ℕ)
 
 -- something failed in it
 abbrev pub HasDisturbance : State → Accepted → Type 0
-HasDisturbance state one = IsDisturbed state.host one.failed one.before.catalogue (state.held (id_of one.what)) one.what one.out one.put.old one.put.new
+HasDisturbance state one = IsDisturbed state.host one.desk one.before.catalogue (state.held (id_of one.what)) one.what one.out one.put.old one.put.new
 
 -- the events of one connection gave what they give where nothing fails
 abbrev pub GoWell : ℕ → State → List Accepted → Type 0

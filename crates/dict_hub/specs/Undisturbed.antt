@@ -1,17 +1,17 @@
 -- What an event gives where nothing fails: a function of the host, the connection's id and kind, the octets that have come on
 -- it and the catalogue. And what has failed where it gives something else.
-use Rattle.std.specs.Prelude.{◌≡◌, ◌⊎◌, ℕ, Bool, true, false, List, [], ◌∷◌, ◌++◌, Option, Some, None, if◌then◌else◌}
+use Rattle.std.specs.Prelude.{◌≡◌, ◌⊎◌, ℕ, true, List, [], ◌++◌, Option, Some, None, if◌then◌else◌}
 use Rattle.dict_io.specs.Streams.{Stream, HasFailed, PutsAll}
 use Rattle.dict_catalogue.specs.Steps.{Catalogue}
-use Rattle.dict_line.specs.Meaning.{Meaning, meaning}
-use Rattle.dict_proto.specs.Replies.{banner_octets, unavailable_octets}
+use Rattle.dict_proto.specs.Replies.{banner_octets}
 use Rattle.dict_head.specs.Heads.{Needs}
 use Rattle.dict_head.specs.declared.kinds.Need.TheVariants.{More as NeedsMore}
 use Rattle.dict_http.specs.Answers.{response_text, unavailable_text}
 use Rattle.dict_http.specs.Settling.{Settled, Settles}
 use Rattle.dict_session.specs.Lines.{cut}
-use Rattle.dict_session.specs.Answers.{answer_to, may_be_unavailable}
-use Rattle.dict_session.specs.Spoken.{answers, has_quit}
+use Rattle.dict_session.specs.Answers.{answer_to}
+use Rattle.dict_session.specs.Spoken.{answers, has_quit, HasUnavailable, BreaksOff}
+use Rattle.dict_session.specs.Desks.{Condition}
 use Rattle.dict_hub.specs.Holding.{Holding}
 use Rattle.dict_hub.specs.Events.{Happening, opened, came, ended}
 use Rattle.dict_hub.specs.declared.kind.Kind.{Kind}
@@ -61,35 +61,24 @@ IsServed host before held (opened id kind) served = served ≡ goes_on before (g
 IsServed host before held (came id piece) served = IsServedPiece host before held piece served
 IsServed host before held (ended id) served = served ≡ goes_on before []
 
--- the first of these lines are answered, none of which is a QUIT, and in place of the answer to the next, which needs the
--- catalogue or memory, stands the 420 line
-pub record HasUnavailable (answer : Meaning → List ℕ) (lines : List (List ℕ)) (octets : List ℕ) : Type 0 where
-  pub front : List (List ℕ)
-  pub line : List ℕ
-  pub behind : List (List ℕ)
-  pub rest : List ℕ
-  pub are : lines ≡ front ++ line ∷ behind
-  pub no_quit : has_quit front ≡ false
-  pub needs : may_be_unavailable (meaning line) ≡ true
-  pub is : octets ≡ answers answer front ++ (unavailable_octets ++ rest)
+-- a reader is closed where the desk's last call failed, behind the first octet of an answer, or gets the 420 line in place of
+-- one; an editor gets the 503
+abbrev pub Lacks : List ℕ → Condition → Catalogue → Kind → List ℕ → Out → Stream → Stream → Type 0
+Lacks host desk before Dict octets out old new =
+    ((out ≡ Close) × (desk.failed ≡ true) × ((put : List ℕ) × BreaksOff (answer_to before host) desk.closed (cut octets).lines put × PutsAll old new put))
+    ⊎ ((put : List ℕ) × HasUnavailable (answer_to before host) desk.closed (cut octets).lines put × PutsAll old new put)
+Lacks host desk before Http octets out old new = PutsAll old new unavailable_text
 
--- a reader is closed as the desk failed, of which `failed` tells it, or gets the 420 line in place of an answer; an editor
--- gets the 503
-abbrev pub Lacks : List ℕ → Bool → Catalogue → Kind → List ℕ → Out → Stream → Stream → Type 0
-Lacks host failed before Dict octets out old new =
-    ((out ≡ Close) × (failed ≡ true)) ⊎ ((put : List ℕ) × HasUnavailable (answer_to before host) (cut octets).lines put × PutsAll old new put)
-Lacks host failed before Http octets out old new = PutsAll old new unavailable_text
-
-abbrev pub LacksPiece : List ℕ → Bool → Catalogue → Option Holding → List ℕ → Out → Stream → Stream → Type 0
-LacksPiece host failed before None piece out old new = ⊥
-LacksPiece host failed before (Some held) piece out old new = Lacks host failed before held.kind (held.octets ++ piece) out old new
+abbrev pub LacksPiece : List ℕ → Condition → Catalogue → Option Holding → List ℕ → Out → Stream → Stream → Type 0
+LacksPiece host desk before None piece out old new = ⊥
+LacksPiece host desk before (Some held) piece out old new = Lacks host desk before held.kind (held.octets ++ piece) out old new
 
 -- the desk fails, or memory is wanting, only at a piece
-abbrev pub LacksEvent : List ℕ → Bool → Catalogue → Option Holding → Happening → Out → Stream → Stream → Type 0
-LacksEvent host failed before held (opened id kind) out old new = ⊥
-LacksEvent host failed before held (came id piece) out old new = LacksPiece host failed before held piece out old new
-LacksEvent host failed before held (ended id) out old new = ⊥
+abbrev pub LacksEvent : List ℕ → Condition → Catalogue → Option Holding → Happening → Out → Stream → Stream → Type 0
+LacksEvent host desk before held (opened id kind) out old new = ⊥
+LacksEvent host desk before held (came id piece) out old new = LacksPiece host desk before held piece out old new
+LacksEvent host desk before held (ended id) out old new = ⊥
 
 -- the sink failed, or the desk did, or memory was wanting
-abbrev pub IsDisturbed : List ℕ → Bool → Catalogue → Option Holding → Happening → Out → Stream → Stream → Type 0
-IsDisturbed host failed before held what out old new = HasFailed old.failures new.failures ⊎ LacksEvent host failed before held what out old new
+abbrev pub IsDisturbed : List ℕ → Condition → Catalogue → Option Holding → Happening → Out → Stream → Stream → Type 0
+IsDisturbed host desk before held what out old new = HasFailed old.failures new.failures ⊎ LacksEvent host desk before held what out old new

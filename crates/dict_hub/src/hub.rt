@@ -1,9 +1,11 @@
 // The open connections of readers and editors.
 ghost use Rattle.std.specs.Prelude.{◌≡◌, ◌≢◌, ◌++◌, ◌<◌, ℕ, List, Option, [], ◌∷◌, true, None, Some, Ok, Err, IfOk, IfErr, OnOk, OnErr, vec_len, vec_capacity, remove};
 ghost use Rattle.dict_catalogue.specs.Steps.{Catalogue};
+ghost use Rattle.dict_session.specs.Desks.{condition};
 ghost use Rattle.dict_hub.specs.Books.{opening, place_of};
 ghost use Rattle.dict_hub.specs.Holding.{Holding, left_by};
 ghost use Rattle.dict_hub.specs.Given.{Greets, Gets};
+ghost use Rattle.dict_hub.specs.declared.kind.Kind.TheVariants.{Http};
 ghost use Rattle.dict_hub.specs.declared.asking.Out.TheVariants as outs;
 ghost use Rattle.dict_hub.specs.declared.fault.HubFault.{HubFault};
 ghost use Rattle.dict_hub.specs.declared.fault.HubFault.TheVariants.{UnknownConnection, Memory};
@@ -75,9 +77,9 @@ impl<'h> Hub<'h> {
         ensures refused { (held : Option Holding) → Has self.old (id_of (happening event.entry)) held → (fault : HubFault)
             → admitted held (greatest_of self.old) (count_of self.old) (happening event.entry) ≡ Err fault → result ≡ Err fault }
         ensures memory { (held : Option Holding) → Has self.old (id_of (happening event.entry)) held
-            → admitted held (greatest_of self.old) (count_of self.old) (happening event.entry) ≡ Ok tt → IfErr result (λ fault. (fault ≡ Memory) × (takes_memory (happening event.entry) ≡ true)) }
+            → admitted held (greatest_of self.old) (count_of self.old) (happening event.entry) ≡ Ok tt → IfErr result (λ fault. (fault ≡ Memory) × (takes_memory held (happening event.entry) ≡ true)) }
         ensures serves { K.is_trusted desk.new → (M : Catalogue) → K.shows desk.old M → (held : Option Holding) → Has self.old (id_of (happening event.entry)) held
-            → IfOk result (λ out. Serves (host_of self.old) (K.has_failed desk.new) (K.shows desk.new) (K.leaves_one_of desk.old) (K.leaves_one_of desk.new) M held (happening event.entry) out (S.stream sink.old) (S.stream sink.new)) }
+            → IfOk result (λ out. Serves (host_of self.old) (condition K.has_failed K.is_closed desk.new) (K.shows desk.new) (K.leaves_one_of desk.old) (K.leaves_one_of desk.new) M held (happening event.entry) out (S.stream sink.old) (S.stream sink.new)) }
         ensures own { K.is_trusted desk.new → (M : Catalogue) → K.shows desk.old M → (held : Option Holding) → Has self.old (id_of (happening event.entry)) held
             → IfOk result (λ out. Has self.new (id_of (happening event.entry)) (held_after held (happening event.entry) out)) }
         ensures others { (other : ℕ) (held : Option Holding) → other ≢ id_of (happening event.entry) → Has self.old other held → Has self.new other held }
@@ -90,7 +92,7 @@ impl<'h> Hub<'h> {
         ensures sink { OnErr result (sink.new ≡ sink.old) }
         ensures leads { K.is_trusted desk.new → (origin : State) (start : Standing) (events : List Accepted) (state : State) (stands : Standing) → Leads origin start events state stands
             → IsAt self.old state → K.shows desk.old stands.catalogue → K.leaves_one_of desk.old stands.leaves
-            → IfOk result (λ out. LeadsOn (K.shows desk.new) (K.leaves_one_of desk.new) origin start events state stands (happening event.entry) out (K.has_failed desk.new) (change S.stream sink.old sink.new) self.new) }
+            → IfOk result (λ out. LeadsOn (K.shows desk.new) (K.leaves_one_of desk.new) origin start events state stands (happening event.entry) out (condition K.has_failed K.is_closed desk.new) (change S.stream sink.old sink.new) self.new) }
         ensures state { OnErr result ((state : State) → IsAt self.old state → IsAt self.new state) }
     {
         match event {
@@ -164,9 +166,9 @@ impl<'h> Hub<'h> {
         sink: &mut S,
     ) -> Result<Out, HubFault>
         ensures unknown { Has self.old id None → result ≡ Err UnknownConnection }
-        ensures memory { (held : Holding) → Has self.old id (Some held) → IfErr result (λ fault. fault ≡ Memory) }
+        ensures memory { (held : Holding) → Has self.old id (Some held) → IfErr result (λ fault. (fault ≡ Memory) × (held.kind ≡ Http)) }
         ensures gets { K.is_trusted desk.new → (M : Catalogue) → K.shows desk.old M → (held : Holding) → Has self.old id (Some held)
-            → IfOk result (λ out. Gets (host_of self.old) (K.has_failed desk.new) (K.shows desk.new) (K.leaves_one_of desk.old) (K.leaves_one_of desk.new) M held.kind (held.octets ++ piece.now) out (S.stream sink.old) (S.stream sink.new)) }
+            → IfOk result (λ out. Gets (host_of self.old) (condition K.has_failed K.is_closed desk.new) (K.shows desk.new) (K.leaves_one_of desk.old) (K.leaves_one_of desk.new) M held.kind (held.octets ++ piece.now) out (S.stream sink.old) (S.stream sink.new)) }
         ensures own { K.is_trusted desk.new → (M : Catalogue) → K.shows desk.old M → (held : Holding) → Has self.old id (Some held)
             → IfOk result (λ out. Has self.new id (left_by held.kind (held.octets ++ piece.now) out)) }
         ensures others { (other : ℕ) (held : Option Holding) → other ≢ id → Has self.old other held → Has self.new other held }

@@ -9,6 +9,7 @@ ghost use Rattle.dict_hub.specs.Runs.{State, Standing, Accepted, Leads, IsStep, 
 ghost use Rattle.dict_hub.specs.Turns.{Turn, AreTurns};
 
 use dict_http::one_answer;
+use dict_session::spoken_or_unavailable;
 
 /// Where nothing fails, what an event gives is a function of the host, what is held of its connection, the event and
 /// the catalogue: how it is answered, what it puts, and the catalogue after it.
@@ -18,11 +19,13 @@ pub fn one_served()
     one_answer();
 }
 
-/// Each event of a run gave just that, or its sink failed, or the desk did, or the answer for want of memory stands in
-/// place of one.
+/// Each event of a run gave just that, or its sink failed, or the desk did behind the first octet of an answer, or the
+/// answer for want of memory stands in place of one.
 pub fn undisturbed_or_not()
     ensures { (state : State) (one : Accepted) → IsStep state one → IsUndisturbed state one ⊎ HasDisturbance state one }
-{}
+{
+    spoken_or_unavailable();
+}
 
 /// What one connection gets, whatever the others do: in two runs that begin with the same held of it, and in which its
 /// events are the same, come at the same catalogues and are disturbed by nothing, they are answered alike, put the same

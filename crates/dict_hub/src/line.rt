@@ -1,8 +1,10 @@
 // What the hub keeps of one connection.
 ghost use Rattle.std.specs.Prelude.{◌≡◌, ◌++◌, ℕ, List, Ok, IfOk, IfErr, OnErr};
 ghost use Rattle.dict_catalogue.specs.Steps.{Catalogue};
+ghost use Rattle.dict_session.specs.Desks.{condition};
 ghost use Rattle.dict_hub.specs.Holding.{Holding, just_opened, left_by};
 ghost use Rattle.dict_hub.specs.Given.{Greets, Gets};
+ghost use Rattle.dict_hub.specs.declared.kind.Kind.TheVariants.{Http};
 ghost use Rattle.dict_hub.specs.declared.asking.Out.TheVariants as outs;
 ghost use Rattle.dict_hub.specs.declared.fault.HubFault.TheVariants.{Memory};
 
@@ -68,11 +70,12 @@ impl<'h> Line<'h> {
         sink: &mut S,
     ) -> Result<Out, HubFault>
         ensures gets { K.is_trusted desk.new → (M : Catalogue) → K.shows desk.old M → (host : List ℕ) (id : ℕ) (held : Holding) → Holds host id self.old held
-            → IfOk result (λ out. Gets host (K.has_failed desk.new) (K.shows desk.new) (K.leaves_one_of desk.old) (K.leaves_one_of desk.new) M held.kind (held.octets ++ piece.now) out (S.stream sink.old) (S.stream sink.new)) }
+            → IfOk result (λ out. Gets host (condition K.has_failed K.is_closed desk.new) (K.shows desk.new) (K.leaves_one_of desk.old) (K.leaves_one_of desk.new) M held.kind (held.octets ++ piece.now) out (S.stream sink.old) (S.stream sink.new)) }
         ensures left { K.is_trusted desk.new → (M : Catalogue) → K.shows desk.old M → (host : List ℕ) (id : ℕ) (held : Holding) → Holds host id self.old held
             → IfOk result (λ out. IsLeft host id self.new (left_by held.kind (held.octets ++ piece.now) out)) }
         ensures trust { K.is_trusted desk.new → K.is_trusted desk.old }
         ensures memory { IfErr result (λ fault. fault ≡ Memory) }
+        ensures editor { (host : List ℕ) (id : ℕ) (held : Holding) → Holds host id self.old held → IfErr result (λ fault. held.kind ≡ Http) }
         ensures held { OnErr result ((host : List ℕ) (id : ℕ) (held : Holding) → Holds host id self.old held → Holds host id self.new held) }
         ensures desk { OnErr result (desk.new ≡ desk.old) }
         ensures sink { OnErr result (sink.new ≡ sink.old) }

@@ -5,11 +5,21 @@ use Rattle.dict_hub.specs.Given.{Gets}
 use Rattle.dict_hub.specs.Holding.{left_by}
 use Rattle.dict_hub.specs.Lines.{Holds, IsLeft}
 use Rattle.dict_hub.specs.Hubs.{IsAbsent}
-use Rattle.dict_hub.proofs.HubLemmas.{found_at, not_found, holds_there, set_own, set_others, remove_own, remove_others, stands_as, on_err, set_same}
+use Rattle.dict_hub.proofs.HubLemmas.{found_at, not_found, holds_there, set_own, set_others, remove_own, remove_others, stands_as, on_err, err_passed, set_same}
+use Rattle.dict_session.specs.Desks.{condition}
+use Rattle.dict_hub.specs.declared.kind.Kind.TheVariants.{Http}
+use Rattle.dict_hub.specs.declared.fault.HubFault.TheVariants.{Memory}
 use Rattle.dict_hub.proofs.hub.Hub.bytes.Goals as goal
 
 pub returns-in_default-clause-memory : goal.returns-in_default-clause-memory
 returns-in_default-clause-memory g c = λ held at. absurd (not_found c.args.self.now.book.ids.items c.args.id (sym c.in_default.ensures.value) at.place at.within at.is)
+
+pub returns-in_err-take-clause-memory : goal.returns-in_err-take-clause-memory
+returns-in_err-take-clause-memory g c = λ held at.
+    let f = found_at c.args.self.now.book.ids.items c.args.id c.in-Some.place (sym c.in-Some.ensures.value) in
+    let h = subst (λ one. Holds c.args.self.now.host.now c.args.id one held) (sym c.index_mut.ensures.value)
+    (holds_there c.args.self.now.host.now c.args.self.now.book.ids.items c.args.self.now.lines.items c.args.id held c.in-Some.place c.args.self.now.book.rising f.0 f.1 at c.index_mut.result.now) in
+    err_passed c.from_residual.result _ Memory (held.kind ≡ Http) c.from_residual.ensures.1 c.in_err-take.ensures.memory (c.in_err-take.ensures.editor c.args.self.now.host.now c.args.id held h)
 
 pub returns-in_err-take-clause-unknown : goal.returns-in_err-take-clause-unknown
 returns-in_err-take-clause-unknown g c = λ absent.
@@ -33,7 +43,7 @@ returns-in-More-clause-gets g c = λ trusted M shown held at.
     let f = found_at c.args.self.now.book.ids.items c.args.id c.in-Some.place (sym c.in-Some.ensures.value) in
     let h = subst (λ one. Holds c.args.self.now.host.now c.args.id one held) (sym c.index_mut.ensures.value)
     (holds_there c.args.self.now.host.now c.args.self.now.book.ids.items c.args.self.now.lines.items c.args.id held c.in-Some.place c.args.self.now.book.rising f.0 f.1 at c.index_mut.result.now) in
-    subst (λ out. Gets c.args.self.now.host.now (g.K.Lookup.has_failed c.take.new.desk) (g.K.Lookup.shows c.take.new.desk) (g.K.Lookup.leaves_one_of c.args.desk.now) (g.K.Lookup.leaves_one_of c.take.new.desk) M held.kind (held.octets ++ c.args.piece.now) out (g.S.Sink.stream c.args.sink.now) (g.S.Sink.stream c.take.new.sink))
+    subst (λ out. Gets c.args.self.now.host.now (condition g.K.Lookup.has_failed g.K.Lookup.is_closed c.take.new.desk) (g.K.Lookup.shows c.take.new.desk) (g.K.Lookup.leaves_one_of c.args.desk.now) (g.K.Lookup.leaves_one_of c.take.new.desk) M held.kind (held.octets ++ c.args.piece.now) out (g.S.Sink.stream c.args.sink.now) (g.S.Sink.stream c.take.new.sink))
     c.in-More.is (c.in_ok-take.ensures.gets trusted M shown c.args.self.now.host.now c.args.id held h)
 
 pub returns-in-More-clause-own : goal.returns-in-More-clause-own
@@ -60,7 +70,7 @@ returns-in-Close-clause-gets g c = λ trusted M shown held at.
     let f = found_at c.args.self.now.book.ids.items c.args.id c.in-Some.place (sym c.in-Some.ensures.value) in
     let h = subst (λ one. Holds c.args.self.now.host.now c.args.id one held) (sym c.index_mut.ensures.value)
     (holds_there c.args.self.now.host.now c.args.self.now.book.ids.items c.args.self.now.lines.items c.args.id held c.in-Some.place c.args.self.now.book.rising f.0 f.1 at c.index_mut.result.now) in
-    subst (λ out. Gets c.args.self.now.host.now (g.K.Lookup.has_failed c.take.new.desk) (g.K.Lookup.shows c.take.new.desk) (g.K.Lookup.leaves_one_of c.args.desk.now) (g.K.Lookup.leaves_one_of c.take.new.desk) M held.kind (held.octets ++ c.args.piece.now) out (g.S.Sink.stream c.args.sink.now) (g.S.Sink.stream c.take.new.sink))
+    subst (λ out. Gets c.args.self.now.host.now (condition g.K.Lookup.has_failed g.K.Lookup.is_closed c.take.new.desk) (g.K.Lookup.shows c.take.new.desk) (g.K.Lookup.leaves_one_of c.args.desk.now) (g.K.Lookup.leaves_one_of c.take.new.desk) M held.kind (held.octets ++ c.args.piece.now) out (g.S.Sink.stream c.args.sink.now) (g.S.Sink.stream c.take.new.sink))
     c.in-Close.is (c.in_ok-take.ensures.gets trusted M shown c.args.self.now.host.now c.args.id held h)
 
 pub returns-in-Close-clause-own : goal.returns-in-Close-clause-own

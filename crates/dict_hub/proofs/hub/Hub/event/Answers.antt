@@ -7,13 +7,14 @@ use Rattle.dict_hub.specs.Runs.{LeadsOn}
 use Rattle.dict_hub.specs.declared.fault.HubFault.TheVariants.{UnknownConnection}
 use Rattle.dict_hub.proofs.EventLemmas.{serves_piece, own_piece}
 use Rattle.dict_hub.proofs.RunLemmas.{leads_on, serves_opened, serves_ended, own_ended, on_ok}
+use Rattle.dict_session.specs.Desks.{condition}
 use Rattle.dict_hub.proofs.hub.Hub.event.Goals as goal
 
 pub returns-in-Bytes-clause-serves : goal.returns-in-Bytes-clause-serves
 returns-in-Bytes-clause-serves g c = λ trusted M shown held at.
     let e : happening c.args.event ≡ came c.in-Bytes.id c.in-Bytes.piece.now = ap happening c.in-Bytes.is in
     let there : Has c.args.self.now c.in-Bytes.id held = subst (λ what. Has c.args.self.now (id_of what) held) e at in
-    serves_piece c.args.self.now.host.now (g.K.Lookup.has_failed c.bytes.new.desk) (g.K.Lookup.shows c.bytes.new.desk) (g.K.Lookup.leaves_one_of c.args.desk.now) (g.K.Lookup.leaves_one_of c.bytes.new.desk) M
+    serves_piece c.args.self.now.host.now (condition g.K.Lookup.has_failed g.K.Lookup.is_closed c.bytes.new.desk) (g.K.Lookup.shows c.bytes.new.desk) (g.K.Lookup.leaves_one_of c.args.desk.now) (g.K.Lookup.leaves_one_of c.bytes.new.desk) M
     held (happening c.args.event) c.in-Bytes.id c.in-Bytes.piece.now (g.S.Sink.stream c.args.sink.now) (g.S.Sink.stream c.bytes.new.sink) c.bytes.result e
     (λ none. c.bytes.ensures.unknown (subst (λ one. Has c.args.self.now c.in-Bytes.id one) none there))
     (λ one some. c.bytes.ensures.gets trusted M shown one (subst (λ it. Has c.args.self.now c.in-Bytes.id it) some there))
@@ -29,13 +30,13 @@ returns-in-Bytes-clause-own g c = λ trusted M shown held at.
 pub returns-in-Opened-clause-leads : goal.returns-in-Opened-clause-leads
 returns-in-Opened-clause-leads g c = λ trusted origin start events state stands leads at shown here.
     let what = opened c.in-Opened.id c.in-Opened.kind in
-    let failed = g.K.Lookup.has_failed c.args.desk.now in
+    let desk = condition g.K.Lookup.has_failed g.K.Lookup.is_closed c.args.desk.now in
     let put = change g.S.Sink.stream c.args.sink.now c.opened.new.sink in
-    subst (λ it. IfOk c.opened.result (λ out. LeadsOn (g.K.Lookup.shows c.args.desk.now) (g.K.Lookup.leaves_one_of c.args.desk.now) origin start events state stands it out failed put c.opened.new.self))
+    subst (λ it. IfOk c.opened.result (λ out. LeadsOn (g.K.Lookup.shows c.args.desk.now) (g.K.Lookup.leaves_one_of c.args.desk.now) origin start events state stands it out desk put c.opened.new.self))
     (sym (ap happening c.in-Opened.is))
     (leads_on (g.K.Lookup.shows c.args.desk.now) (g.K.Lookup.leaves_one_of c.args.desk.now) (g.K.Lookup.leaves_one_of c.args.desk.now) origin start events state stands
-    what failed put c.args.self.now c.opened.new.self c.opened.result leads at here
-    (λ held there. serves_opened c.args.self.now.host.now failed (g.K.Lookup.shows c.args.desk.now) (g.K.Lookup.leaves_one_of c.args.desk.now) (g.K.Lookup.leaves_one_of c.args.desk.now) stands.catalogue
+    what desk put c.args.self.now c.opened.new.self c.opened.result leads at here
+    (λ held there. serves_opened c.args.self.now.host.now desk (g.K.Lookup.shows c.args.desk.now) (g.K.Lookup.leaves_one_of c.args.desk.now) (g.K.Lookup.leaves_one_of c.args.desk.now) stands.catalogue
     held c.in-Opened.id c.in-Opened.kind put.old put.new c.opened.result (record { shows = shown; leaves = λ ms before. before }) c.opened.ensures.greets)
     (λ held there. c.opened.ensures.own)
     c.opened.ensures.others c.opened.ensures.greatest c.opened.ensures.host)
@@ -43,13 +44,13 @@ returns-in-Opened-clause-leads g c = λ trusted origin start events state stands
 pub returns-in-Bytes-clause-leads : goal.returns-in-Bytes-clause-leads
 returns-in-Bytes-clause-leads g c = λ trusted origin start events state stands leads at shown here.
     let what = came c.in-Bytes.id c.in-Bytes.piece.now in
-    let failed = g.K.Lookup.has_failed c.bytes.new.desk in
+    let desk = condition g.K.Lookup.has_failed g.K.Lookup.is_closed c.bytes.new.desk in
     let put = change g.S.Sink.stream c.args.sink.now c.bytes.new.sink in
-    subst (λ it. IfOk c.bytes.result (λ out. LeadsOn (g.K.Lookup.shows c.bytes.new.desk) (g.K.Lookup.leaves_one_of c.bytes.new.desk) origin start events state stands it out failed put c.bytes.new.self))
+    subst (λ it. IfOk c.bytes.result (λ out. LeadsOn (g.K.Lookup.shows c.bytes.new.desk) (g.K.Lookup.leaves_one_of c.bytes.new.desk) origin start events state stands it out desk put c.bytes.new.self))
     (sym (ap happening c.in-Bytes.is))
     (leads_on (g.K.Lookup.shows c.bytes.new.desk) (g.K.Lookup.leaves_one_of c.args.desk.now) (g.K.Lookup.leaves_one_of c.bytes.new.desk) origin start events state stands
-    what failed put c.args.self.now c.bytes.new.self c.bytes.result leads at here
-    (λ held there. serves_piece c.args.self.now.host.now failed (g.K.Lookup.shows c.bytes.new.desk) (g.K.Lookup.leaves_one_of c.args.desk.now) (g.K.Lookup.leaves_one_of c.bytes.new.desk) stands.catalogue
+    what desk put c.args.self.now c.bytes.new.self c.bytes.result leads at here
+    (λ held there. serves_piece c.args.self.now.host.now desk (g.K.Lookup.shows c.bytes.new.desk) (g.K.Lookup.leaves_one_of c.args.desk.now) (g.K.Lookup.leaves_one_of c.bytes.new.desk) stands.catalogue
     held what c.in-Bytes.id c.in-Bytes.piece.now put.old put.new c.bytes.result refl
     (λ none. c.bytes.ensures.unknown (subst (λ one. Has c.args.self.now c.in-Bytes.id one) none there))
     (λ one some. c.bytes.ensures.gets trusted stands.catalogue shown one (subst (λ it. Has c.args.self.now c.in-Bytes.id it) some there)))
@@ -61,13 +62,13 @@ returns-in-Bytes-clause-leads g c = λ trusted origin start events state stands 
 pub returns-in-Ended-clause-leads : goal.returns-in-Ended-clause-leads
 returns-in-Ended-clause-leads g c = λ trusted origin start events state stands leads at shown here.
     let what = ended c.in-Ended.id in
-    let failed = g.K.Lookup.has_failed c.args.desk.now in
+    let desk = condition g.K.Lookup.has_failed g.K.Lookup.is_closed c.args.desk.now in
     let put = change g.S.Sink.stream c.args.sink.now c.args.sink.now in
-    subst (λ it. IfOk c.ended.result (λ out. LeadsOn (g.K.Lookup.shows c.args.desk.now) (g.K.Lookup.leaves_one_of c.args.desk.now) origin start events state stands it out failed put c.ended.new.self))
+    subst (λ it. IfOk c.ended.result (λ out. LeadsOn (g.K.Lookup.shows c.args.desk.now) (g.K.Lookup.leaves_one_of c.args.desk.now) origin start events state stands it out desk put c.ended.new.self))
     (sym (ap happening c.in-Ended.is))
     (leads_on (g.K.Lookup.shows c.args.desk.now) (g.K.Lookup.leaves_one_of c.args.desk.now) (g.K.Lookup.leaves_one_of c.args.desk.now) origin start events state stands
-    what failed put c.args.self.now c.ended.new.self c.ended.result leads at here
-    (λ held there. serves_ended c.args.self.now.host.now failed (g.K.Lookup.shows c.args.desk.now) (g.K.Lookup.leaves_one_of c.args.desk.now) (g.K.Lookup.leaves_one_of c.args.desk.now) stands.catalogue
+    what desk put c.args.self.now c.ended.new.self c.ended.result leads at here
+    (λ held there. serves_ended c.args.self.now.host.now desk (g.K.Lookup.shows c.args.desk.now) (g.K.Lookup.leaves_one_of c.args.desk.now) (g.K.Lookup.leaves_one_of c.args.desk.now) stands.catalogue
     held c.in-Ended.id put.old UnknownConnection c.ended.result (record { shows = shown; leaves = λ ms before. before })
     (λ none. c.ended.ensures.unknown (subst (λ one. Has c.args.self.now c.in-Ended.id one) none there))
     (λ one some. (c.ended.ensures.known one (subst (λ it. Has c.args.self.now c.in-Ended.id it) some there)).0))

@@ -7,20 +7,21 @@ use Rattle.dict_hub.specs.Asking.{Awaits, Answers}
 use Rattle.dict_hub.specs.Given.{Gets}
 use Rattle.dict_hub.specs.Lines.{Holds, IsReader, IsEditor}
 use Rattle.dict_hub.proofs.LineLemmas.{replies_from, asks_from}
+use Rattle.dict_session.specs.Desks.{condition}
 use Rattle.dict_hub.proofs.line.Line.take.Goals as goal
 
 pub returns-in-Reader-clause-gets : goal.returns-in-Reader-clause-gets
 returns-in-Reader-clause-gets g c = λ trusted M shown host id held holds.
     let h : IsReader host id c.in-Reader.session held = subst (λ line. Holds host id line held) c.in-Reader.is holds in
-    let failed = g.K.Lookup.has_failed c.feed.new.desk in
+    let desk = condition g.K.Lookup.has_failed g.K.Lookup.is_closed c.feed.new.desk in
     let old = g.S.Sink.stream c.args.sink.now in
     let new = g.S.Sink.stream c.feed.new.sink in
     let b = held.octets ++ c.args.piece.now in
     let wrote = c.feed.ensures.answers h.goes_on trusted M shown held.octets h.unfinished in
-    let here = subst (λ (at : List ℕ). Wrote (answer_to M at) failed (course_of c.feed.new.self) old new (cut b).lines) h.same_host wrote.0 in
-    let replies = replies_from (answer_to M host) failed (cut b).lines old new (course_of c.feed.new.self) c.out_of.result
+    let here = subst (λ (at : List ℕ). Wrote (answer_to M at) desk (course_of c.feed.new.self) old new (cut b).lines) h.same_host wrote.0 in
+    let replies = replies_from (answer_to M host) desk (cut b).lines old new (course_of c.feed.new.self) c.out_of.result
     (λ e. c.feed.ensures.step ∙ c.out_of.ensures.more e) (λ e. c.out_of.ensures.close (sym c.feed.ensures.step ∙ e)) here in
-    subst (λ kind. Gets host failed (g.K.Lookup.shows c.feed.new.desk) (g.K.Lookup.leaves_one_of c.args.desk.now) (g.K.Lookup.leaves_one_of c.feed.new.desk) M kind b c.out_of.result old new) (sym h.kind)
+    subst (λ kind. Gets host desk (g.K.Lookup.shows c.feed.new.desk) (g.K.Lookup.leaves_one_of c.args.desk.now) (g.K.Lookup.leaves_one_of c.feed.new.desk) M kind b c.out_of.result old new) (sym h.kind)
     (replies, record { shows = c.feed.ensures.desk.shows trusted M shown; leaves = c.feed.ensures.desk.leaves })
 
 pub returns-in-Editor-clause-gets : goal.returns-in-Editor-clause-gets
@@ -28,7 +29,7 @@ returns-in-Editor-clause-gets g c = λ trusted M shown host id held holds.
     let h : IsEditor c.in-Editor.held.items held = subst (λ line. Holds host id line held) c.in-Editor.is holds in
     let old = g.S.Sink.stream c.args.sink.now in
     let new = g.S.Sink.stream c.take_piece.new.sink in
-    asks_from host (g.K.Lookup.has_failed c.take_piece.new.desk) (g.K.Lookup.shows c.take_piece.new.desk) (g.K.Lookup.leaves_one_of c.args.desk.now) (g.K.Lookup.leaves_one_of c.take_piece.new.desk) M
+    asks_from host (condition g.K.Lookup.has_failed g.K.Lookup.is_closed c.take_piece.new.desk) (g.K.Lookup.shows c.take_piece.new.desk) (g.K.Lookup.leaves_one_of c.args.desk.now) (g.K.Lookup.leaves_one_of c.take_piece.new.desk) M
     held.kind (held.octets ++ c.args.piece.now) c.take_piece.new.held.items old new c.take_piece.result h.kind
     (λ e. subst (λ (o : List ℕ). Awaits (o ++ c.args.piece.now) c.take_piece.new.held.items old new) h.octets_held (c.take_piece.ensures.awaits e))
     (λ e. record {
