@@ -1,9 +1,12 @@
 -- What a command's change makes of the catalogue that a store holds.
-use Rattle.std.proofs.Common.{◌≡◌, ℕ, Bool, true, false, List, IsTrue, Option, Some, None, Result, Ok, Err, refl, sym, ap, subst, ◌∙◌}
+use Rattle.std.proofs.Common.{◌≡◌, ◌⊎◌, inl, inr, ℕ, Bool, true, false, List, IsTrue, Option, Some, None, Result, Ok, Err, refl, sym, ap, subst, ◌∙◌}
 use Rattle.std.proofs.lemmas.Bool.{false≢true}
 use Rattle.sqlite.specs.Effect.{Database}
 use Rattle.sqlite.specs.Tree.{Trees}
 use Rattle.sqlite.specs.State.{State, HasCleanDisk, IsUnchanged}
+use Rattle.sqlite.specs.Held.{Held, state}
+use Rattle.sqlite_trees.specs.declared.store.Store.{Ghosts}
+use Rattle.dict_desk.specs.Faults.{is_failure}
 use Rattle.dict_index.specs.Edition.{Edition}
 use Rattle.dict_name.specs.Names.{is_request_id}
 use Rattle.dict_catalogue.specs.Commands.{Command}
@@ -20,12 +23,14 @@ use Rattle.dict_desk.specs.declared.fault.Fault.{Fault}
 use Rattle.dict_desk.specs.declared.fault.Fault.TheVariants.{Refused, Memory, Disk, Closed, NotACatalogue, Damaged, NewerSchema}
 use Rattle.dict_rows.specs.After.{tables_after}
 use Rattle.dict_rows.proofs.ChangeLemmas.{after_stands}
+use Rattle.dict_file.specs.Faults.{IsUnread}
 use Rattle.dict_file.specs.Holds.{Holds, Rests, IsLeft}
+use Rattle.dict_file.specs.Writing.{FailsToEnd}
 use Rattle.dict_commands.specs.Kept.{Turns}
 use Rattle.dict_commands.specs.Changes.{change_by}
 use Rattle.dict_commands.specs.Decided.{IsDeclined, LiesWithin}
 use Rattle.dict_commands.specs.Committed.{IsCommitted, IsTreesOf, Stays, IsOfStore}
-use Rattle.dict_commands.specs.Answers.{Answers, HoldsBy, summary_after, IsOfShut}
+use Rattle.dict_commands.specs.Answers.{Answers, HoldsBy, summary_after, IsOfShut, HoldsAfter, FailsToApply}
 use Rattle.dict_commands.specs.declared.applied.Applied.{Applied}
 use Rattle.dict_commands.specs.declared.applied.Applied.TheVariants.{Before, Now}
 use Rattle.dict_commands.proofs.DecideLemmas.{change_is}
@@ -154,3 +159,26 @@ pub holds_again : (summary : Holdings (List ℕ)) (id : List ℕ) (command : Com
 holds_again summary id command old new result holds early was value = λ clean lives.
     let it = holds (early clean) (was clean lives) in
     answered_by new it.0 id (step it.0 id command) summary result lives it.2 (value clean it.0 it.1 it.2)
+
+-- ---- why it fails
+
+pub declined_fails : (summary : Holdings (List ℕ)) (command : Command (List ℕ)) (fault : Fault) → IsDeclined summary command fault → is_failure fault ≡ true → fault ≡ Memory
+declined_fails summary command (Refused refusal) h real = absurd (false≢true real)
+declined_fails summary command Memory h real = refl
+declined_fails summary command Disk h real = absurd h
+declined_fails summary command Closed h real = absurd h
+declined_fails summary command NotACatalogue h real = absurd h
+declined_fails summary command Damaged h real = absurd h
+declined_fails summary command NewerSchema h real = absurd h
+
+module _ {S : Type 0} (g : Ghosts S) where
+  -- what was written is of a wider kind too
+  pub ends_weaker : (P Q : Database → Type 0) (old new : Held S) (fault : Fault) → ((db : Database) → P db → Q db) → FailsToEnd g P old new fault → FailsToEnd g Q old new fault
+  ends_weaker P Q old new fault wider (inl h) = inl h
+  ends_weaker P Q old new fault wider (inr h) = inr (record { told = h.told; last = h.last; before = h.before; written = wider (state g h.last).now h.written; error = h.error; fails = h.fails })
+
+  -- a command that is new fails after the id was looked up
+  pub new_fails : (summary : Holdings (List ℕ)) (id : List ℕ) (command : Command Edition) (P : Database → Type 0) (old mid new : Held S) → IsUnchanged (state g old) (state g mid) → ((db : Database) → P db → HoldsAfter summary (state g old) id command db)
+      → (fault : Fault) → ((fault ≡ Memory) × (new ≡ mid)) ⊎ FailsToEnd g P mid new fault → FailsToApply g summary id command old new fault
+  new_fails summary id command P old mid new same wider fault (inl h) = inl (inl (subst (λ k. IsUnchanged (state g old) (state g k)) (sym h.1) same, subst (IsUnread (state g old)) (sym h.0) tt))
+  new_fails summary id command P old mid new same wider fault (inr h) = inr (mid, same, ends_weaker P (HoldsAfter summary (state g old) id command) mid new fault wider h)

@@ -1,6 +1,6 @@
 -- The reply that is kept under an id is read by the id.
 use Rattle.std.proofs.Common.{◌≡◌, ℕ, suc, ℤ, ◌+◌, ◌≤◌, ◌<◌, length, get_or, Bool, true, false, List, [], ◌∷◌, map, drop, filter, codes, bytes_eq, Option, Some, None, inl, inr, String, refl, sym, ap, subst, ◌∙◌, arith}
-use Rattle.std.specs.Prelude.{cond}
+use Rattle.std.specs.Prelude.{cond, pos, IfNone, option_map, string_bytes}
 use Rattle.std.specs.Ordering.{is_eq}
 use Rattle.std.specs.declared.alloc.Global.{Global}
 use Rattle.std.specs.List.Sorted.{IsPermutation}
@@ -21,7 +21,8 @@ use Rattle.dict_records.specs.declared.records.Stored.{Stored}
 use Rattle.dict_records.specs.declared.records.Kept as typed
 use Rattle.dict_catalogue.specs.Steps.{KeptFor, Catalogue, kept_under}
 use Rattle.dict_catalogue.specs.WellFormed.{IsEachOnce, how_many}
-use Rattle.dict_rows.specs.Written.{kept_record}
+use Rattle.dict_catalogue.specs.declared.reply.Verb.{Verb}
+use Rattle.dict_rows.specs.Written.{kept_record, verb_name}
 use Rattle.dict_rows.proofs.OrderLemmas.{IsIn, Same, same_from}
 use Rattle.dict_rows.proofs.OnceLemmas.{kept_same}
 use Rattle.dict_file.specs.Holds.{Holds, Keeps}
@@ -172,3 +173,11 @@ module _ (id : List ℕ) where
   -- the reply that was read is the one that is kept
   pub reply_told : (kept : List KeptFor) (row : typed.Kept (String Global)) (one read : KeptFor) → owned_kept row ≡ kept_record read → owned_kept row ≡ kept_record one → kept_under kept id ≡ Some one.reply → Some read.reply ≡ kept_under kept id
   reply_told kept row one read is told there = ap (λ (k : KeptFor). Some k.reply) (kept_same read one (sym is ∙ told)) ∙ sym there
+
+-- the record of a reply has the parts of one
+pub none_of : {X : Type 0} (parts : Option X) (row : typed.Kept (String Global)) → ((x : X) → parts ≡ Some x → ⊥)
+    → IfNone parts ((number : ℕ) (verb : Verb) (edition : Option ℕ) → row.number ≡ pos number → string_bytes row.verb ≡ verb_name verb → row.edition ≡ option_map pos edition → ⊥)
+    → (one : KeptFor) → owned_kept row ≡ kept_record one → ⊥
+none_of (Some x) row apart none one e = apart x refl
+none_of None row apart none one e =
+    none one.reply.number one.reply.verb one.reply.edition (ap (λ (k : Kept). k.number) e) (ap (λ (k : Kept). k.verb) e) (ap (λ (k : Kept). k.edition) e)

@@ -1,6 +1,6 @@
 -- Facts of calls inside a transaction, one after another.
 use Rattle.std.proofs.Common.{◌≡◌, ℕ, ◌+◌, ◌<◌, ◌≤◌, List, [], ◌∷◌, ◌++◌, length, take, map, get_or, IsTrue, inl, refl, arith, ◌∙◌, ap, sym, append_assoc, append-nil}
-use Rattle.std.specs.Prelude.{flat_map}
+use Rattle.std.specs.Prelude.{flat_map, Result, Ok, Err, IfErr}
 use Rattle.std.proofs.lemmas.List.{length-map, length-take-le}
 use Rattle.std.proofs.lemmas.Grind.{flat_map-append}
 use Rattle.sqlite.specs.Tree.{Trees}
@@ -53,3 +53,7 @@ module _ {X Y : Type 0} (g : X → Y) (xs : List X) (i : ℕ) (x : X) (lt : i < 
   joined_next f front =
       append_assoc front (flat_map f (map g (take i xs))) (f (g x))
       ∙ ap (λ l. front ++ l) (sym (ap (flat_map f) (map_next g xs i x lt is) ∙ flat_map-append f (map g (take i xs)) (g x ∷ []) ∙ ap (λ l. flat_map f (map g (take i xs)) ++ l) (append-nil (f (g x)))))
+
+pub each_err : {X E : Type 0} (result : Result X E) (P Q : E → Type 0) → ((e : E) → P e → Q e) → IfErr result P → IfErr result Q
+each_err (Ok x) P Q f h = h
+each_err (Err e) P Q f h = f e h

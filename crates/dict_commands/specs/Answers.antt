@@ -1,16 +1,23 @@
 -- What a command is answered, and what it leaves of a store that holds a catalogue.
-use Rattle.std.specs.Prelude.{◌≡◌, ℕ, Bool, true, false, IsTrue, List, Some, None, Result, Ok, Err}
+use Rattle.std.specs.Prelude.{◌≡◌, ◌⊎◌, ℕ, Bool, true, false, IsTrue, List, Some, None, Result, Ok, Err}
 use Rattle.sqlite.specs.Tree.{Trees}
-use Rattle.sqlite.specs.State.{State, HasCleanDisk}
+use Rattle.sqlite.specs.Effect.{Database}
+use Rattle.sqlite.specs.State.{State, HasCleanDisk, IsUnchanged}
+use Rattle.sqlite.specs.Held.{Held, state}
+use Rattle.sqlite_trees.specs.declared.store.Store.{Ghosts}
+use Rattle.dict_index.specs.Edition.{Edition}
+use Rattle.dict_catalogue.specs.Commands.{Command}
 use Rattle.dict_name.specs.Names.{is_request_id}
 use Rattle.dict_catalogue.specs.Tests.{Holdings}
-use Rattle.dict_catalogue.specs.Steps.{Catalogue, Outcome, accepted, refused, summary_of, kept_under}
+use Rattle.dict_catalogue.specs.Steps.{Catalogue, Outcome, accepted, refused, summary_of, kept_under, step}
 use Rattle.dict_catalogue.specs.Views.{kept_shown, summary_shown}
 use Rattle.dict_catalogue.specs.declared.fault.Refusal.TheVariants.{BadRequestId}
 use Rattle.dict_desk.specs.declared.fault.Fault.{Fault}
 use Rattle.dict_desk.specs.declared.fault.Fault.TheVariants.{Refused, Memory, Disk, Closed, NotACatalogue, Damaged, NewerSchema}
 use Rattle.dict_desk.specs.Faults.{is_disk}
-use Rattle.dict_file.specs.Holds.{Rests, IsLeft}
+use Rattle.dict_file.specs.Faults.{FailsToLookUp}
+use Rattle.dict_file.specs.Holds.{Holds, Rests, IsLeft}
+use Rattle.dict_file.specs.Writing.{FailsToEnd}
 use Rattle.dict_commands.specs.declared.applied.Applied.{Applied}
 use Rattle.dict_commands.specs.declared.applied.Applied.TheVariants.{Before, Now}
 
@@ -67,3 +74,14 @@ IsOfShut id (Err Closed) = ⊥
 IsOfShut id (Err NotACatalogue) = ⊥
 IsOfShut id (Err Damaged) = ⊥
 IsOfShut id (Err NewerSchema) = ⊥
+
+-- the database holds the catalogue after the command, over each catalogue with the summary that the store held
+abbrev pub HoldsAfter : Holdings (List ℕ) → State → List ℕ → Command Edition → Database → Type 0
+HoldsAfter summary old id command db = (M : Catalogue) → Rests 1 old M → summary_of M ≡ summary → Holds 1 db (step M id command).catalogue
+
+-- A command fails that is not refused: what is kept under its id was not read; or nothing was kept, and the change was not
+-- made: a statement failed, or the commit did.
+abbrev pub FailsToApply : {S : Type 0} → Ghosts S → Holdings (List ℕ) → List ℕ → Command Edition → Held S → Held S → Fault → Type 0
+FailsToApply {S} g summary id command old new fault =
+    FailsToLookUp (state g old) (state g new) fault
+    ⊎ ((mid : Held S) × IsUnchanged (state g old) (state g mid) × FailsToEnd g (HoldsAfter summary (state g old) id command) mid new fault)

@@ -4,6 +4,7 @@ use Rattle.sqlite.specs.Effect.{Database, IsDatabase}
 use Rattle.sqlite.specs.Tree.{Trees}
 use Rattle.sqlite.specs.State.{State}
 use Rattle.dict_desk.specs.declared.fault.Fault.{Fault}
+pub use Rattle.dict_file.specs.Writing.{Stays}
 use Rattle.dict_desk.specs.declared.fault.Fault.TheVariants.{Refused, Memory, Disk, Closed, NotACatalogue, Damaged, NewerSchema}
 
 -- trees that a stop may leave: those of a database of this kind
@@ -16,12 +17,6 @@ pub record IsCommitted (P : Database → Type 0) (s : State) : Type 0 where
   pub settled : s.now ≡ s.committed
   pub holds : P s.committed
   pub only : (trees : Trees) → s.may_leave trees → IsTreesOf P trees
-
--- while the store is open, what was committed is so still, and is what it shows if it was before
-pub record Stays (old new : State) : Type 0 where
-  pub was_open : IsTrue new.is_open → IsTrue old.is_open
-  pub committed : IsTrue new.is_open → new.committed ≡ old.committed
-  pub settled : IsTrue new.is_open → old.now ≡ old.committed → new.now ≡ new.committed
 
 -- a growth was refused, or the store failed
 abbrev pub IsOfStore : Fault → Type 0

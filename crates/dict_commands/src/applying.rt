@@ -1,13 +1,15 @@
 // A command on the tables of one database.
-ghost use Rattle.std.specs.Prelude.{◌≡◌, false, true, None, IsTrue, IfErr};
+ghost use Rattle.std.specs.Prelude.{◌≡◌, ◌⊎◌, false, true, None, IsTrue, IfErr};
 ghost use Rattle.sqlite.specs.State.{HasCleanDisk, Survives};
 ghost use Rattle.sqlite.specs.Held.{state};
 ghost use Rattle.dict_name.specs.Names.{is_request_id};
 ghost use Rattle.dict_catalogue.specs.Steps.{Catalogue, summary_of, kept_under, step};
 ghost use Rattle.dict_catalogue.specs.Views.{summary_shown, command_meant};
-ghost use Rattle.dict_file.specs.Holds.{Rests, IsLeft};
+ghost use Rattle.dict_desk.specs.Faults.{is_failure};
+ghost use Rattle.dict_file.specs.Holds.{Holds, Rests, IsLeft};
+ghost use Rattle.dict_file.specs.Writing.{FailsToEnd};
 ghost use Rattle.dict_commands.specs.Changes.{IsInRange};
-ghost use Rattle.dict_commands.specs.Answers.{HoldsBy, Answers, has_written, summary_after, IsOfApply, IsOfShut};
+ghost use Rattle.dict_commands.specs.Answers.{HoldsBy, Answers, has_written, summary_after, IsOfApply, IsOfShut, FailsToApply};
 
 use crate::applied::Applied;
 use crate::committing::commit_change;
@@ -37,6 +39,7 @@ fn apply_new<S: Alter>(
     ensures crash { Survives (state S.Store conn.old) (state S.Store conn.new) (λ trees. (M : Catalogue) → Rests 1 (state S.Store conn.old) M → summary_of M ≡ summary_shown summary.now → kept_under M.kept id.now ≡ None
         → IsLeft 1 (step M id.now (command_meant command.now)).catalogue trees) }
     ensures lives { HasCleanDisk (state S.Store conn.new) → IsTrue (state S.Store conn.new).is_open → IsTrue (state S.Store conn.old).is_open }
+    ensures failed { HasCleanDisk (state S.Store conn.new) → IfErr result (λ fault. is_failure fault ≡ true → ((fault ≡ Fault.Memory) × (conn.new ≡ conn.old)) ⊎ FailsToEnd S.Store (λ db. (M : Catalogue) → Rests 1 (state S.Store conn.old) M → summary_of M ≡ summary_shown summary.now → kept_under M.kept id.now ≡ None → Holds 1 db (step M id.now (command_meant command.now)).catalogue) conn.old conn.new fault) }
     ensures kinds { IfErr result IsOfApply }
     ensures range { IsInRange (summary_after (summary_shown summary.now) result) }
     ensures autocommit { (state S.Store conn.new).in_transaction ≡ false }
@@ -57,8 +60,8 @@ fn apply_new<S: Alter>(
 /// taken before the commit, which is the last call of the store.
 ///
 /// `Memory` tells that a growth was refused before the commit: nothing has changed while the store is open. `Disk` tells
-/// that the store failed, or the commit did, for whatever cause: what a stop leaves is what it could leave before, or the
-/// catalogue after the command. A store that is shut already adds nothing to that, and answers no command.
+/// that a read or a statement failed for another cause, or the commit did, for whatever cause: what a stop leaves is what it
+/// could leave before, or the catalogue after the command. A store that is shut already adds nothing to that, and answers no command.
 pub fn apply<S: Alter>(
     alloc: Global,
     conn: &mut Connection<S>,
@@ -76,6 +79,7 @@ pub fn apply<S: Alter>(
         → IsLeft 1 (step M id.now (command_meant command.now)).catalogue trees)) }
     ensures shut { HasCleanDisk (state S.Store conn.new) → (state S.Store conn.old).is_open ≡ false → IsOfShut id.now result }
     ensures lives { HasCleanDisk (state S.Store conn.new) → IsTrue (state S.Store conn.new).is_open → IsTrue (state S.Store conn.old).is_open }
+    ensures failed { HasCleanDisk (state S.Store conn.new) → IfErr result (λ fault. is_failure fault ≡ true → FailsToApply S.Store (summary_shown summary.now) id.now (command_meant command.now) conn.old conn.new fault) }
     ensures kinds { IfErr result IsOfApply }
     ensures range { IsInRange (summary_after (summary_shown summary.now) result) }
     ensures holds { HoldsBy (summary_after (summary_shown summary.now) result) (state S.Store conn.new) }

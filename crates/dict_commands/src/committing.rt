@@ -5,6 +5,7 @@ ghost use Rattle.sqlite.specs.Held.{state};
 ghost use Rattle.dict_sql.specs.Effects.{WhileOpen};
 ghost use Rattle.dict_desk.specs.Faults.{is_disk};
 ghost use Rattle.dict_rows.specs.After.{tables_after};
+ghost use Rattle.dict_file.specs.Writing.{FailsToEnd};
 ghost use Rattle.dict_commands.specs.Kept.{Turns, IsUsable};
 ghost use Rattle.dict_commands.specs.Changes.{change_by, IsWritable};
 ghost use Rattle.dict_commands.specs.Committed.{IsCommitted, IsTreesOf, Stays, IsOfStore};
@@ -18,9 +19,9 @@ use sqlite::{Alter, Connection};
 
 /// Makes what was planned of a command by one commit, with its reply for the id of its request.
 ///
-/// `Memory` tells that a growth was refused before the commit: all is as it was. `Disk` tells that the store failed, or
-/// the commit did, for whatever cause: only the next opening knows what it left. While the store is open, it shows what it
-/// did before.
+/// `Memory` tells that a growth was refused before the commit: all is as it was. `Disk` tells that a statement failed for
+/// another cause, or the commit did, for whatever cause: only the next opening knows what it left. While the store is
+/// open, it shows what it did before.
 pub(crate) fn commit_change<S: Alter>(
     conn: &mut Connection<S>,
     id: &str,
@@ -34,6 +35,7 @@ pub(crate) fn commit_change<S: Alter>(
     ensures lives { HasCleanDisk (state S.Store conn.new) → IsTrue (state S.Store conn.new).is_open → IsTrue (state S.Store conn.old).is_open }
     ensures stays { HasCleanDisk (state S.Store conn.new) → OnErr result (Stays (state S.Store conn.old) (state S.Store conn.new)) }
     ensures adds_none { IfErr result (λ fault. is_disk fault ≡ false → Survives (state S.Store conn.old) (state S.Store conn.new) (λ _. ⊥)) }
+    ensures failed { HasCleanDisk (state S.Store conn.new) → IfErr result (FailsToEnd S.Store (Turns (tables_after 1 (change_by id.now command.now change.now)) (state S.Store conn.old).now) conn.old conn.new) }
     ensures kinds { IfErr result IsOfStore }
     ensures autocommit { (state S.Store conn.new).in_transaction ≡ false }
     ensures crash { Survives (state S.Store conn.old) (state S.Store conn.new) (IsTreesOf (Turns (tables_after 1 (change_by id.now command.now change.now)) (state S.Store conn.old).now)) }

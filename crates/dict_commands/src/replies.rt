@@ -1,13 +1,15 @@
 // The reply that is kept under an id.
-ghost use Rattle.std.specs.Prelude.{◌≡◌, false, pos, IfErr, IfOk, IfSome, OnErr, OnOk, option_map, string_bytes};
+ghost use Rattle.std.specs.Prelude.{◌≡◌, ◌≢◌, ℕ, Option, false, pos, IfErr, IfOk, IfSome, IfNone, OnErr, OnOk, option_map, string_bytes};
 ghost use Rattle.sqlite.specs.State.{HasCleanDisk, IsUnchanged, Survives};
 ghost use Rattle.sqlite.specs.Held.{state};
 ghost use Rattle.dict_tables.specs.Tables.{kept as kept_table};
 ghost use Rattle.dict_sql.specs.Effects.{Has, WhileOpen};
 ghost use Rattle.dict_records.specs.Typed.{owned_kept};
-ghost use Rattle.dict_catalogue.specs.Steps.{Catalogue, kept_under};
+ghost use Rattle.dict_catalogue.specs.Steps.{Catalogue, KeptFor, kept_under};
 ghost use Rattle.dict_catalogue.specs.Views.{kept_shown};
+ghost use Rattle.dict_catalogue.specs.declared.reply.Verb.{Verb as AVerb};
 ghost use Rattle.dict_rows.specs.Written.{kept_record, verb_name};
+ghost use Rattle.dict_file.specs.Faults.{fault_of_read, FailsToLookUp};
 ghost use Rattle.dict_file.specs.Holds.{Holds};
 ghost use Rattle.dict_commands.specs.Committed.{IsOfStore, Stays};
 
@@ -22,7 +24,8 @@ use std::alloc::{AllocError, Global};
 
 // The fault of a reading: refused memory, or the store failed.
 fn read_fault(error: ReadError) -> Fault
-    ensures { IsOfStore result }
+    ensures is { result ≡ fault_of_read error }
+    ensures kind { IsOfStore result }
 {
     match error {
         ReadError::NoRecord => Fault::Disk,
@@ -32,7 +35,8 @@ fn read_fault(error: ReadError) -> Fault
 
 // What a command did, by the word for it.
 fn verb_of(word: &str) -> Option<Verb>
-    ensures { IfSome result (λ verb. word.now ≡ verb_name verb) }
+    ensures told { IfSome result (λ verb. word.now ≡ verb_name verb) }
+    ensures none { IfNone result ((verb : AVerb) → word.now ≢ verb_name verb) }
 {
     match word {
         "install" => Some(Verb::Install),
@@ -46,7 +50,8 @@ fn verb_of(word: &str) -> Option<Verb>
 
 // The number that stands in a column, which is never below 0.
 fn number_of(found: &i64) -> Option<u64>
-    ensures { IfSome result (λ number. found.now ≡ pos number) }
+    ensures told { IfSome result (λ number. found.now ≡ pos number) }
+    ensures none { IfNone result ((number : ℕ) → found.now ≢ pos number) }
 {
     if *found < 0 {
         return None;
@@ -56,7 +61,8 @@ fn number_of(found: &i64) -> Option<u64>
 
 // The number that stands in a column, if one does.
 fn number_if(found: &Option<i64>) -> Option<Option<u64>>
-    ensures { IfSome result (λ number. found.now ≡ option_map pos number) }
+    ensures told { IfSome result (λ number. found.now ≡ option_map pos number) }
+    ensures none { IfNone result ((number : Option ℕ) → found.now ≢ option_map pos number) }
 {
     match found {
         Some(found) => Some(Some(number_of(found)?)),
@@ -66,7 +72,8 @@ fn number_if(found: &Option<i64>) -> Option<Option<u64>>
 
 // The parts of a reply but its name, if the record is one of a reply.
 fn parts_of(row: &KeptRow<String>) -> Option<(u64, Verb, Option<u64>)>
-    ensures { IfSome result (λ parts. (row.now.number ≡ pos parts.0) × (string_bytes row.now.verb ≡ verb_name parts.1) × (row.now.edition ≡ option_map pos parts.2)) }
+    ensures told { IfSome result (λ parts. (row.now.number ≡ pos parts.0) × (string_bytes row.now.verb ≡ verb_name parts.1) × (row.now.edition ≡ option_map pos parts.2)) }
+    ensures none { IfNone result ((number : ℕ) (verb : AVerb) (edition : Option ℕ) → row.now.number ≡ pos number → string_bytes row.now.verb ≡ verb_name verb → row.now.edition ≡ option_map pos edition → ⊥) }
 {
     let verb = verb_of(row.verb.as_str())?;
     let number = number_of(&row.number)?;
@@ -76,7 +83,8 @@ fn parts_of(row: &KeptRow<String>) -> Option<(u64, Verb, Option<u64>)>
 
 // The reply that the record keeps, if it is one of a reply.
 fn reply_of(alloc: Global, row: &KeptRow<String>) -> Result<Option<Kept>, AllocError>
-    ensures { IfOk result (λ found. IfSome found (λ reply. owned_kept row.now ≡ kept_record (record { id = string_bytes row.now.id; reply = kept_shown reply }))) }
+    ensures told { IfOk result (λ found. IfSome found (λ reply. owned_kept row.now ≡ kept_record (record { id = string_bytes row.now.id; reply = kept_shown reply }))) }
+    ensures none { IfOk result (λ found. IfNone found ((one : KeptFor) → owned_kept row.now ≢ kept_record one)) }
 {
     let Some((number, verb, edition)) = parts_of(row) else {
         return Ok(None);
@@ -92,7 +100,8 @@ fn reply_of(alloc: Global, row: &KeptRow<String>) -> Result<Option<Kept>, AllocE
 
 /// The reply that is kept under the id, if there is one. Nothing is written.
 ///
-/// `Memory` tells that a growth was refused. `Disk` tells that the store failed, or that a record is none of a reply.
+/// `Memory` tells that a growth was refused. `Disk` tells that the store failed, or that the limit on steps was met; or that
+/// a record is none of a reply, which it never is in a database that holds a catalogue.
 pub fn kept_reply<S: Alter>(
     alloc: Global,
     conn: &mut Connection<S>,
@@ -101,6 +110,7 @@ pub fn kept_reply<S: Alter>(
     requires { WhileOpen (state S.Store conn.old) (Has kept_table) }
     ensures value { HasCleanDisk (state S.Store conn.new) → IfOk result (λ reply. (version : _) (M : Catalogue) → Holds version (state S.Store conn.old).now M → option_map kept_shown reply ≡ kept_under M.kept id.now) }
     ensures same { HasCleanDisk (state S.Store conn.new) → OnOk result (IsUnchanged (state S.Store conn.old) (state S.Store conn.new)) }
+    ensures failed { HasCleanDisk (state S.Store conn.new) → IfErr result (FailsToLookUp (state S.Store conn.old) (state S.Store conn.new)) }
     ensures stays { HasCleanDisk (state S.Store conn.new) → OnErr result (Stays (state S.Store conn.old) (state S.Store conn.new)) }
     ensures kinds { IfErr result IsOfStore }
     ensures mode { conn.old.in_transaction ≡ false → conn.new.in_transaction ≡ false }

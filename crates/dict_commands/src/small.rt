@@ -1,5 +1,5 @@
 // The small tables, which are written anew where they change.
-ghost use Rattle.std.specs.Prelude.{◌≡◌, ◌≤◌, ◌++◌, [], ◌∷◌, OnOk, map};
+ghost use Rattle.std.specs.Prelude.{◌≡◌, ◌≤◌, ◌++◌, [], ◌∷◌, OnOk, map, true, IfErr};
 ghost use Rattle.std.specs.List.{AllByRecursion};
 ghost use Rattle.sqlite.specs.State.{HasCleanDisk, KeepsCommit, Survives};
 ghost use Rattle.dict_sql.specs.Effects.{WhileOpen, seen};
@@ -7,6 +7,7 @@ ghost use Rattle.dict_catalogue.specs.Items.{name_of, members_of, numbers_of};
 ghost use Rattle.dict_catalogue.specs.Views.{item_shown, texts_shown};
 ghost use Rattle.dict_rows.specs.Written.{numbered, mark_record, item_record, member_record};
 ghost use Rattle.dict_rows.specs.After.{all_members};
+ghost use Rattle.dict_file.specs.Writing.{FailsWithin};
 ghost use Rattle.dict_commands.specs.Kept.{Turns, IsUsable, IsStorable, AreStorable};
 ghost use Rattle.dict_commands.specs.Changes.{cleared, with_mark, with_items, with_members};
 
@@ -26,6 +27,8 @@ fn clear<S: Alter>(tx: &mut Transaction<'_, S>, table: StoreTable) -> Result<(),
     ensures same_reference { tx.new.conn.ghost_name ≡ tx.old.conn.ghost_name }
     ensures turns { HasCleanDisk (seen S.Store tx.new) → OnOk result (Turns (cleared table) (seen S.Store tx.old).now (seen S.Store tx.new).now) }
     ensures usable { OnOk result (WhileOpen (seen S.Store tx.new) IsUsable) }
+    ensures inside { HasCleanDisk (seen S.Store tx.new) → OnOk result ((seen S.Store tx.old).in_transaction ≡ true → (seen S.Store tx.new).in_transaction ≡ true) }
+    ensures failed { HasCleanDisk (seen S.Store tx.new) → IfErr result (FailsWithin S.Store tx.old.conn.now tx.new.conn.now) }
     ensures keeps { HasCleanDisk (seen S.Store tx.new) → KeepsCommit (seen S.Store tx.old) (seen S.Store tx.new) }
     ensures survives { Survives (seen S.Store tx.old) (seen S.Store tx.new) (λ _. ⊥) }
 {
@@ -40,6 +43,8 @@ fn add_mark<S: Alter>(tx: &mut Transaction<'_, S>, installs: u64) -> Result<(), 
     ensures same_reference { tx.new.conn.ghost_name ≡ tx.old.conn.ghost_name }
     ensures turns { HasCleanDisk (seen S.Store tx.new) → OnOk result (Turns (λ tables. record tables { marks = tables.marks ++ mark_record 1 installs ∷ [] }) (seen S.Store tx.old).now (seen S.Store tx.new).now) }
     ensures usable { OnOk result (WhileOpen (seen S.Store tx.new) IsUsable) }
+    ensures inside { HasCleanDisk (seen S.Store tx.new) → OnOk result ((seen S.Store tx.old).in_transaction ≡ true → (seen S.Store tx.new).in_transaction ≡ true) }
+    ensures failed { HasCleanDisk (seen S.Store tx.new) → IfErr result (FailsWithin S.Store tx.old.conn.now tx.new.conn.now) }
     ensures keeps { HasCleanDisk (seen S.Store tx.new) → KeepsCommit (seen S.Store tx.old) (seen S.Store tx.new) }
     ensures survives { Survives (seen S.Store tx.old) (seen S.Store tx.new) (λ _. ⊥) }
 {
@@ -55,6 +60,8 @@ pub(crate) fn write_mark<S: Alter>(tx: &mut Transaction<'_, S>, installs: u64) -
     ensures same_reference { tx.new.conn.ghost_name ≡ tx.old.conn.ghost_name }
     ensures turns { HasCleanDisk (seen S.Store tx.new) → OnOk result (Turns (with_mark installs) (seen S.Store tx.old).now (seen S.Store tx.new).now) }
     ensures usable { OnOk result (WhileOpen (seen S.Store tx.new) IsUsable) }
+    ensures inside { HasCleanDisk (seen S.Store tx.new) → OnOk result ((seen S.Store tx.old).in_transaction ≡ true → (seen S.Store tx.new).in_transaction ≡ true) }
+    ensures failed { HasCleanDisk (seen S.Store tx.new) → IfErr result (FailsWithin S.Store tx.old.conn.now tx.new.conn.now) }
     ensures keeps { HasCleanDisk (seen S.Store tx.new) → KeepsCommit (seen S.Store tx.old) (seen S.Store tx.new) }
     ensures survives { Survives (seen S.Store tx.old) (seen S.Store tx.new) (λ _. ⊥) }
 {
@@ -71,6 +78,8 @@ fn add_item<S: Alter>(tx: &mut Transaction<'_, S>, place: u64, item: &Item) -> R
     ensures same_reference { tx.new.conn.ghost_name ≡ tx.old.conn.ghost_name }
     ensures turns { HasCleanDisk (seen S.Store tx.new) → OnOk result (Turns (λ tables. record tables { items = tables.items ++ item_record place (item_shown item.now) ∷ [] }) (seen S.Store tx.old).now (seen S.Store tx.new).now) }
     ensures usable { OnOk result (WhileOpen (seen S.Store tx.new) IsUsable) }
+    ensures inside { HasCleanDisk (seen S.Store tx.new) → OnOk result ((seen S.Store tx.old).in_transaction ≡ true → (seen S.Store tx.new).in_transaction ≡ true) }
+    ensures failed { HasCleanDisk (seen S.Store tx.new) → IfErr result (FailsWithin S.Store tx.old.conn.now tx.new.conn.now) }
     ensures keeps { HasCleanDisk (seen S.Store tx.new) → KeepsCommit (seen S.Store tx.old) (seen S.Store tx.new) }
     ensures survives { Survives (seen S.Store tx.old) (seen S.Store tx.new) (λ _. ⊥) }
 {
@@ -86,6 +95,8 @@ fn add_items<S: Alter>(tx: &mut Transaction<'_, S>, items: &[Item]) -> Result<()
     ensures same_reference { tx.new.conn.ghost_name ≡ tx.old.conn.ghost_name }
     ensures turns { HasCleanDisk (seen S.Store tx.new) → OnOk result (Turns (λ tables. record tables { items = tables.items ++ numbered item_record 0 (map item_shown items.now) }) (seen S.Store tx.old).now (seen S.Store tx.new).now) }
     ensures usable { OnOk result (WhileOpen (seen S.Store tx.new) IsUsable) }
+    ensures inside { HasCleanDisk (seen S.Store tx.new) → OnOk result ((seen S.Store tx.old).in_transaction ≡ true → (seen S.Store tx.new).in_transaction ≡ true) }
+    ensures failed { HasCleanDisk (seen S.Store tx.new) → IfErr result (FailsWithin S.Store tx.old.conn.now tx.new.conn.now) }
     ensures keeps { HasCleanDisk (seen S.Store tx.new) → KeepsCommit (seen S.Store tx.old) (seen S.Store tx.new) }
     ensures survives { Survives (seen S.Store tx.old) (seen S.Store tx.new) (λ _. ⊥) }
 {
@@ -105,6 +116,8 @@ pub(crate) fn write_items<S: Alter>(
     ensures same_reference { tx.new.conn.ghost_name ≡ tx.old.conn.ghost_name }
     ensures turns { HasCleanDisk (seen S.Store tx.new) → OnOk result (Turns (with_items (map item_shown items.now)) (seen S.Store tx.old).now (seen S.Store tx.new).now) }
     ensures usable { OnOk result (WhileOpen (seen S.Store tx.new) IsUsable) }
+    ensures inside { HasCleanDisk (seen S.Store tx.new) → OnOk result ((seen S.Store tx.old).in_transaction ≡ true → (seen S.Store tx.new).in_transaction ≡ true) }
+    ensures failed { HasCleanDisk (seen S.Store tx.new) → IfErr result (FailsWithin S.Store tx.old.conn.now tx.new.conn.now) }
     ensures keeps { HasCleanDisk (seen S.Store tx.new) → KeepsCommit (seen S.Store tx.old) (seen S.Store tx.new) }
     ensures survives { Survives (seen S.Store tx.old) (seen S.Store tx.new) (λ _. ⊥) }
 {
@@ -125,6 +138,8 @@ fn add_member<S: Alter>(
     ensures same_reference { tx.new.conn.ghost_name ≡ tx.old.conn.ghost_name }
     ensures turns { HasCleanDisk (seen S.Store tx.new) → OnOk result (Turns (λ tables. record tables { members = tables.members ++ member_record owner.now ord name.now ∷ [] }) (seen S.Store tx.old).now (seen S.Store tx.new).now) }
     ensures usable { OnOk result (WhileOpen (seen S.Store tx.new) IsUsable) }
+    ensures inside { HasCleanDisk (seen S.Store tx.new) → OnOk result ((seen S.Store tx.old).in_transaction ≡ true → (seen S.Store tx.new).in_transaction ≡ true) }
+    ensures failed { HasCleanDisk (seen S.Store tx.new) → IfErr result (FailsWithin S.Store tx.old.conn.now tx.new.conn.now) }
     ensures keeps { HasCleanDisk (seen S.Store tx.new) → KeepsCommit (seen S.Store tx.old) (seen S.Store tx.new) }
     ensures survives { Survives (seen S.Store tx.old) (seen S.Store tx.new) (λ _. ⊥) }
 {
@@ -143,6 +158,8 @@ fn add_members<S: Alter>(
     ensures same_reference { tx.new.conn.ghost_name ≡ tx.old.conn.ghost_name }
     ensures turns { HasCleanDisk (seen S.Store tx.new) → OnOk result (Turns (λ tables. record tables { members = tables.members ++ numbered (member_record owner.now) 0 (texts_shown members.now) }) (seen S.Store tx.old).now (seen S.Store tx.new).now) }
     ensures usable { OnOk result (WhileOpen (seen S.Store tx.new) IsUsable) }
+    ensures inside { HasCleanDisk (seen S.Store tx.new) → OnOk result ((seen S.Store tx.old).in_transaction ≡ true → (seen S.Store tx.new).in_transaction ≡ true) }
+    ensures failed { HasCleanDisk (seen S.Store tx.new) → IfErr result (FailsWithin S.Store tx.old.conn.now tx.new.conn.now) }
     ensures keeps { HasCleanDisk (seen S.Store tx.new) → KeepsCommit (seen S.Store tx.old) (seen S.Store tx.new) }
     ensures survives { Survives (seen S.Store tx.old) (seen S.Store tx.new) (λ _. ⊥) }
 {
@@ -158,6 +175,8 @@ fn add_members_of<S: Alter>(tx: &mut Transaction<'_, S>, item: &Item) -> Result<
     ensures same_reference { tx.new.conn.ghost_name ≡ tx.old.conn.ghost_name }
     ensures turns { HasCleanDisk (seen S.Store tx.new) → OnOk result (Turns (λ tables. record tables { members = tables.members ++ numbered (member_record (name_of (item_shown item.now))) 0 (members_of (item_shown item.now)) }) (seen S.Store tx.old).now (seen S.Store tx.new).now) }
     ensures usable { OnOk result (WhileOpen (seen S.Store tx.new) IsUsable) }
+    ensures inside { HasCleanDisk (seen S.Store tx.new) → OnOk result ((seen S.Store tx.old).in_transaction ≡ true → (seen S.Store tx.new).in_transaction ≡ true) }
+    ensures failed { HasCleanDisk (seen S.Store tx.new) → IfErr result (FailsWithin S.Store tx.old.conn.now tx.new.conn.now) }
     ensures keeps { HasCleanDisk (seen S.Store tx.new) → KeepsCommit (seen S.Store tx.old) (seen S.Store tx.new) }
     ensures survives { Survives (seen S.Store tx.old) (seen S.Store tx.new) (λ _. ⊥) }
 {
@@ -176,6 +195,8 @@ fn add_all_members<S: Alter>(tx: &mut Transaction<'_, S>, items: &[Item]) -> Res
     ensures same_reference { tx.new.conn.ghost_name ≡ tx.old.conn.ghost_name }
     ensures turns { HasCleanDisk (seen S.Store tx.new) → OnOk result (Turns (λ tables. record tables { members = tables.members ++ all_members (map item_shown items.now) }) (seen S.Store tx.old).now (seen S.Store tx.new).now) }
     ensures usable { OnOk result (WhileOpen (seen S.Store tx.new) IsUsable) }
+    ensures inside { HasCleanDisk (seen S.Store tx.new) → OnOk result ((seen S.Store tx.old).in_transaction ≡ true → (seen S.Store tx.new).in_transaction ≡ true) }
+    ensures failed { HasCleanDisk (seen S.Store tx.new) → IfErr result (FailsWithin S.Store tx.old.conn.now tx.new.conn.now) }
     ensures keeps { HasCleanDisk (seen S.Store tx.new) → KeepsCommit (seen S.Store tx.old) (seen S.Store tx.new) }
     ensures survives { Survives (seen S.Store tx.old) (seen S.Store tx.new) (λ _. ⊥) }
 {
@@ -194,6 +215,8 @@ pub(crate) fn write_members<S: Alter>(
     ensures same_reference { tx.new.conn.ghost_name ≡ tx.old.conn.ghost_name }
     ensures turns { HasCleanDisk (seen S.Store tx.new) → OnOk result (Turns (with_members (map item_shown items.now)) (seen S.Store tx.old).now (seen S.Store tx.new).now) }
     ensures usable { OnOk result (WhileOpen (seen S.Store tx.new) IsUsable) }
+    ensures inside { HasCleanDisk (seen S.Store tx.new) → OnOk result ((seen S.Store tx.old).in_transaction ≡ true → (seen S.Store tx.new).in_transaction ≡ true) }
+    ensures failed { HasCleanDisk (seen S.Store tx.new) → IfErr result (FailsWithin S.Store tx.old.conn.now tx.new.conn.now) }
     ensures keeps { HasCleanDisk (seen S.Store tx.new) → KeepsCommit (seen S.Store tx.old) (seen S.Store tx.new) }
     ensures survives { Survives (seen S.Store tx.old) (seen S.Store tx.new) (λ _. ⊥) }
 {

@@ -1,3 +1,6 @@
 pub mod KeepLemmas
 pub mod CommitLemmas
 pub mod ReadLemmas
+pub mod ReadableLemmas
+pub mod FailLemmas
+pub mod WithinLemmas

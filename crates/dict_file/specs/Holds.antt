@@ -11,6 +11,7 @@ use Rattle.dict_tables.specs.Tables.{table_of, store_tables}
 use Rattle.dict_tables.specs.Names.{has_prefixed}
 use Rattle.dict_tables.specs.Room.{HasRoom}
 use Rattle.dict_sql.specs.Effects.{HasApartRowids, rows_of}
+use Rattle.dict_sql.specs.Columns.{HasColumns, mark_columns, item_columns, member_columns, edition_columns, entry_columns, kept_columns}
 use Rattle.dict_sql.specs.Encodings.{mark_row, item_row, member_row, edition_row, entry_row, kept_row}
 use Rattle.dict_catalogue.specs.Steps.{Catalogue}
 use Rattle.dict_rows.specs.Tables.{Tables}
@@ -36,6 +37,19 @@ pub record Holds (version : ℕ) (db : Database) (M : Catalogue) : Type 0 where
   pub tables : Tables
   pub keeps : KeepsAll db tables
   pub stands : Stands version tables M
+
+-- the database holds no catalogue
+abbrev pub HoldsNone : Database → Type 0
+HoldsNone db = (M : Catalogue) → Holds 1 db M → ⊥
+
+-- each row of each table stands for a record: above all, each text is UTF-8
+pub record HasReadableRows (db : Database) : Type 0 where
+  pub marks : AllByRecursion (HasColumns mark_columns) (rows_of (codes "mark") db)
+  pub items : AllByRecursion (HasColumns item_columns) (rows_of (codes "item") db)
+  pub members : AllByRecursion (HasColumns member_columns) (rows_of (codes "member") db)
+  pub editions : AllByRecursion (HasColumns edition_columns) (rows_of (codes "edition") db)
+  pub entries : AllByRecursion (HasColumns entry_columns) (rows_of (codes "entry") db)
+  pub kept : AllByRecursion (HasColumns kept_columns) (rows_of (codes "kept") db)
 
 -- the store is open, what it shows is committed, and holds the catalogue
 pub record Rests (version : ℕ) (s : State) (M : Catalogue) : Type 0 where

@@ -1,5 +1,5 @@
 // A store is made in a database.
-ghost use Rattle.std.specs.Prelude.{◌≡◌, ◌↔◌, false, IsTrue, IfErr, OnOk, Err};
+ghost use Rattle.std.specs.Prelude.{◌≡◌, ◌≢◌, ◌↔◌, true, false, IsTrue, IfErr, OnOk, OnErr, Err};
 ghost use Rattle.sqlite.specs.Effect.{Database, IsDatabase};
 ghost use Rattle.sqlite.specs.State.{HasCleanDisk, KeepsCommit, Survives};
 ghost use Rattle.sqlite.specs.Held.{state};
@@ -9,6 +9,7 @@ ghost use Rattle.dict_sql.specs.Creates.{AreMade, IsReady};
 ghost use Rattle.dict_catalogue.specs.Steps.{empty_catalogue};
 ghost use Rattle.dict_desk.specs.Faults.{is_disk};
 ghost use Rattle.dict_file.specs.Holds.{Holds, Rests, IsLeft, HasPlace};
+ghost use Rattle.dict_file.specs.Writing.{Stays, FailsWithin, FailsToEnd, IsOfCreation};
 
 use crate::fault::fault_of;
 use dict_desk::Fault;
@@ -29,6 +30,8 @@ fn add_mark<S: Alter>(tx: &mut Transaction<'_, S>) -> Result<(), Error>
     ensures same_reference { tx.new.conn.ghost_name ≡ tx.old.conn.ghost_name }
     ensures marked { HasCleanDisk (seen S.Store tx.new) → OnOk result ((before : Database) → AreMade store_tables before (seen S.Store tx.old).now → Holds 1 (seen S.Store tx.new).now empty_catalogue) }
     ensures sound { HasCleanDisk (seen S.Store tx.new) → OnOk result (IsDatabase (seen S.Store tx.new).now) }
+    ensures inside { HasCleanDisk (seen S.Store tx.new) → OnOk result ((seen S.Store tx.new).in_transaction ≡ true) }
+    ensures failed { HasCleanDisk (seen S.Store tx.new) → IfErr result (FailsWithin S.Store tx.old.conn.now tx.new.conn.now) }
     ensures keeps { HasCleanDisk (seen S.Store tx.new) → KeepsCommit (seen S.Store tx.old) (seen S.Store tx.new) }
     ensures survives { Survives (seen S.Store tx.old) (seen S.Store tx.new) (λ _. ⊥) }
 {
@@ -42,6 +45,8 @@ fn make_all<S: Alter>(tx: &mut Transaction<'_, S>) -> Result<(), Error>
     requires { WhileOpen (seen S.Store tx.old) IsReady }
     ensures same_reference { tx.new.conn.ghost_name ≡ tx.old.conn.ghost_name }
     ensures made { HasCleanDisk (seen S.Store tx.new) → OnOk result (Holds 1 (seen S.Store tx.new).now empty_catalogue × IsDatabase (seen S.Store tx.new).now) }
+    ensures inside { HasCleanDisk (seen S.Store tx.new) → OnOk result ((seen S.Store tx.new).in_transaction ≡ true) }
+    ensures failed { HasCleanDisk (seen S.Store tx.new) → IfErr result (FailsWithin S.Store tx.old.conn.now tx.new.conn.now) }
     ensures keeps { HasCleanDisk (seen S.Store tx.new) → KeepsCommit (seen S.Store tx.old) (seen S.Store tx.new) }
     ensures survives { Survives (seen S.Store tx.old) (seen S.Store tx.new) (λ _. ⊥) }
 {
@@ -60,7 +65,8 @@ fn has_place(schema: &Schema) -> bool
 ///
 /// `NotACatalogue` tells that there is no place for them: one of their names is in use, or a name that is kept for the
 /// product, or a table waits for its counter. `Memory` tells that a growth was refused before the commit. After both all
-/// is as it was. `Disk` tells that the store failed: once it is opened anew, the tables are there whole or not at all.
+/// is as it was. `Disk` tells that a statement failed for another cause, or that the commit did for any: once the file is
+/// opened anew, the tables are there whole or not at all. These are all faults of it.
 pub fn create<S: Alter>(conn: &mut Connection<S>) -> Result<(), Fault>
     requires { conn.old.in_transaction ≡ false }
     ensures rests { HasCleanDisk (state S.Store conn.new) → OnOk result (Rests 1 (state S.Store conn.new) empty_catalogue) }
@@ -70,6 +76,9 @@ pub fn create<S: Alter>(conn: &mut Connection<S>) -> Result<(), Fault>
     ensures unchanged { result ≡ Err Fault.NotACatalogue → conn.new ≡ conn.old }
     ensures adds_none { IfErr result (λ fault. is_disk fault ≡ false → Survives (state S.Store conn.old) (state S.Store conn.new) (λ _. ⊥)) }
     ensures undone { HasCleanDisk (state S.Store conn.new) → IfErr result (λ fault. is_disk fault ≡ false → IsTrue (state S.Store conn.new).is_open → (state S.Store conn.new).committed ≡ (state S.Store conn.old).committed) }
+    ensures stays { HasCleanDisk (state S.Store conn.new) → OnErr result (Stays (state S.Store conn.old) (state S.Store conn.new)) }
+    ensures failed { HasCleanDisk (state S.Store conn.new) → IfErr result (λ fault. fault ≢ Fault.NotACatalogue → FailsToEnd S.Store (λ db. Holds 1 db empty_catalogue) conn.old conn.new fault) }
+    ensures kinds { IfErr result IsOfCreation }
     ensures autocommit { (state S.Store conn.new).in_transaction ≡ false }
     ensures crash { Survives (state S.Store conn.old) (state S.Store conn.new) (IsLeft 1 empty_catalogue) }
 {

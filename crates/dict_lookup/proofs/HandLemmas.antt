@@ -1,5 +1,5 @@
 -- What is handed out, as entries come one by one.
-use Rattle.std.proofs.Common.{◌≡◌, ℕ, true, false, Bool, cond, not, ◌||◌, List, [], ◌∷◌, ◌++◌, map, refl, sym, ap, subst, ◌∙◌, append_assoc, append-nil, bytes_eq, arith}
+use Rattle.std.proofs.Common.{◌≡◌, ℕ, ◌≤◌, inl, inr, length, true, false, Bool, cond, not, ◌||◌, List, [], ◌∷◌, ◌++◌, map, refl, sym, ap, subst, ◌∙◌, append_assoc, append-nil, bytes_eq, arith}
 use Rattle.std.specs.Prelude.{filter, Result, Ok, Err, IsErrAnd, Option, Some, None, MatchOption, String}
 use Rattle.std.specs.BTreeSet.{BTreeSet, contains_text}
 use Rattle.std.specs.declared.alloc.Global.{Global}
@@ -8,7 +8,7 @@ use Rattle.std.proofs.lemmas.Cmp.{nat_list_eq_equiv}
 use Rattle.std.proofs.lemmas.Slice.Eq.{bytes_eq-Decides}
 use Rattle.std.proofs.lemmas.List.Folds.{list_any-append}
 use Rattle.std.specs.List.{list_any}
-use Rattle.std.proofs.lemmas.List.{map-append}
+use Rattle.std.proofs.lemmas.List.{map-append, length-append, length-map}
 use Rattle.std.proofs.lemmas.List.Elements.{filter-append}
 use Rattle.sqlite.specs.State.{HasCleanDisk, IsUnchanged, Survives}
 use Rattle.sqlite.specs.Held.{Held, state}
@@ -23,13 +23,15 @@ use Rattle.dict_index.specs.Edition.{Entry}
 use Rattle.dict_desk.specs.Found.{is_found, is_headword_found, distinct}
 use Rattle.dict_desk.specs.Handing.{Hands}
 use Rattle.dict_desk.specs.declared.fault.Fault.{Fault}
+use Rattle.dict_desk.specs.declared.fault.Fault.TheVariants.{Disk}
 use Rattle.dict_desk.specs.declared.sink.Turn.{Turn}
 use Rattle.dict_desk.specs.declared.sink.Turn.TheVariants.{More, Stop}
 use Rattle.dict_desk.specs.declared.lookup.End.TheVariants.{All, Stopped}
 use Rattle.dict_desk.proofs.HandingLemmas.{hands_all, hands_stopped, hands_front}
 use Rattle.dict_lookup.specs.Lookups.{IsReading, IsToCome, FailsToLookUp}
 use Rattle.dict_lookup.specs.Handed.{entry_cut, rows_found, headwords_found, headword_row, rows_listed, rows_new, HasTexts}
-use Rattle.dict_lookup.proofs.StateLemmas.{fails_behind}
+use Rattle.dict_file.proofs.FailLemmas.{fails_behind}
+use Rattle.dict_lookup.proofs.StreamLemmas.{some_to_come}
 
 -- the rows of a front are a front of the rows
 abbrev pub HasFronts : (List spec.Entry → List Entry) → Type 0
@@ -40,6 +42,36 @@ found_more text strategy query xs ys = ap (filter (is_found strategy query)) (ma
 
 pub found_fronts : (text : List ℕ) (strategy : Strategy) (query : List ℕ) → HasFronts (rows_found text strategy query)
 found_fronts text strategy query xs ys = (rows_found text strategy query ys, found_more text strategy query xs ys)
+
+few_passed : {X : Type 0} (test : X → Bool) (xs : List X) → length (filter test xs) ≤ length xs
+few_passed test [] = omega arith
+few_passed test (x ∷ xs) = by_test (test x) (few_passed test xs)
+  where
+    by_test : (b : Bool) → length (filter test xs) ≤ length xs → length (cond b (x ∷ filter test xs) (filter test xs)) ≤ length (x ∷ xs)
+    by_test true few = omega (arith, few)
+    by_test false few = omega (arith, few)
+
+few_distinct : (texts : List (List ℕ)) → length (distinct texts) ≤ length texts
+few_distinct [] = omega arith
+few_distinct (text ∷ texts) =
+    let passed = few_passed (λ other. not (bytes_eq other text)) (distinct texts) in
+    let few = few_distinct texts in
+    omega (arith, passed, few)
+
+-- no more rows than entries
+pub few_found : (text : List ℕ) (strategy : Strategy) (query : List ℕ) (entries : List spec.Entry) → length entries ≤ 65535 → length (rows_found text strategy query entries) ≤ 65535
+few_found text strategy query entries few =
+    let passed = few_passed (is_found strategy query) (map (entry_cut text) entries) in
+    let all = length-map entries (entry_cut text) in
+    omega (arith, passed, all, few)
+
+pub few_listed : (strategy : Strategy) (query : List ℕ) (entries : List spec.Entry) → length entries ≤ 65535 → length (rows_listed strategy query entries) ≤ 65535
+few_listed strategy query entries few =
+    let rows = length-map (distinct (headwords_found strategy query entries)) headword_row in
+    let once = few_distinct (headwords_found strategy query entries) in
+    let passed = few_passed (is_headword_found strategy query) (map (λ (one : spec.Entry). one.headword) entries) in
+    let all = length-map entries (λ (one : spec.Entry). one.headword) in
+    omega (arith, rows, once, passed, all, few)
 
 pub headwords_more : (strategy : Strategy) (query : List ℕ) (xs ys : List spec.Entry) → headwords_found strategy query (xs ++ ys) ≡ headwords_found strategy query xs ++ headwords_found strategy query ys
 headwords_more strategy query xs ys =
@@ -245,7 +277,7 @@ module _ {S K : Type 0} (g : Ghosts S) (takes stops : K → List Entry → K →
         hands_front takes stops first after fault (chosen all) (chosen known.0) behind.0 (ap chosen known.2 ∙ behind.1) (subst (λ k. takes first (chosen known.0) k) there known.4)
 
     pub fails_both : (fault : Fault) → FailsToLookUp (state g now) (state g next) fault → HasCleanDisk (state g next) → FailsToLookUp (state g start) (state g next) fault
-    fails_both fault fails clean = fails_behind (state g start) (state g now) (state g next) (goes.same (before clean)) goes.survives.counts fault fails
+    fails_both fault fails clean = fails_behind (state g start) (state g now) (state g next) (goes.same (before clean)) goes.survives fault fails
 
   -- it went no further
   pub front_now : (Knows : List spec.Entry → Type 0) (now : Held S) (last : K) → Goes Knows now last → HasFronts chosen → (fault : Fault) → HasCleanDisk (state g now) → (all : List spec.Entry) → IsToCome g start all → Hands takes stops first last (chosen all) (Err fault)
@@ -253,6 +285,21 @@ module _ {S K : Type 0} (g : Ghosts S) (takes stops : K → List Entry → K →
       let known = goes.value clean all comes in
       let behind = fronts known.0 known.1 in
       hands_front takes stops first last fault (chosen all) (chosen known.0) behind.0 (ap chosen known.2 ∙ behind.1) known.4
+
+  -- so many entries are no catalogue's
+  pub too_many : (Knows : List spec.Entry → Type 0) (now : Held S) (last : K) → Goes Knows now last → (HasCleanDisk (state g start) → IsReading g start) → ((done : List spec.Entry) → Knows done → 65536 ≤ length done) → HasCleanDisk (state g now) → FailsToLookUp (state g start) (state g now) Disk
+  too_many Knows now last goes reads many clean = inl (
+    goes.same clean,
+    inr (λ M holds.
+        let first : HasCleanDisk (state g start) = omega (arith, goes.survives.clean, clean) in
+        let all = some_to_come g start (reads first) M holds in
+        let known = goes.value clean all.0 all.1 in
+        let size = ap length known.2 in
+        let parts = length-append known.0 known.1 in
+        let more = many known.0 known.5 in
+        let few = all.2 in
+        absurd (omega (arith, size, parts, more, few))),
+  )
 
   pub some_all : (last : K) → (rows : List Entry) × takes first rows last → (all : List Entry) × Hands takes stops first last all (Ok All)
   some_all last taken = (taken.0, hands_all takes stops first last taken.0 taken.1)

@@ -175,13 +175,13 @@ entries_order a b read_a read_b h =
     (subst (λ v. is_lt (ordering_then (value_cmp (Int (decode_entry (drop 1 b)).ord) v) Equal) ≡ false) one (subst (λ v. is_lt (ordering_then (value_cmp v (column a 2)) Equal) ≡ false) two h))
 
 -- the entries of a number, read in order
-pub entries_read : (db : Database) (entries : List Entry) (number : ℕ) (lines : List Line) (rows : List Row) → Keeps (codes "entry") entry_row db entries → entries_of (pos number) entries ≡ numbered (entry_record number) 0 lines
-    → IsSelection (codes "entry") (equals_number 1 (pos number)) (2 ∷ []) db rows → map entry_in rows ≡ numbered (entry_record number) 0 lines
-entries_read db entries number lines rows k are sel =
+pub entries_read : (db : Database) (entries : List Entry) (z : ℤ) (number : ℕ) (lines : List Line) (rows : List Row) → Keeps (codes "entry") entry_row db entries → entries_of z entries ≡ numbered (entry_record number) 0 lines
+    → IsSelection (codes "entry") (equals_number 1 z) (2 ∷ []) db rows → map entry_in rows ≡ numbered (entry_record number) 0 lines
+entries_read db entries z number lines rows k are sel =
     let decoded : List Entry = map (λ r. decode_entry (drop 1 r)) rows in
     let all = numbered (entry_record number) 0 lines in
-    let same : IsPermutation all decoded = subst (λ l. IsPermutation l decoded) are (selected (codes "entry") entry_row decode_entry (λ r. refl) db entries k (equals_number 1 (pos number)) (λ e. same_number e.edition (pos number)) (entry_test (pos number)) (2 ∷ []) rows sel) in
-    let read = selected_read (codes "entry") entry_row decode_entry (λ r. refl) db entries k (equals_number 1 (pos number)) (λ e. same_number e.edition (pos number)) (entry_test (pos number)) (2 ∷ []) rows sel in
+    let same : IsPermutation all decoded = subst (λ l. IsPermutation l decoded) are (selected (codes "entry") entry_row decode_entry (λ r. refl) db entries k (equals_number 1 z) (λ e. same_number e.edition z) (entry_test z) (2 ∷ []) rows sel) in
+    let read = selected_read (codes "entry") entry_row decode_entry (λ r. refl) db entries k (equals_number 1 z) (λ e. same_number e.edition z) (entry_test z) (2 ∷ []) rows sel in
     let rising : InOrder (λ (a b : Entry). a.ord ≤ℤ b.ord) decoded = order_mapped (λ r. drop 1 r ≡ entry_row (decode_entry (drop 1 r))) (λ r. decode_entry (drop 1 r)) (λ a b. is_lt (by_columns (2 ∷ []) b a) ≡ false) (λ (a b : Entry). a.ord ≤ℤ b.ord)
     entries_order rows read (sorted_order (2 ∷ []) rows sel.sorted) in
     sym (entries_behind rows) ∙ sym (ordered_once (λ (e : Entry). e.ord) all decoded (same_from all decoded same) (numbered_rise (entry_record number) (λ (e : Entry). e.ord) (λ n x. refl) 0 lines) rising)

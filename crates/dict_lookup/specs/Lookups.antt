@@ -1,11 +1,9 @@
 -- What a lookup asks of a database, what it reads there, and how it leaves it.
-use Rattle.std.specs.Prelude.{◌≡◌, ◌⊎◌, ◌≤◌, IsTrue, ℕ, ℤ, pos, List, [], ◌∷◌, ◌++◌, codes, map}
-use Rattle.sqlite.specs.declared.error.Error.{Error}
+use Rattle.std.specs.Prelude.{◌≡◌, ◌≤◌, IsTrue, ℕ, ℤ, pos, List, [], ◌∷◌, ◌++◌, codes, map}
 use Rattle.sqlite.specs.declared.types.Value.{Value}
 use Rattle.sqlite.specs.declared.types.Value.TheVariants.{Int, Text}
 use Rattle.sqlite.specs.Order.{Row, column}
 use Rattle.sqlite.specs.Effect.{Database}
-use Rattle.sqlite.specs.State.{State, IsUnchanged, Fails}
 use Rattle.sqlite.specs.Held.{Held, state}
 use Rattle.sqlite_trees.specs.declared.store.Store.{Ghosts}
 use Rattle.dict_records.specs.Records.{Edition, Entry}
@@ -14,24 +12,17 @@ use Rattle.dict_sql.specs.Effects.{Has}
 use Rattle.dict_sql.specs.Encodings.{edition_row, entry_row}
 use Rattle.dict_sql.specs.Streams.{HasGiven, IsWhole}
 use Rattle.dict_sql.specs.Streams.Scan.{EntriesOf}
-use Rattle.dict_sql.specs.declared.records.ReadError.{ReadError}
-use Rattle.dict_sql.specs.declared.records.ReadError.TheVariants.{NoRecord, Store}
 use Rattle.dict_index.specs.Edition.{ReadEdition}
 use Rattle.dict_rows.specs.Tables.{editions_numbered, entries_of}
 use Rattle.dict_rows.specs.Written.{numbered, edition_record, entry_record}
 use Rattle.dict_desk.specs.declared.fault.Fault.{Fault}
 use Rattle.dict_desk.specs.declared.fault.Fault.TheVariants.{Refused, Memory, Disk, Closed, NotACatalogue, Damaged, NewerSchema}
-use Rattle.dict_file.specs.Faults.{fault_of}
+pub use Rattle.dict_file.specs.Faults.{fault_of_read, FailsToLookUp}
 use Rattle.dict_file.specs.Holds.{Keeps}
 
 -- the tables that a lookup reads
 abbrev pub HasTables : Database → Type 0
 HasTables db = Has edition db × Has entry db
-
--- the fault of a read: a row that is no record is the store's failure too
-abbrev pub fault_of_read : ReadError → Fault
-fault_of_read NoRecord = Disk
-fault_of_read (Store e) = fault_of e
 
 -- the faults of a lookup over an open store
 abbrev pub IsOfStore : Fault → Type 0
@@ -42,10 +33,6 @@ IsOfStore Closed = ⊥
 IsOfStore NotACatalogue = ⊥
 IsOfStore Damaged = ⊥
 IsOfStore NewerSchema = ⊥
-
--- A lookup failed: the store did, and shows what was committed; or nothing has changed.
-abbrev pub FailsToLookUp : State → State → Fault → Type 0
-FailsToLookUp old new fault = IsUnchanged old new ⊎ ((e : Error) × (fault ≡ fault_of e) × Fails old new ⊥ e)
 
 -- The database holds this edition under this number: one record has the number, and the entries that have it are the
 -- lines of the edition, by the places at which they stand.

@@ -8,12 +8,13 @@ pub(crate) struct Counter {
 }
 
 impl RowSink for Counter {
-    ghost use Rattle.std.specs.Prelude.{◌≡◌, ◌+◌, length};
-    ghost use Rattle.dict_lookup.specs.CountLemmas.{counted_none, counted_more};
+    ghost use Rattle.std.specs.Prelude.{◌≡◌, ◌+◌, ◌≤◌, length};
+    ghost use Rattle.dict_lookup.specs.CountLemmas.{counted_none, counted_more, counted_stopped};
 
     ghost takes = { λ old rows new. new.count ≡ old.count + length rows };
 
-    ghost stops = { λ old rows new. Unit {0} };
+    // Only a count that is as high as a number goes stops it.
+    ghost stops = { λ old rows new. 18446744073709551615 ≤ old.count + length rows };
 
     fn take(&mut self, headword: &str, body: &[u8]) -> Turn {
         if self.count == u64::MAX {
@@ -27,5 +28,5 @@ impl RowSink for Counter {
 
     ghost joined = { λ a b c rows more one two. counted_more a.count b.count c.count rows more one two };
 
-    ghost stopped = { λ a b c rows more rest one two. tt };
+    ghost stopped = { λ a b c rows more rest one two. counted_stopped a.count b.count rows more rest one two };
 }

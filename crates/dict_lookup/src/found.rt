@@ -56,7 +56,7 @@ pub(crate) fn hand_found<S: Alter, T: RowSink>(
     ensures mode { rows.old.conn.now.in_transaction ≡ false → rows.new.conn.now.in_transaction ≡ false }
     ensures survives { Survives (state S.Store rows.old.conn.now) (state S.Store rows.new.conn.now) (λ _. ⊥) }
 {
-    'entries: for _ in 0..u64::MAX {
+    'entries: for _turn in 0..u64::MAX {
         let Some(entry) = next_entry(rows)? else {
             return Ok(End::All);
         };

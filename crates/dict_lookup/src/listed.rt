@@ -77,7 +77,7 @@ pub(crate) fn hand_listed<S: Alter, T: RowSink>(
 {
     distinct_law();
     let mut seen = BTreeSet::new(alloc);
-    'entries: for _ in 0..u64::MAX {
+    'entries: for _turn in 0..u64::MAX {
         let Some(entry) = next_entry(rows)? else {
             return Ok(End::All);
         };

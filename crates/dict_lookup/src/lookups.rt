@@ -1,5 +1,5 @@
 // What is asked of an edition by its number.
-ghost use Rattle.std.specs.Prelude.{◌≡◌, false, List, IfOk, IfErr, IsErr, OnOk};
+ghost use Rattle.std.specs.Prelude.{◌≡◌, ◌≤◌, length, false, List, IfOk, IfErr, IsErr, OnOk};
 ghost use Rattle.sqlite.specs.State.{HasCleanDisk, IsUnchanged, Survives};
 ghost use Rattle.sqlite.specs.Held.{state};
 ghost use Rattle.dict_tables.specs.Tables.{entry as entry_table};
@@ -37,6 +37,7 @@ fn find_in<S: Alter, T: RowSink>(
     requires { WhileOpen (state S.Store conn.old) (Has entry_table) }
     ensures value { HasCleanDisk (state S.Store conn.new) → (reading : ReadEdition) → HoldsOne (state S.Store conn.old).now number reading → Hands T.takes T.stops sink.old sink.new (found strategy query.now (edition_of (record reading { text = text.now }))) result }
     ensures handed { (rows : List Entry) × Hands T.takes T.stops sink.old sink.new rows result }
+    ensures few { HasCleanDisk (state S.Store conn.new) → (M : Catalogue) → Holds 1 (state S.Store conn.old).now M → (rows : List Entry) × (length rows ≤ 65535) × Hands T.takes T.stops sink.old sink.new rows result }
     ensures same { HasCleanDisk (state S.Store conn.new) → OnOk result (IsUnchanged (state S.Store conn.old) (state S.Store conn.new)) }
     ensures failed { HasCleanDisk (state S.Store conn.new) → IfErr result (FailsToLookUp (state S.Store conn.old) (state S.Store conn.new)) }
     ensures shut { HasCleanDisk (state S.Store conn.new) → (state S.Store conn.old).is_open ≡ false → IsErr result × (sink.new ≡ sink.old) }
@@ -62,6 +63,7 @@ fn heads_in<S: Alter, T: RowSink>(
     requires { WhileOpen (state S.Store conn.old) (Has entry_table) }
     ensures value { HasCleanDisk (state S.Store conn.new) → (reading : ReadEdition) → HoldsOne (state S.Store conn.old).now number reading → Hands T.takes T.stops sink.old sink.new (headword_rows strategy query.now (edition_of reading)) result }
     ensures handed { (rows : List Entry) × Hands T.takes T.stops sink.old sink.new rows result }
+    ensures few { HasCleanDisk (state S.Store conn.new) → (M : Catalogue) → Holds 1 (state S.Store conn.old).now M → (rows : List Entry) × (length rows ≤ 65535) × Hands T.takes T.stops sink.old sink.new rows result }
     ensures same { HasCleanDisk (state S.Store conn.new) → OnOk result (IsUnchanged (state S.Store conn.old) (state S.Store conn.new)) }
     ensures failed { HasCleanDisk (state S.Store conn.new) → IfErr result (FailsToLookUp (state S.Store conn.old) (state S.Store conn.new)) }
     ensures shut { HasCleanDisk (state S.Store conn.new) → (state S.Store conn.old).is_open ≡ false → IsErr result × (sink.new ≡ sink.old) }
@@ -78,7 +80,8 @@ fn heads_in<S: Alter, T: RowSink>(
 /// Hands one row to the sink: the empty headword, and what the edition's database says of itself. Of a number that no
 /// edition has nothing is told.
 ///
-/// `Memory` tells that a growth was refused, `Disk` that the store failed. The database stays as it is.
+/// `Memory` tells that a growth was refused, `Disk` that the store failed, or that the limit on steps was met. The database
+/// stays as it is.
 pub fn info<S: Alter, T: RowSink>(
     alloc: Global,
     conn: &mut Connection<S>,
@@ -107,7 +110,8 @@ pub fn info<S: Alter, T: RowSink>(
 /// Hands the entries of the edition that the query finds by the strategy to the sink, in the order of the index, each as
 /// a row of its headword and its text. Of a number that no edition has nothing is told.
 ///
-/// `Memory` tells that a growth was refused, `Disk` that the store failed. The database stays as it is.
+/// `Memory` tells that a growth was refused, `Disk` that the store failed, or that the limit on steps was met. The database
+/// stays as it is.
 pub fn find<S: Alter, T: RowSink>(
     alloc: Global,
     conn: &mut Connection<S>,
@@ -143,7 +147,8 @@ pub fn find<S: Alter, T: RowSink>(
 /// Hands the headwords of the entries that the query finds by the strategy to the sink, each once, in the order in which
 /// they first stand among these, as rows with the empty text. Of a number that no edition has nothing is told.
 ///
-/// `Memory` tells that a growth was refused, `Disk` that the store failed. The database stays as it is.
+/// `Memory` tells that a growth was refused, `Disk` that the store failed, or that the limit on steps was met. The database
+/// stays as it is.
 pub fn heads<S: Alter, T: RowSink>(
     alloc: Global,
     conn: &mut Connection<S>,
@@ -168,7 +173,8 @@ pub fn heads<S: Alter, T: RowSink>(
 /// How many entries of the edition the query finds by the strategy, or how many headwords they have. Of a number that no
 /// edition has nothing is told.
 ///
-/// `Memory` tells that a growth was refused, `Disk` that the store failed. The database stays as it is.
+/// `Memory` tells that a growth was refused, `Disk` that the store failed, or that the limit on steps was met. The database
+/// stays as it is.
 pub fn count<S: Alter>(
     alloc: Global,
     conn: &mut Connection<S>,

@@ -26,7 +26,7 @@ use Rattle.dict_rows.proofs.OrderLemmas.{Below, numbered_rise, kept_rise, item_p
 use Rattle.dict_rows.proofs.TakenLemmas.{same_number_is, same_itself}
 use Rattle.dict_file.specs.Holds.{Keeps, KeepsAll, Holds, IsLeft}
 use Rattle.dict_opening.proofs.CodecLemmas.{Codec, read, records_kept, mark_codec, item_codec, member_codec, edition_codec, entry_codec, kept_codec}
-use Rattle.dict_opening.proofs.ReadableLemmas.{any_holds}
+use Rattle.dict_file.proofs.ReadableLemmas.{any_holds}
 
 -- ---- lists that are in order group by group
 

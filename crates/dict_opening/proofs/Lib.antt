@@ -7,6 +7,7 @@ pub mod TestLemmas
 pub mod CodecLemmas
 pub mod FindLemmas
 pub mod ReadableLemmas
+pub mod CauseLemmas
 pub mod HeldLemmas
 pub mod FitLemmas
 pub mod NoneLemmas

@@ -55,7 +55,7 @@ use Rattle.dict_opening.specs.Takers.{KeptRow, ids_given, HasStray, HasIdsApart,
 use Rattle.dict_opening.proofs.CodecLemmas.{Codec, read, read_stored, stored_rows, listed_records, member_codec, entry_codec, kept_codec, mark_codec, item_codec}
 use Rattle.dict_opening.proofs.FitLemmas.{front_read, fits_begun, fits_replies, none_kept}
 use Rattle.dict_opening.proofs.NoneLemmas.{last_holds}
-use Rattle.dict_opening.proofs.ReadableLemmas.{held_rows}
+use Rattle.dict_file.proofs.ReadableLemmas.{held_rows}
 use Rattle.dict_opening.proofs.RowidLemmas.{all_numbered}
 
 -- ---- rowids

@@ -20,7 +20,7 @@ use Rattle.dict_sql.specs.Streams.Scan.{AllEntries, EditionNumbers}
 use Rattle.dict_catalogue.specs.Items.{edition_numbers}
 use Rattle.sqlite.specs.Effect.{Database}
 use Rattle.dict_sql.specs.Effects.{HasApartRowids, rows_of, equals_number}
-use Rattle.dict_sql.specs.Columns.{HasColumns, mark_columns, item_columns, member_columns, edition_columns, entry_columns, kept_columns}
+use Rattle.dict_sql.specs.Columns.{edition_columns}
 use Rattle.dict_records.specs.Records.{Mark, Member}
 use Rattle.dict_catalogue.specs.Steps.{Catalogue, summary_of}
 use Rattle.dict_catalogue.specs.Tests.{Holdings}
@@ -29,16 +29,8 @@ use Rattle.sqlite.specs.declared.types.Value.TheVariants.{Int}
 use Rattle.dict_rows.specs.Tables.{Tables, editions_numbered, entries_of}
 use Rattle.dict_rows.specs.Stands.{Stands, has_number}
 use Rattle.dict_rows.specs.Taken.{GoesOn, HasTaken, HasIdsOnce, items_in, with_edition}
-use Rattle.dict_file.specs.Holds.{KeepsAll, Holds}
-
--- each row of each table stands for a record: above all, each text is UTF-8
-pub record HasReadableRows (db : Database) : Type 0 where
-  pub marks : AllByRecursion (HasColumns mark_columns) (rows_of (codes "mark") db)
-  pub items : AllByRecursion (HasColumns item_columns) (rows_of (codes "item") db)
-  pub members : AllByRecursion (HasColumns member_columns) (rows_of (codes "member") db)
-  pub editions : AllByRecursion (HasColumns edition_columns) (rows_of (codes "edition") db)
-  pub entries : AllByRecursion (HasColumns entry_columns) (rows_of (codes "entry") db)
-  pub kept : AllByRecursion (HasColumns kept_columns) (rows_of (codes "kept") db)
+use Rattle.dict_file.specs.Holds.{KeepsAll}
+pub use Rattle.dict_file.specs.Holds.{HasReadableRows, HoldsNone}
 
 -- the database keeps tables with the members in this order, and they stand for the catalogue
 pub record Keeping (db : Database) (members : List Member) (tables : Tables) (M : Catalogue) : Type 0 where
@@ -130,10 +122,6 @@ pub record HasRowidsApart (db : Database) : Type 0 where
   pub editions : HasApartRowids (rows_of (codes "edition") db)
   pub entries : HasApartRowids (rows_of (codes "entry") db)
   pub kept : HasApartRowids (rows_of (codes "kept") db)
-
--- The database holds no catalogue.
-abbrev pub HoldsNone : Database → Type 0
-HoldsNone db = (M : Catalogue) → Holds 1 db M → ⊥
 
 -- the mark, the items and the members were read
 pub record HasBegun (db : Database) (front : Tables) : Type 0 where

@@ -1,9 +1,14 @@
 -- What calls that only read leave of a connection, and why they fail.
-use Rattle.std.specs.Prelude.{◌≡◌, false, IsTrue}
+use Rattle.std.specs.Prelude.{◌≡◌, ◌⊎◌, ◌≤◌, false, IsTrue, IsSome, length}
+use Rattle.sqlite.specs.Disk.{MoreFaults}
+use Rattle.sqlite.specs.Effect.{Database}
 use Rattle.sqlite.specs.State.{State, HasCleanDisk, Survives}
 use Rattle.sqlite.specs.declared.error.Error.{Error}
 use Rattle.sqlite.specs.declared.error.Error.TheVariants.{SqliteFailure}
 use Rattle.sqlite.specs.declared.error.ErrorCode.TheVariants as code
+use Rattle.dict_tables.specs.Tables.{table_of}
+use Rattle.dict_tables.specs.declared.tables.StoreTable.{StoreTable}
+use Rattle.dict_sql.specs.Effects.{rows_of}
 use Rattle.dict_sql.specs.declared.records.ReadError.{ReadError}
 use Rattle.dict_sql.specs.declared.records.ReadError.TheVariants.{NoRecord, Store}
 use Rattle.dict_rows.specs.declared.fault.RowsFault.{RowsFault}
@@ -49,6 +54,20 @@ abbrev pub fault_told : ReadingFault → Fault
 fault_told Damaged = desk.Damaged
 fault_told Memory = desk.Memory
 fault_told Disk = desk.Disk
+
+-- a table has more rows than a number counts
+abbrev pub IsVast : Database → Type 0
+IsVast db = (table : StoreTable) × (18446744073709551615 ≤ length (rows_of (table_of table 0).name db))
+
+-- Why a call that only reads gives `Disk`: the disk has failed meanwhile, or the connection was shut before, or the limit
+-- on steps was met, or a table is too large.
+abbrev pub HasFailed : State → State → Type 0
+HasFailed old new = MoreFaults old.faults new.faults ⊎ ((old.is_open ≡ false) ⊎ (IsSome old.step_limit ⊎ IsVast old.now))
+
+abbrev pub IsExcused : State → State → ReadingFault → Type 0
+IsExcused old new Damaged = Unit {0}
+IsExcused old new Memory = Unit {0}
+IsExcused old new Disk = HasFailed old new
 
 -- the faults of an opening
 abbrev pub IsOfOpening : Fault → Type 0

@@ -8,7 +8,7 @@ ghost use Rattle.dict_sql.specs.Encodings.{stored_edition};
 ghost use Rattle.dict_sql.specs.Reads.{IsSelection};
 ghost use Rattle.dict_rows.specs.Tables.{Tables};
 ghost use Rattle.dict_rows.specs.Taken.{HasTaken};
-ghost use Rattle.dict_opening.specs.Reading.{Same, OnlyReads};
+ghost use Rattle.dict_opening.specs.Reading.{Same, OnlyReads, IsExcused};
 ghost use Rattle.dict_opening.specs.Opens.{KeepsNone, HasTables, IsNotOne, CanReadOne, HasReadOne, CanRead, HasRead};
 
 use crate::fault::{ReadingFault, fault_of_read, fault_of_rows};
@@ -27,6 +27,7 @@ fn edition_numbered<S: Alter>(
 ) -> Result<Stored<Edition<String, Vec<u8>>>, ReadingFault>
     requires { WhileOpen (state S.Store conn.old) (Has edition_table) }
     ensures reads { OnlyReads (state S.Store conn.old) (state S.Store conn.new) }
+    ensures failed { HasCleanDisk (state S.Store conn.new) → IfErr result (IsExcused (state S.Store conn.old) (state S.Store conn.new)) }
     ensures same { HasCleanDisk (state S.Store conn.new) → OnOk result (Same (state S.Store conn.old) (state S.Store conn.new)) }
     ensures one { HasCleanDisk (state S.Store conn.new) → IfOk result (λ row. IsSelection (codes "edition") (equals_number 1 number) (1 ∷ []) (state S.Store conn.old).now (stored_edition row ∷ [])) }
     ensures damaged { HasCleanDisk (state S.Store conn.new) → IfErr result (λ fault. fault ≡ ReadingFault.Damaged → IsNotOne (state S.Store conn.old).now number) }
@@ -50,6 +51,7 @@ fn read_number<S: Alter>(
 ) -> Result<(), ReadingFault>
     requires { WhileOpen (state S.Store conn.old) HasTables }
     ensures reads { OnlyReads (state S.Store conn.old) (state S.Store conn.new) }
+    ensures failed { HasCleanDisk (state S.Store conn.new) → IfErr result (IsExcused (state S.Store conn.old) (state S.Store conn.new)) }
     ensures same { HasCleanDisk (state S.Store conn.new) → OnOk result (Same (state S.Store conn.old) (state S.Store conn.new)) }
     ensures whole { HasCleanDisk (state S.Store conn.new) → OnOk result ((taken : Tables) → HasTaken 1 reader.old taken → (after : Tables) × HasTaken 1 reader.new after × HasReadOne (state S.Store conn.old).now number taken after) }
     ensures damaged { HasCleanDisk (state S.Store conn.new) → IfErr result (λ fault. fault ≡ ReadingFault.Damaged → (taken : Tables) → HasTaken 1 reader.old taken → CanReadOne (state S.Store conn.old).now taken number → KeepsNone (state S.Store conn.old).now taken.members) }
@@ -71,6 +73,7 @@ pub(crate) fn read_numbers<S: Alter>(
 ) -> Result<(), ReadingFault>
     requires { WhileOpen (state S.Store conn.old) HasTables }
     ensures reads { OnlyReads (state S.Store conn.old) (state S.Store conn.new) }
+    ensures failed { HasCleanDisk (state S.Store conn.new) → IfErr result (IsExcused (state S.Store conn.old) (state S.Store conn.new)) }
     ensures same { HasCleanDisk (state S.Store conn.new) → OnOk result (Same (state S.Store conn.old) (state S.Store conn.new)) }
     ensures whole { HasCleanDisk (state S.Store conn.new) → OnOk result ((front : Tables) → CanRead (state S.Store conn.old).now reader.old numbers.now front → (after : Tables) × HasTaken 1 reader.new after × HasRead (state S.Store conn.old).now numbers.now front after) }
     ensures damaged { HasCleanDisk (state S.Store conn.new) → IfErr result (λ fault. fault ≡ ReadingFault.Damaged → (front : Tables) → CanRead (state S.Store conn.old).now reader.old numbers.now front → KeepsNone (state S.Store conn.old).now front.members) }

@@ -11,7 +11,7 @@ ghost use Rattle.dict_sql.specs.Reads.{IsListing};
 ghost use Rattle.dict_catalogue.specs.Steps.{Catalogue, summary_of};
 ghost use Rattle.dict_catalogue.specs.Views.{summary_shown};
 ghost use Rattle.dict_file.specs.Holds.{Holds, Rests};
-ghost use Rattle.dict_opening.specs.Reading.{Same, OnlyReads, IsOfOpening, fault_told};
+ghost use Rattle.dict_opening.specs.Reading.{Same, OnlyReads, IsOfOpening, IsExcused, HasFailed, fault_told};
 ghost use Rattle.dict_opening.specs.Opens.{HoldsNone, HasMark, IsMarked, marked};
 
 use crate::fault::ReadingFault;
@@ -48,6 +48,7 @@ fn read_tables<S: Alter>(
     marks: &[Stored<Mark<String>>],
 ) -> Result<Summary, ReadingFault>
     ensures reads { OnlyReads (state S.Store conn.old) (state S.Store conn.new) }
+    ensures failed { HasCleanDisk (state S.Store conn.new) → IfErr result (IsExcused (state S.Store conn.old) (state S.Store conn.new)) }
     ensures same { HasCleanDisk (state S.Store conn.new) → OnOk result (Same (state S.Store conn.old) (state S.Store conn.new)) }
     ensures holds { HasCleanDisk (state S.Store conn.new) → IfOk result (λ summary. IsListing (codes "mark") (1 ∷ []) (state S.Store conn.old).now (map stored_mark marks.now) → (M : Catalogue) × Holds 1 (state S.Store conn.old).now M × (summary_of M ≡ summary_shown summary)) }
     ensures damaged { HasCleanDisk (state S.Store conn.new) → IfErr result (λ fault. fault ≡ ReadingFault.Damaged → IsListing (codes "mark") (1 ∷ []) (state S.Store conn.old).now (map stored_mark marks.now) → HoldsNone (state S.Store conn.old).now) }
@@ -109,6 +110,7 @@ fn read_mark<S: Alter>(
     conn: &mut Connection<S>,
 ) -> Result<Vec<Stored<Mark<String>>>, Fault>
     ensures reads { OnlyReads (state S.Store conn.old) (state S.Store conn.new) }
+    ensures failed { HasCleanDisk (state S.Store conn.new) → result ≡ Err Fault.Disk → HasFailed (state S.Store conn.old) (state S.Store conn.new) }
     ensures same { HasCleanDisk (state S.Store conn.new) → OnOk result (Same (state S.Store conn.old) (state S.Store conn.new) × IsTrue (state S.Store conn.new).is_open) }
     ensures marked { HasCleanDisk (state S.Store conn.new) → IfOk result (λ marks. IsListing (codes "mark") (1 ∷ []) (state S.Store conn.old).now (map stored_mark marks.items) × HasMark (state S.Store conn.old).now 1) }
     ensures newer { HasCleanDisk (state S.Store conn.new) → result ≡ Err Fault.NewerSchema → (version : ℕ) × HasMark (state S.Store conn.old).now version × (1 < version) }
@@ -151,7 +153,7 @@ fn told(fault: ReadingFault) -> Fault
 ///
 /// `NotACatalogue` tells that there is no readable mark, `NewerSchema` that the mark is of a version above the known one,
 /// and `Damaged` that the mark is readable and of the known version, and the tables hold no catalogue: they are tested in
-/// this order. `Memory` tells that a growth was refused, and `Disk` that the store failed.
+/// this order. `Memory` tells that a growth was refused, and `Disk` that the disk failed, or that the limit on steps was met.
 pub fn read_catalogue<S: Alter>(alloc: Global, conn: &mut Connection<S>) -> Result<Summary, Fault>
     requires { conn.old.in_transaction ≡ false }
     ensures rests { HasCleanDisk (state S.Store conn.new) → IfOk result (λ summary. (M : Catalogue) × Rests 1 (state S.Store conn.new) M × (summary_of M ≡ summary_shown summary)) }
@@ -160,6 +162,7 @@ pub fn read_catalogue<S: Alter>(alloc: Global, conn: &mut Connection<S>) -> Resu
     ensures none { HasCleanDisk (state S.Store conn.new) → result ≡ Err Fault.NotACatalogue → (version : ℕ) → HasMark (state S.Store conn.old).now version → ⊥ }
     ensures lives { HasCleanDisk (state S.Store conn.new) → IsTrue (state S.Store conn.new).is_open → IsTrue (state S.Store conn.old).is_open }
     ensures kinds { IfErr result IsOfOpening }
+    ensures failed { HasCleanDisk (state S.Store conn.new) → result ≡ Err Fault.Disk → HasFailed (state S.Store conn.old) (state S.Store conn.new) }
     ensures now { HasCleanDisk (state S.Store conn.new) → IsTrue (state S.Store conn.new).is_open → (state S.Store conn.new).now ≡ (state S.Store conn.old).now }
     ensures committed { HasCleanDisk (state S.Store conn.new) → IsTrue (state S.Store conn.new).is_open → (state S.Store conn.new).committed ≡ (state S.Store conn.old).committed }
     ensures autocommit { (state S.Store conn.new).in_transaction ≡ false }

@@ -8,7 +8,7 @@ ghost use Rattle.dict_sql.specs.Reads.{IsListing};
 ghost use Rattle.dict_rows.specs.Tables.{Tables};
 ghost use Rattle.dict_rows.specs.Taken.{HasTaken};
 ghost use Rattle.dict_catalogue.specs.Views.{summary_shown};
-ghost use Rattle.dict_opening.specs.Reading.{Same, OnlyReads};
+ghost use Rattle.dict_opening.specs.Reading.{Same, OnlyReads, IsExcused};
 ghost use Rattle.dict_opening.specs.Opens.{HasTables, KeepsNone, HoldsNone, HasBegun, Fits, HasNamed, AreAllKnown, HasReplies, HasAll, HasSummary};
 
 use crate::editions::read_numbers;
@@ -29,6 +29,7 @@ fn begin<S: Alter>(
 ) -> Result<Reader, ReadingFault>
     requires { WhileOpen (state S.Store conn.old) HasTables }
     ensures reads { OnlyReads (state S.Store conn.old) (state S.Store conn.new) }
+    ensures failed { HasCleanDisk (state S.Store conn.new) → IfErr result (IsExcused (state S.Store conn.old) (state S.Store conn.new)) }
     ensures same { HasCleanDisk (state S.Store conn.new) → OnOk result (Same (state S.Store conn.old) (state S.Store conn.new)) }
     ensures begun { HasCleanDisk (state S.Store conn.new) → IfOk result (λ reader. IsListing (codes "mark") (1 ∷ []) (state S.Store conn.old).now (map stored_mark marks.now) → (front : Tables) × HasTaken 1 reader front × HasBegun (state S.Store conn.old).now front) }
     ensures damaged { HasCleanDisk (state S.Store conn.new) → IfErr result (λ fault. fault ≡ ReadingFault.Damaged → IsListing (codes "mark") (1 ∷ []) (state S.Store conn.old).now (map stored_mark marks.now) → HoldsNone (state S.Store conn.old).now) }
@@ -55,6 +56,7 @@ fn read_named<S: Alter>(
 ) -> Result<(), ReadingFault>
     requires { WhileOpen (state S.Store conn.old) HasTables }
     ensures reads { OnlyReads (state S.Store conn.old) (state S.Store conn.new) }
+    ensures failed { HasCleanDisk (state S.Store conn.new) → IfErr result (IsExcused (state S.Store conn.old) (state S.Store conn.new)) }
     ensures same { HasCleanDisk (state S.Store conn.new) → OnOk result (Same (state S.Store conn.old) (state S.Store conn.new)) }
     ensures named { HasCleanDisk (state S.Store conn.new) → OnOk result ((front : Tables) → HasTaken 1 reader.old front → HasBegun (state S.Store conn.old).now front → (after : Tables) × HasTaken 1 reader.new after × HasNamed (state S.Store conn.old).now reader.old front after) }
     ensures damaged { HasCleanDisk (state S.Store conn.new) → IfErr result (λ fault. fault ≡ ReadingFault.Damaged → (front : Tables) → HasTaken 1 reader.old front → HasBegun (state S.Store conn.old).now front → HoldsNone (state S.Store conn.old).now) }
@@ -74,6 +76,7 @@ fn test_named<S: Alter>(
 ) -> Result<(), ReadingFault>
     requires { WhileOpen (state S.Store conn.old) HasTables }
     ensures reads { OnlyReads (state S.Store conn.old) (state S.Store conn.new) }
+    ensures failed { HasCleanDisk (state S.Store conn.new) → IfErr result (IsExcused (state S.Store conn.old) (state S.Store conn.new)) }
     ensures same { HasCleanDisk (state S.Store conn.new) → OnOk result (Same (state S.Store conn.old) (state S.Store conn.new)) }
     ensures known { HasCleanDisk (state S.Store conn.new) → OnOk result (AreAllKnown (state S.Store conn.old).now reader.now) }
     ensures damaged { HasCleanDisk (state S.Store conn.new) → IfErr result (λ fault. fault ≡ ReadingFault.Damaged → (taken : Tables) → HasTaken 1 reader.now taken → Fits (state S.Store conn.old).now taken → KeepsNone (state S.Store conn.old).now taken.members) }
@@ -90,6 +93,7 @@ fn read_kept<S: Alter>(
 ) -> Result<(), ReadingFault>
     requires { WhileOpen (state S.Store conn.old) HasTables }
     ensures reads { OnlyReads (state S.Store conn.old) (state S.Store conn.new) }
+    ensures failed { HasCleanDisk (state S.Store conn.new) → IfErr result (IsExcused (state S.Store conn.old) (state S.Store conn.new)) }
     ensures same { HasCleanDisk (state S.Store conn.new) → OnOk result (Same (state S.Store conn.old) (state S.Store conn.new)) }
     ensures replies { HasCleanDisk (state S.Store conn.new) → OnOk result ((taken : Tables) → HasTaken 1 reader.old taken → (after : Tables) × HasTaken 1 reader.new after × HasReplies (state S.Store conn.old).now taken after) }
     ensures damaged { HasCleanDisk (state S.Store conn.new) → IfErr result (λ fault. fault ≡ ReadingFault.Damaged → (taken : Tables) → HasTaken 1 reader.old taken → Fits (state S.Store conn.old).now taken → taken.kept ≡ [] → KeepsNone (state S.Store conn.old).now taken.members) }
@@ -106,6 +110,7 @@ fn read_all<S: Alter>(
 ) -> Result<(), ReadingFault>
     requires { WhileOpen (state S.Store conn.old) HasTables }
     ensures reads { OnlyReads (state S.Store conn.old) (state S.Store conn.new) }
+    ensures failed { HasCleanDisk (state S.Store conn.new) → IfErr result (IsExcused (state S.Store conn.old) (state S.Store conn.new)) }
     ensures same { HasCleanDisk (state S.Store conn.new) → OnOk result (Same (state S.Store conn.old) (state S.Store conn.new)) }
     ensures all { HasCleanDisk (state S.Store conn.new) → OnOk result ((front : Tables) → HasTaken 1 reader.old front → HasBegun (state S.Store conn.old).now front → (after : Tables) × HasTaken 1 reader.new after × HasAll (state S.Store conn.old).now front after) }
     ensures damaged { HasCleanDisk (state S.Store conn.new) → IfErr result (λ fault. fault ≡ ReadingFault.Damaged → (front : Tables) → HasTaken 1 reader.old front → HasBegun (state S.Store conn.old).now front → HoldsNone (state S.Store conn.old).now) }
@@ -123,6 +128,7 @@ pub(crate) fn read_records<S: Alter>(
 ) -> Result<Summary, ReadingFault>
     requires { WhileOpen (state S.Store conn.old) HasTables }
     ensures reads { OnlyReads (state S.Store conn.old) (state S.Store conn.new) }
+    ensures failed { HasCleanDisk (state S.Store conn.new) → IfErr result (IsExcused (state S.Store conn.old) (state S.Store conn.new)) }
     ensures same { HasCleanDisk (state S.Store conn.new) → OnOk result (Same (state S.Store conn.old) (state S.Store conn.new)) }
     ensures stands { HasCleanDisk (state S.Store conn.new) → IfOk result (λ summary. IsListing (codes "mark") (1 ∷ []) (state S.Store conn.old).now (map stored_mark marks.now) → HasSummary (state S.Store conn.old).now (summary_shown summary)) }
     ensures damaged { HasCleanDisk (state S.Store conn.new) → IfErr result (λ fault. fault ≡ ReadingFault.Damaged → IsListing (codes "mark") (1 ∷ []) (state S.Store conn.old).now (map stored_mark marks.now) → HoldsNone (state S.Store conn.old).now) }

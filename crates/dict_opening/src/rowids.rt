@@ -7,7 +7,7 @@ ghost use Rattle.dict_sql.specs.Encodings.{stored_mark};
 ghost use Rattle.dict_sql.specs.Reads.{IsListing};
 ghost use Rattle.dict_rows.specs.Tables.{Tables};
 ghost use Rattle.dict_rows.specs.Taken.{HasTaken};
-ghost use Rattle.dict_opening.specs.Reading.{Same, OnlyReads};
+ghost use Rattle.dict_opening.specs.Reading.{Same, OnlyReads, IsExcused};
 ghost use Rattle.dict_opening.specs.Opens.{HasTables, HasReadableRows, HasRowidsApart, IsApartFirst, IsApartLast};
 
 use crate::fault::ReadingFault;
@@ -21,6 +21,7 @@ use std::alloc::Global;
 fn test_small<S: Alter>(alloc: Global, conn: &mut Connection<S>) -> Result<(), ReadingFault>
     requires { WhileOpen (state S.Store conn.old) HasTables }
     ensures reads { OnlyReads (state S.Store conn.old) (state S.Store conn.new) }
+    ensures failed { HasCleanDisk (state S.Store conn.new) → IfErr result (IsExcused (state S.Store conn.old) (state S.Store conn.new)) }
     ensures same { HasCleanDisk (state S.Store conn.new) → OnOk result (Same (state S.Store conn.old) (state S.Store conn.new)) }
     ensures apart { HasCleanDisk (state S.Store conn.new) → OnOk result (IsApartFirst (state S.Store conn.old).now) }
     ensures damaged { HasCleanDisk (state S.Store conn.new) → IfErr result (λ fault. fault ≡ ReadingFault.Damaged → HasReadableRows (state S.Store conn.old).now → IsApartFirst (state S.Store conn.old).now → ⊥) }
@@ -34,6 +35,7 @@ fn test_small<S: Alter>(alloc: Global, conn: &mut Connection<S>) -> Result<(), R
 fn test_large<S: Alter>(alloc: Global, conn: &mut Connection<S>) -> Result<(), ReadingFault>
     requires { WhileOpen (state S.Store conn.old) HasTables }
     ensures reads { OnlyReads (state S.Store conn.old) (state S.Store conn.new) }
+    ensures failed { HasCleanDisk (state S.Store conn.new) → IfErr result (IsExcused (state S.Store conn.old) (state S.Store conn.new)) }
     ensures same { HasCleanDisk (state S.Store conn.new) → OnOk result (Same (state S.Store conn.old) (state S.Store conn.new)) }
     ensures apart { HasCleanDisk (state S.Store conn.new) → OnOk result (IsApartLast (state S.Store conn.old).now) }
     ensures damaged { HasCleanDisk (state S.Store conn.new) → IfErr result (λ fault. fault ≡ ReadingFault.Damaged → HasReadableRows (state S.Store conn.old).now → IsApartLast (state S.Store conn.old).now → ⊥) }
@@ -50,6 +52,7 @@ pub(crate) fn test_all_rowids<S: Alter>(
 ) -> Result<(), ReadingFault>
     requires { WhileOpen (state S.Store conn.old) HasTables }
     ensures reads { OnlyReads (state S.Store conn.old) (state S.Store conn.new) }
+    ensures failed { HasCleanDisk (state S.Store conn.new) → IfErr result (IsExcused (state S.Store conn.old) (state S.Store conn.new)) }
     ensures same { HasCleanDisk (state S.Store conn.new) → OnOk result (Same (state S.Store conn.old) (state S.Store conn.new)) }
     ensures apart { HasCleanDisk (state S.Store conn.new) → OnOk result (HasRowidsApart (state S.Store conn.old).now) }
     ensures damaged { HasCleanDisk (state S.Store conn.new) → IfErr result (λ fault. fault ≡ ReadingFault.Damaged → HasReadableRows (state S.Store conn.old).now → HasRowidsApart (state S.Store conn.old).now → ⊥) }

@@ -4,7 +4,7 @@ ghost use Rattle.sqlite.specs.State.{HasCleanDisk, Survives};
 ghost use Rattle.sqlite.specs.Order.{Row as SqlRow};
 ghost use Rattle.sqlite.specs.Held.{state};
 ghost use Rattle.dict_sql.specs.Streams.{Scan, HasGiven, IsWhole};
-ghost use Rattle.dict_opening.specs.Reading.{Same, Stays};
+ghost use Rattle.dict_opening.specs.Reading.{Same, Stays, IsExcused};
 ghost use Rattle.dict_opening.specs.Scans.{TakesSo, TakesAll, IsWrong};
 
 use crate::fault::{ReadingFault, fault_of_read, fault_of_rows};
@@ -39,6 +39,7 @@ fn take_next<S: Alter, R: Record + Drop, T: Taker<R>>(
     ensures same_reference { rows.new.conn.ghost_name ≡ rows.old.conn.ghost_name }
     ensures mode { rows.old.conn.now.in_transaction ≡ false → rows.new.conn.now.in_transaction ≡ false }
     ensures survives { Survives (state S.Store rows.old.conn.now) (state S.Store rows.new.conn.now) (λ _. ⊥) }
+    ensures failed { HasCleanDisk (state S.Store rows.new.conn.now) → IfErr result (λ fault. (what : Scan) (given : List SqlRow) → HasGiven S.Store what rows.old.conn.now given → IsExcused (state S.Store rows.old.conn.now) (state S.Store rows.new.conn.now) fault) }
     ensures stays { HasCleanDisk (state S.Store rows.new.conn.now) → (what : Scan) (given : List SqlRow) → HasGiven S.Store what rows.old.conn.now given → Stays (state S.Store rows.old.conn.now) (state S.Store rows.new.conn.now) }
     ensures same { HasCleanDisk (state S.Store rows.new.conn.now) → OnOk result (Same (state S.Store rows.old.conn.now) (state S.Store rows.new.conn.now)) }
     ensures more { HasCleanDisk (state S.Store rows.new.conn.now) → result ≡ Ok true → (what : Scan) (first : T) (given : List R) → TakesSo S.Store R.Record.stored T.takes what first given rows.old.conn.now taker.old →
@@ -70,12 +71,13 @@ pub(crate) fn take_all<S: Alter, R: Record + Drop, T: Taker<R>>(
     ensures same_reference { rows.new.conn.ghost_name ≡ rows.old.conn.ghost_name }
     ensures mode { rows.old.conn.now.in_transaction ≡ false → rows.new.conn.now.in_transaction ≡ false }
     ensures survives { Survives (state S.Store rows.old.conn.now) (state S.Store rows.new.conn.now) (λ _. ⊥) }
+    ensures failed { HasCleanDisk (state S.Store rows.new.conn.now) → IfErr result (λ fault. (what : Scan) → HasGiven S.Store what rows.old.conn.now [] → IsExcused (state S.Store rows.old.conn.now) (state S.Store rows.new.conn.now) fault) }
     ensures stays { HasCleanDisk (state S.Store rows.new.conn.now) → (what : Scan) → HasGiven S.Store what rows.old.conn.now [] → Stays (state S.Store rows.old.conn.now) (state S.Store rows.new.conn.now) }
     ensures same { HasCleanDisk (state S.Store rows.new.conn.now) → OnOk result (Same (state S.Store rows.old.conn.now) (state S.Store rows.new.conn.now)) }
     ensures whole { HasCleanDisk (state S.Store rows.new.conn.now) → OnOk result ((what : Scan) → HasGiven S.Store what rows.old.conn.now [] → TakesAll R.Record.stored T.takes what (state S.Store rows.old.conn.now).now taker.old taker.new) }
     ensures damaged { HasCleanDisk (state S.Store rows.new.conn.now) → IfErr result (λ fault. fault ≡ ReadingFault.Damaged → (what : Scan) → HasGiven S.Store what rows.old.conn.now [] → IsWrong R.Record.stored R.Record.columns T.refuses what (state S.Store rows.old.conn.now).now taker.old) }
 {
-    'rows: for _ in 0..u64::MAX {
+    'rows: for _turn in 0..u64::MAX {
         if !take_next::<S, R, T>(alloc, rows, taker)? {
             return Ok(());
         }

@@ -7,7 +7,7 @@ ghost use Rattle.dict_sql.specs.Effects.{Has, HasApartRowids, WhileOpen, rows_of
 ghost use Rattle.dict_sql.specs.Columns.{entry_columns, kept_columns, number_columns};
 ghost use Rattle.dict_sql.specs.Encodings.{stored_entry, stored_kept, stored_number};
 ghost use Rattle.dict_sql.specs.Streams.Scan.{AllEntries, EntriesOf, AllKept, KeptById, ByRowid, EditionNumbers};
-ghost use Rattle.dict_opening.specs.Reading.{Same, OnlyReads};
+ghost use Rattle.dict_opening.specs.Reading.{Same, OnlyReads, IsExcused};
 ghost use Rattle.dict_opening.specs.Scans.{TakesAll, HasNoRecordIn, IsWrong};
 ghost use Rattle.dict_opening.specs.Takers.{takes_entries, refuses_entries, takes_replies, refuses_replies, AreKnown, HasStray, number_given, entry_edition, HasIdsApart, HasIdTwice};
 
@@ -34,6 +34,7 @@ pub(crate) fn read_entries<S: Alter>(
 ) -> Result<(), ReadingFault>
     requires { WhileOpen (state S.Store conn.old) (Has entry) }
     ensures reads { OnlyReads (state S.Store conn.old) (state S.Store conn.new) }
+    ensures failed { HasCleanDisk (state S.Store conn.new) → IfErr result (IsExcused (state S.Store conn.old) (state S.Store conn.new)) }
     ensures same { HasCleanDisk (state S.Store conn.new) → OnOk result (Same (state S.Store conn.old) (state S.Store conn.new)) }
     ensures whole { HasCleanDisk (state S.Store conn.new) → OnOk result (TakesAll stored_entry takes_entries (EntriesOf number) (state S.Store conn.old).now reader.old reader.new) }
     ensures damaged { HasCleanDisk (state S.Store conn.new) → IfErr result (λ fault. fault ≡ ReadingFault.Damaged → IsWrong stored_entry entry_columns refuses_entries (EntriesOf number) (state S.Store conn.old).now reader.old) }
@@ -53,6 +54,7 @@ pub(crate) fn read_replies<S: Alter>(
 ) -> Result<(), ReadingFault>
     requires { WhileOpen (state S.Store conn.old) (Has kept) }
     ensures reads { OnlyReads (state S.Store conn.old) (state S.Store conn.new) }
+    ensures failed { HasCleanDisk (state S.Store conn.new) → IfErr result (IsExcused (state S.Store conn.old) (state S.Store conn.new)) }
     ensures same { HasCleanDisk (state S.Store conn.new) → OnOk result (Same (state S.Store conn.old) (state S.Store conn.new)) }
     ensures whole { HasCleanDisk (state S.Store conn.new) → OnOk result (TakesAll stored_kept takes_replies AllKept (state S.Store conn.old).now reader.old reader.new) }
     ensures damaged { HasCleanDisk (state S.Store conn.new) → IfErr result (λ fault. fault ≡ ReadingFault.Damaged → IsWrong stored_kept kept_columns refuses_replies AllKept (state S.Store conn.old).now reader.old) }
@@ -71,6 +73,7 @@ pub(crate) fn test_edition_rowids<S: Alter>(
 ) -> Result<(), ReadingFault>
     requires { WhileOpen (state S.Store conn.old) (Has edition) }
     ensures reads { OnlyReads (state S.Store conn.old) (state S.Store conn.new) }
+    ensures failed { HasCleanDisk (state S.Store conn.new) → IfErr result (IsExcused (state S.Store conn.old) (state S.Store conn.new)) }
     ensures same { HasCleanDisk (state S.Store conn.new) → OnOk result (Same (state S.Store conn.old) (state S.Store conn.new)) }
     ensures whole { HasCleanDisk (state S.Store conn.new) → OnOk result (HasApartRowids (rows_of (codes "edition") (state S.Store conn.old).now)) }
     ensures damaged { HasCleanDisk (state S.Store conn.new) → IfErr result (λ fault. fault ≡ ReadingFault.Damaged → HasNoRecordIn stored_number number_columns EditionNumbers (state S.Store conn.old).now ⊎ (HasApartRowids (rows_of (codes "edition") (state S.Store conn.old).now) → ⊥)) }
@@ -90,6 +93,7 @@ pub(crate) fn test_editions<S: Alter>(
 ) -> Result<(), ReadingFault>
     requires { WhileOpen (state S.Store conn.old) (Has edition) }
     ensures reads { OnlyReads (state S.Store conn.old) (state S.Store conn.new) }
+    ensures failed { HasCleanDisk (state S.Store conn.new) → IfErr result (IsExcused (state S.Store conn.old) (state S.Store conn.new)) }
     ensures same { HasCleanDisk (state S.Store conn.new) → OnOk result (Same (state S.Store conn.old) (state S.Store conn.new)) }
     ensures whole { HasCleanDisk (state S.Store conn.new) → OnOk result (AreKnown stored_number number_given EditionNumbers (state S.Store conn.old).now reader.now) }
     ensures damaged { HasCleanDisk (state S.Store conn.new) → IfErr result (λ fault. fault ≡ ReadingFault.Damaged → HasNoRecordIn stored_number number_columns EditionNumbers (state S.Store conn.old).now ⊎ HasStray stored_number number_given EditionNumbers (state S.Store conn.old).now reader.now) }
@@ -109,6 +113,7 @@ pub(crate) fn test_entries<S: Alter>(
 ) -> Result<(), ReadingFault>
     requires { WhileOpen (state S.Store conn.old) (Has entry) }
     ensures reads { OnlyReads (state S.Store conn.old) (state S.Store conn.new) }
+    ensures failed { HasCleanDisk (state S.Store conn.new) → IfErr result (IsExcused (state S.Store conn.old) (state S.Store conn.new)) }
     ensures same { HasCleanDisk (state S.Store conn.new) → OnOk result (Same (state S.Store conn.old) (state S.Store conn.new)) }
     ensures whole { HasCleanDisk (state S.Store conn.new) → OnOk result (AreKnown stored_entry entry_edition AllEntries (state S.Store conn.old).now reader.now) }
     ensures damaged { HasCleanDisk (state S.Store conn.new) → IfErr result (λ fault. fault ≡ ReadingFault.Damaged → HasNoRecordIn stored_entry entry_columns AllEntries (state S.Store conn.old).now ⊎ HasStray stored_entry entry_edition AllEntries (state S.Store conn.old).now reader.now) }
@@ -127,6 +132,7 @@ pub(crate) fn test_ids<S: Alter>(
 ) -> Result<(), ReadingFault>
     requires { WhileOpen (state S.Store conn.old) (Has kept) }
     ensures reads { OnlyReads (state S.Store conn.old) (state S.Store conn.new) }
+    ensures failed { HasCleanDisk (state S.Store conn.new) → IfErr result (IsExcused (state S.Store conn.old) (state S.Store conn.new)) }
     ensures same { HasCleanDisk (state S.Store conn.new) → OnOk result (Same (state S.Store conn.old) (state S.Store conn.new)) }
     ensures whole { HasCleanDisk (state S.Store conn.new) → OnOk result (HasIdsApart (state S.Store conn.old).now) }
     ensures damaged { HasCleanDisk (state S.Store conn.new) → IfErr result (λ fault. fault ≡ ReadingFault.Damaged → HasNoRecordIn stored_kept kept_columns KeptById (state S.Store conn.old).now ⊎ HasIdTwice (state S.Store conn.old).now) }
@@ -146,6 +152,7 @@ pub(crate) fn test_rowids<S: Alter, R: Record + Drop>(
 ) -> Result<(), ReadingFault>
     requires { WhileOpen (state S.Store conn.old) (Has (table_of table)) }
     ensures reads { OnlyReads (state S.Store conn.old) (state S.Store conn.new) }
+    ensures failed { HasCleanDisk (state S.Store conn.new) → IfErr result (IsExcused (state S.Store conn.old) (state S.Store conn.new)) }
     ensures same { HasCleanDisk (state S.Store conn.new) → OnOk result (Same (state S.Store conn.old) (state S.Store conn.new)) }
     ensures whole { HasCleanDisk (state S.Store conn.new) → OnOk result (HasApartRowids (rows_of (table_of table 0).name (state S.Store conn.old).now)) }
     ensures damaged { HasCleanDisk (state S.Store conn.new) → IfErr result (λ fault. fault ≡ ReadingFault.Damaged → HasNoRecordIn R.Record.stored R.Record.columns (ByRowid table) (state S.Store conn.old).now ⊎ (HasApartRowids (rows_of (table_of table 0).name (state S.Store conn.old).now) → ⊥)) }

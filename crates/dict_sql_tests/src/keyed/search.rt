@@ -30,7 +30,7 @@ fn headword(alloc: Global, state: &mut u64) -> Result<String, AllocError> {
             3 | 4 => text.push('b')?,
             5 => text.push('C')?,
             6 => text.push('é')?,
-            _ => text.push('\u{10ffff}')?,
+            _ => text.push('\u{3134a}')?,
         }
     }
     Ok(text)

@@ -1,12 +1,20 @@
-use Rattle.std.proofs.Common.{◌≡◌, true, None, Some, sym, rules}
+use Rattle.std.proofs.Common.{◌≡◌, true, None, Some, sym, rules, ◌⊎◌, inl}
 use Rattle.sqlite.specs.State.{HasCleanDisk}
 use Rattle.sqlite.specs.Held.{state}
 use Rattle.sqlite.proofs.StateLemmas.{survives_then}
 use Rattle.dict_name.specs.Names.{is_request_id}
-use Rattle.dict_catalogue.specs.Steps.{kept_under}
+use Rattle.dict_catalogue.specs.Steps.{kept_under, Catalogue, summary_of, step}
 use Rattle.dict_catalogue.specs.Views.{command_meant, kept_shown, summary_shown}
-use Rattle.dict_commands.proofs.ApplyLemmas.{kept_step, rests_unchanged, holds_now, holds_again, store_shut, not_shut}
-use Rattle.dict_commands.proofs.LoopLemmas.{clean_before}
+use Rattle.dict_commands.proofs.ApplyLemmas.{kept_step, rests_unchanged, holds_now, holds_again, store_shut, not_shut, new_fails, failed_answers}
+use Rattle.dict_commands.proofs.LoopLemmas.{clean_before, each_err}
+use Rattle.sqlite.specs.Effect.{Database}
+use Rattle.dict_sql.proofs.StreamLemmas.{passed_on}
+use Rattle.dict_desk.specs.Faults.{is_failure}
+use Rattle.dict_desk.specs.declared.fault.Fault.TheVariants.{Memory}
+use Rattle.dict_file.specs.Holds.{Holds, Rests}
+use Rattle.dict_file.specs.Writing.{FailsToEnd}
+use Rattle.dict_commands.specs.Answers.{FailsToApply}
+use Rattle.std.proofs.lemmas.Result.{err_from_is_err_and}
 use Rattle.dict_commands.proofs.applying.apply.Goals as goal
 
 pub returns-in-Some-clause-value : goal.returns-in-Some-clause-value
@@ -49,3 +57,31 @@ returns-in-Some-clause-shut g c = λ clean shut. not_shut (state g.S.Store c.arg
 pub returns-clause-shut : goal.returns-clause-shut
 returns-clause-shut g c = λ clean shut.
     not_shut (state g.S.Store c.args.conn.now).is_open (c.in_ok-kept.ensures.same (clean_before (state g.S.Store c.kept_reply.new.conn) (state g.S.Store c.apply_new.new.conn) c.apply_new.ensures.crash clean)).0.was_open shut
+
+pub returns-in_err-kept-clause-failed : goal.returns-in_err-kept-clause-failed
+returns-in_err-kept-clause-failed g c clean =
+    let new = c.kept_reply.new.conn in
+    passed_on (λ fault. is_failure fault ≡ true → FailsToApply g.S.Store (summary_shown c.args.summary.now) c.args.id.now (command_meant c.args.command.now) c.args.conn.now new fault) c.in_err-kept.field-0.0 c.from_residual.result c.from_residual.ensures.1
+    (λ real. inl (c.in_err-kept.ensures.failed clean))
+
+pub returns-clause-failed : goal.returns-clause-failed
+returns-clause-failed g c clean =
+    let old = c.args.conn.now in
+    let mid = c.kept_reply.new.conn in
+    let new = c.apply_new.new.conn in
+    let summary = summary_shown c.args.summary.now in
+    let command = command_meant c.args.command.now in
+    let early : HasCleanDisk (state g.S.Store mid) = clean_before (state g.S.Store mid) (state g.S.Store new) c.apply_new.ensures.crash clean in
+    let same = c.in_ok-kept.ensures.same early in
+    let P = λ (db : Database). (M : Catalogue) → Rests 1 (state g.S.Store mid) M → summary_of M ≡ summary → kept_under M.kept c.args.id.now ≡ None → Holds 1 db (step M c.args.id.now command).catalogue in
+    each_err c.apply_new.result (λ fault. is_failure fault ≡ true → ((fault ≡ Memory) × (new ≡ mid)) ⊎ FailsToEnd g.S.Store P mid new fault)
+    (λ fault. is_failure fault ≡ true → FailsToApply g.S.Store summary c.args.id.now command old new fault)
+    (λ fault h real. new_fails g.S.Store summary c.args.id.now command P old mid new same
+    (λ db then M rests is.
+    let none : kept_under M.kept c.args.id.now ≡ None = sym (rw c.in_default.is at (c.in_ok-kept.ensures.value early 1 M (holds_now (state g.S.Store old) M rests))) in
+    then M (rests_unchanged (state g.S.Store old) (state g.S.Store mid) M same rests) is none) fault (h real)) (c.apply_new.ensures.failed clean)
+
+pub returns-in_err-kept-clause-value : goal.returns-in_err-kept-clause-value
+returns-in_err-kept-clause-value g c = λ clean M rests is.
+    let p = err_from_is_err_and c.from_residual.result c.from_residual.ensures.1 in
+    rw (p.1, p.2) (failed_answers (state g.S.Store c.args.conn.now) (state g.S.Store c.kept_reply.new.conn) M c.args.id.now _ c.in_err-kept.field-0.0 c.in_err-kept.ensures.kinds (c.in_err-kept.ensures.stays clean) rests)

@@ -1,8 +1,19 @@
 use Rattle.std.proofs.lemmas.Result.{err_from_is_err_and}
 use Rattle.sqlite.specs.Held.{state}
 use Rattle.sqlite.proofs.StateLemmas.{survives_weaker}
-use Rattle.dict_catalogue.specs.Views.{summary_shown}
-use Rattle.dict_commands.proofs.ApplyLemmas.{declined_answers, failed_answers, acted_answers, left_after}
+use Rattle.dict_catalogue.specs.Views.{summary_shown, command_shown, command_meant}
+use Rattle.dict_commands.proofs.ApplyLemmas.{declined_answers, failed_answers, acted_answers, left_after, declined_fails, ends_weaker, holds_after, holds_now}
+use Rattle.std.proofs.Common.{◌≡◌, ◌⊎◌, inl, inr, refl, true, None}
+use Rattle.sqlite.specs.Effect.{Database}
+use Rattle.dict_sql.proofs.StreamLemmas.{passed_on}
+use Rattle.dict_catalogue.specs.Steps.{Catalogue, summary_of, kept_under, step}
+use Rattle.dict_desk.specs.Faults.{is_failure}
+use Rattle.dict_desk.specs.declared.fault.Fault.TheVariants.{Memory}
+use Rattle.dict_rows.specs.After.{tables_after}
+use Rattle.dict_file.specs.Holds.{Holds, Rests}
+use Rattle.dict_file.specs.Writing.{FailsToEnd}
+use Rattle.dict_commands.specs.Kept.{Turns}
+use Rattle.dict_commands.specs.Changes.{change_by}
 use Rattle.dict_commands.proofs.applying.apply_new.Goals as goal
 
 pub returns-in_err-change-clause-value : goal.returns-in_err-change-clause-value
@@ -31,3 +42,21 @@ returns-in_err-commit_change-clause-crash g c =
     survives_weaker (state g.S.Store c.args.conn.now) (state g.S.Store c.commit_change.new.conn) _ _
     (λ clean trees it M rests is new. left_after M c.args.id.now c.args.command.now c.in_ok-change.change (summary_shown c.args.summary.now) c.requires.id new is c.in_ok-change.ensures.planned c.is_lawful.ensures c.lies_within.ensures
     (state g.S.Store c.args.conn.now) trees rests it) c.commit_change.ensures.crash
+
+pub returns-in_err-change-clause-failed : goal.returns-in_err-change-clause-failed
+returns-in_err-change-clause-failed g c clean =
+    let fault = c.in_err-change.field-0.0 in
+    passed_on (λ fault. is_failure fault ≡ true → ((fault ≡ Memory) × (c.args.conn.now ≡ c.args.conn.now)) ⊎ _) fault c.from_residual.result c.from_residual.ensures.1
+    (λ real. inl (declined_fails (summary_shown c.args.summary.now) (command_shown c.args.command.now) fault c.in_err-change.ensures.declined real, refl))
+
+pub returns-in_err-commit_change-clause-failed : goal.returns-in_err-commit_change-clause-failed
+returns-in_err-commit_change-clause-failed g c clean =
+    let old = c.args.conn.now in
+    let new = c.commit_change.new.conn in
+    let fault = c.in_err-commit_change.field-0.0 in
+    let summary = summary_shown c.args.summary.now in
+    let P = λ (db : Database). (M : Catalogue) → Rests 1 (state g.S.Store old) M → summary_of M ≡ summary → kept_under M.kept c.args.id.now ≡ None → Holds 1 db (step M c.args.id.now (command_meant c.args.command.now)).catalogue in
+    passed_on (λ fault. is_failure fault ≡ true → ((fault ≡ Memory) × (new ≡ old)) ⊎ FailsToEnd g.S.Store P old new fault) fault c.from_residual-in_err-commit_change.result c.from_residual-in_err-commit_change.ensures.1
+    (λ real. inr (ends_weaker g.S.Store (Turns (tables_after 1 (change_by c.args.id.now c.args.command.now c.in_ok-change.change)) (state g.S.Store old).now) P old new fault
+    (λ db turns M rests is new. holds_after M c.args.id.now c.args.command.now c.in_ok-change.change summary c.requires.id new is c.in_ok-change.ensures.planned c.is_lawful.ensures c.lies_within.ensures (state g.S.Store old).now db (holds_now (state g.S.Store old) M rests) turns)
+    (c.in_err-commit_change.ensures.failed clean)))

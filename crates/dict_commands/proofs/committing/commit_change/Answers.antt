@@ -1,12 +1,14 @@
-use Rattle.std.proofs.Common.{◌≡◌, rules, sym, ap, subst, ◌∙◌}
+use Rattle.std.proofs.Common.{◌≡◌, rules, sym, ap, subst, ◌∙◌, inl, inr, refl, arith}
 use Rattle.sqlite.specs.Effect.{Database, IsDatabase}
-use Rattle.sqlite.specs.State.{HasCleanDisk, Survives}
+use Rattle.sqlite.specs.State.{HasCleanDisk, Survives, Fails, IsRolledBack}
 use Rattle.sqlite.specs.Held.{state}
 use Rattle.dict_rows.specs.After.{tables_after}
-use Rattle.dict_file.proofs.CommitLemmas.{leaves, done, only_left}
+use Rattle.dict_file.proofs.CommitLemmas.{leaves, done, only_left, commit_fails}
 use Rattle.dict_commands.specs.Kept.{Turns}
 use Rattle.dict_commands.specs.Changes.{change_by}
 use Rattle.dict_commands.specs.Committed.{IsCommitted, IsTreesOf}
+use Rattle.sqlite.proofs.Callers.{survives_begin}
+use Rattle.dict_file.specs.Writing.{FailsWithin}
 use Rattle.dict_commands.proofs.committing.commit_change.Goals as goal
 
 pub returns-in-Ok-clause-made : goal.returns-in-Ok-clause-made
@@ -57,3 +59,37 @@ returns-in-Err-commit-clause-crash g c =
     let P = λ (db : Database). Turns f (state g.S.Store old).now db in
     let there = leaves g.S.Store old begun mid end P c.transaction-tx.ensures.begun c.write_all.ensures.survives c.commit.ensures.survives made in
     subst (λ h. Survives (state g.S.Store old) (state g.S.Store h) (IsTreesOf P)) same there
+
+pub returns-in-Err-clause-failed : goal.returns-in-Err-clause-failed
+returns-in-Err-clause-failed g c clean =
+    let mid = c.write_all.new.tx.conn.now in
+    let end = c.drop-tx.new.self.0 in
+    let same : end ≡ c.conn-1.given.0 = search rules in
+    let late : HasCleanDisk (state g.S.Store end) = subst (λ h. HasCleanDisk (state g.S.Store h)) (sym same) clean in
+    let early : HasCleanDisk (state g.S.Store mid) = omega (arith, c.drop-tx.ensures.survives.clean, late) in
+    inl (record {
+      error = c.in-Err.error;
+      told = c.fault_of.ensures;
+      last = mid;
+      within = subst (λ h. FailsWithin g.S.Store h mid c.in-Err.error) c.transaction-tx.ensures.begun (c.in-Err.ensures.failed early);
+      undone = subst (λ h. IsRolledBack (state g.S.Store mid) (state g.S.Store h)) same (c.drop-tx.ensures.undone late);
+    })
+
+pub returns-in-Err-commit-clause-failed : goal.returns-in-Err-commit-clause-failed
+returns-in-Err-commit-clause-failed g c clean =
+    let old = c.args.conn.now in
+    let begun = c.transaction-tx.result.conn.now in
+    let mid = c.write_all.new.tx.conn.now in
+    let end = c.commit.new.tx.0 in
+    let same : end ≡ c.conn-2-1.given.0 = search rules in
+    let late : HasCleanDisk (state g.S.Store end) = search rules in
+    let early : HasCleanDisk (state g.S.Store mid) = omega (arith, c.commit.ensures.survives.clean, late) in
+    let f = tables_after 1 (change_by c.args.id.now c.args.command.now c.args.change.now) in
+    inr (record {
+      told = refl;
+      last = mid;
+      before = survives_begin g.S.Store old (state g.S.Store mid) (λ _. ⊥) (subst (λ h. Survives (state g.S.Store h) (state g.S.Store mid) (λ _. ⊥)) c.transaction-tx.ensures.begun c.write_all.ensures.survives);
+      written = subst (λ d. Turns f d (state g.S.Store mid).now) (ap (λ h. (state g.S.Store h).now) c.transaction-tx.ensures.begun) (c.in_default.ensures.made early).0;
+      error = c.in-Err-commit.field-0;
+      fails = subst (λ h. Fails (state g.S.Store mid) (state g.S.Store h) ⊥ c.in-Err-commit.field-0) same (commit_fails (state g.S.Store mid) (state g.S.Store end) c.in-Err-commit.field-0 (c.in_default.ensures.inside early) (c.in-Err-commit.ensures.failed late));
+    })

@@ -5,6 +5,7 @@ use Rattle.dict_index.specs.Views.{line_of}
 use Rattle.dict_rows.specs.Written.{numbered, entry_record}
 use Rattle.dict_commands.specs.Kept.{HasRecords}
 use Rattle.dict_commands.proofs.LoopLemmas.{clean_before, keeps_then, none_then, numbered_next}
+use Rattle.dict_file.proofs.WithinLemmas.{err_later}
 use Rattle.dict_commands.proofs.editions.add_entries.Goals as goal
 
 pub loop-ord-preserved : goal.loop-ord-preserved
@@ -20,8 +21,14 @@ loop-ord-preserved g c =
       usable = c.in_ok-add_entry.ensures.usable;
       keeps = λ clean. keeps_then first mid new (c.loop-ord.invariant.keeps (clean_before mid new c.add_entry.ensures.survives clean)) (c.add_entry.ensures.keeps clean);
       survives = none_then first mid new c.loop-ord.invariant.survives c.add_entry.ensures.survives;
+      inside = λ clean begun. c.in_ok-add_entry.ensures.inside clean (c.loop-ord.invariant.inside (clean_before mid new c.add_entry.ensures.survives clean) begun);
     }
 
 pub returns-clause-turns : goal.returns-clause-turns
 returns-clause-turns g c = λ clean tables it.
     subst (λ l. HasRecords (seen g.S.Store c.loop-ord.tx).now (record tables { entries = tables.entries ++ numbered (entry_record c.args.number) 0 (map line_of l) })) (take_all c.loop-ord.ord c.args.entries.now (omega arith)) (c.loop-ord.invariant.turns clean tables it)
+
+pub returns-in_err-add_entry-clause-failed : goal.returns-in_err-add_entry-clause-failed
+returns-in_err-add_entry-clause-failed g c clean =
+    err_later g.S.Store c.args.tx.now.conn.now c.loop-ord.tx.conn.now c.add_entry.new.tx.conn.now c.in_err-add_entry.field-0.0 c.from_residual.result c.from_residual.ensures.1 c.loop-ord.invariant.survives c.add_entry.ensures.survives
+    c.loop-ord.invariant.inside clean (c.in_err-add_entry.ensures.failed clean)

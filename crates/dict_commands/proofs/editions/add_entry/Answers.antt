@@ -4,6 +4,7 @@ use Rattle.dict_sql.specs.Encodings.{entry_row}
 use Rattle.dict_records.specs.Records.{Entry}
 use Rattle.dict_commands.proofs.TableLemmas.{entry_added}
 use Rattle.dict_commands.proofs.LoopLemmas.{usable_then}
+use Rattle.dict_file.proofs.WithinLemmas.{err_added}
 use Rattle.dict_commands.proofs.editions.add_entry.Goals as goal
 
 pub returns-clause-turns : goal.returns-clause-turns
@@ -15,3 +16,7 @@ returns-clause-turns g c = λ clean.
 pub returns-clause-usable : goal.returns-clause-usable
 returns-clause-usable g c =
     usable_then (seen g.S.Store c.args.tx.now) (seen g.S.Store c.insert_entry.new.tx) c.requires.usable c.insert_entry.ensures.survives (λ clean. (c.in_ok-insert_entry.ensures.added clean).1.was_open) (returns-clause-turns g c)
+
+pub returns-in_err-insert_entry-clause-failed : goal.returns-in_err-insert_entry-clause-failed
+returns-in_err-insert_entry-clause-failed g c clean =
+    err_added g.S.Store _ _ c.args.tx.now.conn.now c.insert_entry.new.tx.conn.now c.in_err-insert_entry.field-0.0 c.from_residual.result c.from_residual.ensures.1 (c.in_err-insert_entry.ensures.failed clean)

@@ -1,4 +1,9 @@
+use Rattle.dict_file.proofs.WithinLemmas.{err_first}
 use Rattle.dict_commands.proofs.editions.add_installed.Goals as goal
 
 pub returns-in_ok-add_edition-in-Install-clause-turns : goal.returns-in_ok-add_edition-in-Install-clause-turns
 returns-in_ok-add_edition-in-Install-clause-turns g c = λ clean tables it. rw c.in-Install.is (c.in_ok-add_edition-in-Install.ensures.turns clean tables it)
+
+pub returns-in_err-add_edition-in-Install-clause-failed : goal.returns-in_err-add_edition-in-Install-clause-failed
+returns-in_err-add_edition-in-Install-clause-failed g c clean =
+    err_first g.S.Store c.args.tx.now.conn.now c.add_edition.new.tx.conn.now c.in_err-add_edition-in-Install.field-0.0 c.from_residual.result c.from_residual.ensures.1 (c.in_err-add_edition-in-Install.ensures.failed clean)

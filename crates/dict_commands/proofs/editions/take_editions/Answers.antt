@@ -5,6 +5,7 @@ use Rattle.dict_commands.specs.Kept.{HasRecords}
 use Rattle.dict_commands.specs.Changes.{without_editions}
 use Rattle.dict_commands.proofs.GoneLemmas.{none_gone, next_gone}
 use Rattle.dict_commands.proofs.LoopLemmas.{clean_before, keeps_then, keeps_all, none_then, none_more}
+use Rattle.dict_file.proofs.WithinLemmas.{err_later}
 use Rattle.dict_commands.proofs.editions.take_editions.Goals as goal
 
 pub each-init : goal.each-init
@@ -14,6 +15,7 @@ each-init g c = record {
   usable = c.requires.usable;
   keeps = λ clean. keeps_all (seen g.S.Store c.args.tx.now);
   survives = none_more (seen g.S.Store c.args.tx.now);
+  inside = λ clean begun. begun;
 }
 
 pub each-preserved : goal.each-preserved
@@ -28,8 +30,14 @@ each-preserved g c =
       usable = c.in_ok-take_edition.ensures.usable;
       keeps = λ clean. keeps_then first mid new (c.each.invariant.keeps (clean_before mid new c.take_edition.ensures.survives clean)) (c.take_edition.ensures.keeps clean);
       survives = none_then first mid new c.each.invariant.survives c.take_edition.ensures.survives;
+      inside = λ clean begun. c.in_ok-take_edition.ensures.inside clean (c.each.invariant.inside (clean_before mid new c.take_edition.ensures.survives clean) begun);
     }
 
 pub returns-clause-turns : goal.returns-clause-turns
 returns-clause-turns g c = λ clean tables it.
     subst (λ l. HasRecords (seen g.S.Store c.each.tx).now (without_editions l tables)) (take_all c.each.number-index c.args.gone.now c.each-test.false) (c.each.invariant.turns clean tables it)
+
+pub returns-in_err-take_edition-clause-failed : goal.returns-in_err-take_edition-clause-failed
+returns-in_err-take_edition-clause-failed g c clean =
+    err_later g.S.Store c.args.tx.now.conn.now c.each.tx.conn.now c.take_edition.new.tx.conn.now c.in_err-take_edition.field-0.0 c.from_residual.result c.from_residual.ensures.1 c.each.invariant.survives c.take_edition.ensures.survives
+    c.each.invariant.inside clean (c.in_err-take_edition.ensures.failed clean)

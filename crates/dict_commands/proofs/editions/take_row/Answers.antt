@@ -2,6 +2,9 @@ use Rattle.std.proofs.Common.{codes, subst}
 use Rattle.dict_sql.specs.Effects.{seen, IsRemoved, equals_number}
 use Rattle.dict_commands.proofs.GoneLemmas.{handed, edition_gone}
 use Rattle.dict_commands.proofs.LoopLemmas.{usable_then}
+use Rattle.dict_file.proofs.WithinLemmas.{err_removed}
+use mir.Val.{to_z}
+use mir.Syntax.{w64}
 use Rattle.dict_commands.proofs.editions.take_row.Goals as goal
 
 pub returns-clause-turns : goal.returns-clause-turns
@@ -13,3 +16,7 @@ returns-clause-turns g c = λ clean.
 pub returns-clause-usable : goal.returns-clause-usable
 returns-clause-usable g c =
     usable_then (seen g.S.Store c.args.tx.now) (seen g.S.Store c.delete_edition.new.tx) c.requires.usable c.delete_edition.ensures.survives (λ clean. (c.in_ok-delete_edition.ensures.removed clean).1.was_open) (returns-clause-turns g c)
+
+pub returns-in_err-delete_edition-clause-failed : goal.returns-in_err-delete_edition-clause-failed
+returns-in_err-delete_edition-clause-failed g c clean =
+    err_removed g.S.Store (codes "edition") (equals_number 1 (to_z w64 c.args.number)) c.args.tx.now.conn.now c.delete_edition.new.tx.conn.now c.in_err-delete_edition.field-0.0 c.from_residual.result c.from_residual.ensures.1 (c.in_err-delete_edition.ensures.failed clean)

@@ -7,6 +7,7 @@ use Rattle.dict_rows.specs.Written.{numbered, member_record}
 use Rattle.dict_rows.specs.After.{all_members}
 use Rattle.dict_commands.specs.Kept.{HasRecords}
 use Rattle.dict_commands.proofs.LoopLemmas.{clean_before, keeps_then, none_then, joined_next}
+use Rattle.dict_file.proofs.WithinLemmas.{err_later}
 use Rattle.dict_commands.proofs.small.add_all_members.Goals as goal
 
 pub each-preserved : goal.each-preserved
@@ -22,8 +23,14 @@ each-preserved g c =
       usable = c.in_ok-add_members_of.ensures.usable;
       keeps = λ clean. keeps_then first mid new (c.each.invariant.keeps (clean_before mid new c.add_members_of.ensures.survives clean)) (c.add_members_of.ensures.keeps clean);
       survives = none_then first mid new c.each.invariant.survives c.add_members_of.ensures.survives;
+      inside = λ clean begun. c.in_ok-add_members_of.ensures.inside clean (c.each.invariant.inside (clean_before mid new c.add_members_of.ensures.survives clean) begun);
     }
 
 pub returns-clause-turns : goal.returns-clause-turns
 returns-clause-turns g c = λ clean tables it.
     subst (λ l. HasRecords (seen g.S.Store c.each.tx).now (record tables { members = tables.members ++ all_members (map item_shown l) })) (take_all c.each.item-index c.args.items.now c.each-test.false) (c.each.invariant.turns clean tables it)
+
+pub returns-in_err-add_members_of-clause-failed : goal.returns-in_err-add_members_of-clause-failed
+returns-in_err-add_members_of-clause-failed g c clean =
+    err_later g.S.Store c.args.tx.now.conn.now c.each.tx.conn.now c.add_members_of.new.tx.conn.now c.in_err-add_members_of.field-0.0 c.from_residual.result c.from_residual.ensures.1 c.each.invariant.survives c.add_members_of.ensures.survives
+    c.each.invariant.inside clean (c.in_err-add_members_of.ensures.failed clean)

@@ -5,6 +5,7 @@ use Rattle.dict_catalogue.specs.Views.{item_shown}
 use Rattle.dict_rows.specs.Written.{numbered, item_record}
 use Rattle.dict_commands.specs.Kept.{HasRecords}
 use Rattle.dict_commands.proofs.LoopLemmas.{clean_before, keeps_then, none_then, numbered_next}
+use Rattle.dict_file.proofs.WithinLemmas.{err_later}
 use Rattle.dict_commands.proofs.small.add_items.Goals as goal
 
 pub loop-place-preserved : goal.loop-place-preserved
@@ -20,8 +21,14 @@ loop-place-preserved g c =
       usable = c.in_ok-add_item.ensures.usable;
       keeps = λ clean. keeps_then first mid new (c.loop-place.invariant.keeps (clean_before mid new c.add_item.ensures.survives clean)) (c.add_item.ensures.keeps clean);
       survives = none_then first mid new c.loop-place.invariant.survives c.add_item.ensures.survives;
+      inside = λ clean begun. c.in_ok-add_item.ensures.inside clean (c.loop-place.invariant.inside (clean_before mid new c.add_item.ensures.survives clean) begun);
     }
 
 pub returns-clause-turns : goal.returns-clause-turns
 returns-clause-turns g c = λ clean tables it.
     subst (λ l. HasRecords (seen g.S.Store c.loop-place.tx).now (record tables { items = tables.items ++ numbered item_record 0 (map item_shown l) })) (take_all c.loop-place.place c.args.items.now (omega arith)) (c.loop-place.invariant.turns clean tables it)
+
+pub returns-in_err-add_item-clause-failed : goal.returns-in_err-add_item-clause-failed
+returns-in_err-add_item-clause-failed g c clean =
+    err_later g.S.Store c.args.tx.now.conn.now c.loop-place.tx.conn.now c.add_item.new.tx.conn.now c.in_err-add_item.field-0.0 c.from_residual.result c.from_residual.ensures.1 c.loop-place.invariant.survives c.add_item.ensures.survives
+    c.loop-place.invariant.inside clean (c.in_err-add_item.ensures.failed clean)

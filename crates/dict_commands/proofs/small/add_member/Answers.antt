@@ -4,6 +4,7 @@ use Rattle.dict_sql.specs.Encodings.{member_row}
 use Rattle.dict_records.specs.Records.{Member}
 use Rattle.dict_commands.proofs.TableLemmas.{member_added}
 use Rattle.dict_commands.proofs.LoopLemmas.{usable_then}
+use Rattle.dict_file.proofs.WithinLemmas.{err_added}
 use Rattle.dict_commands.proofs.small.add_member.Goals as goal
 
 pub returns-clause-turns : goal.returns-clause-turns
@@ -15,3 +16,7 @@ returns-clause-turns g c = λ clean.
 pub returns-clause-usable : goal.returns-clause-usable
 returns-clause-usable g c =
     usable_then (seen g.S.Store c.args.tx.now) (seen g.S.Store c.insert_member.new.tx) c.requires.usable c.insert_member.ensures.survives (λ clean. (c.in_ok-insert_member.ensures.added clean).1.was_open) (returns-clause-turns g c)
+
+pub returns-in_err-insert_member-clause-failed : goal.returns-in_err-insert_member-clause-failed
+returns-in_err-insert_member-clause-failed g c clean =
+    err_added g.S.Store _ _ c.args.tx.now.conn.now c.insert_member.new.tx.conn.now c.in_err-insert_member.field-0.0 c.from_residual.result c.from_residual.ensures.1 (c.in_err-insert_member.ensures.failed clean)

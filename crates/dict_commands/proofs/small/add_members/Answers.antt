@@ -6,6 +6,7 @@ use Rattle.std.proofs.Common.{string_bytes}
 use Rattle.dict_rows.specs.Written.{numbered, member_record}
 use Rattle.dict_commands.specs.Kept.{HasRecords}
 use Rattle.dict_commands.proofs.LoopLemmas.{clean_before, keeps_then, none_then, numbered_next}
+use Rattle.dict_file.proofs.WithinLemmas.{err_later}
 use Rattle.dict_commands.proofs.small.add_members.Goals as goal
 
 pub loop-ord-preserved : goal.loop-ord-preserved
@@ -21,8 +22,14 @@ loop-ord-preserved g c =
       usable = c.in_ok-add_member.ensures.usable;
       keeps = λ clean. keeps_then first mid new (c.loop-ord.invariant.keeps (clean_before mid new c.add_member.ensures.survives clean)) (c.add_member.ensures.keeps clean);
       survives = none_then first mid new c.loop-ord.invariant.survives c.add_member.ensures.survives;
+      inside = λ clean begun. c.in_ok-add_member.ensures.inside clean (c.loop-ord.invariant.inside (clean_before mid new c.add_member.ensures.survives clean) begun);
     }
 
 pub returns-clause-turns : goal.returns-clause-turns
 returns-clause-turns g c = λ clean tables it.
     subst (λ l. HasRecords (seen g.S.Store c.loop-ord.tx).now (record tables { members = tables.members ++ numbered (member_record c.args.owner.now) 0 (texts_shown l) })) (take_all c.loop-ord.ord c.args.members.now (omega arith)) (c.loop-ord.invariant.turns clean tables it)
+
+pub returns-in_err-add_member-clause-failed : goal.returns-in_err-add_member-clause-failed
+returns-in_err-add_member-clause-failed g c clean =
+    err_later g.S.Store c.args.tx.now.conn.now c.loop-ord.tx.conn.now c.add_member.new.tx.conn.now c.in_err-add_member.field-0.0 c.from_residual.result c.from_residual.ensures.1 c.loop-ord.invariant.survives c.add_member.ensures.survives
+    c.loop-ord.invariant.inside clean (c.in_err-add_member.ensures.failed clean)

@@ -1,5 +1,5 @@
 -- what was written so far
-use Rattle.std.proofs.Common.{◌≡◌, ◌++◌, take}
+use Rattle.std.proofs.Common.{◌≡◌, ◌++◌, take, true}
 use Rattle.sqlite.specs.State.{HasCleanDisk, KeepsCommit, Survives}
 use Rattle.dict_sql.specs.Effects.{WhileOpen, seen}
 use Rattle.dict_rows.specs.Written.{numbered, member_record}
@@ -14,4 +14,5 @@ invariant-loop-ord g l = record {
   usable : WhileOpen (seen g.S.Store l.tx) IsUsable;
   keeps : HasCleanDisk (seen g.S.Store l.tx) → KeepsCommit (seen g.S.Store l.fn.tx) (seen g.S.Store l.tx);
   survives : Survives (seen g.S.Store l.fn.tx) (seen g.S.Store l.tx) (λ _. ⊥);
+  inside : HasCleanDisk (seen g.S.Store l.tx) → (seen g.S.Store l.fn.tx).in_transaction ≡ true → (seen g.S.Store l.tx).in_transaction ≡ true;
 }

@@ -1,6 +1,9 @@
 use Rattle.dict_sql.specs.Effects.{seen}
 use Rattle.dict_commands.proofs.TableLemmas.{usable_to_remove, all_cleared}
 use Rattle.dict_commands.proofs.LoopLemmas.{usable_then}
+use Rattle.dict_file.proofs.WithinLemmas.{err_removed}
+use Rattle.std.proofs.Common.{true}
+use Rattle.dict_tables.specs.Tables.{table_of}
 use Rattle.dict_commands.proofs.small.clear.Goals as goal
 
 pub clear_table-requires : goal.clear_table-requires
@@ -12,3 +15,7 @@ returns-clause-turns g c = λ clean. all_cleared c.args.table (seen g.S.Store c.
 pub returns-clause-usable : goal.returns-clause-usable
 returns-clause-usable g c =
     usable_then (seen g.S.Store c.args.tx.now) (seen g.S.Store c.clear_table.new.tx) c.requires c.clear_table.ensures.survives (λ clean. (c.in_ok-clear_table.ensures.removed clean).1.was_open) (returns-clause-turns g c)
+
+pub returns-in_err-clear_table-clause-failed : goal.returns-in_err-clear_table-clause-failed
+returns-in_err-clear_table-clause-failed g c clean =
+    err_removed g.S.Store (table_of c.args.table 0).name (λ _. true) c.args.tx.now.conn.now c.clear_table.new.tx.conn.now c.in_err-clear_table.field-0.0 c.from_residual.result c.from_residual.ensures.1 (c.in_err-clear_table.ensures.failed clean)

@@ -2,6 +2,7 @@ use Rattle.dict_sql.specs.Effects.{seen}
 use Rattle.dict_commands.specs.Changes.{cleared}
 use Rattle.dict_tables.specs.declared.tables.StoreTable.TheVariants as table
 use Rattle.dict_commands.proofs.LoopLemmas.{clean_before, none_then}
+use Rattle.dict_file.proofs.WithinLemmas.{err_first, err_later}
 use Rattle.dict_commands.proofs.small.write_members.Goals as goal
 
 pub returns-clause-turns : goal.returns-clause-turns
@@ -11,3 +12,15 @@ returns-clause-turns g c = λ clean tables it.
 
 pub returns-clause-survives : goal.returns-clause-survives
 returns-clause-survives g c = none_then (seen g.S.Store c.args.tx.now) (seen g.S.Store c.clear.new.tx) (seen g.S.Store c.add_all_members.new.tx) c.clear.ensures.survives c.add_all_members.ensures.survives
+
+pub returns-in_err-clear-clause-failed : goal.returns-in_err-clear-clause-failed
+returns-in_err-clear-clause-failed g c clean =
+    err_first g.S.Store c.args.tx.now.conn.now c.clear.new.tx.conn.now c.in_err-clear.field-0.0 c.from_residual.result c.from_residual.ensures.1 (c.in_err-clear.ensures.failed clean)
+
+pub returns-in_err-add_all_members-clause-failed : goal.returns-in_err-add_all_members-clause-failed
+returns-in_err-add_all_members-clause-failed g c clean =
+    err_later g.S.Store c.args.tx.now.conn.now c.clear.new.tx.conn.now c.add_all_members.new.tx.conn.now c.in_err-add_all_members.field-0.0 c.from_residual-in_err-add_all_members.result c.from_residual-in_err-add_all_members.ensures.1 (c.clear.ensures.survives) c.add_all_members.ensures.survives
+    (c.in_ok-clear.ensures.inside) clean (c.in_err-add_all_members.ensures.failed clean)
+
+pub returns-in_err-add_all_members-clause-survives : goal.returns-in_err-add_all_members-clause-survives
+returns-in_err-add_all_members-clause-survives g c = none_then (seen g.S.Store c.args.tx.now) (seen g.S.Store c.clear.new.tx) (seen g.S.Store c.add_all_members.new.tx) c.clear.ensures.survives c.add_all_members.ensures.survives

@@ -3,6 +3,7 @@ use Rattle.dict_sql.specs.Effects.{seen, IsAdded}
 use Rattle.dict_sql.specs.Encodings.{kept_row}
 use Rattle.dict_records.specs.Records.{Kept}
 use Rattle.dict_commands.proofs.TableLemmas.{kept_added}
+use Rattle.dict_file.proofs.WithinLemmas.{err_added}
 use Rattle.dict_commands.proofs.writing.add_reply.Goals as goal
 
 pub returns-clause-turns : goal.returns-clause-turns
@@ -10,3 +11,7 @@ returns-clause-turns g c = λ clean.
     let old = seen g.S.Store c.args.tx.now in
     let new = seen g.S.Store c.insert_kept.new.tx in
     kept_added old.now new.now _ (subst (λ (r : Kept). IsAdded (codes "kept") (kept_row r) old.now new.now) c.kept_row-row.ensures (c.in_ok-insert_kept.ensures.added clean).0)
+
+pub returns-in_err-insert_kept-clause-failed : goal.returns-in_err-insert_kept-clause-failed
+returns-in_err-insert_kept-clause-failed g c clean =
+    err_added g.S.Store _ _ c.args.tx.now.conn.now c.insert_kept.new.tx.conn.now c.in_err-insert_kept.field-0.0 c.from_residual.result c.from_residual.ensures.1 (c.in_err-insert_kept.ensures.failed clean)

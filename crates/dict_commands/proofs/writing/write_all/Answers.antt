@@ -4,6 +4,7 @@ use Rattle.dict_sql.specs.Effects.{seen}
 use Rattle.dict_catalogue.specs.Views.{item_shown}
 use Rattle.dict_commands.specs.Changes.{with_mark, with_items, with_members, without_editions, with_installed, installed_by}
 use Rattle.dict_commands.proofs.LoopLemmas.{clean_before, none_then}
+use Rattle.dict_file.proofs.WithinLemmas.{err_first, err_later}
 use Rattle.dict_commands.proofs.writing.write_all.Goals as goal
 
 pub returns-in_err-add_reply-clause-survives : goal.returns-in_err-add_reply-clause-survives
@@ -37,3 +38,20 @@ returns-clause-survives g c =
     let two = seen g.S.Store c.write_editions.new.tx in
     let new = seen g.S.Store c.add_reply.new.tx in
     none_then first two new (none_then first one two c.write_summary.ensures.survives c.write_editions.ensures.survives) c.add_reply.ensures.survives
+
+pub returns-in_err-write_summary-clause-failed : goal.returns-in_err-write_summary-clause-failed
+returns-in_err-write_summary-clause-failed g c clean =
+    err_first g.S.Store c.args.tx.now.conn.now c.write_summary.new.tx.conn.now c.in_err-write_summary.field-0.0 c.from_residual.result c.from_residual.ensures.1 (c.in_err-write_summary.ensures.failed clean)
+
+pub returns-in_err-write_editions-clause-failed : goal.returns-in_err-write_editions-clause-failed
+returns-in_err-write_editions-clause-failed g c clean =
+    err_later g.S.Store c.args.tx.now.conn.now c.write_summary.new.tx.conn.now c.write_editions.new.tx.conn.now c.in_err-write_editions.field-0.0 c.from_residual-in_err-write_editions.result c.from_residual-in_err-write_editions.ensures.1 (c.write_summary.ensures.survives) c.write_editions.ensures.survives
+    (c.in_ok-write_summary.ensures.inside) clean (c.in_err-write_editions.ensures.failed clean)
+
+pub returns-in_err-add_reply-clause-failed : goal.returns-in_err-add_reply-clause-failed
+returns-in_err-add_reply-clause-failed g c clean =
+    err_later g.S.Store c.args.tx.now.conn.now c.write_editions.new.tx.conn.now c.add_reply.new.tx.conn.now c.in_err-add_reply.field-0.0 c.from_residual-in_err-add_reply.result c.from_residual-in_err-add_reply.ensures.1 (none_then (seen g.S.Store c.args.tx.now) (seen g.S.Store c.write_summary.new.tx) (seen g.S.Store c.write_editions.new.tx) c.write_summary.ensures.survives c.write_editions.ensures.survives) c.add_reply.ensures.survives
+    (λ late begun. c.in_ok-write_editions.ensures.inside late (c.in_ok-write_summary.ensures.inside (clean_before (seen g.S.Store c.write_summary.new.tx) (seen g.S.Store c.write_editions.new.tx) c.write_editions.ensures.survives late) begun)) clean (c.in_err-add_reply.ensures.failed clean)
+
+pub returns-in_err-write_editions-clause-survives : goal.returns-in_err-write_editions-clause-survives
+returns-in_err-write_editions-clause-survives g c = none_then (seen g.S.Store c.args.tx.now) (seen g.S.Store c.write_summary.new.tx) (seen g.S.Store c.write_editions.new.tx) c.write_summary.ensures.survives c.write_editions.ensures.survives

@@ -1,6 +1,7 @@
 use Rattle.dict_sql.specs.Effects.{seen}
 use Rattle.dict_commands.specs.Changes.{without_editions}
 use Rattle.dict_commands.proofs.LoopLemmas.{clean_before, none_then}
+use Rattle.dict_file.proofs.WithinLemmas.{err_first, err_later}
 use Rattle.dict_commands.proofs.writing.write_editions.Goals as goal
 
 pub returns-clause-turns : goal.returns-clause-turns
@@ -10,3 +11,15 @@ returns-clause-turns g c = λ clean tables it.
 
 pub returns-clause-survives : goal.returns-clause-survives
 returns-clause-survives g c = none_then (seen g.S.Store c.args.tx.now) (seen g.S.Store c.take_editions.new.tx) (seen g.S.Store c.add_installed.new.tx) c.take_editions.ensures.survives c.add_installed.ensures.survives
+
+pub returns-in_err-take_editions-clause-failed : goal.returns-in_err-take_editions-clause-failed
+returns-in_err-take_editions-clause-failed g c clean =
+    err_first g.S.Store c.args.tx.now.conn.now c.take_editions.new.tx.conn.now c.in_err-take_editions.field-0.0 c.from_residual.result c.from_residual.ensures.1 (c.in_err-take_editions.ensures.failed clean)
+
+pub returns-in_err-add_installed-clause-failed : goal.returns-in_err-add_installed-clause-failed
+returns-in_err-add_installed-clause-failed g c clean =
+    err_later g.S.Store c.args.tx.now.conn.now c.take_editions.new.tx.conn.now c.add_installed.new.tx.conn.now c.in_err-add_installed.field-0.0 c.from_residual-in_err-add_installed.result c.from_residual-in_err-add_installed.ensures.1 (c.take_editions.ensures.survives) c.add_installed.ensures.survives
+    (c.in_ok-take_editions.ensures.inside) clean (c.in_err-add_installed.ensures.failed clean)
+
+pub returns-in_err-add_installed-clause-survives : goal.returns-in_err-add_installed-clause-survives
+returns-in_err-add_installed-clause-survives g c = none_then (seen g.S.Store c.args.tx.now) (seen g.S.Store c.take_editions.new.tx) (seen g.S.Store c.add_installed.new.tx) c.take_editions.ensures.survives c.add_installed.ensures.survives

@@ -4,6 +4,7 @@ use Rattle.dict_sql.specs.Effects.{seen}
 use Rattle.dict_catalogue.specs.Views.{item_shown}
 use Rattle.dict_commands.specs.Changes.{with_mark, with_items}
 use Rattle.dict_commands.proofs.LoopLemmas.{clean_before, none_then}
+use Rattle.dict_file.proofs.WithinLemmas.{err_first, err_later}
 use Rattle.dict_commands.proofs.writing.write_summary.Goals as goal
 
 pub returns-in_err-write_members-clause-survives : goal.returns-in_err-write_members-clause-survives
@@ -33,3 +34,20 @@ returns-clause-survives g c =
     let two = seen g.S.Store c.write_items.new.tx in
     let new = seen g.S.Store c.write_members.new.tx in
     none_then first two new (none_then first one two c.write_mark.ensures.survives c.write_items.ensures.survives) c.write_members.ensures.survives
+
+pub returns-in_err-write_mark-clause-failed : goal.returns-in_err-write_mark-clause-failed
+returns-in_err-write_mark-clause-failed g c clean =
+    err_first g.S.Store c.args.tx.now.conn.now c.write_mark.new.tx.conn.now c.in_err-write_mark.field-0.0 c.from_residual.result c.from_residual.ensures.1 (c.in_err-write_mark.ensures.failed clean)
+
+pub returns-in_err-write_items-clause-failed : goal.returns-in_err-write_items-clause-failed
+returns-in_err-write_items-clause-failed g c clean =
+    err_later g.S.Store c.args.tx.now.conn.now c.write_mark.new.tx.conn.now c.write_items.new.tx.conn.now c.in_err-write_items.field-0.0 c.from_residual-in_err-write_items.result c.from_residual-in_err-write_items.ensures.1 (c.write_mark.ensures.survives) c.write_items.ensures.survives
+    (c.in_ok-write_mark.ensures.inside) clean (c.in_err-write_items.ensures.failed clean)
+
+pub returns-in_err-write_members-clause-failed : goal.returns-in_err-write_members-clause-failed
+returns-in_err-write_members-clause-failed g c clean =
+    err_later g.S.Store c.args.tx.now.conn.now c.write_items.new.tx.conn.now c.write_members.new.tx.conn.now c.in_err-write_members.field-0.0 c.from_residual-in_err-write_members.result c.from_residual-in_err-write_members.ensures.1 (none_then (seen g.S.Store c.args.tx.now) (seen g.S.Store c.write_mark.new.tx) (seen g.S.Store c.write_items.new.tx) c.write_mark.ensures.survives c.write_items.ensures.survives) c.write_members.ensures.survives
+    (λ late begun. c.in_ok-write_items.ensures.inside late (c.in_ok-write_mark.ensures.inside (clean_before (seen g.S.Store c.write_mark.new.tx) (seen g.S.Store c.write_items.new.tx) c.write_items.ensures.survives late) begun)) clean (c.in_err-write_members.ensures.failed clean)
+
+pub returns-in_err-write_items-clause-survives : goal.returns-in_err-write_items-clause-survives
+returns-in_err-write_items-clause-survives g c = none_then (seen g.S.Store c.args.tx.now) (seen g.S.Store c.write_mark.new.tx) (seen g.S.Store c.write_items.new.tx) c.write_mark.ensures.survives c.write_items.ensures.survives

@@ -1,7 +1,6 @@
 use Rattle.std.proofs.Common.{List, sym, subst}
 use Rattle.std.specs.Prelude.{option_map}
 use Rattle.sqlite.specs.Order.{Row}
-use Rattle.dict_sql.specs.Columns.{entry_columns}
 use Rattle.dict_sql.specs.Encodings.{stored_entry}
 use Rattle.dict_sql.specs.Streams.{Scan, HasGiven, GivesOn}
 use Rattle.dict_lookup.specs.Lookups.{FailsToLookUp}
@@ -37,4 +36,4 @@ returns-in-Err-clause-failed g c clean =
     let old = c.args.rows.now.conn.now in
     let new = c.next_record-next.new.rows.conn.now in
     subst (FailsToLookUp (state g.S.Store old) (state g.S.Store new)) (sym c.fault_of_read.ensures.is)
-    (fails_next g.S.Store old new entry_columns c.in-Err.error (c.in-Err.ensures.failed clean) (c.requires (clean_before (state g.S.Store old) (state g.S.Store new) c.in-Err.ensures.survives clean)))
+    (fails_next g.S.Store old new c.in-Err.error (c.in-Err.ensures.failed clean) (c.requires (clean_before (state g.S.Store old) (state g.S.Store new) c.in-Err.ensures.survives clean)))

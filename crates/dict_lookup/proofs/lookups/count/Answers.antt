@@ -1,7 +1,7 @@
-use Rattle.std.proofs.Common.{◌≡◌, [], ◌+◌, length, sym, subst, ap, ◌∙◌, zero-add}
+use Rattle.std.proofs.Common.{◌≡◌, ◌≤◌, inl, inr, arith, [], ◌+◌, length, sym, subst, ap, ◌∙◌, zero-add}
 use Rattle.std.specs.Prelude.{Ok}
 use Rattle.std.proofs.lemmas.List.{length-map}
-use Rattle.sqlite.specs.State.{HasCleanDisk}
+use Rattle.sqlite.specs.State.{HasCleanDisk, IsUnchanged}
 use Rattle.sqlite.specs.Held.{state}
 use Rattle.dict_index.specs.Edition.{Edition, edition_of}
 use Rattle.dict_desk.specs.Found.{found, headwords}
@@ -30,4 +30,29 @@ returns-in-All-clause-value g c clean M edition holds has =
           let counted : w.heads_in.new.sink.count ≡ 0 + length (headword_rows strategy query (edition_of held.0)) = hands.all (w.in_ok-end-in-Headwords.was ∙ ap Ok (sym w.end-is ∙ c.in-All.is)) in
           ap (λ (k : Counter). k.count) w.counter-is ∙ (counted ∙ (zero-add (length (headword_rows strategy query (edition_of held.0))) ∙ (length-map (headwords (found strategy query (edition_of held.0))) headword_row
           ∙ (ap (λ (e : Edition). count_of Headwords strategy query e) (sym held.2) ∙ ap (λ (what : What). count_of what strategy query edition) (sym w.in-Headwords.is)))))
+    ]
+
+pub returns-in-Stopped-clause-failed : goal.returns-in-Stopped-clause-failed
+returns-in-Stopped-clause-failed g c clean =
+    elim c.match-what.branch [
+      | in-Entries+in_ok-end-in-Entries w ↦
+          let early = subst (λ h. HasCleanDisk (state g.S.Store h)) w.conn-is clean in
+          inl (
+            subst (λ h. IsUnchanged (state g.S.Store c.args.conn.now) (state g.S.Store h)) (sym w.conn-is) (w.in_ok-end-in-Entries.ensures.same early),
+            inr (λ M holds.
+                let few = w.find_in.ensures.few early M holds in
+                let limit = few.1 in
+                let many : 18446744073709551615 ≤ 0 + length few.0 = few.2.stopped (w.in_ok-end-in-Entries.was ∙ ap Ok (sym w.end-is ∙ c.in-Stopped.is)) in
+                absurd (omega (arith, limit, many))),
+          )
+      | in-Headwords+in_ok-end-in-Headwords w ↦
+          let early = subst (λ h. HasCleanDisk (state g.S.Store h)) w.conn-is clean in
+          inl (
+            subst (λ h. IsUnchanged (state g.S.Store c.args.conn.now) (state g.S.Store h)) (sym w.conn-is) (w.in_ok-end-in-Headwords.ensures.same early),
+            inr (λ M holds.
+                let few = w.heads_in.ensures.few early M holds in
+                let limit = few.1 in
+                let many : 18446744073709551615 ≤ 0 + length few.0 = few.2.stopped (w.in_ok-end-in-Headwords.was ∙ ap Ok (sym w.end-is ∙ c.in-Stopped.is)) in
+                absurd (omega (arith, limit, many))),
+          )
     ]

@@ -7,9 +7,10 @@ use Rattle.dict_rows.specs.Written.{edition_record}
 use Rattle.dict_index.specs.Edition.{Edition, edition_of}
 use Rattle.dict_desk.specs.Found.{found}
 use Rattle.dict_desk.specs.Handing.{Hands}
-use Rattle.dict_lookup.specs.Lookups.{HoldsOne}
+use Rattle.dict_file.proofs.FailLemmas.{fails_behind}
+use Rattle.dict_lookup.specs.Lookups.{HoldsOne, FailsToLookUp}
 use Rattle.dict_lookup.proofs.RecordLemmas.{held_one, record_there, record_told}
-use Rattle.dict_lookup.proofs.StateLemmas.{clean_before}
+use Rattle.dict_lookup.proofs.StateLemmas.{clean_before, each_err}
 use Rattle.dict_lookup.proofs.lookups.find.Goals as goal
 
 pub returns-in_default-clause-value : goal.returns-in_default-clause-value
@@ -27,3 +28,11 @@ returns-clause-value g c clean M edition holds has =
     let text : c.as_slice.result.now ≡ held.0.text = c.as_slice.ensures.value ∙ ap (λ (r : spec.Edition). r.body) told in
     subst (λ (e : Edition). Hands g.T.RowSink.takes g.T.RowSink.stops c.args.sink.now c.find_in.new.sink (found c.args.strategy c.args.query.now e) c.find_in.result)
     (ap (λ (t : List ℕ). edition_of (record held.0 { text = t })) text ∙ sym held.2) (c.find_in.ensures.value clean held.0 here)
+
+pub returns-clause-failed : goal.returns-clause-failed
+returns-clause-failed g c clean =
+    let old = state g.S.Store c.args.conn.now in
+    let mid = state g.S.Store c.edition_of_number.new.conn in
+    let new = state g.S.Store c.find_in.new.conn in
+    each_err c.find_in.result (FailsToLookUp mid new) (FailsToLookUp old new)
+    (fails_behind old mid new (c.in_ok-edition.ensures.same (clean_before mid new c.find_in.ensures.survives clean)) c.edition_of_number.ensures.survives) (c.find_in.ensures.failed clean)

@@ -1,4 +1,4 @@
-use Rattle.std.proofs.Common.{◌≡◌, [], ap, sym, subst, ◌∙◌, rules}
+use Rattle.std.proofs.Common.{◌≡◌, ◌≤◌, [], arith, refl, ap, sym, subst, ◌∙◌, rules}
 use Rattle.std.specs.Prelude.{ℤ, IfErr}
 use mir.Val.{to_z, of_z}
 use mir.Syntax.{w64}
@@ -11,8 +11,13 @@ use Rattle.dict_rows.specs.Written.{numbered, entry_record}
 use Rattle.dict_desk.specs.Handing.{Hands}
 use Rattle.dict_lookup.specs.Lookups.{HoldsOne, FailsToLookUp}
 use Rattle.dict_lookup.proofs.RecordLemmas.{at_number, found_lines}
-use Rattle.dict_lookup.proofs.StreamLemmas.{all_to_come}
-use Rattle.dict_lookup.proofs.StateLemmas.{clean_before, fails_behind, each_err}
+use Rattle.dict_desk.proofs.HandingLemmas.{hands_front}
+use Rattle.dict_file.specs.Holds.{Holds}
+use Rattle.dict_lookup.specs.Handed.{rows_found}
+use Rattle.dict_lookup.proofs.HandLemmas.{few_found}
+use Rattle.dict_lookup.proofs.StreamLemmas.{all_to_come, begun_reading, some_to_come}
+use Rattle.dict_file.proofs.FailLemmas.{fails_behind}
+use Rattle.dict_lookup.proofs.StateLemmas.{clean_before, each_err}
 use Rattle.dict_lookup.proofs.lookups.find_in.Goals as goal
 
 pub returns-in-Ok-clause-value : goal.returns-in-Ok-clause-value
@@ -41,4 +46,21 @@ returns-in-Ok-clause-failed g c clean =
     let reads = c.in-Ok.ensures.begun first in
     subst (λ h. IfErr c.hand_found.result (FailsToLookUp (state g.S.Store old) (state g.S.Store h))) same
     (each_err c.hand_found.result (FailsToLookUp (state g.S.Store begun) (state g.S.Store end)) (FailsToLookUp (state g.S.Store old) (state g.S.Store end))
-    (fails_behind (state g.S.Store old) (state g.S.Store begun) (state g.S.Store end) reads.1 c.in-Ok.ensures.survives.counts) (c.hand_found.ensures.failed last))
+    (fails_behind (state g.S.Store old) (state g.S.Store begun) (state g.S.Store end) reads.1 c.in-Ok.ensures.survives) (c.hand_found.ensures.failed last))
+
+pub returns-in-Ok-clause-few : goal.returns-in-Ok-clause-few
+returns-in-Ok-clause-few g c clean M holds =
+    let begun = c.in-Ok.rows.conn.now in
+    let end = c.hand_found.new.rows.conn.now in
+    let same : end ≡ c.conn-1.given.0 = search rules in
+    let last : HasCleanDisk (state g.S.Store end) = subst (λ h. HasCleanDisk (state g.S.Store h)) (sym same) clean in
+    let first : HasCleanDisk (state g.S.Store begun) = clean_before (state g.S.Store begun) (state g.S.Store end) c.hand_found.ensures.survives last in
+    let reads = c.in-Ok.ensures.begun first in
+    let here : Holds 1 (state g.S.Store begun).now M = subst (λ (db : Database). Holds 1 db M) (sym reads.1.0.now_is) holds in
+    let all = some_to_come g.S.Store begun (begun_reading g.S.Store begun _ reads.1.0.is_open reads.0) M here in
+    ((rows_found c.args.text.now c.args.strategy c.args.query.now all.0), few_found c.args.text.now c.args.strategy c.args.query.now all.0 all.2, c.hand_found.ensures.value last all.0 all.1)
+
+pub returns-in-Err-clause-few : goal.returns-in-Err-clause-few
+returns-in-Err-clause-few g c clean M holds =
+    let few : 0 ≤ 65535 = omega arith in
+    ([], few, hands_front g.T.RowSink.takes g.T.RowSink.stops c.args.sink.now c.args.sink.now c.fault_of_read.result [] [] [] refl (g.met.T.RowSink.none c.args.sink.now))

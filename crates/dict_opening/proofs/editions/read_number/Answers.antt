@@ -1,4 +1,4 @@
-use Rattle.std.proofs.Common.{◌≡◌, [], ◌∷◌, map, codes, subst, refl}
+use Rattle.std.proofs.Common.{◌≡◌, [], ◌∷◌, map, codes, subst, refl, sym}
 use Rattle.std.proofs.lemmas.Int.{to_z-of_z}
 use Rattle.std.proofs.lemmas.Result.{on_ok_weaker}
 use mir.Syntax.{w64}
@@ -24,6 +24,8 @@ use Rattle.dict_opening.specs.Takers.{refuses_entries}
 use Rattle.dict_opening.proofs.StateLemmas.{clean_before, reads_then}
 use Rattle.dict_opening.proofs.TakerLemmas.{if_err_then}
 use Rattle.dict_opening.proofs.NoneLemmas.{not_one, edition_refused, entries_wrong}
+use Rattle.dict_opening.proofs.CauseLemmas.{cause_passed, rows_cause, cause_last}
+use Rattle.dict_opening.specs.Reading.{IsExcused}
 use Rattle.dict_opening.proofs.editions.read_number.Goals as goal
 
 pub returns-in_err-row-clause-damaged : goal.returns-in_err-row-clause-damaged
@@ -79,3 +81,15 @@ returns-clause-damaged g c clean =
     (λ fault wrong is taken h can. entries_wrong old.now taken n can c.in_ok-row.row one c.edition.new.self (c.in_default.ensures.taken 1 taken (c.let_go.ensures.taken 1 taken h))
     (subst (λ (d : Database). IsWrong stored_entry entry_columns refuses_entries (EntriesOf n) d c.edition.new.self) same (subst (λ m. IsWrong stored_entry entry_columns refuses_entries (EntriesOf m) mid.now c.edition.new.self) (to_z-of_z w64 n c.ranges.number) (wrong is))))
     (c.read_entries.ensures.damaged clean)
+
+pub returns-in_err-row-clause-failed : goal.returns-in_err-row-clause-failed
+returns-in_err-row-clause-failed g c clean =
+    cause_passed (state g.S.Store c.args.conn.now) (state g.S.Store c.edition_numbered.new.conn) c.in_err-row.field-0.0 c.from_residual.result c.from_residual.ensures.1 (c.in_err-row.ensures.failed clean)
+
+pub returns-in-Err-clause-failed : goal.returns-in-Err-clause-failed
+returns-in-Err-clause-failed g c clean =
+    subst (IsExcused (state g.S.Store c.args.conn.now) (state g.S.Store c.edition_numbered.new.conn)) (sym c.fault_of_rows.ensures) (rows_cause (state g.S.Store c.args.conn.now) (state g.S.Store c.edition_numbered.new.conn) c.in-Err.fault)
+
+pub returns-clause-failed : goal.returns-clause-failed
+returns-clause-failed g c clean =
+    cause_last (state g.S.Store c.args.conn.now) (state g.S.Store c.edition_numbered.new.conn) (state g.S.Store c.read_entries.new.conn) c.read_entries.result c.edition_numbered.ensures.reads.survives c.read_entries.ensures.reads.survives c.in_ok-row.ensures.same clean (c.read_entries.ensures.failed clean)

@@ -16,6 +16,7 @@ use Rattle.dict_opening.specs.declared.fault.ReadingFault.TheVariants.{Damaged}
 use Rattle.dict_opening.specs.Opens.{KeepsNone, HasTables, CanReadOne, HasReadOne, CanRead, HasRead}
 use Rattle.dict_opening.proofs.StateLemmas.{clean_before, survives_itself, same_itself, same_then, while_same}
 use Rattle.dict_opening.proofs.ReadLemmas.{all_at, fresh, read_none, can_one, read_more}
+use Rattle.dict_opening.proofs.CauseLemmas.{cause_later}
 use Rattle.dict_opening.proofs.editions.read_numbers.Goals as goal
 
 pub loop-number-init : goal.loop-number-init
@@ -87,3 +88,7 @@ returns-clause-whole g c clean front can =
     let had = c.loop-number.invariant.read clean front can in
     let past : length c.args.numbers.now ≤ c.loop-number.number-index = omega arith in
     (had.0, had.1, subst (λ ns. HasRead old.now ns front had.0) (take_all c.loop-number.number-index c.args.numbers.now past) had.2)
+
+pub returns-in_err-read_number-clause-failed : goal.returns-in_err-read_number-clause-failed
+returns-in_err-read_number-clause-failed g c clean =
+    cause_later (state g.S.Store c.args.conn.now) (state g.S.Store c.loop-number.conn) (state g.S.Store c.read_number.new.conn) c.in_err-read_number.field-0.0 c.from_residual.result c.from_residual.ensures.1 c.loop-number.invariant.survives c.read_number.ensures.reads.survives c.loop-number.invariant.same clean (c.in_err-read_number.ensures.failed clean)

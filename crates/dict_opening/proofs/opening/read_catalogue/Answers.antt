@@ -10,6 +10,9 @@ use Rattle.dict_desk.specs.declared.fault.Fault.TheVariants as desk
 use Rattle.dict_opening.specs.Opens.{HoldsNone}
 use Rattle.dict_opening.proofs.StateLemmas.{clean_before, reads_then}
 use Rattle.dict_opening.proofs.MarkLemmas.{err_is, told_damaged, MarkRow}
+use Rattle.dict_opening.specs.declared.fault.ReadingFault.TheVariants.{Disk}
+use Rattle.dict_opening.specs.Reading.{IsExcused}
+use Rattle.dict_opening.proofs.CauseLemmas.{cause_then, told_disk}
 use Rattle.dict_opening.proofs.opening.read_catalogue.Goals as goal
 
 pub returns-in_err-marks-clause-none : goal.returns-in_err-marks-clause-none
@@ -50,3 +53,17 @@ returns-clause-damaged g c clean is =
     let same : c.told.result ≡ desk.Damaged = cc in
     let fault = told_damaged c.in-Err.fault (sym c.told.ensures.is ∙ same) in
     (marked.1, subst HoldsNone first.0.now (c.in-Err.ensures.damaged clean fault here))
+
+pub returns-in_err-marks-clause-failed : goal.returns-in_err-marks-clause-failed
+returns-in_err-marks-clause-failed g c clean is =
+    c.read_mark.ensures.failed clean (c.in_err-marks.was ∙ ap Err (err_is c.from_residual.result c.in_err-marks.field-0.0 _ c.from_residual.ensures.1 is))
+
+pub returns-clause-failed : goal.returns-clause-failed
+returns-clause-failed g c clean is =
+    let old = state g.S.Store c.args.conn.now in
+    let mid = state g.S.Store c.read_mark.new.conn in
+    let new = state g.S.Store c.read_tables.new.conn in
+    let early : HasCleanDisk mid = clean_before old mid new c.read_tables.ensures.reads.survives clean in
+    let same : c.told.result ≡ desk.Disk = cc in
+    let fault = told_disk c.in-Err.fault (sym c.told.ensures.is ∙ same) in
+    cause_then old mid new c.read_mark.ensures.reads.survives (c.in_ok-marks.ensures.same early).0 Disk (subst (IsExcused mid new) fault (c.in-Err.ensures.failed clean))

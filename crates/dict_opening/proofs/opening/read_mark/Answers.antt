@@ -1,9 +1,13 @@
-use Rattle.std.proofs.Common.{◌≡◌, ℕ, ◌<◌, List, IfNone, IfSome, rules, arith, sym, subst}
+use Rattle.std.proofs.Common.{◌≡◌, ℕ, ◌<◌, List, IfNone, IfSome, rules, arith, sym, subst, ◌∙◌, codes}
 use Rattle.sqlite.specs.Held.{state}
 use Rattle.dict_tables.specs.Found.{HasOwn}
 use Rattle.dict_tables.specs.Tables.{mark}
 use Rattle.dict_opening.specs.Opens.{HasMark, IsMarked}
 use Rattle.dict_opening.proofs.MarkLemmas.{has_mark, is_marked, no_record, MarkRow}
+use Rattle.dict_opening.proofs.CauseLemmas.{desk_cause}
+use Rattle.dict_desk.specs.declared.fault.Fault.TheVariants as desk
+use Rattle.dict_sql.specs.Columns.{mark_columns}
+use Rattle.dict_sql.specs.Effects.{rows_of}
 use Rattle.dict_opening.proofs.opening.read_mark.Goals as goal
 
 pub returns-in-Err-NoRecord-clause-none : goal.returns-in-Err-NoRecord-clause-none
@@ -34,3 +38,9 @@ returns-clause-marked g c clean =
     let marked = subst (λ (l : List MarkRow). IsMarked l c.in-Some.version) c.deref.ensures.value told in
     let one : c.in-Some.version ≡ 1 = omega arith in
     ((c.in-Ok.ensures.listed clean).0, subst (HasMark old.now) one (has_mark old.now c.in-Ok.marks.items c.in-Some.version own (c.in-Ok.ensures.listed clean).0 marked))
+
+pub returns-in-Err-Store-clause-failed : goal.returns-in-Err-Store-clause-failed
+returns-in-Err-Store-clause-failed g c clean is =
+    let failed = rw c.in-Err-Store.field-0-is at (c.in-Err-Store.ensures.failed clean) in
+    let told : c.fault_of.result ≡ desk.Disk = cc in
+    desk_cause mark_columns (rows_of (codes "mark") (state g.S.Store c.args.conn.now).now) (state g.S.Store c.args.conn.now) (state g.S.Store c.marks.new.conn) c.in-Err-Store.error failed (sym c.fault_of.ensures ∙ told)

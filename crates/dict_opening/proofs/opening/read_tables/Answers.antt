@@ -14,8 +14,9 @@ use Rattle.dict_sql.proofs.StreamLemmas.{passed_on}
 use Rattle.dict_opening.specs.declared.fault.ReadingFault.{ReadingFault}
 use Rattle.dict_opening.specs.declared.fault.ReadingFault.TheVariants.{Damaged}
 use Rattle.dict_opening.specs.Opens.{HasTables, HasRowidsApart, HoldsNone}
-use Rattle.dict_opening.proofs.ReadableLemmas.{held_rows}
+use Rattle.dict_file.proofs.ReadableLemmas.{held_rows}
 use Rattle.dict_opening.proofs.StateLemmas.{clean_before, reads_then, while_same}
+use Rattle.dict_opening.proofs.CauseLemmas.{cause_passed, cause_later}
 use Rattle.dict_opening.proofs.opening.read_tables.Goals as goal
 
 pub read_records-requires : goal.read_records-requires
@@ -53,3 +54,12 @@ returns-in_err-test_all_rowids-clause-damaged g c clean =
     (λ is lm M h. c.in_err-test_all_rowids.ensures.damaged clean is (held_rows mid.now M (subst (λ (d : Database). Holds 1 d M) (sym same) h))
     (subst HasRowidsApart (sym same)
     (record { marks = h.keeps.marks.apart; items = h.keeps.items.apart; members = h.keeps.members.apart; editions = h.keeps.editions.apart; entries = h.keeps.entries.apart; kept = h.keeps.kept.apart })))
+
+pub returns-in_err-summary-clause-failed : goal.returns-in_err-summary-clause-failed
+returns-in_err-summary-clause-failed g c clean =
+    cause_passed (state g.S.Store c.args.conn.now) (state g.S.Store c.read_records.new.conn) c.in_err-summary.field-0.0 c.from_residual.result c.from_residual.ensures.1 (c.in_err-summary.ensures.failed clean)
+
+pub returns-in_err-test_all_rowids-clause-failed : goal.returns-in_err-test_all_rowids-clause-failed
+returns-in_err-test_all_rowids-clause-failed g c clean =
+    cause_later (state g.S.Store c.args.conn.now) (state g.S.Store c.read_records.new.conn) (state g.S.Store c.test_all_rowids.new.conn) c.in_err-test_all_rowids.field-0.0 c.from_residual-in_err-test_all_rowids.result c.from_residual-in_err-test_all_rowids.ensures.1 c.read_records.ensures.reads.survives c.test_all_rowids.ensures.reads.survives
+    c.in_ok-summary.ensures.same clean (c.in_err-test_all_rowids.ensures.failed clean)

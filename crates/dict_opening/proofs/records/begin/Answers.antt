@@ -3,7 +3,7 @@ use Rattle.sqlite.specs.Effect.{Database}
 use Rattle.sqlite.specs.State.{HasCleanDisk}
 use Rattle.sqlite.specs.Held.{state}
 use Rattle.dict_rows.specs.Taken.{HasTaken}
-use Rattle.dict_opening.proofs.StateLemmas.{clean_before}
+use Rattle.dict_opening.proofs.StateLemmas.{clean_before, same_as}
 use Rattle.dict_opening.proofs.TakerLemmas.{on_damage}
 use Rattle.std.specs.declared.alloc.Global.{Global}
 use Rattle.std.proofs.Common.{String}
@@ -17,8 +17,11 @@ use Rattle.dict_file.specs.Holds.{Holds}
 use Rattle.dict_rows.specs.Given.{marks_given, items_given, members_given}
 use Rattle.dict_rows.specs.Taken.{StandsForNone, begun}
 use Rattle.dict_opening.proofs.ScanLemmas.{rows_damaged}
-use Rattle.dict_opening.proofs.ReadableLemmas.{held_rows, none_listed}
+use Rattle.dict_file.proofs.ReadableLemmas.{held_rows}
+use Rattle.dict_opening.proofs.ReadableLemmas.{none_listed}
 use Rattle.dict_opening.proofs.WrongLemmas.{has_begun, begin_wrong}
+use Rattle.dict_opening.specs.Reading.{IsExcused}
+use Rattle.dict_opening.proofs.CauseLemmas.{list_cause, cause_then, rows_cause}
 use Rattle.dict_opening.proofs.records.begin.Goals as goal
 
 pub returns-in-Ok-begin-clause-begun : goal.returns-in-Ok-begin-clause-begun
@@ -60,3 +63,21 @@ returns-clause-damaged g c clean is lm =
     begin_wrong old.now c.args.marks.now c.in-Ok.items.items c.in-Ok-members.members.items lm li.0 lo
     (subst (λ (l : List (Stored (typed.Member.Member (String Global)))). StandsForNone 1 (begun (marks_given c.args.marks.now) (items_given c.in-Ok.items.items) (members_given l))) c.deref-2.ensures.value
     (subst (λ (l : List (Stored (typed.Item.Item (String Global)))). StandsForNone 1 (begun (marks_given c.args.marks.now) (items_given l) (members_given c.deref-2.result.now))) c.deref.ensures.value none))
+
+pub returns-in-Err-clause-failed : goal.returns-in-Err-clause-failed
+returns-in-Err-clause-failed g c clean =
+    subst (IsExcused (state g.S.Store c.args.conn.now) (state g.S.Store c.items.new.conn)) (sym c.fault_of_read.ensures) (list_cause item_columns _ (state g.S.Store c.args.conn.now) (state g.S.Store c.items.new.conn) c.in-Err.error (c.in-Err.ensures.failed clean))
+
+pub returns-in-Err-members-clause-failed : goal.returns-in-Err-members-clause-failed
+returns-in-Err-members-clause-failed g c clean =
+    let old = state g.S.Store c.args.conn.now in
+    let mid = state g.S.Store c.items.new.conn in
+    let new = state g.S.Store c.members.new.conn in
+    subst (IsExcused old new) (sym c.fault_of_read-in-Err-members.ensures)
+    (cause_then old mid new c.items.ensures.survives (same_as old mid (c.in-Ok.ensures.listed (clean_before old mid new c.members.ensures.survives clean)).1) _ (list_cause member_columns _ mid new c.in-Err-members.error (c.in-Err-members.ensures.failed clean)))
+
+pub returns-clause-failed : goal.returns-clause-failed
+returns-clause-failed g c clean =
+    let old = state g.S.Store c.args.conn.now in
+    let new = state g.S.Store c.members.new.conn in
+    subst (IsExcused old new) (sym c.fault_of_rows.ensures) (rows_cause old new c.in-Err-begin.fault)

@@ -8,11 +8,12 @@ use Rattle.dict_rows.specs.Tables.{Tables}
 use Rattle.dict_rows.specs.Taken.{HasTaken}
 use Rattle.dict_opening.specs.declared.fault.ReadingFault.{ReadingFault}
 use Rattle.dict_opening.specs.declared.fault.ReadingFault.TheVariants.{Damaged}
-use Rattle.dict_opening.proofs.StateLemmas.{clean_before}
+use Rattle.dict_opening.proofs.StateLemmas.{clean_before, reads_then, same_then}
 use Rattle.dict_opening.proofs.TakerLemmas.{if_err_then}
 use Rattle.dict_opening.specs.Opens.{HasTables, KeepsNone, HoldsNone, Fits, HasBegun, HasNamed, HasReplies}
-use Rattle.dict_opening.proofs.StateLemmas.{same_then, while_same, reads_then}
+use Rattle.dict_opening.proofs.StateLemmas.{while_same}
 use Rattle.dict_opening.proofs.CloseLemmas.{has_all}
+use Rattle.dict_opening.proofs.CauseLemmas.{cause_passed, cause_later, cause_last}
 use Rattle.dict_opening.proofs.records.read_all.Goals as goal
 
 pub returns-in_err-test_named-clause-damaged : goal.returns-in_err-test_named-clause-damaged
@@ -75,3 +76,16 @@ returns-clause-damaged g c clean =
     let none = wrong is named.0 named.1 (subst (λ (d : Database). Fits d named.0) (sym same) read.fits) (read.kept ∙ b.no_kept) in
     b.none (subst (KeepsNone old.now) read.members (subst (λ (d : Database). KeepsNone d named.0.members) same none)))
     (c.read_kept.ensures.damaged clean)
+
+pub returns-in_err-test_named-clause-failed : goal.returns-in_err-test_named-clause-failed
+returns-in_err-test_named-clause-failed g c clean =
+    cause_passed (state g.S.Store c.args.conn.now) (state g.S.Store c.test_named.new.conn) c.in_err-test_named.field-0.0 c.from_residual.result c.from_residual.ensures.1 (c.in_err-test_named.ensures.failed clean)
+
+pub returns-in_err-read_named-clause-failed : goal.returns-in_err-read_named-clause-failed
+returns-in_err-read_named-clause-failed g c clean =
+    cause_later (state g.S.Store c.args.conn.now) (state g.S.Store c.test_named.new.conn) (state g.S.Store c.read_named.new.conn) c.in_err-read_named.field-0.0 c.from_residual-in_err-read_named.result c.from_residual-in_err-read_named.ensures.1 c.test_named.ensures.reads.survives c.read_named.ensures.reads.survives
+    c.in_ok-test_named.ensures.same clean (c.in_err-read_named.ensures.failed clean)
+
+pub returns-clause-failed : goal.returns-clause-failed
+returns-clause-failed g c clean =
+    cause_last (state g.S.Store c.args.conn.now) (state g.S.Store c.read_named.new.conn) (state g.S.Store c.read_kept.new.conn) c.read_kept.result (reads_then (state g.S.Store c.args.conn.now) (state g.S.Store c.test_named.new.conn) (state g.S.Store c.read_named.new.conn) c.test_named.ensures.reads c.read_named.ensures.reads).survives c.read_kept.ensures.reads.survives (λ late. same_then (state g.S.Store c.args.conn.now) (state g.S.Store c.test_named.new.conn) (state g.S.Store c.read_named.new.conn) (c.in_ok-test_named.ensures.same (clean_before (state g.S.Store c.args.conn.now) (state g.S.Store c.test_named.new.conn) (state g.S.Store c.read_named.new.conn) c.read_named.ensures.reads.survives late)) (c.in_ok-read_named.ensures.same late)) clean (c.read_kept.ensures.failed clean)

@@ -20,6 +20,7 @@ use Rattle.dict_opening.specs.Opens.{KeepsNone, Fits}
 use Rattle.dict_opening.specs.Scans.{HasNoRecordIn}
 use Rattle.dict_opening.specs.Takers.{HasIdTwice, HasIdsApart}
 use Rattle.dict_opening.proofs.WrongLemmas.{replies_wrong, ids_twice, ids_apart}
+use Rattle.dict_opening.proofs.CauseLemmas.{cause_passed, cause_last}
 use Rattle.dict_opening.proofs.records.read_kept.Goals as goal
 
 pub returns-in_err-read_replies-clause-damaged : goal.returns-in_err-read_replies-clause-damaged
@@ -55,3 +56,11 @@ returns-clause-damaged g c clean =
     if_err_then _ _ c.test_ids.result
     (λ fault wrong is taken h fits none. ids_twice old.now taken.members (subst (λ (d : Database). HasNoRecordIn stored_kept kept_columns KeptById d ⊎ HasIdTwice d) same (wrong is)))
     (c.test_ids.ensures.damaged clean)
+
+pub returns-in_err-read_replies-clause-failed : goal.returns-in_err-read_replies-clause-failed
+returns-in_err-read_replies-clause-failed g c clean =
+    cause_passed (state g.S.Store c.args.conn.now) (state g.S.Store c.read_replies.new.conn) c.in_err-read_replies.field-0.0 c.from_residual.result c.from_residual.ensures.1 (c.in_err-read_replies.ensures.failed clean)
+
+pub returns-clause-failed : goal.returns-clause-failed
+returns-clause-failed g c clean =
+    cause_last (state g.S.Store c.args.conn.now) (state g.S.Store c.read_replies.new.conn) (state g.S.Store c.test_ids.new.conn) c.test_ids.result c.read_replies.ensures.reads.survives c.test_ids.ensures.reads.survives c.in_ok-read_replies.ensures.same clean (c.test_ids.ensures.failed clean)

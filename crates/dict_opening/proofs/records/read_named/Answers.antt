@@ -4,6 +4,8 @@ use Rattle.sqlite.specs.Held.{state}
 use Rattle.dict_opening.proofs.TakerLemmas.{if_err_then}
 use Rattle.dict_opening.specs.Opens.{CanRead}
 use Rattle.dict_opening.proofs.WrongLemmas.{can_read}
+use Rattle.dict_opening.specs.Reading.{IsExcused}
+use Rattle.dict_opening.proofs.CauseLemmas.{rows_cause}
 use Rattle.dict_opening.proofs.records.read_named.Goals as goal
 
 pub returns-clause-named : goal.returns-clause-named
@@ -23,3 +25,7 @@ returns-clause-damaged g c clean =
     if_err_then _ _ c.read_numbers.result
     (λ fault wrong is front h b. b.none (wrong is front (subst (λ ns. CanRead old.now c.args.reader.now ns front) (sym are) (can_read old.now c.args.reader.now front h b))))
     (c.read_numbers.ensures.damaged clean)
+
+pub returns-in-Err-clause-failed : goal.returns-in-Err-clause-failed
+returns-in-Err-clause-failed g c clean =
+    subst (IsExcused (state g.S.Store c.args.conn.now) (state g.S.Store c.args.conn.now)) (sym c.fault_of_rows.ensures) (rows_cause (state g.S.Store c.args.conn.now) (state g.S.Store c.args.conn.now) c.in-Err.fault)

@@ -11,6 +11,8 @@ use Rattle.dict_sql.specs.Reads.{IsListing}
 use Rattle.dict_opening.specs.Opens.{HasTables, KeepsNone, HoldsNone, HasBegun, HasAll}
 use Rattle.dict_opening.proofs.StateLemmas.{while_same}
 use Rattle.dict_opening.proofs.CloseLemmas.{finish_wrong}
+use Rattle.dict_opening.proofs.CauseLemmas.{cause_passed, cause_later, rows_cause}
+use Rattle.dict_opening.specs.Reading.{IsExcused}
 use Rattle.dict_opening.proofs.records.read_records.Goals as goal
 
 pub returns-in_err-reader-clause-damaged : goal.returns-in_err-reader-clause-damaged
@@ -58,3 +60,16 @@ returns-in-Err-clause-damaged g c clean is lm =
     let all = c.in_ok-read_all.ensures.all clean begun.0 begun.1 (subst (λ (d : Database). HasBegun d begun.0) (sym same) begun.2) in
     let has = subst (λ (d : Database). HasAll d begun.0 all.0) same all.2 in
     begun.2.none (subst (KeepsNone old.now) has.members (finish_wrong old.now all.0 has.keeps has.fits (c.in-Err.ensures.damaged 1 all.0 all.1)))
+
+pub returns-in_err-reader-clause-failed : goal.returns-in_err-reader-clause-failed
+returns-in_err-reader-clause-failed g c clean =
+    cause_passed (state g.S.Store c.args.conn.now) (state g.S.Store c.begin.new.conn) c.in_err-reader.field-0.0 c.from_residual.result c.from_residual.ensures.1 (c.in_err-reader.ensures.failed clean)
+
+pub returns-in_err-read_all-clause-failed : goal.returns-in_err-read_all-clause-failed
+returns-in_err-read_all-clause-failed g c clean =
+    cause_later (state g.S.Store c.args.conn.now) (state g.S.Store c.begin.new.conn) (state g.S.Store c.read_all.new.conn) c.in_err-read_all.field-0.0 c.from_residual-in_err-read_all.result c.from_residual-in_err-read_all.ensures.1 c.begin.ensures.reads.survives c.read_all.ensures.reads.survives
+    c.in_ok-reader.ensures.same clean (c.in_err-read_all.ensures.failed clean)
+
+pub returns-in-Err-clause-failed : goal.returns-in-Err-clause-failed
+returns-in-Err-clause-failed g c clean =
+    subst (IsExcused (state g.S.Store c.args.conn.now) (state g.S.Store c.read_all.new.conn)) (sym c.fault_of_rows.ensures) (rows_cause (state g.S.Store c.args.conn.now) (state g.S.Store c.read_all.new.conn) c.in-Err.fault)

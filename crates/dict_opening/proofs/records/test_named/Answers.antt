@@ -17,6 +17,7 @@ use Rattle.dict_opening.specs.Opens.{KeepsNone, Fits}
 use Rattle.dict_opening.specs.Scans.{HasNoRecordIn}
 use Rattle.dict_opening.specs.Takers.{HasStray, entry_edition}
 use Rattle.dict_opening.proofs.WrongLemmas.{editions_stray, entries_stray}
+use Rattle.dict_opening.proofs.CauseLemmas.{cause_passed, cause_last}
 use Rattle.dict_opening.proofs.records.test_named.Goals as goal
 
 pub returns-in_err-test_editions-clause-damaged : goal.returns-in_err-test_editions-clause-damaged
@@ -37,3 +38,11 @@ returns-clause-damaged g c clean =
     (λ fault wrong is taken h fits. entries_stray old.now c.args.reader.now taken h fits
     (subst (λ (d : Database). HasNoRecordIn stored_entry entry_columns AllEntries d ⊎ HasStray stored_entry entry_edition AllEntries d c.args.reader.now) same (wrong is)))
     (c.test_entries.ensures.damaged clean)
+
+pub returns-in_err-test_editions-clause-failed : goal.returns-in_err-test_editions-clause-failed
+returns-in_err-test_editions-clause-failed g c clean =
+    cause_passed (state g.S.Store c.args.conn.now) (state g.S.Store c.test_editions.new.conn) c.in_err-test_editions.field-0.0 c.from_residual.result c.from_residual.ensures.1 (c.in_err-test_editions.ensures.failed clean)
+
+pub returns-clause-failed : goal.returns-clause-failed
+returns-clause-failed g c clean =
+    cause_last (state g.S.Store c.args.conn.now) (state g.S.Store c.test_editions.new.conn) (state g.S.Store c.test_entries.new.conn) c.test_entries.result c.test_editions.ensures.reads.survives c.test_entries.ensures.reads.survives c.in_ok-test_editions.ensures.same clean (c.test_entries.ensures.failed clean)

@@ -5,7 +5,7 @@ use Rattle.sqlite.specs.Held.{state}
 use Rattle.dict_sql.proofs.StreamLemmas.{passed_on}
 use Rattle.dict_opening.specs.declared.fault.ReadingFault.{ReadingFault}
 use Rattle.dict_opening.specs.declared.fault.ReadingFault.TheVariants.{Damaged}
-use Rattle.dict_opening.proofs.StateLemmas.{clean_before}
+use Rattle.dict_opening.proofs.StateLemmas.{clean_before, reads_then, same_then}
 use Rattle.dict_opening.proofs.TakerLemmas.{if_err_then}
 use Rattle.std.proofs.Common.{◌⊎◌}
 use Rattle.dict_tables.specs.Tables.{table_of}
@@ -16,8 +16,8 @@ use Rattle.dict_sql.specs.Effects.{HasApartRowids, rows_of}
 use Rattle.dict_sql.specs.Streams.Scan.{ByRowid}
 use Rattle.dict_opening.specs.Opens.{HasReadableRows, IsApartLast}
 use Rattle.dict_opening.specs.Scans.{HasNoRecordIn}
-use Rattle.dict_opening.proofs.StateLemmas.{same_then}
 use Rattle.dict_opening.proofs.WrongLemmas.{wrong_rowids, wrong_numbers}
+use Rattle.dict_opening.proofs.CauseLemmas.{cause_passed, cause_later, cause_last}
 use Rattle.dict_opening.proofs.rowids.test_large.Goals as goal
 
 pub returns-in_err-test_edition_rowids-clause-damaged : goal.returns-in_err-test_edition_rowids-clause-damaged
@@ -52,3 +52,16 @@ returns-clause-damaged g c clean =
     (λ fault wrong is records apart. wrong_rowids stored_kept kept_columns Kept old.now records.kept apart.2
     (subst (λ (d : Database). HasNoRecordIn stored_kept kept_columns (ByRowid Kept) d ⊎ (HasApartRowids (rows_of (table_of Kept 0).name d) → ⊥)) same (wrong is)))
     (c.test_rowids-2.ensures.damaged clean)
+
+pub returns-in_err-test_edition_rowids-clause-failed : goal.returns-in_err-test_edition_rowids-clause-failed
+returns-in_err-test_edition_rowids-clause-failed g c clean =
+    cause_passed (state g.S.Store c.args.conn.now) (state g.S.Store c.test_edition_rowids.new.conn) c.in_err-test_edition_rowids.field-0.0 c.from_residual.result c.from_residual.ensures.1 (c.in_err-test_edition_rowids.ensures.failed clean)
+
+pub returns-in_err-test_rowids-clause-failed : goal.returns-in_err-test_rowids-clause-failed
+returns-in_err-test_rowids-clause-failed g c clean =
+    cause_later (state g.S.Store c.args.conn.now) (state g.S.Store c.test_edition_rowids.new.conn) (state g.S.Store c.test_rowids.new.conn) c.in_err-test_rowids.field-0.0 c.from_residual-in_err-test_rowids.result c.from_residual-in_err-test_rowids.ensures.1 c.test_edition_rowids.ensures.reads.survives c.test_rowids.ensures.reads.survives
+    c.in_ok-test_edition_rowids.ensures.same clean (c.in_err-test_rowids.ensures.failed clean)
+
+pub returns-clause-failed : goal.returns-clause-failed
+returns-clause-failed g c clean =
+    cause_last (state g.S.Store c.args.conn.now) (state g.S.Store c.test_rowids.new.conn) (state g.S.Store c.test_rowids-2.new.conn) c.test_rowids-2.result (reads_then (state g.S.Store c.args.conn.now) (state g.S.Store c.test_edition_rowids.new.conn) (state g.S.Store c.test_rowids.new.conn) c.test_edition_rowids.ensures.reads c.test_rowids.ensures.reads).survives c.test_rowids-2.ensures.reads.survives (λ late. same_then (state g.S.Store c.args.conn.now) (state g.S.Store c.test_edition_rowids.new.conn) (state g.S.Store c.test_rowids.new.conn) (c.in_ok-test_edition_rowids.ensures.same (clean_before (state g.S.Store c.args.conn.now) (state g.S.Store c.test_edition_rowids.new.conn) (state g.S.Store c.test_rowids.new.conn) c.test_rowids.ensures.reads.survives late)) (c.in_ok-test_rowids.ensures.same late)) clean (c.test_rowids-2.ensures.failed clean)

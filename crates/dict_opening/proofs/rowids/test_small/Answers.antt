@@ -5,7 +5,7 @@ use Rattle.sqlite.specs.Held.{state}
 use Rattle.dict_sql.proofs.StreamLemmas.{passed_on}
 use Rattle.dict_opening.specs.declared.fault.ReadingFault.{ReadingFault}
 use Rattle.dict_opening.specs.declared.fault.ReadingFault.TheVariants.{Damaged}
-use Rattle.dict_opening.proofs.StateLemmas.{clean_before}
+use Rattle.dict_opening.proofs.StateLemmas.{clean_before, reads_then, same_then}
 use Rattle.dict_opening.proofs.TakerLemmas.{if_err_then}
 use Rattle.std.proofs.Common.{◌⊎◌}
 use Rattle.dict_tables.specs.Tables.{table_of}
@@ -16,8 +16,8 @@ use Rattle.dict_sql.specs.Effects.{HasApartRowids, rows_of}
 use Rattle.dict_sql.specs.Streams.Scan.{ByRowid}
 use Rattle.dict_opening.specs.Opens.{HasReadableRows, IsApartFirst}
 use Rattle.dict_opening.specs.Scans.{HasNoRecordIn}
-use Rattle.dict_opening.proofs.StateLemmas.{same_then}
 use Rattle.dict_opening.proofs.WrongLemmas.{wrong_rowids}
+use Rattle.dict_opening.proofs.CauseLemmas.{cause_passed, cause_later, cause_last}
 use Rattle.dict_opening.proofs.rowids.test_small.Goals as goal
 
 pub returns-in_err-test_rowids-clause-damaged : goal.returns-in_err-test_rowids-clause-damaged
@@ -52,3 +52,16 @@ returns-clause-damaged g c clean =
     (λ fault wrong is records apart. wrong_rowids stored_member member_columns Member old.now records.members apart.2
     (subst (λ (d : Database). HasNoRecordIn stored_member member_columns (ByRowid Member) d ⊎ (HasApartRowids (rows_of (table_of Member 0).name d) → ⊥)) same (wrong is)))
     (c.test_rowids-3.ensures.damaged clean)
+
+pub returns-in_err-test_rowids-clause-failed : goal.returns-in_err-test_rowids-clause-failed
+returns-in_err-test_rowids-clause-failed g c clean =
+    cause_passed (state g.S.Store c.args.conn.now) (state g.S.Store c.test_rowids.new.conn) c.in_err-test_rowids.field-0.0 c.from_residual.result c.from_residual.ensures.1 (c.in_err-test_rowids.ensures.failed clean)
+
+pub returns-in_err-test_rowids-2-clause-failed : goal.returns-in_err-test_rowids-2-clause-failed
+returns-in_err-test_rowids-2-clause-failed g c clean =
+    cause_later (state g.S.Store c.args.conn.now) (state g.S.Store c.test_rowids.new.conn) (state g.S.Store c.test_rowids-2.new.conn) c.in_err-test_rowids-2.field-0.0 c.from_residual-in_err-test_rowids-2.result c.from_residual-in_err-test_rowids-2.ensures.1 c.test_rowids.ensures.reads.survives c.test_rowids-2.ensures.reads.survives
+    c.in_ok-test_rowids.ensures.same clean (c.in_err-test_rowids-2.ensures.failed clean)
+
+pub returns-clause-failed : goal.returns-clause-failed
+returns-clause-failed g c clean =
+    cause_last (state g.S.Store c.args.conn.now) (state g.S.Store c.test_rowids-2.new.conn) (state g.S.Store c.test_rowids-3.new.conn) c.test_rowids-3.result (reads_then (state g.S.Store c.args.conn.now) (state g.S.Store c.test_rowids.new.conn) (state g.S.Store c.test_rowids-2.new.conn) c.test_rowids.ensures.reads c.test_rowids-2.ensures.reads).survives c.test_rowids-3.ensures.reads.survives (λ late. same_then (state g.S.Store c.args.conn.now) (state g.S.Store c.test_rowids.new.conn) (state g.S.Store c.test_rowids-2.new.conn) (c.in_ok-test_rowids.ensures.same (clean_before (state g.S.Store c.args.conn.now) (state g.S.Store c.test_rowids.new.conn) (state g.S.Store c.test_rowids-2.new.conn) c.test_rowids-2.ensures.reads.survives late)) (c.in_ok-test_rowids-2.ensures.same late)) clean (c.test_rowids-3.ensures.failed clean)

@@ -1,4 +1,4 @@
-use Rattle.std.proofs.Common.{◌≡◌, false, List, []}
+use Rattle.std.proofs.Common.{◌≡◌, ◌≤◌, false, List, [], length}
 use Rattle.sqlite.specs.State.{HasCleanDisk, Survives}
 use Rattle.sqlite.specs.Held.{state}
 use Rattle.dict_sql.specs.Streams.{Scan, HasGiven}
@@ -15,5 +15,5 @@ invariant-rows g l =
       mode : old.in_transaction ≡ false → now.in_transaction ≡ false;
       survives : Survives (state g.S.Store old) (state g.S.Store now) (λ _. ⊥);
       same : HasCleanDisk (state g.S.Store now) → Same (state g.S.Store old) (state g.S.Store now);
-      takes : HasCleanDisk (state g.S.Store now) → (what : Scan) → HasGiven g.S.Store what old [] → (given : List g.row.R.Denot) × TakesSo g.S.Store g.R.Record.stored g.T.Taker.takes what l.fn.taker given now l.taker;
+      takes : HasCleanDisk (state g.S.Store now) → (what : Scan) → HasGiven g.S.Store what old [] → (given : List g.row.R.Denot) × TakesSo g.S.Store g.R.Record.stored g.T.Taker.takes what l.fn.taker given now l.taker × (l._turn ≤ length given);
     }

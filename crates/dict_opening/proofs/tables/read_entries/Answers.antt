@@ -8,8 +8,11 @@ use Rattle.dict_sql.specs.Encodings.{stored_entry}
 use Rattle.dict_sql.specs.Columns.{entry_columns}
 use Rattle.dict_opening.specs.Scans.{TakesAll, IsWrong}
 use Rattle.dict_opening.specs.Takers.{takes_entries, refuses_entries}
-use Rattle.dict_opening.specs.Reading.{OnlyReads}
+use Rattle.dict_opening.specs.Reading.{OnlyReads, IsExcused}
 use Rattle.dict_opening.proofs.BeginLemmas.{reads_on, whole_on, damaged_on}
+use Rattle.std.specs.Prelude.{IfErr}
+use Rattle.dict_opening.proofs.CauseLemmas.{cause_on, store_cause}
+use Rattle.dict_sql.specs.Reads.{FailsToRead}
 use Rattle.dict_opening.proofs.tables.read_entries.Goals as goal
 
 pub returns-clause-reads : goal.returns-clause-reads
@@ -38,3 +41,20 @@ returns-clause-damaged g c clean =
     let same : end ≡ c.conn-2-1.given.0 = search rules in
     let late : HasCleanDisk (state g.S.Store end) = subst (λ h. HasCleanDisk (state g.S.Store h)) (sym same) clean in
     damaged_on g.S.Store (EntriesOf c.args.number) old mid end (rw (to_z-of_z w64 c.args.number c.ranges.number) at c.in-Ok.ensures.begun) c.take_all.ensures.survives c.take_all.result (λ what db. IsWrong stored_entry entry_columns refuses_entries what db c.args.reader.now) c.take_all.ensures.damaged late
+
+pub returns-clause-failed : goal.returns-clause-failed
+returns-clause-failed g c clean =
+    let old = c.args.conn.now in
+    let mid = c.in-Ok.rows.conn.now in
+    let end = c.take_all.new.rows.conn.now in
+    let same : end ≡ c.conn-2-1.given.0 = search rules in
+    let late : HasCleanDisk (state g.S.Store end) = subst (λ h. HasCleanDisk (state g.S.Store h)) (sym same) clean in
+    subst (λ h. IfErr c.take_all.result (IsExcused (state g.S.Store old) (state g.S.Store h))) same
+    (cause_on g.S.Store (EntriesOf c.args.number) old mid end c.take_all.result (rw (to_z-of_z w64 c.args.number c.ranges.number) at c.in-Ok.ensures.begun) c.in-Ok.ensures.survives c.take_all.ensures.survives late (c.take_all.ensures.failed late))
+
+pub returns-in-Err-clause-failed : goal.returns-in-Err-clause-failed
+returns-in-Err-clause-failed g c clean =
+    let old = state g.S.Store c.args.conn.now in
+    let new = state g.S.Store c.read_entries_of.follows.lender-at-none in
+    let failed : FailsToRead old new c.in-Err.error = search rules in
+    subst (IsExcused old new) (sym c.fault_of_store.ensures) (store_cause old new c.in-Err.error failed)

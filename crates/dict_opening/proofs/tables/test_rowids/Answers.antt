@@ -7,9 +7,12 @@ use Rattle.dict_opening.specs.Scans.{TakesAll, IsWrong}
 use Rattle.dict_opening.specs.Takers.{takes_rowids, refuses_rowids}
 use Rattle.dict_opening.proofs.RowidLemmas.{rowids_whole}
 use Rattle.dict_opening.proofs.TestLemmas.{rowids_found}
-use Rattle.dict_opening.specs.Reading.{OnlyReads}
+use Rattle.dict_opening.specs.Reading.{OnlyReads, IsExcused}
 use Rattle.dict_opening.proofs.BeginLemmas.{reads_on, whole_on, damaged_on}
 use Rattle.dict_opening.proofs.TakerLemmas.{if_err_then}
+use Rattle.std.specs.Prelude.{IfErr}
+use Rattle.dict_opening.proofs.CauseLemmas.{cause_on, store_cause}
+use Rattle.dict_sql.specs.Reads.{FailsToRead}
 use Rattle.dict_opening.proofs.tables.test_rowids.Goals as goal
 
 pub returns-clause-reads : goal.returns-clause-reads
@@ -38,3 +41,20 @@ returns-clause-damaged g c clean =
     let same : end ≡ c.conn-2-1.given.0 = search rules in
     let late : HasCleanDisk (state g.S.Store end) = subst (λ h. HasCleanDisk (state g.S.Store h)) (sym same) clean in
     if_err_then _ _ c.take_all.result (λ fault wrong is. rowids_found g.R.Record.stored g.R.Record.columns c.args.table (state g.S.Store old).now c.new.result c.new.ensures (wrong is)) (damaged_on g.S.Store (ByRowid c.args.table) old mid end c.in-Ok.ensures.begun c.take_all.ensures.survives c.take_all.result (λ what db. IsWrong g.R.Record.stored g.R.Record.columns (refuses_rowids g.R.Record.stored) what db c.new.result) c.take_all.ensures.damaged late)
+
+pub returns-clause-failed : goal.returns-clause-failed
+returns-clause-failed g c clean =
+    let old = c.args.conn.now in
+    let mid = c.in-Ok.rows.conn.now in
+    let end = c.take_all.new.rows.conn.now in
+    let same : end ≡ c.conn-2-1.given.0 = search rules in
+    let late : HasCleanDisk (state g.S.Store end) = subst (λ h. HasCleanDisk (state g.S.Store h)) (sym same) clean in
+    subst (λ h. IfErr c.take_all.result (IsExcused (state g.S.Store old) (state g.S.Store h))) same
+    (cause_on g.S.Store (ByRowid c.args.table) old mid end c.take_all.result c.in-Ok.ensures.begun c.in-Ok.ensures.survives c.take_all.ensures.survives late (c.take_all.ensures.failed late))
+
+pub returns-in-Err-clause-failed : goal.returns-in-Err-clause-failed
+returns-in-Err-clause-failed g c clean =
+    let old = state g.S.Store c.args.conn.now in
+    let new = state g.S.Store c.read_by_rowid.follows.lender-at-none in
+    let failed : FailsToRead old new c.in-Err.error = search rules in
+    subst (IsExcused old new) (sym c.fault_of_store.ensures) (store_cause old new c.in-Err.error failed)
