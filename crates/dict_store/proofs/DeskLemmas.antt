@@ -32,7 +32,7 @@ unchanged_stays : (old new : State) → IsUnchanged old new → Stays old new
 unchanged_stays old new same = record { was_open = λ live. same.0.was_open; now = λ live settled. same.0.now_is; committed = λ live. same.0.committed_is }
 
 fails_stays : (old new : State) (fault : Fault) → FailsToLookUp old new fault → Stays old new
-fails_stays old new fault (inl same) = unchanged_stays old new same
+fails_stays old new fault (inl same) = unchanged_stays old new same.0
 fails_stays old new fault (inr h) = let back = h.2.3 in record { was_open = back.was_open; now = λ live settled. (back.undone live).0 ∙ sym settled; committed = λ live. (back.undone live).1 }
 
 pub stays_by : {T : Type 0} (old new : State) (result : Result T Fault) → OnOk result (IsUnchanged old new) → IfErr result (FailsToLookUp old new) → Stays old new
@@ -80,6 +80,9 @@ pub handed_by : {K : Type 0} (takes stops : K → List Entry → K → Type 0) (
 handed_by takes stops first last rows result true value shut none = value refl
 handed_by takes stops first last rows (Ok end) false value shut none = absurd (false≢true (shut refl).0)
 handed_by takes stops first last rows (Err fault) false value shut none = hands_front takes stops first last fault rows [] rows refl (subst (λ k. takes first [] k) (sym (shut refl).1) none)
+
+pub not_both : (b : Bool) → b ≡ false → IsTrue b → ⊥
+not_both b is holds = false≢true (sym is ∙ holds)
 
 pub alone : (M : Catalogue) → Contains (Some M ∷ []) (Some M)
 alone M = (0, omega arith, refl)

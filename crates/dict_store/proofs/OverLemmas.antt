@@ -1,18 +1,10 @@
 -- What comes of a session over an opened database.
-use Rattle.std.proofs.Common.{ℕ, List, Option, None, Result, Ok, Err, inl, inr, arith}
-use Rattle.sqlite.specs.State.{State, HasCleanDisk, Survives}
+use Rattle.std.proofs.Common.{List, Option, None, inl, inr, arith}
+use Rattle.sqlite.specs.State.{HasCleanDisk, Survives}
 use Rattle.sqlite.specs.Held.{Held, state}
 use Rattle.sqlite_trees.specs.declared.store.Store.{Ghosts}
 use Rattle.dict_catalogue.specs.Steps.{Catalogue}
-use Rattle.dict_io.specs.Streams.{Change}
-use Rattle.dict_session.specs.declared.session.run.End.{End}
-use Rattle.dict_session.specs.declared.session.run.SessionFault.{SessionFault}
-use Rattle.dict_store.specs.Over.{HasRun, IsOver, Leaves, told}
-
-pub over_by : (old : State) (host : List ℕ) (number : ℕ) (end : Result End SessionFault) (reader writer : Change)
-    → HasRun old host number end reader writer → IsOver old host number (told end) reader writer
-over_by old host number (Ok end) reader writer h = h
-over_by old host number (Err fault) reader writer h = h
+use Rattle.dict_store.specs.Over.{Leaves}
 
 module _ {S : Type 0} (g : Ghosts S) (old new : Held S) (survives : Survives (state g (record old { step_limit = None })) (state g new) (λ _. ⊥)) where
   clean_first : HasCleanDisk (state g new) → HasCleanDisk (state g old)

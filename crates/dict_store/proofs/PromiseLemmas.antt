@@ -12,13 +12,14 @@ use Rattle.dict_catalogue.specs.declared.fault.Refusal.{Refusal}
 use Rattle.dict_catalogue.specs.declared.reply.Kept.{Kept}
 use Rattle.dict_catalogue.proofs.StepLemmas.{idle_leaves}
 use Rattle.dict_desk.specs.AllApplied.{has_acted, LeftAfter, AllAnswered, HaltsAt, reply_shown, replies}
+use Rattle.dict_desk.specs.Applying.{LeavesNoMore}
 use Rattle.dict_desk.specs.declared.fault.Fault.{Fault}
 use Rattle.dict_desk.specs.declared.fault.Fault.TheVariants as fault
 use Rattle.dict_desk.specs.declared.keeper.Halted.{Halted}
 use Rattle.dict_file.specs.Holds.{IsLeft}
 use Rattle.dict_store.specs.Desk.{DeskState, Shows, LeavesOneOf, StandsFor}
 use Rattle.dict_opening.proofs.HeldLemmas.{one_left}
-use Rattle.dict_store.specs.Promise.{IsLeftAlone, HoldsFront, KeepsAlone, KeepsFront}
+use Rattle.dict_store.specs.Promise.{IsLeftAlone, HoldsFront, KeepsAlone, KeepsFront, KeepsAt}
 
 -- commands of which none acts leave the catalogue
 
@@ -85,6 +86,19 @@ module _ {S : Type 0} (g : Ghosts S) (old new : DeskState S) (M : Catalogue) (re
   halts_keeps stand fault.Damaged h clean trees may = absurd h
   halts_keeps stand fault.NewerSchema h clean trees may = absurd h
 
+  -- what is kept after so many of them
+  so_far : (stand : ℕ) → Shows g new (after M (take stand requests)) → LeavesNoMore (LeftAfter (LeavesOneOf g old) M (take stand requests)) (LeavesOneOf g new) → KeepsAlone g new (after M (take stand requests))
+  so_far stand shown left = record { shown = shown; alone = left (Some (after M (take stand requests)) ∷ []) (left_after (take stand requests)) }
+
+  pub halts_at : (stand : ℕ) (fault : Fault) → HaltsAt (Shows g new) (LeavesOneOf g old) (LeavesOneOf g new) M requests stand fault → KeepsAt g new M requests stand fault
+  halts_at stand (fault.Refused refusal) h = absurd h
+  halts_at stand fault.Memory h = so_far stand h.shown h.left
+  halts_at stand fault.Disk h = record { shown = h.shown; left = halts_keeps stand fault.Disk h }
+  halts_at stand fault.Closed h = so_far stand h.shown h.left
+  halts_at stand fault.NotACatalogue h = absurd h
+  halts_at stand fault.Damaged h = absurd h
+  halts_at stand fault.NewerSchema h = absurd h
+
   pub all_alone : (outcomes : List (Result Kept Refusal)) → AllAnswered (Shows g new) (LeavesOneOf g old) (LeavesOneOf g new) M requests outcomes → KeepsAlone g new (after M requests)
   all_alone outcomes h = record { shown = h.shown; alone = h.left (Some (after M requests) ∷ []) (left_after requests) }
 
@@ -103,6 +117,11 @@ module _ {S T : Type 0} (g : Ghosts S) (old new : DeskState S) (requests : List 
       → IfErr result (λ halted. KeepsFront g old new requests halted.stand)
   call_halts (Ok value) h = tt
   call_halts (Err halted) h = λ M at clean trees may. halts_keeps g old new M requests at.alone halted.stand halted.fault (h clean M at.shown) clean trees may
+
+  pub call_stands : (result : Result T Halted) → (HasCleanDisk (state g new.conn) → (M : Catalogue) → Shows g old M → IfErr result (λ halted. HaltsAt (Shows g new) (LeavesOneOf g old) (LeavesOneOf g new) M requests halted.stand halted.fault))
+      → IfErr result (λ halted. HasCleanDisk (state g new.conn) → (M : Catalogue) → KeepsAlone g old M → KeepsAt g new M requests halted.stand halted.fault)
+  call_stands (Ok value) h = tt
+  call_stands (Err halted) h = λ clean M at. halts_at g old new M requests at.alone halted.stand halted.fault (h clean M at.shown)
 
   pub call_keeps : (result : Result T Halted) → IfOk result (λ value. size value ≡ length requests) → Answers result → IfOk result (λ value. KeepsFront g old new requests (size value))
   call_keeps (Ok value) is h = λ M at clean trees may. all_keeps g old new M requests at.alone (items value) (size value) is (h clean M at.shown) clean trees may

@@ -1,5 +1,5 @@
 -- What a desk over a database shows, and why there is none.
-use Rattle.std.specs.Prelude.{◌≡◌, [], ◌∷◌, Some, None}
+use Rattle.std.specs.Prelude.{◌≡◌, [], ◌∷◌, Some, None, IsTrue}
 use Rattle.sqlite.specs.State.{HasCleanDisk, Survives}
 use Rattle.sqlite.specs.Held.{Held, state}
 use Rattle.sqlite_trees.specs.declared.store.Store.{Ghosts}
@@ -25,4 +25,5 @@ module _ {S : Type 0} (g : Ghosts S) where
     pub kind : IsOfOpening fault
     pub told : HasCleanDisk (state g left) → IsTold (state g conn).now fault
     pub not_held : HasCleanDisk (state g left) → IsNotHeld (state g conn).now fault
+    pub same : HasCleanDisk (state g left) → IsTrue (state g left).is_open → ((state g left).now ≡ (state g conn).now) × ((state g left).committed ≡ (state g conn).committed)
     pub adds_none : Survives (state g (record conn { step_limit = None })) (state g left) (λ _. ⊥)

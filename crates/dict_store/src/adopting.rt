@@ -1,5 +1,5 @@
 // A desk over a database that holds a catalogue.
-ghost use Rattle.std.specs.Prelude.{◌≡◌, ◌||◌, false, true, Some, None, [], ◌∷◌, IsTrue, IfOk, IfErr, Err};
+ghost use Rattle.std.specs.Prelude.{◌≡◌, ◌↔◌, ◌||◌, false, true, Some, None, [], ◌∷◌, IsTrue, IfOk, IfErr, Err};
 ghost use Rattle.sqlite.specs.State.{HasCleanDisk, IsLive, Survives};
 ghost use Rattle.sqlite.specs.Held.{state};
 ghost use Rattle.dict_catalogue.specs.Steps.{Catalogue, summary_of};
@@ -7,13 +7,14 @@ ghost use Rattle.dict_catalogue.specs.Views.{summary_shown};
 ghost use Rattle.dict_file.specs.Holds.{Holds, IsLeft, Rests};
 ghost use Rattle.dict_commands.specs.Changes.{IsInRange};
 ghost use Rattle.dict_desk.specs.Faults.{has_closed_by, has_failed_by};
-ghost use Rattle.dict_opening.specs.Reading.{IsOfOpening};
+ghost use Rattle.dict_opening.specs.Reading.{IsOfOpening, HasFailed};
 ghost use Rattle.dict_store.specs.Desk.{Shows, LeavesOneOf, is_closed, has_failed};
 ghost use Rattle.dict_store.specs.Opened.{IsTold, IsNotHeld, IsNotLeft, HoldsItsTrees};
 
 use crate::desk::Desk;
 use crate::last::{Last, last_by};
 use dict_catalogue::{Summary, edition_numbers};
+use dict_commands::summaries_in_range;
 use dict_desk::Fault;
 use dict_opening::{held_is_marked, one_is_held, read_catalogue};
 use sqlite::{Alter, Connection};
@@ -21,7 +22,7 @@ use std::alloc::{AllocError, Global};
 
 // Whether each edition has the number of an install that was made, as each edition of a catalogue has.
 fn is_in_range(alloc: Global, summary: &Summary) -> Result<bool, AllocError>
-    ensures { IfOk result (λ within. IsTrue within → IsInRange (summary_shown summary.now)) }
+    ensures { IfOk result (λ within. IsTrue within ↔ IsInRange (summary_shown summary.now)) }
 {
     let numbers = edition_numbers(alloc, &summary.items)?;
     let installs = summary.installs;
@@ -29,7 +30,7 @@ fn is_in_range(alloc: Global, summary: &Summary) -> Result<bool, AllocError>
 }
 
 // What the trees of a store that is open hold, the store holds; and they are a database.
-fn is_whole<S: Alter>(conn: &Connection<S>)
+pub(crate) fn is_whole<S: Alter>(conn: &Connection<S>)
     ensures whole { IsTrue (state S.Store conn.now).is_open → HoldsItsTrees (state S.Store conn.now) }
     ensures live { IsLive (state S.Store conn.now) }
 {
@@ -44,6 +45,7 @@ fn read<S: Alter>(alloc: Global, conn: &mut Connection<S>) -> Result<Summary, Fa
     ensures every { HasCleanDisk (state S.Store conn.new) → IfOk result (λ summary. (M : Catalogue) → Holds 1 (state S.Store conn.old).committed M → Rests 1 (state S.Store conn.new) M × (summary_of M ≡ summary_shown summary)) }
     ensures range { IfOk result (λ summary. IsInRange (summary_shown summary)) }
     ensures kinds { IfErr result IsOfOpening }
+    ensures failed { HasCleanDisk (state S.Store conn.new) → IfErr result (λ fault. fault ≡ Fault.Disk → HasFailed (state S.Store conn.old) (state S.Store conn.new)) }
     ensures told { HasCleanDisk (state S.Store conn.new) → IfErr result (IsTold (state S.Store conn.old).now) }
     ensures not_held { HasCleanDisk (state S.Store conn.new) → IfErr result (IsNotHeld (state S.Store conn.old).now) }
     ensures lives { HasCleanDisk (state S.Store conn.new) → IsTrue (state S.Store conn.new).is_open → IsTrue (state S.Store conn.old).is_open }
@@ -54,8 +56,10 @@ fn read<S: Alter>(alloc: Global, conn: &mut Connection<S>) -> Result<Summary, Fa
 {
     held_is_marked();
     one_is_held();
+    summaries_in_range();
     let summary = read_catalogue(alloc, conn)?;
-    if !is_in_range(alloc, &summary)? {
+    let within = is_in_range(alloc, &summary)?;
+    if !within {
         return Err(Fault::Disk);
     }
     Ok(summary)
@@ -82,6 +86,8 @@ impl<S: Alter + Drop> Desk<S> {
         ensures told { IfErr result (λ left. HasCleanDisk (state S.Store left.0) → IsTold (state S.Store conn).now left.1) }
         ensures not_held { IfErr result (λ left. HasCleanDisk (state S.Store left.0) → IsNotHeld (state S.Store conn).now left.1) }
         ensures not_left { IfErr result (λ left. HasCleanDisk (state S.Store left.0) → IsTrue (state S.Store conn).is_open → IsNotLeft (state S.Store conn).now.trees left.1) }
+        ensures failed { IfErr result (λ left. HasCleanDisk (state S.Store left.0) → left.1 ≡ Fault.Disk → HasFailed (state S.Store (record conn { step_limit = None })) (state S.Store left.0)) }
+        ensures stays { IfErr result (λ left. HasCleanDisk (state S.Store left.0) → IsTrue (state S.Store left.0).is_open → ((state S.Store left.0).now ≡ (state S.Store conn).now) × ((state S.Store left.0).committed ≡ (state S.Store conn).committed)) }
         ensures adds_none { IfErr result (λ left. Survives (state S.Store (record conn { step_limit = None })) (state S.Store left.0) (λ _. ⊥)) }
     {
         let mut conn = conn;
@@ -101,6 +107,7 @@ impl<S: Alter + Drop> Desk<S> {
         ensures sound { IfOk result (λ _. HasCleanDisk (state S.Store self.new.conn) → (M : Catalogue) × Rests 1 (state S.Store self.new.conn) M) }
         ensures told { IfErr result (λ fault. HasCleanDisk (state S.Store self.new.conn) → IsTold (state S.Store self.old.conn).now fault) }
         ensures not_held { IfErr result (λ fault. HasCleanDisk (state S.Store self.new.conn) → IsNotHeld (state S.Store self.old.conn).now fault) }
+        ensures broken { HasCleanDisk (state S.Store self.new.conn) → IfErr result (λ fault. fault ≡ Fault.Disk → HasFailed (state S.Store self.old.conn) (state S.Store self.new.conn)) }
         ensures shows { HasCleanDisk (state S.Store self.new.conn) → (M : Catalogue) → Shows S.Store self.old M → Shows S.Store self.new M }
         ensures spares { Survives (state S.Store self.old.conn) (state S.Store self.new.conn) (λ _. ⊥) }
         ensures same { HasCleanDisk (state S.Store self.new.conn) → IsTrue (state S.Store self.new.conn).is_open → (state S.Store self.new.conn).committed ≡ (state S.Store self.old.conn).committed }

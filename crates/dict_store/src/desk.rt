@@ -1,12 +1,13 @@
 // A desk over one database.
-ghost use Rattle.std.specs.Prelude.{◌≡◌, ◌≢◌, ◌∷◌, [], Some, true, false, IfOk, IfErr};
+ghost use Rattle.std.specs.Prelude.{◌≡◌, ◌≢◌, ◌∷◌, [], Some, None, true, false, IfOk, IfErr, IsTrue};
 ghost use Rattle.sqlite.specs.State.{HasCleanDisk, Survives};
 ghost use Rattle.sqlite.specs.Held.{state};
 ghost use Rattle.dict_catalogue.specs.Steps.{Catalogue, empty_catalogue, summary_of};
 ghost use Rattle.dict_catalogue.specs.Views.{summary_shown};
 ghost use Rattle.dict_catalogue.specs.WellFormed.{IsWellFormed};
 ghost use Rattle.dict_desk.specs.Faults.{is_disk};
-ghost use Rattle.dict_file.specs.Holds.{Rests, IsLeft, HasPlace};
+ghost use Rattle.dict_file.specs.Holds.{Holds, Rests, IsLeft, HasPlace};
+ghost use Rattle.dict_file.specs.Writing.{Stays, FailsToEnd, IsOfCreation};
 ghost use Rattle.dict_commands.specs.Changes.{IsInRange};
 ghost use Rattle.dict_commands.specs.Answers.{HoldsBy};
 ghost use Rattle.dict_store.specs.Desk.{Shows, LeavesOneOf, is_closed};
@@ -63,21 +64,26 @@ impl<S: Alter + Drop> Desk<S> {
     /// A desk over a database in which the tables of the empty catalogue are made by one commit.
     ///
     /// At a fault the connection is handed back. `NotACatalogue`: there is no place for the tables. `Memory`: a growth was
-    /// refused before the commit. After both all is as it was. `Disk`: the store failed.
+    /// refused before the commit. After both all is as it was. `Disk`: the store failed. No other fault comes. The connection's limit on
+    /// steps is taken away.
     pub fn create(alloc: Global, conn: Connection<S>) -> Result<Desk<S>, (Connection<S>, Fault)>
         requires { conn.in_transaction ≡ false }
         ensures shows { IfOk result (λ desk. Shows S.Store desk empty_catalogue) }
         ensures rests { IfOk result (λ desk. HasCleanDisk (state S.Store desk.conn) → Rests 1 (state S.Store desk.conn) empty_catalogue) }
         ensures open { IfOk result (λ desk. (desk.last ≡ Last.Fine) × (desk.conn.in_transaction ≡ false)) }
         ensures only { IfOk result (λ desk. LeavesOneOf S.Store desk (Some empty_catalogue ∷ [])) }
-        ensures made { IfOk result (λ desk. Survives (state S.Store conn) (state S.Store desk.conn) (IsLeft 1 empty_catalogue)) }
+        ensures made { IfOk result (λ desk. Survives (state S.Store (record conn { step_limit = None })) (state S.Store desk.conn) (IsLeft 1 empty_catalogue)) }
         ensures place { IfOk result (λ desk. HasPlace (state S.Store conn).now.schema) }
         ensures handed { IfErr result (λ left. left.0.in_transaction ≡ false) }
-        ensures no_place { IfErr result (λ left. left.1 ≡ Fault.NotACatalogue → (HasPlace (state S.Store conn).now.schema → ⊥) × (left.0 ≡ conn)) }
-        ensures crash { IfErr result (λ left. Survives (state S.Store conn) (state S.Store left.0) (IsLeft 1 empty_catalogue)) }
-        ensures adds_none { IfErr result (λ left. is_disk left.1 ≡ false → Survives (state S.Store conn) (state S.Store left.0) (λ _. ⊥)) }
+        ensures no_place { IfErr result (λ left. left.1 ≡ Fault.NotACatalogue → (HasPlace (state S.Store conn).now.schema → ⊥) × (left.0 ≡ record conn { step_limit = None })) }
+        ensures crash { IfErr result (λ left. Survives (state S.Store (record conn { step_limit = None })) (state S.Store left.0) (IsLeft 1 empty_catalogue)) }
+        ensures adds_none { IfErr result (λ left. is_disk left.1 ≡ false → Survives (state S.Store (record conn { step_limit = None })) (state S.Store left.0) (λ _. ⊥)) }
+        ensures stays { IfErr result (λ left. HasCleanDisk (state S.Store left.0) → Stays (state S.Store conn) (state S.Store left.0)) }
+        ensures failed { IfErr result (λ left. HasCleanDisk (state S.Store left.0) → left.1 ≢ Fault.NotACatalogue → FailsToEnd S.Store (λ db. Holds 1 db empty_catalogue) (record conn { step_limit = None }) left.0 left.1) }
+        ensures kinds { IfErr result (λ left. IsOfCreation left.1) }
     {
         let mut conn = conn;
+        conn.set_step_limit(None);
         match create(&mut conn) {
             Ok(()) => Ok(Desk::over(alloc, conn, Summary::new(alloc))),
             Err(fault) => Err((conn, fault)),

@@ -2,6 +2,7 @@
 #![tactic(auto)]
 
 mod adopting;
+mod closing;
 mod desk;
 mod keeper;
 mod last;
@@ -9,11 +10,9 @@ mod lookups;
 mod promise;
 mod reopening;
 mod session;
-mod session_fault;
 
 pub use desk::Desk;
 pub use last::Last;
 pub use promise::apply_to_file;
 pub use reopening::{Unopened, stopped_files};
 pub use session::session_over;
-pub use session_fault::FileFault;

@@ -13,7 +13,9 @@ ghost use Rattle.dict_file.specs.Holds.{Rests};
 ghost use Rattle.dict_store.specs.Desk.{Shows, LeavesOneOf};
 ghost use Rattle.dict_store.specs.Promise.{HoldsFront};
 ghost use Rattle.dict_store.specs.Adopted.{IsAdopted};
-ghost use Rattle.dict_store.specs.Reopened.{fault_of_files, IsIn, HoldsFrontIn, IsLetGo, IsOpenedOver, IsUnopened, IsUnopenedFrom, IsUnopenedOver, IsUnreopened, LeavesFront, ShowsFront, ShowsOneOf};
+ghost use Rattle.dict_opening.specs.Reading.{IsOfOpening};
+ghost use Rattle.dict_store.specs.Reopened.{IsIn, HoldsFrontIn, IsLetGo, IsOpenedOver, IsReopened, IsRestarted, LeavesFront, ShowsFront, ShowsOneOf};
+ghost use Rattle.dict_store.specs.Unopened.{fault_of_files, IsUnopened, IsUnopenedOver, IsUnreopened, IsUnrestarted};
 
 use crate::desk::Desk;
 use dict_desk::Fault;
@@ -36,6 +38,7 @@ pub enum Unopened<D: Disk + Drop> {
 fn fault_of_files(error: &Error) -> Fault
     ensures value { result ≡ fault_of_files error.now }
     ensures kinds { (result ≡ Fault.Memory) ⊎ (result ≡ Fault.NotACatalogue) }
+    ensures kind { IsOfOpening result }
 {
     match error {
         Error::SqliteFailure(ErrorCode::OutOfMemory) => Fault::Memory,
@@ -70,7 +73,8 @@ impl<S: Start> Desk<FileStore<FileFrom<S>>> {
     /// A desk over the files at a path, of which the last commit is recovered. It takes what `Connection::open_from` takes, and
     /// `S` stands for the octets that the files hold.
     ///
-    /// Where no connection is opened, the fault is `Memory` for memory and else `NotACatalogue`. The others are those of `adopt`.
+    /// Where no connection is opened, the fault is `Memory` for memory and else `NotACatalogue`: the error of `sqlite` tells why. The
+    /// others are those of `adopt`. At each fault a stop leaves what the files hold.
     pub fn open_from(
         rt: &HostRuntime,
         path: &str,
@@ -105,9 +109,11 @@ impl<D: Disk + Drop> Desk<FileStore<D>> {
     /// files are never let go of. The catalogue that is shown is one of those that a stop could have left of the desk.
     ///
     /// Where a sync of a file has failed, the fault is `Disk`. Where no connection is opened, it is `Memory` for memory and else
-    /// `NotACatalogue`. The others are those of `adopt`.
+    /// `NotACatalogue`, since the disk failed or a file has its greatest length. The others are those of `adopt`. At each fault a stop
+    /// leaves of what is handed back what it could leave of the desk.
     pub fn reopen(self, options: Options) -> Result<Desk<FileStore<D>>, (Unopened<D>, Fault)>
         ensures adopted { IfOk result (λ desk. (conn : _) × IsAdopted over_files conn desk) }
+        ensures reopened { IfOk result (IsReopened self) }
         ensures follows { IfOk result (λ desk. HasCleanDisk (file_state desk.conn) → (ms : List (Option Catalogue)) → LeavesOneOf over_files self ms → ∥ ShowsOneOf over_files desk ms ∥₁) }
         ensures unopened { IfErr result (λ left. IsUnreopened self left.0 left.1) }
     {
@@ -123,14 +129,16 @@ impl<D: Disk + Drop> Desk<FileStore<D>> {
 impl<D: Crash + Drop> Desk<FileStore<D>> {
     /// Stops the desk, and opens it again over what its two files hold after the stop: for runs that span a stop.
     ///
-    /// What wasn't committed is lost. Where no connection is opened, the fault is `Memory` for memory and else `NotACatalogue`;
-    /// the others are those of `adopt`.
+    /// What wasn't committed is lost. Where no connection is opened, the fault is `Memory` for memory and else `NotACatalogue`, since
+    /// the disk failed or a file has its greatest length; the others are those of `adopt`. At each fault a stop leaves of what is handed
+    /// back what it could leave of the desk.
     pub fn restart(self, options: Options) -> Result<Desk<FileStore<D>>, (Unopened<D>, Fault)>
         ensures shows { IfOk result (λ desk. HasCleanDisk (file_state desk.conn) → (before : Catalogue) (requests : List Request) (answered : ℕ) → LeavesFront over_files self before requests answered → ∥ ShowsFront over_files desk before requests answered ∥₁) }
         ensures adopted { IfOk result (λ desk. (conn : _) × IsAdopted over_files conn desk) }
+        ensures restarted { IfOk result (IsRestarted self) }
         ensures follows { IfOk result (λ desk. HasCleanDisk (file_state desk.conn) → (ms : List (Option Catalogue)) → LeavesOneOf over_files self ms → ∥ ShowsOneOf over_files desk ms ∥₁) }
         ensures only { IfOk result (λ desk. (M : Catalogue) → Shows over_files desk M → LeavesOneOf over_files desk (Some M ∷ [])) }
-        ensures unopened { IfErr result (λ left. IsUnopenedFrom over_files self left.0 left.1) }
+        ensures unopened { IfErr result (λ left. IsUnrestarted self left.0 left.1) }
     {
         let alloc = self.alloc;
         let mut files = files_of(self);

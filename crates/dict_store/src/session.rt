@@ -1,23 +1,27 @@
 // A session over the catalogue that a database holds.
-ghost use Rattle.std.specs.Prelude.{◌≡◌, false, List, Option};
+ghost use Rattle.std.specs.Prelude.{◌≡◌, false, List, Option, None, IfOk, IfErr, Err};
 ghost use Rattle.sqlite.specs.State.{HasCleanDisk};
 ghost use Rattle.sqlite.specs.Held.{state};
 ghost use Rattle.dict_catalogue.specs.Steps.{Catalogue};
 ghost use Rattle.dict_io.specs.Streams.{change};
-ghost use Rattle.dict_store.specs.Over.{IsOver, IsSpared, Leaves, told};
+ghost use Rattle.dict_opening.specs.Reading.{HasFailed};
+ghost use Rattle.dict_store.specs.Adopted.{IsNotAdopted};
+ghost use Rattle.dict_store.specs.Desk.{LeavesOneOf};
+ghost use Rattle.dict_store.specs.Over.{HasRun, IsUntouched, Leaves, TellsNoLeft};
 
 use crate::desk::Desk;
-use crate::session_fault::FileFault;
+use dict_desk::Fault;
 use dict_io::{Sink, Source};
 use dict_session::{End, SessionFault, run};
 use sqlite::{Alter, Connection};
 use std::alloc::Global;
 
 /// Opens the desk over a connection, and runs a session over its catalogue. `host` is the name of the server's host, and
-/// `number` the session's number.
+/// `number` the session's number. The desk is handed back with the end: it tells how its last call ended, so whether the session was
+/// broken off for it.
 ///
-/// Nothing is written to the database. The connection is handed back, in no transaction, so that it can be closed; its limit
-/// on steps is taken away.
+/// Nothing is written to the database. Where it isn't opened, the fault is one of `adopt`, nothing was read or written, and the
+/// connection is handed back, in no transaction. Its limit on steps is taken away.
 pub fn session_over<S: Alter + Drop, R: Source, K: Sink>(
     alloc: Global,
     connection: Connection<S>,
@@ -25,28 +29,23 @@ pub fn session_over<S: Alter + Drop, R: Source, K: Sink>(
     writer: &mut K,
     host: &str,
     number: u64,
-) -> (Connection<S>, Result<End, FileFault>)
+) -> Result<(Desk<S>, Result<End, SessionFault>), (Connection<S>, Fault)>
     requires { connection.in_transaction ≡ false }
-    ensures over { HasCleanDisk (state S.Store result.0) → IsOver (state S.Store connection) host.now number result.1
-        (change R.stream reader.old reader.new) (change K.stream writer.old writer.new) }
-    ensures unopened { IsSpared result.1 (change R.stream reader.old reader.new) (change K.stream writer.old writer.new) }
-    ensures leaves { (ms : List (Option Catalogue)) → Leaves S.Store connection ms → Leaves S.Store result.0 ms }
-    ensures autocommit { result.0.in_transaction ≡ false }
+    ensures ran { IfOk result (λ ran. HasCleanDisk (state S.Store ran.0.conn) → HasRun S.Store connection ran.0 host.now number ran.1
+        (change R.stream reader.old reader.new) (change K.stream writer.old writer.new)) }
+    ensures memory { IfOk result (λ ran. ran.1 ≡ Err SessionFault.Memory → IsUntouched (change R.stream reader.old reader.new) × IsUntouched (change K.stream writer.old writer.new)) }
+    ensures leaves { IfOk result (λ ran. (ms : List (Option Catalogue)) → Leaves S.Store connection ms → LeavesOneOf S.Store ran.0 ms) }
+    ensures unopened { IfErr result (λ left. IsNotAdopted S.Store connection left.0 left.1) }
+    ensures failed { IfErr result (λ left. HasCleanDisk (state S.Store left.0) → left.1 ≡ Fault.Disk → HasFailed (state S.Store (record connection { step_limit = None })) (state S.Store left.0)) }
+    ensures not_left { IfErr result (λ left. TellsNoLeft S.Store connection left.0 left.1) }
+    ensures untouched { IfErr result (λ _. IsUntouched (change R.stream reader.old reader.new) × IsUntouched (change K.stream writer.old writer.new)) }
+    ensures leaves_unopened { IfErr result (λ left. (ms : List (Option Catalogue)) → Leaves S.Store connection ms → Leaves S.Store left.0 ms) }
+    ensures autocommit { IfErr result (λ left. left.0.in_transaction ≡ false) }
 {
     let mut desk = match Desk::adopt(alloc, connection) {
         Ok(desk) => desk,
-        Err((connection, fault)) => return (connection, Err(FileFault::Opening(fault))),
+        Err(left) => return Err(left),
     };
     let end = run(alloc, reader, writer, &mut desk, host, number);
-    (desk.into_connection(), told(end))
-}
-
-// How a session over an opened database ended.
-fn told(end: Result<End, SessionFault>) -> Result<End, FileFault>
-    ensures { result ≡ told end }
-{
-    match end {
-        Ok(end) => Ok(end),
-        Err(fault) => Err(FileFault::Session(fault)),
-    }
+    Ok((desk, end))
 }

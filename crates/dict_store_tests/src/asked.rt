@@ -5,11 +5,12 @@ use dict_desk::Fault;
 use dict_index::{Edition, IndexFault, read_edition};
 use std::alloc::{AllocError, Global};
 
-/// An edition of three entries, the first two with one body, and one of a single entry.
+/// An edition of three entries, the first two with one body, and two of a single entry, of which one's headword is `ÉTÉ`.
 #[derive(Drop)]
 pub(crate) struct Editions {
     gems: Edition<'static>,
     ores: Edition<'static>,
+    words: Edition<'static>,
 }
 
 pub(crate) fn read_editions(alloc: Global) -> Result<Editions, IndexFault> {
@@ -23,14 +24,20 @@ pub(crate) fn read_editions(alloc: Global) -> Result<Editions, IndexFault> {
         b"00-database-short\tA\tX\niron\tX\tL\n",
         b"00-database-short\nOres\niron\n  ore\n",
     )?;
-    Ok(Editions { gems, ores })
+    let words = read_edition(
+        alloc,
+        b"00-database-short\tA\tZ\n\xc3\x89T\xc3\x89\tZ\tH\n",
+        b"00-database-short\n  Mots\nsaison\n",
+    )?;
+    Ok(Editions { gems, ores, words })
 }
 
-/// A command. `Gems` and `Ores` install one of the two editions under a name.
+/// A command. `Gems`, `Ores` and `Words` install one of the editions under a name.
 #[derive(Clone, Copy)]
 pub(crate) enum Asked {
     Gems(&'static str),
     Ores(&'static str),
+    Words(&'static str),
     Rollback(&'static str),
     Retire(&'static str),
     Put(&'static str, &'static str, &'static [&'static str]),
@@ -47,6 +54,10 @@ impl Asked {
             Asked::Ores(name) => Command::Install {
                 name,
                 edition: &editions.ores,
+            },
+            Asked::Words(name) => Command::Install {
+                name,
+                edition: &editions.words,
             },
             Asked::Rollback(name) => Command::Rollback { name },
             Asked::Retire(name) => Command::Retire { name },

@@ -4,6 +4,8 @@ use Rattle.sqlite.specs.Effect.{Database}
 use Rattle.sqlite.specs.Held.{state}
 use Rattle.dict_catalogue.specs.Steps.{summary_of}
 use Rattle.dict_file.specs.Holds.{Holds, Rests}
+use Rattle.dict_commands.specs.Changes.{IsInRange}
+use Rattle.dict_store.proofs.DeskLemmas.{not_both}
 use Rattle.dict_store.proofs.adopting.read.Goals as goal
 
 pub returns-in_err-summary-clause-told : goal.returns-in_err-summary-clause-told
@@ -24,6 +26,18 @@ returns-in_err-summary-clause-not_held g c = λ clean.
       newer = λ is M holds. let it = c.in_err-summary.ensures.newer clean (ap Err is) in let once = c.held_is_marked.ensures.once db M it.0 holds it.1 in let more = it.2 in absurd (omega (arith, once, more));
       damaged = λ is M holds. (c.in_err-summary.ensures.damaged clean (ap Err is)).1 M holds;
     })
+
+pub returns-in_err-summary-clause-failed : goal.returns-in_err-summary-clause-failed
+returns-in_err-summary-clause-failed g c = λ clean.
+    let p = err_from_is_err_and c.from_residual.result c.from_residual.ensures.1 in
+    rw (p.1, p.2) (λ is. c.in_err-summary.ensures.failed clean (ap Err is))
+
+-- the numbers of a catalogue are in range
+pub returns-then-not-within-clause-failed : goal.returns-then-not-within-clause-failed
+returns-then-not-within-clause-failed g c = λ clean is.
+    let found = c.in_ok-summary.ensures.rests clean in
+    let range = subst IsInRange found.2 (c.summaries_in_range.ensures found.0 found.1.holds.stands.well_formed) in
+    absurd (not_both c.in_ok-within.within c.if-not-within.true (c.in_ok-within.ensures.1 range))
 
 pub returns-clause-every : goal.returns-clause-every
 returns-clause-every g c = λ clean M held.

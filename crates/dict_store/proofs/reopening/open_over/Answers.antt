@@ -8,11 +8,22 @@ returns-in-Ok-adopt-clause-opened g c = record {
   left = c.in-Ok-adopt.ensures.left;
 }
 
+pub returns-in-Err-clause-unopened : goal.returns-in-Err-clause-unopened
+returns-in-Err-clause-unopened g c = record {
+  error = c.in-Err.error;
+  named = c.in-Err.ensures.named;
+  told = c.fault_of_files.ensures.value;
+  kind = c.fault_of_files.ensures.kind;
+  cause = c.in-Err.ensures.cause;
+  unharmed = c.in-Err.ensures.unharmed;
+}
+
 pub returns-in-Err-adopt-clause-unopened : goal.returns-in-Err-adopt-clause-unopened
-returns-in-Err-adopt-clause-unopened g c = (
-  c.in-Ok.conn,
-  λ clean. (c.in-Ok.ensures.opened clean, c.in-Ok.ensures.found clean),
-  record { kind = c.in-Err-adopt.ensures.kinds; told = c.in-Err-adopt.ensures.told; not_held = c.in-Err-adopt.ensures.not_held; adds_none = c.in-Err-adopt.ensures.adds_none },
-  c.in-Err-adopt.ensures.handed,
-  c.in-Err-adopt.ensures.not_left,
-)
+returns-in-Err-adopt-clause-unopened g c = record {
+  conn = c.in-Ok.conn;
+  opened = λ clean. (c.in-Ok.ensures.opened clean, c.in-Ok.ensures.found clean);
+  adopted = record { kind = c.in-Err-adopt.ensures.kinds; told = c.in-Err-adopt.ensures.told; not_held = c.in-Err-adopt.ensures.not_held; same = c.in-Err-adopt.ensures.stays; adds_none = c.in-Err-adopt.ensures.adds_none };
+  failed = c.in-Err-adopt.ensures.failed;
+  autocommit = c.in-Err-adopt.ensures.handed;
+  not_left = c.in-Err-adopt.ensures.not_left;
+}

@@ -1,37 +1,27 @@
-use Rattle.std.proofs.Common.{subst, sym}
-use Rattle.sqlite.specs.State.{HasCleanDisk}
-use Rattle.sqlite.specs.Held.{state}
+use Rattle.std.proofs.Common.{ap, subst}
 use Rattle.dict_file.specs.Holds.{Holds}
-use Rattle.dict_io.specs.Streams.{change}
-use Rattle.dict_store.specs.Over.{IsOver, HasRun, Leaves}
-use Rattle.dict_store.specs.Desk.{has_failed}
-use Rattle.dict_store.proofs.OverLemmas.{over_by, leaves_after}
+use Rattle.dict_store.proofs.OverLemmas.{leaves_after}
 use Rattle.dict_store.proofs.session.session_over.Goals as goal
 
-pub returns-clause-over : goal.returns-clause-over
-returns-clause-over g c = λ clean.
-    let trusted = subst (λ conn. HasCleanDisk (state g.S.Store conn)) c.into_connection.ensures.same clean in
-    let opened = c.run-end.ensures.desk.trust trusted in
+pub returns-clause-ran : goal.returns-clause-ran
+returns-clause-ran g c = λ clean.
+    let opened = c.run-end.ensures.desk.trust clean in
     let is = c.in-Ok.ensures.rests opened in
-    let reader = change g.R.Source.stream c.args.reader.now c.run-end.new.reader in
-    let writer = change g.K.Sink.stream c.args.writer.now c.run-end.new.writer in
-    let old = state g.S.Store c.args.connection in
-    let ran : HasRun old c.args.host.now c.args.number c.run-end.result reader writer =
     record {
       catalogue = is.0;
       held = subst (λ db. Holds 1 db is.0) (c.in-Ok.ensures.same opened) is.1.holds;
-      over = λ M held. (has_failed c.run-end.new.desk.last, c.run-end.ensures.answers trusted M (c.in-Ok.ensures.held opened M held));
-      left = λ M left. (has_failed c.run-end.new.desk.last, c.run-end.ensures.answers trusted M (c.in-Ok.ensures.left opened M left));
-    } in
-    subst (λ end. IsOver old c.args.host.now c.args.number end reader writer) (sym c.told.ensures) (over_by old c.args.host.now c.args.number c.run-end.result reader writer ran)
+      over = λ M held. let shown = c.in-Ok.ensures.held opened M held in record { ended = c.run-end.ensures.answers clean M shown; shown = c.run-end.ensures.desk.shows clean M shown };
+      left = λ M left. let shown = c.in-Ok.ensures.left opened M left in record { ended = c.run-end.ensures.answers clean M shown; shown = c.run-end.ensures.desk.shows clean M shown };
+    }
 
-pub returns-in-Err-clause-over : goal.returns-in-Err-clause-over
-returns-in-Err-clause-over g c = λ clean. (c.in-Err.ensures.told clean, c.in-Err.ensures.not_held clean, c.in-Err.ensures.not_left clean)
+pub returns-clause-memory : goal.returns-clause-memory
+returns-clause-memory g c = λ is. let both = c.run-end.ensures.memory is in (ap g.R.Source.stream both.0, ap g.K.Sink.stream both.1)
 
 pub returns-clause-leaves : goal.returns-clause-leaves
-returns-clause-leaves g c = λ ms before.
-    subst (λ conn. Leaves g.S.Store conn ms) (sym c.into_connection.ensures.same)
-    (c.run-end.ensures.desk.leaves ms (leaves_after g.S.Store c.args.connection c.in-Ok.desk.conn c.in-Ok.ensures.spares ms before))
+returns-clause-leaves g c = λ ms before. c.run-end.ensures.desk.leaves ms (leaves_after g.S.Store c.args.connection c.in-Ok.desk.conn c.in-Ok.ensures.spares ms before)
 
-pub returns-in-Err-clause-leaves : goal.returns-in-Err-clause-leaves
-returns-in-Err-clause-leaves g c = λ ms before. leaves_after g.S.Store c.args.connection c.in-Err.connection c.in-Err.ensures.adds_none ms before
+pub returns-in-Err-clause-unopened : goal.returns-in-Err-clause-unopened
+returns-in-Err-clause-unopened g c = record { kind = c.in-Err.ensures.kinds; told = c.in-Err.ensures.told; not_held = c.in-Err.ensures.not_held; same = c.in-Err.ensures.stays; adds_none = c.in-Err.ensures.adds_none }
+
+pub returns-in-Err-clause-leaves_unopened : goal.returns-in-Err-clause-leaves_unopened
+returns-in-Err-clause-leaves_unopened g c = λ ms before. leaves_after g.S.Store c.args.connection c.in-Err.left.0 c.in-Err.ensures.adds_none ms before

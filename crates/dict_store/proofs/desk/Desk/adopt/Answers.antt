@@ -1,9 +1,10 @@
-use Rattle.std.proofs.Common.{refl, subst, sym}
+use Rattle.std.proofs.Common.{◌≡◌, refl, subst, sym}
 use Rattle.std.specs.Prelude.{IsTrue, Some}
 use Rattle.sqlite.specs.Effect.{Database, IsDatabase}
 use Rattle.sqlite.specs.State.{HasCleanDisk}
 use Rattle.sqlite.specs.Held.{state}
 use Rattle.dict_file.specs.Holds.{Holds}
+use Rattle.dict_opening.specs.Reading.{HasFailed}
 use Rattle.dict_store.specs.Desk.{DeskState, Shows}
 use Rattle.dict_store.specs.Opened.{IsNotHeld}
 use Rattle.dict_store.proofs.DeskLemmas.{alone, left_alone}
@@ -34,3 +35,11 @@ returns-in-Ok-clause-only g c = λ M shown clean trees may.
     let held = (subst (λ (d : DeskState _). Shows g.S.Store d M) c.over.ensures.is shown).holds refl there rests.is_open in
     let left = subst (λ (d : DeskState _). (state g.S.Store d.conn).may_leave trees) c.over.ensures.is may in
     (Some M, alone M, left_alone g.S.Store c.read.new.conn M (g.met.S.Store.settled c.read.new.conn.store) rests.is_open sound (subst (λ (db : Database). Holds 1 db M) rests.settled held) trees left)
+
+pub returns-in-Err-clause-failed : goal.returns-in-Err-clause-failed
+returns-in-Err-clause-failed g c = λ clean is.
+    subst (λ conn. HasFailed (state g.S.Store conn) (state g.S.Store c.read.new.conn)) c.set_step_limit.ensures (c.in-Err.ensures.failed clean is)
+
+pub returns-in-Err-clause-stays : goal.returns-in-Err-clause-stays
+returns-in-Err-clause-stays g c = λ clean live.
+    subst (λ conn. ((state g.S.Store c.read.new.conn).now ≡ (state g.S.Store conn).now) × ((state g.S.Store c.read.new.conn).committed ≡ (state g.S.Store conn).committed)) c.set_step_limit.ensures (c.in-Err.ensures.now clean live, c.in-Err.ensures.committed clean live)

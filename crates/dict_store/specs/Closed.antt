@@ -1,0 +1,41 @@
+-- What a close leaves of the two files of a desk.
+use Rattle.std.specs.Prelude.{◌≡◌, ◌⊎◌, Bool, true, false, List, [], Option, Contains}
+use Rattle.sqlite.specs.Recovery.{Image}
+use Rattle.sqlite.specs.Files.{image_of}
+use Rattle.sqlite.specs.FileStore.{view, recovers}
+use Rattle.sqlite.specs.Tree.{Trees}
+use Rattle.sqlite.specs.View.{IsClean}
+use Rattle.sqlite.specs.WalFiles.{outcomes}
+use Rattle.sqlite_disk.specs.declared.Disk as disk
+use Rattle.sqlite_disk.specs.declared.Files.{Files as Pair}
+use Rattle.sqlite_store.specs.declared.store.FileStore.{FileStore}
+use Rattle.sqlite.specs.declared.error.Error.{Error}
+use Rattle.sqlite.specs.declared.error.Error.TheVariants.{SqliteFailure}
+use Rattle.sqlite.specs.declared.error.ErrorCode.TheVariants as code
+use Rattle.sqlite.specs.Files.{over_files}
+use Rattle.dict_catalogue.specs.Steps.{Catalogue}
+use Rattle.dict_desk.specs.declared.fault.Fault.{Fault}
+use Rattle.dict_desk.specs.declared.fault.Fault.TheVariants.{Memory, Disk}
+use Rattle.dict_store.specs.Desk.{StandsFor}
+use Rattle.dict_store.specs.Reopened.{IsIn}
+
+-- memory ran out in the copy, or the store failed
+abbrev pub fault_of_copy : Error → Fault
+fault_of_copy (SqliteFailure code.OutOfMemory) = Memory
+fault_of_copy _ = Disk
+
+-- the octets of a log and of its database file are those of a database that holds the catalogue, and so are those of the database
+-- file with no log
+pub record IsInAlone (M : Catalogue) (image : Image) : Type 0 where
+  pub both : ∥ IsIn M image ∥₁
+  pub alone : ∥ IsIn M (record image { log = [] }) ∥₁
+
+module _ {D : Type 0} (d : disk.Ghosts D) where
+  -- the database file holds the catalogue alone, as it reads now and after a stop
+  pub record HoldsAlone (files : Pair D) (M : Catalogue) : Type 0 where
+    pub seen : IsInAlone M (image_of d files)
+    pub left : (image : Image) → outcomes d files.log files.db image → IsInAlone M image
+
+-- whatever a stop now leaves of a store that was let go of stands for one of these
+abbrev pub StoreLeaves : {D : Type 0} {d : disk.Ghosts D} → FileStore D d → List (Option Catalogue) → Type 0
+StoreLeaves {D} {d} store ms = IsClean (view store) → (trees : Trees) → recovers store trees → (m : Option Catalogue) × Contains ms m × StandsFor (over_files {D = D} {g = d}) m trees
