@@ -1,4 +1,5 @@
 pub mod QueueLemmas
+pub mod CallLemmas
 pub mod EventLemmas
 pub mod LeadLemmas
 pub mod OrderLemmas
@@ -6,3 +7,5 @@ pub mod TellLemmas
 pub mod TurnLemmas
 pub mod ListLemmas
 pub mod RoundLemmas
+pub mod SettleLemmas
+pub mod LookLemmas

@@ -9,7 +9,7 @@ use Rattle.std.proofs.lemmas.List.Quantifiers.{all_pairs_push}
 use Rattle.std.proofs.lemmas.List.Edits.{get_or-remove_below, get_or-remove_above, length-remove}
 use Rattle.dict_driver.specs.Queues.{waiting}
 use Rattle.dict_driver.specs.Rounds.{WaitsAmong}
-use Rattle.dict_driver.specs.Turning.{IsSameAll}
+use Rattle.dict_driver.specs.Turning.{MarkAll}
 use Rattle.dict_driver.specs.declared.connection.Connection.{Connection}
 
 -- what stands at a place, whatever stands in for none
@@ -52,13 +52,13 @@ among_append (x ∷ xs) ys id octets (inr there) = elim (among_append xs ys id o
   | inr right ↦ inr right
 ]
 
-among_take : {T : Type 0} (n : ℕ) (xs : List (Connection T)) (id : ℕ) (octets : List ℕ) → WaitsAmong (take n xs) id octets → WaitsAmong xs id octets
+pub among_take : {T : Type 0} (n : ℕ) (xs : List (Connection T)) (id : ℕ) (octets : List ℕ) → WaitsAmong (take n xs) id octets → WaitsAmong xs id octets
 among_take zero xs id octets never = absurd never
 among_take (suc n) [] id octets never = absurd never
 among_take (suc n) (x ∷ xs) id octets (inl here) = inl here
 among_take (suc n) (x ∷ xs) id octets (inr there) = inr (among_take n xs id octets there)
 
-among_drop : {T : Type 0} (n : ℕ) (xs : List (Connection T)) (id : ℕ) (octets : List ℕ) → WaitsAmong (drop n xs) id octets → WaitsAmong xs id octets
+pub among_drop : {T : Type 0} (n : ℕ) (xs : List (Connection T)) (id : ℕ) (octets : List ℕ) → WaitsAmong (drop n xs) id octets → WaitsAmong xs id octets
 among_drop zero xs id octets h = h
 among_drop (suc n) [] id octets never = absurd never
 among_drop (suc n) (x ∷ xs) id octets h = inr (among_drop n xs id octets h)
@@ -144,16 +144,21 @@ ids_more old now i after x ids within id = record {
   ];
 }
 
--- what waits for connections that are the same
-pub same_among : {T : Type 0} (old new : List (Connection T)) (id : ℕ) (octets : List ℕ) → length new ≡ length old → IsSameAll old new → WaitsAmong new id octets → WaitsAmong old id octets
-same_among old new id octets len same among =
+-- what waits for connections that are marked
+pub marked_among : {T : Type 0} (is_told : ℕ → Bool) (old new : List (Connection T)) (id : ℕ) (octets : List ℕ) → MarkAll is_told old new → WaitsAmong new id octets → WaitsAmong old id octets
+marked_among is_told old new id octets marks among =
     let s = among_at new id octets among in
+    let len = marks.len in
     let within : s.place < length new = s.within in
     let below : s.place < length old = omega arith in
-    let is = same s.place s.one below in
-    let the_id : (get_or old s.place s.one).id ≡ id = sym is.0 ∙ ap (λ it. it.id) (s.at s.one) ∙ s.is in
-    let the_octets : waiting (get_or old s.place s.one).queue ≡ octets = ap waiting (sym is.2) ∙ ap (λ it. waiting it.queue) (s.at s.one) ∙ s.waits in
+    let is = marks.marks s.place s.one below in
+    let the_id : (get_or old s.place s.one).id ≡ id = sym (ap (λ it. it.id) is) ∙ ap (λ it. it.id) (s.at s.one) ∙ s.is in
+    let the_octets : waiting (get_or old s.place s.one).queue ≡ octets = sym (ap (λ it. waiting it.queue) is) ∙ ap (λ it. waiting it.queue) (s.at s.one) ∙ s.waits in
     subst (λ (j : ℕ). WaitsAmong old j octets) the_id (subst (λ (l : List ℕ). WaitsAmong old (get_or old s.place s.one).id l) the_octets (place_among old s.place s.one below))
+
+-- the same ids and the same stages, where they are marked
+pub marked_ids : {T : Type 0} (is_told : ℕ → Bool) (old new : List (Connection T)) → MarkAll is_told old new → HaveSameIds old new
+marked_ids is_told old new marks = record { len = marks.len; same = λ k d within. ap (λ it. it.id) (marks.marks k d within) }
 
 pub taken_whole : {X : Type 0} (n : ℕ) (xs ys : List X) → n ≡ length xs → take n (xs ++ ys) ≡ xs
 taken_whole n [] ys is = rw is refl
@@ -173,3 +178,54 @@ rising_push opened one last rising given above = all_pairs_push (λ a b. a.id < 
 pub given_push : {T : Type 0} (opened : List (Connection T)) (one : Connection T) (last now : ℕ) → All (λ (a : Connection T). a.id ≤ last) opened → last ≤ now → one.id ≤ now
     → All (λ (a : Connection T). a.id ≤ now) (opened ++ one ∷ [])
 given_push opened one last now given up is = All-push (λ a. a.id ≤ now) opened one (λ k d within. let under = given k d within in omega arith) is
+
+-- what stands before a place was changed so, and the rest is as it was
+pub record ChangeUpTo {X : Type 0} (Changes : X → X → Type 0) (old now : List X) (i : ℕ) : Type 0 where
+  pub len : length now ≡ length old
+  pub changes : (k : ℕ) (d : X) → k < i → k < length old → Changes (get_or old k d) (get_or now k d)
+  pub rest : (k : ℕ) (d : X) → i ≤ k → k < length old → get_or now k d ≡ get_or old k d
+
+pub change_none : {X : Type 0} (Changes : X → X → Type 0) (all : List X) → ChangeUpTo Changes all all 0
+change_none Changes all = record { len = refl; changes = λ k d before within. absurd (omega (arith, before)); rest = λ k d from within. refl }
+
+pub change_more : {X : Type 0} (Changes : X → X → Type 0) (old now : List X) (i : ℕ) (one after : X) → i < length now → get_or now i one ≡ one → Changes one after
+    → ChangeUpTo Changes old now i → ChangeUpTo Changes old (set now i after) (i + 1)
+change_more {X} Changes old now i one after in_now is changed all =
+    let len = all.len in
+    let within : i < length old = omega (arith, in_now) in
+    let was : (d : X) → get_or old i d ≡ one = λ d. sym (all.rest i d (omega arith) within) ∙ default_free now i d one in_now ∙ is in
+    record {
+      len = length-set now i after ∙ len;
+      changes = λ k d before below. elim (eqb_tells k i) [
+        | inl same ↦
+            let at : get_or old k d ≡ one = ap (λ (j : ℕ). get_or old j d) same.1 ∙ was d in
+            rw (get_or-set_at now i k after d same.1 in_now, at) changed
+        | inr other ↦ rw (get_or-set_other now i k after d other.1) (all.changes k d (omega (arith, before, other.1)) below)
+      ];
+      rest = λ k d from below. rw (get_or-set_other now i k after d (λ same. absurd (omega (arith, from, same)))) (all.rest k d (omega (arith, from)) below);
+    }
+
+-- all of it
+pub change_whole : {X : Type 0} (Changes : X → X → Type 0) (old now : List X) (i : ℕ) → length old ≤ i → ChangeUpTo Changes old now i
+    → (k : ℕ) (d : X) → k < length old → Changes (get_or old k d) (get_or now k d)
+change_whole Changes old now i whole all k d within = all.changes k d (omega (arith, whole, within)) within
+
+-- one more has nothing to read
+pub idle_more : {T : Type 0} (now : List (Connection T)) (i : ℕ) (after : Connection T) → i < length now → ((k : ℕ) (d : Connection T) → k < i → k < length now → (get_or now k d).may_receive ≡ false)
+    → after.may_receive ≡ false → (k : ℕ) (d : Connection T) → k < i + 1 → k < length (set now i after) → (get_or (set now i after) k d).may_receive ≡ false
+idle_more now i after in_now before idle k d below within =
+    let len : length (set now i after) ≡ length now = length-set now i after in
+    elim (eqb_tells k i) [
+      | inl same ↦ rw (get_or-set_at now i k after d same.1 in_now) idle
+      | inr other ↦ rw (get_or-set_other now i k after d other.1) (before k d (omega (arith, below, other.1)) (omega (arith, len, within)))
+    ]
+
+-- ids that are apart stay so
+pub apart_kept : {T : Type 0} (xs ys us vs : List (Connection T)) → HaveSameIds xs ys → HaveSameIds us vs → All (λ (b : Connection T). All (λ (a : Connection T). a.id ≢ b.id) xs) us
+    → All (λ (b : Connection T). All (λ (a : Connection T). a.id ≢ b.id) ys) vs
+apart_kept xs ys us vs ids others apart k d within i e in_ys same =
+    let len = ids.len in
+    let other_len = others.len in
+    let in_us : k < length us = omega (arith, other_len, within) in
+    let in_xs : i < length xs = omega (arith, len, in_ys) in
+    apart k d in_us i e in_xs (sym (ids.same i e in_xs) ∙ same ∙ others.same k d in_us)

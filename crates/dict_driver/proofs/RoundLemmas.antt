@@ -1,23 +1,28 @@
 -- What a round does with the octets that wait.
-use Rattle.std.proofs.Common.{◌≡◌, ◌≢◌, ◌<◌, ◌≤◌, ◌+◌, ◌⊎◌, ℕ, Bool, false, List, [], ◌∷◌, ◌++◌, length, get_or, set, refl, sym, ap, ◌∙◌, subst, inl, inr, arith, append_assoc, append-nil}
+use Rattle.std.proofs.Common.{◌≡◌, ◌≢◌, ◌<◌, ◌≤◌, ◌+◌, ℕ, Bool, false, ◌-◌, All, List, [], ◌∷◌, ◌++◌, length, length-set, get_or, set, refl, sym, ap, ◌∙◌, subst, inl, inr, arith, append_assoc, append-nil}
 use Rattle.std.specs.Prelude.{Option}
 use Rattle.std.specs.List.{AllPairs, filter}
-use Rattle.std.proofs.lemmas.Bool.Decides.{eqb_tells, leb_tells}
+use Rattle.std.proofs.lemmas.Bool.{ne_eqb}
+use Rattle.std.proofs.lemmas.Bool.Decides.{eqb_tells}
 use Rattle.std.proofs.lemmas.List.{get_or-set_other}
 use Rattle.std.proofs.lemmas.Grind.{get_or-set_at}
+use Rattle.dict_hub.specs.Events.{id_of}
 use Rattle.dict_hub.specs.Runs.{Accepted, events_of}
 use Rattle.dict_driver.specs.Queues.{waiting}
-use Rattle.dict_driver.specs.Stages.{is_open}
+use Rattle.dict_driver.specs.Stages.{is_departing, is_held, is_open}
 use Rattle.dict_driver.specs.Events.{AreOf}
-use Rattle.dict_driver.specs.Turns.{Turns}
-use Rattle.dict_driver.specs.Turning.{DepartAll, TurnAll}
-use Rattle.dict_driver.specs.Rounds.{WaitsAmong, Waits, Flows, Moves}
+use Rattle.dict_driver.specs.Calls.{Call}
+use Rattle.dict_driver.specs.Ordering.{AreOfTurns, ComeById, IsOpeningOf}
+use Rattle.dict_hub.specs.declared.kind.Kind.{Kind}
+use Rattle.dict_driver.specs.Turns.{Departs, IsOpened, Turns}
+use Rattle.dict_driver.specs.Turning.{DepartAll, MarkAll, TurnAll}
+use Rattle.dict_driver.specs.Rounds.{WaitsAmong, Waits, Flows, HasWaited, Moves, TurnEach}
 use Rattle.dict_driver.specs.declared.connection.Connection.{Connection}
 use Rattle.dict_driver.specs.declared.connections.Connections.{Connections}
 use Rattle.dict_driver.specs.declared.transport.Transport.{Ghosts}
 use Rattle.dict_driver.proofs.EventLemmas.{put_joined, events_joined, own_all, own_none}
 use Rattle.dict_driver.proofs.OrderLemmas.{AreBelow, below_joined, turns_of_joined, by_id_joined}
-use Rattle.dict_driver.proofs.ListLemmas.{default_free, among_at, place_among, among_append, among_filter, HaveSameIds, all_among}
+use Rattle.dict_driver.proofs.ListLemmas.{default_free, among_at, place_among, among_append, among_drop, among_filter, HaveSameIds, all_among, marked_among}
 
 pub flows_none : (octets : List ℕ) → Flows octets [] octets
 flows_none octets = record { sent = []; put = []; are_put = refl; order = sym (append-nil octets) }
@@ -31,8 +36,12 @@ flows_joined before es between fs after first then = record {
       ∙ ap (λ (l : List ℕ). l ++ then.put) first.order ∙ append_assoc before first.put then.put;
 }
 
-pub flows_turn : {T : Type 0} (taken coming : T → Option (List ℕ)) (a b : Connection T) (events : List Accepted) → Turns taken coming a b events → Flows (waiting a.queue) events (waiting b.queue)
-flows_turn taken coming a b events turns = record { sent = turns.sent; put = turns.put; are_put = turns.are_put; order = turns.order }
+pub flows_turn : {T : Type 0} (taken coming : T → Option (List ℕ)) (made : T → Option (List Call)) (a b : Connection T) (events : List Accepted) → Turns taken coming made a b events
+    → Flows (waiting a.queue) events (waiting b.queue)
+flows_turn taken coming made a b events turns = record { sent = turns.sent; put = turns.put; are_put = turns.are_put; order = turns.order }
+
+flows_depart : {T : Type 0} (taken coming : T → Option (List ℕ)) (made : T → Option (List Call)) (a b : Connection T) → Departs taken coming made a b → Flows (waiting a.queue) [] (waiting b.queue)
+flows_depart taken coming made a b departs = record { sent = departs.sent; put = []; are_put = refl; order = departs.order ∙ sym (append-nil (waiting a.queue)) }
 
 -- where the events are the same and the octets are
 flows_as : (a b : List ℕ) (es fs : List Accepted) (c d : List ℕ) → a ≡ b → es ≡ fs → c ≡ d → Flows a es c → Flows b fs d
@@ -49,68 +58,84 @@ below_from_more all i own es fs rising within is below of k d from in_all =
     let same = is d in
     below_joined (get_or all k d).id own es fs (omega (arith, lt, same)) (below k d (omega (arith, from)) in_all) of
 
-pub turn_all_none : {T : Type 0} (all : List (Connection T)) → TurnAll all all []
-turn_all_none all = record { flows = λ k d within. flows_none (waiting (get_or all k d).queue); no_other = λ id apart. refl; are_turns = tt; by_id = tt }
+-- no event is of an id that is above them all
+below_none : (id : ℕ) (events : List Accepted) → AreBelow id events → events_of id events ≡ []
+below_none id [] below = refl
+below_none id (one ∷ events) (under, below) =
+    let differs = ne_eqb id (id_of one.what) (λ same. absurd (omega (arith, under, same))) in
+    rw differs (below_none id events below)
+
+-- the connections before this place had their turns, and the others are as they were
+pub record TurnUpTo {T : Type 0} (taken coming : T → Option (List ℕ)) (made : T → Option (List Call)) (old now : List (Connection T)) (i : ℕ) (events : List Accepted) : Type 0 where
+  pub len : length now ≡ length old
+  pub turns : (k : ℕ) (d : Connection T) → k < i → k < length old → Turns taken coming made (get_or old k d) (get_or now k d) (events_of (get_or old k d).id events)
+  pub rest : (k : ℕ) (d : Connection T) → i ≤ k → k < length old → get_or now k d ≡ get_or old k d
+  pub below : AreBelowFrom old i events
+  pub no_other : (id : ℕ) → ((k : ℕ) (d : Connection T) → k < length old → (get_or old k d).id ≢ id) → events_of id events ≡ []
+  pub are_turns : AreOfTurns events
+  pub by_id : ComeById events
+
+pub turn_none : {T : Type 0} (taken coming : T → Option (List ℕ)) (made : T → Option (List Call)) (all : List (Connection T)) → TurnUpTo taken coming made all all 0 []
+turn_none taken coming made all = record {
+  len = refl;
+  turns = λ k d before within. absurd (omega (arith, before));
+  rest = λ k d from within. refl;
+  below = λ k d from within. tt;
+  no_other = λ id apart. refl;
+  are_turns = tt;
+  by_id = tt;
+}
 
 -- one more connection had its turn
-pub turn_all_more : {T : Type 0} (taken coming : T → Option (List ℕ)) (old now : List (Connection T)) (i : ℕ) (one after : Connection T) (es fs : List Accepted)
-    → AllPairs (λ a b. a.id < b.id) old → i < length old → HaveSameIds old now → get_or now i one ≡ one → AreBelow one.id es → Turns taken coming one after fs → TurnAll old now es → TurnAll old (set now i after) (es ++ fs)
-turn_all_more {T} taken coming old now i one after es fs rising within ids is below turns all =
-    let len = ids.len in
+pub turn_more : {T : Type 0} (taken coming : T → Option (List ℕ)) (made : T → Option (List Call)) (old now : List (Connection T)) (i : ℕ) (one after : Connection T) (es fs : List Accepted)
+    → AllPairs (λ a b. a.id < b.id) old → i < length old → get_or now i one ≡ one → Turns taken coming made one after fs → TurnUpTo taken coming made old now i es
+    → TurnUpTo taken coming made old (set now i after) (i + 1) (es ++ fs)
+turn_more {T} taken coming made old now i one after es fs rising within is turns all =
+    let len = all.len in
     let in_now : i < length now = omega arith in
-    let own_id : (d : Connection T) → (get_or old i d).id ≡ one.id = λ d. sym (ids.same i d within) ∙ ap (λ it. it.id) (default_free now i d one in_now ∙ is) in
+    let was : (d : Connection T) → get_or old i d ≡ one = λ d. sym (all.rest i d (omega arith) within) ∙ default_free now i d one in_now ∙ is in
+    let own_id : (d : Connection T) → (get_or old i d).id ≡ one.id = λ d. ap (λ it. it.id) (was d) in
     record {
-      flows = λ k d below. elim (eqb_tells k i) [
+      len = length-set now i after ∙ len;
+      turns = λ k d before below. elim (eqb_tells k i) [
         | inl same ↦
-            let at : get_or now k d ≡ one = ap (λ (j : ℕ). get_or now j d) same.1 ∙ default_free now i d one in_now ∙ is in
-            let id : one.id ≡ (get_or old k d).id = sym (own_id d) ∙ ap (λ (j : ℕ). (get_or old j d).id) (sym same.1) in
-            let own : AreOf (get_or old k d).id fs = subst (λ (j : ℕ). AreOf j fs) id turns.own in
-            let events : events_of (get_or old k d).id es ++ fs ≡ events_of (get_or old k d).id (es ++ fs)
-            = sym (events_joined (get_or old k d).id es fs ∙ ap (λ l. events_of (get_or old k d).id es ++ l) (own_all (get_or old k d).id fs own)) in
-            flows_as (waiting (get_or old k d).queue) (waiting (get_or old k d).queue) (events_of (get_or old k d).id es ++ fs) (events_of (get_or old k d).id (es ++ fs))
-            (waiting after.queue) (waiting (get_or (set now i after) k d).queue)
-            refl events (ap (λ it. waiting it.queue) (sym (get_or-set_at now i k after d same.1 in_now)))
-            (flows_joined (waiting (get_or old k d).queue) (events_of (get_or old k d).id es) (waiting one.queue) fs (waiting after.queue)
-            (subst (λ it. Flows (waiting (get_or old k d).queue) (events_of (get_or old k d).id es) (waiting it.queue)) at (all.flows k d below)) (flows_turn taken coming one after fs turns))
+            let at : get_or old k d ≡ one = ap (λ (j : ℕ). get_or old j d) same.1 ∙ was d in
+            let under : AreBelow one.id es = subst (λ it. AreBelow it.id es) (was d) (all.below i d (omega arith) within) in
+            let events : events_of one.id (es ++ fs) ≡ fs
+            = events_joined one.id es fs ∙ ap (λ l. l ++ events_of one.id fs) (below_none one.id es under) ∙ own_all one.id fs turns.own in
+            rw (get_or-set_at now i k after d same.1 in_now, at, events) turns
         | inr other ↦
-            let apart : one.id ≢ (get_or old k d).id = λ same. elim (leb_tells i k) [
-              | inl above ↦ let lt = rising i k d (omega (arith, above.1, other.1)) below in let e = own_id d in absurd (omega (arith, lt, e, same))
-              | inr under ↦ let lt = rising k i d under.1 within in let e = own_id d in absurd (omega (arith, lt, e, same))
-            ] in
-            let events : events_of (get_or old k d).id es ≡ events_of (get_or old k d).id (es ++ fs)
-            = sym (events_joined (get_or old k d).id es fs ∙ ap (λ l. events_of (get_or old k d).id es ++ l) (own_none one.id (get_or old k d).id fs turns.own apart) ∙ append-nil (events_of (get_or old k d).id es)) in
-            flows_as (waiting (get_or old k d).queue) (waiting (get_or old k d).queue) (events_of (get_or old k d).id es) (events_of (get_or old k d).id (es ++ fs))
-            (waiting (get_or now k d).queue) (waiting (get_or (set now i after) k d).queue)
-            refl events (ap (λ it. waiting it.queue) (sym (get_or-set_other now i k after d other.1))) (all.flows k d below)
+            let earlier : k < i = omega (arith, before, other.1) in
+            let apart : one.id ≢ (get_or old k d).id = λ same. (let lt = rising k i d earlier within in let e = own_id d in absurd (omega (arith, lt, e, same))) in
+            let events : events_of (get_or old k d).id (es ++ fs) ≡ events_of (get_or old k d).id es
+            = events_joined (get_or old k d).id es fs ∙ ap (λ l. events_of (get_or old k d).id es ++ l) (own_none one.id (get_or old k d).id fs turns.own apart) ∙ append-nil (events_of (get_or old k d).id es) in
+            rw (get_or-set_other now i k after d other.1, events) (all.turns k d earlier below)
       ];
+      rest = λ k d from below. rw (get_or-set_other now i k after d (λ same. absurd (omega (arith, from, same)))) (all.rest k d (omega (arith, from)) below);
+      below = below_from_more old i one.id es fs rising within own_id all.below turns.own;
       no_other = λ id apart.
           let here : one.id ≢ id = λ same. apart i one within (own_id one ∙ same) in
           events_joined id es fs ∙ ap (λ l. l ++ events_of id fs) (all.no_other id apart) ∙ own_none one.id id fs turns.own here;
       are_turns = turns_of_joined es fs all.are_turns turns.are_turns;
-      by_id = by_id_joined one.id es fs all.by_id below turns.own;
+      by_id = by_id_joined one.id es fs all.by_id (subst (λ it. AreBelow it.id es) (was one) (all.below i one (omega arith) within)) turns.own;
     }
 
-pub depart_all_none : {T : Type 0} (all : List (Connection T)) → DepartAll all all
-depart_all_none all k d within = (refl, λ closed. closed, flows_none (waiting (get_or all k d).queue))
+-- each had its turn
+pub turn_whole : {T : Type 0} (taken coming : T → Option (List ℕ)) (made : T → Option (List Call)) (old now : List (Connection T)) (i : ℕ) (events : List Accepted) → length old ≤ i
+    → TurnUpTo taken coming made old now i events → TurnAll taken coming made old now events
+turn_whole taken coming made old now i events whole all = record {
+  len = all.len;
+  turns = λ k d within. all.turns k d (omega (arith, within)) within;
+  no_other = all.no_other;
+  are_turns = all.are_turns;
+  by_id = all.by_id;
+}
 
-pub depart_all_more : {T : Type 0} (taken coming : T → Option (List ℕ)) (old now : List (Connection T)) (i : ℕ) (one after : Connection T)
-    → length now ≡ length old → i < length old → get_or now i one ≡ one → Turns taken coming one after [] → (is_open one.stage ≡ false → is_open after.stage ≡ false)
-    → DepartAll old now → DepartAll old (set now i after)
-depart_all_more taken coming old now i one after len within is turns closed all k d below =
-    let in_now : i < length now = omega arith in
-    elim (eqb_tells k i) [
-      | inl same ↦
-          let at : get_or now k d ≡ one = ap (λ (j : ℕ). get_or now j d) same.1 ∙ default_free now i d one in_now ∙ is in
-          let set_at = get_or-set_at now i k after d same.1 in_now in
-          let before = all k d below in
-          rw set_at (
-            turns.id ∙ ap (λ it. it.id) (sym at) ∙ before.0,
-            λ was. closed (ap (λ it. is_open it.stage) (sym at) ∙ before.1 was),
-            flows_joined (waiting (get_or old k d).queue) [] (waiting one.queue) [] (waiting after.queue)
-                (subst (λ it. Flows (waiting (get_or old k d).queue) [] (waiting it.queue)) at before.2) (flows_turn taken coming one after [] turns),
-          )
-      | inr other ↦ rw (get_or-set_other now i k after d other.1) (all k d below)
-    ]
+pub turn_ids : {T : Type 0} {taken coming : T → Option (List ℕ)} {made : T → Option (List Call)} (old new : List (Connection T)) (events : List Accepted) → TurnAll taken coming made old new events → HaveSameIds old new
+turn_ids old new events all = record { len = all.len; same = λ k d within. (all.turns k d within).id }
+
+pub depart_ids : {T : Type 0} {taken coming : T → Option (List ℕ)} {made : T → Option (List Call)} (old new : List (Connection T)) → DepartAll taken coming made old new → HaveSameIds old new
+depart_ids old new all = record { len = all.len; same = λ k d within. (all.departs k d within).id }
 
 -- what waits is what waited
 pub moves_same : {T : Type 0} {G : Ghosts T} (a b : Connections T G) → b.last ≡ a.last → ((id : ℕ) (octets : List ℕ) → Waits b id octets → Waits a id octets) → Moves a b []
@@ -119,6 +144,10 @@ moves_same a b last waits = record {
   given = λ id above. refl;
   waits = λ id octets now. record { before = octets; was = inl (waits id octets now); flows = flows_none octets };
 }
+
+-- the connections are the same
+pub moves_as : {T : Type 0} {G : Ghosts T} (a b : Connections T G) → b ≡ a → Moves a b []
+moves_as a b same = moves_same a b (ap (λ all. all.last) same) (λ id octets now. subst (λ all. Waits all id octets) same now)
 
 pub moves_joined : {T : Type 0} {G : Ghosts T} (a b c : Connections T G) (es fs : List Accepted) → Moves a b es → Moves b c fs → Moves a c (es ++ fs)
 moves_joined a b c es fs first then =
@@ -177,40 +206,75 @@ moves_opened a b one events opened departing last above own flows =
     }
 
 -- each had its turn
-pub moves_turned : {T : Type 0} {G : Ghosts T} (a b : Connections T G) (now_open departed : List (Connection T)) (p : Connection T → Bool) (events : List Accepted)
-    → HaveSameIds a.opened.items now_open → TurnAll a.opened.items now_open events → length departed ≡ length a.departing.items → DepartAll a.departing.items departed
-    → b.last ≡ a.last → ((id : ℕ) (octets : List ℕ) → Waits b id octets → WaitsAmong now_open id octets ⊎ WaitsAmong (filter p departed) id octets) → Moves a b events
-moves_turned {T} a b now_open departed p events ids turned len departs last waits =
+pub moves_turned : {T : Type 0} {G : Ghosts T} {taken coming : T → Option (List ℕ)} {made : T → Option (List Call)} (a b : Connections T G) (events : List Accepted) → TurnEach taken coming made a b events → Moves a b events
+moves_turned {T} {G} {taken} {coming} {made} a b events each =
+    let last = each.last in
+    let ids = turn_ids a.opened.items each.turned events each.turns in
     let same_len = ids.len in
+    let is_turned : (id : ℕ) (octets : List ℕ) → WaitsAmong each.turned id octets → HasWaited a events id octets
+    = λ id octets is.
+    let s = among_at each.turned id octets is in
+    let within : s.place < length each.turned = s.within in
+    let below : s.place < length a.opened.items = omega arith in
+    let old = get_or a.opened.items s.place s.one in
+    let same : old.id ≡ id = sym (ids.same s.place s.one below) ∙ ap (λ it. it.id) (s.at s.one) ∙ s.is in
+    record {
+      before = waiting old.queue;
+      was = inl (inl (subst (λ (i : ℕ). WaitsAmong a.opened.items i (waiting old.queue)) same (place_among a.opened.items s.place s.one below)));
+      flows = flows_as (waiting old.queue) (waiting old.queue) (events_of old.id events) (events_of id events) (waiting (get_or each.turned s.place s.one).queue) octets
+          refl (ap (λ (i : ℕ). events_of i events) same) (ap (λ it. waiting it.queue) (s.at s.one) ∙ s.waits) (flows_turn taken coming made _ _ _ (each.turns.turns s.place s.one below));
+    } in
+    let has_departed : (id : ℕ) (octets : List ℕ) → WaitsAmong each.departed id octets → HasWaited a events id octets
+    = λ id octets is.
+    let s = among_at each.departed id octets is in
+    let len = each.departs.len in
+    let within : s.place < length each.departed = s.within in
+    let below : s.place < length a.departing.items = omega arith in
+    let old = get_or a.departing.items s.place s.one in
+    let step = each.departs.departs s.place s.one below in
+    let same : old.id ≡ id = sym step.id ∙ ap (λ it. it.id) (s.at s.one) ∙ s.is in
+    let none : events_of id events ≡ [] = each.turns.no_other id (λ k d in_open equal. a.apart s.place s.one below k d in_open (equal ∙ sym same)) in
+    record {
+      before = waiting old.queue;
+      was = inl (inr (subst (λ (i : ℕ). WaitsAmong a.departing.items i (waiting old.queue)) same (place_among a.departing.items s.place s.one below)));
+      flows = flows_as (waiting old.queue) (waiting old.queue) [] (events_of id events) (waiting (get_or each.departed s.place s.one).queue) octets
+          refl (sym none) (ap (λ it. waiting it.queue) (s.at s.one) ∙ s.waits) (flows_depart taken coming made _ _ step);
+    } in
     record {
       last = omega arith;
-      given = λ id above. turned.no_other id (λ k d within same. let under = a.given_open k d within in absurd (omega arith));
-      waits = λ id octets now. elim (waits id octets now) [
-        | inl is ↦
-            let s = among_at now_open id octets is in
-            let within : s.place < length now_open = s.within in
-            let below : s.place < length a.opened.items = omega arith in
-            let old = get_or a.opened.items s.place s.one in
-            let same : old.id ≡ id = sym (ids.same s.place s.one below) ∙ ap (λ it. it.id) (s.at s.one) ∙ s.is in
-            record {
-              before = waiting old.queue;
-              was = inl (inl (subst (λ (i : ℕ). WaitsAmong a.opened.items i (waiting old.queue)) same (place_among a.opened.items s.place s.one below)));
-              flows = flows_as (waiting old.queue) (waiting old.queue) (events_of old.id events) (events_of id events) (waiting (get_or now_open s.place s.one).queue) octets
-                  refl (ap (λ (i : ℕ). events_of i events) same) (ap (λ it. waiting it.queue) (s.at s.one) ∙ s.waits) (turned.flows s.place s.one below);
-            }
+      given = λ id above. each.turns.no_other id (λ k d within same. let under = a.given_open k d within in absurd (omega arith));
+      waits = λ id octets now. elim now [
+        | inl is ↦ is_turned id octets (among_filter (λ one. is_open one.stage) each.turned id octets (subst (λ l. WaitsAmong l id octets) each.opened is))
         | inr is ↦
-            let s = among_at departed id octets (among_filter p departed id octets is) in
-            let within : s.place < length departed = s.within in
-            let below : s.place < length a.departing.items = omega arith in
-            let old = get_or a.departing.items s.place s.one in
-            let step = departs s.place s.one below in
-            let same : old.id ≡ id = sym step.0 ∙ ap (λ it. it.id) (s.at s.one) ∙ s.is in
-            let none : events_of id events ≡ [] = turned.no_other id (λ k d in_open equal. a.apart s.place s.one below k d in_open (equal ∙ sym same)) in
-            record {
-              before = waiting old.queue;
-              was = inl (inr (subst (λ (i : ℕ). WaitsAmong a.departing.items i (waiting old.queue)) same (place_among a.departing.items s.place s.one below)));
-              flows = flows_as (waiting old.queue) (waiting old.queue) [] (events_of id events) (waiting (get_or departed s.place s.one).queue) octets
-                  refl (sym none) (ap (λ it. waiting it.queue) (s.at s.one) ∙ s.waits) step.2;
-            }
+            let all = filter (λ one. is_held one.stage) each.departed ++ filter (λ one. is_departing one.stage) each.turned in
+            elim (among_append (filter (λ one. is_held one.stage) each.departed) (filter (λ one. is_departing one.stage) each.turned) id octets
+            (among_drop (length all - 128) all id octets (subst (λ l. WaitsAmong l id octets) each.departing is))) [
+              | inl left ↦ has_departed id octets (among_filter (λ one. is_held one.stage) each.departed id octets left)
+              | inr right ↦ is_turned id octets (among_filter (λ one. is_departing one.stage) each.turned id octets right)
+            ]
       ];
     }
+
+-- what is marked is as it was, but for that
+pub moves_marked : {T : Type 0} {G : Ghosts T} (is_told : ℕ → Bool) (a b : Connections T G) → MarkAll is_told a.opened.items b.opened.items → MarkAll is_told a.departing.items b.departing.items
+    → (id : ℕ) (octets : List ℕ) → Waits b id octets → Waits a id octets
+moves_marked is_told a b opened departing id octets (inl is) = inl (marked_among is_told a.opened.items b.opened.items id octets opened is)
+moves_marked is_told a b opened departing id octets (inr is) = inr (marked_among is_told a.departing.items b.departing.items id octets departing is)
+
+-- what the opening of a connection is
+pub opened_own : {T : Type 0} (id : ℕ) (kind : Kind) (one : Connection T) (events : List Accepted) → IsOpened id kind one events → AreOf id events
+opened_own id kind one events (accepted, are, is, stage, put) = rw are (ap id_of is, tt)
+
+pub opened_is : {T : Type 0} (id : ℕ) (kind : Kind) (one : Connection T) (events : List Accepted) → IsOpened id kind one events → IsOpeningOf kind events
+opened_is id kind one events (accepted, are, is, stage, put) = rw are (id, is)
+
+pub opened_flows : {T : Type 0} (id : ℕ) (kind : Kind) (one : Connection T) (events : List Accepted) → IsOpened id kind one events → Flows [] events (waiting one.queue)
+opened_flows id kind one events (accepted, are, is, stage, put) = record { sent = []; put = waiting one.queue; are_put = put; order = refl }
+
+-- those that are no longer open stay so
+pub departed_closed : {T : Type 0} {taken coming : T → Option (List ℕ)} {made : T → Option (List Call)} (old new : List (Connection T)) → DepartAll taken coming made old new
+    → All (λ (one : Connection T). is_open one.stage ≡ false) old → All (λ (one : Connection T). is_open one.stage ≡ false) new
+departed_closed old new all closed k d within =
+    let len = all.len in
+    let below : k < length old = omega (arith, len, within) in
+    (all.departs k d below).closed (closed k d below)

@@ -1,197 +1,510 @@
--- Turns of one connection, one after the other.
-use Rattle.std.proofs.Common.{◌≡◌, ℕ, Bool, true, false, List, [], ◌++◌, refl, sym, ap, ◌∙◌, subst, append_assoc, append-nil, take, take-append-drop}
-use Rattle.std.specs.Prelude.{Option, Some, None, Result, Ok, Err}
-use Rattle.std.specs.Io.KnownBytes.{Appends, Consumes, Keeps}
-use Rattle.std.proofs.KnownBytes.{Appends-trans, Consumes-nil, Consumes-trans, Keeps-refl}
-use Rattle.dict_hub.specs.Events.{Happening, id_of}
+-- Turns of one connection, one call after the other.
+use Rattle.std.proofs.Common.{◌≡◌, ◌≢◌, ◌≤◌, ℕ, Bool, true, false, List, [], ◌∷◌, ◌++◌, refl, sym, ap, ◌∙◌, subst, append_assoc, append-nil, take, length, take-append-drop, inl, inr, arith}
+use Rattle.std.specs.Prelude.{Option, Some, None, Result, Ok, Err, not, ◌==◌, ◌-◌, nat_le, if◌then◌else◌}
+use Rattle.std.specs.Io.{ReadsAtMost}
+use Rattle.std.specs.Io.KnownBytes.{Appends, Consumes, Keeps, ReadConsumes}
+use Rattle.std.specs.declared.io.Error.{Error}
+use Rattle.std.specs.declared.io.ErrorKind.{ErrorKind}
+use Rattle.std.specs.declared.io.ErrorKind.TheVariants as kinds
+use Rattle.std.proofs.lemmas.Bool.Decides.{eqb_tells}
+use Rattle.std.proofs.KnownBytes.{Consumes-nil, Keeps-refl}
+use Rattle.std.specs.IoError.{error_kind}
+use Rattle.dict_hub.specs.Events.{Happening, came, ended, id_of}
 use Rattle.dict_hub.specs.Runs.{Accepted}
-use Rattle.dict_driver.specs.Queues.{waiting, Sends}
-use Rattle.dict_driver.specs.Stages.{is_open}
-use Rattle.dict_driver.specs.Events.{AreOf, piece_of, pieces_of}
-use Rattle.dict_driver.specs.Telling.{IsTold}
-use Rattle.dict_driver.specs.Turns.{Hands, Turns}
+use Rattle.dict_hub.specs.declared.asking.Out.{Out}
+use Rattle.dict_hub.specs.declared.asking.Out.TheVariants as outs
+use Rattle.dict_driver.specs.Queues.{waiting, is_clear, Sends}
+use Rattle.dict_driver.specs.Stages.{is_open, count_received, answered, parted}
+use Rattle.dict_driver.specs.Calls.{Call, Makes, sends, receives, sendings, readings, endings, is_dropped, calls_of_turn, sent_by, received_by, received_by_kind, has_failed, has_moved}
+use Rattle.dict_driver.specs.Events.{ArePut, AreOf, piece_of, pieces_of}
+use Rattle.dict_driver.specs.Telling.{IsAnswered, IsTold}
+use Rattle.dict_driver.specs.Turns.{BringAllOrNone, Hands, LeadsByAnswer, LeadsByEnd, LeadsByReading, LeadsByTurn, SendsOnce, ReadsOnce, Turns, Finishes, Drains, LeadsOut, LeadsAway, Departs, stage_between, stage_drained, dropped_after, marked_after}
 use Rattle.dict_driver.specs.declared.connection.Connection.{Connection}
-use Rattle.dict_driver.specs.Ordering.{IsOfTurn}
-use Rattle.dict_driver.proofs.EventLemmas.{put_joined, own_joined, pieces_joined}
-use Rattle.dict_driver.proofs.OrderLemmas.{only_turn, turns_of_joined}
+use Rattle.dict_driver.specs.declared.stage.Sent.{Sent}
+use Rattle.dict_driver.specs.declared.stage.Sent.TheVariants as sents
+use Rattle.dict_driver.specs.declared.stage.Received.{Received}
+use Rattle.dict_driver.specs.declared.stage.Received.TheVariants as receiveds
+use Rattle.dict_driver.specs.declared.stage.Stage.{Stage}
+use Rattle.dict_driver.specs.declared.stage.Stage.TheVariants as stages
+use Rattle.dict_driver.specs.Ordering.{IsOfTurn, IsOnly}
+use Rattle.dict_driver.proofs.CallLemmas.{makes_none, makes_joined}
+use Rattle.dict_driver.proofs.EventLemmas.{put_joined}
+use Rattle.dict_driver.proofs.OrderLemmas.{only_turn}
+use Rattle.dict_driver.proofs.TellLemmas.{answered_own, answered_only, answered_pieces}
 
 kept_appends : (a b : Option (List ℕ)) → Keeps a b → Appends a b []
 kept_appends None b kept = tt
 kept_appends (Some x) None kept = absurd kept
 kept_appends (Some x) (Some y) kept = kept ∙ sym (append-nil x)
 
-pub kept_consumes : (a b : Option (List ℕ)) → Keeps a b → Consumes a b []
+kept_consumes : (a b : Option (List ℕ)) → Keeps a b → Consumes a b []
 kept_consumes None b kept = tt
 kept_consumes (Some x) None kept = absurd kept
 kept_consumes (Some x) (Some y) kept = sym kept
 
--- nothing came and nothing was sent
-pub turns_kept : {T : Type 0} (taken coming : T → Option (List ℕ)) (a b : Connection T) → b.id ≡ a.id → b.queue ≡ a.queue → Keeps (taken a.transport) (taken b.transport) → Keeps (coming a.transport) (coming b.transport)
-    → (is_open b.stage ≡ true → is_open a.stage ≡ true) → Turns taken coming a b []
-turns_kept taken coming a b id queue took comes was_open = record {
-  id = id;
-  was_open = was_open;
-  own = tt;
-  are_turns = tt;
-  sent = [];
-  takes = kept_appends _ _ took;
-  put = [];
-  are_put = refl;
-  order = ap waiting queue ∙ sym (append-nil (waiting a.queue));
-  received = [];
-  gives = kept_consumes _ _ comes;
-  handed = λ _. refl;
-}
+appends_kept : (a b c : Option (List ℕ)) (l : List ℕ) → Appends a b l → Keeps b c → Appends a c l
+appends_kept None b c l appends kept = tt
+appends_kept (Some x) None c l appends kept = absurd appends
+appends_kept (Some x) (Some y) None l appends kept = absurd kept
+appends_kept (Some x) (Some y) (Some z) l appends kept = kept ∙ appends
 
--- a front of what waited was sent
-pub turns_sent : {T E : Type 0} (taken coming : T → Option (List ℕ)) (a b : Connection T) (result : Result ℕ E) → b.id ≡ a.id → b.stage ≡ a.stage
-    → Sends result a.queue b.queue (taken a.transport) (taken b.transport) → Keeps (coming a.transport) (coming b.transport) → Turns taken coming a b []
-turns_sent taken coming a b (Ok n) id stage sends comes = record {
-  id = id;
-  was_open = λ still. ap is_open (sym stage) ∙ still;
-  own = tt;
-  are_turns = tt;
-  sent = take n (waiting a.queue);
-  takes = sends.1;
-  put = [];
-  are_put = refl;
-  order = ap (λ (l : List ℕ). take n (waiting a.queue) ++ l) sends.2 ∙ take-append-drop n (waiting a.queue) ∙ sym (append-nil (waiting a.queue));
-  received = [];
-  gives = kept_consumes _ _ comes;
-  handed = λ _. refl;
-}
-turns_sent taken coming a b (Err error) id stage sends comes = record {
-  id = id;
-  was_open = λ still. ap is_open (sym stage) ∙ still;
-  own = tt;
-  are_turns = tt;
-  sent = [];
-  takes = kept_appends _ _ sends.0;
-  put = [];
-  are_put = refl;
-  order = sends.1 ∙ sym (append-nil (waiting a.queue));
-  received = [];
-  gives = kept_consumes _ _ comes;
-  handed = λ _. refl;
-}
+kept_then_consumes : (a b c : Option (List ℕ)) (l : List ℕ) → Keeps a b → Consumes b c l → Consumes a c l
+kept_then_consumes None b c l kept consumes = tt
+kept_then_consumes (Some x) None c l kept consumes = absurd kept
+kept_then_consumes (Some x) (Some y) None l kept consumes = absurd consumes
+kept_then_consumes (Some x) (Some y) (Some z) l kept consumes = sym kept ∙ consumes
 
--- octets came, and were dropped
-pub turns_dropped : {T : Type 0} (taken coming : T → Option (List ℕ)) (a b : Connection T) (octets : List ℕ) → b.id ≡ a.id → b.queue ≡ a.queue → Keeps (taken a.transport) (taken b.transport)
-    → Consumes (coming a.transport) (coming b.transport) octets → is_open b.stage ≡ false → Turns taken coming a b []
-turns_dropped taken coming a b octets id queue took comes closed = record {
-  id = id;
-  was_open = λ still. absurd (let never : true ≡ false = sym still ∙ closed in cc);
-  own = tt;
-  are_turns = tt;
-  sent = [];
-  takes = kept_appends _ _ took;
-  put = [];
-  are_put = refl;
-  order = ap waiting queue ∙ sym (append-nil (waiting a.queue));
-  received = octets;
-  gives = comes;
-  handed = λ still. absurd (let never : true ≡ false = sym still ∙ closed in cc);
-}
+none_by_kind : (kind : ErrorKind) → count_received (received_by_kind kind) ≡ 0
+none_by_kind kinds.WouldBlock = refl
+none_by_kind kinds.Interrupted = refl
+none_by_kind _ = refl
 
--- octets came, and were handed to the hub
-pub turns_read : {T : Type 0} (taken coming : T → Option (List ℕ)) (a b c : Connection T) (octets : List ℕ) (events : List Accepted) → b.id ≡ a.id → b.stage ≡ a.stage → b.queue ≡ a.queue
-    → Keeps (taken a.transport) (taken b.transport) → Consumes (coming a.transport) (coming b.transport) octets → Hands octets b c events → Turns taken coming a c events
-turns_read taken coming a b c octets events id stage queue took comes hands = record {
-  id = hands.id ∙ id;
-  was_open = λ still. ap is_open (sym stage) ∙ hands.was_open still;
-  own = subst (λ (i : ℕ). AreOf i events) id hands.own;
-  are_turns = hands.are_turns;
-  sent = [];
-  takes = subst (λ t. Appends (taken a.transport) (taken t) []) (sym hands.transport) (kept_appends _ _ took);
-  put = hands.put;
-  are_put = hands.are_put;
-  order = hands.order ∙ ap (λ q. waiting q ++ hands.put) queue;
-  received = octets;
-  gives = subst (λ t. Consumes (coming a.transport) (coming t) octets) (sym hands.transport) comes;
-  handed = hands.handed;
-}
+-- what a reading gave stands at the front of the room
+pub received_gives : (a b : Option (List ℕ)) (outcome : Result ℕ Error) (room : List ℕ) → ReadConsumes a b outcome room → Consumes a b (take (count_received (received_by outcome)) room)
+received_gives a b (Ok n) room reads = elim (eqb_tells n 0) [
+  | inl same ↦ rw same.0 (subst (λ (k : ℕ). Consumes a b (take k room)) same.1 reads.0)
+  | inr other ↦ rw other.0 reads.0
+]
+received_gives a b (Err error) room kept = rw (none_by_kind (error_kind error)) (kept_consumes a b kept)
 
-pub turns_joined : {T : Type 0} (taken coming : T → Option (List ℕ)) (a b c : Connection T) (es fs : List Accepted) → Turns taken coming a b es → Turns taken coming b c fs → Turns taken coming a c (es ++ fs)
-turns_joined taken coming a b c es fs first then = record {
-  id = then.id ∙ first.id;
-  was_open = λ still. first.was_open (then.was_open still);
-  own = own_joined a.id es fs first.own (subst (λ (i : ℕ). AreOf i fs) first.id then.own);
-  are_turns = turns_of_joined es fs first.are_turns then.are_turns;
-  sent = first.sent ++ then.sent;
-  takes = Appends-trans _ _ _ first.sent then.sent first.takes then.takes;
-  put = first.put ++ then.put;
-  are_put = put_joined es fs first.put then.put first.are_put then.are_put;
-  order = append_assoc first.sent then.sent (waiting c.queue) ∙ ap (λ (l : List ℕ). first.sent ++ l) then.order ∙ sym (append_assoc first.sent (waiting b.queue) then.put)
-      ∙ ap (λ (l : List ℕ). l ++ then.put) first.order ∙ append_assoc (waiting a.queue) first.put then.put;
-  received = first.received ++ then.received;
-  gives = Consumes-trans _ _ _ first.received then.received first.gives then.gives;
-  handed = λ still. pieces_joined es fs ∙ ap (λ (l : List ℕ). l ++ pieces_of fs) (first.handed (then.was_open still)) ∙ ap (λ (l : List ℕ). first.received ++ l) (then.handed still);
-}
+pub received_within : (outcome : Result ℕ Error) (room : List ℕ) → ReadsAtMost outcome room → count_received (received_by outcome) ≤ length room
+received_within (Ok n) room reads = elim (eqb_tells n 0) [
+  | inl same ↦ rw same.0 (omega arith)
+  | inr other ↦ rw other.0 reads.0
+]
+received_within (Err error) room reads = rw (none_by_kind (error_kind error)) (omega arith)
 
--- an event of a connection, by which it isn't opened
-pub hands_told : {T : Type 0} (a b : Connection T) (what : Happening) (accepted : Bool) (events : List Accepted) → b.id ≡ a.id → b.transport ≡ a.transport → id_of what ≡ a.id → IsOfTurn what
-    → (is_open b.stage ≡ true → (is_open a.stage ≡ true) × (accepted ≡ true)) → IsTold what accepted a.queue b.queue events → Hands (piece_of what) a b events
-hands_told a b what accepted events id transport own turn while_open told = record {
+told_pieces : (what : Happening) (answer : Option Out) (events : List Accepted) → IsAnswered what answer events → BringAllOrNone (piece_of what) events
+told_pieces what None events none = inr (ap pieces_of none)
+told_pieces what (Some out) events one = inl (answered_pieces what out events one)
+
+-- an event of a connection, by which it isn't opened, and which the hub accepted
+pub hands_told : {T : Type 0} (a b : Connection T) (what : Happening) (out : Out) (events : List Accepted) → b.id ≡ a.id → b.transport ≡ a.transport → b.may_receive ≡ a.may_receive → id_of what ≡ a.id → IsOfTurn what
+    → (is_open b.stage ≡ true → is_open a.stage ≡ true) → IsTold what (Some out) a.queue b.queue events → Hands (piece_of what) a b events
+hands_told a b what out events id transport marks own turn was_open told = record {
   id = id;
   transport = transport;
-  was_open = λ is. (while_open is).0;
-  own = subst (λ (i : ℕ). AreOf i events) own told.own;
-  are_turns = only_turn what events turn told.only;
+  may_receive = marks;
+  was_open = was_open;
+  own = subst (λ (i : ℕ). AreOf i events) own (answered_own what (Some out) events told.answered);
+  are_turns = only_turn what events turn (answered_only what (Some out) events told.answered);
   put = told.put;
   are_put = told.are_put;
   order = told.order;
-  handed = λ is. told.pieces (while_open is).1;
+  pieces = told_pieces what (Some out) events told.answered;
+  handed = λ is. answered_pieces what out events told.answered;
 }
 
--- an event of a connection, and then its end
-pub hands_ended : {T : Type 0} (a b c : Connection T) (octets : List ℕ) (what : Happening) (accepted : Bool) (es fs : List Accepted) → b.id ≡ a.id → b.transport ≡ a.transport → id_of what ≡ a.id → IsOfTurn what
-    → is_open c.stage ≡ false → IsTold what accepted a.queue b.queue es → Hands [] b c fs → Hands octets a c (es ++ fs)
-hands_ended a b c octets what accepted es fs id transport own turn closed told then = record {
-  id = then.id ∙ id;
-  transport = then.transport ∙ transport;
-  was_open = λ still. absurd (let never : true ≡ false = sym still ∙ closed in cc);
-  own = own_joined a.id es fs (subst (λ (i : ℕ). AreOf i es) own told.own) (subst (λ (i : ℕ). AreOf i fs) id then.own);
-  are_turns = turns_of_joined es fs (only_turn what es turn told.only) then.are_turns;
-  put = told.put ++ then.put;
-  are_put = put_joined es fs told.put then.put told.are_put then.are_put;
-  order = then.order ∙ ap (λ (l : List ℕ). l ++ then.put) told.order ∙ append_assoc (waiting a.queue) told.put then.put;
-  handed = λ still. absurd (let never : true ≡ false = sym still ∙ closed in cc);
-}
+-- an event that brings nothing, after which the connection is closed
+pub hands_ended : {T : Type 0} (a b : Connection T) (answer : Option Out) (events : List Accepted) → b.id ≡ a.id → b.transport ≡ a.transport → b.may_receive ≡ a.may_receive
+    → is_open b.stage ≡ false → IsTold (ended a.id) answer a.queue b.queue events → Hands [] a b events × IsOnly (ended a.id) events
+hands_ended a b answer events id transport marks closed told = (
+  record {
+    id = id;
+    transport = transport;
+    may_receive = marks;
+    was_open = λ still. absurd (let never : true ≡ false = sym still ∙ closed in cc);
+    own = answered_own (ended a.id) answer events told.answered;
+    are_turns = only_turn (ended a.id) events tt (answered_only (ended a.id) answer events told.answered);
+    put = told.put;
+    are_put = told.are_put;
+    order = told.order;
+    pieces = told_pieces (ended a.id) answer events told.answered;
+    handed = λ still. absurd (let never : true ≡ false = sym still ∙ closed in cc);
+  },
+  answered_only (ended a.id) answer events told.answered,
+)
+
+no_pieces : (events : List Accepted) → BringAllOrNone [] events → pieces_of events ≡ []
+no_pieces events (inl is) = is
+no_pieces events (inr is) = is
+
+-- an event that was refused, and then the end
+pub hands_refused : {T : Type 0} (a b c : Connection T) (octets : List ℕ) (what : Happening) (es fs : List Accepted) → b.id ≡ a.id → b.transport ≡ a.transport → b.may_receive ≡ a.may_receive
+    → c.stage ≡ stages.Over → IsTold what None a.queue b.queue es → Hands [] b c fs × IsOnly (ended b.id) fs → Hands octets a c (es ++ fs) × LeadsByAnswer octets a c (es ++ fs)
+hands_refused a b c octets what es fs id transport marks over told (later, only) =
+    let closed : is_open c.stage ≡ false = ap is_open over in
+    let whole : es ++ fs ≡ fs = ap (λ (l : List Accepted). l ++ fs) told.answered in
+    rw whole (
+      record {
+        id = later.id ∙ id;
+        transport = later.transport ∙ transport;
+        may_receive = later.may_receive ∙ marks;
+        was_open = λ still. absurd (let never : true ≡ false = sym still ∙ closed in cc);
+        own = subst (λ (i : ℕ). AreOf i fs) id later.own;
+        are_turns = later.are_turns;
+        put = told.put ++ later.put;
+        are_put = subst (λ (l : List Accepted). ArePut l (told.put ++ later.put)) whole (put_joined es fs told.put later.put told.are_put later.are_put);
+        order = later.order ∙ ap (λ (l : List ℕ). l ++ later.put) told.order ∙ append_assoc (waiting a.queue) told.put later.put;
+        pieces = inr (no_pieces fs later.pieces);
+        handed = λ still. absurd (let never : true ≡ false = sym still ∙ closed in cc);
+      },
+      inr (subst (λ (i : ℕ). IsOnly (ended i) fs) id only, over),
+    )
+
+-- octets that the hub answered
+pub leads_answered : {T : Type 0} (a b : Connection T) (octets : List ℕ) (out : Out) (events : List Accepted) → b.stage ≡ answered out (not (b.queue.failures == a.queue.failures)) a.stage
+    → IsAnswered (came a.id octets) (Some out) events → LeadsByAnswer octets a b events
+leads_answered a b octets out events stage (one, is, same, told) =
+    inl (one, is, same, stage ∙ ap (λ (o : Out). answered o (not (b.queue.failures == a.queue.failures)) a.stage) (sym told))
+
+-- only an open connection goes on
+pub answered_open : (out : Out) (failed : Bool) (before : Stage) → is_open (answered out failed before) ≡ true → is_open before ≡ true
+answered_open outs.More failed before still = still
+answered_open outs.Close true before still = cc
+answered_open outs.Close false before still = cc
 
 -- nothing has changed but how far the connection has come
-pub hands_closed : {T : Type 0} (a b c : Connection T) (octets : List ℕ) (events : List Accepted) → c.id ≡ b.id → c.transport ≡ b.transport → c.queue ≡ b.queue → is_open c.stage ≡ false
+pub hands_closed : {T : Type 0} (a b c : Connection T) (octets : List ℕ) (events : List Accepted) → c.id ≡ b.id → c.transport ≡ b.transport → c.may_receive ≡ b.may_receive → c.queue ≡ b.queue → is_open c.stage ≡ false
     → Hands octets a b events → Hands octets a c events
-hands_closed a b c octets events id transport queue closed hands = record {
+hands_closed a b c octets events id transport marks queue closed hands = record {
   id = id ∙ hands.id;
   transport = transport ∙ hands.transport;
+  may_receive = marks ∙ hands.may_receive;
   was_open = λ still. absurd (let never : true ≡ false = sym still ∙ closed in cc);
   own = hands.own;
   are_turns = hands.are_turns;
   put = hands.put;
   are_put = hands.are_put;
   order = ap waiting queue ∙ hands.order;
+  pieces = hands.pieces;
   handed = λ still. absurd (let never : true ≡ false = sym still ∙ closed in cc);
 }
 
--- nothing was read, and the hub was told
-pub turns_told : {T : Type 0} (taken coming : T → Option (List ℕ)) (a b : Connection T) (events : List Accepted) → Hands [] a b events → Turns taken coming a b events
-turns_told taken coming a b events hands =
-    turns_read taken coming a a b [] events refl refl refl (Keeps-refl (taken a.transport)) (Consumes-nil (coming a.transport)) hands
+-- a front of what waited was sent, by one call
+pub sends_once : {T : Type 0} (taken coming : T → Option (List ℕ)) (made : T → Option (List Call)) (a b : Connection T) (outcome : Result ℕ Error)
+    → b.id ≡ a.id → b.stage ≡ a.stage → b.may_receive ≡ a.may_receive → b.dropped ≡ a.dropped → b.queue.failures ≡ a.queue.failures → is_clear a.queue ≡ false
+    → Sends outcome a.queue b.queue (taken a.transport) (taken b.transport) → Keeps (coming a.transport) (coming b.transport) → Makes (made a.transport) (made b.transport) (sends (sent_by outcome) ∷ [])
+    → SendsOnce taken coming made a b (sent_by outcome)
+sends_once taken coming made a b (Ok n) id stage marks dropped failures clear took comes calls = record {
+  id = id;
+  stage = stage;
+  may_receive = marks;
+  dropped = dropped;
+  failures = failures;
+  sent = take n (waiting a.queue);
+  takes = took.1;
+  order = ap (λ (l : List ℕ). take n (waiting a.queue) ++ l) took.2 ∙ take-append-drop n (waiting a.queue);
+  comes = comes;
+  calls = rw clear calls;
+  idle = λ is. absurd (let never : true ≡ false = sym is ∙ clear in cc);
+}
+sends_once taken coming made a b (Err error) id stage marks dropped failures clear took comes calls = record {
+  id = id;
+  stage = stage;
+  may_receive = marks;
+  dropped = dropped;
+  failures = failures;
+  sent = [];
+  takes = kept_appends _ _ took.0;
+  order = took.1;
+  comes = comes;
+  calls = rw clear calls;
+  idle = λ is. absurd (let never : true ≡ false = sym is ∙ clear in cc);
+}
+
+-- nothing waited
+pub sends_none : {T : Type 0} (taken coming : T → Option (List ℕ)) (made : T → Option (List Call)) (a : Connection T) → is_clear a.queue ≡ true → SendsOnce taken coming made a a sents.Nothing
+sends_none taken coming made a clear = record {
+  id = refl;
+  stage = refl;
+  may_receive = refl;
+  dropped = refl;
+  failures = refl;
+  sent = [];
+  takes = kept_appends _ _ (Keeps-refl (taken a.transport));
+  order = refl;
+  comes = Keeps-refl (coming a.transport);
+  calls = rw clear (makes_none (made a.transport));
+  idle = λ is. refl;
+}
+
+-- where a reading leads is told of what was before it
+leads_from : {T : Type 0} (a b c : Connection T) (reading : Received) (octets : List ℕ) (events : List Accepted) → b.id ≡ a.id → b.stage ≡ a.stage → b.may_receive ≡ a.may_receive → b.queue.failures ≡ a.queue.failures
+    → LeadsByReading reading octets b c events → LeadsByReading reading octets a c events
+leads_from a b c receiveds.Nothing octets events id stage marks failures leads = ((leads.0.0, leads.0.1 ∙ stage), leads.1)
+leads_from a b c receiveds.Interrupted octets events id stage marks failures leads = ((leads.0.0, leads.0.1 ∙ stage), leads.1 ∙ marks)
+leads_from a b c (receiveds.Octets count) octets events id stage marks failures (inl (one, is, same, led), marked) = (
+  inl (
+    one,
+    is,
+    same ∙ ap (λ (i : ℕ). came i octets) id,
+    led ∙ ap (λ (s : Stage). answered one.out (not (c.queue.failures == b.queue.failures)) s) stage ∙ ap (λ (n : ℕ). answered one.out (not (c.queue.failures == n)) a.stage) failures,
+  ),
+  marked ∙ marks,
+)
+leads_from a b c (receiveds.Octets count) octets events id stage marks failures (inr (only, over), marked) = (inr (subst (λ (i : ℕ). IsOnly (ended i) events) id only, over), marked ∙ marks)
+leads_from a b c receiveds.End octets events id stage marks failures leads = (subst (λ (i : ℕ). IsOnly (ended i) events) id leads.0, leads.1)
+leads_from a b c receiveds.Failed octets events id stage marks failures leads = (subst (λ (i : ℕ). IsOnly (ended i) events) id leads.0, leads.1)
+
+-- octets came, or an end, and the hub was told
+pub reads_handed : {T : Type 0} (taken coming : T → Option (List ℕ)) (made : T → Option (List Call)) (a b c : Connection T) (reading : Received) (octets : List ℕ) (events : List Accepted)
+    → b ≡ record a { transport = b.transport } → a.may_receive ≡ true → Keeps (taken a.transport) (taken b.transport) → Consumes (coming a.transport) (coming b.transport) octets
+    → Makes (made a.transport) (made b.transport) (receives reading ∷ []) → Hands octets b c events → LeadsByReading reading octets b c events → ReadsOnce taken coming made a c reading events
+reads_handed taken coming made a b c reading octets events same marked took comes calls hands leads =
+    let id : b.id ≡ a.id = ap (λ it. it.id) same in
+    let stage : b.stage ≡ a.stage = ap (λ it. it.stage) same in
+    let marks : b.may_receive ≡ a.may_receive = ap (λ it. it.may_receive) same in
+    let queue : b.queue ≡ a.queue = ap (λ it. it.queue) same in
+    record {
+      id = hands.id ∙ id;
+      was_open = λ still. ap is_open (sym stage) ∙ hands.was_open still;
+      own = subst (λ (i : ℕ). AreOf i events) id hands.own;
+      are_turns = hands.are_turns;
+      takes = subst (λ t. Keeps (taken a.transport) (taken t)) (sym hands.transport) took;
+      put = hands.put;
+      are_put = hands.are_put;
+      order = hands.order ∙ ap (λ q. waiting q ++ hands.put) queue;
+      received = octets;
+      gives = subst (λ t. Consumes (coming a.transport) (coming t) octets) (sym hands.transport) comes;
+      pieces = hands.pieces;
+      handed = hands.handed;
+      calls = rw marked (subst (λ t. Makes (made a.transport) (made t) (receives reading ∷ [])) (sym hands.transport) calls);
+      unmarked = λ isnt. absurd (let never : true ≡ false = sym marked ∙ isnt in cc);
+      leads = leads_from a b c reading octets events id stage marks (ap (λ q. q.failures) queue) leads;
+    }
 
 -- nothing came
-pub turns_came : {T : Type 0} (taken coming : T → Option (List ℕ)) (a b : Connection T) → b.id ≡ a.id → b.stage ≡ a.stage → b.queue ≡ a.queue → Keeps (taken a.transport) (taken b.transport)
-    → Consumes (coming a.transport) (coming b.transport) [] → Turns taken coming a b []
-turns_came taken coming a b id stage queue took comes = record {
+pub reads_none : {T : Type 0} (taken coming : T → Option (List ℕ)) (made : T → Option (List Call)) (a b : Connection T) (reading : Received) → b.id ≡ a.id → b.stage ≡ a.stage → b.queue ≡ a.queue
+    → Keeps (taken a.transport) (taken b.transport) → Consumes (coming a.transport) (coming b.transport) [] → Makes (made a.transport) (made b.transport) (readings a.may_receive reading)
+    → (a.may_receive ≡ false → reading ≡ receiveds.Nothing) → LeadsByReading reading [] a b [] → ReadsOnce taken coming made a b reading []
+reads_none taken coming made a b reading id stage queue took comes calls unmarked leads = record {
   id = id;
   was_open = λ still. ap is_open (sym stage) ∙ still;
   own = tt;
   are_turns = tt;
-  sent = [];
-  takes = kept_appends _ _ took;
+  takes = took;
   put = [];
   are_put = refl;
   order = ap waiting queue ∙ sym (append-nil (waiting a.queue));
   received = [];
   gives = comes;
+  pieces = inl refl;
   handed = λ _. refl;
+  calls = calls;
+  unmarked = unmarked;
+  leads = leads;
 }
+
+leads_by_turn : {T : Type 0} (a c : Connection T) (sending : Sent) (reading : Received) (octets : List ℕ) (events : List Accepted) → sending ≢ sents.Failed
+    → LeadsByReading reading octets a c events → LeadsByTurn sending reading octets a c events
+leads_by_turn a c sents.Nothing reading octets events well leads = leads
+leads_by_turn a c sents.Some reading octets events well leads = leads
+leads_by_turn a c sents.Failed reading octets events well leads = absurd (well refl)
+
+calls_of_both : (a b c : Option (List Call)) (clear may : Bool) (sending : Sent) (reading : Received) → sending ≢ sents.Failed → Makes a b (sendings clear sending) → Makes b c (readings may reading)
+    → Makes a c (calls_of_turn clear may sending reading)
+calls_of_both a b c clear may sents.Nothing reading well first later = makes_joined a b c (sendings clear sents.Nothing) (readings may reading) first later
+calls_of_both a b c clear may sents.Some reading well first later = makes_joined a b c (sendings clear sents.Some) (readings may reading) first later
+calls_of_both a b c clear may sents.Failed reading well first later = absurd (well refl)
+
+-- a sending, and then a reading
+pub turns_read : {T : Type 0} (taken coming : T → Option (List ℕ)) (made : T → Option (List Call)) (a b c : Connection T) (sending : Sent) (reading : Received) (events : List Accepted) → sending ≢ sents.Failed
+    → SendsOnce taken coming made a b sending → ReadsOnce taken coming made b c reading events → Turns taken coming made a c events
+turns_read taken coming made a b c sending reading events well first later = record {
+  id = later.id ∙ first.id;
+  was_open = λ still. ap is_open (sym first.stage) ∙ later.was_open still;
+  own = subst (λ (i : ℕ). AreOf i events) first.id later.own;
+  are_turns = later.are_turns;
+  sent = first.sent;
+  takes = appends_kept _ _ _ first.sent first.takes later.takes;
+  put = later.put;
+  are_put = later.are_put;
+  order = ap (λ (l : List ℕ). first.sent ++ l) later.order ∙ sym (append_assoc first.sent (waiting b.queue) later.put) ∙ ap (λ (l : List ℕ). l ++ later.put) first.order;
+  received = later.received;
+  gives = kept_then_consumes _ _ _ later.received first.comes later.gives;
+  pieces = later.pieces;
+  handed = later.handed;
+  sending = sending;
+  reading = reading;
+  calls = calls_of_both _ _ _ (is_clear a.queue) a.may_receive sending reading well first.calls
+      (subst (λ (m : Bool). Makes (made b.transport) (made c.transport) (readings m reading)) first.may_receive later.calls);
+  idle = first.idle;
+  unmarked = λ isnt. later.unmarked (first.may_receive ∙ isnt);
+  leads = leads_by_turn a c sending reading later.received events well (leads_from a b c reading later.received events first.id first.stage first.may_receive first.failures later.leads);
+}
+
+-- a sending that failed, and then the hub was told the end
+pub turns_failed : {T : Type 0} (taken coming : T → Option (List ℕ)) (made : T → Option (List Call)) (a b c : Connection T) (sending : Sent) (events : List Accepted) → sending ≡ sents.Failed
+    → SendsOnce taken coming made a b sending → c.stage ≡ stages.Over → Hands [] b c events × IsOnly (ended b.id) events → Turns taken coming made a c events
+turns_failed taken coming made a b c sending events failed first over (hands, only) = record {
+  id = hands.id ∙ first.id;
+  was_open = λ still. ap is_open (sym first.stage) ∙ hands.was_open still;
+  own = subst (λ (i : ℕ). AreOf i events) first.id hands.own;
+  are_turns = hands.are_turns;
+  sent = first.sent;
+  takes = subst (λ t. Appends (taken a.transport) (taken t) first.sent) (sym hands.transport) first.takes;
+  put = hands.put;
+  are_put = hands.are_put;
+  order = ap (λ (l : List ℕ). first.sent ++ l) hands.order ∙ sym (append_assoc first.sent (waiting b.queue) hands.put) ∙ ap (λ (l : List ℕ). l ++ hands.put) first.order;
+  received = [];
+  gives = kept_consumes _ _ (subst (λ t. Keeps (coming a.transport) (coming t)) (sym hands.transport) first.comes);
+  pieces = hands.pieces;
+  handed = hands.handed;
+  sending = sents.Failed;
+  reading = receiveds.Nothing;
+  calls = subst (λ t. Makes (made a.transport) (made t) (sendings (is_clear a.queue) sents.Failed)) (sym hands.transport)
+      (subst (λ (s : Sent). Makes (made a.transport) (made b.transport) (sendings (is_clear a.queue) s)) failed first.calls);
+  idle = λ is. sym failed ∙ first.idle is;
+  unmarked = λ isnt. refl;
+  leads = (subst (λ (i : ℕ). IsOnly (ended i) events) first.id only, over);
+}
+
+closed_between : (clear : Bool) (before : Stage) (told : Bool) → is_open before ≡ false → is_open (stage_between clear before told) ≡ false
+closed_between false before told closed = closed
+closed_between true stages.Open told closed = closed
+closed_between true stages.Closing true closed = refl
+closed_between true stages.Closing false closed = refl
+closed_between true stages.Parting told closed = refl
+closed_between true stages.Draining told closed = refl
+closed_between true stages.Over told closed = refl
+
+closed_by_count : (b : Bool) → is_open (if b then stages.Draining else stages.Over) ≡ false
+closed_by_count true = refl
+closed_by_count false = refl
+
+closed_drained : (is_read : Bool) (most : ℕ) (reading : Received) (before : Stage) → is_open before ≡ false → is_open (stage_drained is_read most reading before) ≡ false
+closed_drained false most reading before closed = closed
+closed_drained true most receiveds.Nothing before closed = refl
+closed_drained true most receiveds.Interrupted before closed = refl
+closed_drained true most (receiveds.Octets count) before closed = closed_by_count (nat_le count most)
+closed_drained true most receiveds.End before closed = refl
+closed_drained true most receiveds.Failed before closed = refl
+
+-- nothing is told, and the connection is as before but for how far it has come
+pub finishes_still : {T : Type 0} (taken coming : T → Option (List ℕ)) (made : T → Option (List Call)) (a : Connection T) (stage : Stage) (is_told : Bool) → endings (is_clear a.queue) a.stage is_told ≡ []
+    → stage ≡ stage_between (is_clear a.queue) a.stage is_told → Finishes taken coming made a (record a { stage = stage })
+finishes_still taken coming made a stage is_told none is = record {
+  id = refl;
+  queue = refl;
+  may_receive = refl;
+  dropped = refl;
+  takes = Keeps-refl (taken a.transport);
+  comes = Keeps-refl (coming a.transport);
+  is_told = is_told;
+  calls = rw none (makes_none (made a.transport));
+  stage = is;
+}
+
+-- nothing is read
+pub drains_none : {T : Type 0} (taken coming : T → Option (List ℕ)) (made : T → Option (List Call)) (a : Connection T) → is_dropped a.stage a.may_receive ≡ false → Drains taken coming made a a
+drains_none taken coming made a isnt = record {
+  id = refl;
+  queue = refl;
+  takes = Keeps-refl (taken a.transport);
+  received = [];
+  gives = Consumes-nil (coming a.transport);
+  reading = receiveds.Nothing;
+  calls = rw isnt (makes_none (made a.transport));
+  stage = rw isnt refl;
+  dropped = rw isnt refl;
+  may_receive = rw isnt refl;
+}
+
+leads_away : {T : Type 0} (made : T → Option (List Call)) (a d : Connection T) (sending : Sent) (told : Bool) (reading : Received) → sending ≢ sents.Failed
+    → LeadsOut made sending told reading a d → LeadsAway made sending told reading a d
+leads_away made a d sents.Nothing told reading well leads = leads
+leads_away made a d sents.Some told reading well leads = leads
+leads_away made a d sents.Failed told reading well leads = absurd (well refl)
+
+not_both : (b : Bool) → (b ≡ true → sents.Failed ≡ sents.Nothing) → b ≡ false
+not_both true idle = cc (idle refl)
+not_both false idle = refl
+
+-- a sending that failed was made
+only_failed : {T : Type 0} {taken coming : T → Option (List ℕ)} (made : T → Option (List Call)) (a b : Connection T) (sending : Sent) → sending ≡ sents.Failed → SendsOnce taken coming made a b sending
+    → Makes (made a.transport) (made b.transport) (sends sents.Failed ∷ [])
+only_failed made a b sending failed first =
+    let waits : is_clear a.queue ≡ false = not_both (is_clear a.queue) (λ is. sym failed ∙ first.idle is) in
+    let calls : Makes (made a.transport) (made b.transport) (sendings (is_clear a.queue) sents.Failed)
+    = subst (λ (s : Sent). Makes (made a.transport) (made b.transport) (sendings (is_clear a.queue) s)) failed first.calls in
+    subst (λ (e : Bool). Makes (made a.transport) (made b.transport) (sendings e sents.Failed)) waits calls
+
+-- a sending that didn't fail, and what comes after it
+pub departs_whole : {T : Type 0} (taken coming : T → Option (List ℕ)) (made : T → Option (List Call)) (a b c d : Connection T) (sending : Sent) → sending ≢ sents.Failed
+    → SendsOnce taken coming made a b sending → Finishes taken coming made b c → Drains taken coming made c d → Departs taken coming made a d
+departs_whole taken coming made a b c d sending well first between last =
+    let queue : d.queue ≡ b.queue = last.queue ∙ between.queue in
+    let clear : is_clear b.queue ≡ is_clear d.queue = ap is_clear (sym queue) in
+    let stage : c.stage ≡ stage_between (is_clear d.queue) a.stage between.is_told
+    = between.stage ∙ ap (λ (s : Stage). stage_between (is_clear b.queue) s between.is_told) first.stage ∙ ap (λ (e : Bool). stage_between e a.stage between.is_told) clear in
+    let marks : c.may_receive ≡ a.may_receive = between.may_receive ∙ first.may_receive in
+    let dropped : c.dropped ≡ a.dropped = between.dropped ∙ first.dropped in
+    let is_read : is_dropped c.stage c.may_receive ≡ is_dropped (stage_between (is_clear d.queue) a.stage between.is_told) a.may_receive
+    = ap (λ (s : Stage). is_dropped s c.may_receive) stage ∙ ap (λ (m : Bool). is_dropped (stage_between (is_clear d.queue) a.stage between.is_told) m) marks in
+    let told : Makes (made b.transport) (made c.transport) (endings (is_clear d.queue) a.stage between.is_told)
+    = subst (λ (e : Bool). Makes (made b.transport) (made c.transport) (endings e a.stage between.is_told)) clear
+    (subst (λ (s : Stage). Makes (made b.transport) (made c.transport) (endings (is_clear b.queue) s between.is_told)) first.stage between.calls) in
+    let read : Makes (made c.transport) (made d.transport) (readings (is_dropped (stage_between (is_clear d.queue) a.stage between.is_told) a.may_receive) last.reading)
+    = subst (λ (e : Bool). Makes (made c.transport) (made d.transport) (readings e last.reading)) is_read last.calls in
+    record {
+      id = last.id ∙ between.id ∙ first.id;
+      closed = λ was. ap is_open last.stage ∙ closed_drained (is_dropped c.stage c.may_receive) (26_214_400 - c.dropped) last.reading c.stage (ap is_open stage ∙ closed_between (is_clear d.queue) a.stage between.is_told was);
+      sent = first.sent;
+      takes = appends_kept _ _ _ first.sent (appends_kept _ _ _ first.sent first.takes between.takes) last.takes;
+      order = ap (λ q. first.sent ++ waiting q) queue ∙ first.order;
+      received = last.received;
+      gives = kept_then_consumes _ _ _ last.received first.comes (kept_then_consumes _ _ _ last.received between.comes last.gives);
+      sending = sending;
+      is_told = between.is_told;
+      reading = last.reading;
+      idle = first.idle;
+      leads = leads_away made a d sending between.is_told last.reading well (
+        makes_joined _ _ _ _ _ first.calls (makes_joined _ _ _ _ _ told read),
+        last.stage ∙ ap (λ (s : Stage). stage_drained (is_dropped c.stage c.may_receive) (26_214_400 - c.dropped) last.reading s) stage
+            ∙ ap (λ (e : Bool). stage_drained e (26_214_400 - c.dropped) last.reading (stage_between (is_clear d.queue) a.stage between.is_told)) is_read
+            ∙ ap (λ (n : ℕ). stage_drained (is_dropped (stage_between (is_clear d.queue) a.stage between.is_told) a.may_receive) (26_214_400 - n) last.reading (stage_between (is_clear d.queue) a.stage between.is_told)) dropped,
+        last.dropped ∙ ap (λ (e : Bool). dropped_after e last.reading c.dropped) is_read
+            ∙ ap (λ (n : ℕ). dropped_after (is_dropped (stage_between (is_clear d.queue) a.stage between.is_told) a.may_receive) last.reading n) dropped,
+        last.may_receive ∙ ap (λ (e : Bool). marked_after e last.reading c.may_receive) is_read
+            ∙ ap (λ (m : Bool). marked_after (is_dropped (stage_between (is_clear d.queue) a.stage between.is_told) a.may_receive) last.reading m) marks,
+      );
+    }
+
+-- a sending that failed
+pub departs_failed : {T : Type 0} (taken coming : T → Option (List ℕ)) (made : T → Option (List Call)) (a b : Connection T) (sending : Sent) → sending ≡ sents.Failed
+    → SendsOnce taken coming made a b sending → Departs taken coming made a (record b { stage = stages.Over })
+departs_failed taken coming made a b sending failed first = record {
+  id = first.id;
+  closed = λ was. refl;
+  sent = first.sent;
+  takes = first.takes;
+  order = first.order;
+  received = [];
+  gives = kept_consumes _ _ first.comes;
+  sending = sents.Failed;
+  is_told = false;
+  reading = receiveds.Nothing;
+  idle = λ is. sym failed ∙ first.idle is;
+  leads = (only_failed made a b sending failed first, refl);
+}
+
+parted_closed : (clear : Bool) → is_open (parted clear) ≡ false
+parted_closed true = refl
+parted_closed false = refl
+
+-- the hub was told the end, and what waits is still sent
+pub hands_parted : {T : Type 0} (a b c : Connection T) (events : List Accepted) → c.id ≡ b.id → c.transport ≡ b.transport → c.may_receive ≡ b.may_receive → c.queue ≡ b.queue → c.stage ≡ parted (is_clear b.queue)
+    → Hands [] a b events × IsOnly (ended a.id) events → Hands [] a c events × LeadsByEnd (parted (is_clear c.queue)) a c events
+hands_parted a b c events id transport marks queue stage (hands, only) = (
+  hands_closed a b c [] events id transport marks queue (ap is_open stage ∙ parted_closed (is_clear b.queue)) hands,
+  (only, stage ∙ ap (λ q. parted (is_clear q)) (sym queue)),
+)
+
+pub failed_is : (sending : Sent) → has_failed sending ≡ true → sending ≡ sents.Failed
+failed_is sents.Nothing failed = cc
+failed_is sents.Some failed = cc
+failed_is sents.Failed failed = refl
+
+pub well_isnt : (sending : Sent) → has_failed sending ≡ false → sending ≢ sents.Failed
+well_isnt sending well is = let never : true ≡ false = ap has_failed (sym is) ∙ well in cc
+
+-- where nothing was done, nothing came
+pub nothing_came : (sending : Sent) (reading : Received) → has_moved sending reading ≡ false → reading ≡ receiveds.Nothing
+nothing_came sents.Nothing receiveds.Nothing still = refl
+nothing_came sents.Nothing receiveds.Interrupted still = cc
+nothing_came sents.Nothing (receiveds.Octets count) still = cc
+nothing_came sents.Nothing receiveds.End still = cc
+nothing_came sents.Nothing receiveds.Failed still = cc
+nothing_came sents.Some reading still = cc
+nothing_came sents.Failed reading still = cc

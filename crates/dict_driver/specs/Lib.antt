@@ -1,5 +1,6 @@
 pub mod Binding
 pub mod Queues
+pub mod Calls
 pub mod Stages
 pub mod Events
 pub mod Leading
@@ -8,4 +9,6 @@ pub mod Telling
 pub mod Turns
 pub mod Turning
 pub mod Rounds
+pub mod Listening
+pub mod Looking
 pub mod Serving

@@ -1,8 +1,13 @@
 -- What a round does with the octets that wait for each connection.
-use Rattle.std.specs.Prelude.{◌≡◌, ◌⊎◌, ◌<◌, ◌≤◌, ℕ, List, [], ◌∷◌, ◌++◌}
+use Rattle.std.specs.Prelude.{◌≡◌, ◌⊎◌, ◌<◌, ◌≤◌, ◌-◌, ◌+◌, ℕ, true, List, [], ◌∷◌, ◌++◌, drop, filter, length, Option}
 use Rattle.dict_hub.specs.Runs.{Accepted, events_of}
 use Rattle.dict_driver.specs.Queues.{waiting}
+use Rattle.dict_driver.specs.Calls.{Call}
+use Rattle.dict_driver.specs.Stages.{is_open, is_held, is_departing}
 use Rattle.dict_driver.specs.Events.{ArePut}
+use Rattle.dict_driver.specs.Turns.{IsOpened}
+use Rattle.dict_driver.specs.Turning.{DepartAll, TurnAll}
+use Rattle.dict_hub.specs.declared.kind.Kind.{Kind}
 use Rattle.dict_driver.specs.declared.connection.Connection.{Connection}
 use Rattle.dict_driver.specs.declared.connections.Connections.{Connections}
 use Rattle.dict_driver.specs.declared.transport.Transport.{Ghosts}
@@ -39,3 +44,24 @@ pub record Moves {T : Type 0} {G : Ghosts T} (old new : Connections T G) (events
   pub last : old.last ≤ new.last
   pub given : (id : ℕ) → new.last < id → events_of id events ≡ []
   pub waits : (id : ℕ) (octets : List ℕ) → Waits new id octets → HasWaited old events id octets
+
+-- the last ones, at most so many
+abbrev pub latest : {A : Type 0} → ℕ → List A → List A
+latest most all = drop (length all - most) all
+
+-- Each connection that is no longer open had its turn as such, and then each open one by its own events. Those that are open then are
+-- the open ones; those that are held and no longer open, of which 128 are kept, stand behind those that were so before; and no other is held
+pub record TurnEach {T : Type 0} {G : Ghosts T} (taken coming : T → Option (List ℕ)) (made : T → Option (List Call)) (old new : Connections T G) (events : List Accepted) : Type 0 where
+  pub departed : List (Connection T)
+  pub departs : DepartAll taken coming made old.departing.items departed
+  pub turned : List (Connection T)
+  pub turns : TurnAll taken coming made old.opened.items turned events
+  pub opened : new.opened.items ≡ filter (λ one. is_open one.stage) turned
+  pub departing : new.departing.items ≡ latest 128 (filter (λ one. is_held one.stage) departed ++ filter (λ one. is_departing one.stage) turned)
+  pub last : new.last ≡ old.last
+
+-- no connection was opened, and all is as before; or one was, of this transport and with the next id, behind those that are open
+abbrev pub Admits : {T : Type 0} {G : Ghosts T} → T → Kind → Connections T G → Connections T G → List Accepted → Type 0
+Admits {T} transport kind old new events = ((events ≡ []) × (new.opened.items ≡ old.opened.items) × (new.departing.items ≡ old.departing.items) × (new.last ≡ old.last))
+    ⊎ ((one : Connection T) × IsOpened (old.last + 1) kind one events × (one.id ≡ old.last + 1) × (one.transport ≡ transport) × (one.may_receive ≡ true)
+    × (new.opened.items ≡ old.opened.items ++ one ∷ []) × (new.departing.items ≡ old.departing.items) × (new.last ≡ old.last + 1))

@@ -1,5 +1,5 @@
 -- How rounds end, and how many were made.
-use Rattle.std.specs.Prelude.{◌≡◌, ◌≤◌, ◌<◌, ◌+◌, ◌-◌, ◌^◌, ℕ, Bool, true, false, Option, Some, None, Result, Ok, Err}
+use Rattle.std.specs.Prelude.{◌≡◌, ◌≤◌, ◌<◌, ◌+◌, ◌-◌, ◌^◌, ℕ, Bool, true, false, min, Option, Some, None, Result, Ok, Err}
 use Rattle.dict_driver.specs.declared.serving.Served.{Served}
 use Rattle.dict_driver.specs.declared.serving.Served.TheVariants.{Whole, Closed}
 
@@ -19,9 +19,9 @@ IsClosedBy closed rounds (Ok Whole) = 0 < rounds → closed ≡ false
 IsClosedBy closed rounds (Ok (Closed left)) = (closed ≡ true) × (left < rounds)
 IsClosedBy closed rounds (Err error) = Unit {0}
 
--- one more round was made, or none where it failed
+-- one more round was made, as far as a driver counts, or none where it failed
 abbrev pub IsCounted : {A E : Type 0} → Result A E → ℕ → ℕ → Type 0
-IsCounted (Ok has_moved) old new = old + 1 < 2 ^ 64 → new ≡ old + 1
+IsCounted (Ok has_moved) old new = new ≡ min (old + 1) (2 ^ 64 - 1)
 IsCounted (Err error) old new = new ≡ old
 
 -- of so many rounds all were made, or all but those that are left, or some, as far as the count of a driver goes

@@ -1,5 +1,7 @@
--- How far a connection has come.
-use Rattle.std.specs.Prelude.{ℕ, Bool, true, false}
+-- How far a connection has come, and what leads it on.
+use Rattle.std.specs.Prelude.{ℕ, nat_le, Bool, true, false, if◌then◌else◌}
+use Rattle.dict_hub.specs.declared.asking.Out.{Out}
+use Rattle.dict_hub.specs.declared.asking.Out.TheVariants as outs
 use Rattle.dict_driver.specs.declared.stage.Stage.{Stage}
 use Rattle.dict_driver.specs.declared.stage.Stage.TheVariants.{Open, Closing, Parting, Draining, Over}
 use Rattle.dict_driver.specs.declared.stage.Received.{Received}
@@ -21,6 +23,14 @@ is_held Parting = true
 is_held Draining = true
 is_held Over = false
 
+-- what comes on it goes to nobody, and its socket is still held
+abbrev pub is_departing : Stage → Bool
+is_departing Open = false
+is_departing Closing = true
+is_departing Parting = true
+is_departing Draining = true
+is_departing Over = false
+
 -- how many octets came
 abbrev pub count_received : Received → ℕ
 count_received Nothing = 0
@@ -28,3 +38,34 @@ count_received Interrupted = 0
 count_received (Octets n) = n
 count_received End = 0
 count_received Failed = 0
+
+-- the stage of a new connection, by the hub's answer to its opening: one that is closed got no whole greeting
+abbrev pub stage_of_new : Out → Stage
+stage_of_new outs.More = Open
+stage_of_new outs.Close = Over
+
+-- the stage by the hub's answer to octets: it goes on; or it is closed once all is sent, or at once where a put has failed
+abbrev pub answered : Out → Bool → Stage → Stage
+answered outs.More has_failed before = before
+answered outs.Close has_failed before = if has_failed then Over else Closing
+
+-- the stage where the peer ended its side: what waits is still sent
+abbrev pub parted : Bool → Stage
+parted is_clear = if is_clear then Over else Parting
+
+-- the stage of a connection that is no longer open, for which nothing waits any more: one that the hub closed is told so, which
+-- succeeds or doesn't; and where the peer ended its side it is over
+abbrev pub finished : Stage → Bool → Stage
+finished Open is_told = Open
+finished Closing is_told = if is_told then Draining else Over
+finished Parting is_told = Over
+finished Draining is_told = Draining
+finished Over is_told = Over
+
+-- the stage after a reading of what is dropped, of which this many octets may still come
+abbrev pub drained : ℕ → Received → Stage
+drained most Nothing = Draining
+drained most Interrupted = Draining
+drained most (Octets n) = if nat_le n most then Draining else Over
+drained most End = Over
+drained most Failed = Over

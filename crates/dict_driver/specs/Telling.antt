@@ -1,18 +1,20 @@
 -- What one event leaves of its connection's queue.
-use Rattle.std.specs.Prelude.{◌≡◌, ℕ, Bool, true, false, List, [], ◌++◌}
-use Rattle.dict_hub.specs.Events.{Happening, id_of}
+use Rattle.std.specs.Prelude.{◌≡◌, ℕ, List, [], ◌∷◌, ◌++◌, Option, None, Some}
+use Rattle.dict_hub.specs.Events.{Happening}
 use Rattle.dict_hub.specs.Runs.{Accepted}
+use Rattle.dict_hub.specs.declared.asking.Out.{Out}
 use Rattle.dict_driver.specs.Queues.{waiting}
-use Rattle.dict_driver.specs.Events.{ArePut, AreOf, piece_of, pieces_of}
-use Rattle.dict_driver.specs.Ordering.{IsOnly}
+use Rattle.dict_driver.specs.Events.{ArePut}
 use Rattle.dict_driver.specs.declared.queue.Queue.{Queue}
 
+-- it is this event alone, which the hub answered so; or the hub refused it, and there is none
+abbrev pub IsAnswered : Happening → Option Out → List Accepted → Type 0
+IsAnswered what None events = events ≡ []
+IsAnswered what (Some out) events = (one : Accepted) × (events ≡ one ∷ []) × (one.what ≡ what) × (one.out ≡ out)
+
 -- the event was accepted, or there is none; what it put waits behind what waited before
-pub record IsTold (what : Happening) (accepted : Bool) (old new : Queue) (events : List Accepted) : Type 0 where
-  pub own : AreOf (id_of what) events
-  pub only : IsOnly what events
+pub record IsTold (what : Happening) (answer : Option Out) (old new : Queue) (events : List Accepted) : Type 0 where
+  pub answered : IsAnswered what answer events
   pub put : List ℕ
   pub are_put : ArePut events put
   pub order : waiting new ≡ waiting old ++ put
-  pub pieces : accepted ≡ true → pieces_of events ≡ piece_of what
-  pub none : accepted ≡ false → events ≡ []

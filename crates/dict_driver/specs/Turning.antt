@@ -1,27 +1,30 @@
 -- What is done to each connection of a list, place by place.
-use Rattle.std.specs.Prelude.{◌≡◌, ◌≢◌, ◌<◌, ℕ, false, List, [], length, slice_index_or}
+use Rattle.std.specs.Prelude.{◌≡◌, ◌≢◌, ◌<◌, ◌||◌, ℕ, Bool, List, [], Option, length, slice_index_or}
 use Rattle.dict_hub.specs.Runs.{Accepted, events_of}
-use Rattle.dict_driver.specs.Queues.{waiting}
-use Rattle.dict_driver.specs.Stages.{is_open}
+use Rattle.dict_driver.specs.Calls.{Call}
 use Rattle.dict_driver.specs.Ordering.{AreOfTurns, ComeById}
-use Rattle.dict_driver.specs.Rounds.{Flows}
+use Rattle.dict_driver.specs.Turns.{Departs, Turns}
 use Rattle.dict_driver.specs.declared.connection.Connection.{Connection}
 
--- each connection has its id, its stage and what waits as before
-abbrev pub IsSameAll : {T : Type 0} → List (Connection T) → List (Connection T) → Type 0
-IsSameAll {T} old new = (k : ℕ) (d : Connection T) → k < length old
-    → ((slice_index_or new k d).id ≡ (slice_index_or old k d).id) × ((slice_index_or new k d).stage ≡ (slice_index_or old k d).stage) × ((slice_index_or new k d).queue ≡ (slice_index_or old k d).queue)
+-- the same connection, of which a reading may give something now, where this is so
+abbrev pub marked : {T : Type 0} → Bool → Connection T → Connection T
+marked is_told one = record one { may_receive = is_told || one.may_receive }
 
--- each connection has its id, and stays no longer open; of what waits for it a front is sent
-abbrev pub DepartAll : {T : Type 0} → List (Connection T) → List (Connection T) → Type 0
-DepartAll {T} old new = (k : ℕ) (d : Connection T) → k < length old
-    → ((slice_index_or new k d).id ≡ (slice_index_or old k d).id) × (is_open (slice_index_or old k d).stage ≡ false → is_open (slice_index_or new k d).stage ≡ false)
-    × Flows (waiting (slice_index_or old k d).queue) [] (waiting (slice_index_or new k d).queue)
+-- the same connections, where a reading of those whose ids are told of may give something now
+pub record MarkAll {T : Type 0} (is_told : ℕ → Bool) (old new : List (Connection T)) : Type 0 where
+  pub len : length new ≡ length old
+  pub marks : (k : ℕ) (d : Connection T) → k < length old → slice_index_or new k d ≡ marked (is_told (slice_index_or old k d).id) (slice_index_or old k d)
 
--- of what waits for each connection, and of what its own events put, a front is sent; and each event is of one of these connections, in
--- the order of their ids
-pub record TurnAll {T : Type 0} (old new : List (Connection T)) (events : List Accepted) : Type 0 where
-  pub flows : (k : ℕ) (d : Connection T) → k < length old → Flows (waiting (slice_index_or old k d).queue) (events_of (slice_index_or old k d).id events) (waiting (slice_index_or new k d).queue)
+-- each connection had its turn as one that is no longer open
+pub record DepartAll {T : Type 0} (taken coming : T → Option (List ℕ)) (made : T → Option (List Call)) (old new : List (Connection T)) : Type 0 where
+  pub len : length new ≡ length old
+  pub departs : (k : ℕ) (d : Connection T) → k < length old → Departs taken coming made (slice_index_or old k d) (slice_index_or new k d)
+
+-- each connection had its turn, by its own events; and each event is of one of these connections, in the order of their ids
+pub record TurnAll {T : Type 0} (taken coming : T → Option (List ℕ)) (made : T → Option (List Call)) (old new : List (Connection T)) (events : List Accepted) : Type 0 where
+  pub len : length new ≡ length old
+  pub turns : (k : ℕ) (d : Connection T) → k < length old
+      → Turns taken coming made (slice_index_or old k d) (slice_index_or new k d) (events_of (slice_index_or old k d).id events)
   pub no_other : (id : ℕ) → ((k : ℕ) (d : Connection T) → k < length old → (slice_index_or old k d).id ≢ id) → events_of id events ≡ []
   pub are_turns : AreOfTurns events
   pub by_id : ComeById events

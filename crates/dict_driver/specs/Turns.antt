@@ -1,31 +1,109 @@
--- What a turn of one connection does. Of a transport in memory the octets that it took and that it gives are known. Of a socket they
--- aren't (`None`), so nothing is claimed of them: that a socket carries what it took, and gives what its peer sent, is shown by tests
--- alone.
-use Rattle.std.specs.Prelude.{◌≡◌, ℕ, true, List, ◌++◌, Option}
-use Rattle.std.specs.Io.KnownBytes.{Appends, Consumes}
+-- What a turn of one connection does. Of a transport in memory the octets that it took and that it gives, and the calls that were
+-- made of it, are known. Of a socket they aren't (`None`), so nothing is claimed of them: that a socket carries what it took, and
+-- gives what its peer sent, is shown by tests alone.
+use Rattle.std.specs.Prelude.{◌≡◌, ◌⊎◌, ◌+◌, ◌-◌, ◌^◌, ◌==◌, ℕ, min, Bool, true, false, not, List, [], ◌∷◌, ◌++◌, Option, if◌then◌else◌}
+use Rattle.std.specs.Io.KnownBytes.{Appends, Consumes, Keeps}
+use Rattle.dict_hub.specs.Events.{opened, came, ended}
 use Rattle.dict_hub.specs.Runs.{Accepted}
-use Rattle.dict_driver.specs.Queues.{waiting}
-use Rattle.dict_driver.specs.Stages.{is_open}
+use Rattle.dict_hub.specs.declared.kind.Kind.{Kind}
+use Rattle.dict_driver.specs.Queues.{waiting, is_clear}
+use Rattle.dict_driver.specs.Stages.{is_open, count_received, stage_of_new, answered, parted, finished, drained}
+use Rattle.dict_driver.specs.Calls.{Call, sends, Makes, sendings, endings, readings, is_dropped, calls_of_turn}
 use Rattle.dict_driver.specs.Events.{ArePut, AreOf, pieces_of}
-use Rattle.dict_driver.specs.Ordering.{AreOfTurns}
+use Rattle.dict_driver.specs.Ordering.{AreOfTurns, IsOnly}
 use Rattle.dict_driver.specs.declared.connection.Connection.{Connection}
+use Rattle.dict_driver.specs.declared.stage.Sent.{Sent}
+use Rattle.dict_driver.specs.declared.stage.Sent.TheVariants as sents
+use Rattle.dict_driver.specs.declared.stage.Received.{Received}
+use Rattle.dict_driver.specs.declared.stage.Received.TheVariants as receiveds
+use Rattle.dict_driver.specs.declared.stage.Stage.{Stage}
+use Rattle.dict_driver.specs.declared.stage.Stage.TheVariants as stages
 
--- These octets were handed to the hub, in events of this connection alone. What the events put waits behind what waited before,
--- and the transport was asked nothing
+-- the events brought these octets, or none
+abbrev pub BringAllOrNone : List ℕ → List Accepted → Type 0
+BringAllOrNone octets events = (pieces_of events ≡ octets) ⊎ (pieces_of events ≡ [])
+
+-- These octets were handed to the hub, or none, in events of this connection alone. What the events put waits behind what waited
+-- before, and the transport was asked nothing
 pub record Hands {T : Type 0} (octets : List ℕ) (old new : Connection T) (events : List Accepted) : Type 0 where
   pub id : new.id ≡ old.id
   pub transport : new.transport ≡ old.transport
+  pub may_receive : new.may_receive ≡ old.may_receive
   pub was_open : is_open new.stage ≡ true → is_open old.stage ≡ true
   pub own : AreOf old.id events
   pub are_turns : AreOfTurns events
   pub put : List ℕ
   pub are_put : ArePut events put
   pub order : waiting new.queue ≡ waiting old.queue ++ put
+  pub pieces : BringAllOrNone octets events
   pub handed : is_open new.stage ≡ true → pieces_of events ≡ octets
 
--- The events are of this connection alone. What waited and what they put: a front of it is sent, which the transport took, and
--- the rest waits. What came was handed to the hub while the connection is open
-pub record Turns {T : Type 0} (taken coming : T → Option (List ℕ)) (old new : Connection T) (events : List Accepted) : Type 0 where
+-- the hub was told these octets, and the stage is that of its answer; or it refused them, was told the end, and the connection is over
+abbrev pub LeadsByAnswer : {T : Type 0} → List ℕ → Connection T → Connection T → List Accepted → Type 0
+LeadsByAnswer octets old new events =
+    ((one : Accepted) × (events ≡ one ∷ []) × (one.what ≡ came old.id octets) × (new.stage ≡ answered one.out (not (new.queue.failures == old.queue.failures)) old.stage))
+    ⊎ (IsOnly (ended old.id) events × (new.stage ≡ stages.Over))
+
+-- the hub was told the end and nothing else, and this is the stage
+abbrev pub LeadsByEnd : {T : Type 0} → Stage → Connection T → Connection T → List Accepted → Type 0
+LeadsByEnd stage old new events = IsOnly (ended old.id) events × (new.stage ≡ stage)
+
+-- the hub was told nothing, and the stage is as before
+abbrev pub LeadsNowhere : {T : Type 0} → Connection T → Connection T → List Accepted → Type 0
+LeadsNowhere old new events = (events ≡ []) × (new.stage ≡ old.stage)
+
+-- Where a reading leads, by which these octets came: an answer leads on, or to a close; the end of the peer's side to one that is
+-- over, once all is sent; a failure to one that is over
+abbrev pub LeadsByReading : {T : Type 0} → Received → List ℕ → Connection T → Connection T → List Accepted → Type 0
+LeadsByReading receiveds.Nothing octets old new events = LeadsNowhere old new events × (new.may_receive ≡ false)
+LeadsByReading receiveds.Interrupted octets old new events = LeadsNowhere old new events × (new.may_receive ≡ old.may_receive)
+LeadsByReading (receiveds.Octets count) octets old new events = LeadsByAnswer octets old new events × (new.may_receive ≡ old.may_receive)
+LeadsByReading receiveds.End octets old new events = LeadsByEnd (parted (is_clear new.queue)) old new events
+LeadsByReading receiveds.Failed octets old new events = LeadsByEnd stages.Over old new events
+
+-- where a turn leads: a sending that failed to a connection that is over, and each other where the reading does
+abbrev pub LeadsByTurn : {T : Type 0} → Sent → Received → List ℕ → Connection T → Connection T → List Accepted → Type 0
+LeadsByTurn sents.Failed received octets old new events = LeadsByEnd stages.Over old new events
+LeadsByTurn sents.Nothing received octets old new events = LeadsByReading received octets old new events
+LeadsByTurn sents.Some received octets old new events = LeadsByReading received octets old new events
+
+-- A front of what waits was sent, which the transport took, by one call where something waits; nothing was read
+pub record SendsOnce {T : Type 0} (taken coming : T → Option (List ℕ)) (made : T → Option (List Call)) (old new : Connection T) (sending : Sent) : Type 0 where
+  pub id : new.id ≡ old.id
+  pub stage : new.stage ≡ old.stage
+  pub may_receive : new.may_receive ≡ old.may_receive
+  pub dropped : new.dropped ≡ old.dropped
+  pub failures : new.queue.failures ≡ old.queue.failures
+  pub sent : List ℕ
+  pub takes : Appends (taken old.transport) (taken new.transport) sent
+  pub order : sent ++ waiting new.queue ≡ waiting old.queue
+  pub comes : Keeps (coming old.transport) (coming new.transport)
+  pub calls : Makes (made old.transport) (made new.transport) (sendings (is_clear old.queue) sending)
+  pub idle : is_clear old.queue ≡ true → sending ≡ sents.Nothing
+
+-- What came was handed to the hub, or none of it, by one call where a reading may give something; nothing was sent
+pub record ReadsOnce {T : Type 0} (taken coming : T → Option (List ℕ)) (made : T → Option (List Call)) (old new : Connection T) (reading : Received) (events : List Accepted) : Type 0 where
+  pub id : new.id ≡ old.id
+  pub was_open : is_open new.stage ≡ true → is_open old.stage ≡ true
+  pub own : AreOf old.id events
+  pub are_turns : AreOfTurns events
+  pub takes : Keeps (taken old.transport) (taken new.transport)
+  pub put : List ℕ
+  pub are_put : ArePut events put
+  pub order : waiting new.queue ≡ waiting old.queue ++ put
+  pub received : List ℕ
+  pub gives : Consumes (coming old.transport) (coming new.transport) received
+  pub pieces : BringAllOrNone received events
+  pub handed : is_open new.stage ≡ true → pieces_of events ≡ received
+  pub calls : Makes (made old.transport) (made new.transport) (readings old.may_receive reading)
+  pub unmarked : old.may_receive ≡ false → reading ≡ receiveds.Nothing
+  pub leads : LeadsByReading reading received old new events
+
+-- A turn of an open connection. The events are of this connection alone. What waited and what they put: a front of it is sent, which
+-- the transport took, and the rest waits. What came was handed to the hub, all of it while the connection is open, and else all or
+-- none. The calls are a sending, where something waits, and then a reading, where one may give something, and what these came to, and
+-- the hub's answer, tells the stage
+pub record Turns {T : Type 0} (taken coming : T → Option (List ℕ)) (made : T → Option (List Call)) (old new : Connection T) (events : List Accepted) : Type 0 where
   pub id : new.id ≡ old.id
   pub was_open : is_open new.stage ≡ true → is_open old.stage ≡ true
   pub own : AreOf old.id events
@@ -37,4 +115,94 @@ pub record Turns {T : Type 0} (taken coming : T → Option (List ℕ)) (old new 
   pub order : sent ++ waiting new.queue ≡ waiting old.queue ++ put
   pub received : List ℕ
   pub gives : Consumes (coming old.transport) (coming new.transport) received
+  pub pieces : BringAllOrNone received events
   pub handed : is_open new.stage ≡ true → pieces_of events ≡ received
+  pub sending : Sent
+  pub reading : Received
+  pub calls : Makes (made old.transport) (made new.transport) (calls_of_turn (is_clear old.queue) old.may_receive sending reading)
+  pub idle : is_clear old.queue ≡ true → sending ≡ sents.Nothing
+  pub unmarked : old.may_receive ≡ false → reading ≡ receiveds.Nothing
+  pub leads : LeadsByTurn sending reading received old new events
+
+-- A connection was opened under this id: its stage is that of the hub's answer, and what the event put waits
+abbrev pub IsOpened : {T : Type 0} → ℕ → Kind → Connection T → List Accepted → Type 0
+IsOpened id kind one events = (accepted : Accepted) × (events ≡ accepted ∷ []) × (accepted.what ≡ opened id kind) × (one.stage ≡ stage_of_new accepted.out)
+    × ArePut events (waiting one.queue)
+
+-- the stage once nothing waits, and before that the same
+abbrev pub stage_between : Bool → Stage → Bool → Stage
+stage_between is_clear before is_told = if is_clear then finished before is_told else before
+
+-- the stage after a reading of what is dropped, where one is made
+abbrev pub stage_drained : Bool → ℕ → Received → Stage → Stage
+stage_drained is_read most reading before = if is_read then drained most reading else before
+
+-- how many octets are dropped then
+abbrev pub dropped_after : Bool → Received → ℕ → ℕ
+dropped_after is_read reading before = if is_read then min (before + count_received reading) (2 ^ 64 - 1) else before
+
+-- whether a reading may still give something: not after one by which nothing came
+abbrev pub marked_after : Bool → Received → Bool → Bool
+marked_after false reading before = before
+marked_after true receiveds.Nothing before = false
+marked_after true receiveds.Interrupted before = true
+marked_after true (receiveds.Octets count) before = true
+marked_after true receiveds.End before = true
+marked_after true receiveds.Failed before = true
+
+-- once nothing waits, the peer of one that the hub closed is told so
+pub record Finishes {T : Type 0} (taken coming : T → Option (List ℕ)) (made : T → Option (List Call)) (old new : Connection T) : Type 0 where
+  pub id : new.id ≡ old.id
+  pub queue : new.queue ≡ old.queue
+  pub may_receive : new.may_receive ≡ old.may_receive
+  pub dropped : new.dropped ≡ old.dropped
+  pub takes : Keeps (taken old.transport) (taken new.transport)
+  pub comes : Keeps (coming old.transport) (coming new.transport)
+  pub is_told : Bool
+  pub calls : Makes (made old.transport) (made new.transport) (endings (is_clear old.queue) old.stage is_told)
+  pub stage : new.stage ≡ stage_between (is_clear old.queue) old.stage is_told
+
+-- once the peer is told so, what comes is read and dropped
+pub record Drains {T : Type 0} (taken coming : T → Option (List ℕ)) (made : T → Option (List Call)) (old new : Connection T) : Type 0 where
+  pub id : new.id ≡ old.id
+  pub queue : new.queue ≡ old.queue
+  pub takes : Keeps (taken old.transport) (taken new.transport)
+  pub received : List ℕ
+  pub gives : Consumes (coming old.transport) (coming new.transport) received
+  pub reading : Received
+  pub calls : Makes (made old.transport) (made new.transport) (readings (is_dropped old.stage old.may_receive) reading)
+  pub stage : new.stage ≡ stage_drained (is_dropped old.stage old.may_receive) (26_214_400 - old.dropped) reading old.stage
+  pub dropped : new.dropped ≡ dropped_after (is_dropped old.stage old.may_receive) reading old.dropped
+  pub may_receive : new.may_receive ≡ marked_after (is_dropped old.stage old.may_receive) reading old.may_receive
+
+-- where a turn leads that is no longer open
+abbrev pub LeadsOut : {T : Type 0} → (T → Option (List Call)) → Sent → Bool → Received → Connection T → Connection T → Type 0
+LeadsOut made sending is_told reading old new =
+    let between = stage_between (is_clear new.queue) old.stage is_told in
+    let is_read = is_dropped between old.may_receive in
+    Makes (made old.transport) (made new.transport) (sendings (is_clear old.queue) sending ++ (endings (is_clear new.queue) old.stage is_told ++ readings is_read reading))
+    × (new.stage ≡ stage_drained is_read (26_214_400 - old.dropped) reading between) × (new.dropped ≡ dropped_after is_read reading old.dropped)
+    × (new.may_receive ≡ marked_after is_read reading old.may_receive)
+
+-- the same, where the sending may have failed
+abbrev pub LeadsAway : {T : Type 0} → (T → Option (List Call)) → Sent → Bool → Received → Connection T → Connection T → Type 0
+LeadsAway made sents.Failed is_told reading old new = Makes (made old.transport) (made new.transport) (sends sents.Failed ∷ []) × (new.stage ≡ stages.Over)
+LeadsAway made sents.Nothing is_told reading old new = LeadsOut made sents.Nothing is_told reading old new
+LeadsAway made sents.Some is_told reading old new = LeadsOut made sents.Some is_told reading old new
+
+-- A turn of a connection that is no longer open, of which the hub is told nothing: a front of what waited is sent; once nothing waits,
+-- the peer of one that the hub closed is told so, and then what comes is read and dropped, up to 26,214,400 octets and its end. A
+-- sending that failed, or an end that can't be told, leads to one that is over
+pub record Departs {T : Type 0} (taken coming : T → Option (List ℕ)) (made : T → Option (List Call)) (old new : Connection T) : Type 0 where
+  pub id : new.id ≡ old.id
+  pub closed : is_open old.stage ≡ false → is_open new.stage ≡ false
+  pub sent : List ℕ
+  pub takes : Appends (taken old.transport) (taken new.transport) sent
+  pub order : sent ++ waiting new.queue ≡ waiting old.queue
+  pub received : List ℕ
+  pub gives : Consumes (coming old.transport) (coming new.transport) received
+  pub sending : Sent
+  pub is_told : Bool
+  pub reading : Received
+  pub idle : is_clear old.queue ≡ true → sending ≡ sents.Nothing
+  pub leads : LeadsAway made sending is_told reading old new

@@ -1,15 +1,21 @@
 // One connection.
-ghost use Rattle.std.specs.Prelude.{◌≡◌, ◌≤◌, ℕ, List, [], take, length, IfSome, MatchOption, true, false};
+ghost use Rattle.std.specs.Prelude.{◌≡◌, ◌≤◌, ◌==◌, ◌||◌, ℕ, List, [], ◌∷◌, take, length, IfSome, MatchOption, true, false};
 ghost use Rattle.std.specs.Io.KnownBytes.{Consumes, Keeps};
 ghost use Rattle.dict_driver.specs.Leading.{HasLedOn};
-ghost use Rattle.dict_driver.specs.Stages.{is_open, count_received};
+ghost use Rattle.dict_hub.specs.Events.{opened, ended};
+ghost use Rattle.dict_hub.specs.Runs.{Accepted};
+ghost use Rattle.dict_driver.specs.Calls.{Makes, receives};
+ghost use Rattle.dict_driver.specs.Stages.{is_open, count_received, parted, stage_of_new};
 
 use crate::queue::Queue;
-use crate::stage::{Received, Sent, Stage, received_by, sent_by};
+use crate::stage::{
+    Received, Sent, Stage, answered, drained, has_any, has_moved, parted, received_by, sent_by,
+    stage_of_new, told,
+};
 use crate::telling::tell;
 use crate::transport::Transport;
 use dict_desk::Keeper;
-use dict_hub::{Event, Hub, Kind, Out};
+use dict_hub::{Event, Hub, Kind};
 use std::alloc::Global;
 
 // The most octets that are dropped of a connection once all is sent: the largest body of a request and 1 MiB.
@@ -29,11 +35,10 @@ pub struct Connection<T: Transport> {
 }
 
 impl<T: Transport> Connection<T> {
-    ghost use Rattle.dict_driver.specs.Queues.{waiting};
-    ghost use Rattle.dict_driver.specs.Turns.{Hands, Turns};
-    ghost use Rattle.dict_driver.specs.Rounds.{Flows};
-    ghost use Rattle.dict_driver.specs.Events.{AreOf};
-    ghost use Rattle.dict_driver.specs.Ordering.{IsOpeningOf};
+    ghost use Rattle.dict_driver.specs.Queues.{waiting, is_clear};
+    ghost use Rattle.dict_driver.specs.Turns.{Departs, Drains, Finishes, Hands, IsOpened, LeadsByAnswer, LeadsByEnd, ReadsOnce, SendsOnce, Turns};
+    ghost use Rattle.dict_driver.specs.Turning.{marked};
+    ghost use Rattle.dict_driver.specs.Ordering.{IsOnly};
 
     /// Tells the hub of a new connection. `None` where the hub refused it.
     pub fn open<K: Keeper>(
@@ -45,9 +50,11 @@ impl<T: Transport> Connection<T> {
         desk: &mut K,
     ) -> Option<Connection<T>>
         ensures led { HasLedOn (K.is_trusted desk.new) (K.shows desk.old) (K.leaves_one_of desk.old) (K.shows desk.new) (K.leaves_one_of desk.new) hub.old hub.new
-            (λ events. MatchOption result (events ≡ []) (λ one. AreOf id events × Flows [] events (waiting one.queue)) × IsOpeningOf kind events) }
+            (λ events. MatchOption result (events ≡ []) (λ one. IsOpened id kind one events)) }
         ensures trust { K.is_trusted desk.new → K.is_trusted desk.old }
         ensures id { IfSome result (λ one. one.id ≡ id) }
+        ensures transport { IfSome result (λ one. one.transport ≡ transport) }
+        ensures may_receive { IfSome result (λ one. one.may_receive ≡ true) }
     {
         let mut queue = Queue::new(alloc);
         match tell(hub, desk, Event::Opened(id, kind), &mut queue) {
@@ -77,20 +84,9 @@ impl<T: Transport> Connection<T> {
         self.stage
     }
 
-    /// Notes that a reading may give something.
-    pub fn mark(&mut self)
-        ensures id { self.new.id ≡ self.old.id }
-        ensures stage { self.new.stage ≡ self.old.stage }
-        ensures queue { self.new.queue ≡ self.old.queue }
-    {
-        self.may_receive = true;
-    }
-
-    /// The same, where this is its id.
+    /// Notes that a reading may give something, where this is its id.
     pub fn mark_if(&mut self, id: u64)
-        ensures id { self.new.id ≡ self.old.id }
-        ensures stage { self.new.stage ≡ self.old.stage }
-        ensures queue { self.new.queue ≡ self.old.queue }
+        ensures { self.new ≡ marked (self.old.id == id) self.old }
     {
         if self.id == id {
             self.may_receive = true;
@@ -101,49 +97,44 @@ impl<T: Transport> Connection<T> {
     /// nothing more comes. Whether anything happened.
     pub fn turn<K: Keeper>(&mut self, hub: &mut Hub, desk: &mut K, room: &mut [u8]) -> bool
         ensures led { HasLedOn (K.is_trusted desk.new) (K.shows desk.old) (K.leaves_one_of desk.old) (K.shows desk.new) (K.leaves_one_of desk.new) hub.old hub.new
-            (λ events. Turns T.taken T.coming self.old self.new events) }
+            (λ events. Turns T.taken T.coming T.made self.old self.new events) }
         ensures trust { K.is_trusted desk.new → K.is_trusted desk.old }
         ensures id { self.new.id ≡ self.old.id }
+        ensures idle { result ≡ false → self.new.may_receive ≡ false }
     {
         let sent = self.send();
-        if sent == Sent::Failed {
+        if sent.has_failed() {
             self.end(hub, desk);
             return true;
         }
-        let has_read = self.read(hub, desk, room);
-        has_read || sent == Sent::Some
+        let received = self.read(hub, desk, room);
+        has_moved(sent, received)
     }
 
     /// A turn of a connection that is no longer open: sends what waits; once nothing does, it is over where the peer
     /// ended its side, and else the peer is told so, and what comes is read into the room and dropped. Whether anything
     /// happened.
     pub fn depart(&mut self, room: &mut [u8]) -> bool
-        ensures turns { Turns T.taken T.coming self.old self.new [] }
-        ensures closed { is_open self.old.stage ≡ false → is_open self.new.stage ≡ false }
+        ensures { Departs T.taken T.coming T.made self.old self.new }
     {
         let sent = self.send();
-        if sent == Sent::Failed {
+        if sent.has_failed() {
             self.stage = Stage::Over;
             return true;
         }
         let has_finished = self.finish();
         let has_dropped = self.drop_received(room);
-        sent == Sent::Some || has_finished || has_dropped
+        has_any(sent == Sent::Some, has_finished, has_dropped)
     }
 
     // Sends what waits, by one call of the transport.
     fn send(&mut self) -> Sent
-        ensures turns { Turns T.taken T.coming self.old self.new [] }
-        ensures stage { self.new.stage ≡ self.old.stage }
+        ensures { SendsOnce T.taken T.coming T.made self.old self.new result }
     {
         if self.queue.is_empty() {
             return Sent::Nothing;
         }
-        match self.queue.send(&mut self.transport) {
-            Ok(0) => Sent::Nothing,
-            Ok(_) => Sent::Some,
-            Err(error) => sent_by(&error),
-        }
+        sent_by(&self.queue.send(&mut self.transport))
     }
 
     // Reads once.
@@ -151,86 +142,81 @@ impl<T: Transport> Connection<T> {
         ensures count { count_received result ≤ length room.new }
         ensures gives { Consumes (T.coming self.old.transport) (T.coming self.new.transport) (take (count_received result) room.new) }
         ensures taken { Keeps (T.taken self.old.transport) (T.taken self.new.transport) }
-        ensures id { self.new.id ≡ self.old.id }
-        ensures stage { self.new.stage ≡ self.old.stage }
-        ensures queue { self.new.queue ≡ self.old.queue }
+        ensures same { self.new ≡ record self.old { transport = self.new.transport } }
+        ensures made { Makes (T.made self.old.transport) (T.made self.new.transport) (receives result ∷ []) }
     {
-        match self.transport.receive(room) {
-            Ok(0) => Received::End,
-            Ok(count) => Received::Octets(count),
-            Err(error) => received_by(&error),
-        }
+        received_by(&self.transport.receive(room))
     }
 
-    // Reads once, and hands what came to the hub, or that nothing more comes.
-    fn read<K: Keeper>(&mut self, hub: &mut Hub, desk: &mut K, room: &mut [u8]) -> bool
+    // Reads once where that may give something, and hands what came to the hub, or that nothing more comes.
+    fn read<K: Keeper>(&mut self, hub: &mut Hub, desk: &mut K, room: &mut [u8]) -> Received
         ensures led { HasLedOn (K.is_trusted desk.new) (K.shows desk.old) (K.leaves_one_of desk.old) (K.shows desk.new) (K.leaves_one_of desk.new) hub.old hub.new
-            (λ events. Turns T.taken T.coming self.old self.new events) }
+            (λ events. ReadsOnce T.taken T.coming T.made self.old self.new result events) }
         ensures trust { K.is_trusted desk.new → K.is_trusted desk.old }
         ensures id { self.new.id ≡ self.old.id }
+        ensures idle { result ≡ Received.Nothing → self.new.may_receive ≡ false }
     {
         if !self.may_receive {
-            return false;
+            return Received::Nothing;
         }
-        match self.receive(room) {
+        let received = self.receive(room);
+        match received {
             Received::Octets(count) => {
                 self.take(hub, desk, &room[..count]);
-                true
+                received
             }
             Received::End => {
                 self.part(hub, desk);
-                true
+                received
             }
             Received::Failed => {
                 self.end(hub, desk);
-                true
+                received
             }
-            Received::Interrupted => true,
+            Received::Interrupted => received,
             Received::Nothing => {
                 self.may_receive = false;
-                false
+                received
             }
         }
     }
 
-    // Hands octets to the hub. It is over where the queue took no more, or where the hub found no memory.
+    // Hands octets to the hub. Where the hub closes it, what waits is still sent, but for a queue that took no more: then it is over, as
+    // it is where the hub refuses the octets.
     fn take<K: Keeper>(&mut self, hub: &mut Hub, desk: &mut K, piece: &[u8])
         ensures led { HasLedOn (K.is_trusted desk.new) (K.shows desk.old) (K.leaves_one_of desk.old) (K.shows desk.new) (K.leaves_one_of desk.new) hub.old hub.new
-            (λ events. Hands piece.now self.old self.new events) }
+            (λ events. Hands piece.now self.old self.new events × LeadsByAnswer piece.now self.old self.new events) }
         ensures trust { K.is_trusted desk.new → K.is_trusted desk.old }
         ensures id { self.new.id ≡ self.old.id }
     {
         let failures = self.queue.failures();
-        let out = tell(hub, desk, Event::Bytes(self.id, piece), &mut self.queue);
-        let has_failed = self.queue.failures() != failures;
-        match out {
-            Some(Out::More) if !has_failed => {}
-            Some(Out::Close) if !has_failed => self.stage = Stage::Closing,
-            Some(Out::Close) => self.stage = Stage::Over,
-            _ => self.end(hub, desk),
+        match tell(hub, desk, Event::Bytes(self.id, piece), &mut self.queue) {
+            Some(out) => {
+                let has_failed = self.queue.failures() != failures;
+                self.stage = answered(out, has_failed, self.stage);
+            }
+            None => self.end(hub, desk),
         }
     }
 
     // The peer ended its side. What waits is still sent.
     fn part<K: Keeper>(&mut self, hub: &mut Hub, desk: &mut K)
         ensures led { HasLedOn (K.is_trusted desk.new) (K.shows desk.old) (K.leaves_one_of desk.old) (K.shows desk.new) (K.leaves_one_of desk.new) hub.old hub.new
-            (λ events. Hands [] self.old self.new events) }
+            (λ events. Hands [] self.old self.new events × LeadsByEnd (parted (is_clear self.new.queue)) self.old self.new events) }
         ensures trust { K.is_trusted desk.new → K.is_trusted desk.old }
         ensures id { self.new.id ≡ self.old.id }
     {
         self.end(hub, desk);
-        if !self.queue.is_empty() {
-            self.stage = Stage::Parting;
-        }
+        self.stage = parted(self.queue.is_empty());
     }
 
     // Nothing more comes, and nothing more is sent.
     fn end<K: Keeper>(&mut self, hub: &mut Hub, desk: &mut K)
         ensures led { HasLedOn (K.is_trusted desk.new) (K.shows desk.old) (K.leaves_one_of desk.old) (K.shows desk.new) (K.leaves_one_of desk.new) hub.old hub.new
-            (λ events. Hands [] self.old self.new events) }
+            (λ events. Hands [] self.old self.new events × IsOnly (ended self.old.id) events) }
         ensures trust { K.is_trusted desk.new → K.is_trusted desk.old }
         ensures id { self.new.id ≡ self.old.id }
-        ensures over { is_open self.new.stage ≡ false }
+        ensures over { self.new.stage ≡ Stage.Over }
     {
         let _ = tell(hub, desk, Event::Ended(self.id), &mut self.queue);
         self.stage = Stage::Over;
@@ -238,18 +224,15 @@ impl<T: Transport> Connection<T> {
 
     // Once nothing waits: it is over where the peer ended its side, and else the peer is told that nothing more is sent.
     fn finish(&mut self) -> bool
-        ensures turns { Turns T.taken T.coming self.old self.new [] }
-        ensures closed { is_open self.old.stage ≡ false → is_open self.new.stage ≡ false }
+        ensures { Finishes T.taken T.coming T.made self.old self.new }
     {
         if !self.queue.is_empty() {
             return false;
         }
         match self.stage {
             Stage::Closing => {
-                self.stage = match self.transport.end_sending() {
-                    Ok(()) => Stage::Draining,
-                    Err(_) => Stage::Over,
-                };
+                let is_told = self.transport.end_sending().is_ok();
+                self.stage = told(is_told);
                 true
             }
             Stage::Parting => {
@@ -262,34 +245,15 @@ impl<T: Transport> Connection<T> {
 
     // Once the peer was told that nothing more is sent, reads once and drops what came.
     fn drop_received(&mut self, room: &mut [u8]) -> bool
-        ensures turns { Turns T.taken T.coming self.old self.new [] }
-        ensures closed { is_open self.old.stage ≡ false → is_open self.new.stage ≡ false }
+        ensures { Drains T.taken T.coming T.made self.old self.new }
     {
-        if self.stage != Stage::Draining || !self.may_receive {
+        if !self.stage.is_dropped(self.may_receive) {
             return false;
         }
-        match self.receive(room) {
-            Received::Octets(count) if count <= MOST_DROPPED.saturating_sub(self.dropped) => {
-                self.dropped += count;
-                true
-            }
-            Received::Octets(_) | Received::End | Received::Failed => {
-                self.stage = Stage::Over;
-                true
-            }
-            Received::Interrupted => true,
-            Received::Nothing => {
-                self.may_receive = false;
-                false
-            }
-        }
-    }
-}
-
-// A connection that the hub closed as it was opened got no whole greeting.
-fn stage_of_new(out: Out) -> Stage {
-    match out {
-        Out::More => Stage::Open,
-        Out::Close => Stage::Over,
+        let received = self.receive(room);
+        self.stage = drained(MOST_DROPPED.saturating_sub(self.dropped), received);
+        self.dropped = self.dropped.saturating_add(received.count());
+        self.may_receive = received != Received::Nothing;
+        self.may_receive
     }
 }

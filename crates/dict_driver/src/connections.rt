@@ -1,12 +1,11 @@
 // The connections of a driver.
-ghost use Rattle.std.specs.Prelude.{◌≡◌, ◌≢◌, ◌⊎◌, ◌≤◌, ◌<◌, ◌+◌, ℕ, List, [], false, All, IfOk, IfSome, vec_len, vec_capacity};
+ghost use Rattle.std.specs.Prelude.{◌≡◌, ◌≢◌, ◌⊎◌, ◌≤◌, ◌<◌, ◌+◌, ℕ, List, [], false, All, IfOk, vec_len, vec_capacity, slice_index_or};
 ghost use Rattle.std.specs.List.{AllPairs};
 ghost use Rattle.dict_driver.specs.Stages.{is_open};
 
 use crate::connection::Connection;
-use crate::stage::Stage;
 use crate::transport::Transport;
-use crate::turning::{depart_all, mark_all, mark_one, turn_all};
+use crate::turning::{depart_all, mark_one, turn_all};
 use dict_desk::Keeper;
 use dict_hub::{Hub, Kind};
 use std::alloc::{AllocError, Global};
@@ -39,8 +38,11 @@ pub struct Connections<T: Transport> {
 
 impl<T: Transport> Connections<T> {
     ghost use Rattle.dict_driver.specs.Leading.{HasLedOn};
-    ghost use Rattle.dict_driver.specs.Queues.{waiting};
-    ghost use Rattle.dict_driver.specs.Rounds.{WaitsAmong, Waits, Moves};
+    ghost use Rattle.std.specs.Prelude.{◌++◌, ◌∷◌, ◌==◌, ◌||◌, ◌^◌, true, MatchOption, filter, if◌then◌else◌};
+    ghost use Rattle.std.specs.List.{remove};
+    ghost use Rattle.dict_driver.specs.Rounds.{Admits, Moves, TurnEach, Waits, latest};
+    ghost use Rattle.dict_driver.specs.Stages.{is_departing};
+    ghost use Rattle.dict_driver.specs.Turning.{MarkAll};
     ghost use Rattle.dict_driver.specs.Ordering.{AreOfTurns, ComeById, IsOpeningOf};
 
     /// No connection was there yet.
@@ -75,8 +77,7 @@ impl<T: Transport> Connections<T> {
 
     /// The id of the next connection. `None` where 64 are open, or each id was given.
     pub fn next_id(&self) -> Option<u64>
-        ensures value { IfSome result (λ id. id ≡ self.now.last + 1) }
-        ensures room { IfSome result (λ id. vec_len self.now.opened < 64) }
+        ensures { MatchOption result ((64 ≤ vec_len self.now.opened) ⊎ (2 ^ 64 ≤ self.now.last + 1)) (λ id. (id ≡ self.now.last + 1) × (vec_len self.now.opened < 64)) }
     {
         if self.opened.len() >= MOST_OPEN {
             return None;
@@ -88,7 +89,7 @@ impl<T: Transport> Connections<T> {
     /// that of the next one.
     pub fn admit<K: Keeper>(&mut self, transport: T, kind: Kind, hub: &mut Hub, desk: &mut K)
         ensures led { HasLedOn (K.is_trusted desk.new) (K.shows desk.old) (K.leaves_one_of desk.old) (K.shows desk.new) (K.leaves_one_of desk.new) hub.old hub.new
-            (λ events. Moves self.old self.new events × IsOpeningOf kind events) }
+            (λ events. Moves self.old self.new events × IsOpeningOf kind events × Admits transport kind self.old self.new events) }
         ensures trust { K.is_trusted desk.new → K.is_trusted desk.old }
     {
         let Some(id) = self.next_id() else {
@@ -104,8 +105,9 @@ impl<T: Transport> Connections<T> {
     /// that are over are dropped. Whether anything happened.
     pub fn turn<K: Keeper>(&mut self, hub: &mut Hub, desk: &mut K) -> bool
         ensures led { HasLedOn (K.is_trusted desk.new) (K.shows desk.old) (K.leaves_one_of desk.old) (K.shows desk.new) (K.leaves_one_of desk.new) hub.old hub.new
-            (λ events. Moves self.old self.new events × AreOfTurns events × ComeById events) }
+            (λ events. Moves self.old self.new events × AreOfTurns events × ComeById events × TurnEach T.taken T.coming T.made self.old self.new events) }
         ensures trust { K.is_trusted desk.new → K.is_trusted desk.old }
+        ensures idle { result ≡ false → All (λ one. one.may_receive ≡ false) self.new.opened.items }
     {
         let departed = depart_all(&mut self.departing);
         self.departing.retain(|one| one.stage().is_held());
@@ -116,25 +118,18 @@ impl<T: Transport> Connections<T> {
 
     /// Notes that a reading of the connection of this id may give something, where it is held.
     pub fn mark(&mut self, id: u64)
-        ensures waits { (other : ℕ) (octets : List ℕ) → Waits self.new other octets → Waits self.old other octets }
+        ensures opened { MarkAll (λ one. one == id) self.old.opened.items self.new.opened.items }
+        ensures departing { MarkAll (λ one. one == id) self.old.departing.items self.new.departing.items }
         ensures last { self.new.last ≡ self.old.last }
     {
         mark_one(&mut self.opened, id);
         mark_one(&mut self.departing, id);
     }
 
-    /// Notes that a reading of each connection may give something.
-    pub fn mark_all(&mut self)
-        ensures waits { (other : ℕ) (octets : List ℕ) → Waits self.new other octets → Waits self.old other octets }
-        ensures last { self.new.last ≡ self.old.last }
-    {
-        mark_all(&mut self.opened);
-        mark_all(&mut self.departing);
-    }
-
     // Parts those that are no longer open from those that are.
     fn settle(&mut self)
-        ensures waits { (id : ℕ) (octets : List ℕ) → Waits self.new id octets → Waits self.old id octets }
+        ensures opened { self.new.opened.items ≡ filter (λ one. is_open one.stage) self.old.opened.items }
+        ensures departing { self.new.departing.items ≡ latest 128 (self.old.departing.items ++ filter (λ one. is_departing one.stage) self.old.opened.items) }
         ensures last { self.new.last ≡ self.old.last }
     {
         let mut place = 0;
@@ -150,14 +145,14 @@ impl<T: Transport> Connections<T> {
     // Takes the connection at this place out of the open ones, and holds it where something is still to be sent or read.
     fn close(&mut self, place: usize)
         requires { place < vec_len self.old.opened }
-        ensures waits { (id : ℕ) (octets : List ℕ) → Waits self.new id octets → Waits self.old id octets }
+        ensures opened { self.new.opened.items ≡ remove self.old.opened.items place }
+        ensures departing { (d : _) → self.new.departing.items ≡ latest 128 (self.old.departing.items ++ filter (λ one. is_departing one.stage) (slice_index_or self.old.opened.items place d ∷ [])) }
         ensures len { vec_len self.new.opened + 1 ≡ vec_len self.old.opened }
         ensures last { self.new.last ≡ self.old.last }
     {
         let one = self.opened.remove(place);
-        match one.stage() {
-            Stage::Closing | Stage::Parting | Stage::Draining => self.keep(one),
-            Stage::Open | Stage::Over => {}
+        if one.stage().is_departing() {
+            self.keep(one);
         }
     }
 
@@ -167,7 +162,7 @@ impl<T: Transport> Connections<T> {
         requires given { one.id ≤ self.old.last }
         requires apart { All (λ other. other.id ≢ one.id) self.old.opened.items }
         ensures opened { self.new.opened ≡ self.old.opened }
-        ensures waits { (id : ℕ) (octets : List ℕ) → WaitsAmong self.new.departing.items id octets → WaitsAmong self.old.departing.items id octets ⊎ ((one.id ≡ id) × (waiting one.queue ≡ octets)) }
+        ensures departing { self.new.departing.items ≡ latest 128 (self.old.departing.items ++ one ∷ []) }
         ensures last { self.new.last ≡ self.old.last }
     {
         self.make_room();
@@ -178,7 +173,7 @@ impl<T: Transport> Connections<T> {
     fn make_room(&mut self)
         ensures room { vec_len self.new.departing < 128 }
         ensures opened { self.new.opened ≡ self.old.opened }
-        ensures waits { (id : ℕ) (octets : List ℕ) → WaitsAmong self.new.departing.items id octets → WaitsAmong self.old.departing.items id octets }
+        ensures departing { self.new.departing.items ≡ latest 127 self.old.departing.items }
         ensures last { self.new.last ≡ self.old.last }
     {
         if self.departing.len() >= MOST_DEPARTING {

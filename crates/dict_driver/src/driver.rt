@@ -1,12 +1,19 @@
 // The sockets.
-ghost use Rattle.std.specs.Prelude.{◌≡◌, ◌≤◌, IfOk, List, MatchResult, ℕ};
+ghost use Rattle.std.specs.Prelude.{◌≡◌, ◌≢◌, ◌==◌, ◌≤◌, IfOk, List, MatchResult, false};
+ghost use Rattle.std.specs.IoError.{error_kind};
+ghost use Rattle.mio.specs.Event.{event_token};
+ghost use Rattle.mio.specs.Events.{items};
 ghost use Rattle.dict_driver.specs.Binding.{AreTold, Binds, HasAddressOf, IsNotBound, IsToldFor};
-ghost use Rattle.dict_driver.specs.Rounds.{Waits};
+ghost use Rattle.dict_driver.specs.Looking.{tells};
+ghost use Rattle.dict_driver.specs.Turning.{MarkAll};
 
 use crate::connections::Connections;
 use crate::fault::{AddressFault, BindFault};
+use crate::listening::{Listening, listening_by};
+use crate::stage::has_any;
 use dict_desk::Keeper;
 use dict_hub::{Hub, Kind};
+use mio::event::Event;
 use mio::net::{TcpListener, TcpStream};
 use mio::{Events, Interest, Poll, Token};
 use std::alloc::Global;
@@ -29,13 +36,14 @@ pub struct Driver<'h> {
     addresses: (SocketAddr, SocketAddr),
     poll: Poll,
     events: Events,
-    // Whether a connection may wait at a listening socket.
-    dict_may_accept: bool,
-    http_may_accept: bool,
+    dict_listening: Listening,
+    http_listening: Listening,
     connections: Connections<TcpStream>,
     hub: Hub<'h>,
     // How many rounds were made, those that failed left out.
     rounds: u64,
+    // The kind of the error by which the sockets couldn't be looked at, where the last look failed.
+    failure: Option<ErrorKind>,
 }
 
 impl<'h> Driver<'h> {
@@ -44,6 +52,7 @@ impl<'h> Driver<'h> {
     ghost use Rattle.dict_driver.specs.Rounds.{Moves};
     ghost use Rattle.dict_driver.specs.Ordering.{AreOfRound, IsOpeningOf};
     ghost use Rattle.dict_driver.specs.Serving.{IsCounted};
+    ghost use Rattle.dict_driver.specs.Looking.{IsIdle, IsKept, Looks, listening_of, other_kind};
 
     /// Binds a listening socket to the address for readers and then one to that for editors, each an IP address and a
     /// port. The second is read only where the first is bound. Replies name the server by `host`, of 1 to 253 of
@@ -76,11 +85,12 @@ impl<'h> Driver<'h> {
             addresses: (dict_address, http_address),
             poll,
             events: Events::with_capacity(alloc, MOST_EVENTS)?,
-            dict_may_accept: true,
-            http_may_accept: true,
+            dict_listening: Listening::Ready,
+            http_listening: Listening::Ready,
             connections: Connections::new(alloc)?,
             hub: Hub::new(alloc, host)?,
             rounds: 0,
+            failure: None,
         })
     }
 
@@ -121,45 +131,38 @@ impl<'h> Driver<'h> {
             (λ events. Moves self.old.connections self.new.connections events × AreOfRound events) }
         ensures trust { K.is_trusted desk.new → K.is_trusted desk.old }
         ensures rounds { IsCounted result self.old.rounds self.new.rounds }
+        ensures grown { self.old.rounds ≤ self.new.rounds }
+        ensures idle { IfOk result (λ has_moved. has_moved ≡ false → IsIdle self.new) }
+        ensures failure { MatchResult result (λ _. self.new.failure ≡ None) (λ error. self.new.failure ≡ Some (error_kind error)) }
     {
         self.look(Duration::ZERO)?;
         let by_dict = self.accept(Kind::Dict, desk);
         let by_http = self.accept(Kind::Http, desk);
         let turned = self.connections.turn(&mut self.hub, desk);
         self.rounds = self.rounds.saturating_add(1);
-        Ok(by_dict || by_http || turned)
+        Ok(has_any(by_dict, by_http, turned))
     }
 
     /// Waits until a socket is ready, or as long as this.
     pub fn wait(&mut self, most: Duration) -> io::Result<()>
-        ensures hub { self.new.hub ≡ self.old.hub }
-        ensures waits { (id : ℕ) (octets : List ℕ) → Waits self.new.connections id octets → Waits self.old.connections id octets }
-        ensures last { self.new.connections.last ≡ self.old.connections.last }
-        ensures rounds { self.new.rounds ≡ self.old.rounds }
+        ensures { Looks result self.old self.new }
     {
-        self.look(most)?;
-        // An accept that failed for want of descriptors is told of no more, so now and then all are asked.
-        if self.events.is_empty() {
-            self.dict_may_accept = true;
-            self.http_may_accept = true;
-            self.connections.mark_all();
-        }
-        Ok(())
+        self.look(most)
     }
 
     // Notes which sockets are ready, and waits for one as long as this.
     fn look(&mut self, most: Duration) -> io::Result<()>
-        ensures hub { self.new.hub ≡ self.old.hub }
-        ensures waits { (id : ℕ) (octets : List ℕ) → Waits self.new.connections id octets → Waits self.old.connections id octets }
-        ensures last { self.new.connections.last ≡ self.old.connections.last }
-        ensures rounds { self.new.rounds ≡ self.old.rounds }
+        ensures { Looks result self.old self.new }
     {
-        self.poll.poll(&mut self.events, Some(most))?;
-        if mark_ready(&self.events, &mut self.connections) {
-            self.dict_may_accept = true;
-            self.http_may_accept = true;
+        let looked = self.poll.poll(&mut self.events, Some(most));
+        let told = self.events.iter().as_slice();
+        mark_ready(told, &mut self.connections);
+        if tells_listening(told) {
+            self.dict_listening = Listening::Ready;
+            self.http_listening = Listening::Ready;
         }
-        Ok(())
+        self.failure = failure_of(&looked);
+        looked
     }
 
     // Takes a connection that waits at a listening socket. Whether one did, or the call is to be made again.
@@ -167,26 +170,41 @@ impl<'h> Driver<'h> {
         ensures led { HasLedOn (K.is_trusted desk.new) (K.shows desk.old) (K.leaves_one_of desk.old) (K.shows desk.new) (K.leaves_one_of desk.new) self.old.hub self.new.hub
             (λ events. Moves self.old.connections self.new.connections events × IsOpeningOf kind events) }
         ensures trust { K.is_trusted desk.new → K.is_trusted desk.old }
-        ensures rounds { self.new.rounds ≡ self.old.rounds }
+        ensures kept { IsKept self.old self.new }
+        ensures asked { result ≡ false → listening_of kind self.new ≢ Listening.Ready }
+        ensures other { listening_of (other_kind kind) self.new ≡ listening_of (other_kind kind) self.old }
+        ensures same { result ≡ false → self.new.connections ≡ self.old.connections }
     {
         let accepted = match kind {
-            Kind::Dict if self.dict_may_accept => self.dict.accept(),
-            Kind::Http if self.http_may_accept => self.http.accept(),
+            Kind::Dict if self.dict_listening.may_accept() => self.dict.accept(),
+            Kind::Http if self.http_listening.may_accept() => self.http.accept(),
             Kind::Dict | Kind::Http => return false,
         };
         match accepted {
             Ok((stream, _)) => {
+                self.note(kind, Listening::Ready);
                 self.admit(stream, kind, desk);
                 true
             }
             Err(error) => {
-                let may_accept = is_passing(error.kind());
-                match kind {
-                    Kind::Dict => self.dict_may_accept = may_accept,
-                    Kind::Http => self.http_may_accept = may_accept,
-                }
-                may_accept
+                let listening = listening_by(error.kind());
+                self.note(kind, listening);
+                listening == Listening::Ready
             }
+        }
+    }
+
+    // Notes whether a connection waits at a listening socket.
+    fn note(&mut self, kind: Kind, listening: Listening)
+        ensures kept { IsKept self.old self.new }
+        ensures noted { listening_of kind self.new ≡ listening }
+        ensures other { listening_of (other_kind kind) self.new ≡ listening_of (other_kind kind) self.old }
+        ensures connections { self.new.connections ≡ self.old.connections }
+        ensures hub { self.new.hub ≡ self.old.hub }
+    {
+        match kind {
+            Kind::Dict => self.dict_listening = listening,
+            Kind::Http => self.http_listening = listening,
         }
     }
 
@@ -195,7 +213,9 @@ impl<'h> Driver<'h> {
         ensures led { HasLedOn (K.is_trusted desk.new) (K.shows desk.old) (K.leaves_one_of desk.old) (K.shows desk.new) (K.leaves_one_of desk.new) self.old.hub self.new.hub
             (λ events. Moves self.old.connections self.new.connections events × IsOpeningOf kind events) }
         ensures trust { K.is_trusted desk.new → K.is_trusted desk.old }
-        ensures rounds { self.new.rounds ≡ self.old.rounds }
+        ensures kept { IsKept self.old self.new }
+        ensures dict { self.new.dict_listening ≡ self.old.dict_listening }
+        ensures http { self.new.http_listening ≡ self.old.http_listening }
     {
         let Some(id) = self.connections.next_id() else {
             return;
@@ -246,23 +266,42 @@ fn register(poll: &Poll, stream: &mut TcpStream, id: u64) -> io::Result<()> {
         .register(stream, Token(id as usize), interests)
 }
 
-// Whether the call is to be made again at once.
-fn is_passing(kind: ErrorKind) -> bool {
-    kind == ErrorKind::Interrupted || kind == ErrorKind::ConnectionAborted
+// The kind of the error by which a look failed.
+fn failure_of(looked: &io::Result<()>) -> Option<ErrorKind>
+    ensures { MatchResult looked.now (λ _. result ≡ None) (λ error. result ≡ Some (error_kind error)) }
+{
+    match looked {
+        Ok(()) => None,
+        Err(error) => Some(error.kind()),
+    }
 }
 
-// Marks the connections of which the events tell. Whether one tells of a listening socket.
-fn mark_ready(events: &Events, connections: &mut Connections<TcpStream>) -> bool
-    ensures waits { (id : ℕ) (octets : List ℕ) → Waits connections.new id octets → Waits connections.old id octets }
+// Marks the connections of which the events tell.
+fn mark_ready(events: &[Event], connections: &mut Connections<TcpStream>)
+    ensures opened { MarkAll (tells events.now) connections.old.opened.items connections.new.opened.items }
+    ensures departing { MarkAll (tells events.now) connections.old.departing.items connections.new.departing.items }
     ensures last { connections.new.last ≡ connections.old.last }
 {
-    let mut is_listening = false;
-    for event in events.iter() {
-        if event.token() == LISTENING {
-            is_listening = true;
-        } else {
-            connections.mark(event.token().0 as u64);
+    for event in events {
+        connections.mark(event.token().0 as u64);
+    }
+}
+
+// Whether one of the events tells of a listening socket.
+fn tells_listening(events: &[Event]) -> bool
+    ensures { result ≡ tells events.now 0 }
+{
+    for event in events {
+        if is_listening(event) {
+            return true;
         }
     }
-    is_listening
+    false
+}
+
+// Whether an event tells of a listening socket.
+fn is_listening(event: &Event) -> bool
+    ensures { result ≡ (0 == (event_token event.now).0) }
+{
+    LISTENING.0 == event.token().0
 }

@@ -6,6 +6,7 @@ mod connection;
 mod connections;
 mod driver;
 mod fault;
+mod listening;
 mod queue;
 mod serving;
 mod stage;

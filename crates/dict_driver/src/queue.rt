@@ -28,6 +28,8 @@ pub struct Queue {
 }
 
 impl Queue {
+    ghost use Rattle.std.specs.Prelude.{◌∷◌, ◌<◌, ◌⊎◌, ◌++◌, IsErr, OnErr, OnOk, vec_capacity};
+    ghost use Rattle.dict_driver.specs.Calls.{Makes, sends, sent_by};
     ghost use Rattle.dict_driver.specs.Queues.{waiting, Sends};
 
     /// A queue in which nothing waits and no call failed.
@@ -71,6 +73,7 @@ impl Queue {
         ensures sends { Sends result self.old self.new (T.taken transport.old) (T.taken transport.new) }
         ensures failures { self.new.failures ≡ self.old.failures }
         ensures coming { Keeps (T.coming transport.old) (T.coming transport.new) }
+        ensures made { Makes (T.made transport.old) (T.made transport.new) (sends (sent_by result) ∷ []) }
     {
         self.turn_over();
         let (_, rest) = self.front.as_slice().split_at(self.sent);
@@ -78,6 +81,23 @@ impl Queue {
         self.sent += count;
         self.turn_over();
         Ok(count)
+    }
+
+    // Has all of the octets wait, or where more than `MOST_WAITING` would or memory is short none of them.
+    fn append(&mut self, bytes: &[u8]) -> Result<(), SinkFault>
+        ensures all { OnOk result (waiting self.new ≡ waiting self.old ++ bytes.now) }
+        ensures none { OnErr result (waiting self.new ≡ waiting self.old) }
+        ensures bound { 1048576 < length (waiting self.old) + length bytes.now → IsErr result }
+        ensures refuses { OnErr result ((1048576 < length (waiting self.old) + length bytes.now) ⊎ (vec_capacity self.old.back < vec_len self.old.back + length bytes.now)) }
+        ensures failures { self.new.failures ≡ self.old.failures }
+    {
+        if bytes.len() > MOST_WAITING - self.len() {
+            return Err(SinkFault);
+        }
+        match self.back.extend_from_slice(bytes) {
+            Ok(()) => Ok(()),
+            Err(_) => Err(SinkFault),
+        }
     }
 
     // Where all of the front is sent, what was put since is the front. Large room is let go.
@@ -98,22 +118,33 @@ impl Queue {
 }
 
 impl Sink for Queue {
-    ghost use Rattle.dict_driver.specs.Queues.{stream_of};
+    ghost use Rattle.std.specs.Prelude.{◌<◌, ◌⊎◌, ◌^◌, ◌-◌, IsErr, OnErr, Some, vec_capacity};
+    ghost use Rattle.std.specs.Io.KnownBytes.{Appends};
+    ghost use Rattle.dict_io.specs.Streams.{Puts};
+    ghost use Rattle.dict_driver.specs.Queues.{TakesAll, stream_of, waiting};
 
     ghost stream = { stream_of };
 
     /// All of the octets wait then, or where it fails none of them: more than `MOST_WAITING` would wait, memory is short,
     /// or it failed too often before.
-    fn put(&mut self, bytes: &[u8]) -> Result<(), SinkFault> {
+    fn put(&mut self, bytes: &[u8]) -> Result<(), SinkFault>
+        ensures put { Puts result (stream_of self.old) (stream_of self.new) bytes.now }
+        ensures worn_out { (stream_of self.old).failures ≡ 2 ^ 64 - 1
+            → IsErr result × Appends (stream_of self.old).octets (stream_of self.new).octets [] }
+        ensures takes { TakesAll result self.old self.new bytes.now }
+        ensures bound { 1048576 < length (waiting self.old) + length bytes.now → IsErr result }
+        ensures refuses { OnErr result ((self.old.failures ≡ 2 ^ 64 - 1) ⊎ ((1048576 < length (waiting self.old) + length bytes.now)
+            ⊎ (vec_capacity self.old.back < vec_len self.old.back + length bytes.now))) }
+    {
         if self.failures == u64::MAX {
             return Err(SinkFault);
         }
-        if bytes.len() <= MOST_WAITING - self.len() {
-            if let Ok(()) = self.back.extend_from_slice(bytes) {
-                return Ok(());
+        match self.append(bytes) {
+            Ok(()) => Ok(()),
+            Err(fault) => {
+                self.failures += 1;
+                Err(fault)
             }
         }
-        self.failures += 1;
-        Err(SinkFault)
     }
 }

@@ -1,5 +1,6 @@
 // Rounds, one after another.
-ghost use Rattle.std.specs.Prelude.{◌≡◌, ℕ, List};
+ghost use Rattle.std.specs.Prelude.{◌≡◌, ◌≤◌, ℕ, IfErr, List};
+ghost use Rattle.std.specs.IoError.{error_kind};
 ghost use Rattle.dict_driver.specs.Leading.{HasLedOn};
 ghost use Rattle.dict_driver.specs.Rounds.{Waits, Moves};
 ghost use Rattle.dict_driver.specs.Serving.{AreCounted, IsClosedBy, longest_wait, rounds_of};
@@ -50,6 +51,8 @@ pub fn serve<K: Keeper>(
     ensures trust { K.is_trusted desk.new → K.is_trusted desk.old }
     ensures closed { IsClosedBy (K.is_closed desk.new) rounds result }
     ensures counted { AreCounted rounds result driver.old.rounds driver.new.rounds }
+    ensures grown { driver.old.rounds ≤ driver.new.rounds }
+    ensures failure { IfErr result (λ error. driver.new.failure ≡ Some (error_kind error)) }
 {
     for made in 0..rounds {
         let has_moved = driver.round(desk)?;
@@ -67,9 +70,10 @@ fn wait_if(driver: &mut Driver, is_asked: bool, most: Duration) -> io::Result<()
     ensures waits { (id : ℕ) (octets : List ℕ) → Waits driver.new.connections id octets → Waits driver.old.connections id octets }
     ensures last { driver.new.connections.last ≡ driver.old.connections.last }
     ensures rounds { driver.new.rounds ≡ driver.old.rounds }
+    ensures failure { IfErr result (λ error. driver.new.failure ≡ Some (error_kind error)) }
 {
     if is_asked {
-        driver.wait(most)?;
+        return driver.wait(most);
     }
     Ok(())
 }

@@ -1,7 +1,8 @@
 // What carries a connection's octets.
-ghost use Rattle.std.specs.Prelude.{ℕ, List, Option, None};
+ghost use Rattle.std.specs.Prelude.{ℕ, List, Option, [], ◌∷◌, None, is_ok};
 ghost use Rattle.std.specs.Io.{ReadsAtMost, WritesAtMost};
 ghost use Rattle.std.specs.Io.KnownBytes.{Keeps, ReadConsumes, WriteAppends};
+ghost use Rattle.dict_driver.specs.Calls.{Call, Makes, sends, receives, ends, sent_by, received_by};
 
 use mio::net::TcpStream;
 use std::io::{Read, Result, Write};
@@ -15,22 +16,28 @@ pub trait Transport: Drop {
     /// The octets of the peer that it will give from here on, where they are known.
     ghost coming: { Self → Option (List ℕ) };
 
+    /// The calls that were made of it so far, where they are known.
+    ghost made: { Self → Option (List Call) };
+
     /// Takes a front of the octets, and tells how many.
     fn send(&mut self, octets: &[u8]) -> Result<usize>
         ensures bound { WritesAtMost result octets.now }
         ensures taken { WriteAppends (taken self.old) (taken self.new) result octets.now }
-        ensures coming { Keeps (coming self.old) (coming self.new) };
+        ensures coming { Keeps (coming self.old) (coming self.new) }
+        ensures made { Makes (made self.old) (made self.new) (sends (sent_by result) ∷ []) };
 
     /// Puts the peer's next octets at the front of the room, and tells how many. Where there is room, 0 means their end.
     fn receive(&mut self, room: &mut [u8]) -> Result<usize>
         ensures bound { ReadsAtMost result room.new }
         ensures taken { Keeps (taken self.old) (taken self.new) }
-        ensures coming { ReadConsumes (coming self.old) (coming self.new) result room.new };
+        ensures coming { ReadConsumes (coming self.old) (coming self.new) result room.new }
+        ensures made { Makes (made self.old) (made self.new) (receives (received_by result) ∷ []) };
 
     /// Tells the peer that nothing more is sent.
     fn end_sending(&mut self) -> Result<()>
         ensures taken { Keeps (taken self.old) (taken self.new) }
-        ensures coming { Keeps (coming self.old) (coming self.new) };
+        ensures coming { Keeps (coming self.old) (coming self.new) }
+        ensures made { Makes (made self.old) (made self.new) (ends (is_ok result) ∷ []) };
 }
 
 // Of a socket no octet is known.
@@ -38,6 +45,8 @@ impl Transport for TcpStream {
     ghost taken = { λ _. None };
 
     ghost coming = { λ _. None };
+
+    ghost made = { λ _. None };
 
     fn send(&mut self, octets: &[u8]) -> Result<usize> {
         self.write(octets)

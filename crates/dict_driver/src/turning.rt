@@ -1,8 +1,8 @@
 // What is done to each connection of a list.
-ghost use Rattle.std.specs.Prelude.{◌≡◌, ◌<◌, ℕ, List, [], vec_len, vec_capacity, slice_index_or};
+ghost use Rattle.std.specs.Prelude.{◌≡◌, ◌<◌, ◌==◌, ℕ, false, All, slice_index_or, vec_len, vec_capacity};
 ghost use Rattle.std.specs.List.{AllPairs};
 ghost use Rattle.dict_driver.specs.Leading.{HasLedOn};
-ghost use Rattle.dict_driver.specs.Turning.{IsSameAll, DepartAll, TurnAll};
+ghost use Rattle.dict_driver.specs.Turning.{DepartAll, MarkAll, TurnAll};
 
 use crate::connection::Connection;
 use crate::transport::Transport;
@@ -20,11 +20,12 @@ pub fn turn_all<T: Transport, K: Keeper>(
 ) -> bool
     requires { AllPairs (λ a b. a.id < b.id) all.old.items }
     ensures led { HasLedOn (K.is_trusted desk.new) (K.shows desk.old) (K.leaves_one_of desk.old) (K.shows desk.new) (K.leaves_one_of desk.new) hub.old hub.new
-        (λ events. TurnAll all.old.items all.new.items events) }
+        (λ events. TurnAll T.taken T.coming T.made all.old.items all.new.items events) }
     ensures trust { K.is_trusted desk.new → K.is_trusted desk.old }
+    ensures idle { result ≡ false → All (λ one. one.may_receive ≡ false) all.new.items }
+    ensures ids { (k : ℕ) (d : _) → k < vec_len all.old → (slice_index_or all.new.items k d).id ≡ (slice_index_or all.old.items k d).id }
     ensures len { vec_len all.new ≡ vec_len all.old }
     ensures capacity { vec_capacity all.new ≡ vec_capacity all.old }
-    ensures ids { (k : ℕ) (d : _) → k < vec_len all.old → (slice_index_or all.new.items k d).id ≡ (slice_index_or all.old.items k d).id }
 {
     let mut room = [0u8; PIECE];
     let mut has_moved = false;
@@ -38,7 +39,7 @@ pub fn turn_all<T: Transport, K: Keeper>(
 
 /// A turn of each connection that is no longer open, in order. Whether anything happened.
 pub fn depart_all<T: Transport>(all: &mut Vec<Connection<T>>) -> bool
-    ensures departs { DepartAll all.old.items all.new.items }
+    ensures departs { DepartAll T.taken T.coming T.made all.old.items all.new.items }
     ensures len { vec_len all.new ≡ vec_len all.old }
     ensures capacity { vec_capacity all.new ≡ vec_capacity all.old }
 {
@@ -54,22 +55,11 @@ pub fn depart_all<T: Transport>(all: &mut Vec<Connection<T>>) -> bool
 
 /// Notes that a reading of the connection of this id may give something.
 pub fn mark_one<T: Transport>(all: &mut Vec<Connection<T>>, id: u64)
-    ensures same { IsSameAll all.old.items all.new.items }
+    ensures marks { MarkAll (λ one. one == id) all.old.items all.new.items }
     ensures len { vec_len all.new ≡ vec_len all.old }
     ensures capacity { vec_capacity all.new ≡ vec_capacity all.old }
 {
     for one in all.iter_mut() {
         one.mark_if(id);
-    }
-}
-
-/// Notes that a reading of each connection may give something.
-pub fn mark_all<T: Transport>(all: &mut Vec<Connection<T>>)
-    ensures same { IsSameAll all.old.items all.new.items }
-    ensures len { vec_len all.new ≡ vec_len all.old }
-    ensures capacity { vec_capacity all.new ≡ vec_capacity all.old }
-{
-    for one in all.iter_mut() {
-        one.mark();
     }
 }

@@ -23,6 +23,8 @@ impl Transport for InMemory {
 
     ghost coming = { λ _. None };
 
+    ghost made = { λ _. None };
+
     fn send(&mut self, octets: &[u8]) -> IoResult<usize> {
         let count = octets.len().min(self.room);
         if count == 0 {

@@ -1,5 +1,5 @@
 use Rattle.std.proofs.Common.{◌≡◌, ◌<◌, ◌+◌, ◌^◌, ◌∙◌, Bool, true, false, Err, refl, sym, subst, ap, arith}
-use Rattle.std.specs.Prelude.{Result, is_err}
+use Rattle.std.specs.Prelude.{Result, is_err, min, ◌≤◌, ◌-◌}
 use Rattle.dict_hub.specs.Runs.{IsAt}
 use Rattle.dict_driver.specs.Rounds.{Moves}
 use Rattle.dict_driver.proofs.LeadLemmas.{led_joined, led_none, led_still}
@@ -12,7 +12,7 @@ open_by_summary true result fault told tells is fine = sym (is ∙ ap is_err (te
 open_by_summary false result fault told tells is fine = refl
 
 pub loop-made-init : goal.loop-made-init
-loop-made-init g c = record { counted = λ few. omega arith; is_open = λ lt. absurd (omega (arith, lt)); trust = λ trusted. trusted; led = led_still (moves_same c.args.driver.now.connections c.args.driver.now.connections refl (λ id octets now. now)) }
+loop-made-init g c = record { grown = omega arith; counted = λ few. omega arith; is_open = λ lt. absurd (omega (arith, lt)); trust = λ trusted. trusted; led = led_still (moves_same c.args.driver.now.connections c.args.driver.now.connections refl (λ id octets now. now)) }
 
 pub returns-in_err-has_moved-clause-led : goal.returns-in_err-has_moved-clause-led
 returns-in_err-has_moved-clause-led g c =
@@ -36,12 +36,17 @@ returns-in_err-wait_if-clause-led g c =
 
 pub loop-made-preserved : goal.loop-made-preserved
 loop-made-preserved g c = record {
+  grown =
+      let before : c.args.driver.now.rounds ≤ c.loop-made.driver.rounds = c.loop-made.invariant.grown in
+      let one : c.loop-made.driver.rounds ≤ c.round.new.self.rounds = c.round.ensures.grown in
+      let kept : c.wait_if.new.driver.rounds ≡ c.round.new.self.rounds = c.wait_if.ensures.rounds in
+      omega (arith, before, one, kept);
   counted = λ few.
       let before : c.loop-made.driver.rounds ≡ c.args.driver.now.rounds + c.loop-made.made = c.loop-made.invariant.counted few in
       let room : c.loop-made.driver.rounds + 1 < 2 ^ 64 = omega (arith, few, before) in
-      let one : c.round.new.self.rounds ≡ c.loop-made.driver.rounds + 1 = c.in_ok-has_moved.ensures.rounds room in
+      let one : c.round.new.self.rounds ≡ min (c.loop-made.driver.rounds + 1) (2 ^ 64 - 1) = c.in_ok-has_moved.ensures.rounds in
       let kept : c.wait_if.new.driver.rounds ≡ c.round.new.self.rounds = c.wait_if.ensures.rounds in
-      omega (arith, before, one, kept);
+      omega (arith, before, one, kept, room);
   is_open = λ lt. open_by_summary _ _ _ _ c.summary.ensures.closed c.is_err.ensures.value c.if-is_err.false;
   trust = λ trusted. c.loop-made.invariant.trust (c.round.ensures.trust trusted);
   led = led_joined

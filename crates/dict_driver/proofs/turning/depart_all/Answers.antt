@@ -1,26 +1,28 @@
-use Rattle.std.proofs.Common.{◌<◌, ◌≡◌, rules, length, get_or, arith, refl, length-set, ◌∙◌}
-use Rattle.dict_driver.proofs.ListLemmas.{default_free, taken_whole}
-use Rattle.dict_driver.proofs.RoundLemmas.{depart_all_none, depart_all_more}
+use Rattle.std.proofs.Common.{◌≡◌, ◌<◌, ◌≤◌, ap, arith, length, get_or, rules}
+use Rattle.dict_driver.specs.Turns.{Departs}
+use Rattle.dict_driver.proofs.ListLemmas.{change_none, change_more, change_whole, default_free, taken_whole}
 use Rattle.dict_driver.proofs.turning.depart_all.Goals as goal
 
 pub loop-one-init : goal.loop-one-init
-loop-one-init g c = rw c.deref_mut-one-items.ensures.value (record { len = refl; departs = depart_all_none c.args.all.now.items })
+loop-one-init g c =
+    rw c.deref_mut-one-items.ensures.value (change_none (Departs g.T.Transport.taken g.T.Transport.coming g.T.Transport.made) c.args.all.now.items)
 
 pub loop-one-preserved : goal.loop-one-preserved
 loop-one-preserved g c =
     let now = c.loop-one.one-items in
     let i = c.loop-one.one-index in
     let one = get_or now i c.one-item.result in
-    let len : length now ≡ length c.args.all.now.items = c.loop-one.invariant.len in
     let in_now : i < length now = search rules in
-    let within : i < length c.args.all.now.items = omega arith in
-    record {
-      len = length-set now i c.depart.new.self ∙ len;
-      departs = depart_all_more g.T.Transport.taken g.T.Transport.coming c.args.all.now.items now i one c.depart.new.self len within (default_free now i one c.one-item.result in_now)
-          c.depart.ensures.turns c.depart.ensures.closed c.loop-one.invariant.departs;
-    }
+    change_more (Departs g.T.Transport.taken g.T.Transport.coming g.T.Transport.made) c.args.all.now.items now i one c.depart.new.self in_now (default_free now i one c.one-item.result in_now)
+    c.depart.ensures c.loop-one.invariant
 
 pub returns-clause-departs : goal.returns-clause-departs
 returns-clause-departs g c =
     let whole : c.args.all.now.len ≡ length c.loop-one.one-items = search rules in
-    rw taken_whole c.loop-one.invariant.departs
+    let all : length c.deref_mut-one-items.result.now ≡ length c.args.all.now.items = ap length c.deref_mut-one-items.ensures.value in
+    let done : length c.args.all.now.items ≤ c.loop-one.one-index = omega (arith, all, c.loop-one-test.false) in
+    rw taken_whole
+    (record {
+      len = c.loop-one.invariant.len;
+      departs = change_whole (Departs g.T.Transport.taken g.T.Transport.coming g.T.Transport.made) c.args.all.now.items c.loop-one.one-items c.loop-one.one-index done c.loop-one.invariant;
+    })

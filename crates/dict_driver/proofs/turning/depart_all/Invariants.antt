@@ -1,9 +1,6 @@
-use Rattle.std.proofs.Common.{◌≡◌, length}
-use Rattle.dict_driver.specs.Turning.{DepartAll}
+use Rattle.dict_driver.specs.Turns.{Departs}
+use Rattle.dict_driver.proofs.ListLemmas.{ChangeUpTo}
 use Rattle.dict_driver.proofs.turning.depart_all.Given as goal
 
 abbrev pub invariant-loop-one : goal.invariant-loop-one
-invariant-loop-one g l = record {
-  len : length l.one-items ≡ length l.fn.all.items;
-  departs : DepartAll l.fn.all.items l.one-items;
-}
+invariant-loop-one g l = ChangeUpTo (Departs g.T.Transport.taken g.T.Transport.coming g.T.Transport.made) l.fn.all.items l.one-items l.one-index

@@ -1,13 +1,13 @@
-use Rattle.std.proofs.Common.{[]}
-use Rattle.dict_driver.proofs.TurnLemmas.{turns_joined}
+use Rattle.std.proofs.Common.{◌∙◌, sym}
+use Rattle.dict_driver.proofs.TurnLemmas.{departs_failed, departs_whole, failed_is, well_isnt}
 use Rattle.dict_driver.proofs.connection.Connection.depart.Goals as goal
 
-pub returns-then-has_finished-clause-turns : goal.returns-then-has_finished-clause-turns
-returns-then-has_finished-clause-turns g c =
-    turns_joined g.T.Transport.taken g.T.Transport.coming _ c.finish-has_finished.new.self _ [] []
-    (turns_joined g.T.Transport.taken g.T.Transport.coming _ c.send-sent.new.self _ [] [] c.send-sent.ensures.turns c.finish-has_finished.ensures.turns) c.drop_received-has_dropped.ensures.turns
+pub returns-then-has_failed : goal.returns-then-has_failed
+returns-then-has_failed g c =
+    departs_failed g.T.Transport.taken g.T.Transport.coming g.T.Transport.made c.args.self.now c.send-sent.new.self c.send-sent.result
+    (failed_is c.send-sent.result (sym c.has_failed.ensures ∙ c.if-has_failed.true)) c.send-sent.ensures
 
-pub returns-else-has_finished-clause-turns : goal.returns-else-has_finished-clause-turns
-returns-else-has_finished-clause-turns g c =
-    turns_joined g.T.Transport.taken g.T.Transport.coming _ c.finish-has_finished.new.self _ [] []
-    (turns_joined g.T.Transport.taken g.T.Transport.coming _ c.send-sent.new.self _ [] [] c.send-sent.ensures.turns c.finish-has_finished.ensures.turns) c.drop_received-has_dropped.ensures.turns
+pub returns : goal.returns
+returns g c =
+    departs_whole g.T.Transport.taken g.T.Transport.coming g.T.Transport.made c.args.self.now c.send-sent.new.self c.finish-has_finished.new.self c.drop_received-has_dropped.new.self c.send-sent.result
+    (well_isnt c.send-sent.result (sym c.has_failed.ensures ∙ c.if-has_failed.false)) c.send-sent.ensures c.finish-has_finished.ensures c.drop_received-has_dropped.ensures

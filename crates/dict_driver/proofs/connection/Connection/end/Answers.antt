@@ -1,8 +1,7 @@
 use Rattle.std.proofs.Common.{refl}
-use Rattle.dict_hub.specs.Events.Happening.{ended}
 use Rattle.dict_driver.proofs.LeadLemmas.{led_as}
-use Rattle.dict_driver.proofs.TurnLemmas.{hands_told}
+use Rattle.dict_driver.proofs.TurnLemmas.{hands_ended}
 use Rattle.dict_driver.proofs.connection.Connection.end.Goals as goal
 
 pub returns-clause-led : goal.returns-clause-led
-returns-clause-led g c = led_as c.tell.ensures.led (λ events told. hands_told _ _ (ended c.args.self.now.id) _ events refl refl refl tt (λ still. cc) told)
+returns-clause-led g c = led_as c.tell.ensures.led (λ events told. hands_ended c.args.self.now _ c.tell.result events refl refl refl refl told)

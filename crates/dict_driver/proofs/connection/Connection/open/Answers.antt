@@ -1,15 +1,19 @@
-use Rattle.std.proofs.Common.{ap, ◌∙◌, ◌++◌, []}
-use Rattle.std.specs.Prelude.{is_some}
+use Rattle.std.proofs.Common.{ap, sym, subst, ◌∙◌, ◌++◌}
+use Rattle.dict_driver.specs.Events.{ArePut}
+use Rattle.dict_driver.specs.Stages.{stage_of_new}
 use Rattle.dict_driver.proofs.LeadLemmas.{led_as}
-use Rattle.dict_driver.proofs.OrderLemmas.{only_opening}
 use Rattle.dict_driver.proofs.connection.Connection.open.Goals as goal
 
 pub returns-in-Some-clause-led : goal.returns-in-Some-clause-led
 returns-in-Some-clause-led g c =
-    led_as c.tell.ensures.led (λ events told. (
-      (told.own, record { sent = []; put = told.put; are_put = told.are_put; order = told.order ∙ ap (λ l. l ++ told.put) c.new-queue.ensures.waits }),
-      only_opening c.args.id c.args.kind events told.only,
+    led_as c.tell.ensures.led (λ events told.
+    let answered = rw c.in-Some.is at told.answered in (
+      answered.0,
+      answered.1,
+      answered.2,
+      c.stage_of_new.ensures ∙ ap stage_of_new (sym answered.3),
+      subst (λ l. ArePut events l) (sym (told.order ∙ ap (λ l. l ++ told.put) c.new-queue.ensures.waits)) told.are_put,
     ))
 
 pub returns-in-None-clause-led : goal.returns-in-None-clause-led
-returns-in-None-clause-led g c = led_as c.tell.ensures.led (λ events told. (told.none (ap is_some c.in-None.is), only_opening c.args.id c.args.kind events told.only))
+returns-in-None-clause-led g c = led_as c.tell.ensures.led (λ events told. rw c.in-None.is at told.answered)

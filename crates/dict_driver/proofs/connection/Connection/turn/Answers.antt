@@ -1,17 +1,19 @@
-use Rattle.std.proofs.Common.{[]}
+use Rattle.std.proofs.Common.{◌∙◌, sym}
 use Rattle.dict_driver.proofs.LeadLemmas.{led_as}
-use Rattle.dict_driver.proofs.TurnLemmas.{turns_joined, turns_told}
+use Rattle.dict_driver.proofs.TurnLemmas.{failed_is, nothing_came, turns_failed, turns_read, well_isnt}
 use Rattle.dict_driver.proofs.connection.Connection.turn.Goals as goal
 
-pub returns-then-eq-clause-led : goal.returns-then-eq-clause-led
-returns-then-eq-clause-led g c =
+pub returns-then-has_failed-clause-led : goal.returns-then-has_failed-clause-led
+returns-then-has_failed-clause-led g c =
     led_as c.end.ensures.led
-    (λ events hands. turns_joined g.T.Transport.taken g.T.Transport.coming _ _ _ [] events c.send-sent.ensures.turns (turns_told g.T.Transport.taken g.T.Transport.coming _ _ events hands))
+    (λ events ended. turns_failed g.T.Transport.taken g.T.Transport.coming g.T.Transport.made c.args.self.now c.send-sent.new.self _ c.send-sent.result events
+    (failed_is c.send-sent.result (sym c.has_failed.ensures ∙ c.if-has_failed.true)) c.send-sent.ensures c.end.ensures.over ended)
 
-pub returns-then-has_read-clause-led : goal.returns-then-has_read-clause-led
-returns-then-has_read-clause-led g c =
-    led_as c.read-has_read.ensures.led (λ events turns. turns_joined g.T.Transport.taken g.T.Transport.coming _ _ _ [] events c.send-sent.ensures.turns turns)
+pub returns-clause-led : goal.returns-clause-led
+returns-clause-led g c =
+    led_as c.read-received.ensures.led
+    (λ events reads. turns_read g.T.Transport.taken g.T.Transport.coming g.T.Transport.made c.args.self.now c.send-sent.new.self _ c.send-sent.result c.read-received.result events
+    (well_isnt c.send-sent.result (sym c.has_failed.ensures ∙ c.if-has_failed.false)) c.send-sent.ensures reads)
 
-pub returns-else-has_read-clause-led : goal.returns-else-has_read-clause-led
-returns-else-has_read-clause-led g c =
-    led_as c.read-has_read.ensures.led (λ events turns. turns_joined g.T.Transport.taken g.T.Transport.coming _ _ _ [] events c.send-sent.ensures.turns turns)
+pub returns-clause-idle : goal.returns-clause-idle
+returns-clause-idle g c = λ still. c.read-received.ensures.idle (nothing_came c.send-sent.result c.read-received.result (sym c.has_moved.ensures ∙ still))

@@ -1,19 +1,20 @@
-use Rattle.std.proofs.Common.{◌≡◌, ◌<◌, ◌+◌, refl, sym, subst, arith}
-use Rattle.dict_driver.specs.Events.{AreOf}
+use Rattle.std.proofs.Common.{◌≡◌, ◌<◌, ◌+◌, refl, sym, ◌∙◌, subst, inl, inr, arith}
 use Rattle.dict_driver.specs.Rounds.{Moves}
+use Rattle.dict_driver.specs.Turns.{IsOpened}
+use Rattle.dict_driver.specs.Ordering.{IsOpeningOf}
 use Rattle.dict_driver.proofs.LeadLemmas.{led_as, led_still}
 use Rattle.dict_driver.proofs.ListLemmas.{apart_push, rising_push, given_push}
-use Rattle.dict_driver.proofs.RoundLemmas.{moves_same, moves_opened}
+use Rattle.dict_driver.proofs.RoundLemmas.{moves_same, moves_opened, opened_flows, opened_is, opened_own}
 use Rattle.dict_driver.proofs.connections.Connections.admit.Goals as goal
 
 pub returns-in_default-clause-led : goal.returns-in_default-clause-led
-returns-in_default-clause-led g c = led_still (moves_same c.args.self.now c.args.self.now refl (λ id octets now. now), tt)
+returns-in_default-clause-led g c = led_still (moves_same c.args.self.now c.args.self.now refl (λ id octets now. now), tt, inl (refl, refl, refl, refl))
 
 -- the new id is above all
 above : (g : _) (c : goal.After-push_reserved g) → c.args.self.now.last < c.in-Some-open.one.id
 above g c =
     let id : c.in-Some-open.one.id ≡ c.in-Some.id = c.in-Some-open.ensures.id in
-    let value : c.in-Some.id ≡ c.args.self.now.last + 1 = c.in-Some.ensures.value in
+    let value : c.in-Some.id ≡ c.args.self.now.last + 1 = c.in-Some.ensures.0 in
     omega arith
 
 pub invariant_of-self-clause-apart : goal.invariant_of-self-clause-apart
@@ -28,21 +29,28 @@ invariant_of-self-clause-rising g c =
 pub invariant_of-self-clause-given_open : goal.invariant_of-self-clause-given_open
 invariant_of-self-clause-given_open g c =
     let id : c.in-Some-open.one.id ≡ c.in-Some.id = c.in-Some-open.ensures.id in
-    let value : c.in-Some.id ≡ c.args.self.now.last + 1 = c.in-Some.ensures.value in
+    let value : c.in-Some.id ≡ c.args.self.now.last + 1 = c.in-Some.ensures.0 in
     rw c.push_reserved.ensures.items (given_push c.args.self.now.opened.items c.in-Some-open.one c.args.self.now.last c.in-Some.id c.args.self.now.given_open (omega arith) (omega arith))
 
 pub returns-in-Some-open-clause-led : goal.returns-in-Some-open-clause-led
 returns-in-Some-open-clause-led g c =
-    let id : c.in-Some-open.one.id ≡ c.in-Some.id = c.in-Some-open.ensures.id in
-    let value : c.in-Some.id ≡ c.args.self.now.last + 1 = c.in-Some.ensures.value in
-    let up : c.args.self.now.last < c.in-Some-open.one.id = omega arith in
+    let one = c.in-Some-open.one in
+    let id : one.id ≡ c.in-Some.id = c.in-Some-open.ensures.id in
+    let value : c.in-Some.id ≡ c.args.self.now.last + 1 = c.in-Some.ensures.0 in
+    let up : c.args.self.now.last < one.id = omega arith in
     led_as c.in-Some-open.ensures.led
-    (λ events opens. (
-      moves_opened c.args.self.now _ c.in-Some-open.one events c.push_reserved.ensures.items refl (sym id) up (subst (λ i. AreOf i events) (sym id) opens.0.0) opens.0.1,
-      opens.1,
+    (λ events opened. (
+      moves_opened c.args.self.now _ one events c.push_reserved.ensures.items refl (sym id) up (opened_own one.id c.args.kind one events (subst (λ i. IsOpened i c.args.kind one events) (sym id) opened))
+          (opened_flows c.in-Some.id c.args.kind one events opened),
+      opened_is c.in-Some.id c.args.kind one events opened,
+      inr (one, subst (λ i. IsOpened i c.args.kind one events) value opened, id ∙ value, c.in-Some-open.ensures.transport, c.in-Some-open.ensures.may_receive, c.push_reserved.ensures.items, refl, value),
     ))
 
 pub returns-in_default-open-clause-led : goal.returns-in_default-open-clause-led
 returns-in_default-open-clause-led g c =
     led_as c.in_default-open.ensures.led
-    (λ events none. (subst (λ es. Moves c.args.self.now c.args.self.now es) (sym none.0) (moves_same c.args.self.now c.args.self.now refl (λ id octets now. now)), none.1))
+    (λ events none. (
+      subst (λ es. Moves c.args.self.now c.args.self.now es) (sym none) (moves_same c.args.self.now c.args.self.now refl (λ id octets now. now)),
+      subst (λ es. IsOpeningOf c.args.kind es) (sym none) tt,
+      inl (none, refl, refl, refl),
+    ))

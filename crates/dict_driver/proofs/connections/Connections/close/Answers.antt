@@ -1,7 +1,8 @@
-use Rattle.std.proofs.Common.{◌<◌, ◌≤◌, ℕ, List, rules, length, sym, ap, ◌∙◌, subst, inl, inr}
-use Rattle.dict_driver.specs.Stages.{is_open}
-use Rattle.dict_driver.specs.Rounds.{WaitsAmong}
-use Rattle.dict_driver.proofs.ListLemmas.{at_among, among_remove, apart_remove}
+use Rattle.std.proofs.Common.{◌≡◌, ◌<◌, ◌≤◌, true, false, rules, length, get_or, sym, ap, ◌∙◌, subst, append-nil}
+use Rattle.dict_driver.specs.Stages.{is_departing}
+use Rattle.dict_driver.specs.Rounds.{latest}
+use Rattle.dict_driver.proofs.ListLemmas.{apart_remove, default_free}
+use Rattle.dict_driver.proofs.SettleLemmas.{departing_closed, latest_few}
 use Rattle.dict_driver.proofs.connections.Connections.close.Goals as goal
 
 pub keep-requires : goal.keep-requires
@@ -10,32 +11,27 @@ keep-requires g c =
     let one = c.remove-one.result in
     let within : c.args.place < length opened = search rules in
     record {
-      closed = elim c.in-Closing.is [
-        | inl is ↦ ap is_open (sym c.stage.ensures ∙ is)
-        | inr other ↦ elim other [
-          | inl is ↦ ap is_open (sym c.stage.ensures ∙ is)
-          | inr is ↦ ap is_open (sym c.stage.ensures ∙ is)
-        ]
-      ];
+      closed = departing_closed one.stage (ap is_departing (sym c.stage.ensures) ∙ sym c.is_departing.ensures ∙ c.if-is_departing.true);
       given = subst (λ it. it.id ≤ c.args.self.now.last) (sym c.remove-one.ensures.value) (c.args.self.now.given_open c.args.place one within);
       apart = rw c.remove-one.ensures.items (apart_remove opened c.args.place one within (sym c.remove-one.ensures.value) c.args.self.now.rising);
     }
 
-pub returns-in-Closing-clause-waits : goal.returns-in-Closing-clause-waits
-returns-in-Closing-clause-waits g c = λ id octets now.
+pub returns-then-is_departing-clause-departing : goal.returns-then-is_departing-clause-departing
+returns-then-is_departing-clause-departing g c = λ d.
     let opened = c.args.self.now.opened.items in
     let one = c.remove-one.result in
     let within : c.args.place < length opened = search rules in
-    elim now [
-      | inl in_open ↦ inl (among_remove opened c.args.place id octets (subst (λ l. WaitsAmong l id octets) (ap (λ v. v.items) c.keep.ensures.opened ∙ c.remove-one.ensures.items) in_open))
-      | inr departing ↦ elim (c.keep.ensures.waits id octets departing) [
-        | inl were ↦ inr were
-        | inr here ↦ inl (subst (λ (i : ℕ). WaitsAmong opened i octets) here.0 (subst (λ (l : List ℕ). WaitsAmong opened one.id l) here.1 (at_among opened c.args.place one within (sym c.remove-one.ensures.value))))
-      ]
-    ]
+    let at : get_or opened c.args.place d ≡ one = default_free opened c.args.place d one within ∙ sym c.remove-one.ensures.value in
+    let is : is_departing one.stage ≡ true = ap is_departing (sym c.stage.ensures) ∙ sym c.is_departing.ensures ∙ c.if-is_departing.true in
+    rw (at, is) c.keep.ensures.departing
 
-pub returns-in-Open-clause-waits : goal.returns-in-Open-clause-waits
-returns-in-Open-clause-waits g c = λ id octets now. elim now [
-  | inl in_open ↦ inl (among_remove c.args.self.now.opened.items c.args.place id octets (subst (λ l. WaitsAmong l id octets) c.remove-one.ensures.items in_open))
-  | inr departing ↦ inr departing
-]
+pub returns-else-is_departing-clause-departing : goal.returns-else-is_departing-clause-departing
+returns-else-is_departing-clause-departing g c = λ d.
+    let opened = c.args.self.now.opened.items in
+    let departing = c.args.self.now.departing.items in
+    let one = c.remove-one.result in
+    let within : c.args.place < length opened = search rules in
+    let few : length departing ≤ 128 = search rules in
+    let at : get_or opened c.args.place d ≡ one = default_free opened c.args.place d one within ∙ sym c.remove-one.ensures.value in
+    let isnt : is_departing one.stage ≡ false = ap is_departing (sym c.stage.ensures) ∙ sym c.is_departing.ensures ∙ c.if-is_departing.false in
+    rw (at, isnt) (sym (ap (λ l. latest 128 l) (append-nil departing) ∙ latest_few 128 departing few))

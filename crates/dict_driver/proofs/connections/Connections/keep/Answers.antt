@@ -1,14 +1,6 @@
-use Rattle.std.proofs.Common.{[], ◌∷◌, subst, inl, inr}
-use Rattle.dict_driver.specs.Rounds.{WaitsAmong}
-use Rattle.dict_driver.proofs.ListLemmas.{among_append}
+use Rattle.std.proofs.Common.{◌∙◌, ◌++◌, ◌∷◌, [], ap}
+use Rattle.dict_driver.proofs.SettleLemmas.{latest_more}
 use Rattle.dict_driver.proofs.connections.Connections.keep.Goals as goal
 
-pub returns-clause-waits : goal.returns-clause-waits
-returns-clause-waits g c = λ id octets now.
-    elim (among_append c.make_room.new.self.departing.items (c.args.one ∷ []) id octets (subst (λ l. WaitsAmong l id octets) c.push_reserved.ensures.items now)) [
-      | inl were ↦ inl (c.make_room.ensures.waits id octets were)
-      | inr one ↦ elim one [
-        | inl here ↦ inr here
-        | inr never ↦ absurd never
-      ]
-    ]
+pub returns-clause-departing : goal.returns-clause-departing
+returns-clause-departing g c = c.push_reserved.ensures.items ∙ ap (λ l. l ++ c.args.one ∷ []) c.make_room.ensures.departing ∙ latest_more 127 c.args.self.now.departing.items c.args.one

@@ -1,10 +1,10 @@
-use Rattle.std.proofs.Common.{◌≡◌, ◌-◌, ℕ, List, vec_len}
-use Rattle.dict_driver.specs.Rounds.{Waits}
+use Rattle.std.proofs.Common.{◌≡◌, ◌-◌, vec_len}
+use Rattle.dict_driver.proofs.SettleLemmas.{AreParted}
 use Rattle.dict_driver.proofs.connections.Connections.settle.Given as goal
 
 abbrev pub invariant-loop-place : goal.invariant-loop-place
 invariant-loop-place g l = record {
-  waits : (id : ℕ) (octets : List ℕ) → Waits l.self id octets → Waits l.fn.self id octets;
+  parted : AreParted l.fn.self.opened.items l.self.opened.items l.fn.self.departing.items l.self.departing.items l.place;
   last : l.self.last ≡ l.fn.self.last;
 }
 

@@ -1,9 +1,0 @@
-use Rattle.std.proofs.Common.{rules, inl, inr}
-use Rattle.dict_driver.proofs.ListLemmas.{same_among}
-use Rattle.dict_driver.proofs.connections.Connections.mark_all.Goals as goal
-
-pub returns-clause-waits : goal.returns-clause-waits
-returns-clause-waits g c = λ other octets now. elim now [
-  | inl in_open ↦ inl (same_among c.args.self.now.opened.items c.mark_all.new.all.items other octets (search rules) c.mark_all.ensures.same in_open)
-  | inr in_departing ↦ inr (same_among c.args.self.now.departing.items c.mark_all-2.new.all.items other octets (search rules) c.mark_all-2.ensures.same in_departing)
-]
