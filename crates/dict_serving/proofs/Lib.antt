@@ -1,1 +1,2 @@
+pub mod DeedLemmas
 pub mod StretchLemmas

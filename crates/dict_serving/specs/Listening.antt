@@ -2,6 +2,7 @@
 use Rattle.std.specs.Prelude.{◌≡◌, ◌≢◌, ◌⊎◌, ℕ, List, ◌++◌, Result, Ok, Err, codes}
 use Rattle.std.specs.IoError.{error_kind}
 use Rattle.std.specs.declared.io.Error.{Error}
+use Rattle.std.specs.declared.io.ErrorKind.{ErrorKind}
 use Rattle.std.specs.declared.io.ErrorKind.TheVariants.{OutOfMemory}
 use Rattle.std.specs.declared.net.socket_addr.SocketAddr.{SocketAddr}
 use Rattle.std.specs.Net.Text.{socket_text}
@@ -18,10 +19,14 @@ use Rattle.dict_printed.specs.declared.fault.Fault.TheVariants as faults
 abbrev pub lines_of : SocketAddr → SocketAddr → List ℕ
 lines_of dict http = codes "dict " ++ (socket_text dict ++ (codes "\nhttp " ++ (socket_text http ++ codes "\n")))
 
--- what is told of the system's error where sockets can't be waited for: that memory ran out, where that is the error's kind, and else
--- that they can't be
+-- what is told of the kind of the system's error where sockets can't be waited for: that memory ran out, where it is that, and else that
+-- they can't be
+abbrev pub TellsKind : ErrorKind → Fault → Type 0
+TellsKind kind fault = (kind ≡ OutOfMemory → fault ≡ faults.Memory) × (kind ≢ OutOfMemory → fault ≡ faults.CannotWait)
+
+-- the same of the error
 abbrev pub TellsWaiting : Error → Fault → Type 0
-TellsWaiting why fault = (error_kind why ≡ OutOfMemory → fault ≡ faults.Memory) × (error_kind why ≢ OutOfMemory → fault ≡ faults.CannotWait)
+TellsWaiting why fault = TellsKind (error_kind why) fault
 
 -- no socket can be bound to this address
 abbrev pub IsUnbound : List ℕ → Fault → Type 0

@@ -1,6 +1,6 @@
 -- How serving goes: the stretches of rounds, one for each opening of the file.
-use Rattle.std.specs.Prelude.{◌≡◌, ◌⊎◌, ℕ, Bool, true, false, List, [], ◌∷◌, Option, Some, Contains, Result, Ok, Err, codes, ⊤}
-use Rattle.std.specs.declared.io.Error.{Error}
+use Rattle.std.specs.Prelude.{◌≡◌, ◌⊎◌, ◌+◌, ℕ, Bool, true, false, List, [], ◌∷◌, Option, Some, Contains, Result, Ok, Err, codes, ⊤}
+use Rattle.std.specs.declared.io.ErrorKind.{ErrorKind}
 use Rattle.dict_catalogue.specs.Steps.{Catalogue}
 use Rattle.dict_io.specs.Streams.{Change, PutsAll}
 use Rattle.dict_hub.specs.Runs.{IsAt, beginning}
@@ -9,17 +9,16 @@ use Rattle.dict_driver.specs.Rounds.{Moves}
 use Rattle.dict_driver.specs.Binding.{IsAddress, AreTold}
 use Rattle.dict_driver.specs.Serving.{rounds_of}
 use Rattle.dict_driver.specs.declared.driver.Driver.{Driver}
-use Rattle.dict_printed.specs.Writing.{IsUntouched}
 use Rattle.dict_printed.specs.declared.fault.Fault.{Fault}
 use Rattle.dict_printed.specs.declared.fault.Fault.TheVariants as faults
-use Rattle.dict_printed.specs.declared.fault.StoreFault.TheVariants as store_faults
 use Rattle.dict_serving.specs.Counting.{MakesAll}
-use Rattle.dict_serving.specs.Listening.{Begins, TellsWaiting, lines_of}
+use Rattle.dict_serving.specs.Listening.{TellsKind, lines_of}
 
--- one opening of the file: its desk as it was opened, and as it was left
+-- one opening of the file: its desk as it was opened, and as it was left, and how many rounds were made over it
 pub record Stretch (K : Type 0) : Type 0 where
   pub opened : K
   pub left : K
+  pub rounds : ℕ
 
 -- the faults of a file and of its catalogue: the file can't be read, or its catalogue can't be had, or memory ran out. No refusal is one
 abbrev pub IsOfFile : Fault → Type 0
@@ -37,10 +36,6 @@ IsOfFile faults.Memory = ⊤
 -- there is no desk of the file, for a reason that is given, and by a fault of a file
 abbrev pub IsNone : (Fault → Type 0) → Fault → Type 0
 IsNone Unopened fault = Unopened fault × IsOfFile fault
-
--- the file isn't opened again: there is no desk of it, or its store can't be trusted any more
-abbrev pub IsNotReopened : (Fault → Type 0) → Fault → Type 0
-IsNotReopened Unopened fault = IsNone Unopened fault ⊎ (fault ≡ faults.Store store_faults.Disk)
 
 -- a catalogue is shown, and a stop leaves that one alone
 abbrev pub KeepsAlone : {K : Type 0} → (K → Catalogue → Type 0) → (K → List (Option Catalogue) → Type 0) → K → Type 0
@@ -67,22 +62,35 @@ IsFirst desk (one ∷ others) = one.opened ≡ desk
 abbrev pub Follows : {K : Type 0} → (K → Catalogue → Type 0) → (K → List (Option Catalogue) → Type 0) → (K → Type 0) → K → K → Type 0
 Follows Shows LeavesOneOf IsTrusted old new = IsTrusted new → (ms : List (Option Catalogue)) → LeavesOneOf old ms → ∥ ((M : Catalogue) × Contains ms (Some M) × Shows new M) ∥₁
 
--- all rounds were made, or sockets couldn't be waited for, or the file couldn't be opened again
-abbrev pub Ends : {A : Type 0} → (Fault → Type 0) → Result A Fault → Type 0
-Ends Unopened (Ok _) = ⊤
-Ends Unopened (Err fault) = ((why : Error) × TellsWaiting why fault) ⊎ IsNotReopened Unopened fault
+-- the driver couldn't wait for its sockets
+abbrev pub CannotWait : Driver → Fault → Type 0
+CannotWait driver fault = (kind : ErrorKind) × (driver.failure ≡ Some kind) × TellsKind kind fault
+
+-- the last of these stretches, and there is one, ended since the store of its desk had failed, and the fault tells why the file isn't
+-- opened again after that desk
+abbrev pub HasGivenOut : {K : Type 0} → (K → Bool) → (K → Fault → Type 0) → List (Stretch K) → Fault → Type 0
+HasGivenOut is_closed Unreopened [] fault = ⊥
+HasGivenOut is_closed Unreopened (one ∷ []) fault = (is_closed one.left ≡ true) × IsNone (Unreopened one.left) fault
+HasGivenOut is_closed Unreopened (one ∷ other ∷ others) fault = HasGivenOut is_closed Unreopened (other ∷ others) fault
+
+-- all rounds were made; or the driver couldn't wait for its sockets; or the store of the last desk had failed, and the file isn't opened
+-- again
+abbrev pub Ends : {K A : Type 0} → (K → Bool) → (K → Fault → Type 0) → List (Stretch K) → Driver → Result A Fault → Type 0
+Ends is_closed Unreopened stretches driver (Ok _) = ⊤
+Ends is_closed Unreopened stretches driver (Err fault) = CannotWait driver fault ⊎ HasGivenOut is_closed Unreopened stretches fault
 
 -- By what a desk shows, what a stop may leave of it, that what it stands on has returned what was written, that it was opened, and
 -- whether its store has failed.
 module _ {K : Type 0} (Shows : K → Catalogue → Type 0) (LeavesOneOf : K → List (Option Catalogue) → Type 0) (IsTrusted : K → Type 0) (IsOpened : K → Type 0)
     (is_closed : K → Bool) where
   -- Over the desk of one opening events led the hub from where it was to where it is, and what waits for each connection is what
-  -- waited and what its own events put, without a front that was sent
+  -- waited and what its own events put, without a front that was sent. So many rounds were made more than before
   pub record IsOver (one : Stretch K) (old new : Driver) : Type 0 where
     pub opened : IsNew Shows LeavesOneOf IsTrusted IsOpened one.opened
     pub led : HasLedOn (IsTrusted one.left) (Shows one.opened) (LeavesOneOf one.opened) (Shows one.left) (LeavesOneOf one.left) old.hub new.hub
         (λ events. Moves old.connections new.connections events)
     pub trust : IsTrusted one.left → IsTrusted one.opened
+    pub made : new.rounds ≡ old.rounds + one.rounds
 
   -- where others follow a stretch, its store had failed, and the desk of the next shows one of the catalogues that a stop could have left of its desk
   abbrev pub GaveWay : Stretch K → List (Stretch K) → Type 0
@@ -96,8 +104,9 @@ module _ {K : Type 0} (Shows : K → Catalogue → Type 0) (LeavesOneOf : K → 
   AreServed (one ∷ others) old new = (between : Driver) × IsOver one old between × GaveWay one others × AreServed others between new
 
   -- Both texts are addresses, and those that were bound for them were told. Stretches, the first over this desk, led from a hub with no
-  -- connection, of the host `localhost`, whose first id is to be 1; and as many rounds as were asked for were made, or at a fault no more
-  pub record HasServed (desk : K) (dict http : List ℕ) (rounds : Option ℕ) (result : Result (Unit {0}) Fault) (Unopened : Fault → Type 0) (writer : Change) : Type 0 where
+  -- connection, of the host `localhost`, whose first id is to be 1, and from no round; and as many rounds as were asked for were made by
+  -- them, or at a fault no more
+  pub record HasServed (desk : K) (dict http : List ℕ) (rounds : Option ℕ) (result : Result (Unit {0}) Fault) (Unreopened : K → Fault → Type 0) (writer : Change) : Type 0 where
     pub first : Driver
     pub last : Driver
     pub readers : IsAddress dict
@@ -106,15 +115,9 @@ module _ {K : Type 0} (Shows : K → Catalogue → Type 0) (LeavesOneOf : K → 
     pub told : PutsAll writer.old writer.new (lines_of first.addresses.0 first.addresses.1)
     pub begins : IsAt first.hub (beginning (codes "localhost"))
     pub no_id : first.connections.last ≡ 0
+    pub no_round : first.rounds ≡ 0
     pub stretches : List (Stretch K)
     pub over : IsFirst desk stretches
     pub served : AreServed stretches first last
     pub made : MakesAll (rounds_of rounds) result last.rounds
-    pub ends : Ends Unopened result
-
-  -- There is no desk of the file; or there is, and no sockets were bound to both addresses, or they couldn't be told; or it was served
-  abbrev pub ServeEnds : (List ℕ → Fault → Type 0) → List ℕ → List ℕ → List ℕ → Option ℕ → Result (Unit {0}) Fault → Change → Type 0
-  ServeEnds IsUnopened path dict http rounds result writer =
-      ((fault : Fault) × (result ≡ Err fault) × IsNone (IsUnopened path) fault × IsUntouched writer)
-      ⊎ ((desk : K) × IsNew Shows LeavesOneOf IsTrusted IsOpened desk × (((fault : Fault) × (result ≡ Err fault) × Begins dict http (Err fault) writer)
-      ⊎ HasServed desk dict http rounds result (IsUnopened path) writer))
+    pub ends : Ends is_closed Unreopened stretches last result

@@ -1,15 +1,17 @@
-// What opens the desk of a catalogue.
-ghost use Rattle.std.specs.Prelude.{◌≡◌, ℕ, List, IfOk, MatchResult};
+// What opens the desks of the catalogues in files.
+ghost use Rattle.std.specs.Prelude.{◌≡◌, ◌∷◌, [], ℕ, List, Option, false, IfOk, MatchResult};
+ghost use Rattle.dict_catalogue.specs.Steps.{Catalogue};
 ghost use Rattle.dict_printed.specs.declared.fault.Fault.{Fault as PrintedFault};
-ghost use Rattle.dict_serving.specs.Serving.{Follows, IsNew, IsNone, IsNotReopened};
+ghost use Rattle.dict_serving.specs.Deeds.{Closes, Deed, Does, IsShut, Opens, Reopens, got};
+ghost use Rattle.dict_serving.specs.Serving.{Follows, IsNew, IsNone};
 
 use dict_desk::Keeper;
 use dict_printed::Fault;
 
-/// Opens the desk of the catalogue in one file, and opens it again where its store failed.
-pub trait Desks<'w, K: Keeper> {
-    /// The path of the file.
-    ghost path: { Self → List ℕ };
+/// Opens the desks of the catalogues in files, by their paths, opens a file again where its store failed, and closes them.
+pub trait Desks<K: Keeper> {
+    /// What was done to files so far, in order, where it is known.
+    ghost history: { Self → Option (List (Deed K)) };
 
     /// The desk is one over the catalogue in the database that a file was opened as, before its first call.
     ghost is_opened: { K → Type 0 };
@@ -17,20 +19,35 @@ pub trait Desks<'w, K: Keeper> {
     /// The fault tells why there is no desk of the file with this path.
     ghost is_unopened: { List ℕ → PrintedFault → Type 0 };
 
-    /// Opens the file, and the desk of its catalogue, which shows a catalogue, and of which a stop leaves that one alone. A
-    /// fault is one of the file or of its catalogue, and no refusal.
-    fn open(&mut self) -> Result<K, Fault<'w>>
-        ensures opened { MatchResult result (IsNew K.shows K.leaves_one_of K.is_trusted is_opened) (IsNone (is_unopened (path self.old))) }
-        ensures path { path self.new ≡ path self.old };
+    /// The fault tells why the file with this path isn't opened again after this desk, whose store had failed, and what a stop leaves.
+    ghost is_unreopened: { List ℕ → K → PrintedFault → Type 0 };
 
-    /// Closes a desk whose store failed, and opens the same file again. The new desk shows one of the catalogues that a stop could
-    /// have left of the other. A fault is as that of an opening, or `Store(Disk)` where the store can't be trusted any more.
-    fn reopen(&mut self, desk: K) -> Result<K, Fault<'w>>
-        ensures opened { MatchResult result (IsNew K.shows K.leaves_one_of K.is_trusted is_opened) (IsNotReopened (is_unopened (path self.old))) }
+    /// The file that was closed last has returned what was written to it.
+    ghost is_safe: { Self → Type 0 };
+
+    /// The file that was closed last holds this catalogue alone, without its log, and after a stop too.
+    ghost holds_alone: { Self → Catalogue → Type 0 };
+
+    /// Whatever a stop now leaves of the file that was closed last, and of its log, is one of these.
+    ghost still_leaves: { Self → List (Option Catalogue) → Type 0 };
+
+    /// Opens the file with this path, and the desk of its catalogue, which shows a catalogue, and of which a stop leaves that one
+    /// alone. A fault is one of the file or of its catalogue, and no refusal.
+    fn open<'w>(&mut self, path: &'w str) -> Result<K, Fault<'w>>
+        ensures opened { MatchResult result (IsNew K.shows K.leaves_one_of K.is_trusted is_opened) (IsNone (is_unopened path.entry.now)) }
+        ensures answers { IfOk result (λ desk. K.is_closed desk ≡ false) }
+        ensures history { Does (history self.old) (history self.new) (Opens path.entry.now (got result) ∷ []) };
+
+    /// Closes a desk whose store failed, and opens the same file again, which has this path. The new desk shows one of the catalogues
+    /// that a stop could have left of the other. A fault is one of the file or of its catalogue, and no refusal.
+    fn reopen<'w>(&mut self, path: &'w str, desk: K) -> Result<K, Fault<'w>>
+        ensures opened { MatchResult result (IsNew K.shows K.leaves_one_of K.is_trusted is_opened) (IsNone (is_unreopened path.entry.now desk)) }
         ensures follows { IfOk result (Follows K.shows K.leaves_one_of K.is_trusted desk) }
-        ensures path { path self.new ≡ path self.old };
+        ensures history { Does (history self.old) (history self.new) (Reopens path.entry.now desk (got result) ∷ []) };
 
-    /// Closes a desk and its file.
-    fn close(&mut self, desk: K)
-        ensures path { path self.new ≡ path self.old };
+    /// Closes a desk and its file, which then holds the catalogue alone, without its log. At a fault, `Memory` or `Store(Disk)`, it
+    /// holds it with its log.
+    fn close(&mut self, desk: K) -> Result<(), Fault<'static>>
+        ensures shut { IsShut K.shows K.leaves_one_of K.is_trusted is_safe holds_alone still_leaves desk result self.new }
+        ensures history { Does (history self.old) (history self.new) (Closes desk ∷ []) };
 }

@@ -1,8 +1,10 @@
 // Rounds over the desk of a file, which is opened again where its store failed.
-ghost use Rattle.std.specs.Prelude.{◌≡◌, ◌<◌, true, IfOk, List};
+ghost use Rattle.std.specs.Prelude.{◌≡◌, ◌<◌, ◌-◌, true, IfOk, MatchResult, Option, Some, None, List, [], ◌∷◌};
 ghost use Rattle.dict_io.specs.Streams.{change};
 ghost use Rattle.dict_serving.specs.Counting.{AreMade, AreMadeTo};
-ghost use Rattle.dict_serving.specs.Serving.{AreServed, Ends, Follows, IsFirst, IsNew, IsOpen, IsOver, ServeEnds, Stretch};
+ghost use Rattle.dict_serving.specs.Serving.{AreServed, Ends, Follows, IsFirst, IsNew, IsOpen, IsOver, Stretch};
+ghost use Rattle.dict_serving.specs.Deeds.{got};
+ghost use Rattle.dict_serving.specs.Done.{HasDone, HasReopened, HasTurned, ServeEnds};
 
 use crate::desks::Desks;
 use crate::listening::{ServerOptions, listen, waiting_fault};
@@ -21,36 +23,37 @@ use std::time::Duration;
 ///
 /// The faults come in this order: of the file and its catalogue, of the address for readers, of that for editors, of the
 /// writer, of waiting for sockets or of opening the file again.
-pub fn serve_catalogue<'w, K: Keeper + Drop, D: Desks<'w, K>, W: Sink>(
+pub fn serve_catalogue<'w, K: Keeper + Drop, D: Desks<K>, W: Sink>(
     net: &impl Net,
     alloc: Global,
     desks: &mut D,
+    path: &'w str,
     wanted: &ServerOptions<'w>,
     writer: &mut W,
 ) -> Result<(), Fault<'w>>
-    ensures ends { ServeEnds K.shows K.leaves_one_of K.is_trusted D.is_opened K.is_closed D.is_unopened (D.path desks.old) wanted.now.dict.now wanted.now.http.now wanted.now.rounds result
+    ensures { ServeEnds K.shows K.leaves_one_of K.is_trusted D.is_opened K.is_closed D.is_unopened D.is_unreopened (D.history desks.old) (D.history desks.new) path.entry.now wanted.now.dict.now wanted.now.http.now wanted.now.rounds result
         (change W.stream writer.old writer.new) }
-    ensures path { D.path desks.new ≡ D.path desks.old }
 {
-    let desk = desks.open()?;
+    let desk = desks.open(path)?;
     let mut driver = match listen(net, alloc, wanted, writer) {
         Ok(driver) => driver,
         Err(fault) => {
-            desks.close(desk);
+            let _ = desks.close(desk);
             return Err(fault);
         }
     };
     let (rounds, wait) = pace(wanted.rounds);
-    let desk = serve_rounds(desks, &mut driver, desk, rounds, wait)?;
-    desks.close(desk);
+    let desk = serve_rounds(desks, path, &mut driver, desk, rounds, wait)?;
+    let _ = desks.close(desk);
     Ok(())
 }
 
 /// So many rounds over a desk that was opened, and over those that are opened after it: where its store failed, it is
 /// closed, and the rounds that are left are made over the next. The desk that is open in the end is handed back; at a fault
 /// none is.
-pub fn serve_rounds<'w, K: Keeper + Drop, D: Desks<'w, K>>(
+pub fn serve_rounds<'w, K: Keeper + Drop, D: Desks<K>>(
     desks: &mut D,
+    path: &'w str,
     driver: &mut Driver,
     desk: K,
     rounds: u64,
@@ -58,14 +61,14 @@ pub fn serve_rounds<'w, K: Keeper + Drop, D: Desks<'w, K>>(
 ) -> Result<K, Fault<'w>>
     requires { IsNew K.shows K.leaves_one_of K.is_trusted D.is_opened desk }
     ensures stands { IfOk result (IsOpen K.is_closed (IsNew K.shows K.leaves_one_of K.is_trusted D.is_opened)) }
-    ensures served { (stretches : List (Stretch K)) × AreServed K.shows K.leaves_one_of K.is_trusted D.is_opened K.is_closed stretches driver.old driver.new × IsFirst desk stretches }
-    ensures ends { Ends (D.is_unopened (D.path desks.old)) result }
+    ensures served { (stretches : List (Stretch K)) × AreServed K.shows K.leaves_one_of K.is_trusted D.is_opened K.is_closed stretches driver.old driver.new × IsFirst desk stretches
+        × Ends K.is_closed (D.is_unreopened path.entry.now) stretches driver.new result
+        × HasDone path.entry.now desk stretches (got result) (D.history desks.old) (D.history desks.new) }
     ensures made { AreMade rounds result driver.old.rounds driver.new.rounds }
-    ensures path { D.path desks.new ≡ D.path desks.old }
 {
     let mut pending = Pending { desk, left: rounds };
     while pending.left > 0 {
-        pending = serve_stretch(desks, driver, pending, wait)?;
+        pending = serve_stretch(desks, path, driver, pending, wait)?;
     }
     let Pending { desk, .. } = pending;
     Ok(desk)
@@ -79,22 +82,24 @@ struct Pending<K: Drop> {
 }
 
 // Makes rounds over one opening of the file, which is opened again where its store failed.
-fn serve_stretch<'w, K: Keeper + Drop, D: Desks<'w, K>>(
+fn serve_stretch<'w, K: Keeper + Drop, D: Desks<K>>(
     desks: &mut D,
+    path: &'w str,
     driver: &mut Driver,
     pending: Pending<K>,
     wait: Duration,
 ) -> Result<Pending<K>, Fault<'w>>
     requires opened { IsNew K.shows K.leaves_one_of K.is_trusted D.is_opened pending.desk }
     requires some { 0 < pending.left }
-    ensures served { (left : K) × IsOver K.shows K.leaves_one_of K.is_trusted D.is_opened K.is_closed (record { opened = pending.desk; left = left }) driver.old driver.new
-        × IfOk result (λ next. 0 < next.left → (K.is_closed left ≡ true) × Follows K.shows K.leaves_one_of K.is_trusted left next.desk) }
+    ensures served { (left : K) × IsOver K.shows K.leaves_one_of K.is_trusted D.is_opened K.is_closed
+        (record { opened = pending.desk; left = left; rounds = driver.new.rounds - driver.old.rounds }) driver.old driver.new
+        × Ends K.is_closed (D.is_unreopened path.entry.now) (record { opened = pending.desk; left = left; rounds = driver.new.rounds - driver.old.rounds } ∷ []) driver.new result
+        × IfOk result (λ next. 0 < next.left → (K.is_closed left ≡ true) × Follows K.shows K.leaves_one_of K.is_trusted left next.desk × HasReopened path.entry.now left next.desk (D.history desks.old) (D.history desks.new))
+        × MatchResult result (λ next. HasTurned path.entry.now left (Some next.desk) (D.history desks.old) (D.history desks.new)) (λ _. HasTurned path.entry.now left None (D.history desks.old) (D.history desks.new)) }
     ensures opened { IfOk result (λ next. 0 < next.left → IsNew K.shows K.leaves_one_of K.is_trusted D.is_opened next.desk) }
     ensures stands { IfOk result (λ next. IsOpen K.is_closed (IsNew K.shows K.leaves_one_of K.is_trusted D.is_opened) next.desk) }
     ensures fewer { IfOk result (λ next. next.left < pending.left) }
-    ensures ends { Ends (D.is_unopened (D.path desks.old)) result }
     ensures made { AreMadeTo pending.left (λ next. next.left) result driver.old.rounds driver.new.rounds }
-    ensures path { D.path desks.new ≡ D.path desks.old }
 {
     let Pending {
         mut desk,
@@ -103,11 +108,11 @@ fn serve_stretch<'w, K: Keeper + Drop, D: Desks<'w, K>>(
     match serve(driver, &mut desk, rounds, wait) {
         Ok(Served::Whole) => Ok(Pending { desk, left: 0 }),
         Ok(Served::Closed(left)) => {
-            let desk = desks.reopen(desk)?;
+            let desk = desks.reopen(path, desk)?;
             Ok(Pending { desk, left })
         }
         Err(error) => {
-            desks.close(desk);
+            let _ = desks.close(desk);
             Err(waiting_fault(&error))
         }
     }

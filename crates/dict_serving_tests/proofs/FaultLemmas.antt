@@ -1,6 +1,4 @@
 -- A fault of an opening is one of a file.
-use Rattle.std.proofs.Common.{inl, inr, subst, sym}
-use Rattle.sqlite.specs.Files.{over_files}
 use Rattle.sqlite_disk.specs.declared.Disk.{Ghosts}
 use Rattle.sqlite_store.specs.declared.store.FileStore.{FileStore}
 use Rattle.dict_desk.specs.declared.fault.Fault.{Fault}
@@ -9,9 +7,8 @@ use Rattle.dict_opening.specs.Reading.{IsOfOpening}
 use Rattle.dict_printed.specs.Faults.{told_of}
 use Rattle.dict_serving.specs.Serving.{IsOfFile}
 use Rattle.dict_store.specs.Desk.{DeskState}
-use Rattle.dict_store.specs.Reopened.{IsUnopenedFrom}
+use Rattle.dict_store.specs.Unopened.{IsUnrestarted}
 use Rattle.dict_store.specs.declared.reopening.Unopened.{Unopened}
-use Rattle.dict_store.specs.declared.reopening.Unopened.TheVariants as left
 
 pub opening_of_file : (why : Fault) → IsOfOpening why → IsOfFile (told_of why)
 opening_of_file (Refused refusal) h = h
@@ -23,8 +20,5 @@ opening_of_file Damaged h = tt
 opening_of_file NewerSchema h = tt
 
 -- and so is one of an opening after a stop
-pub restart_of_file : {D : Type 0} {d : Ghosts D} (desk : DeskState (FileStore D d)) (it : Unopened D d) (why : Fault) → IsUnopenedFrom over_files desk it why → IsOfFile (told_of why)
-restart_of_file desk (left.Files some) why (inl is) = subst (λ (f : Fault). IsOfFile (told_of f)) (sym is) tt
-restart_of_file desk (left.Files some) why (inr is) = subst (λ (f : Fault). IsOfFile (told_of f)) (sym is) tt
-restart_of_file desk (left.Spent files) why h = absurd h
-restart_of_file desk (left.Database conn) why h = opening_of_file why h.1
+pub restart_of_file : {D : Type 0} {d : Ghosts D} (desk : DeskState (FileStore D d)) (it : Unopened D d) (why : Fault) → IsUnrestarted desk it why → IsOfFile (told_of why)
+restart_of_file desk it why h = opening_of_file why h.kind

@@ -1,9 +1,9 @@
 //! A catalogue on two disks, of which one fails.
-ghost use Rattle.std.specs.Prelude.{⊤, [], IfOk, MatchResult};
+ghost use Rattle.std.specs.Prelude.{◌≡◌, ⊤, false, IfOk, MatchResult};
 ghost use Rattle.sqlite.specs.State.{HasCleanDisk};
 ghost use Rattle.sqlite.specs.Files.{file_state, over_files};
 ghost use Rattle.sqlite.specs.Held.{state};
-ghost use Rattle.dict_store.specs.Desk.{Shows, LeavesOneOf};
+ghost use Rattle.dict_store.specs.Desk.{Shows, LeavesOneOf, is_closed};
 ghost use Rattle.dict_serving.specs.Serving.{Follows, IsNew, IsNone};
 
 use dict_printed::{Fault, StoreFault};
@@ -41,7 +41,8 @@ fn made<S: Alter + Drop>(alloc: Global, conn: Connection<S>) -> Option<Desk<S>> 
 
 // The desk of the catalogue in the database of another.
 fn adopt<S: Alter + Drop>(alloc: Global, desk: Desk<S>) -> Result<Desk<S>, Fault<'static>>
-    ensures { MatchResult result
+    ensures answers { IfOk result (λ desk. is_closed desk.last ≡ false) }
+    ensures opened { MatchResult result
         (IsNew (Shows S.Store) (LeavesOneOf S.Store) (λ desk. HasCleanDisk (state S.Store desk.conn)) (λ _. ⊤))
         (IsNone (λ _. ⊤)) }
 {
@@ -86,14 +87,27 @@ impl<D: Crash + Drop> Disks<D> {
     }
 }
 
-impl<'w, D: Crash + Drop> Desks<'w, Desk<FileStore<D>>> for Disks<D> {
-    ghost path = { λ _. [] };
+impl<D: Crash + Drop> Desks<Desk<FileStore<D>>> for Disks<D> {
+    ghost use Rattle.std.specs.Prelude.{None, MatchOption, ⊤};
+    ghost use Rattle.sqlite.specs.State.{HasCleanDisk};
+    ghost use Rattle.sqlite.specs.Files.{file_state, over_files};
+    ghost use Rattle.dict_store.specs.Desk.{Shows, LeavesOneOf, is_closed};
+
+    ghost history = { λ _. None };
 
     ghost is_opened = { λ _. ⊤ };
 
     ghost is_unopened = { λ _ _. ⊤ };
 
-    fn open(&mut self) -> Result<Desk<FileStore<D>>, Fault<'w>> {
+    ghost is_unreopened = { λ _ _ _. ⊤ };
+
+    ghost is_safe = { λ one. MatchOption one.closed ⊤ (λ desk. HasCleanDisk (file_state desk.conn)) };
+
+    ghost holds_alone = { λ one M. MatchOption one.closed ⊥ (λ desk. Shows over_files desk M) };
+
+    ghost still_leaves = { λ one ms. MatchOption one.closed ⊥ (λ desk. LeavesOneOf over_files desk ms) };
+
+    fn open<'w>(&mut self, _path: &'w str) -> Result<Desk<FileStore<D>>, Fault<'w>> {
         match self.closed.take() {
             Some(desk) => adopt(self.alloc, desk),
             None => Err(Fault::Store(StoreFault::Closed)),
@@ -101,12 +115,18 @@ impl<'w, D: Crash + Drop> Desks<'w, Desk<FileStore<D>>> for Disks<D> {
     }
 
     /// What a stop leaves of the two disks is opened.
-    fn reopen(&mut self, desk: Desk<FileStore<D>>) -> Result<Desk<FileStore<D>>, Fault<'w>> {
+    fn reopen<'w>(
+        &mut self,
+        _path: &'w str,
+        desk: Desk<FileStore<D>>,
+    ) -> Result<Desk<FileStore<D>>, Fault<'w>> {
         self.reopened = self.reopened.saturating_add(1);
         restart(desk)
     }
 
-    fn close(&mut self, desk: Desk<FileStore<D>>) {
+    /// The desk is kept as it is.
+    fn close(&mut self, desk: Desk<FileStore<D>>) -> Result<(), Fault<'static>> {
         self.closed = Some(desk);
+        Ok(())
     }
 }

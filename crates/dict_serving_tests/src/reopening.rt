@@ -16,6 +16,9 @@ const FREE: &str = "127.0.0.1:0";
 
 const GREETING: &[u8] = b"220 localhost dictcat ready <1@localhost>\r\n";
 
+// The disks have no path.
+const PATH: &str = "";
+
 // An edition of one entry.
 const PUT: &[u8] =
     b"PUT /databases/a HTTP/1.1\r\nRequest-Id: r\r\nContent-Length: 53\r\n\r\n28\n00-database-short\tA\tU\nb\tU\tC\n00-database-short\nA\nc\n";
@@ -29,24 +32,26 @@ const INSTALLED: &[u8] =
 const FOUND: &[u8] = b"150 1 definitions retrieved\r\n151 \"b\" a \"A\"\r\nc\r\n.\r\n250 ok\r\n";
 
 // So many rounds over the desk that is opened, which is closed after them.
-fn serve<'w, K: Keeper + Drop, W: Desks<'w, K>>(
+fn serve<K: Keeper + Drop, W: Desks<K>>(
     desks: &mut W,
     driver: &mut Driver,
     rounds: u64,
 ) -> Result<(), Fail> {
-    let Ok(desk) = desks.open() else {
+    let Ok(desk) = desks.open(PATH) else {
         return Err("not opened")?;
     };
     let wait = Duration::from_millis(20);
-    match serve_rounds(desks, driver, desk, rounds, wait) {
-        Ok(desk) => desks.close(desk),
-        Err(_) => return Err("serving failed")?,
+    match serve_rounds(desks, PATH, driver, desk, rounds, wait) {
+        Ok(desk) => {
+            let _ = desks.close(desk);
+            Ok(())
+        }
+        Err(_) => Err("serving failed")?,
     }
-    Ok(())
 }
 
 // An editor's install meets the failure, in the middle of a line of the reader.
-fn fail_an_install<'w, K: Keeper + Drop, W: Desks<'w, K>>(
+fn fail_an_install<K: Keeper + Drop, W: Desks<K>>(
     desks: &mut W,
     driver: &mut Driver,
     reader: &mut Client,
@@ -60,7 +65,7 @@ fn fail_an_install<'w, K: Keeper + Drop, W: Desks<'w, K>>(
 }
 
 // The install that is sent again is done. The reader is told that nothing was installed before, and then finds the entry.
-fn install_again<'w, K: Keeper + Drop, W: Desks<'w, K>>(
+fn install_again<K: Keeper + Drop, W: Desks<K>>(
     desks: &mut W,
     driver: &mut Driver,
     reader: &mut Client,
@@ -76,7 +81,7 @@ fn install_again<'w, K: Keeper + Drop, W: Desks<'w, K>>(
 }
 
 // What is done by an editor who connects now, beside a reader.
-fn by_an_editor<'w, N: Net<Stream = TcpStream>, K: Keeper + Drop, W: Desks<'w, K>>(
+fn by_an_editor<N: Net<Stream = TcpStream>, K: Keeper + Drop, W: Desks<K>>(
     net: &N,
     alloc: Global,
     desks: &mut W,
@@ -94,7 +99,7 @@ fn by_an_editor<'w, N: Net<Stream = TcpStream>, K: Keeper + Drop, W: Desks<'w, K
 }
 
 // A reader's session is open, and goes on over the catalogue that is opened anew after the failure.
-fn go_on<'w, N: Net<Stream = TcpStream>, K: Keeper + Drop, W: Desks<'w, K>>(
+fn go_on<N: Net<Stream = TcpStream>, K: Keeper + Drop, W: Desks<K>>(
     net: &N,
     alloc: Global,
     desks: &mut W,
@@ -107,7 +112,7 @@ fn go_on<'w, N: Net<Stream = TcpStream>, K: Keeper + Drop, W: Desks<'w, K>>(
     by_an_editor(net, alloc, desks, driver, reader, true)
 }
 
-fn meet_a_failure<'w, N: Net<Stream = TcpStream>, K: Keeper + Drop, W: Desks<'w, K>>(
+fn meet_a_failure<N: Net<Stream = TcpStream>, K: Keeper + Drop, W: Desks<K>>(
     net: &N,
     alloc: Global,
     desks: &mut W,
@@ -119,7 +124,7 @@ fn meet_a_failure<'w, N: Net<Stream = TcpStream>, K: Keeper + Drop, W: Desks<'w,
 }
 
 // The same over a new server.
-fn meet_a_failure_anew<'w, K: Keeper + Drop, W: Desks<'w, K>>(
+fn meet_a_failure_anew<'w, K: Keeper + Drop, W: Desks<K>>(
     rt: &HostRuntime,
     alloc: Global,
     desks: &mut W,

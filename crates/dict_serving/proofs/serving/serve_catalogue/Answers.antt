@@ -1,12 +1,31 @@
-use Rattle.std.proofs.Common.{◌≡◌, ◌≤◌, inr, arith}
+use Rattle.std.proofs.Common.{◌≡◌, ◌≤◌, inl, inr, refl, arith}
+use Rattle.std.specs.Prelude.{None, Some}
 use Rattle.dict_driver.specs.Serving.{rounds_of}
 use Rattle.std.proofs.lemmas.Result.{err_from_is_err_and}
+use Rattle.dict_serving.proofs.DeedLemmas.{does_both, does_none, was_done}
 use Rattle.dict_serving.proofs.serving.serve_catalogue.Goals as goal
 
-pub returns-in_err-desk-2-clause-ends : goal.returns-in_err-desk-2-clause-ends
-returns-in_err-desk-2-clause-ends g c =
+pub returns-in_err-desk : goal.returns-in_err-desk
+returns-in_err-desk g c =
+    let error = err_from_is_err_and c.from_residual.result c.from_residual.ensures.1 in
+    inl (error.0, error.1, rw error.2 c.in_err-desk.ensures.opened, refl, c.in_err-desk.ensures.history)
+
+pub returns-in-Err : goal.returns-in-Err
+returns-in-Err g c = inr (
+  c.in_ok-desk.desk,
+  c.in_ok-desk.ensures.opened,
+  inl (
+    c.in-Err.fault,
+    refl,
+    c.in-Err.ensures.begins,
+    does_both (g.D.Desks.history c.args.desks.now) (g.D.Desks.history c.open.new.self) (g.D.Desks.history c.close.new.self) _ _ c.in_ok-desk.ensures.history c.close.ensures.history,
+  ),
+)
+
+pub returns-in_err-desk-2 : goal.returns-in_err-desk-2
+returns-in_err-desk-2 g c =
     let error = err_from_is_err_and c.from_residual-in_err-desk-2.result c.from_residual-in_err-desk-2.ensures.1 in
-    let ends = rw c.open.ensures.path at c.in_err-desk-2.ensures.ends in
+    let served = c.in_err-desk-2.ensures.served in
     let told = c.in-Ok.ensures.begins in
     let none : c.in-Ok.driver.rounds ≡ 0 = c.in-Ok.ensures.rounds in
     let asked : c.pace-rounds.result.0 ≡ rounds_of c.args.wanted.now.rounds = c.pace-rounds.ensures.count in
@@ -16,25 +35,31 @@ returns-in_err-desk-2-clause-ends g c =
     rw (error.1, error.2) (inr (
       c.in_ok-desk.desk,
       c.in_ok-desk.ensures.opened,
-      inr (record {
-        first = c.in-Ok.driver;
-        last = c.serve_rounds.new.driver;
-        readers = told.0.0;
-        editors = told.0.1;
-        bound = c.in-Ok.ensures.bound;
-        told = told.1;
-        begins = c.in-Ok.ensures.beginning;
-        no_id = c.in-Ok.ensures.last;
-        stretches = c.serve_rounds.ensures.served.0;
-        over = c.serve_rounds.ensures.served.2;
-        served = c.serve_rounds.ensures.served.1;
-        made = made;
-        ends = ends;
-      }),
+      inr (
+        record {
+          first = c.in-Ok.driver;
+          last = c.serve_rounds.new.driver;
+          readers = told.0.0;
+          editors = told.0.1;
+          bound = c.in-Ok.ensures.bound;
+          told = told.1;
+          begins = c.in-Ok.ensures.beginning;
+          no_id = c.in-Ok.ensures.last;
+          no_round = c.in-Ok.ensures.rounds;
+          stretches = served.0;
+          over = served.2;
+          served = served.1;
+          made = made;
+          ends = served.3;
+        },
+        was_done c.args.path.now c.in_ok-desk.desk served.0 None (g.D.Desks.history c.args.desks.now) (g.D.Desks.history c.open.new.self) (g.D.Desks.history c.serve_rounds.new.desks)
+            (g.D.Desks.history c.serve_rounds.new.desks) c.in_ok-desk.ensures.history served.4 (does_none _),
+      ),
     ))
 
-pub returns-clause-ends : goal.returns-clause-ends
-returns-clause-ends g c =
+pub returns : goal.returns
+returns g c =
+    let served = c.in_ok-desk-2.ensures.served in
     let told = c.in-Ok.ensures.begins in
     let none : c.in-Ok.driver.rounds ≡ 0 = c.in-Ok.ensures.rounds in
     let asked : c.pace-rounds.result.0 ≡ rounds_of c.args.wanted.now.rounds = c.pace-rounds.ensures.count in
@@ -44,19 +69,24 @@ returns-clause-ends g c =
     inr (
       c.in_ok-desk.desk,
       c.in_ok-desk.ensures.opened,
-      inr (record {
-        first = c.in-Ok.driver;
-        last = c.serve_rounds.new.driver;
-        readers = told.0.0;
-        editors = told.0.1;
-        bound = c.in-Ok.ensures.bound;
-        told = told.1;
-        begins = c.in-Ok.ensures.beginning;
-        no_id = c.in-Ok.ensures.last;
-        stretches = c.serve_rounds.ensures.served.0;
-        over = c.serve_rounds.ensures.served.2;
-        served = c.serve_rounds.ensures.served.1;
-        made = made;
-        ends = tt;
-      }),
+      inr (
+        record {
+          first = c.in-Ok.driver;
+          last = c.serve_rounds.new.driver;
+          readers = told.0.0;
+          editors = told.0.1;
+          bound = c.in-Ok.ensures.bound;
+          told = told.1;
+          begins = c.in-Ok.ensures.beginning;
+          no_id = c.in-Ok.ensures.last;
+          no_round = c.in-Ok.ensures.rounds;
+          stretches = served.0;
+          over = served.2;
+          served = served.1;
+          made = made;
+          ends = tt;
+        },
+        was_done c.args.path.now c.in_ok-desk.desk served.0 (Some c.in_ok-desk-2.desk) (g.D.Desks.history c.args.desks.now) (g.D.Desks.history c.open.new.self)
+            (g.D.Desks.history c.serve_rounds.new.desks) (g.D.Desks.history c.close-2.new.self) c.in_ok-desk.ensures.history served.4 c.close-2.ensures.history,
+      ),
     )

@@ -1,5 +1,6 @@
 use Rattle.std.proofs.Common.{◌≡◌, ◌<◌, ◌+◌, ◌^◌, List}
 use Rattle.dict_serving.specs.Serving.{AreServed, IsFirst, IsNew, IsOpen, Stretch}
+use Rattle.dict_serving.proofs.DeedLemmas.{GoneOn}
 use Rattle.dict_serving.proofs.StretchLemmas.{GoesOn}
 use Rattle.dict_serving.proofs.serving.serve_rounds.Given as goal
 
@@ -7,11 +8,11 @@ abbrev pub invariant-loop-pending : goal.invariant-loop-pending
 invariant-loop-pending g l = record {
   served : (stretches : List (Stretch _)) × AreServed g.K.Lookup.shows g.K.Lookup.leaves_one_of g.K.Lookup.is_trusted g.D.Desks.is_opened g.K.Lookup.is_closed stretches l.fn.driver l.driver
       × IsFirst l.fn.desk stretches
-      × (0 < l.pending.left → GoesOn g.K.Lookup.shows g.K.Lookup.leaves_one_of g.K.Lookup.is_trusted g.D.Desks.is_opened g.K.Lookup.is_closed l.fn.desk stretches l.pending.desk);
+      × (0 < l.pending.left → GoesOn g.K.Lookup.shows g.K.Lookup.leaves_one_of g.K.Lookup.is_trusted g.D.Desks.is_opened g.K.Lookup.is_closed l.fn.desk stretches l.pending.desk)
+      × GoneOn l.fn.path l.fn.desk stretches l.pending.desk l.pending.left (g.D.Desks.history l.fn.desks) (g.D.Desks.history l.desks);
   opened : 0 < l.pending.left → IsNew g.K.Lookup.shows g.K.Lookup.leaves_one_of g.K.Lookup.is_trusted g.D.Desks.is_opened l.pending.desk;
   stands : IsOpen g.K.Lookup.is_closed (IsNew g.K.Lookup.shows g.K.Lookup.leaves_one_of g.K.Lookup.is_trusted g.D.Desks.is_opened) l.pending.desk;
   made : l.fn.driver.rounds + l.fn.rounds < 2 ^ 64 → l.driver.rounds + l.pending.left ≡ l.fn.driver.rounds + l.fn.rounds;
-  path : g.D.Desks.path l.desks ≡ g.D.Desks.path l.fn.desks;
 }
 
 abbrev pub decreases-loop-pending : goal.decreases-loop-pending
