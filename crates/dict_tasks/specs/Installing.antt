@@ -1,6 +1,6 @@
 -- What comes of an install that the program is asked for: the id is looked up first, then the two files are read, and then
 -- the edition that they say is installed.
-use Rattle.std.specs.Prelude.{◌≡◌, ◌⊎◌, ℕ, List, Option, None, Some, Result, Err, ⊤}
+use Rattle.std.specs.Prelude.{◌≡◌, ◌⊎◌, ℕ, Bool, List, Option, None, Some, Result, Err, ⊤}
 use Rattle.dict_io.specs.Streams.{Change}
 use Rattle.dict_index.specs.Edition.{Edition}
 use Rattle.dict_index.specs.Meaning.{IsEdition, IsFault}
@@ -25,12 +25,12 @@ IsNoEdition index text (Err (faults.Edition refusal)) = IsFault index text refus
 IsNoEdition index text (Err faults.Memory) = ⊤
 IsNoEdition index text _ = ⊥
 
-module _ {D : Type 0} (Shows : D → Catalogue → Type 0) (LeavesOneOf : D → List (Option Catalogue) → Type 0) (IsTrusted : D → Type 0) where
+module _ {D : Type 0} (Shows : D → Catalogue → Type 0) (LeavesOneOf : D → List (Option Catalogue) → Type 0) (IsTrusted : D → Type 0) (is_closed : D → Bool) where
   -- a reply is kept under the id: it was told again
   pub record IsToldAgain (old new : D) (id : List ℕ) (result : Result (Unit {0}) Fault) (writer : Change) : Type 0 where
     pub reply : Kept
     pub kept : IsTrusted new → (catalogue : Catalogue) → Shows old catalogue → Some (kept_shown reply) ≡ kept_under catalogue.kept id
-    pub stays : Stays Shows LeavesOneOf IsTrusted old new
+    pub stays : Stays Shows LeavesOneOf IsTrusted is_closed old new
     pub line : Writes (kept_line (kept_shown reply)) result writer
 
   -- whether one is kept couldn't be told
@@ -38,13 +38,13 @@ module _ {D : Type 0} (Shows : D → Catalogue → Type 0) (LeavesOneOf : D → 
     pub fault : DeskFault
     pub kind : IsOfLookup fault
     pub told : result ≡ Err (told_of fault)
-    pub stays : Stays Shows LeavesOneOf IsTrusted old new
+    pub stays : Stays Shows LeavesOneOf IsTrusted is_closed old new
     pub untouched : IsUntouched writer
 
   -- none is kept under the id
   pub record HasNoReply (old new : D) (id : List ℕ) : Type 0 where
     pub none : IsTrusted new → (catalogue : Catalogue) → Shows old catalogue → None ≡ kept_under catalogue.kept id
-    pub stays : Stays Shows LeavesOneOf IsTrusted old new
+    pub stays : Stays Shows LeavesOneOf IsTrusted is_closed old new
 
   -- the index and the text are no edition, or theirs was installed
   abbrev pub InstallsRead : D → D → List ℕ → List ℕ → List ℕ → List ℕ → Result (Unit {0}) Fault → Change → Type 0

@@ -33,7 +33,7 @@ pub fn install<'w, K: Keeper, I: InputFiles, W: Sink>(
     files: &I,
     writer: &mut W,
 ) -> Result<(), Fault<'w>>
-    ensures { InstallEnds K.shows K.leaves_one_of K.is_trusted (I.octets files.now) desk.old desk.new wanted.entry.name.now id.now
+    ensures { InstallEnds K.shows K.leaves_one_of K.is_trusted K.is_closed (I.octets files.now) desk.old desk.new wanted.entry.name.now id.now
         wanted.entry.index.now wanted.entry.text.now result (change W.stream writer.old writer.new) }
 {
     match desk.kept(id) {
@@ -52,7 +52,7 @@ fn install_files<'w, K: Keeper, I: InputFiles, W: Sink>(
     files: &I,
     writer: &mut W,
 ) -> Result<(), Fault<'w>>
-    ensures { InstallsFiles K.shows K.leaves_one_of K.is_trusted (I.octets files.now) desk.old desk.new wanted.entry.name.now id.now
+    ensures { InstallsFiles K.shows K.leaves_one_of K.is_trusted K.is_closed (I.octets files.now) desk.old desk.new wanted.entry.name.now id.now
         wanted.entry.index.now wanted.entry.text.now result (change W.stream writer.old writer.new) }
 {
     let index = read_file(files, wanted.index)?;
@@ -70,7 +70,7 @@ fn install_octets<K: Keeper, W: Sink>(
     text: Vec<u8>,
     writer: &mut W,
 ) -> Result<(), Fault<'static>>
-    ensures { InstallsRead K.shows K.leaves_one_of K.is_trusted desk.old desk.new name.now id.now index.items text.items result
+    ensures { InstallsRead K.shows K.leaves_one_of K.is_trusted K.is_closed desk.old desk.new name.now id.now index.items text.items result
         (change W.stream writer.old writer.new) }
 {
     let edition = match read_edition(alloc, &index, &text) {

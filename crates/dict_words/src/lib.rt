@@ -6,6 +6,5 @@ mod line;
 mod reading;
 mod task;
 
-pub use line::command_line;
 pub use reading::read_words;
 pub use task::{Change, Task};

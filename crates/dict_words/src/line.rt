@@ -84,8 +84,8 @@ const INDEX: (&str, &str) = ("INDEX", "The database's index file");
 
 const DICT: (&str, &str) = ("DICT", "The database's text file");
 
-/// The command line that the program reads.
-pub fn command_line<'w>(alloc: Global) -> Result<Command<'w>, AllocError>
+// The command line that the program reads.
+pub(crate) fn command_line<'w>(alloc: Global) -> Result<Command<'w>, AllocError>
     ensures { IfOk result (Reads command_line) }
 {
     let line = Command::new(alloc, "dictcat")

@@ -1,9 +1,10 @@
 // What the tests read from and write to.
 ghost use Rattle.std.specs.Prelude.{None};
 
+use dict_desk::PlainDesk;
 use dict_io::{LimitedSink, OverRead};
 use dict_tasks::{InputFiles, ReadFault};
-use dictcat_lib::command;
+use dictcat_lib::{CatalogueFiles, command};
 use std::alloc::Global;
 use std::fs;
 use std::test::Fail;
@@ -70,7 +71,16 @@ pub(crate) fn outcome<I: InputFiles>(
     let mut reader = OverRead::new(input.as_bytes());
     let mut writer = LimitedSink::new(rt.alloc(), room)?;
     let mut faults = LimitedSink::new(rt.alloc(), 1000)?;
-    let status = command(rt, words, files, &mut reader, &mut writer, &mut faults);
+    let status = command(
+        rt,
+        words,
+        &mut CatalogueFiles::new(rt),
+        &mut PlainDesk::new(rt.alloc()),
+        files,
+        &mut reader,
+        &mut writer,
+        &mut faults,
+    );
     Ok((
         status,
         taken(rt.alloc(), &writer)?,

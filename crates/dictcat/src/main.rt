@@ -19,9 +19,10 @@ mod sessions;
 #[cfg(test)]
 mod usage;
 
+use dict_desk::PlainDesk;
 use dict_io::{OverRead, OverWrite};
 use dict_tasks::OverFiles;
-use dictcat_lib::{command, refuse_words};
+use dictcat_lib::{CatalogueFiles, command, refuse_words};
 use std::process::ExitCode;
 use std::rt::Env;
 use std::{env, io};
@@ -39,6 +40,8 @@ fn main(rt: HostRuntime) -> ExitCode {
         Ok(words) => command(
             &rt,
             words.as_slice(),
+            &mut CatalogueFiles::new(&rt),
+            &mut PlainDesk::new(rt.alloc()),
             &OverFiles::new(&rt),
             &mut reader,
             &mut writer,

@@ -1,6 +1,7 @@
 //! Sessions over databases that were read, cut in any way.
 use super::fixtures::{GEM_INDEX, GEM_TEXT, taken};
 use crate::checks::{holds, same, same_text};
+use dict_desk::PlainDesk;
 use dict_io::{LimitedSink, OverRead};
 use dictcat_lib::run_plain;
 use std::alloc::Global;
@@ -12,11 +13,18 @@ type Database = (&'static str, &'static [u8], &'static [u8]);
 
 const GEM: Database = ("gem", GEM_INDEX, GEM_TEXT);
 
-// One headword begins another; the longer ends with the last character of all, U+10FFFF.
+// One headword begins another; the longer ends with the last character of all, U+10FFFF, which is no letter.
 const EDGE: Database = (
     "edge",
     b"00-database-short\tA\tZ\na\tZ\tC\na\xf4\x8f\xbf\xbf\tZ\tC\nb\tZ\tC\n",
     b"00-database-short\n  Gems\nx\n",
+);
+
+// A headword in capitals, two of which are past ASCII.
+const ETE: Database = (
+    "ete",
+    b"00-database-short\tA\tZ\n\xc3\x89T\xc3\x89\tZ\tH\n",
+    b"00-database-short\n  Mots\nsaison\n",
 );
 
 // A headword of which folding leaves nothing.
@@ -79,7 +87,16 @@ fn session(
     let mut writer = LimitedSink::new(alloc, room)?;
     let index = Vec::from_slice(alloc, index)?;
     let text = Vec::from_slice(alloc, text)?;
-    let end = run_plain(alloc, name, index, text, &mut reader, &mut writer);
+    let mut desk = PlainDesk::new(alloc);
+    let end = run_plain(
+        alloc,
+        &mut desk,
+        name,
+        index,
+        text,
+        &mut reader,
+        &mut writer,
+    );
     let mut written = taken(alloc, &writer)?;
     if let Err(fault) = end {
         written.push_str(format!(in alloc; "!{fault}")?.as_str())?;
@@ -133,7 +150,7 @@ fn cut_anywhere(
     }
 }
 
-static ANSWERS: [(Database, &str, &str); 36] = [
+static ANSWERS: [(Database, &str, &str); 37] = [
     (GEM, "", ""),
     (GEM, "DEFINE gem opal", ""),
     (GEM, "DEFINE gem OPAL\r\n", OPAL),
@@ -186,9 +203,14 @@ static ANSWERS: [(Database, &str, &str); 36] = [
         "152 2 matches found\r\nedge \"a\"\r\nedge \"a\u{10FFFF}\"\r\n.\r\n250 ok\r\n",
     ),
     (
-        EDGE,
-        "MATCH edge suffix \u{10FFFF}\r\n",
-        "152 1 matches found\r\nedge \"a\u{10FFFF}\"\r\n.\r\n250 ok\r\n",
+        ETE,
+        "MATCH ete suffix é\r\n",
+        "152 1 matches found\r\nete \"ÉTÉ\"\r\n.\r\n250 ok\r\n",
+    ),
+    (
+        ETE,
+        "DEFINE ete été\r\n",
+        "150 1 definitions retrieved\r\n151 \"ÉTÉ\" ete \"Mots\"\r\nsaison\r\n.\r\n250 ok\r\n",
     ),
     (
         EDGE,

@@ -1,9 +1,9 @@
 //! Words that ask for help or the version, and words that aren't well.
 use super::fixtures::{ROOM, Row, differing, run, taken};
 use crate::checks::{holds, same_text};
+use clap::Command;
 use clap::error::ErrorKind;
 use dict_io::LimitedSink;
-use dict_words::command_line;
 use dictcat_lib::refuse_words;
 use std::io;
 use std::test::Fail;
@@ -180,10 +180,13 @@ fn is_refused(rt: &HostRuntime, kind: io::ErrorKind, status: u8, told: &str) -> 
 const NOT_TEXT: &str =
     "error: invalid UTF-8 was detected in one or more arguments\n\nUsage: dictcat <COMMAND>\n\nFor more information, try '--help'.\n";
 
-// What clap says of words that are no texts.
+// What clap says of words that are no texts, of a program with subcommands.
 fn said_by_clap(rt: &HostRuntime) -> Result<String, Fail> {
     let message = "invalid UTF-8 was detected in one or more arguments";
-    let mut line = command_line(rt.alloc())?;
+    let leaf = Command::new(rt.alloc(), "plain");
+    let mut line = Command::new(rt.alloc(), "dictcat")
+        .subcommand_required(true)
+        .subcommand(leaf)?;
     let error = line.error(ErrorKind::InvalidValue, message)?;
     Ok(error.to_string(rt.alloc())?)
 }

@@ -1,14 +1,10 @@
 -- What each status tells of how the program ended.
-use Rattle.std.proofs.Common.{◌≡◌, ℕ, ◌≤◌, List, Option, Ok, Err, inl, inr, arith, ap}
+use Rattle.std.proofs.Common.{◌≡◌, ℕ, ◌≤◌, List, Option, Ok, Err, refl, inl, inr, arith, ap}
 use Rattle.std.specs.Prelude.{Result}
-use Rattle.sqlite.specs.Held.{Held}
-use Rattle.sqlite_trees.specs.declared.store.Store.{Ghosts}
+use Rattle.dict_desk.specs.Plain.{PlainState}
+use Rattle.dict_desk.specs.declared.lookup.Lookup as lookup
 use Rattle.dict_io.specs.Streams.{Change}
-use Rattle.dict_session.specs.declared.session.run.End.{End}
-use Rattle.dict_session.specs.declared.session.run.SessionFault.TheVariants as session_faults
-use Rattle.dict_store.specs.Over.{IsSpared}
-use Rattle.dict_store.specs.declared.session_fault.FileFault.{FileFault}
-use Rattle.dict_store.specs.declared.session_fault.FileFault.TheVariants.{Opening, Session}
+use Rattle.dict_serving.specs.declared.desks.Desks as desks
 use Rattle.dict_words.specs.Asked.{Asks}
 use Rattle.dict_words.specs.declared.task.Task.{Task}
 use Rattle.dict_words.specs.declared.task.Task.TheVariants.{Plain, Create, List as Lists, Audit, Session as SpeaksOver, Change as Changes, Serve as Serves}
@@ -16,8 +12,10 @@ use Rattle.dict_printed.specs.Faults.{status_of}
 use Rattle.dict_printed.specs.declared.fault.Fault.{Fault}
 use Rattle.dict_printed.specs.declared.fault.Fault.TheVariants.{Line, Edition, Refused, Store, CannotRead, SessionEnded, CannotWrite, CannotBind, CannotWait, Memory}
 use Rattle.dict_printed.specs.Writing.{IsUntouched}
-use Rattle.dictcat_lib.specs.Opening.{over_told, HasSpoken}
+use Rattle.dictcat_lib.specs.Catalogues.{IsSpared}
+use Rattle.dictcat_lib.specs.Working.{SessionEnds}
 use Rattle.dictcat_lib.proofs.WritingLemmas.{list_spoils, audit_spoils, task_spoils, serves_refused, serves_memory, serves_failed, spoils_not_3, spoiled_failed}
+use Rattle.dictcat_lib.specs.declared.catalogues.Catalogues as catalogues
 use Rattle.dictcat_lib.specs.Program.{CommandEnds, IsDone, IsExhausted, IsFailed, Shows, TaskEnds}
 
 status_at_most_4 : (fault : Fault) → status_of fault ≤ 4
@@ -84,45 +82,45 @@ shown_memory CannotWait reader writer r h e = absurd h
 shown_memory Memory reader writer r h e = (r, h)
 
 -- a session over a file that didn't end by its reader, its writer or its desk touched nothing
-spoken_spared : (fault : Fault) (end : Result End FileFault) (reader writer : Change) → Err fault ≡ over_told end → (3 ≡ status_of fault → ⊥)
-    → IsSpared end reader writer → IsUntouched reader × IsUntouched writer
-spoken_spared fault (Ok end) reader writer is other h = cc
-spoken_spared fault (Err (Opening why)) reader writer is other h = h
-spoken_spared fault (Err (Session session_faults.Memory)) reader writer is other h = h
-spoken_spared fault (Err (Session session_faults.Read)) reader writer is other h =
-    let same : fault ≡ SessionEnded = cc in absurd (other (omega (arith, ap status_of same)))
-spoken_spared fault (Err (Session session_faults.Write)) reader writer is other h =
-    let same : fault ≡ SessionEnded = cc in absurd (other (omega (arith, ap status_of same)))
-spoken_spared fault (Err (Session session_faults.Broken)) reader writer is other h =
-    let same : fault ≡ SessionEnded = cc in absurd (other (omega (arith, ap status_of same)))
+spared_other : (fault : Fault) (reader writer : Change) → IsSpared (Err fault) reader writer → (3 ≡ status_of fault → ⊥) → IsUntouched reader × IsUntouched writer
+spared_other (Line refusal line) reader writer h other = h
+spared_other (Edition refusal) reader writer h other = h
+spared_other (Refused refusal) reader writer h other = h
+spared_other (Store fault) reader writer h other = h
+spared_other (CannotRead path) reader writer h other = h
+spared_other SessionEnded reader writer h other = absurd (other refl)
+spared_other CannotWrite reader writer h other = h
+spared_other (CannotBind address) reader writer h other = h
+spared_other CannotWait reader writer h other = h
+spared_other Memory reader writer h other = h
 
-module _ {S : Type 0} (g : Ghosts S) where
+module _ {K D : Type 0} (k : lookup.Ghosts K) (d : desks.Ghosts D K) (c : catalogues.Ghosts D K) (plain : PlainState) (old new : D) where
   -- a status is at most 4
   pub statuses : (files : List ℕ → Option (List ℕ)) (words : List (List ℕ)) (status : ℕ) (reader writer faults : Change)
-      → CommandEnds g files words status reader writer faults → status ≤ 4
+      → CommandEnds k d c files plain old new words status reader writer faults → status ≤ 4
   statuses files words status reader writer faults (inl (Ok end, h, closes)) = omega (arith, closes.0)
   statuses files words status reader writer faults (inl (Err fault, h, closes)) = omega (arith, closes.0, status_at_most_4 fault)
-  statuses files words status reader writer faults (inr h) = omega (arith, h.0)
+  statuses files words status reader writer faults (inr (h, same)) = omega (arith, h.0)
 
   -- with 0 it was done
   pub done : (files : List ℕ → Option (List ℕ)) (words : List (List ℕ)) (reader writer faults : Change)
-      → CommandEnds g files words 0 reader writer faults → IsDone g files words reader writer × IsUntouched faults
+      → CommandEnds k d c files plain old new words 0 reader writer faults → IsDone k d c files plain old new words reader writer × IsUntouched faults
   done files words reader writer faults (inl (Ok end, inl task, closes)) = (inl task, closes.1)
-  done files words reader writer faults (inl (Ok end, inr (inl (asks, r, (text, put))), closes)) = (inr (asks, r, (text, put)), closes.1)
-  done files words reader writer faults (inl (Ok end, inr (inr memory), closes)) = cc
+  done files words reader writer faults (inl (Ok end, inr (inl (asks, r, (text, put)), same), closes)) = (inr (asks, r, (text, put), same), closes.1)
+  done files words reader writer faults (inl (Ok end, inr (inr memory, same), closes)) = cc
   done files words reader writer faults (inl (Err fault, h, closes)) = absurd (never_0 fault closes.0)
-  done files words reader writer faults (inr h) = absurd (omega (arith, h.0))
+  done files words reader writer faults (inr (h, same)) = absurd (omega (arith, h.0))
 
   -- a refused task touches nothing
   task_refused : (files : List ℕ → Option (List ℕ)) (task : Task) (fault : Fault) (reader writer : Change)
-      → TaskEnds g files task (Err fault) reader writer → 1 ≡ status_of fault → IsUntouched reader × IsUntouched writer
-  unfolding Rattle.dictcat_lib.specs.Plain.FilesEnd Rattle.dictcat_lib.specs.Opening.SessionEnds
-  task_refused files (Plain name index text) (Line refusal line) reader writer (inl h) e = (h.4.1, h.4.2)
-  task_refused files (Plain name index text) (Line refusal line) reader writer (inr h) e = (h.1, h.2)
-  task_refused files (Plain name index text) (Edition refusal) reader writer (inl h) e = (h.4.1, h.4.2)
-  task_refused files (Plain name index text) (Edition refusal) reader writer (inr h) e = (h.1, h.2)
-  task_refused files (Plain name index text) (Refused refusal) reader writer (inl h) e = (h.4.3, h.4.4)
-  task_refused files (Plain name index text) (Refused refusal) reader writer (inr h) e = (h.1, h.2)
+      → TaskEnds k d c files plain old new task (Err fault) reader writer → 1 ≡ status_of fault → IsUntouched reader × IsUntouched writer
+  unfolding Rattle.dictcat_lib.specs.Plain.FilesEnd
+  task_refused files (Plain name index text) (Line refusal line) reader writer (inl h, same) e = (h.4.1, h.4.2)
+  task_refused files (Plain name index text) (Line refusal line) reader writer (inr h, same) e = (h.1, h.2)
+  task_refused files (Plain name index text) (Edition refusal) reader writer (inl h, same) e = (h.4.1, h.4.2)
+  task_refused files (Plain name index text) (Edition refusal) reader writer (inr h, same) e = (h.1, h.2)
+  task_refused files (Plain name index text) (Refused refusal) reader writer (inl h, same) e = (h.4.3, h.4.4)
+  task_refused files (Plain name index text) (Refused refusal) reader writer (inr h, same) e = (h.1, h.2)
   task_refused files (Plain name index text) (Store fault) reader writer h e = absurd (omega (arith, e))
   task_refused files (Plain name index text) (CannotRead path) reader writer h e = absurd (omega (arith, e))
   task_refused files (Plain name index text) SessionEnded reader writer h e = absurd (omega (arith, e))
@@ -131,71 +129,71 @@ module _ {S : Type 0} (g : Ghosts S) where
   task_refused files (Plain name index text) CannotWait reader writer h e = absurd (omega (arith, e))
   task_refused files (Plain name index text) Memory reader writer h e = absurd (omega (arith, e))
   task_refused files (Create file) fault reader writer h e = (h.1, h.2)
-  task_refused files (Lists file) fault reader writer h e = (h.1, spoils_not_3 fault writer (λ f. omega (arith, e, f)) (list_spoils g file.now fault writer h.0))
-  task_refused files (Audit file) fault reader writer h e = (h.1, spoils_not_3 fault writer (λ f. omega (arith, e, f)) (audit_spoils g file.now fault writer h.0))
-  task_refused files (Changes file name id what) fault reader writer h e = (h.1, spoils_not_3 fault writer (λ f. omega (arith, e, f)) (task_spoils g files file.now name.now id.now what fault writer h.0))
-  task_refused files (Serves file dict http rounds) fault reader writer h e = (h.1, serves_refused g file.now dict.now http.now rounds fault writer e h.0)
-  task_refused files (SpeaksOver file) fault reader writer (inl h) e = (h.1, h.2)
-  task_refused files (SpeaksOver file) fault reader writer (inr (conn, (left, end, is, spoken))) e =
-      spoken_spared fault end reader writer is (λ f. omega (arith, e, f)) spoken.unopened
+  task_refused files (Lists file) fault reader writer h e = (h.1, spoils_not_3 fault writer (λ f. omega (arith, e, f)) (list_spoils k d file.now old new fault writer h.0))
+  task_refused files (Audit file) fault reader writer h e = (h.1, spoils_not_3 fault writer (λ f. omega (arith, e, f)) (audit_spoils k d c file.now old new fault writer h.0))
+  task_refused files (Changes file name id what) fault reader writer h e = (h.1, spoils_not_3 fault writer (λ f. omega (arith, e, f)) (task_spoils k d files old new file.now name.now id.now what fault writer h.0))
+  task_refused files (Serves file dict http rounds) fault reader writer h e = (h.1, serves_refused k d old new file.now dict.now http.now rounds fault writer e h.0)
+  task_refused files (SpeaksOver file) fault reader writer h e = spared_other fault reader writer h.1 (λ f. omega (arith, e, f))
 
   -- with 1 or 2 nothing was touched
   pub refused : (files : List ℕ → Option (List ℕ)) (words : List (List ℕ)) (reader writer faults : Change)
-      → CommandEnds g files words 1 reader writer faults → IsUntouched reader × IsUntouched writer
+      → CommandEnds k d c files plain old new words 1 reader writer faults → IsUntouched reader × IsUntouched writer
   refused files words reader writer faults (inl (Ok end, h, closes)) = absurd (omega (arith, closes.0))
   refused files words reader writer faults (inl (Err fault, inl (task, asks, ends), closes)) = task_refused files task fault reader writer ends closes.0
-  refused files words reader writer faults (inl (Err fault, inr (inl shown), closes)) = absurd (never_refused fault writer shown.2 closes.0)
-  refused files words reader writer faults (inl (Err fault, inr (inr memory), closes)) = (memory.1, memory.2)
-  refused files words reader writer faults (inr h) = (h.2, h.3)
+  refused files words reader writer faults (inl (Err fault, inr (inl shown, same), closes)) = absurd (never_refused fault writer shown.2 closes.0)
+  refused files words reader writer faults (inl (Err fault, inr (inr memory, same), closes)) = (memory.1, memory.2)
+  refused files words reader writer faults (inr (h, same)) = (h.2, h.3)
 
   pub misread : (files : List ℕ → Option (List ℕ)) (words : List (List ℕ)) (reader writer faults : Change)
-      → CommandEnds g files words 2 reader writer faults → IsUntouched reader × IsUntouched writer
+      → CommandEnds k d c files plain old new words 2 reader writer faults → IsUntouched reader × IsUntouched writer
   misread files words reader writer faults (inl (Ok end, h, closes)) = absurd (omega (arith, closes.0))
   misread files words reader writer faults (inl (Err fault, h, closes)) = absurd (never_2 fault closes.0)
-  misread files words reader writer faults (inr h) = (h.2, h.3)
+  misread files words reader writer faults (inr (h, same)) = (h.2, h.3)
 
   -- a session over a file that was told as broken
-  spoken_failed : (words : List (List ℕ)) (conn left : Held S) (fault : Fault) (end : Result End FileFault) (reader writer : Change)
-      → Err fault ≡ over_told end → HasSpoken g conn left end reader writer → IsFailed g words reader writer
-  spoken_failed words conn left fault (Ok end) reader writer is h = cc
-  spoken_failed words conn left fault (Err (Opening why)) reader writer is h = inl h.unopened
-  spoken_failed words conn left fault (Err (Session session_faults.Memory)) reader writer is h = inl h.unopened
-  spoken_failed words conn left fault (Err (Session session_faults.Read)) reader writer is h = inr (inl (inr (conn, left, session_faults.Read, (λ e. cc), h)))
-  spoken_failed words conn left fault (Err (Session session_faults.Write)) reader writer is h = inr (inl (inr (conn, left, session_faults.Write, (λ e. cc), h)))
-  spoken_failed words conn left fault (Err (Session session_faults.Broken)) reader writer is h = inr (inl (inr (conn, left, session_faults.Broken, (λ e. cc), h)))
+  spoken_failed : (words : List (List ℕ)) (file : _) (fault : Fault) (reader writer : Change) → Asks words (SpeaksOver file) → SessionEnds k d c file.now old new (Err fault) reader writer → IsFailed k d c plain old new words reader writer
+  spoken_failed words file (Line refusal line) reader writer asks h = inl h.1
+  spoken_failed words file (Edition refusal) reader writer asks h = inl h.1
+  spoken_failed words file (Refused refusal) reader writer asks h = inl h.1
+  spoken_failed words file (Store fault) reader writer asks h = inl h.1
+  spoken_failed words file (CannotRead path) reader writer asks h = inl h.1
+  spoken_failed words file SessionEnded reader writer asks h = inr (inl (inr (file, asks, h)))
+  spoken_failed words file CannotWrite reader writer asks h = inl h.1
+  spoken_failed words file (CannotBind address) reader writer asks h = inl h.1
+  spoken_failed words file CannotWait reader writer asks h = inl h.1
+  spoken_failed words file Memory reader writer asks h = inl h.1
 
   -- a task that failed
   task_failed : (files : List ℕ → Option (List ℕ)) (words : List (List ℕ)) (task : Task) (fault : Fault) (reader writer : Change)
-      → Asks words task → TaskEnds g files task (Err fault) reader writer → 3 ≡ status_of fault → IsFailed g words reader writer
-  unfolding Rattle.dictcat_lib.specs.Plain.FilesEnd Rattle.dictcat_lib.specs.Opening.SessionEnds
+      → Asks words task → TaskEnds k d c files plain old new task (Err fault) reader writer → 3 ≡ status_of fault → IsFailed k d c plain old new words reader writer
+  unfolding Rattle.dictcat_lib.specs.Plain.FilesEnd
   task_failed files words (Plain name index text) (Line refusal line) reader writer asks h e = absurd (omega (arith, e))
   task_failed files words (Plain name index text) (Edition refusal) reader writer asks h e = absurd (omega (arith, e))
   task_failed files words (Plain name index text) (Refused refusal) reader writer asks h e = absurd (omega (arith, e))
-  task_failed files words (Plain name index text) (Store fault) reader writer asks (inl h) e = absurd h.4
-  task_failed files words (Plain name index text) (Store fault) reader writer asks (inr h) e = inl (h.1, h.2)
-  task_failed files words (Plain name index text) (CannotRead path) reader writer asks (inl h) e = absurd h.4
-  task_failed files words (Plain name index text) (CannotRead path) reader writer asks (inr h) e = inl (h.1, h.2)
-  task_failed files words (Plain name index text) SessionEnded reader writer asks (inl h) e = inr (inl (inl (name.now, h.0, h.1, h.4.0, h.4.1, h.4.2)))
-  task_failed files words (Plain name index text) SessionEnded reader writer asks (inr h) e = inl (h.1, h.2)
-  task_failed files words (Plain name index text) CannotWrite reader writer asks (inl h) e = absurd h.4
-  task_failed files words (Plain name index text) CannotWrite reader writer asks (inr h) e = inl (h.1, h.2)
-  task_failed files words (Plain name index text) (CannotBind address) reader writer asks (inl h) e = absurd h.4
-  task_failed files words (Plain name index text) (CannotBind address) reader writer asks (inr h) e = inl (h.1, h.2)
-  task_failed files words (Plain name index text) CannotWait reader writer asks (inl h) e = absurd h.4
-  task_failed files words (Plain name index text) CannotWait reader writer asks (inr h) e = inl (h.1, h.2)
+  task_failed files words (Plain name index text) (Store fault) reader writer asks (inl h, same) e = absurd h.4
+  task_failed files words (Plain name index text) (Store fault) reader writer asks (inr h, same) e = inl (h.1, h.2)
+  task_failed files words (Plain name index text) (CannotRead path) reader writer asks (inl h, same) e = absurd h.4
+  task_failed files words (Plain name index text) (CannotRead path) reader writer asks (inr h, same) e = inl (h.1, h.2)
+  task_failed files words (Plain name index text) SessionEnded reader writer asks (inl h, same) e = inr (inl (inl (name.now, h.0, h.1, h.4.0, h.4.1, h.4.2)))
+  task_failed files words (Plain name index text) SessionEnded reader writer asks (inr h, same) e = inl (h.1, h.2)
+  task_failed files words (Plain name index text) CannotWrite reader writer asks (inl h, same) e = absurd h.4
+  task_failed files words (Plain name index text) CannotWrite reader writer asks (inr h, same) e = inl (h.1, h.2)
+  task_failed files words (Plain name index text) (CannotBind address) reader writer asks (inl h, same) e = absurd h.4
+  task_failed files words (Plain name index text) (CannotBind address) reader writer asks (inr h, same) e = inl (h.1, h.2)
+  task_failed files words (Plain name index text) CannotWait reader writer asks (inl h, same) e = absurd h.4
+  task_failed files words (Plain name index text) CannotWait reader writer asks (inr h, same) e = inl (h.1, h.2)
   task_failed files words (Plain name index text) Memory reader writer asks h e = absurd (omega (arith, e))
   task_failed files words (Create file) fault reader writer asks h e = inl (h.1, h.2)
-  task_failed files words (Lists file) fault reader writer asks h e = spoiled_failed g words fault reader writer h.1 (list_spoils g file.now fault writer h.0)
-  task_failed files words (Audit file) fault reader writer asks h e = spoiled_failed g words fault reader writer h.1 (audit_spoils g file.now fault writer h.0)
-  task_failed files words (Changes file name id what) fault reader writer asks h e = spoiled_failed g words fault reader writer h.1 (task_spoils g files file.now name.now id.now what fault writer h.0)
+  task_failed files words (Lists file) fault reader writer asks h e = spoiled_failed k d c plain old new words fault reader writer h.1 (list_spoils k d file.now old new fault writer h.0)
+  task_failed files words (Audit file) fault reader writer asks h e = spoiled_failed k d c plain old new words fault reader writer h.1 (audit_spoils k d c file.now old new fault writer h.0)
+  task_failed files words (Changes file name id what) fault reader writer asks h e = spoiled_failed k d c plain old new words fault reader writer h.1 (task_spoils k d files old new file.now name.now id.now what fault writer h.0)
   task_failed files words (Serves file dict http rounds) fault reader writer asks h e =
-      serves_failed g words file.now dict.now http.now rounds fault reader writer h.1 e (λ served. (Serves file dict http rounds, asks, served, h.1)) h.0
-  task_failed files words (SpeaksOver file) fault reader writer asks (inl h) e = inl (h.1, h.2)
-  task_failed files words (SpeaksOver file) fault reader writer asks (inr (conn, (left, end, is, spoken))) e = spoken_failed words conn left fault end reader writer is spoken
+      serves_failed k d c plain old new words file.now dict.now http.now rounds fault reader writer h.1 e (λ served. (Serves file dict http rounds, asks, served, h.1)) h.0
+  task_failed files words (SpeaksOver file) fault reader writer asks h e = spoken_failed words file fault reader writer asks h
 
   -- a text that was not shown
   shown_failed : (words : List (List ℕ)) (fault : Fault) (reader writer : Change) → IsUntouched reader → Shows (Err fault) writer → 3 ≡ status_of fault
-      → IsFailed g words reader writer
+      → IsFailed k d c plain old new words reader writer
   shown_failed words (Line refusal line) reader writer r h e = absurd h
   shown_failed words (Edition refusal) reader writer r h e = absurd h
   shown_failed words (Refused refusal) reader writer r h e = absurd h
@@ -209,18 +207,18 @@ module _ {S : Type 0} (g : Ghosts S) where
 
   -- with 3 a file, an output or a session failed
   pub failed : (files : List ℕ → Option (List ℕ)) (words : List (List ℕ)) (reader writer faults : Change)
-      → CommandEnds g files words 3 reader writer faults → IsFailed g words reader writer
+      → CommandEnds k d c files plain old new words 3 reader writer faults → IsFailed k d c plain old new words reader writer
   failed files words reader writer faults (inl (Ok end, h, closes)) = absurd (omega (arith, closes.0))
   failed files words reader writer faults (inl (Err fault, inl (task, asks, ends), closes)) =
       task_failed files words task fault reader writer asks ends closes.0
-  failed files words reader writer faults (inl (Err fault, inr (inl shown), closes)) = shown_failed words fault reader writer shown.1 shown.2 closes.0
-  failed files words reader writer faults (inl (Err fault, inr (inr memory), closes)) = inl ((memory.1, memory.2))
-  failed files words reader writer faults (inr h) = absurd (omega (arith, h.0))
+  failed files words reader writer faults (inl (Err fault, inr (inl shown, same), closes)) = shown_failed words fault reader writer shown.1 shown.2 closes.0
+  failed files words reader writer faults (inl (Err fault, inr (inr memory, same), closes)) = inl ((memory.1, memory.2))
+  failed files words reader writer faults (inr (h, same)) = absurd (omega (arith, h.0))
 
   -- memory ran out in a task
   task_memory : (files : List ℕ → Option (List ℕ)) (words : List (List ℕ)) (task : Task) (fault : Fault) (reader writer : Change)
-      → Asks words task → TaskEnds g files task (Err fault) reader writer → 4 ≡ status_of fault → IsExhausted g words reader writer
-  unfolding Rattle.dictcat_lib.specs.Plain.FilesEnd Rattle.dictcat_lib.specs.Opening.SessionEnds
+      → Asks words task → TaskEnds k d c files plain old new task (Err fault) reader writer → 4 ≡ status_of fault → IsExhausted k d c old new words reader writer
+  unfolding Rattle.dictcat_lib.specs.Plain.FilesEnd
   task_memory files words (Plain name index text) (Line refusal line) reader writer asks h e = absurd (omega (arith, e))
   task_memory files words (Plain name index text) (Edition refusal) reader writer asks h e = absurd (omega (arith, e))
   task_memory files words (Plain name index text) (Refused refusal) reader writer asks h e = absurd (omega (arith, e))
@@ -230,26 +228,24 @@ module _ {S : Type 0} (g : Ghosts S) where
   task_memory files words (Plain name index text) CannotWrite reader writer asks h e = absurd (omega (arith, e))
   task_memory files words (Plain name index text) (CannotBind address) reader writer asks h e = absurd (omega (arith, e))
   task_memory files words (Plain name index text) CannotWait reader writer asks h e = absurd (omega (arith, e))
-  task_memory files words (Plain name index text) Memory reader writer asks (inl h) e = inl h.4
-  task_memory files words (Plain name index text) Memory reader writer asks (inr h) e = inl (h.1, h.2)
+  task_memory files words (Plain name index text) Memory reader writer asks (inl h, same) e = inl h.4
+  task_memory files words (Plain name index text) Memory reader writer asks (inr h, same) e = inl (h.1, h.2)
   task_memory files words (Create file) fault reader writer asks h e = inl (h.1, h.2)
-  task_memory files words (Lists file) fault reader writer asks h e = inl (h.1, spoils_not_3 fault writer (λ f. omega (arith, e, f)) (list_spoils g file.now fault writer h.0))
-  task_memory files words (Audit file) fault reader writer asks h e = inl (h.1, spoils_not_3 fault writer (λ f. omega (arith, e, f)) (audit_spoils g file.now fault writer h.0))
-  task_memory files words (Changes file name id what) fault reader writer asks h e = inl (h.1, spoils_not_3 fault writer (λ f. omega (arith, e, f)) (task_spoils g files file.now name.now id.now what fault writer h.0))
-  task_memory files words (Serves file dict http rounds) fault reader writer asks h e = elim (serves_memory g file.now dict.now http.now rounds fault writer e h.0) [
+  task_memory files words (Lists file) fault reader writer asks h e = inl (h.1, spoils_not_3 fault writer (λ f. omega (arith, e, f)) (list_spoils k d file.now old new fault writer h.0))
+  task_memory files words (Audit file) fault reader writer asks h e = inl (h.1, spoils_not_3 fault writer (λ f. omega (arith, e, f)) (audit_spoils k d c file.now old new fault writer h.0))
+  task_memory files words (Changes file name id what) fault reader writer asks h e = inl (h.1, spoils_not_3 fault writer (λ f. omega (arith, e, f)) (task_spoils k d files old new file.now name.now id.now what fault writer h.0))
+  task_memory files words (Serves file dict http rounds) fault reader writer asks h e = elim (serves_memory k d old new file.now dict.now http.now rounds fault writer e h.0) [
     | inl untouched ↦ inl (h.1, untouched)
     | inr served ↦ inr (Serves file dict http rounds, asks, served, h.1)
   ]
-  task_memory files words (SpeaksOver file) fault reader writer asks (inl h) e = inl (h.1, h.2)
-  task_memory files words (SpeaksOver file) fault reader writer asks (inr (conn, (left, end, is, spoken))) e =
-      inl (spoken_spared fault end reader writer is (λ f. omega (arith, e, f)) spoken.unopened)
+  task_memory files words (SpeaksOver file) fault reader writer asks h e = inl (spared_other fault reader writer h.1 (λ f. omega (arith, e, f)))
 
   -- with 4 nothing was touched, or memory ran out in a server
   pub memory : (files : List ℕ → Option (List ℕ)) (words : List (List ℕ)) (reader writer faults : Change)
-      → CommandEnds g files words 4 reader writer faults → IsExhausted g words reader writer
+      → CommandEnds k d c files plain old new words 4 reader writer faults → IsExhausted k d c old new words reader writer
   memory files words reader writer faults (inl (Ok end, h, closes)) = absurd (omega (arith, closes.0))
   memory files words reader writer faults (inl (Err fault, inl (task, asks, ends), closes)) =
       task_memory files words task fault reader writer asks ends closes.0
-  memory files words reader writer faults (inl (Err fault, inr (inl shown), closes)) = inl (shown_memory fault reader writer shown.1 shown.2 closes.0)
-  memory files words reader writer faults (inl (Err fault, inr (inr early), closes)) = inl (early.1, early.2)
-  memory files words reader writer faults (inr h) = absurd (omega (arith, h.0))
+  memory files words reader writer faults (inl (Err fault, inr (inl shown, same), closes)) = inl (shown_memory fault reader writer shown.1 shown.2 closes.0)
+  memory files words reader writer faults (inl (Err fault, inr (inr early, same), closes)) = inl (early.1, early.2)
+  memory files words reader writer faults (inr (h, same)) = absurd (omega (arith, h.0))

@@ -1,5 +1,5 @@
 pub mod EndLemmas
+pub mod FileLemmas
 pub mod PlainLemmas
 pub mod ServingLemmas
 pub mod WritingLemmas
-pub mod WorkLemmas

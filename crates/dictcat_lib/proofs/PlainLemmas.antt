@@ -2,6 +2,7 @@
 use Rattle.std.proofs.Common.{◌≡◌, ℕ, List, Bool, true, false, refl, codes}
 use Rattle.std.specs.Prelude.{if◌then◌else◌, None, Some, Result, Ok, Err}
 use Rattle.dict_io.specs.Streams.{Change}
+use Rattle.dict_session.specs.Desks.{Condition}
 use Rattle.dict_session.specs.Run.{Ends}
 use Rattle.dict_session.specs.declared.session.run.SessionFault.{SessionFault}
 use Rattle.dict_session.specs.declared.session.run.SessionFault.TheVariants.{Read, Write, Broken, Memory}
@@ -35,37 +36,37 @@ unfolding is_request_id
 install_accepted name edition kept e = accepted_by name edition (is_name name) kept e
 
 -- a session that a fault ended
-pub ended_by : (A : Type 0) (M : Catalogue) (fault : SessionFault) (failed : Bool) (reader writer : Change) → Ends M (codes "localhost") 1 failed (Err fault) reader writer → RunEnds {A = A} M (Err (told_by fault)) reader writer
-ended_by A M Read failed reader writer ends = (Read, (λ e. cc), (failed, ends))
-ended_by A M Write failed reader writer ends = (Write, (λ e. cc), (failed, ends))
-ended_by A M Broken failed reader writer ends = (Broken, (λ e. cc), (failed, ends))
-ended_by A M Memory failed reader writer (b, h) = h
+pub ended_by : (A : Type 0) (M : Catalogue) (fault : SessionFault) (desk : Condition) (reader writer : Change) → Ends M (codes "localhost") 1 desk (Err fault) reader writer → RunEnds {A = A} M desk (Err (told_by fault)) reader writer
+ended_by A M Read desk reader writer ends = (Read, (λ e. cc), ends)
+ended_by A M Write desk reader writer ends = (Write, (λ e. cc), ends)
+ended_by A M Broken desk reader writer ends = (Broken, (λ e. cc), ends)
+ended_by A M Memory desk reader writer (b, h) = h
 
 -- a session over what was installed
-pub installed_ends : {A : Type 0} (Shows : Catalogue → Type 0) (name index text : List ℕ) (result : Result A Fault) (reader writer : Change) → (done : IsInstalled Shows name index text)
-    → RunEnds (catalogue_of name done.edition) result reader writer → PlainEnds name index text result reader writer
-installed_ends Shows name index text (Ok value) reader writer done (end, runs) = (end, (done.edition, done.lawful, done.said, runs))
-installed_ends Shows name index text (Err faults.SessionEnded) reader writer done (fault, other, runs) = (fault, other, (done.edition, done.lawful, done.said, runs))
-installed_ends Shows name index text (Err faults.Memory) reader writer done h = h
-installed_ends Shows name index text (Err (faults.Refused refusal)) reader writer done h = absurd h
-installed_ends Shows name index text (Err (faults.Line refusal line)) reader writer done h = absurd h
-installed_ends Shows name index text (Err (faults.Edition refusal)) reader writer done h = absurd h
-installed_ends Shows name index text (Err (faults.Store fault)) reader writer done h = h
-installed_ends Shows name index text (Err (faults.CannotRead path)) reader writer done h = h
-installed_ends Shows name index text (Err faults.CannotWrite) reader writer done h = h
-installed_ends Shows name index text (Err (faults.CannotBind address)) reader writer done h = h
-installed_ends Shows name index text (Err faults.CannotWait) reader writer done h = h
+pub installed_ends : {A : Type 0} (Shows : Catalogue → Type 0) (desk : Condition) (name index text : List ℕ) (result : Result A Fault) (reader writer : Change) → (done : IsInstalled Shows name index text)
+    → RunEnds (catalogue_of name done.edition) desk result reader writer → PlainEnds desk name index text result reader writer
+installed_ends Shows desk name index text (Ok value) reader writer done (end, runs) = (end, (done.edition, done.lawful, done.said, runs))
+installed_ends Shows desk name index text (Err faults.SessionEnded) reader writer done (fault, other, runs) = (fault, other, (done.edition, done.lawful, done.said, runs))
+installed_ends Shows desk name index text (Err faults.Memory) reader writer done h = h
+installed_ends Shows desk name index text (Err (faults.Refused refusal)) reader writer done h = absurd h
+installed_ends Shows desk name index text (Err (faults.Line refusal line)) reader writer done h = absurd h
+installed_ends Shows desk name index text (Err (faults.Edition refusal)) reader writer done h = absurd h
+installed_ends Shows desk name index text (Err (faults.Store fault)) reader writer done h = h
+installed_ends Shows desk name index text (Err (faults.CannotRead path)) reader writer done h = h
+installed_ends Shows desk name index text (Err faults.CannotWrite) reader writer done h = h
+installed_ends Shows desk name index text (Err (faults.CannotBind address)) reader writer done h = h
+installed_ends Shows desk name index text (Err faults.CannotWait) reader writer done h = h
 
 -- nothing was installed, and nothing was read or written
-pub not_installed : (A B : Type 0) (Shows : Catalogue → Type 0) (name index text : List ℕ) (fault : Fault) (reader writer : Change) → IsUntouched reader → IsUntouched writer
-    → Installs {A = A} Shows name index text (Err fault) → PlainEnds {A = B} name index text (Err fault) reader writer
-not_installed A B Shows name index text (faults.Refused refusal) reader writer r w (bad, unlawful, said) = (bad, unlawful, said, r, w)
-not_installed A B Shows name index text faults.SessionEnded reader writer r w h = absurd h
-not_installed A B Shows name index text faults.Memory reader writer r w h = (r, w)
-not_installed A B Shows name index text (faults.Line refusal line) reader writer r w h = (h, r, w)
-not_installed A B Shows name index text (faults.Edition refusal) reader writer r w h = (h, r, w)
-not_installed A B Shows name index text (faults.Store fault) reader writer r w h = h
-not_installed A B Shows name index text (faults.CannotRead path) reader writer r w h = h
-not_installed A B Shows name index text faults.CannotWrite reader writer r w h = h
-not_installed A B Shows name index text (faults.CannotBind address) reader writer r w h = h
-not_installed A B Shows name index text faults.CannotWait reader writer r w h = h
+pub not_installed : (A B : Type 0) (Shows : Catalogue → Type 0) (desk : Condition) (name index text : List ℕ) (fault : Fault) (reader writer : Change) → IsUntouched reader → IsUntouched writer
+    → Installs {A = A} Shows name index text (Err fault) → PlainEnds {A = B} desk name index text (Err fault) reader writer
+not_installed A B Shows desk name index text (faults.Refused refusal) reader writer r w (bad, unlawful, said) = (bad, unlawful, said, r, w)
+not_installed A B Shows desk name index text faults.SessionEnded reader writer r w h = absurd h
+not_installed A B Shows desk name index text faults.Memory reader writer r w h = (r, w)
+not_installed A B Shows desk name index text (faults.Line refusal line) reader writer r w h = (h, r, w)
+not_installed A B Shows desk name index text (faults.Edition refusal) reader writer r w h = (h, r, w)
+not_installed A B Shows desk name index text (faults.Store fault) reader writer r w h = h
+not_installed A B Shows desk name index text (faults.CannotRead path) reader writer r w h = h
+not_installed A B Shows desk name index text faults.CannotWrite reader writer r w h = h
+not_installed A B Shows desk name index text (faults.CannotBind address) reader writer r w h = h
+not_installed A B Shows desk name index text faults.CannotWait reader writer r w h = h

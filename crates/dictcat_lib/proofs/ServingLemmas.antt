@@ -1,17 +1,17 @@
 -- Which faults a file and a server have.
-use Rattle.std.proofs.Common.{◌≡◌, ℕ, List, Err, inl, inr, refl, arith, ap}
+use Rattle.std.proofs.Common.{◌≡◌, ℕ, Bool, List, [], ◌∷◌, Err, inl, inr, refl, arith, ap}
 use Rattle.std.specs.Prelude.{◌≢◌}
-use Rattle.std.specs.IoError.{error_kind}
-use Rattle.std.specs.declared.io.Error.{Error}
+use Rattle.std.specs.declared.io.ErrorKind.{ErrorKind}
 use Rattle.std.specs.declared.io.ErrorKind.TheVariants.{OutOfMemory}
 use Rattle.dict_desk.specs.declared.fault.Fault.{Fault as DeskFault}
 use Rattle.dict_desk.specs.declared.fault.Fault.TheVariants as desk
+use Rattle.dict_driver.specs.declared.driver.Driver.{Driver}
 use Rattle.dict_opening.specs.Reading.{IsOfOpening}
 use Rattle.dict_printed.specs.Faults.{status_of, told_of}
 use Rattle.dict_printed.specs.declared.fault.Fault.{Fault}
 use Rattle.dict_printed.specs.declared.fault.Fault.TheVariants.{Line, Edition, Refused, Store, CannotRead, SessionEnded, CannotWrite, CannotBind, CannotWait, Memory}
-use Rattle.dict_serving.specs.Listening.{TellsWaiting}
-use Rattle.dict_serving.specs.Serving.{Ends, IsOfFile}
+use Rattle.dict_serving.specs.Listening.{TellsKind}
+use Rattle.dict_serving.specs.Serving.{Ends, HasGivenOut, IsOfFile, Stretch}
 use Rattle.dictcat_lib.specs.Opening.{IsUnopened}
 
 pub unopened_of_file : (path : List ℕ) (fault : Fault) → IsUnopened path fault → IsOfFile fault
@@ -49,15 +49,20 @@ file_not_1 CannotWait h e = h
 file_not_1 Memory h e = omega (arith, e)
 
 -- and none of waiting for sockets
-waiting_not_1 : (why : Error) (fault : Fault) → TellsWaiting why fault → 1 ≡ status_of fault → ⊥
-waiting_not_1 why fault tells e =
-    let other : error_kind why ≢ OutOfMemory = λ is. omega (arith, e, ap status_of (tells.0 is)) in
+waiting_not_1 : (kind : ErrorKind) (fault : Fault) → TellsKind kind fault → 1 ≡ status_of fault → ⊥
+waiting_not_1 kind fault tells e =
+    let other : kind ≢ OutOfMemory = λ is. omega (arith, e, ap status_of (tells.0 is)) in
     omega (arith, e, ap status_of (tells.1 other))
 
-pub ends_not_1 : (Unopened : Fault → Type 0) (fault : Fault) → Ends {A = Unit {0}} Unopened (Err fault) → 1 ≡ status_of fault → ⊥
-ends_not_1 Unopened fault (inl (why, tells)) e = waiting_not_1 why fault tells e
-ends_not_1 Unopened fault (inr (inl (none, of))) e = file_not_1 fault of e
-ends_not_1 Unopened fault (inr (inr is)) e = omega (arith, e, ap status_of is)
+module _ {K : Type 0} (is_closed : K → Bool) (Unreopened : K → Fault → Type 0) where
+  given_not_1 : (stretches : List (Stretch K)) (fault : Fault) → HasGivenOut is_closed Unreopened stretches fault → 1 ≡ status_of fault → ⊥
+  given_not_1 [] fault h e = h
+  given_not_1 (one ∷ []) fault h e = file_not_1 fault h.1.1 e
+  given_not_1 (one ∷ other ∷ others) fault h e = given_not_1 (other ∷ others) fault h e
+
+  pub ends_not_1 : (stretches : List (Stretch K)) (driver : Driver) (fault : Fault) → Ends {A = Unit {0}} is_closed Unreopened stretches driver (Err fault) → 1 ≡ status_of fault → ⊥
+  ends_not_1 stretches driver fault (inl (kind, is, tells)) e = waiting_not_1 kind fault tells e
+  ends_not_1 stretches driver fault (inr given) e = given_not_1 stretches fault given e
 
 pub memory_by_status : (fault : Fault) → 4 ≡ status_of fault → fault ≡ Memory
 memory_by_status (Line refusal line) e = absurd (omega (arith, e))

@@ -1,7 +1,8 @@
-pub mod Desks
+pub mod Catalogues
+pub mod Working
 pub mod Serving
 pub mod Opening
+pub mod Desks
+pub mod Files
 pub mod Plain
 pub mod Program
-pub mod Working
-pub mod FileWork

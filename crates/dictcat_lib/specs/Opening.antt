@@ -1,5 +1,5 @@
 -- What comes of a task over a file's database: what its file is opened as, and a catalogue that is made, or a session.
-use Rattle.std.specs.Prelude.{◌≡◌, ◌⊎◌, false, ℕ, List, [], ◌∷◌, Option, Some, Result, Ok, Err, codes, ⊤}
+use Rattle.std.specs.Prelude.{◌≡◌, ◌⊎◌, false, ℕ, List, [], ◌∷◌, Option, Some, None, Result, Ok, Err, codes, ⊤}
 use Rattle.sqlite.specs.State.{HasCleanDisk, Survives}
 use Rattle.sqlite.specs.Held.{Held, state}
 use Rattle.sqlite_trees.specs.declared.store.Store.{Ghosts}
@@ -10,11 +10,12 @@ use Rattle.dict_desk.specs.declared.fault.Fault.TheVariants.{NotACatalogue}
 use Rattle.dict_file.specs.Holds.{Rests, IsLeft, HasPlace}
 use Rattle.dict_io.specs.Streams.{Change}
 use Rattle.dict_session.specs.declared.session.run.End.{End}
+use Rattle.dict_session.specs.declared.session.run.SessionFault.{SessionFault}
 use Rattle.dict_session.specs.declared.session.run.SessionFault.TheVariants as session_faults
 use Rattle.dict_store.specs.Desk.{DeskState, Shows, LeavesOneOf}
-use Rattle.dict_store.specs.Over.{IsOver, IsSpared, Leaves}
-use Rattle.dict_store.specs.declared.session_fault.FileFault.{FileFault}
-use Rattle.dict_store.specs.declared.session_fault.FileFault.TheVariants as file_faults
+use Rattle.dict_store.specs.Opened.{IsTold, IsNotHeld}
+use Rattle.dict_store.specs.Adopted.{IsNotAdopted}
+use Rattle.dict_store.specs.Over.{HasRun, Leaves, TellsNoLeft}
 use Rattle.dict_printed.specs.Faults.{told_of}
 use Rattle.dict_printed.specs.declared.fault.Fault.{Fault}
 use Rattle.dict_printed.specs.declared.fault.Fault.TheVariants as faults
@@ -34,13 +35,12 @@ IsUnopened path (faults.CannotBind address) = ⊥
 IsUnopened path faults.CannotWait = ⊥
 
 -- what is told of a session over a database
-abbrev pub over_told : Result End FileFault → Result (Unit {0}) Fault
+abbrev pub over_told : Result End SessionFault → Result (Unit {0}) Fault
 over_told (Ok end) = Ok tt
-over_told (Err (file_faults.Opening fault)) = Err (told_of fault)
-over_told (Err (file_faults.Session session_faults.Memory)) = Err faults.Memory
-over_told (Err (file_faults.Session session_faults.Read)) = Err faults.SessionEnded
-over_told (Err (file_faults.Session session_faults.Write)) = Err faults.SessionEnded
-over_told (Err (file_faults.Session session_faults.Broken)) = Err faults.SessionEnded
+over_told (Err session_faults.Memory) = Err faults.Memory
+over_told (Err session_faults.Read) = Err faults.SessionEnded
+over_told (Err session_faults.Write) = Err faults.SessionEnded
+over_told (Err session_faults.Broken) = Err faults.SessionEnded
 
 module _ {S : Type 0} (g : Ghosts S) where
   -- A catalogue was made in the database: the desk shows the empty one, and a stop leaves that one alone.
@@ -52,24 +52,40 @@ module _ {S : Type 0} (g : Ghosts S) where
 
   -- None was made: there is no place for it, or the store failed, and then a stop may leave the empty catalogue, or memory ran out.
   pub record IsNotCreated (conn left : Held S) (fault : DeskFault) : Type 0 where
-    pub no_place : fault ≡ NotACatalogue → (HasPlace (state g conn).now.schema → ⊥) × (left ≡ conn)
-    pub crash : Survives (state g conn) (state g left) (IsLeft 1 empty_catalogue)
-    pub adds_none : is_disk fault ≡ false → Survives (state g conn) (state g left) (λ _. ⊥)
+    pub no_place : fault ≡ NotACatalogue → (HasPlace (state g conn).now.schema → ⊥) × (left ≡ record conn { step_limit = None })
+    pub crash : Survives (state g (record conn { step_limit = None })) (state g left) (IsLeft 1 empty_catalogue)
+    pub adds_none : is_disk fault ≡ false → Survives (state g (record conn { step_limit = None })) (state g left) (λ _. ⊥)
 
-  -- what comes of making a catalogue in the file with a path: in the database that it was opened as, or made as
-  unfoldable pub CreateEnds : {A : Type 0} → List ℕ → Result A Fault → Type 0
-  CreateEnds path (Ok _) = (conn : Held S) × ((desk : DeskState S) × IsCreated conn desk)
-  CreateEnds path (Err fault) = IsUnopened path fault
+  -- the desk is one over a catalogue that was made in the database that a file was opened as, or made as
+  abbrev pub IsMadeDesk : DeskState S → Type 0
+  IsMadeDesk desk = (conn : Held S) × IsCreated conn desk
+
+  -- why none was made in the file with a path, as the program tells it
+  abbrev pub IsUnmade : List ℕ → Fault → Type 0
+  IsUnmade path fault = IsUnopened path fault
       ⊎ ((conn : Held S) × ((left : Held S) × (why : DeskFault) × (fault ≡ told_of why) × IsNotCreated conn left why))
 
-  -- A session over the catalogue of an opened database ended so, or the database holds none.
-  pub record HasSpoken (conn left : Held S) (end : Result End FileFault) (reader writer : Change) : Type 0 where
-    pub over : HasCleanDisk (state g left) → IsOver (state g conn) (codes "localhost") 1 end reader writer
-    pub unopened : IsSpared end reader writer
-    pub leaves : (ms : List (Option Catalogue)) → Leaves g conn ms → Leaves g left ms
+  -- the database of a desk was read whole, and holds a catalogue at rest
+  abbrev pub IsSound : DeskState S → Type 0
+  IsSound new = HasCleanDisk (state g new.conn) → (M : Catalogue) × Rests 1 (state g new.conn) M
+
+  -- it was read, and the fault, as the program tells it, is what it holds instead; or it couldn't be read
+  abbrev pub IsUnsound : DeskState S → DeskState S → Fault → Type 0
+  IsUnsound old new fault =
+      (why : DeskFault) × (fault ≡ told_of why) × (HasCleanDisk (state g new.conn) → IsTold (state g old.conn).now why × IsNotHeld (state g old.conn).now why)
+
+  -- A session over the catalogue of an opened database ended so, and left this desk of it.
+  pub record HasSpoken (conn : Held S) (desk : DeskState S) (end : Result End SessionFault) (reader writer : Change) : Type 0 where
+    pub ran : HasCleanDisk (state g desk.conn) → HasRun g conn desk (codes "localhost") 1 end reader writer
+    pub leaves : (ms : List (Option Catalogue)) → Leaves g conn ms → LeavesOneOf g desk ms
+
+  -- why there was no session: the file can't be had, or the database that it was opened as holds no catalogue, and the fault tells why
+  abbrev pub IsNoSession : List ℕ → Fault → Type 0
+  IsNoSession path fault = IsUnopened path fault
+      ⊎ ((conn : Held S) × ((left : Held S) × (why : DeskFault) × (fault ≡ told_of why) × IsNotAdopted g conn left why × TellsNoLeft g conn left why))
 
   -- what comes of a session over the catalogue in the file with a path: in the database that it was opened as
-  unfoldable pub SessionEnds : List ℕ → Result (Unit {0}) Fault → Change → Change → Type 0
-  SessionEnds path result reader writer =
-      (((fault : Fault) × (result ≡ Err fault) × IsUnopened path fault) × IsUntouched reader × IsUntouched writer)
-      ⊎ ((conn : Held S) × ((left : Held S) × (end : Result End FileFault) × (result ≡ over_told end) × HasSpoken conn left end reader writer))
+  abbrev pub HasSpokenOver : List ℕ → Option (DeskState S) → Result (Unit {0}) Fault → Change → Change → Type 0
+  HasSpokenOver path None result reader writer = ((fault : Fault) × (result ≡ Err fault) × IsNoSession path fault) × IsUntouched reader × IsUntouched writer
+  HasSpokenOver path (Some desk) result reader writer =
+      (conn : Held S) × (end : Result End SessionFault) × (result ≡ over_told end) × HasSpoken conn desk end reader writer

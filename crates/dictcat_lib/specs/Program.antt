@@ -3,14 +3,14 @@ use Rattle.std.specs.Prelude.{◌≡◌, ◌≢◌, ℕ, ◌⊎◌, List, ◌++�
 use Rattle.clap.specs.Kinds.{IsAmong}
 use Rattle.clap.specs.declared.error.kind.ErrorKind.{ErrorKind}
 use Rattle.clap.specs.declared.error.kind.ErrorKind.TheVariants as kinds
-use Rattle.sqlite.specs.Held.{Held}
-use Rattle.sqlite_trees.specs.declared.store.Store.{Ghosts}
 use Rattle.dict_catalogue.specs.Commands.{rollback, retire, put_virtual, place}
+use Rattle.dict_desk.specs.Plain.{PlainState}
+use Rattle.dict_desk.specs.declared.lookup.Lookup as lookup
 use Rattle.dict_io.specs.Streams.{Change, HasFailed, Puts, PutsAll, PutsFront}
 use Rattle.dict_io.specs.declared.sink.SinkFault.{SinkFault}
 use Rattle.dict_session.specs.declared.session.run.SessionFault.{SessionFault}
 use Rattle.dict_session.specs.declared.session.run.SessionFault.TheVariants as session_faults
-use Rattle.dict_store.specs.declared.session_fault.FileFault.TheVariants.{Session}
+use Rattle.dict_serving.specs.declared.desks.Desks as desks
 use Rattle.dict_words.specs.Asked.{Asks, Fails, mistakes_in, words_shown}
 use Rattle.dict_words.specs.declared.task.Change.{Change as AskedChange}
 use Rattle.dict_words.specs.declared.task.Change.TheVariants as changes
@@ -20,10 +20,10 @@ use Rattle.dict_printed.specs.Faults.{line_of, status_of}
 use Rattle.dict_printed.specs.declared.fault.Fault.{Fault}
 use Rattle.dict_printed.specs.declared.fault.Fault.TheVariants as faults
 use Rattle.dict_printed.specs.Writing.{IsUntouched}
-use Rattle.dictcat_lib.specs.Desks.{ListEnds, AuditEnds, ChangeEnds, InstallsOn}
-use Rattle.dictcat_lib.specs.Plain.{EndsOver, FilesEnd}
-use Rattle.dictcat_lib.specs.Serving.{IsServedUntil, ServesOn}
-use Rattle.dictcat_lib.specs.Opening.{CreateEnds, SessionEnds, HasSpoken}
+use Rattle.dictcat_lib.specs.Plain.{EndsOver, FilesEnd, standing}
+use Rattle.dictcat_lib.specs.Serving.{IsServedUntil}
+use Rattle.dictcat_lib.specs.Working.{AuditEnds, ChangeEnds, CreateEnds, InstallsOn, ListEnds, ServesOn, SessionEnds}
+use Rattle.dictcat_lib.specs.declared.catalogues.Catalogues as catalogues
 
 -- a text was put, or a front of it where the sink failed
 abbrev pub IsTold : List ℕ → Change → Type 0
@@ -82,65 +82,69 @@ AnswerEnds words status reader writer faults =
     ((end : Result (Unit {0}) Fault) × IsShown words end reader writer × Closes end status faults)
     ⊎ Misreads words status reader writer faults
 
-module _ {S : Type 0} (g : Ghosts S) where
-  -- a session over a lawful database, or over a file's catalogue, was ended by a fault of its reader, its writer or its desk
-  abbrev pub IsBroken : Change → Change → Type 0
-  IsBroken reader writer =
-      ((name : List ℕ) × (index : List ℕ) × (text : List ℕ) × (fault : SessionFault) × (fault ≢ session_faults.Memory) × EndsOver name index text (Err fault) reader writer)
-      ⊎ ((conn : Held S) × (left : Held S) × (fault : SessionFault) × (fault ≢ session_faults.Memory) × HasSpoken g conn left (Err (Session fault)) reader writer)
+-- By what is known of desks, and of what makes, opens and closes them; of the catalogue in memory as it was left, and of these before
+-- and after.
+module _ {K D : Type 0} (k : lookup.Ghosts K) (d : desks.Ghosts D K) (c : catalogues.Ghosts D K) where
+  -- a session over a lawful database, or over the catalogue of the file that was asked for, was ended by a fault of its reader, its
+  -- writer or its desk
+  abbrev pub IsBroken : PlainState → D → D → List (List ℕ) → Change → Change → Type 0
+  IsBroken plain old new words reader writer =
+      ((name : List ℕ) × (index : List ℕ) × (text : List ℕ) × (fault : SessionFault) × (fault ≢ session_faults.Memory) × EndsOver (standing plain) name index text (Err fault) reader writer)
+      ⊎ ((file : _) × Asks words (tasks.Session file) × SessionEnds k d c file.now old new (Err faults.SessionEnded) reader writer)
 
   -- the task is to serve, and its catalogue was served until this fault ended it
-  abbrev pub WasServed : Task → Fault → Change → Type 0
-  WasServed (tasks.Serve file dict http rounds) fault writer = IsServedUntil g file.now dict.now http.now rounds fault writer
-  WasServed _ fault writer = ⊥
+  abbrev pub WasServed : D → D → Task → Fault → Change → Type 0
+  WasServed old new (tasks.Serve file dict http rounds) fault writer = IsServedUntil k d file.now dict.now http.now rounds old new fault writer
+  WasServed old new _ fault writer = ⊥
 
   -- the words ask for a server, which read nothing, listened at its two addresses, told them, and served until this fault ended it
-  abbrev pub IsCutOff : List (List ℕ) → Fault → Change → Change → Type 0
-  IsCutOff words fault reader writer = (task : Task) × Asks words task × WasServed task fault writer × IsUntouched reader
+  abbrev pub IsCutOff : D → D → List (List ℕ) → Fault → Change → Change → Type 0
+  IsCutOff old new words fault reader writer = (task : Task) × Asks words task × WasServed old new task fault writer × IsUntouched reader
 
   -- nothing was read or written, or a session was broken, or the writer failed where nothing was read, or a server was cut off by such a fault
-  abbrev pub IsFailed : List (List ℕ) → Change → Change → Type 0
-  IsFailed words reader writer = (IsUntouched reader × IsUntouched writer)
-      ⊎ (IsBroken reader writer
+  abbrev pub IsFailed : PlainState → D → D → List (List ℕ) → Change → Change → Type 0
+  IsFailed plain old new words reader writer = (IsUntouched reader × IsUntouched writer)
+      ⊎ (IsBroken plain old new words reader writer
       ⊎ ((IsUntouched reader × HasFailed writer.old.failures writer.new.failures)
-      ⊎ ((fault : Fault) × (3 ≡ status_of fault) × IsCutOff words fault reader writer)))
+      ⊎ ((fault : Fault) × (3 ≡ status_of fault) × IsCutOff old new words fault reader writer)))
 
   -- nothing was read or written, or memory ran out in a server
-  abbrev pub IsExhausted : List (List ℕ) → Change → Change → Type 0
-  IsExhausted words reader writer = (IsUntouched reader × IsUntouched writer) ⊎ IsCutOff words faults.Memory reader writer
+  abbrev pub IsExhausted : D → D → List (List ℕ) → Change → Change → Type 0
+  IsExhausted old new words reader writer = (IsUntouched reader × IsUntouched writer) ⊎ IsCutOff old new words faults.Memory reader writer
 
 -- Over files of these octets, by their paths.
-module _ {S : Type 0} (g : Ghosts S) (files : List ℕ → Option (List ℕ)) where
+module _ {K D : Type 0} (k : lookup.Ghosts K) (d : desks.Ghosts D K) (files : List ℕ → Option (List ℕ)) where
   -- a change of a file's catalogue ends so
-  abbrev pub ChangeTaskEnds : List ℕ → List ℕ → List ℕ → AskedChange → Result (Unit {0}) Fault → Change → Type 0
-  ChangeTaskEnds file name id (changes.Install index text) end writer = InstallsOn g files file name id index.now text.now end writer
-  ChangeTaskEnds file name id changes.Rollback end writer = ChangeEnds g file id (rollback name) end writer
-  ChangeTaskEnds file name id changes.Retire end writer = ChangeEnds g file id (retire name) end writer
-  ChangeTaskEnds file name id (changes.Virtual title members) end writer = ChangeEnds g file id (put_virtual name title.now (words_shown members.items)) end writer
-  ChangeTaskEnds file name id (changes.Place at) end writer = ChangeEnds g file id (place name at) end writer
+  abbrev pub ChangeTaskEnds : D → D → List ℕ → List ℕ → List ℕ → AskedChange → Result (Unit {0}) Fault → Change → Type 0
+  ChangeTaskEnds old new file name id (changes.Install index text) end writer = InstallsOn k d files file name id index.now text.now old new end writer
+  ChangeTaskEnds old new file name id changes.Rollback end writer = ChangeEnds k d file id (rollback name) old new end writer
+  ChangeTaskEnds old new file name id changes.Retire end writer = ChangeEnds k d file id (retire name) old new end writer
+  ChangeTaskEnds old new file name id (changes.Virtual title members) end writer = ChangeEnds k d file id (put_virtual name title.now (words_shown members.items)) old new end writer
+  ChangeTaskEnds old new file name id (changes.Place at) end writer = ChangeEnds k d file id (place name at) old new end writer
 
+module _ {K D : Type 0} (k : lookup.Ghosts K) (d : desks.Ghosts D K) (c : catalogues.Ghosts D K) (files : List ℕ → Option (List ℕ)) (plain : PlainState) (old new : D) where
   -- a task ends so
   abbrev pub TaskEnds : Task → Result (Unit {0}) Fault → Change → Change → Type 0
-  TaskEnds (tasks.Plain name index text) end reader writer = FilesEnd files name.now index.now text.now end reader writer
-  TaskEnds (tasks.Create file) end reader writer = CreateEnds g file.now end × IsUntouched reader × IsUntouched writer
-  TaskEnds (tasks.List file) end reader writer = ListEnds g file.now end writer × IsUntouched reader
-  TaskEnds (tasks.Audit file) end reader writer = AuditEnds g file.now end writer × IsUntouched reader
-  TaskEnds (tasks.Session file) end reader writer = SessionEnds g file.now end reader writer
-  TaskEnds (tasks.Change file name id what) end reader writer = ChangeTaskEnds file.now name.now id.now what end writer × IsUntouched reader
-  TaskEnds (tasks.Serve file dict http rounds) end reader writer = ServesOn g file.now dict.now http.now rounds end writer × IsUntouched reader
+  TaskEnds (tasks.Plain name index text) end reader writer = FilesEnd (standing plain) files name.now index.now text.now end reader writer × (new ≡ old)
+  TaskEnds (tasks.Create file) end reader writer = CreateEnds k d c file.now old new end × IsUntouched reader × IsUntouched writer
+  TaskEnds (tasks.List file) end reader writer = ListEnds k d file.now old new end writer × IsUntouched reader
+  TaskEnds (tasks.Audit file) end reader writer = AuditEnds k d c file.now old new end writer × IsUntouched reader
+  TaskEnds (tasks.Session file) end reader writer = SessionEnds k d c file.now old new end reader writer
+  TaskEnds (tasks.Change file name id what) end reader writer = ChangeTaskEnds k d files old new file.now name.now id.now what end writer × IsUntouched reader
+  TaskEnds (tasks.Serve file dict http rounds) end reader writer = ServesOn k d file.now dict.now http.now rounds old new end writer × IsUntouched reader
 
-  -- what was asked for was done or not: a task, or help or the version; or memory ran out before
+  -- what was asked for was done or not: a task, or help or the version, for which no file was opened; or memory ran out before
   abbrev pub Attempts : List (List ℕ) → Result (Unit {0}) Fault → Change → Change → Type 0
   Attempts words end reader writer =
-      ((task : Task) × Asks words task × TaskEnds task end reader writer) ⊎ IsShown words end reader writer
+      ((task : Task) × Asks words task × TaskEnds task end reader writer) ⊎ (IsShown words end reader writer × (new ≡ old))
 
   -- how the program ends on words, of which the first is its own name
   abbrev pub CommandEnds : List (List ℕ) → ℕ → Change → Change → Change → Type 0
   CommandEnds words status reader writer faults =
       ((end : Result (Unit {0}) Fault) × Attempts words end reader writer × Closes end status faults)
-      ⊎ Misreads words status reader writer faults
+      ⊎ (Misreads words status reader writer faults × (new ≡ old))
 
   -- a task was done, or help or the version was shown
   abbrev pub IsDone : List (List ℕ) → Change → Change → Type 0
   IsDone words reader writer = ((task : Task) × Asks words task × TaskEnds task (Ok tt) reader writer)
-      ⊎ (AsksForText words × IsUntouched reader × ((text : List ℕ) × PutsAll writer.old writer.new text))
+      ⊎ (AsksForText words × IsUntouched reader × ((text : List ℕ) × PutsAll writer.old writer.new text) × (new ≡ old))

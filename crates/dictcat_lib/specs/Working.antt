@@ -1,49 +1,91 @@
--- What comes of work over the desk of a catalogue, whatever opens it.
-use Rattle.std.specs.Prelude.{◌≡◌, ◌⊎◌, Bool, false, ℕ, List, Option, Result, Err, codes}
+-- What comes of work over the desk of a file's catalogue, whatever opens it.
+use Rattle.std.specs.Prelude.{◌≡◌, ◌⊎◌, false, ℕ, List, [], ◌∷◌, Option, Some, None, MatchOption, Result, Ok, Err, IfOk, MatchResult, codes, ⊤}
 use Rattle.dict_catalogue.specs.Commands.{Command}
-use Rattle.dict_catalogue.specs.Steps.{Catalogue}
-use Rattle.dict_catalogue.specs.Views.{command_meant}
+use Rattle.dict_catalogue.specs.Steps.{Catalogue, empty_catalogue}
+use Rattle.dict_desk.specs.declared.lookup.Lookup as lookup
 use Rattle.dict_index.specs.Edition.{Edition}
 use Rattle.dict_io.specs.Streams.{Change}
 use Rattle.dict_printed.specs.Writing.{IsUntouched, Writes}
 use Rattle.dict_printed.specs.declared.fault.Fault.{Fault}
-use Rattle.dict_serving.specs.Serving.{ServeEnds}
+use Rattle.dict_serving.specs.Deeds.{Deed, Makes, Opens, Speaks, Closes, Does, IsShut}
+use Rattle.dict_serving.specs.Done.{ServeEnds}
+use Rattle.dict_serving.specs.Serving.{IsNew, IsNone}
+use Rattle.dict_serving.specs.declared.desks.Desks as desks
 use Rattle.dict_tasks.specs.Changing.{IsChanged}
 use Rattle.dict_tasks.specs.Installing.{InstallEnds}
 use Rattle.dict_tasks.specs.Listed.{IsListed}
-use Rattle.dictcat_lib.specs.declared.work.Work.{Work}
-use Rattle.dictcat_lib.specs.declared.work.Work.TheVariants as works
+use Rattle.dictcat_lib.specs.Catalogues.{IsSpared, IsMade, Stays}
+use Rattle.dictcat_lib.specs.declared.catalogues.Catalogues as catalogues
 
--- there is no desk, or this is done over one that was opened
-abbrev pub EndsOn : {D : Type 0} → (D → Type 0) → (Fault → Type 0) → (D → Type 0) → Result (Unit {0}) Fault → Change → Type 0
-EndsOn IsOpened IsUnopened Done result writer =
-    ((fault : Fault) × (result ≡ Err fault) × IsUnopened fault × IsUntouched writer)
-    ⊎ ((desk : _) × IsOpened desk × Done desk)
+-- a file was read whole, and then closed: that it is sound is told where both went well, and else the first fault
+abbrev pub TellsSound : Result (Unit {0}) Fault → Result (Unit {0}) Fault → Result (Unit {0}) Fault → Change → Type 0
+TellsSound (Err fault) closed result writer = (result ≡ Err fault) × IsUntouched writer
+TellsSound (Ok _) (Err fault) result writer = (result ≡ Err fault) × IsUntouched writer
+TellsSound (Ok _) (Ok _) result writer = Writes (codes "sound\n") result writer
 
--- the items were listed, unless the desk was closed
-abbrev pub Lists : {D : Type 0} → (D → Catalogue → Type 0) → (D → Type 0) → (D → Bool) → (Fault → Type 0) → Result (Unit {0}) Fault → Change → Type 0
-Lists Shows IsOpened is_closed IsUnopened result writer = EndsOn IsOpened IsUnopened (λ desk. is_closed desk ≡ false → IsListed (Shows desk) result writer) result writer
+-- By what is known of desks, and of what opens and closes them.
+module _ {K D : Type 0} (k : lookup.Ghosts K) (d : desks.Ghosts D K) where
+  -- a desk was closed
+  abbrev pub IsShutBy : K → Result (Unit {0}) Fault → D → Type 0
+  IsShutBy = IsShut k.shows k.leaves_one_of k.is_trusted d.is_safe d.holds_alone d.still_leaves
 
--- the catalogue was read whole, and it is sound
-abbrev pub Audits : {D : Type 0} → (D → Type 0) → (Fault → Type 0) → Result (Unit {0}) Fault → Change → Type 0
-Audits IsOpened IsUnopened result writer = EndsOn IsOpened IsUnopened (λ desk. Writes (codes "sound\n") result writer) result writer
+  -- a desk was opened, and answers
+  abbrev pub IsAnswering : K → Type 0
+  IsAnswering desk = IsNew k.shows k.leaves_one_of k.is_trusted d.is_opened desk × (k.is_closed desk ≡ false)
 
-module _ {D : Type 0} (Shows : D → Catalogue → Type 0) (LeavesOneOf : D → List (Option Catalogue) → Type 0) (IsTrusted : D → Type 0) (IsOpened : D → Type 0) where
+  -- There is no desk of the file with a path; or one was opened, this was done over it, and what it became was closed. Nothing else was
+  -- done to any file
+  abbrev pub EndsOn : List ℕ → (K → K → Result (Unit {0}) Fault → Type 0) → D → D → Result (Unit {0}) Fault → Change → Type 0
+  EndsOn path Done old new result writer =
+      ((fault : Fault) × (result ≡ Err fault) × IsNone (d.is_unopened path) fault × Does (d.history old) (d.history new) (Opens path None ∷ []) × IsUntouched writer)
+      ⊎ ((desk : K) × (left : K) × (closed : Result (Unit {0}) Fault) × IsAnswering desk
+      × Does (d.history old) (d.history new) (Opens path (Some desk) ∷ Closes left ∷ []) × IsShutBy left closed new × Done desk left closed)
+
+  -- the items were listed
+  abbrev pub ListEnds : List ℕ → D → D → Result (Unit {0}) Fault → Change → Type 0
+  ListEnds path old new result writer = EndsOn path (λ desk left closed. (left ≡ desk) × IsListed (k.shows desk) result writer) old new result writer
+
   -- a command was asked for
-  abbrev pub Changes : (Fault → Type 0) → List ℕ → Command Edition → Result (Unit {0}) Fault → Change → Type 0
-  Changes IsUnopened id command result writer =
-      EndsOn IsOpened IsUnopened (λ desk. (new : D) × IsChanged Shows LeavesOneOf IsTrusted desk new id command result writer) result writer
+  abbrev pub ChangeEnds : List ℕ → List ℕ → Command Edition → D → D → Result (Unit {0}) Fault → Change → Type 0
+  ChangeEnds path id command old new result writer =
+      EndsOn path (λ desk left closed. IsChanged k.shows k.leaves_one_of k.is_trusted desk left id command result writer) old new result writer
 
   -- an install of two files was asked for
-  abbrev pub Installs : (Fault → Type 0) → (List ℕ → Option (List ℕ)) → List ℕ → List ℕ → List ℕ → List ℕ → Result (Unit {0}) Fault → Change → Type 0
-  Installs IsUnopened files name id index text result writer =
-      EndsOn IsOpened IsUnopened (λ desk. (new : D) × InstallEnds Shows LeavesOneOf IsTrusted files desk new name id index text result writer) result writer
+  abbrev pub InstallsOn : (List ℕ → Option (List ℕ)) → List ℕ → List ℕ → List ℕ → List ℕ → List ℕ → D → D → Result (Unit {0}) Fault → Change → Type 0
+  InstallsOn files path name id index text old new result writer =
+      EndsOn path (λ desk left closed. InstallEnds k.shows k.leaves_one_of k.is_trusted k.is_closed files desk left name id index text result writer) old new result writer
 
-  -- the work was done over the desk of the file with a path, over files of these octets by their paths
-  unfoldable pub WorkEnds : (D → Bool) → (List ℕ → Fault → Type 0) → (List ℕ → Option (List ℕ)) → List ℕ → Work → Result (Unit {0}) Fault → Change → Type 0
-  WorkEnds is_closed IsUnopened files path works.List result writer = Lists Shows IsOpened is_closed (IsUnopened path) result writer
-  WorkEnds is_closed IsUnopened files path works.Audit result writer = Audits IsOpened (IsUnopened path) result writer
-  WorkEnds is_closed IsUnopened files path (works.Apply id command) result writer = Changes (IsUnopened path) id.now (command_meant command.now) result writer
-  WorkEnds is_closed IsUnopened files path (works.Install id name index text) result writer = Installs (IsUnopened path) files name.now id.now index.now text.now result writer
-  WorkEnds is_closed IsUnopened files path (works.Serve dict http rounds) result writer =
-      ServeEnds Shows LeavesOneOf IsTrusted IsOpened is_closed IsUnopened path dict.now http.now rounds result writer
+  -- the catalogue of the file with a path was served at two addresses, for so many rounds, or wasn't
+  unfoldable pub ServesOn : List ℕ → List ℕ → List ℕ → Option ℕ → D → D → Result (Unit {0}) Fault → Change → Type 0
+  ServesOn path dict http rounds old new result writer =
+      ServeEnds k.shows k.leaves_one_of k.is_trusted d.is_opened k.is_closed d.is_unopened d.is_unreopened (d.history old) (d.history new) path dict http rounds result writer
+
+  module _ (c : catalogues.Ghosts D K) where
+    -- the file that was closed holds alone a catalogue that the desk showed: this is told where it returned what was written to it
+    abbrev pub IsAlone : K → D → Type 0
+    IsAlone desk new = d.is_safe new → (M : Catalogue) × k.shows desk M × d.holds_alone new M
+
+    -- The file was read whole, the desk shows what it showed, and the file was closed. It is sound, and that is told where it holds its
+    -- catalogue alone
+    abbrev pub IsAudited : K → K → Result (Unit {0}) Fault → D → Result (Unit {0}) Fault → Change → Type 0
+    IsAudited desk left closed new result writer =
+        (audited : Result (Unit {0}) Fault) × MatchResult audited (λ _. c.is_sound desk left) (c.is_unsound desk left) × Stays k.shows k.leaves_one_of k.is_trusted desk left
+        × TellsSound audited closed result writer × IfOk closed (λ _. IsAlone desk new)
+
+    -- the catalogue was read whole
+    abbrev pub AuditEnds : List ℕ → D → D → Result (Unit {0}) Fault → Change → Type 0
+    AuditEnds path old new result writer = EndsOn path (λ desk left closed. IsAudited desk left closed new result writer) old new result writer
+
+    -- a catalogue was made in the file with a path, and the file closed; or none was. Nothing else was done to any file
+    abbrev pub CreateEnds : List ℕ → D → D → Result (Unit {0}) Fault → Type 0
+    CreateEnds path old new result =
+        ((fault : Fault) × (result ≡ Err fault) × c.is_unmade path fault × Does (d.history old) (d.history new) (Makes path None ∷ []))
+        ⊎ ((desk : K) × (closed : Result (Unit {0}) Fault) × (result ≡ Ok tt) × IsMade k.shows k.leaves_one_of c.is_made desk
+        × Does (d.history old) (d.history new) (Makes path (Some desk) ∷ Closes desk ∷ []) × IsShutBy desk closed new)
+
+    -- a session was run over the catalogue of the file with a path, and the desk that it left was closed, if there was one. Nothing else was
+    -- done to any file
+    abbrev pub SessionEnds : List ℕ → D → D → Result (Unit {0}) Fault → Change → Change → Type 0
+    SessionEnds path old new result reader writer =
+        ((left : Option K) × c.has_spoken path left result reader writer × Does (d.history old) (d.history new) (Speaks path left ∷ [])
+        × MatchOption left ⊤ (λ desk. (closed : Result (Unit {0}) Fault) × IsShutBy desk closed new)) × IsSpared result reader writer

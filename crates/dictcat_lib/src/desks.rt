@@ -1,24 +1,48 @@
 // The desk of a file's catalogue.
-ghost use Rattle.std.specs.Prelude.{IfOk, MatchResult};
-ghost use Rattle.dict_store.specs.Desk.{Shows, LeavesOneOf};
-ghost use Rattle.dict_serving.specs.Serving.{Follows, IsNew, IsNone, IsNotReopened};
-ghost use Rattle.dictcat_lib.specs.Desks.{IsDesk, IsNoDesk, IsTrusted};
+ghost use Rattle.std.specs.Prelude.{◌≡◌, ◌⊎◌, false, IfOk, MatchResult};
+ghost use Rattle.dict_printed.specs.Faults.{told_of};
+ghost use Rattle.dict_store.specs.Desk.{Shows, LeavesOneOf, is_closed};
+ghost use Rattle.dict_serving.specs.Serving.{Follows, IsNew, IsNone};
+ghost use Rattle.dictcat_lib.specs.Catalogues.{IsMade};
+ghost use Rattle.dictcat_lib.specs.Desks.{IsDesk, IsNoDesk, IsNoDeskAgain, IsTrusted};
+ghost use Rattle.dictcat_lib.specs.Opening.{IsMadeDesk, IsUnmade, IsUnopened};
 
-use crate::stores::{close_file, open_file, options};
+use crate::stores::{close_file, make_file, open_file, options};
 use dict_desk::Fault as DeskFault;
 use dict_printed::Fault;
 use dict_store::{Desk, Unopened};
 use sqlite::{File, FileStore};
+use sqlite_disk::Disk;
 use sqlite_trees::store::Store;
+
+// The desk of an empty catalogue that is made in the file with this path.
+pub(crate) fn make_desk<'w>(
+    rt: &HostRuntime,
+    file: &'w str,
+) -> Result<Desk<FileStore<File>>, Fault<'w>>
+    ensures { MatchResult result
+        (IsMade (Shows ⟦<FileStore<File> as Store>⟧) (LeavesOneOf ⟦<FileStore<File> as Store>⟧) (IsMadeDesk ⟦<FileStore<File> as Store>⟧))
+        (IsUnmade ⟦<FileStore<File> as Store>⟧ file.entry.now) }
+{
+    let conn = make_file(rt, file)?;
+    match Desk::create(rt.alloc(), conn) {
+        Ok(desk) => Ok(desk),
+        Err((conn, fault)) => {
+            close_file(conn);
+            Err(Fault::from(fault))
+        }
+    }
+}
 
 // The desk of the catalogue in the file with this path.
 pub(crate) fn open_desk<'w>(
     rt: &HostRuntime,
     file: &'w str,
 ) -> Result<Desk<FileStore<File>>, Fault<'w>>
-    ensures { MatchResult result
+    ensures opened { MatchResult result
         (IsNew (Shows ⟦<FileStore<File> as Store>⟧) (LeavesOneOf ⟦<FileStore<File> as Store>⟧) (IsTrusted ⟦<FileStore<File> as Store>⟧) (IsDesk ⟦<FileStore<File> as Store>⟧))
         (IsNone (IsNoDesk ⟦<FileStore<File> as Store>⟧ file.entry.now)) }
+    ensures answers { IfOk result (λ desk. is_closed desk.last ≡ false) }
 {
     let conn = open_file(rt, file)?;
     match Desk::adopt(rt.alloc(), conn) {
@@ -30,11 +54,6 @@ pub(crate) fn open_desk<'w>(
     }
 }
 
-// Closes the file of a desk.
-pub(crate) fn close_desk(desk: Desk<FileStore<File>>) {
-    close_file(desk.into_connection());
-}
-
 // The desk of the same file, which is opened again, after this one's store failed.
 pub(crate) fn reopen_desk<'w>(
     rt: &HostRuntime,
@@ -43,25 +62,32 @@ pub(crate) fn reopen_desk<'w>(
 ) -> Result<Desk<FileStore<File>>, Fault<'w>>
     ensures opened { MatchResult result
         (IsNew (Shows ⟦<FileStore<File> as Store>⟧) (LeavesOneOf ⟦<FileStore<File> as Store>⟧) (IsTrusted ⟦<FileStore<File> as Store>⟧) (IsDesk ⟦<FileStore<File> as Store>⟧))
-        (IsNotReopened (IsNoDesk ⟦<FileStore<File> as Store>⟧ file.entry.now)) }
+        (IsNone (IsNoDeskAgain file.entry.now desk)) }
     ensures follows { IfOk result (Follows (Shows ⟦<FileStore<File> as Store>⟧) (LeavesOneOf ⟦<FileStore<File> as Store>⟧) (IsTrusted ⟦<FileStore<File> as Store>⟧) desk) }
 {
     let Some(options) = options(rt) else {
-        close_desk(desk);
+        close_file(desk.into_connection());
         return Err(Fault::CannotRead(file));
     };
     match desk.reopen(options) {
         Ok(desk) => Ok(desk),
-        Err((left, fault)) => match left {
-            Unopened::Files(_) => match fault {
-                DeskFault::Memory => Err(Fault::Memory),
-                _ => Err(Fault::CannotRead(file)),
-            },
-            Unopened::Spent(_) => Err(Fault::from(fault)),
-            Unopened::Database(conn) => {
-                close_file(conn);
-                Err(Fault::from(fault))
-            }
+        Err((left, fault)) => Err(not_reopened(file, left, fault)),
+    }
+}
+
+// What is told of a file that isn't opened again, and that is closed.
+fn not_reopened<'w, D: Disk + Drop>(file: &'w str, left: Unopened<D>, fault: DeskFault) -> Fault<'w>
+    ensures { (result ≡ told_of fault) ⊎ IsUnopened file.entry.now result }
+{
+    match left {
+        Unopened::Files(_) => match fault {
+            DeskFault::Memory => Fault::Memory,
+            _ => Fault::CannotRead(file),
         },
+        Unopened::Spent(_) => Fault::from(fault),
+        Unopened::Database(conn) => {
+            let _ = conn.close();
+            Fault::from(fault)
+        }
     }
 }

@@ -1,26 +1,28 @@
 // What each status tells.
 ghost use Rattle.std.specs.Prelude.{◌≤◌, ℕ, List, Option};
+ghost use Rattle.dict_desk.specs.Plain.{PlainState};
 ghost use Rattle.dict_io.specs.Streams.{Change};
 ghost use Rattle.dict_printed.specs.Writing.{IsUntouched};
 ghost use Rattle.dictcat_lib.specs.Program.{CommandEnds, IsDone, IsExhausted, IsFailed};
 
-use sqlite::Alter;
+use crate::catalogues::Catalogues;
+use dict_desk::Keeper;
 
 /// With 0 what was asked for was done, and nothing is told. With 1 and 2 nothing was read or written. With 3 neither, or a
 /// session ended by a fault, or nothing was read and the writer failed, or a server that had told its addresses was cut off
 /// by a fault. With 4 nothing was read or written, or memory ran out in a server that had told its addresses. There is no
 /// other status.
-pub fn status_laws<T: Alter>()
-    ensures statuses { (files : List ℕ → Option (List ℕ)) (words : List (List ℕ)) (status : ℕ) (reader writer faults : Change)
-        → CommandEnds T.Store files words status reader writer faults → status ≤ 4 }
-    ensures done { (files : List ℕ → Option (List ℕ)) (words : List (List ℕ)) (reader writer faults : Change)
-        → CommandEnds T.Store files words 0 reader writer faults → IsDone T.Store files words reader writer × IsUntouched faults }
-    ensures refused { (files : List ℕ → Option (List ℕ)) (words : List (List ℕ)) (reader writer faults : Change)
-        → CommandEnds T.Store files words 1 reader writer faults → IsUntouched reader × IsUntouched writer }
-    ensures misread { (files : List ℕ → Option (List ℕ)) (words : List (List ℕ)) (reader writer faults : Change)
-        → CommandEnds T.Store files words 2 reader writer faults → IsUntouched reader × IsUntouched writer }
-    ensures failed { (files : List ℕ → Option (List ℕ)) (words : List (List ℕ)) (reader writer faults : Change)
-        → CommandEnds T.Store files words 3 reader writer faults → IsFailed T.Store words reader writer }
-    ensures memory { (files : List ℕ → Option (List ℕ)) (words : List (List ℕ)) (reader writer faults : Change)
-        → CommandEnds T.Store files words 4 reader writer faults → IsExhausted T.Store words reader writer }
+pub fn status_laws<K: Keeper, D: Catalogues<K>>()
+    ensures statuses { (files : List ℕ → Option (List ℕ)) (plain : PlainState) (old new : D) (words : List (List ℕ)) (status : ℕ) (reader writer faults : Change)
+        → CommandEnds K.Lookup D.Desks D.Catalogues.own files plain old new words status reader writer faults → status ≤ 4 }
+    ensures done { (files : List ℕ → Option (List ℕ)) (plain : PlainState) (old new : D) (words : List (List ℕ)) (reader writer faults : Change)
+        → CommandEnds K.Lookup D.Desks D.Catalogues.own files plain old new words 0 reader writer faults → IsDone K.Lookup D.Desks D.Catalogues.own files plain old new words reader writer × IsUntouched faults }
+    ensures refused { (files : List ℕ → Option (List ℕ)) (plain : PlainState) (old new : D) (words : List (List ℕ)) (reader writer faults : Change)
+        → CommandEnds K.Lookup D.Desks D.Catalogues.own files plain old new words 1 reader writer faults → IsUntouched reader × IsUntouched writer }
+    ensures misread { (files : List ℕ → Option (List ℕ)) (plain : PlainState) (old new : D) (words : List (List ℕ)) (reader writer faults : Change)
+        → CommandEnds K.Lookup D.Desks D.Catalogues.own files plain old new words 2 reader writer faults → IsUntouched reader × IsUntouched writer }
+    ensures failed { (files : List ℕ → Option (List ℕ)) (plain : PlainState) (old new : D) (words : List (List ℕ)) (reader writer faults : Change)
+        → CommandEnds K.Lookup D.Desks D.Catalogues.own files plain old new words 3 reader writer faults → IsFailed K.Lookup D.Desks D.Catalogues.own plain old new words reader writer }
+    ensures memory { (files : List ℕ → Option (List ℕ)) (plain : PlainState) (old new : D) (words : List (List ℕ)) (reader writer faults : Change)
+        → CommandEnds K.Lookup D.Desks D.Catalogues.own files plain old new words 4 reader writer faults → IsExhausted K.Lookup D.Desks D.Catalogues.own old new words reader writer }
 {}

@@ -1,17 +1,19 @@
 //! What the program dictcat does with the words that it is given.
 #![tactic(auto)]
 
+mod catalogues;
 mod desks;
+mod files;
 mod laws;
-mod making;
 mod plain;
 mod program;
-mod serving;
 mod session;
 mod stores;
 mod task;
 mod work;
 
+pub use catalogues::Catalogues;
+pub use files::CatalogueFiles;
 pub use laws::status_laws;
 pub use plain::run_plain;
 pub use program::{command, refuse_words};

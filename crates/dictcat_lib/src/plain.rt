@@ -1,6 +1,7 @@
 // A session over one database in lists.
 ghost use Rattle.dict_io.specs.Streams.{change};
-ghost use Rattle.dictcat_lib.specs.Plain.{PlainEnds, RunEnds, Installs, FilesEnd, told_by};
+ghost use Rattle.dict_session.specs.Desks.{condition};
+ghost use Rattle.dictcat_lib.specs.Plain.{PlainEnds, RunEnds, Installs, FilesEnd, standing, told_by};
 ghost use Rattle.std.specs.Prelude.{◌≡◌, codes};
 ghost use Rattle.dict_index.specs.Edition.{edition_of};
 ghost use Rattle.dict_catalogue.specs.Commands.{install};
@@ -24,21 +25,22 @@ const INSTALL_ID: &str = "plain";
 
 /// Runs a session over the database that an index and a text make, under a name, with host `localhost` and as
 /// connection 1. The edition's refusals come first, and then that of its install: the name's. The octets are given back
-/// before the session begins.
-pub fn run_plain<S: Source, K: Sink>(
+/// before the session begins. The desk is made anew, and tells in the end whether its last call failed.
+pub fn run_plain<S: Source, W: Sink>(
     alloc: Global,
+    desk: &mut PlainDesk,
     name: &str,
     index: Vec<u8>,
     text: Vec<u8>,
     reader: &mut S,
-    writer: &mut K,
+    writer: &mut W,
 ) -> Result<(), Fault<'static>>
-    ensures { PlainEnds name.now index.items text.items result
-        (change S.stream reader.old reader.new) (change K.stream writer.old writer.new) }
+    ensures { PlainEnds (standing desk.new) name.now index.items text.items result
+        (change S.stream reader.old reader.new) (change W.stream writer.old writer.new) }
 {
-    let mut desk = PlainDesk::new(alloc);
-    install_octets(alloc, &mut desk, name, index, text)?;
-    run_over(alloc, &mut desk, reader, writer)
+    *desk = PlainDesk::new(alloc);
+    install_octets(alloc, desk, name, index, text)?;
+    run_over(alloc, desk, reader, writer)
 }
 
 // Runs a session over what a desk shows.
@@ -48,7 +50,7 @@ fn run_over<D: Keeper, S: Source, K: Sink>(
     reader: &mut S,
     writer: &mut K,
 ) -> Result<(), Fault<'static>>
-    ensures ends { D.is_trusted desk.new → (M : Catalogue) → D.shows desk.old M → RunEnds M result
+    ensures ends { D.is_trusted desk.new → (M : Catalogue) → D.shows desk.old M → RunEnds M (condition D.has_failed D.is_closed desk.new) result
         (change S.stream reader.old reader.new) (change K.stream writer.old writer.new) }
     ensures trust { D.is_trusted desk.new → D.is_trusted desk.old }
 {
@@ -104,6 +106,7 @@ fn install<K: Keeper>(desk: &mut K, name: &str, edition: &Edition) -> Result<Kep
 #[tactic(auto, unfolding(crate::specs::Plain::FilesEnd))]
 pub(crate) fn run_files<'w, I: InputFiles, S: Source, K: Sink>(
     alloc: Global,
+    desk: &mut PlainDesk,
     name: &str,
     index: &'w str,
     text: &'w str,
@@ -111,10 +114,10 @@ pub(crate) fn run_files<'w, I: InputFiles, S: Source, K: Sink>(
     reader: &mut S,
     writer: &mut K,
 ) -> Result<(), Fault<'w>>
-    ensures { FilesEnd (I.octets files.now) name.now index.entry.now text.entry.now result
+    ensures { FilesEnd (standing desk.new) (I.octets files.now) name.now index.entry.now text.entry.now result
         (change S.stream reader.old reader.new) (change K.stream writer.old writer.new) }
 {
     let index = read_file(files, index)?;
     let text = read_file(files, text)?;
-    run_plain(alloc, name, index, text, reader, writer)
+    run_plain(alloc, desk, name, index, text, reader, writer)
 }

@@ -8,15 +8,15 @@ ghost use Rattle.dictcat_lib.specs.Program.{AnswerEnds, CommandEnds, Closes, IsT
 ghost use Rattle.dict_printed.specs.Writing.{IsUntouched};
 ghost use Rattle.dict_io.specs.Streams.{Change, change};
 
+use crate::catalogues::Catalogues;
 use crate::task::perform;
 use clap::Error;
 use clap::error::ErrorKind;
+use dict_desk::{Keeper, PlainDesk};
 use dict_io::{Sink, Source};
 use dict_printed::Fault;
 use dict_tasks::InputFiles;
 use dict_words::read_words;
-use sqlite::{File, FileStore};
-use sqlite_trees::store::Store;
 use std::alloc::Global;
 use std::convert::AsStr;
 use std::io;
@@ -24,20 +24,32 @@ use std::io;
 /// Does what the words ask for, of which the first is the program's name, and answers the status to end with: 0
 /// where it is done, 1 for a refusal, 2 for words that it can't make out, 3 for a file, an output or a session
 /// that failed, and 4 where memory ran out. Nothing goes to `faults` where the status is 0, and else one text.
-pub fn command<I: InputFiles, W: AsStr, S: Source, K: Sink, F: Sink>(
+///
+/// No catalogue is opened, changed or closed but that of the file that the words name, and this once, as its task says.
+pub fn command<
+    A: AsStr,
+    K: Keeper + Drop,
+    D: Catalogues<K>,
+    I: InputFiles,
+    S: Source,
+    W: Sink,
+    F: Sink,
+>(
     rt: &HostRuntime,
-    words: &[W],
+    words: &[A],
+    desks: &mut D,
+    plain: &mut PlainDesk,
     files: &I,
     reader: &mut S,
-    writer: &mut K,
+    writer: &mut W,
     faults: &mut F,
 ) -> u8
-    ensures { CommandEnds ⟦<FileStore<File> as Store>⟧ (I.octets files.now) (map W.text words.now) result
-        (change S.stream reader.old reader.new) (change K.stream writer.old writer.new) (change F.stream faults.old faults.new) }
+    ensures { CommandEnds K.Lookup D.Desks D.Catalogues.own (I.octets files.now) plain.new desks.old desks.new (map A.text words.now) result
+        (change S.stream reader.old reader.new) (change W.stream writer.old writer.new) (change F.stream faults.old faults.new) }
 {
     match read_words(rt.alloc(), words) {
         Ok(task) => {
-            let end = perform(rt, &task, files, reader, writer);
+            let end = perform(rt, &task, desks, plain, files, reader, writer);
             close(&end, faults)
         }
         Err(error) => answer_words(rt.alloc(), &error, writer, faults),

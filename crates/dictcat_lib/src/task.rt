@@ -1,120 +1,129 @@
 // What is done of what the program is asked for.
 ghost use Rattle.dict_io.specs.Streams.{change};
-ghost use Rattle.dict_catalogue.specs.Views.{command_meant};
-ghost use Rattle.dictcat_lib.specs.Desks.{ChangeEnds};
-ghost use Rattle.dictcat_lib.specs.Program.{TaskEnds, ChangeTaskEnds};
+ghost use Rattle.dictcat_lib.specs.Program.{ChangeTaskEnds, TaskEnds};
+ghost use Rattle.dictcat_lib.specs.Working.{ServesOn};
 
-use crate::making::create_file;
+use crate::catalogues::Catalogues;
 use crate::plain::run_files;
-use crate::serving::work_on_file;
-use crate::session::run_session;
-use crate::work::Work;
+use crate::work::{audit_over, change_over, create_over, install_over, list_over};
 use dict_catalogue::Command;
+use dict_desk::{Keeper, PlainDesk};
 use dict_io::{Sink, Source};
 use dict_printed::Fault;
-use dict_tasks::InputFiles;
+use dict_serving::{Desks, ServerOptions, serve_catalogue};
+use dict_tasks::{InputFiles, Wanted};
 use dict_words::{Change, Task};
-use sqlite::{File, FileStore};
-use sqlite_trees::store::Store;
+use std::alloc::Global;
 
-/// Does a task: reads the files that it names, takes a session's octets from the reader, and writes what it answers.
-pub fn perform<'w, I: InputFiles, S: Source, K: Sink>(
+/// Does a task: opens the catalogue that it names, reads its files, takes a session's octets from the reader, and writes what it
+/// answers. The catalogue of a session over two files is kept in `plain`, which is made anew for it.
+pub fn perform<'w, K: Keeper + Drop, D: Catalogues<K>, I: InputFiles, S: Source, W: Sink>(
     rt: &HostRuntime,
     task: &Task<'w>,
+    desks: &mut D,
+    plain: &mut PlainDesk,
     files: &I,
     reader: &mut S,
-    writer: &mut K,
+    writer: &mut W,
 ) -> Result<(), Fault<'w>>
-    ensures { TaskEnds ⟦<FileStore<File> as Store>⟧ (I.octets files.now) task.now result
-        (change S.stream reader.old reader.new) (change K.stream writer.old writer.new) }
+    ensures { TaskEnds K.Lookup D.Desks D.Catalogues.own (I.octets files.now) plain.new desks.old desks.new task.now result
+        (change S.stream reader.old reader.new) (change W.stream writer.old writer.new) }
 {
     match task {
         Task::Plain { name, index, text } => {
-            run_files(rt.alloc(), name, *index, *text, files, reader, writer)
+            run_files(
+                rt.alloc(),
+                plain,
+                name,
+                *index,
+                *text,
+                files,
+                reader,
+                writer,
+            )
         }
-        Task::Create { file } => create_file(rt, *file),
-        Task::List { file } => work_on_file(rt, *file, &Work::List, files, writer),
-        Task::Audit { file } => work_on_file(rt, *file, &Work::Audit, files, writer),
-        Task::Session { file } => run_session(rt, *file, reader, writer),
+        Task::Create { file } => create_over(desks, *file),
+        Task::List { file } => list_over(desks, *file, writer),
+        Task::Audit { file } => audit_over(desks, *file, writer),
+        Task::Session { file } => desks.session(*file, reader, writer),
         Task::Change {
             file,
             name,
             id,
             change,
-        } => perform_change(rt, *file, *name, *id, change, files, writer),
+        } => perform_change(rt.alloc(), desks, *file, *name, *id, change, files, writer),
         Task::Serve {
             file,
             dict,
             http,
             rounds,
         } => {
-            let work = Work::Serve {
+            let wanted = ServerOptions {
                 dict: *dict,
                 http: *http,
                 rounds: *rounds,
             };
-            work_on_file(rt, *file, &work, files, writer)
+            serve(rt, desks, *file, &wanted, writer)
         }
     }
 }
 
-// Changes the catalogue of a file.
-fn perform_change<'w, I: InputFiles, K: Sink>(
+// Serves the catalogue of a file.
+#[tactic(auto, unfolding(crate::specs::Working::ServesOn))]
+fn serve<'w, K: Keeper + Drop, D: Desks<K>, W: Sink>(
     rt: &HostRuntime,
+    desks: &mut D,
+    file: &'w str,
+    wanted: &ServerOptions<'w>,
+    writer: &mut W,
+) -> Result<(), Fault<'w>>
+    ensures { ServesOn K.Lookup D.Desks file.entry.now wanted.now.dict.now wanted.now.http.now wanted.now.rounds desks.old desks.new result
+        (change W.stream writer.old writer.new) }
+{
+    serve_catalogue(rt, rt.alloc(), desks, file, wanted, writer)
+}
+
+// Changes the catalogue of a file.
+fn perform_change<'w, K: Keeper + Drop, D: Desks<K>, I: InputFiles, W: Sink>(
+    alloc: Global,
+    desks: &mut D,
     file: &'w str,
     name: &'w str,
     id: &'w str,
     what: &Change<'w>,
     files: &I,
-    writer: &mut K,
+    writer: &mut W,
 ) -> Result<(), Fault<'w>>
-    ensures { ChangeTaskEnds ⟦<FileStore<File> as Store>⟧ (I.octets files.now) file.entry.now name.entry.now id.entry.now what.now result
-        (change K.stream writer.old writer.new) }
+    ensures { ChangeTaskEnds K.Lookup D.Desks (I.octets files.now) desks.old desks.new file.entry.now name.entry.now id.entry.now what.now result
+        (change W.stream writer.old writer.new) }
 {
     match what {
         Change::Install { index, text } => {
-            let work = Work::Install {
-                id,
-                name,
-                index: *index,
-                text: *text,
-            };
-            work_on_file(rt, file, &work, files, writer)
+            let (index, text) = (*index, *text);
+            let wanted = Wanted { name, index, text };
+            install_over(alloc, desks, file, id, wanted, files, writer)
         }
         Change::Rollback => {
             let command = Command::Rollback { name };
-            apply(rt, file, id, &command, files, writer)
+            change_over(alloc, desks, file, id, &command, writer)
         }
         Change::Retire => {
             let command = Command::Retire { name };
-            apply(rt, file, id, &command, files, writer)
+            change_over(alloc, desks, file, id, &command, writer)
         }
         Change::Virtual { title, members } => {
+            let (title, members) = (*title, members.as_slice());
             let command = Command::PutVirtual {
                 name,
-                title: *title,
-                members: members.as_slice(),
+                title,
+                members,
             };
-            apply(rt, file, id, &command, files, writer)
+            change_over(alloc, desks, file, id, &command, writer)
         }
         Change::Place { place } => {
             let place = u64::from(*place);
             let command = Command::Place { name, place };
-            apply(rt, file, id, &command, files, writer)
+            change_over(alloc, desks, file, id, &command, writer)
         }
     }
-}
-
-// Applies a command to the catalogue of a file.
-fn apply<'w, I: InputFiles, K: Sink>(
-    rt: &HostRuntime,
-    file: &'w str,
-    id: &'w str,
-    command: &Command,
-    files: &I,
-    writer: &mut K,
-) -> Result<(), Fault<'w>>
-    ensures { ChangeEnds ⟦<FileStore<File> as Store>⟧ file.entry.now id.entry.now (command_meant command.now) result (change K.stream writer.old writer.new) }
-{
-    work_on_file(rt, file, &Work::Apply { id, command }, files, writer)
 }

@@ -1,105 +1,67 @@
-// Work over the desk of a catalogue, which is opened for it and closed after it.
+// Work over the catalogues of files, whatever opens them.
 ghost use Rattle.dict_io.specs.Streams.{change};
 ghost use Rattle.dict_catalogue.specs.Views.{command_meant};
-ghost use Rattle.dictcat_lib.specs.Working.{Audits, Changes, Installs, Lists, WorkEnds};
+ghost use Rattle.dictcat_lib.specs.Working.{AuditEnds, ChangeEnds, CreateEnds, InstallsOn, ListEnds, TellsSound};
 
+use crate::catalogues::Catalogues;
 use dict_catalogue::Command;
 use dict_desk::Keeper;
 use dict_io::Sink;
 use dict_printed::Fault;
-use dict_serving::{Desks, ServerOptions, serve_catalogue};
+use dict_serving::Desks;
 use dict_tasks::{InputFiles, Wanted, change, install, list};
 use std::alloc::Global;
 
-// What is done over a catalogue.
-#[derive(Drop)]
-pub(crate) enum Work<'t, 'c, 'w> {
-    // A line is written for each of its items.
-    List,
-    // It is read whole.
-    Audit,
-    // A command is applied to it, under the id of its request.
-    Apply {
-        id: &'w str,
-        command: &'t Command<'c>,
-    },
-    // The edition that two files make is installed in it under a name.
-    Install {
-        id: &'w str,
-        name: &'w str,
-        index: &'w str,
-        text: &'w str,
-    },
-    // It is served at two addresses, for so many rounds or without end.
-    Serve {
-        dict: &'w str,
-        http: &'w str,
-        rounds: Option<u32>,
-    },
-}
-
-// Opens the desk of a catalogue, does the work over it, and writes what comes of it.
-#[tactic(auto, unfolding(crate::specs::Working::WorkEnds))]
-pub(crate) fn work_over<'w, K: Keeper + Drop, D: Desks<'w, K>, I: InputFiles, W: Sink>(
-    rt: &HostRuntime,
+// Makes an empty catalogue in the file with this path.
+pub(crate) fn create_over<'w, K: Keeper + Drop, D: Catalogues<K>>(
     desks: &mut D,
-    work: &Work<'_, '_, 'w>,
-    files: &I,
-    writer: &mut W,
+    path: &'w str,
 ) -> Result<(), Fault<'w>>
-    ensures { WorkEnds K.shows K.leaves_one_of K.is_trusted D.is_opened K.is_closed D.is_unopened (I.octets files.now) (D.path desks.old) work.now result
-        (change W.stream writer.old writer.new) }
+    ensures { CreateEnds K.Lookup D.Desks D.Catalogues.own path.entry.now desks.old desks.new result }
 {
-    match work {
-        Work::List => list_over(desks, writer),
-        Work::Audit => audit_over(desks, writer),
-        Work::Apply { id, command } => change_over(rt.alloc(), desks, *id, *command, writer),
-        Work::Install {
-            id,
-            name,
-            index,
-            text,
-        } => {
-            let wanted = Wanted {
-                name: *name,
-                index: *index,
-                text: *text,
-            };
-            install_over(rt.alloc(), desks, *id, wanted, files, writer)
-        }
-        Work::Serve { dict, http, rounds } => {
-            let wanted = ServerOptions {
-                dict: *dict,
-                http: *http,
-                rounds: *rounds,
-            };
-            serve_catalogue(rt, rt.alloc(), desks, &wanted, writer)
-        }
-    }
+    let desk = desks.make(path)?;
+    let _ = desks.close(desk);
+    Ok(())
 }
 
 // Writes a line for each item of a catalogue.
-fn list_over<'w, K: Keeper + Drop, D: Desks<'w, K>, W: Sink>(
+pub(crate) fn list_over<'w, K: Keeper + Drop, D: Desks<K>, W: Sink>(
     desks: &mut D,
+    path: &'w str,
     writer: &mut W,
 ) -> Result<(), Fault<'w>>
-    ensures { Lists K.shows D.is_opened K.is_closed (D.is_unopened (D.path desks.old)) result (change W.stream writer.old writer.new) }
+    ensures { ListEnds K.Lookup D.Desks path.entry.now desks.old desks.new result (change W.stream writer.old writer.new) }
 {
-    let desk = desks.open()?;
+    let desk = desks.open(path)?;
     let end = list(&desk, writer);
-    desks.close(desk);
+    let _ = desks.close(desk);
     end
 }
 
-// Reads a catalogue whole, and says that it is sound.
-fn audit_over<'w, K: Keeper + Drop, D: Desks<'w, K>, W: Sink>(
+// Reads a catalogue whole, and says that it is sound where its file holds it alone once it is closed.
+pub(crate) fn audit_over<'w, K: Keeper + Drop, D: Catalogues<K>, W: Sink>(
     desks: &mut D,
+    path: &'w str,
     writer: &mut W,
 ) -> Result<(), Fault<'w>>
-    ensures { Audits D.is_opened (D.is_unopened (D.path desks.old)) result (change W.stream writer.old writer.new) }
+    ensures { AuditEnds K.Lookup D.Desks D.Catalogues.own path.entry.now desks.old desks.new result (change W.stream writer.old writer.new) }
 {
-    let desk = desks.open()?;
-    desks.close(desk);
+    let mut desk = desks.open(path)?;
+    let audited = desks.audit(&mut desk);
+    let closed = desks.close(desk);
+    tell_sound(audited, closed, writer)
+}
+
+// Says that a file is sound where it was read whole and closed, or the first fault.
+fn tell_sound<W: Sink>(
+    audited: Result<(), Fault<'static>>,
+    closed: Result<(), Fault<'static>>,
+    writer: &mut W,
+) -> Result<(), Fault<'static>>
+    ensures { TellsSound audited.entry closed.entry result (change W.stream writer.old writer.new) }
+{
+    audited?;
+    closed?;
     match writer.put(b"sound\n") {
         Ok(()) => Ok(()),
         Err(_) => Err(Fault::CannotWrite),
@@ -107,36 +69,38 @@ fn audit_over<'w, K: Keeper + Drop, D: Desks<'w, K>, W: Sink>(
 }
 
 // Applies a command to a catalogue, and writes its reply.
-fn change_over<'w, K: Keeper + Drop, D: Desks<'w, K>, W: Sink>(
+pub(crate) fn change_over<'w, K: Keeper + Drop, D: Desks<K>, W: Sink>(
     alloc: Global,
     desks: &mut D,
+    path: &'w str,
     id: &str,
     command: &Command,
     writer: &mut W,
 ) -> Result<(), Fault<'w>>
-    ensures { Changes K.shows K.leaves_one_of K.is_trusted D.is_opened (D.is_unopened (D.path desks.old)) id.now (command_meant command.now) result
+    ensures { ChangeEnds K.Lookup D.Desks path.entry.now id.now (command_meant command.now) desks.old desks.new result
         (change W.stream writer.old writer.new) }
 {
-    let mut desk = desks.open()?;
+    let mut desk = desks.open(path)?;
     let end = change(alloc, &mut desk, id, command, writer);
-    desks.close(desk);
+    let _ = desks.close(desk);
     end
 }
 
 // Installs the edition that two files make in a catalogue, and writes the reply.
-fn install_over<'w, K: Keeper + Drop, D: Desks<'w, K>, I: InputFiles, W: Sink>(
+pub(crate) fn install_over<'w, K: Keeper + Drop, D: Desks<K>, I: InputFiles, W: Sink>(
     alloc: Global,
     desks: &mut D,
+    path: &'w str,
     id: &str,
     wanted: Wanted<'w>,
     files: &I,
     writer: &mut W,
 ) -> Result<(), Fault<'w>>
-    ensures { Installs K.shows K.leaves_one_of K.is_trusted D.is_opened (D.is_unopened (D.path desks.old)) (I.octets files.now) wanted.entry.name.now id.now
-        wanted.entry.index.now wanted.entry.text.now result (change W.stream writer.old writer.new) }
+    ensures { InstallsOn K.Lookup D.Desks (I.octets files.now) path.entry.now wanted.entry.name.now id.now wanted.entry.index.now wanted.entry.text.now
+        desks.old desks.new result (change W.stream writer.old writer.new) }
 {
-    let mut desk = desks.open()?;
+    let mut desk = desks.open(path)?;
     let end = install(alloc, &mut desk, id, wanted, files, writer);
-    desks.close(desk);
+    let _ = desks.close(desk);
     end
 }

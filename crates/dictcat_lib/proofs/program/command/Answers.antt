@@ -5,6 +5,6 @@ pub returns-in-Err : goal.returns-in-Err
 returns-in-Err g c =
     let reader = g.S.Source.stream c.args.reader.now in
     elim (c.answer_words.ensures _ c.in-Err.ensures.err (record { old = reader; new = reader }) refl) [
-      | inl (end, shown, closes) ↦ inl (end, inr shown, closes)
-      | inr misread ↦ inr misread
+      | inl (end, shown, closes) ↦ inl (end, inr (shown, refl), closes)
+      | inr misread ↦ inr (misread, refl)
     ]

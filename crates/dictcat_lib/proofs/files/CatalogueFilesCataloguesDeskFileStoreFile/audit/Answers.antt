@@ -1,0 +1,12 @@
+use Rattle.sqlite.specs.Files.{over_files}
+use Rattle.dictcat_lib.proofs.FileLemmas.{read_stays}
+use Rattle.dictcat_lib.proofs.files.CatalogueFilesCataloguesDeskFileStoreFile.audit.Goals as goal
+
+pub returns-in-Ok-clause-stays : goal.returns-in-Ok-clause-stays
+returns-in-Ok-clause-stays c = read_stays over_files c.args.desk.now c.audit.new.self c.in-Ok.ensures.spares c.in-Ok.ensures.shows
+
+pub returns-in-Err-clause-sound : goal.returns-in-Err-clause-sound
+returns-in-Err-clause-sound c = (c.in-Err.fault, c.from.ensures, λ clean. (c.in-Err.ensures.told clean, c.in-Err.ensures.not_held clean))
+
+pub returns-in-Err-clause-stays : goal.returns-in-Err-clause-stays
+returns-in-Err-clause-stays c = read_stays over_files c.args.desk.now c.audit.new.self c.in-Err.ensures.spares c.in-Err.ensures.shows

@@ -1,0 +1,18 @@
+use Rattle.std.proofs.Common.{Err, refl}
+use Rattle.std.specs.Prelude.{Some}
+use Rattle.dict_io.specs.Streams.{change}
+use Rattle.dictcat_lib.proofs.FileLemmas.{spared_all}
+use Rattle.dictcat_lib.proofs.files.CatalogueFilesCataloguesDeskFileStoreFile.session.Goals as goal
+
+pub returns-in-Ok-clause-spoken : goal.returns-in-Ok-clause-spoken
+returns-in-Ok-clause-spoken g c = (
+  Some c.in-Ok.desk,
+  (c.in-Ok.ensures.spoken.0, c.in-Ok.end, c.told_over.ensures, c.in-Ok.ensures.spoken.1),
+  refl,
+  (c.close.result, c.close.ensures.shut),
+)
+
+pub returns-in-Err-clause-spared : goal.returns-in-Err-clause-spared
+returns-in-Err-clause-spared g c =
+    spared_all (Err c.in-Err.fault) (change g.S.Source.stream c.args.reader.now c.run_session.new.reader) (change g.W.Sink.stream c.args.writer.now c.run_session.new.writer) c.in-Err.ensures.spoken.1
+    c.in-Err.ensures.spoken.2
