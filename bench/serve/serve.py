@@ -57,27 +57,27 @@ def measure(server, count, question, mark, batch):
     return answers / passed, statistics.median(taken) * MICRO, used / answers * MICRO
 
 
-def dictcat(program, work, examples):
-    """dictcat over a file in which `gem` was installed by HTTP."""
+def dictcat(program, work, examples, name="gem"):
+    """dictcat over a file in which the database of this name was installed by HTTP."""
     path = work / "catalogue.db"
     subprocess.run([program, "create", path], check=True)
     server = serve(program, path)
-    index, text = ((examples / f"gem.{it}").read_bytes() for it in ("index", "dict"))
-    assert install(server.http_address, b"gem", b"r1", index, text)[0] == 200
+    index, text = ((examples / f"{name}.{it}").read_bytes() for it in ("index", "dict"))
+    assert install(server.http_address, name.encode(), b"r1", index, text)[0] == 200
     return server
 
 
-def dictd(work, examples):
+def dictd(work, examples, name="gem"):
     """dictd over the same words, sorted as it wants them, or None where it isn't there."""
     if not shutil.which("dictd"):
         return None
-    lines = sorted((examples / "gem.index").read_text().splitlines(True), key=lambda it: it.split("\t")[0].lower())
-    (work / "gem.index").write_text("".join(lines))
-    shutil.copy(examples / "gem.dict", work)
+    lines = sorted((examples / f"{name}.index").read_text().splitlines(True), key=lambda it: it.split("\t")[0].lower())
+    (work / f"{name}.index").write_text("".join(lines))
+    shutil.copyfile(examples / f"{name}.dict", work / f"{name}.dict")
     port = 26280
     (work / "dictd.conf").write_text(
         f'global {{ listen_to 127.0.0.1\n port {port}\n limit_queries 1000000000 }}\naccess {{ allow * }}\n'
-        f'database gem {{ data "{work}/gem.dict"\n index "{work}/gem.index" }}\n'
+        f'database {name} {{ data "{work}/{name}.dict"\n index "{work}/{name}.index" }}\n'
     )
     work.chmod(0o755)
     process = subprocess.Popen(["dictd", "-d", "nodetach", "-c", work / "dictd.conf", "--pid-file", work / "pid"],
@@ -140,4 +140,5 @@ def main():
                 server.kill()
 
 
-main()
+if __name__ == "__main__":
+    main()
