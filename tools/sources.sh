@@ -39,7 +39,7 @@ built_sum() {
 build() {
     local sum log crates
     if ! command -v rt >/dev/null; then
-        echo "dictcat: the sources have changed since dist/ was built, and there is no toolchain (rt) here to build them" >&2
+        echo "dictcat: the program has to be built from these sources, and there is no toolchain (rt) here" >&2
         exit 70
     fi
     sum=$(sources_sum)
