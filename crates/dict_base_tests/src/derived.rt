@@ -1,8 +1,9 @@
 //! Keys at every edge, and what is selected beside the filter of a whole list.
-use crate::checks::{same_text, same_text_of};
+use crate::checks::{holds, same_text, same_text_of};
 use dict_derived::{
-    Derived, NotDerived, PieceReader, Pieces, Selection, derive, grams_of, is_tested, range_law,
-    search_laws, select, words_of,
+    Derived, NotDerived, PieceReader, Pieces, Selection, by_edition, derive, derived_after,
+    due_rows, grams_of, inserted_rows, is_tested, range_law, same_under_versions, search_laws,
+    select, sorted_grams, sorted_words, words_of, worked_pieces,
 };
 use dict_match::{Key, Strategy, key_of, matches, words};
 use std::alloc::{AllocError, Global};
@@ -302,5 +303,95 @@ fn the_derived_rows_are_taken_and_no_others(rt: HostRuntime) -> Result<(), Fail>
         told_taken(alloc, Pieces::Words, &OTHERS)?.as_str(),
         "----+- others",
     );
+    Ok(())
+}
+
+// The keys of an edition, all their words and all their grams, each with its place and a comma behind it.
+static EDITION: [&str; 4] = ["b a b", "abcab", "", "a b"];
+
+static PLACED_WORDS: &str = "a0,a3,abcab1,b0,b3,";
+
+static PLACED_GRAMS: &str = " a 0,a b0,a b3,abc1,b a0,bca1,cab1,";
+
+fn keys_of_edition(alloc: Global) -> Result<Vec<Key>, AllocError> {
+    let mut keys = Vec::new(alloc);
+    for headword in &EDITION {
+        keys.push(key_of(alloc, headword)?)?;
+    }
+    Ok(keys)
+}
+
+fn push_placed(told: &mut String, piece: &[u8], ord: u32) -> Result<(), AllocError> {
+    told.push_str(str::from_utf8(piece).unwrap_or("not UTF-8"))?;
+    told.push(char::from_digit(ord, 10).unwrap_or('?'))?;
+    told.push(',')
+}
+
+fn told_sorted_words(alloc: Global, keys: &[Key]) -> Result<String, AllocError> {
+    let mut told = String::new(alloc);
+    for placed in &sorted_words(alloc, keys)? {
+        push_placed(&mut told, placed.word, placed.ord)?;
+    }
+    Ok(told)
+}
+
+fn told_sorted_grams(alloc: Global, keys: &[Key]) -> Result<String, AllocError> {
+    let mut told = String::new(alloc);
+    for placed in &sorted_grams(alloc, keys)? {
+        push_placed(&mut told, &placed.gram, placed.ord)?;
+    }
+    Ok(told)
+}
+
+#[test]
+fn the_pieces_of_an_edition_are_sorted(rt: HostRuntime) -> Result<(), Fail> {
+    let alloc = rt.alloc();
+    let keys = keys_of_edition(alloc)?;
+    same_text(&rt, told_sorted_words(alloc, &keys)?.as_str(), PLACED_WORDS);
+    same_text(&rt, told_sorted_grams(alloc, &keys)?.as_str(), PLACED_GRAMS);
+    due_rows();
+    by_edition();
+    inserted_rows();
+    derived_after();
+    same_under_versions();
+    worked_pieces();
+    Ok(())
+}
+
+/// Whether a reader takes all the sorted words of the keys, and no others are due.
+fn are_all_words(alloc: Global, keys: &[Key]) -> Result<bool, AllocError> {
+    let mut reader = PieceReader::begin(alloc, Pieces::Words, 7, keys)?;
+    for placed in &sorted_words(alloc, keys)? {
+        let word = Vec::from_slice(alloc, placed.word)?;
+        if reader.take(7, word, i64::from(placed.ord)).is_err() {
+            return Ok(false);
+        }
+    }
+    Ok(reader.finish().is_ok())
+}
+
+/// The same of grams.
+fn are_all_grams(alloc: Global, keys: &[Key]) -> Result<bool, AllocError> {
+    let mut reader = PieceReader::begin(alloc, Pieces::Grams, 7, keys)?;
+    for placed in &sorted_grams(alloc, keys)? {
+        let gram = Vec::from_slice(alloc, &placed.gram)?;
+        if reader.take(7, gram, i64::from(placed.ord)).is_err() {
+            return Ok(false);
+        }
+    }
+    Ok(reader.finish().is_ok())
+}
+
+#[test]
+fn a_reader_takes_the_sorted_pieces(rt: HostRuntime) -> Result<(), Fail> {
+    let alloc = rt.alloc();
+    let mut state = 29;
+    let mut keys = Vec::new(alloc);
+    for _ in 0..2_000 {
+        let text = headword(alloc, &mut state)?;
+        keys.push(key_of(alloc, &text)?)?;
+    }
+    holds(&rt, are_all_words(alloc, &keys)?, "words");
+    holds(&rt, are_all_grams(alloc, &keys)?, "grams");
     Ok(())
 }

@@ -20,11 +20,12 @@ use Rattle.dict_text.proofs.AllLemmas.{all_append, all_append_parts}
 use Rattle.dict_records.specs.Keyed.{Piece}
 use Rattle.dict_derived.specs.Derived.{octets_cmp, AreOnce}
 use Rattle.dict_derived.specs.declared.reader.Pieces.{Pieces}
+use Rattle.dict_derived.specs.Entries.{piece_at}
 use Rattle.dict_derived.specs.Exact.{IsPieceOf, IsDue, piece_cmp, HasMany}
 
 -- ---- the order of rows
 
-total : IsTotalOrder piece_cmp
+pub total : IsTotalOrder piece_cmp
 total = then_total (on_total (λ (r : Piece). r.edition) int_cmp_total) (then_total (on_total (λ (r : Piece). r.piece) nat_list_cmp_total) (on_total (λ (r : Piece). r.ord) int_cmp_total))
 
 then_equal : (a b : Ordering) → ordering_then a b ≡ Equal → (a ≡ Equal) × (b ≡ Equal)
@@ -32,14 +33,10 @@ then_equal Less b e = cc
 then_equal Equal b e = (refl, e)
 then_equal Greater b e = cc
 
-piece_at : ℤ → ℤ → List ℕ → Piece
-piece_at edition ord piece = record { edition = edition; piece = piece; ord = ord }
-
 pub alike : (x y : Piece) → x.edition ≡ y.edition → x.piece ≡ y.piece → x.ord ≡ y.ord → x ≡ y
-unfolding piece_at
 alike x y a b c = ap (λ n. piece_at n x.ord x.piece) a ∙ ap (λ p. piece_at y.edition x.ord p) b ∙ ap (λ o. piece_at y.edition o y.piece) c
 
-exact : (x y : Piece) → piece_cmp x y ≡ Equal → x ≡ y
+pub exact : (x y : Piece) → piece_cmp x y ≡ Equal → x ≡ y
 exact x y e =
     let one = then_equal (int_cmp x.edition y.edition) (ordering_then (octets_cmp x.piece y.piece) (int_cmp x.ord y.ord)) e in
     let two = then_equal (octets_cmp x.piece y.piece) (int_cmp x.ord y.ord) one.1 in
@@ -60,7 +57,7 @@ tells x y = (
 member : (rows : List Piece) (row : Piece) → Decides (is_member same_row rows row) (Contains rows row)
 member rows row = is_member-Decides tells rows row
 
-not_so : (b : Bool) → (b ≡ true → ⊥) → b ≡ false
+pub not_so : (b : Bool) → (b ≡ true → ⊥) → b ≡ false
 not_so true h = absurd (h refl)
 not_so false h = refl
 
@@ -78,7 +75,6 @@ distinct_append (x ∷ xs) ys d e apart =
 
 map_below : (edition ord : ℤ) (p : List ℕ) (ps : List (List ℕ)) → AllByRecursion (λ q. octets_cmp p q ≡ Less) ps
     → AllByRecursion (λ r. piece_cmp (piece_at edition ord p) r ≡ Less) (map (piece_at edition ord) ps)
-unfolding piece_at
 map_below edition ord p [] h = tt
 map_below edition ord p (q ∷ ps) h = (
   ap (λ o. ordering_then o (ordering_then (octets_cmp p q) (int_cmp ord ord))) (tied_itself int_cmp_total edition) ∙ ap (λ o. ordering_then o (int_cmp ord ord)) h.0,
@@ -90,13 +86,13 @@ unfolding IsStrictlySortedBy
 map_rising edition ord [] h = tt
 map_rising edition ord (p ∷ ps) h = (map_below edition ord p ps h.0, map_rising edition ord ps h.1)
 
-from_map : (f : List ℕ → Piece) (ps : List (List ℕ)) (row : Piece) → Contains (map f ps) row → (p : List ℕ) × Contains ps p × (f p ≡ row)
+pub from_map : (f : List ℕ → Piece) (ps : List (List ℕ)) (row : Piece) → Contains (map f ps) row → (p : List ℕ) × Contains ps p × (f p ≡ row)
 from_map f ps row h =
     let size = length-map ps f in
     let within : h.0 < length ps = omega (arith, h.1) in
     (get_or ps h.0 [], Contains-get_or ps h.0 [] within, sym (get_or-map f ps h.0 [] row within) ∙ h.2)
 
-to_map : (f : List ℕ → Piece) (ps : List (List ℕ)) (p : List ℕ) → Contains ps p → Contains (map f ps) (f p)
+pub to_map : (f : List ℕ → Piece) (ps : List (List ℕ)) (p : List ℕ) → Contains ps p → Contains (map f ps) (f p)
 to_map f ps p h =
     let size = length-map ps f in
     (h.0, omega (arith, h.1), get_or-map f ps h.0 p (f p) h.1 ∙ ap f h.2)
@@ -113,11 +109,9 @@ none_due pieces edition keys = record { rows = []; apart = tt; each = λ row. ((
 
 module _ (pieces : Pieces) (edition : ℤ) (keys : List (List ℕ)) (n : ℕ) (key : List ℕ) (there : slice_get keys n ≡ Some key) (list : List (List ℕ)) (once : AreOnce (IsPieceOf pieces key) list) where
   here : (p : List ℕ) → Contains list p → IsDueBelow pieces edition keys (n + 1) (piece_at edition (pos n) p)
-  unfolding piece_at
   here p c = (record { number = refl; place = n; ord = refl; key = key; there = there; piece = (once.each p).0 c }, omega arith)
 
   back : (row : Piece) (due : IsDue pieces edition keys row) → due.place ≡ n → Contains (map (piece_at edition (pos n)) list) row
-  unfolding piece_at
   back row due e =
       let K : ℕ → Type 0 = λ m. slice_get keys m ≡ Some due.key in
       let at : slice_get keys n ≡ Some due.key = subst K e due.there in
@@ -128,7 +122,6 @@ module _ (pieces : Pieces) (edition : ℤ) (keys : List (List ℕ)) (n : ℕ) (k
       subst C whole (to_map (piece_at edition (pos n)) list row.piece ((once.each row.piece).1 (subst Q is due.piece)))
 
   pub more_due : (many : ℕ) → HasMany (IsDueBelow pieces edition keys n) many → HasMany (IsDueBelow pieces edition keys (n + 1)) (many + length list)
-  unfolding piece_at
   more_due many h =
       let added = map (piece_at edition (pos n)) list in
       record {

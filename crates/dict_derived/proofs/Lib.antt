@@ -1,5 +1,12 @@
+pub mod AfterLemmas
+pub mod BagLemmas
+pub mod DueLemmas
 pub mod ExactLemmas
+pub mod GrownLemmas
 pub mod PieceLemmas
+pub mod PlacedLemmas
 pub mod RangeLemmas
 pub mod SearchLemmas
+pub mod SortedLemmas
 pub mod TakingLemmas
+pub mod VersionLemmas

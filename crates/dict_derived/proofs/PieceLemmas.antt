@@ -16,7 +16,7 @@ use Rattle.std.proofs.lemmas.Map.Lookups.{exact_bytes}
 use Rattle.std.proofs.lemmas.Map.Made.{is_member-Decides}
 use Rattle.std.proofs.lemmas.Slice.Eq.{bytes_eq-Decides}
 use Rattle.dict_match.specs.Matching.{StandsIn}
-use Rattle.dict_derived.specs.Derived.{octets_cmp, IsGramOf, AreOnce}
+use Rattle.dict_derived.specs.Derived.{octets_cmp, IsGramOf, AreOnce, first_gram, grams}
 
 abbrev pub is_in : List (List ℕ) → List ℕ → Bool
 is_in xs q = is_member bytes_eq xs q
@@ -123,14 +123,6 @@ lent-rising (x ∷ xs) h = (lent-below x xs h.0, lent-rising xs h.1)
 
 -- ---- grams
 
-abbrev pub first_gram : List ℕ → List (List ℕ)
-first_gram (x ∷ y ∷ z ∷ rest) = (x ∷ y ∷ z ∷ []) ∷ []
-first_gram _ = []
-
-abbrev pub grams : List ℕ → List (List ℕ)
-grams [] = []
-grams (x ∷ xs) = first_gram (x ∷ xs) ++ grams xs
-
 later : (x : ℕ) (g xs : List ℕ) → StandsIn g xs → StandsIn g (x ∷ xs)
 later x g xs h = (x ∷ h.0, h.1, ap (λ l. x ∷ l) h.2)
 
@@ -190,16 +182,20 @@ short (x ∷ y ∷ z ∷ rest) h = absurd (omega arith)
 pub no_more : (xs : List ℕ) (n : ℕ) → length xs < n + 3 → grams (drop n xs) ≡ []
 no_more xs n h = let size : length (drop n xs) ≡ length xs - n = length-drop n xs in short (drop n xs) (omega arith)
 
-pub gram_more : (key : List ℕ) (set new : List (List ℕ)) (end : ℕ) → 3 ≤ end → end < length key + 1 → AreOnceOf (grams key) (grams (drop (end - 3) key)) set
-    → new ≡ insert_key octets_cmp set (get_or key (end - 3) 0 ∷ get_or key (end - 2) 0 ∷ get_or key (end - 1) 0 ∷ []) → IsStrictlySortedBy octets_cmp new
-    → AreOnceOf (grams key) (grams (drop (end + 1 - 3) key)) new
-gram_more key set new end low fits before e up =
+-- the same, told by the end of the gram
+pub gram_to_end : (key : List ℕ) (end : ℕ) → 3 ≤ end → end < length key + 1 → grams (drop (end - 3) key) ≡ (get_or key (end - 3) 0 ∷ get_or key (end - 2) 0 ∷ get_or key (end - 1) 0 ∷ []) ∷ grams (drop (end + 1 - 3) key)
+gram_to_end key end low fits =
     let n = end - 3 in
     let second : n + 1 ≡ end - 2 = omega arith in
     let third : n + 2 ≡ end - 1 = omega arith in
     let further : n + 1 ≡ end + 1 - 3 = omega arith in
     let gram : ℕ → ℕ → List ℕ = λ b d. get_or key n 0 ∷ get_or key b 0 ∷ get_or key d 0 ∷ [] in
     let is : gram (n + 1) (n + 2) ≡ gram (end - 2) (end - 1) = ap (λ b. gram b (n + 2)) second ∙ ap (λ d. gram (end - 2) d) third in
-    let next = next_gram key n (omega arith) ∙ ap (λ g. g ∷ grams (drop (n + 1) key)) is ∙ ap (λ m. gram (end - 2) (end - 1) ∷ grams (drop m key)) further in
+    next_gram key n (omega arith) ∙ ap (λ g. g ∷ grams (drop (n + 1) key)) is ∙ ap (λ m. gram (end - 2) (end - 1) ∷ grams (drop m key)) further
+
+pub gram_more : (key : List ℕ) (set new : List (List ℕ)) (end : ℕ) → 3 ≤ end → end < length key + 1 → AreOnceOf (grams key) (grams (drop (end - 3) key)) set
+    → new ≡ insert_key octets_cmp set (get_or key (end - 3) 0 ∷ get_or key (end - 2) 0 ∷ get_or key (end - 1) 0 ∷ []) → IsStrictlySortedBy octets_cmp new
+    → AreOnceOf (grams key) (grams (drop (end + 1 - 3) key)) new
+gram_more key set new end low fits before e up =
     let S : List (List ℕ) → Type 0 = λ l. AreOnceOf (grams key) l set in
-    one_more (grams key) (grams (drop (end + 1 - 3) key)) set new (gram (end - 2) (end - 1)) (subst S next before) e up
+    one_more (grams key) (grams (drop (end + 1 - 3) key)) set new (get_or key (end - 3) 0 ∷ get_or key (end - 2) 0 ∷ get_or key (end - 1) 0 ∷ []) (subst S (gram_to_end key end low fits) before) e up

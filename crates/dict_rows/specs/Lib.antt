@@ -1,3 +1,4 @@
+pub mod Versions
 pub mod Tables
 pub mod Written
 pub mod Stands

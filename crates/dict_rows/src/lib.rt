@@ -22,4 +22,6 @@ pub use laws::{
 };
 pub use reader::Reader;
 pub use summary::{EditionRows, Tables, summary_of};
-pub use written::{edition_row, entry_row, item_row, kept_row, mark_row, member_row};
+pub use written::{
+    KNOWN_VERSION, edition_row, entry_row, item_row, kept_row, mark_row, member_row,
+};

@@ -11,7 +11,10 @@ use dict_catalogue::{Item, Kept as Reply, Verb};
 use dict_index::{Edition, Entry};
 use dict_records::{Edition as EditionRow, Entry as EntryRow, Item as ItemRow, Kept, Mark, Member};
 
-/// The mark of a file of this schema, with the count of installs.
+/// The version of the tables that is written, and the greatest that is opened.
+pub const KNOWN_VERSION: u64 = 1;
+
+/// The mark of a file of this version, with the count of installs.
 pub fn mark_row(version: u64, installs: u64) -> Mark<&'static str>
     requires version { version ≤ 9223372036854775807 }
     requires installs { installs ≤ 9223372036854775807 }

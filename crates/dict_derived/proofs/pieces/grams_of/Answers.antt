@@ -1,5 +1,6 @@
 use Rattle.std.proofs.Common.{ℕ, ◌+◌, ◌-◌, ◌<◌, List, length, subst, arith}
-use Rattle.dict_derived.proofs.PieceLemmas.{AreOnceOf, gram_more, all_in, grams, grams_are, no_more}
+use Rattle.dict_derived.specs.Derived.{grams}
+use Rattle.dict_derived.proofs.PieceLemmas.{AreOnceOf, gram_more, all_in, grams_are, no_more}
 use Rattle.dict_derived.proofs.pieces.grams_of.Goals as goal
 
 pub loop-end-preserved : goal.loop-end-preserved

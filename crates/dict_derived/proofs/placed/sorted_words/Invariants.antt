@@ -1,0 +1,10 @@
+use Rattle.std.proofs.Common.{◌≡◌, ℤ, take}
+use Rattle.dict_derived.specs.Entries.{pieces_in}
+use Rattle.dict_derived.specs.Placed.{word_rows}
+use Rattle.dict_derived.specs.declared.reader.Pieces.TheVariants.{Words}
+use Rattle.dict_derived.proofs.DueLemmas.{rows_by}
+use Rattle.dict_derived.proofs.placed.sorted_words.Given as goal
+
+-- the list has what stands in the keys so far
+abbrev pub invariant-loop-place : goal.invariant-loop-place
+invariant-loop-place l = (edition : ℤ) → word_rows edition l.words.items ≡ rows_by (pieces_in Words) edition 0 (take l.place l.keys)
