@@ -12,10 +12,10 @@ use Rattle.dict_sql.specs.Refusals.{RefusesToMake}
 use Rattle.dict_sql.proofs.TextLemmas.{parsed_or}
 use Rattle.dict_sql.proofs.CreateLemmas.{ReadsCreate, makes}
 use Rattle.dict_sql.proofs.CreateFaults.{Stands, make_fails}
-use Rattle.dict_keyed_sql.specs.Tables.{entry, word, gram, table_of}
+use Rattle.dict_tables.specs.Keyed.{entry, word, gram, table_of}
 use Rattle.dict_keyed_sql.specs.Texts.{create_text}
-use Rattle.dict_keyed_sql.specs.declared.tables.KeyedTable.{KeyedTable}
-use Rattle.dict_keyed_sql.specs.declared.tables.KeyedTable.TheVariants as keyed
+use Rattle.dict_tables.specs.declared.keyed.KeyedTable.{KeyedTable}
+use Rattle.dict_tables.specs.declared.keyed.KeyedTable.TheVariants as keyed
 
 unfoldable pub read_entry : Parsed
 unfolding everything

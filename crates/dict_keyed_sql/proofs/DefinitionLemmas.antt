@@ -1,16 +1,13 @@
 -- The tables of what is derived are defined for whichever tree they are made in, and there is room for them.
-use Rattle.std.proofs.Common.{◌≡◌, ◌==◌, ℕ, List, [], ◌∷◌, map, true, false, codes, refl, sym, subst, arith}
-use Rattle.std.specs.Fmt.{digits}
-use Rattle.sqlite.specs.Change.{automatics}
+use Rattle.std.proofs.Common.{◌≡◌, ◌==◌, ℕ, [], ◌∷◌, true, false, refl, arith}
 use Rattle.sqlite_schema.specs.Names.{same_name}
-use Rattle.sqlite_schema.specs.declared.schema.Index.{Index}
 use Rattle.dict_tables.specs.Definitions.{IsDefinition, are_named_apart}
 use Rattle.dict_tables.specs.Tables as store
 use Rattle.dict_tables.specs.declared.tables.StoreTable.{StoreTable}
 use Rattle.dict_tables.specs.declared.tables.StoreTable.TheVariants as made
-use Rattle.dict_keyed_sql.specs.Tables.{table_of}
-use Rattle.dict_keyed_sql.specs.declared.tables.KeyedTable.{KeyedTable}
-use Rattle.dict_keyed_sql.specs.declared.tables.KeyedTable.TheVariants.{Entry, Word, Gram}
+use Rattle.dict_tables.specs.Keyed.{table_of}
+use Rattle.dict_tables.specs.declared.keyed.KeyedTable.{KeyedTable}
+use Rattle.dict_tables.specs.declared.keyed.KeyedTable.TheVariants.{Entry, Word, Gram}
 
 itself : (n : ℕ) → (n == n) ≡ true
 itself n = search arith
@@ -52,20 +49,3 @@ from_store Gram made.Member other = (refl, refl)
 from_store Gram made.Edition other = (refl, refl)
 from_store Gram made.Entry other = (refl, refl)
 from_store Gram made.Kept other = (refl, refl)
-
--- ---- the names of the indexes that are made with them
-
-abbrev IsMadeWith : KeyedTable → List ℕ → Type 0
-IsMadeWith t name = map (λ (i : Index). i.name) (automatics (table_of t 0) 0 0 (table_of t 0).uniques) ≡ name ∷ []
-
-pub entry_names : (t : KeyedTable) → t ≡ Entry → IsMadeWith t (codes "sqlite_autoindex_entry_1")
-unfolding digits
-entry_names t is = subst (λ k. IsMadeWith k (codes "sqlite_autoindex_entry_1")) (sym is) refl
-
-pub word_names : (t : KeyedTable) → t ≡ Word → IsMadeWith t (codes "sqlite_autoindex_word_1")
-unfolding digits
-word_names t is = subst (λ k. IsMadeWith k (codes "sqlite_autoindex_word_1")) (sym is) refl
-
-pub gram_names : (t : KeyedTable) → t ≡ Gram → IsMadeWith t (codes "sqlite_autoindex_gram_1")
-unfolding digits
-gram_names t is = subst (λ k. IsMadeWith k (codes "sqlite_autoindex_gram_1")) (sym is) refl

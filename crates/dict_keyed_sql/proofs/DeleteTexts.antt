@@ -22,9 +22,9 @@ use Rattle.dict_sql.proofs.DeleteRefusals.{Takes, remove_fails}
 use Rattle.dict_sql.proofs.DeleteTexts.{ReadsDelete, removes_rows}
 use Rattle.dict_sql.proofs.ListLemmas.{passes}
 use Rattle.dict_sql.proofs.TextLemmas.{parsed_or}
-use Rattle.dict_keyed_sql.specs.Tables.{entry, word, gram}
+use Rattle.dict_tables.specs.Keyed.{entry, word, gram}
 use Rattle.dict_keyed_sql.specs.Texts.{delete_text}
-use Rattle.dict_keyed_sql.specs.declared.tables.KeyedTable.TheVariants as keyed
+use Rattle.dict_tables.specs.declared.keyed.KeyedTable.TheVariants as keyed
 
 -- the edition is the one that is given
 abbrev test_edition : List Term

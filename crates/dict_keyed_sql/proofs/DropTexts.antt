@@ -11,10 +11,10 @@ use Rattle.dict_sql.specs.Refusals.{RefusesToDrop}
 use Rattle.dict_sql.proofs.TextLemmas.{parsed_or}
 use Rattle.dict_sql.proofs.DropLemmas.{ReadsDrop, drops}
 use Rattle.dict_sql.proofs.DropFaults.{fails}
-use Rattle.dict_keyed_sql.specs.Tables.{entry, word, gram, table_of}
+use Rattle.dict_tables.specs.Keyed.{entry, word, gram, table_of}
 use Rattle.dict_keyed_sql.specs.Texts.{drop_text}
-use Rattle.dict_keyed_sql.specs.declared.tables.KeyedTable.{KeyedTable}
-use Rattle.dict_keyed_sql.specs.declared.tables.KeyedTable.TheVariants as keyed
+use Rattle.dict_tables.specs.declared.keyed.KeyedTable.{KeyedTable}
+use Rattle.dict_tables.specs.declared.keyed.KeyedTable.TheVariants as keyed
 
 -- all of the text is read, and it names no value
 abbrev IsRead : KeyedTable → Parsed → Type 0

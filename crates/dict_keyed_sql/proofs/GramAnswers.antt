@@ -19,7 +19,7 @@ use Rattle.dict_sql.specs.Effects.{Has, rows_of, shown}
 use Rattle.dict_sql.specs.Reads.{by_columns}
 use Rattle.dict_sql.proofs.CompareLemmas.{equals_is}
 use Rattle.dict_keyed_sql.specs.Joined.{has_piece, has_also, stands_at, with_grams, IsArranged}
-use Rattle.dict_keyed_sql.specs.Tables.{entry, gram}
+use Rattle.dict_tables.specs.Keyed.{entry, gram}
 use Rattle.dict_keyed_sql.specs.Texts.{gram_text}
 use Rattle.dict_keyed_sql.proofs.EqualLemmas.{equal_is, seven_same}
 use Rattle.dict_keyed_sql.proofs.JoinAnswers.{joins_rows, joins_sorted, last_rows, each_row, only_where, not_where, overlaid}

@@ -32,7 +32,7 @@ use Rattle.sqlite_ast.specs.declared.Source.{Source}
 use Rattle.dict_tables.specs.Found.{HasTable}
 use Rattle.dict_sql.proofs.ReadTexts.{sort_by}
 use Rattle.dict_sql.proofs.TextLemmas.{parsed_or}
-use Rattle.dict_keyed_sql.specs.Tables.{entry, gram}
+use Rattle.dict_tables.specs.Keyed.{entry, gram}
 use Rattle.dict_keyed_sql.specs.Texts.{gram_text}
 use Rattle.dict_keyed_sql.proofs.ConditionLemmas.{name_expr, given_expr, binary_expr, compare_expr, and_expr, resting, Names, Combines, lower_name, lower_compare, lower_match, lower_and}
 use Rattle.dict_keyed_sql.proofs.JoinLemmas.{ReadsJoin, Joins, joined_context, joined_query}

@@ -43,10 +43,10 @@ use Rattle.dict_sql.specs.Effects.{table_in}
 use Rattle.dict_sql.proofs.FaultLemmas.{faults_inside, fails_for, same_stop, no_stop}
 use Rattle.dict_sql.proofs.InsertLemmas.{went, same_value}
 use Rattle.dict_sql.proofs.TextLemmas.{parsed_or}
-use Rattle.dict_keyed_sql.specs.Tables.{entry}
-use Rattle.dict_keyed_sql.specs.Indexes.{index_of, index_text, HasToIndex, IsIndexed, RefusesToIndex, IsTooLong}
-use Rattle.dict_keyed_sql.specs.declared.indexes.KeyIndex.{KeyIndex}
-use Rattle.dict_keyed_sql.specs.declared.indexes.KeyIndex.TheVariants as key_index
+use Rattle.dict_tables.specs.Keyed.{entry, index_of}
+use Rattle.dict_keyed_sql.specs.Indexes.{index_text, HasToIndex, IsIndexed, RefusesToIndex, IsTooLong}
+use Rattle.dict_tables.specs.declared.keyed.KeyIndex.{KeyIndex}
+use Rattle.dict_tables.specs.declared.keyed.KeyIndex.TheVariants as key_index
 
 abbrev nothing_defined : ast.CreateIndex
 nothing_defined = record { is_unique = false; if_missing = false; name = []; table = []; columns = [] }

@@ -14,11 +14,12 @@ use Rattle.dict_tables.specs.Found.{HasOwn, found_table, is_further_key}
 use Rattle.dict_tables.proofs.PlaceLemmas.{found}
 use Rattle.dict_sql.proofs.KitLemmas.{lowered}
 use Rattle.dict_sql.specs.Effects.{Has, rows_of, shown, table_in}
-use Rattle.dict_keyed_sql.specs.Tables.{entry}
-use Rattle.dict_keyed_sql.specs.Indexes.{index_of, found_index, HasIndex, IsIndexed}
+use Rattle.dict_tables.specs.Keyed.{entry, index_of}
+use Rattle.dict_tables.specs.Indexes.{found_index, HasIndex}
+use Rattle.dict_keyed_sql.specs.Indexes.{IsIndexed}
 use Rattle.dict_keyed_sql.proofs.IndexTexts.{neither, nothing_there}
-use Rattle.dict_keyed_sql.specs.declared.indexes.KeyIndex.{KeyIndex}
-use Rattle.dict_keyed_sql.specs.declared.indexes.KeyIndex.TheVariants.{Key, Reversed}
+use Rattle.dict_tables.specs.declared.keyed.KeyIndex.{KeyIndex}
+use Rattle.dict_tables.specs.declared.keyed.KeyIndex.TheVariants.{Key, Reversed}
 
 not_unique : (which : KeyIndex) → (index_of which).is_unique ≡ false
 not_unique Key = refl

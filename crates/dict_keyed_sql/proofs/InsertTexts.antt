@@ -21,19 +21,19 @@ use Rattle.dict_sql.proofs.FaultLemmas.{faults_inside}
 use Rattle.dict_sql.proofs.InsertLemmas.{adds_chosen, cast_int, cast_null}
 use Rattle.dict_sql.proofs.TextLemmas.{parsed_or, ReadsInsert, insert_is, insert_command, insert_plain}
 use Rattle.dict_sql.specs.Keyed.{keyed_entry_row, piece_row}
-use Rattle.dict_keyed_sql.specs.Tables.{entry, word, gram}
+use Rattle.dict_tables.specs.Keyed.{entry, word, gram}
 use Rattle.dict_keyed_sql.specs.Texts.{insert_keyed_entry, insert_word, insert_gram}
 
 -- ---- entry
 
 abbrev entry_terms : List Term
-entry_terms = lit Null ∷ col 0 0 ∷ col 0 1 ∷ col 0 2 ∷ col 0 3 ∷ col 0 4 ∷ col 0 5 ∷ col 0 6 ∷ []
+entry_terms = lit Null ∷ col 0 0 ∷ col 0 1 ∷ col 0 2 ∷ col 0 3 ∷ col 0 4 ∷ col 0 5 ∷ col 0 6 ∷ col 0 7 ∷ []
 
 unfoldable pub read_entry : Parsed
 unfolding everything
 read_entry = parsed_or (first insert_keyed_entry)
 
-reads_entry : ReadsInsert insert_keyed_entry read_entry entry (Values entry_terms 8)
+reads_entry : ReadsInsert insert_keyed_entry read_entry entry (Values entry_terms 9)
 unfolding everything read_entry
 reads_entry = record { read = refl; statement = λ tree. refl; formats = refl; timeless = λ tree. refl; rows = λ schema tree. refl }
 
@@ -42,11 +42,11 @@ adds_entry old new r count has h =
     let at = has.0 in
     let tree = has.1 in
     let s = old.now.schema in
-    let w = runs_as insert_keyed_entry (keyed_entry_row r) old new s refl (Insert at (Values entry_terms 8)) (insert_command insert_keyed_entry read_entry entry (Values entry_terms 8) reads_entry s at tree has.2) (insert_plain insert_keyed_entry read_entry entry (Values entry_terms 8) reads_entry s at tree has.2) count h in
-    adds_chosen old new at (codes "entry") tree (entry tree).columns (entry tree).key (entry tree).primary (entry tree).uniques (entry tree).orders has.2.named has.2.is entry_terms 8 (statement_of insert_keyed_entry (understood s insert_keyed_entry)) (keyed_entry_row r)
-    (Null ∷ Int r.edition ∷ Int r.ord ∷ Text r.headword ∷ Int r.start ∷ Int r.length ∷ Blob r.key ∷ Blob r.reversed ∷ []) count refl (Int r.edition ∷ Int r.ord ∷ Text r.headword ∷ Int r.start ∷ Int r.length ∷ Blob r.key ∷ Blob r.reversed ∷ []) (keyed_entry_row r) refl (λ id. (rw (cast_int r.edition, cast_int r.ord, cast_int r.start, cast_int r.length) refl)) w
+    let w = runs_as insert_keyed_entry (keyed_entry_row r) old new s refl (Insert at (Values entry_terms 9)) (insert_command insert_keyed_entry read_entry entry (Values entry_terms 9) reads_entry s at tree has.2) (insert_plain insert_keyed_entry read_entry entry (Values entry_terms 9) reads_entry s at tree has.2) count h in
+    adds_chosen old new at (codes "entry") tree (entry tree).columns (entry tree).key (entry tree).primary (entry tree).uniques (entry tree).orders has.2.named has.2.is entry_terms 9 (statement_of insert_keyed_entry (understood s insert_keyed_entry)) (keyed_entry_row r)
+    (Null ∷ Int r.edition ∷ Int r.ord ∷ Text r.headword ∷ Int r.start ∷ Int r.length ∷ Blob r.key ∷ Blob r.reversed ∷ Text r.shown ∷ []) count refl (Int r.edition ∷ Int r.ord ∷ Text r.headword ∷ Int r.start ∷ Int r.length ∷ Blob r.key ∷ Blob r.reversed ∷ Text r.shown ∷ []) (keyed_entry_row r) refl (λ id. (rw (cast_int r.edition, cast_int r.ord, cast_int r.start, cast_int r.length) refl)) w
 
-whole_entry : (length insert_keyed_entry ≤ read_entry.tail) × (7 ≡ length read_entry.names)
+whole_entry : (length insert_keyed_entry ≤ read_entry.tail) × (8 ≡ length read_entry.names)
 unfolding everything read_entry
 whole_entry = (lit≤ tt, refl)
 
@@ -55,10 +55,10 @@ pub entry_fails : (old new : State) (r : KeyedEntry) (e : Error) → Has entry o
 entry_fails old new r e has h =
     let at = has.0 in
     let tree = has.1 in
-    cause old new at (codes "entry") tree (entry tree).columns (entry tree).key (entry tree).primary (entry tree).uniques (entry tree).orders has.2.named has.2.is entry_terms 8 insert_keyed_entry (keyed_entry_row r) (keyed_entry_row r) refl refl
-    (next_rowid (old.now.trees tree)) (cast_all (entry tree).columns (Int r.edition ∷ Int r.ord ∷ Text r.headword ∷ Int r.start ∷ Int r.length ∷ Blob r.key ∷ Blob r.reversed ∷ [])) (rw cast_null refl)
+    cause old new at (codes "entry") tree (entry tree).columns (entry tree).key (entry tree).primary (entry tree).uniques (entry tree).orders has.2.named has.2.is entry_terms 9 insert_keyed_entry (keyed_entry_row r) (keyed_entry_row r) refl refl
+    (next_rowid (old.now.trees tree)) (cast_all (entry tree).columns (Int r.edition ∷ Int r.ord ∷ Text r.headword ∷ Int r.start ∷ Int r.length ∷ Blob r.key ∷ Blob r.reversed ∷ Text r.shown ∷ [])) (rw cast_null refl)
     (rw (cast_int r.edition, cast_int r.ord, cast_int r.start, cast_int r.length) (refl)) (rw (cast_int r.edition, cast_int r.ord, cast_int r.start, cast_int r.length) (refl)) e
-    (faults_inside insert_keyed_entry read_entry (Insert at (Values entry_terms 8)) (keyed_entry_row r) old new e (insert_is insert_keyed_entry read_entry entry (Values entry_terms 8) reads_entry old.now.schema at tree has.2) whole_entry.0 whole_entry.1 refl refl h)
+    (faults_inside insert_keyed_entry read_entry (Insert at (Values entry_terms 9)) (keyed_entry_row r) old new e (insert_is insert_keyed_entry read_entry entry (Values entry_terms 9) reads_entry old.now.schema at tree has.2) whole_entry.0 whole_entry.1 refl refl h)
 
 -- ---- word
 

@@ -27,7 +27,7 @@ use Rattle.dict_sql.proofs.ReadFaults.{Takes}
 use Rattle.dict_sql.proofs.ReadLemmas.{rowid_expr, rowid_shown, all_shown, source_of, core_of, select_of, outputs_of, plainly, context_of}
 use Rattle.dict_sql.proofs.ReadTexts.{ReadsTable, sort_by, key_at}
 use Rattle.dict_sql.proofs.TextLemmas.{parsed_or}
-use Rattle.dict_keyed_sql.specs.Tables.{entry}
+use Rattle.dict_tables.specs.Keyed.{entry}
 use Rattle.dict_keyed_sql.specs.Texts.{key_text, range_text, reversed_text}
 use Rattle.dict_keyed_sql.specs.Joined.{equals_octets}
 use Rattle.dict_keyed_sql.specs.Scans.{is_between}

@@ -10,7 +10,6 @@ pub mod GramTexts
 pub mod IndexTexts
 pub mod IndexedLemmas
 pub mod InsertTexts
-pub mod InsideLemmas
 pub mod JoinAnswers
 pub mod JoinFaults
 pub mod JoinLemmas
@@ -20,8 +19,11 @@ pub mod ListingLemmas
 pub mod MadeLemmas
 pub mod NamedLemmas
 pub mod OnceLemmas
+pub mod OldTexts
 pub mod ReadTexts
+pub mod RowidTexts
 pub mod ScanLemmas
 pub mod TableLemmas
 pub mod WordAnswers
 pub mod WordTexts
+pub mod InsertedLemmas

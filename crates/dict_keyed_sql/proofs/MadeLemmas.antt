@@ -1,5 +1,5 @@
 -- What a database has once the tables and the indexes of what is derived were made in it.
-use Rattle.std.proofs.Common.{◌≡◌, ◌≤◌, ◌||◌, ◌++◌, ℕ, Bool, true, false, List, [], ◌∷◌, is_some, Option, Some, None, IsTrue, inl, inr, refl, sym, ap, subst, ◌∙◌, arith}
+use Rattle.std.proofs.Common.{◌≡◌, ◌<◌, ◌≤◌, ◌+◌, length, ◌||◌, ◌++◌, ℕ, Bool, true, false, List, [], ◌∷◌, is_some, Option, Some, None, IsTrue, inl, inr, refl, sym, ap, subst, ◌∙◌, arith}
 use Rattle.std.specs.List.{list_any}
 use Rattle.sqlite.specs.Table.{Table}
 use Rattle.sqlite.specs.Schema.{Schema}
@@ -23,16 +23,18 @@ use Rattle.dict_sql.specs.Creates.{IsMade, IsFree, FailsToMakeAll}
 use Rattle.dict_sql.specs.Effects.{Has, GoesOn, FailsIn, rows_of, table_in}
 use Rattle.dict_sql.specs.Refusals.{RefusesToMake}
 use Rattle.dict_sql.proofs.Callers.{own_has}
+use Rattle.dict_sql.proofs.CountLemmas.{indexed_next}
 use Rattle.dict_sql.proofs.DroppedLemmas.{own_in}
 use Rattle.dict_sql.proofs.KitLemmas.{all_has}
 use Rattle.dict_sql.proofs.MakeLemmas.{one_own, one_keeps, one_leaves, one_unused, one_rows, found_later, more_since, keeps_then, goes_keeps, goes_then}
-use Rattle.dict_keyed_sql.specs.Tables.{table_of, entry, word, gram}
-use Rattle.dict_keyed_sql.specs.Indexes.{index_of, HasIndex, HasToIndex, IsIndexed, RefusesToIndex}
+use Rattle.dict_tables.specs.Keyed.{table_of, entry, word, gram, index_of}
+use Rattle.dict_tables.specs.Indexes.{HasIndex}
+use Rattle.dict_keyed_sql.specs.Indexes.{HasToIndex, IsIndexed, RefusesToIndex}
 use Rattle.dict_keyed_sql.specs.Made.{IsKeyedReady, AreKeyedMade}
-use Rattle.dict_keyed_sql.specs.declared.indexes.KeyIndex.{KeyIndex}
-use Rattle.dict_keyed_sql.specs.declared.indexes.KeyIndex.TheVariants.{Key, Reversed}
-use Rattle.dict_keyed_sql.specs.declared.tables.KeyedTable.{KeyedTable}
-use Rattle.dict_keyed_sql.specs.declared.tables.KeyedTable.TheVariants.{Entry, Word, Gram}
+use Rattle.dict_tables.specs.declared.keyed.KeyIndex.{KeyIndex}
+use Rattle.dict_tables.specs.declared.keyed.KeyIndex.TheVariants.{Key, Reversed}
+use Rattle.dict_tables.specs.declared.keyed.KeyedTable.{KeyedTable}
+use Rattle.dict_tables.specs.declared.keyed.KeyedTable.TheVariants.{Entry, Word, Gram}
 use Rattle.dict_keyed_sql.proofs.DefinitionLemmas.{keyed_defined, keyed_apart}
 use Rattle.dict_keyed_sql.proofs.IndexedLemmas.{indexed_own, indexed_rows, indexed_there, is_indexed}
 
@@ -228,40 +230,47 @@ module _ (old : Database) (ready : IsKeyedReady old) where
 -- ---- a statement that fails behind others
 
 -- a table for which there is room is refused for the number of trees alone
-pub unrefused : (t : KeyedTable) (mid : State) (e : Error) → LeavesRoom mid.now.schema (table_of t 0) → RefusesToMake (table_of t 0) mid e → e ≡ SqliteFailure code.SchemaTooBig
-unrefused t mid e room (inr many) = many.0
+pub unrefused : (t : KeyedTable) (mid : State) (e : Error) → LeavesRoom mid.now.schema (table_of t 0) → RefusesToMake (table_of t 0) mid e → (e ≡ SqliteFailure code.SchemaTooBig) × (65536 < next_tree mid.now.schema + (1 + length (table_of t 0).uniques))
+unrefused t mid e room (inr many) = (many.0, omega (arith, many.1))
 unrefused t mid e room (inl taken) =
     absurd (let free = all_has (λ (index : Index). is_used mid.now.schema index.name ≡ false) (automatics (table_of t 0) 0 0 (table_of t 0).uniques) taken.1 room.unindexed taken.2 in let used = taken.3 in let both = rw free at used in cc)
 
 -- and so is an index, since no unique key of a database is broken
-pub unrefused_index : (mid : State) (e : Error) → IsDatabase mid.now → RefusesToIndex mid e → e ≡ SqliteFailure code.SchemaTooBig
-unrefused_index mid e sound (inl many) = many.0
+pub unrefused_index : (mid : State) (e : Error) → IsDatabase mid.now → RefusesToIndex mid e → (e ≡ SqliteFailure code.SchemaTooBig) × (65536 < next_tree mid.now.schema + 1)
+unrefused_index mid e sound (inl many) = (many.0, omega (arith, many.1))
 unrefused_index mid e sound (inr broken) = absurd (broken.1 (sound.obeys.rules Unique))
 
--- what is known of statements that went well, one after the other
-pub record Passed (old new : State) : Type 0 where
+-- an index takes one tree more
+pub index_next : (which : KeyIndex) (old new : Database) → Has entry old → IsIndexed which old new → next_tree new.schema ≤ next_tree old.schema + 1
+index_next which old new has made = subst (λ (s : Schema). next_tree s ≤ next_tree old.schema + 1) (sym (is_indexed which old new has made)) (indexed_next old.schema (entry has.1) (index_of which))
+
+-- what is known of statements that went well, one after the other, and made so many trees
+pub record Passed (made : ℕ) (old new : State) : Type 0 where
   pub keeps : KeepsCommit old new
   pub mode : IsTrue old.in_transaction → IsTrue new.in_transaction
   pub faults : old.faults ≤ new.faults
+  pub trees : next_tree new.now.schema ≤ next_tree old.now.schema + made
 
-pub passed_none : (s : State) → Passed s s
-passed_none s = record { keeps = record { was_open = λ h. h; committed = λ h. refl }; mode = λ h. h; faults = omega arith }
+pub passed_none : (s : State) → Passed 0 s s
+passed_none s = record { keeps = record { was_open = λ h. h; committed = λ h. refl }; mode = λ h. h; faults = omega arith; trees = omega arith }
 
-pub passed_more : (old mid new : State) → Passed old mid → GoesOn mid new → mid.faults ≤ new.faults → Passed old new
-passed_more old mid new before goes faults = record {
+pub passed_more : (made more : ℕ) (old mid new : State) → Passed made old mid → GoesOn mid new → mid.faults ≤ new.faults → next_tree new.now.schema ≤ next_tree mid.now.schema + more → Passed (made + more) old new
+passed_more made more old mid new before goes faults trees = record {
   keeps = keeps_then old mid new before.keeps (goes_keeps mid new goes);
   mode = λ _. goes.mode;
   faults = omega (arith, before.faults, faults);
+  trees = omega (arith, before.trees, trees);
 }
 
-pub goes_behind : (old mid new : State) → Passed old mid → GoesOn mid new → GoesOn old new
-goes_behind old mid new before goes = goes_then old mid new before.keeps goes
+pub goes_behind : (made : ℕ) (old mid new : State) → Passed made old mid → GoesOn mid new → GoesOn old new
+goes_behind made old mid new before goes = goes_then old mid new before.keeps goes
 
-pub fails_behind : (Refuses : Error → Type 0) (TooBig : Type 0) (old mid new : State) (e : Error) → Passed old mid → (IsTrue mid.is_open → Refuses e → e ≡ SqliteFailure code.SchemaTooBig) → FailsIn Refuses TooBig mid new e → FailsToMakeAll old new e
-fails_behind Refuses TooBig old mid new e before unrefused f = record {
+pub fails_behind : (Refuses : Error → Type 0) (TooBig : Type 0) (count made more : ℕ) (old mid new : State) (e : Error) → Passed made old mid → made + more ≤ count
+    → (IsTrue mid.is_open → Refuses e → (e ≡ SqliteFailure code.SchemaTooBig) × (65536 < next_tree mid.now.schema + more)) → FailsIn Refuses TooBig mid new e → FailsToMakeAll count old new e
+fails_behind Refuses TooBig count made more old mid new e before all unrefused f = record {
   keeps = record { was_open = λ open'. before.keeps.was_open (f.keeps.was_open open'); committed = λ open'. f.keeps.committed open' ∙ before.keeps.committed (f.keeps.was_open open') };
   cause = λ within. elim (f.cause (before.mode within)) [
-    | inl refused ↦ inl (unrefused refused.1.0.was_open refused.0)
+    | inl refused ↦ (let many = unrefused refused.1.0.was_open refused.0 in inl (many.0, omega (arith, many.1, before.trees, all)))
     | inr fell ↦ inr (fell.0, fell.1, fell.3.autocommit, λ open'. (fell.3.undone open').0 ∙ before.keeps.committed (fell.3.was_open open'))
   ];
   counts = λ named. more_since old.faults mid.faults new.faults before.faults (f.counts named);

@@ -28,7 +28,7 @@ use Rattle.dict_keyed_sql.specs.Joined.{equals_octets, equal_values, is_named, N
 use Rattle.dict_keyed_sql.specs.Pieces.{HasDerived, name_for, table_for}
 use Rattle.dict_keyed_sql.specs.Scans.{IsWhole}
 use Rattle.dict_keyed_sql.specs.Scans.Scan.{All, Of}
-use Rattle.dict_keyed_sql.specs.declared.tables.KeyedTable.TheVariants.{Word, Gram}
+use Rattle.dict_tables.specs.declared.keyed.KeyedTable.TheVariants.{Word, Gram}
 use Rattle.dict_keyed_sql.proofs.ListingLemmas.{listed}
 use Rattle.dict_keyed_sql.proofs.OnceLemmas.{swap, filter_twice}
 
@@ -39,10 +39,10 @@ equal Less h = absurd (let e = h in cc)
 equal Equal h = refl
 equal Greater h = absurd (let e = h in cc)
 
-ints : (a b : ℤ) → same_value (Int a) (Int b) ≡ true → a ≡ b
+pub ints : (a b : ℤ) → same_value (Int a) (Int b) ≡ true → a ≡ b
 ints a b h = exact_signed a b (equal (int_cmp a b) (sym (ap is_eq (value_cmp-Int a b)) ∙ h))
 
-ints_back : (a : ℤ) → same_value (Int a) (Int a) ≡ true
+pub ints_back : (a : ℤ) → same_value (Int a) (Int a) ≡ true
 ints_back a = ap is_eq (value_cmp-Int a a) ∙ ap is_eq (tied_itself int_cmp_total a)
 
 blobs : (a b : List ℕ) → same_value (Blob a) (Blob b) ≡ true → a ≡ b
@@ -56,11 +56,11 @@ flips u v = both_ways _ _ (swap u v) (swap v u)
 
 -- ---- rows without their rowids
 
-behind : (r : Row) (at : ℕ) → column r (at + 1) ≡ column (drop 1 r) at
+pub behind : (r : Row) (at : ℕ) → column r (at + 1) ≡ column (drop 1 r) at
 behind [] at = refl
 behind (x ∷ r) at = let next : at + 1 ≡ suc at = omega arith in ap (column (x ∷ r)) next
 
-filter_map : {X Y : Type 0} (f : X → Y) (p : X → Bool) (q : Y → Bool) → ((x : X) → p x ≡ q (f x)) → (xs : List X) → map f (filter p xs) ≡ filter q (map f xs)
+pub filter_map : {X Y : Type 0} (f : X → Y) (p : X → Bool) (q : Y → Bool) → ((x : X) → p x ≡ q (f x)) → (xs : List X) → map f (filter p xs) ≡ filter q (map f xs)
 filter_map f p q same [] = refl
 filter_map f p q same (x ∷ xs) = elim (cases_Bool (q (f x))) [
   | inl hit ↦ rw (same x, hit) (ap (λ l. f x ∷ l) (filter_map f p q same xs))

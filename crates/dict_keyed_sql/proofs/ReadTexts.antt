@@ -20,9 +20,9 @@ use Rattle.dict_sql.proofs.ReadFaults.{Takes, a_number, nothing as no_values}
 use Rattle.dict_sql.proofs.ReadLemmas.{rowid_expr, rowid_shown, all_shown, source_of, core_of, select_of, outputs_of}
 use Rattle.dict_sql.proofs.ReadTexts.{ReadsTable, sort_by, key_at}
 use Rattle.dict_sql.proofs.TextLemmas.{parsed_or}
-use Rattle.dict_keyed_sql.specs.Tables.{entry, word, gram}
+use Rattle.dict_tables.specs.Keyed.{entry, word, gram}
 use Rattle.dict_keyed_sql.specs.Texts.{list_text, select_text}
-use Rattle.dict_keyed_sql.specs.declared.tables.KeyedTable.TheVariants as keyed
+use Rattle.dict_tables.specs.declared.keyed.KeyedTable.TheVariants as keyed
 
 abbrev pub of_column : Carried
 of_column = record { collation = Some Binary; is_written = false }

@@ -1,8 +1,8 @@
 -- What each of the tables has in common.
 use Rattle.std.proofs.Common.{◌≡◌, ℕ, refl}
-use Rattle.dict_keyed_sql.specs.Tables.{table_of}
-use Rattle.dict_keyed_sql.specs.declared.tables.KeyedTable.{KeyedTable}
-use Rattle.dict_keyed_sql.specs.declared.tables.KeyedTable.TheVariants.{Entry, Word, Gram}
+use Rattle.dict_tables.specs.Keyed.{table_of}
+use Rattle.dict_tables.specs.declared.keyed.KeyedTable.{KeyedTable}
+use Rattle.dict_tables.specs.declared.keyed.KeyedTable.TheVariants.{Entry, Word, Gram}
 
 -- its name doesn't depend on its tree
 pub name_is : (t : KeyedTable) (n : ℕ) → (table_of t n).name ≡ (table_of t 0).name

@@ -32,7 +32,7 @@ use Rattle.sqlite_ast.specs.declared.Source.{Source}
 use Rattle.dict_tables.specs.Found.{HasTable}
 use Rattle.dict_sql.proofs.ReadTexts.{sort_by}
 use Rattle.dict_sql.proofs.TextLemmas.{parsed_or}
-use Rattle.dict_keyed_sql.specs.Tables.{entry, word}
+use Rattle.dict_tables.specs.Keyed.{entry, word}
 use Rattle.dict_keyed_sql.specs.Texts.{word_text}
 use Rattle.dict_keyed_sql.proofs.ConditionLemmas.{name_expr, given_expr, binary_expr, compare_expr, and_expr, resting, Names, Combines, lower_name, lower_compare, lower_match, lower_and}
 use Rattle.dict_keyed_sql.proofs.JoinLemmas.{ReadsJoin, Joins, joined_context, joined_query}

@@ -1,8 +1,7 @@
--- The indexes over the entries of an edition by their keys, read in either direction, and what CREATE INDEX does to a database.
-use Rattle.std.specs.Prelude.{◌≡◌, ◌⊎◌, ◌≤◌, ℕ, false, List, [], ◌∷◌, codes, Option, Some, option_and_then, slice_get}
+-- What CREATE INDEX does to a database, for the indexes over the entries of an edition by their keys.
+use Rattle.std.specs.Prelude.{◌≡◌, ◌⊎◌, ◌≤◌, ℕ, false, List, codes, Some}
 use Rattle.std.specs.List.{AllByRecursion}
 use Rattle.sqlite.specs.Order.{Row}
-use Rattle.sqlite.specs.Schema.{Schema}
 use Rattle.sqlite.specs.Table.{Table}
 use Rattle.sqlite.specs.Effect.{Database, IsDatabase, SparesFrozen}
 use Rattle.sqlite.specs.Change.{indexed, is_used, next_tree}
@@ -10,27 +9,15 @@ use Rattle.sqlite.specs.State.{State}
 use Rattle.sqlite.specs.declared.error.Error.{Error}
 use Rattle.sqlite.specs.declared.error.Error.TheVariants.{SqliteFailure}
 use Rattle.sqlite.specs.declared.error.ErrorCode.TheVariants as code
-use Rattle.sqlite_schema.specs.Names.{index_named}
 use Rattle.sqlite_schema.specs.Rules.{Keeps, table_reals, index_reals}
-use Rattle.sqlite_schema.specs.declared.schema.Index.{Index}
 use Rattle.sqlite_schema.specs.declared.schema.Constraint.TheVariants.{Unique}
 use Rattle.sqlite_sql.specs.Catalog.{entry_of}
 use Rattle.sqlite_trees.specs.View.{IsStorable}
 use Rattle.sqlite_rules.specs.Lists.{Has as In}
-use Rattle.sqlite_value.specs.Keys.{plain}
-use Rattle.dict_tables.specs.Found.{found_table}
 use Rattle.dict_sql.specs.Effects.{Has, table_in, FailsIn, GoesOn}
-use Rattle.dict_keyed_sql.specs.Tables.{entry}
-use Rattle.dict_keyed_sql.specs.declared.indexes.KeyIndex.{KeyIndex}
-use Rattle.dict_keyed_sql.specs.declared.indexes.KeyIndex.TheVariants.{Key, Reversed}
-
--- an index that isn't unique, by the edition and one more column, each in the plain order; its tree and that of its table come with a schema
-abbrev pub by_edition_and : List ℕ → ℕ → Index
-by_edition_and name at = record { name = name; tree = 0; table = 0; columns = 1 ∷ at ∷ []; order = plain; is_unique = false }
-
-abbrev pub index_of : KeyIndex → Index
-index_of Key = by_edition_and (codes "dictcat_entry_key") 6
-index_of Reversed = by_edition_and (codes "dictcat_entry_rkey") 7
+use Rattle.dict_tables.specs.Keyed.{entry, index_of}
+use Rattle.dict_tables.specs.declared.keyed.KeyIndex.{KeyIndex}
+use Rattle.dict_tables.specs.declared.keyed.KeyIndex.TheVariants.{Key, Reversed}
 
 abbrev pub index_text : KeyIndex → List ℕ
 index_text Key = codes "CREATE INDEX dictcat_entry_key ON entry (edition, key)"
@@ -65,15 +52,3 @@ IsTooLong which db =
 
 abbrev pub FailsToIndex : KeyIndex → State → State → Error → Type 0
 FailsToIndex which old new = FailsIn (RefusesToIndex old) (IsTooLong which old.now) old new
-
--- ---- a schema that is found
-
-abbrev pub found_index : Schema → List ℕ → Option Index
-found_index schema name = option_and_then (slice_get schema.indexes) (index_named schema name)
-
--- The schema has the index as it is defined, over the tree of the entries.
-pub record HasIndex (schema : Schema) (which : KeyIndex) : Type 0 where
-  pub on : Table
-  pub tree : ℕ
-  pub table : found_table schema (codes "entry") ≡ Some on
-  pub is : found_index schema (index_of which).name ≡ Some (record (index_of which) { tree = tree; table = on.tree })

@@ -3,5 +3,4 @@ pub mod Joined
 pub mod Made
 pub mod Pieces
 pub mod Scans
-pub mod Tables
 pub mod Texts

@@ -1,34 +1,28 @@
 -- The tables and the indexes of what is derived, made one after the other.
 use Rattle.std.specs.Prelude.{◌≡◌, ℕ, false, List, [], Some}
 use Rattle.sqlite.specs.Table.{Table}
-use Rattle.sqlite.specs.Schema.{Schema}
 use Rattle.sqlite.specs.Effect.{Database, IsDatabase}
-use Rattle.sqlite.specs.Change.{is_used}
 use Rattle.sqlite.specs.Does.{lacks_sequence}
 use Rattle.dict_tables.specs.Definitions.{IsDefinition}
 use Rattle.dict_tables.specs.Found.{HasOwn}
-use Rattle.dict_tables.specs.Room.{LeavesRoom}
+use Rattle.dict_tables.specs.Room.{HasKeyedRoom}
 use Rattle.dict_sql.specs.Creates.{IsMade}
 use Rattle.dict_sql.specs.Effects.{rows_of, table_in}
-use Rattle.dict_keyed_sql.specs.Tables.{table_of, entry, word, gram}
-use Rattle.dict_keyed_sql.specs.Indexes.{index_of, HasIndex, IsIndexed}
-use Rattle.dict_keyed_sql.specs.declared.indexes.KeyIndex.{KeyIndex}
-use Rattle.dict_keyed_sql.specs.declared.indexes.KeyIndex.TheVariants.{Key, Reversed}
-use Rattle.dict_keyed_sql.specs.declared.tables.KeyedTable.{KeyedTable}
-
--- There is room for each of the tables, the names of the indexes are free, and no table with AUTOINCREMENT waits for its counter, which a CREATE would make too.
-pub record HasKeyedRoom (schema : Schema) : Type 0 where
-  pub entries : LeavesRoom schema (entry 0)
-  pub words : LeavesRoom schema (word 0)
-  pub grams : LeavesRoom schema (gram 0)
-  pub key : is_used schema (index_of Key).name ≡ false
-  pub reversed : is_used schema (index_of Reversed).name ≡ false
-  pub counted : lacks_sequence schema ≡ false
+use Rattle.dict_tables.specs.Keyed.{table_of, entry, word, gram}
+use Rattle.dict_tables.specs.Indexes.{HasIndex}
+use Rattle.dict_keyed_sql.specs.Indexes.{IsIndexed}
+use Rattle.dict_tables.specs.declared.keyed.KeyIndex.{KeyIndex}
+use Rattle.dict_tables.specs.declared.keyed.KeyIndex.TheVariants.{Key, Reversed}
+use Rattle.dict_tables.specs.declared.keyed.KeyedTable.{KeyedTable}
 
 -- Whether a schema has that room is tested by `has_keyed_room`; that the database of an open connection is sound is known of every one.
 pub record IsKeyedReady (db : Database) : Type 0 where
   pub has_room : HasKeyedRoom db.schema
   pub sound : IsDatabase db
+
+-- the trees that are made: the three tables, an index for the key of each, and the two further indexes
+abbrev pub keyed_trees : ℕ
+keyed_trees = 8
 
 -- what the statements do, one after the other
 pub record KeyedInTurn (old new : Database) : Type 0 where

@@ -18,19 +18,22 @@ use Rattle.dict_sql.specs.declared.records.ReadError.{ReadError}
 use Rattle.dict_sql.specs.declared.records.ReadError.TheVariants.{NoRecord, Store}
 use Rattle.dict_sql.specs.Reads.{IsSelection, FailsToRead}
 use Rattle.dict_keyed_sql.specs.Joined.{equals_octets, with_word, with_grams, IsArranged}
-use Rattle.dict_keyed_sql.specs.Tables.{table_of, entry, word, gram}
-use Rattle.dict_keyed_sql.specs.Texts.{list_text, select_text, key_text, range_text, reversed_text, word_text, gram_text}
-use Rattle.dict_keyed_sql.specs.declared.tables.KeyedTable.{KeyedTable}
-use Rattle.dict_keyed_sql.specs.declared.tables.KeyedTable.TheVariants.{Entry, Word, Gram}
+use Rattle.dict_tables.specs.Keyed.{table_of, entry, old_entry, word, gram}
+use Rattle.dict_keyed_sql.specs.Texts.{list_text, rowid_text, select_text, key_text, range_text, reversed_text, word_text, gram_text}
+use Rattle.dict_tables.specs.declared.keyed.KeyedTable.{KeyedTable}
+use Rattle.dict_tables.specs.declared.keyed.KeyedTable.TheVariants.{Entry, Word, Gram}
 
 -- The octets in a column are from the first on, up to the second, both taken in.
 abbrev pub is_between : ℕ → List ℕ → List ℕ → Row → Bool
 is_between at low high r = not (is_lt (value_cmp (column r at) (Bytes low))) && not (is_gt (value_cmp (column r at) (Bytes high)))
 
--- which rows are read, one at a time: those of a whole table, or of one edition; or the entries of an edition with a key, with keys between two, read in either direction, with a word, or with two grams
+-- which rows are read, one at a time: those of a whole table, in the order of its key or of the rowids, or of one edition; or the entries of schemas 2 and 3; or the entries of an edition with a key, with keys between two, read in either direction, with a word, or with two grams
 pub data Scan : Type 0 where
   All : KeyedTable → Scan
+  ByRowid : KeyedTable → Scan
   Of : KeyedTable → ℤ → Scan
+  OldByRowid : Scan
+  OldOf : ℤ → Scan
   WithKey : ℤ → List ℕ → Scan
   Between : ℤ → List ℕ → List ℕ → Scan
   BetweenReversed : ℤ → List ℕ → List ℕ → Scan
@@ -39,7 +42,10 @@ pub data Scan : Type 0 where
 
 abbrev pub scan_table : Scan → ℕ → Table
 scan_table (All table) = table_of table
+scan_table (ByRowid table) = table_of table
 scan_table (Of table edition) = table_of table
+scan_table OldByRowid = old_entry
+scan_table (OldOf edition) = old_entry
 scan_table (WithKey edition key) = entry
 scan_table (Between edition low high) = entry
 scan_table (BetweenReversed edition low high) = entry
@@ -58,7 +64,10 @@ HasTables what db = Has (scan_table what) db
 -- the text that is run, and the values that it is given
 abbrev pub scan_text : Scan → List ℕ
 scan_text (All table) = list_text table
+scan_text (ByRowid table) = rowid_text table
 scan_text (Of table edition) = select_text table
+scan_text OldByRowid = rowid_text Entry
+scan_text (OldOf edition) = select_text Entry
 scan_text (WithKey edition key) = key_text
 scan_text (Between edition low high) = range_text
 scan_text (BetweenReversed edition low high) = reversed_text
@@ -67,7 +76,10 @@ scan_text (WithGrams edition a b) = gram_text
 
 abbrev pub scan_values : Scan → Row
 scan_values (All table) = []
+scan_values (ByRowid table) = []
 scan_values (Of table edition) = Int edition ∷ []
+scan_values OldByRowid = []
+scan_values (OldOf edition) = Int edition ∷ []
 scan_values (WithKey edition key) = Int edition ∷ Bytes key ∷ []
 scan_values (Between edition low high) = Int edition ∷ Bytes low ∷ Bytes high ∷ []
 scan_values (BetweenReversed edition low high) = Int edition ∷ Bytes low ∷ Bytes high ∷ []
@@ -77,6 +89,7 @@ scan_values (WithGrams edition a b) = Int edition ∷ Bytes a ∷ Bytes b ∷ []
 -- which rows of the table are read
 abbrev pub scan_test : Scan → Row → Bool
 scan_test (Of table edition) = equals_number 1 edition
+scan_test (OldOf edition) = equals_number 1 edition
 scan_test (WithKey edition key) = λ r. equals_number 1 edition r && equals_octets 6 key r
 scan_test (Between edition low high) = λ r. equals_number 1 edition r && is_between 6 low high r
 scan_test (BetweenReversed edition low high) = λ r. equals_number 1 edition r && is_between 7 low high r
@@ -95,7 +108,10 @@ edition_order Gram = 2 ∷ 3 ∷ []
 
 abbrev pub scan_order : Scan → List ℕ
 scan_order (All table) = whole_order table
+scan_order (ByRowid table) = 0 ∷ []
 scan_order (Of table edition) = edition_order table
+scan_order OldByRowid = 0 ∷ []
+scan_order (OldOf edition) = 2 ∷ []
 scan_order (WithKey edition key) = 2 ∷ []
 scan_order (Between edition low high) = 2 ∷ []
 scan_order (BetweenReversed edition low high) = 2 ∷ []

@@ -1,10 +1,10 @@
 -- The texts of the statements that write.
 use Rattle.std.specs.Prelude.{ℕ, List, codes}
-use Rattle.dict_keyed_sql.specs.declared.tables.KeyedTable.{KeyedTable}
-use Rattle.dict_keyed_sql.specs.declared.tables.KeyedTable.TheVariants.{Entry, Word, Gram}
+use Rattle.dict_tables.specs.declared.keyed.KeyedTable.{KeyedTable}
+use Rattle.dict_tables.specs.declared.keyed.KeyedTable.TheVariants.{Entry, Word, Gram}
 
 abbrev pub create_text : KeyedTable → List ℕ
-create_text Entry = codes "CREATE TABLE entry (edition INTEGER NOT NULL, ord INTEGER NOT NULL, headword TEXT NOT NULL, start INTEGER NOT NULL, length INTEGER NOT NULL, key BLOB NOT NULL, rkey BLOB NOT NULL, PRIMARY KEY (edition, ord)) STRICT"
+create_text Entry = codes "CREATE TABLE entry (edition INTEGER NOT NULL, ord INTEGER NOT NULL, headword TEXT NOT NULL, start INTEGER NOT NULL, length INTEGER NOT NULL, key BLOB NOT NULL, rkey BLOB NOT NULL, shown TEXT NOT NULL, PRIMARY KEY (edition, ord)) STRICT"
 create_text Word = codes "CREATE TABLE word (edition INTEGER NOT NULL, word BLOB NOT NULL, ord INTEGER NOT NULL, PRIMARY KEY (edition, word, ord)) STRICT"
 create_text Gram = codes "CREATE TABLE gram (edition INTEGER NOT NULL, gram BLOB NOT NULL, ord INTEGER NOT NULL, PRIMARY KEY (edition, gram, ord)) STRICT"
 
@@ -14,7 +14,7 @@ drop_text Word = codes "DROP TABLE word"
 drop_text Gram = codes "DROP TABLE gram"
 
 abbrev pub insert_keyed_entry : List ℕ
-insert_keyed_entry = codes "INSERT INTO entry (edition, ord, headword, start, length, key, rkey) VALUES (?1, ?2, ?3, ?4, ?5, ?6, ?7)"
+insert_keyed_entry = codes "INSERT INTO entry (edition, ord, headword, start, length, key, rkey, shown) VALUES (?1, ?2, ?3, ?4, ?5, ?6, ?7, ?8)"
 
 abbrev pub insert_word : List ℕ
 insert_word = codes "INSERT INTO word (edition, word, ord) VALUES (?1, ?2, ?3)"
@@ -33,6 +33,12 @@ abbrev pub list_text : KeyedTable → List ℕ
 list_text Entry = codes "SELECT rowid, * FROM entry ORDER BY 2, 3"
 list_text Word = codes "SELECT rowid, * FROM word ORDER BY 2, 3, 4"
 list_text Gram = codes "SELECT rowid, * FROM gram ORDER BY 2, 3, 4"
+
+-- all rows, in the order of their rowids
+abbrev pub rowid_text : KeyedTable → List ℕ
+rowid_text Entry = codes "SELECT rowid, * FROM entry ORDER BY 1"
+rowid_text Word = codes "SELECT rowid, * FROM word ORDER BY 1"
+rowid_text Gram = codes "SELECT rowid, * FROM gram ORDER BY 1"
 
 -- those of an edition, in the order of the table's key
 abbrev pub select_text : KeyedTable → List ℕ

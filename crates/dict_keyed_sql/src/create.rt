@@ -4,12 +4,12 @@ ghost use Rattle.std.specs.Prelude.{◌≡◌, IfErr, OnOk};
 ghost use Rattle.sqlite.specs.State.{HasCleanDisk, Survives};
 ghost use Rattle.dict_sql.specs.Effects.{GoesOn, WhileOpen, seen};
 ghost use Rattle.dict_sql.specs.Creates.{IsFree, Makes, FailsToMake, FailsToMakeAll};
-ghost use Rattle.dict_keyed_sql.specs.Made.{IsKeyedReady, AreKeyedMade};
-ghost use Rattle.dict_keyed_sql.specs.Tables.{table_of};
+ghost use Rattle.dict_keyed_sql.specs.Made.{IsKeyedReady, AreKeyedMade, keyed_trees};
+ghost use Rattle.dict_tables.specs.Keyed.{table_of};
 ghost use Rattle.dict_keyed_sql.specs.Texts.{create_text};
 
-use crate::indexes::{KeyIndex, create_key_index};
-use crate::tables::KeyedTable;
+use crate::indexes::create_key_index;
+use dict_tables::{KeyIndex, KeyedTable};
 use sqlite::{Alter, Error, Transaction};
 
 fn text_of(table: KeyedTable) -> &'static str
@@ -17,7 +17,7 @@ fn text_of(table: KeyedTable) -> &'static str
 {
     match table {
         KeyedTable::Entry => {
-            "CREATE TABLE entry (edition INTEGER NOT NULL, ord INTEGER NOT NULL, headword TEXT NOT NULL, start INTEGER NOT NULL, length INTEGER NOT NULL, key BLOB NOT NULL, rkey BLOB NOT NULL, PRIMARY KEY (edition, ord)) STRICT"
+            "CREATE TABLE entry (edition INTEGER NOT NULL, ord INTEGER NOT NULL, headword TEXT NOT NULL, start INTEGER NOT NULL, length INTEGER NOT NULL, key BLOB NOT NULL, rkey BLOB NOT NULL, shown TEXT NOT NULL, PRIMARY KEY (edition, ord)) STRICT"
         }
         KeyedTable::Word => {
             "CREATE TABLE word (edition INTEGER NOT NULL, word BLOB NOT NULL, ord INTEGER NOT NULL, PRIMARY KEY (edition, word, ord)) STRICT"
@@ -49,7 +49,7 @@ pub fn create_keyed_tables<S: Alter>(tx: &mut Transaction<'_, S>) -> Result<(), 
     requires { WhileOpen (seen S.Store tx.old) IsKeyedReady }
     ensures same_reference { tx.new.conn.ghost_name ≡ tx.old.conn.ghost_name }
     ensures made { HasCleanDisk (seen S.Store tx.new) → OnOk result (AreKeyedMade (seen S.Store tx.old).now (seen S.Store tx.new).now × GoesOn (seen S.Store tx.old) (seen S.Store tx.new)) }
-    ensures failed { HasCleanDisk (seen S.Store tx.new) → IfErr result (FailsToMakeAll (seen S.Store tx.old) (seen S.Store tx.new)) }
+    ensures failed { HasCleanDisk (seen S.Store tx.new) → IfErr result (FailsToMakeAll keyed_trees (seen S.Store tx.old) (seen S.Store tx.new)) }
     ensures survives { Survives (seen S.Store tx.old) (seen S.Store tx.new) (λ _. ⊥) }
 {
     create_keyed_table(tx, KeyedTable::Entry)?;

@@ -4,7 +4,7 @@ ghost use Rattle.std.specs.Prelude.{◌≡◌, codes, IfErr, OnOk};
 ghost use Rattle.sqlite.specs.State.{HasCleanDisk, Survives};
 ghost use Rattle.dict_sql.specs.Effects.{WhileOpen, seen, equals_number};
 ghost use Rattle.dict_sql.specs.Deletes.{HasToRemove, Removes, FailsToRemove};
-ghost use Rattle.dict_keyed_sql.specs.Tables.{entry, word, gram};
+ghost use Rattle.dict_tables.specs.Keyed.{entry, word, gram};
 
 use sqlite::{Alter, Error, Transaction, params};
 

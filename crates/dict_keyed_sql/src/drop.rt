@@ -4,10 +4,10 @@ ghost use Rattle.std.specs.Prelude.{◌≡◌, IfErr, OnOk};
 ghost use Rattle.sqlite.specs.State.{HasCleanDisk, Survives};
 ghost use Rattle.dict_sql.specs.Effects.{Has, WhileOpen, seen};
 ghost use Rattle.dict_sql.specs.Drops.{Drops, FailsToDrop};
-ghost use Rattle.dict_keyed_sql.specs.Tables.{table_of};
+ghost use Rattle.dict_tables.specs.Keyed.{table_of};
 ghost use Rattle.dict_keyed_sql.specs.Texts.{drop_text};
 
-use crate::tables::KeyedTable;
+use dict_tables::KeyedTable;
 use sqlite::{Alter, Error, Transaction};
 
 fn text_of(table: KeyedTable) -> &'static str

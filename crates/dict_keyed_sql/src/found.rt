@@ -1,24 +1,26 @@
 //! Whether a schema that is found has the tables as they are defined here.
 
 ghost use Rattle.std.specs.Prelude.{true, ◌≡◌, ◌∷◌, [], codes, IsTrue, ◌↔◌};
-ghost use Rattle.sqlite.specs.Kind.TheVariants.{Integer, Blob};
+ghost use Rattle.sqlite.specs.Kind.TheVariants.{Integer, Text, Blob};
 ghost use Rattle.dict_tables.specs.Found.{HasOwn};
 ghost use Rattle.dict_tables.specs.Tables.{column_of};
-ghost use Rattle.dict_keyed_sql.specs.Tables.{entry, word, gram, table_of};
+ghost use Rattle.dict_tables.specs.Keyed.{entry, word, gram, table_of};
 
-use crate::tables::KeyedTable;
-use dict_tables::{find_table, is_alone, is_column, is_one_key, is_one_plain, is_plain};
+use dict_tables::{
+    KeyedTable, find_table, is_alone, is_column, is_one_key, is_one_plain, is_plain,
+};
 use sqlite_schema::schema::{Column, Kind, Schema, Table};
 
 fn are_interval_columns(columns: &[Column]) -> bool
-    ensures { IsTrue result ↔ columns.now ≡ column_of (codes "start") Integer true ∷ column_of (codes "length") Integer true ∷ column_of (codes "key") Blob true ∷ column_of (codes "rkey") Blob true ∷ [] }
+    ensures { IsTrue result ↔ columns.now ≡ column_of (codes "start") Integer true ∷ column_of (codes "length") Integer true ∷ column_of (codes "key") Blob true ∷ column_of (codes "rkey") Blob true ∷ column_of (codes "shown") Text true ∷ [] }
 {
     match columns {
-        [start, length, key, reversed] => {
+        [start, length, key, reversed, shown] => {
             is_column(start, b"start", Kind::Integer, true)
                 && is_column(length, b"length", Kind::Integer, true)
                 && is_column(key, b"key", Kind::Blob, true)
                 && is_column(reversed, b"rkey", Kind::Blob, true)
+                && is_column(shown, b"shown", Kind::Text, true)
         }
         _ => false,
     }

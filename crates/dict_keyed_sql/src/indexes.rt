@@ -5,33 +5,14 @@
 ghost use Rattle.std.specs.Prelude.{◌≡◌, ◌↔◌, codes, false, IfErr, IsTrue, OnOk, option_copied};
 ghost use Rattle.sqlite.specs.State.{HasCleanDisk, Survives};
 ghost use Rattle.dict_sql.specs.Effects.{WhileOpen, seen};
-ghost use Rattle.dict_keyed_sql.specs.Indexes.{index_of, index_text, HasToIndex, Indexes, FailsToIndex, found_index, HasIndex};
+ghost use Rattle.dict_keyed_sql.specs.Indexes.{index_text, HasToIndex, Indexes, FailsToIndex};
+ghost use Rattle.dict_tables.specs.Keyed.{index_of};
+ghost use Rattle.dict_tables.specs.Indexes.{found_index, HasIndex};
 ghost use Rattle.sqlite_value.specs.Keys.{plain};
 
-use dict_tables::find_table;
+use dict_tables::{KeyIndex, find_table};
 use sqlite::{Alter, Error, Transaction};
 use sqlite_schema::schema::{Index, Schema};
-
-/// An index over the entries of an edition. It isn't unique, as entries may have equal keys.
-#[derive(Clone, Copy, Debug, PartialEq, Eq)]
-pub enum KeyIndex {
-    /// By the key.
-    Key,
-    /// By the key, read in reverse order.
-    Reversed,
-}
-
-impl KeyIndex {
-    /// The name of the index.
-    pub fn name(self) -> &'static str
-        ensures { result.now ≡ (index_of self).name }
-    {
-        match self {
-            KeyIndex::Key => "dictcat_entry_key",
-            KeyIndex::Reversed => "dictcat_entry_rkey",
-        }
-    }
-}
 
 fn text_of(index: KeyIndex) -> &'static str
     ensures { result.now ≡ index_text index }

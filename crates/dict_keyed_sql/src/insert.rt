@@ -5,7 +5,7 @@ ghost use Rattle.sqlite.specs.State.{HasCleanDisk, Survives};
 ghost use Rattle.dict_records.specs.Keyed.{lent_keyed_entry, lent_word, lent_gram};
 ghost use Rattle.dict_sql.specs.Effects.{Has, WhileOpen, seen};
 ghost use Rattle.dict_sql.specs.Inserts.{Inserts, FailsToInsert};
-ghost use Rattle.dict_keyed_sql.specs.Tables.{entry, word, gram};
+ghost use Rattle.dict_tables.specs.Keyed.{entry, word, gram};
 ghost use Rattle.dict_sql.specs.Keyed.{keyed_entry_row, piece_row};
 
 use dict_records::{Gram, KeyedEntry, Word};
@@ -27,7 +27,7 @@ pub fn insert_keyed_entry<S: Alter>(
     let start = given.start;
     let length = given.length;
     tx.execute(
-        "INSERT INTO entry (edition, ord, headword, start, length, key, rkey) VALUES (?1, ?2, ?3, ?4, ?5, ?6, ?7)",
+        "INSERT INTO entry (edition, ord, headword, start, length, key, rkey, shown) VALUES (?1, ?2, ?3, ?4, ?5, ?6, ?7, ?8)",
         params![
             edition,
             ord,
@@ -35,7 +35,8 @@ pub fn insert_keyed_entry<S: Alter>(
             start,
             length,
             given.key,
-            given.reversed
+            given.reversed,
+            given.shown
         ],
     )
 }

@@ -1,6 +1,6 @@
 //! Laws of what the statements do: each function does nothing, and its contract is the law.
 
-ghost use Rattle.std.specs.Prelude.{◌≡◌, ◌↔◌, ◌&&◌, ℕ, ℤ, pos, List, map, drop, filter, slice_get, codes, true, false, Some, IsPermutation};
+ghost use Rattle.std.specs.Prelude.{◌≡◌, ◌↔◌, ◌&&◌, [], ◌∷◌, ℕ, ℤ, pos, List, map, drop, filter, slice_get, codes, true, false, Some, IsPermutation};
 ghost use Rattle.sqlite.specs.Effect.{Database};
 ghost use Rattle.sqlite.specs.Order.{Row, column};
 ghost use Rattle.sqlite.specs.Table.{Table};
@@ -13,16 +13,19 @@ ghost use Rattle.dict_tables.specs.Definitions.{IsDefinition, are_named_apart};
 ghost use Rattle.dict_tables.specs.Found.{HasOwn};
 ghost use Rattle.dict_tables.specs.Tables as store;
 ghost use Rattle.dict_tables.specs.declared.tables.StoreTable.{StoreTable};
+ghost use Rattle.dict_derived.specs.Entries.{derived_from};
+ghost use Rattle.dict_sql.specs.Added.{AreAdded};
 ghost use Rattle.dict_sql.specs.Effects.{Has, equals_number, rows_of, table_in};
 ghost use Rattle.dict_sql.specs.Keyed.{piece_row};
 ghost use Rattle.dict_sql.specs.Reads.{IsListing};
-ghost use Rattle.dict_keyed_sql.specs.Tables.{entry, table_of};
+ghost use Rattle.dict_tables.specs.Keyed.{entry, table_of};
 ghost use Rattle.dict_keyed_sql.specs.Scans.{IsWhole, whole_order};
-ghost use Rattle.dict_keyed_sql.specs.Scans.Scan.{All, Of};
+ghost use Rattle.dict_keyed_sql.specs.Scans.Scan.{All, ByRowid, Of};
 ghost use Rattle.dict_keyed_sql.specs.Pieces.{HasDerived, name_for, table_for};
-ghost use Rattle.dict_keyed_sql.specs.declared.tables.KeyedTable.{KeyedTable};
-ghost use Rattle.dict_keyed_sql.specs.Indexes.{HasIndex, HasToIndex, IsIndexed};
-ghost use Rattle.dict_keyed_sql.specs.declared.indexes.KeyIndex.{KeyIndex};
+ghost use Rattle.dict_tables.specs.declared.keyed.KeyedTable.{KeyedTable};
+ghost use Rattle.dict_tables.specs.Indexes.{HasIndex};
+ghost use Rattle.dict_keyed_sql.specs.Indexes.{HasToIndex, IsIndexed};
+ghost use Rattle.dict_tables.specs.declared.keyed.KeyIndex.{KeyIndex};
 ghost use Rattle.dict_keyed_sql.specs.Joined.{with_word, with_grams, is_named, NameApart, rows_with, entries_where};
 
 /// Each of the tables is defined for whichever tree it is made in, so that the laws of what is made and dropped hold of it. No two take a name in common, nor do one of them and a table of schema 1 of another name.
@@ -36,6 +39,11 @@ pub fn definition_laws()
 /// All rows of a table that were read are those that it has, in the order of its key: so what is tested of them, as that their rowids are apart, holds of the table.
 pub fn listing_law()
     ensures { (table : KeyedTable) (db : Database) (rows : List Row) → IsWhole (All table) db rows → IsListing (table_of table 0).name (whole_order table) db rows }
+{}
+
+/// All rows of a table that were read by rowid are those that it has, in the order of their rowids: so whether these are apart holds of the table.
+pub fn rowid_law()
+    ensures { (table : KeyedTable) (db : Database) (rows : List Row) → IsWhole (ByRowid table) db rows → IsListing (table_of table 0).name (0 ∷ []) db rows }
 {}
 
 /// The tables that were had beside an index that is made are had still, and have the same rows; and the index is there.
@@ -60,4 +68,12 @@ pub fn piece_laws()
         → map (drop 1) rows ≡ map piece_row found → AreDerived pieces edition keys found → HasDerived pieces edition keys db }
     ensures read_all { (pieces : Pieces) (edition : ℤ) (keys : List (List ℕ)) (db : Database) (rows : List Row) (found : List Piece) → IsWhole (All (table_for pieces)) db rows
         → map (drop 1) (filter (equals_number 1 edition) rows) ≡ map piece_row found → AreDerived pieces edition keys found → HasDerived pieces edition keys db }
+{}
+
+/// Where the rows that are derived of the keys of an edition were added to a table that had none of the edition, one after another and in whatever order (`added_laws` of `dict_sql`), the table has of the edition what is derived of its keys, and of each other edition what it had.
+pub fn inserted_laws()
+    ensures derived { (pieces : Pieces) (edition : ℤ) (keys : List (List ℕ)) (old new : Database) → AreAdded (name_for pieces) (map piece_row (derived_from pieces edition 0 keys)) old new
+        → filter (equals_number 1 edition) (rows_of (name_for pieces) old) ≡ [] → HasDerived pieces edition keys new }
+    ensures beside { (pieces : Pieces) (edition : ℤ) (keys : List (List ℕ)) (old new : Database) → AreAdded (name_for pieces) (map piece_row (derived_from pieces edition 0 keys)) old new
+        → (other : ℤ) (others : List (List ℕ)) → (edition ≡ other → ⊥) → HasDerived pieces other others old → HasDerived pieces other others new }
 {}

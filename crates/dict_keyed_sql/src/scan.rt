@@ -11,14 +11,14 @@ ghost use Rattle.sqlite.specs.Given.{IsEnded};
 ghost use Rattle.sqlite.specs.contracts.connection.Connection.{the_row};
 ghost use Rattle.dict_sql.specs.Effects.{Has, WhileOpen};
 ghost use Rattle.dict_sql.specs.Streams.{IsNotBegun};
-ghost use Rattle.dict_keyed_sql.specs.Tables.{table_of, entry};
-ghost use Rattle.dict_keyed_sql.specs.Texts.{list_text, select_text};
+ghost use Rattle.dict_tables.specs.Keyed.{table_of, entry};
+ghost use Rattle.dict_keyed_sql.specs.Texts.{list_text, rowid_text, select_text};
 ghost use Rattle.dict_keyed_sql.specs.Scans.{Scan, HasTables, HasGiven, GivesOn, FailsToGive};
-ghost use Rattle.dict_keyed_sql.specs.Scans.Scan.{All, Of, WithKey, Between, BetweenReversed, WithWord, WithGrams};
+ghost use Rattle.dict_keyed_sql.specs.Scans.Scan.{All, ByRowid, Of, WithKey, Between, BetweenReversed, WithWord, WithGrams};
 
-use crate::tables::KeyedTable;
 use dict_sql::records::{ReadError, Record};
 use dict_sql::stream::next_record;
+use dict_tables::KeyedTable;
 use sqlite::{Alter, Connection, Error, Rows, params};
 
 fn list_text(table: KeyedTable) -> &'static str
@@ -28,6 +28,16 @@ fn list_text(table: KeyedTable) -> &'static str
         KeyedTable::Entry => "SELECT rowid, * FROM entry ORDER BY 2, 3",
         KeyedTable::Word => "SELECT rowid, * FROM word ORDER BY 2, 3, 4",
         KeyedTable::Gram => "SELECT rowid, * FROM gram ORDER BY 2, 3, 4",
+    }
+}
+
+fn rowid_text(table: KeyedTable) -> &'static str
+    ensures { result.now ≡ rowid_text table }
+{
+    match table {
+        KeyedTable::Entry => "SELECT rowid, * FROM entry ORDER BY 1",
+        KeyedTable::Word => "SELECT rowid, * FROM word ORDER BY 1",
+        KeyedTable::Gram => "SELECT rowid, * FROM gram ORDER BY 1",
     }
 }
 
@@ -56,6 +66,23 @@ pub fn read_rows<S: Alter>(
     ensures survives { IfOk result (λ rows. Survives (state S.Store conn.old) (state S.Store rows.conn.now) (λ _. ⊥)) }
 {
     conn.query(list_text(table), &[])
+}
+
+/// Begins to read all rows of the table, in the order of their rowids.
+///
+/// An error is the store's, or tells that the limit on steps was met.
+pub fn read_by_rowid<S: Alter>(
+    conn: &mut Connection<S>,
+    table: KeyedTable,
+) -> Result<Rows<'_, S>, Error>
+    requires { WhileOpen (state S.Store conn.old) (Has (table_of table)) }
+    ensures* refused { sem 𝓛 (RestsIfErr (the_row S.row S.Store) conn.entry (λ rows. rows.conn.ghost_name) result (IsNotBegun S.Store conn.old result)) }
+    ensures same_reference { IfOk result (λ rows. rows.conn.ghost_name ≡ conn.entry.ghost_name) }
+    ensures begun { IfOk result (λ rows. HasCleanDisk (state S.Store rows.conn.now) → HasGiven S.Store (ByRowid table) rows.conn.now [] × IsUnchanged (state S.Store conn.old) (state S.Store rows.conn.now)) }
+    ensures mode { IfOk result (λ rows. conn.old.in_transaction ≡ false → rows.conn.now.in_transaction ≡ false) }
+    ensures survives { IfOk result (λ rows. Survives (state S.Store conn.old) (state S.Store rows.conn.now) (λ _. ⊥)) }
+{
+    conn.query(rowid_text(table), &[])
 }
 
 /// Begins to read the rows of an edition, in the order of the table's key.

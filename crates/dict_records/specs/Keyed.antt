@@ -2,13 +2,26 @@
 use denote.Ref.{Bor}
 use Rattle.std.specs.Prelude.{ℕ, ℤ, List, String, Vec, string_bytes}
 use Rattle.std.specs.declared.alloc.Global.{Global}
+use Rattle.dict_records.specs.Records.{Entry}
 use Rattle.dict_records.specs.Typed.{lent}
 use Rattle.dict_records.specs.declared.keyed.KeyedEntry.{KeyedEntry as TypedEntry}
+use Rattle.dict_records.specs.declared.keyed.OldEntry.{OldEntry as TypedOld}
 use Rattle.dict_records.specs.declared.keyed.Word.{Word as TypedWord}
 use Rattle.dict_records.specs.declared.keyed.Gram.{Gram as TypedGram}
 
 -- a headword of an edition, where its body stands in the edition's text, its key, and the key's octets in reverse order
 pub record KeyedEntry : Type 0 where
+  pub edition : ℤ
+  pub ord : ℤ
+  pub headword : List ℕ
+  pub start : ℤ
+  pub length : ℤ
+  pub key : List ℕ
+  pub reversed : List ℕ
+  pub shown : List ℕ
+
+-- an entry as schemas 2 and 3 had it
+pub record OldEntry : Type 0 where
   pub edition : ℤ
   pub ord : ℤ
   pub headword : List ℕ
@@ -23,10 +36,17 @@ pub record Piece : Type 0 where
   pub piece : List ℕ
   pub ord : ℤ
 
+-- an entry without what was derived of it
+abbrev pub plain_entry : OldEntry → Entry
+plain_entry e = record { edition = e.edition; ord = e.ord; headword = e.headword; start = e.start; length = e.length }
+
 -- Each takes what the octets of a text and of a blob are.
 
 abbrev pub keyed_entry_of : {T : Type 0} → {B : Type 0} → (T → List ℕ) → (B → List ℕ) → TypedEntry T B → KeyedEntry
-keyed_entry_of text octets r = record { edition = r.edition; ord = r.ord; headword = text r.headword; start = r.start; length = r.length; key = octets r.key; reversed = octets r.reversed }
+keyed_entry_of text octets r = record { edition = r.edition; ord = r.ord; headword = text r.headword; start = r.start; length = r.length; key = octets r.key; reversed = octets r.reversed; shown = text r.shown }
+
+abbrev pub old_entry_of : {T : Type 0} → {B : Type 0} → (T → List ℕ) → (B → List ℕ) → TypedOld T B → OldEntry
+old_entry_of text octets r = record { edition = r.edition; ord = r.ord; headword = text r.headword; start = r.start; length = r.length; key = octets r.key; reversed = octets r.reversed }
 
 abbrev pub word_of : {B : Type 0} → (B → List ℕ) → TypedWord B → Piece
 word_of octets r = record { edition = r.edition; piece = octets r.word; ord = r.ord }
@@ -38,6 +58,9 @@ gram_of octets r = record { edition = r.edition; piece = octets r.gram; ord = r.
 
 abbrev pub owned_keyed_entry : TypedEntry (String Global) (Vec ℕ Global) → KeyedEntry
 owned_keyed_entry = keyed_entry_of string_bytes (λ b. b.items)
+
+abbrev pub owned_old_entry : TypedOld (String Global) (Vec ℕ Global) → OldEntry
+owned_old_entry = old_entry_of string_bytes (λ b. b.items)
 
 abbrev pub owned_word : TypedWord (Vec ℕ Global) → Piece
 owned_word = word_of (λ b. b.items)

@@ -4,5 +4,5 @@
 mod keyed;
 mod records;
 
-pub use keyed::{Gram, KeyedEntry, Word};
+pub use keyed::{Gram, KeyedEntry, OldEntry, Word};
 pub use records::{Edition, Entry, Item, Kept, Mark, Member, Stored};

@@ -34,3 +34,6 @@ pub mod DroppedLemmas
 pub mod DropFaults
 pub mod Callers
 pub mod NumberLemmas
+pub mod AddedLemmas
+pub mod TurnLemmas
+pub mod CountLemmas

@@ -28,7 +28,8 @@ use Rattle.dict_tables.proofs.FoundLemmas.{weaker}
 use Rattle.dict_tables.proofs.TableLemmas.{name_is}
 use Rattle.dict_tables.proofs.MadeLemmas.{differ, found_is, made_own, kept_own, room_kept, room_for, unused_still, store_defined, store_apart}
 use Rattle.dict_sql.specs.Effects.{rows_of, table_in, GoesOn, CountsFaults}
-use Rattle.dict_sql.specs.Creates.{IsFree, IsMade, AreApart, MadeInTurn, AreMade, IsReady, FailsToMake, FailsToMakeAll}
+use Rattle.dict_sql.specs.Creates.{IsFree, IsMade, AreApart, MadeInTurn, AreMade, IsReady, FailsToMake, FailsToMakeAll, count_trees}
+use Rattle.dict_sql.proofs.CountLemmas.{turn_next, count_front}
 
 zip_each : {A B : Type 0} (R : A → B → Type 0) (xs : List A) (ys : List B) → AllZip R xs ys → AllByRecursion (λ y. (x : A) × R x y) ys
 zip_each R [] [] h = tt
@@ -201,7 +202,7 @@ apart_before (suc i) (u ∷ ts) t apart at = (has_it ts i apart.0 at, apart_befo
     has_it (x ∷ xs) zero all at = λ same. all.0 (let e : x ≡ t = cc in same ∙ sym e)
     has_it (x ∷ xs) (suc k) all at = has_it xs k all.1 at
 
-take_one : {X : Type 0} (i : ℕ) (xs : List X) (x : X) → slice_get xs i ≡ Some x → take (i + 1) xs ≡ take i xs ++ x ∷ []
+pub take_one : {X : Type 0} (i : ℕ) (xs : List X) (x : X) → slice_get xs i ≡ Some x → take (i + 1) xs ≡ take i xs ++ x ∷ []
 take_one i xs x at = take_more i xs x at
   where
     take_more : {X : Type 0} (i : ℕ) (xs : List X) (x : X) → slice_get xs i ≡ Some x → take (i + 1) xs ≡ take i xs ++ x ∷ []
@@ -218,13 +219,13 @@ module _ (ts : List StoreTable) (i : ℕ) (t : StoreTable) (at : slice_get ts i 
   next_made new made = subst (λ l. MadeInTurn l old.now new.now) (sym (take_one i ts t at)) (turn_more (take i ts) t old.now mid.now new.now done made)
 
   -- no name of an index is in the way
-  unrefused : (e : Error) → IsTrue mid.is_open → RefusesToMake (table_of t 0) mid e → e ≡ SqliteFailure code.SchemaTooBig
-  unrefused e open' (inr many) = many.0
+  unrefused : (e : Error) → IsTrue mid.is_open → RefusesToMake (table_of t 0) mid e → (e ≡ SqliteFailure code.SchemaTooBig) × (65536 < next_tree old.now.schema + count_trees ts)
+  unrefused e open' (inr many) = (many.0, let most = turn_next (take i ts) old.now mid.now done in let all = count_front ts i t at in omega (arith, many.1, most, all))
   unrefused e open' (inl taken) =
       let room = turn_unindexed (take i ts) t old.now mid.now (apart_before i ts t apart at) (ready (keeps.was_open open')) done in
       absurd (let free = all_has (λ (index : Index). is_used mid.now.schema index.name ≡ false) (automatics (table_of t 0) 0 0 (table_of t 0).uniques) taken.1 room.unindexed taken.2 in let used = taken.3 in let both = rw free at used in cc)
 
-  pub next_fails : (new : State) (e : Error) → (IsTrue old.in_transaction → IsTrue mid.in_transaction) → old.faults ≤ mid.faults → FailsToMake (table_of t 0) mid new e → FailsToMakeAll old new e
+  pub next_fails : (new : State) (e : Error) → (IsTrue old.in_transaction → IsTrue mid.in_transaction) → old.faults ≤ mid.faults → FailsToMake (table_of t 0) mid new e → FailsToMakeAll (count_trees ts) old new e
   next_fails new e mode faults f = record {
     keeps = record { was_open = λ open'. keeps.was_open (f.keeps.was_open open'); committed = λ open'. f.keeps.committed open' ∙ keeps.committed (f.keeps.was_open open') };
     cause = λ within. elim (f.cause (mode within)) [

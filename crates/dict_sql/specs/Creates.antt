@@ -1,10 +1,10 @@
 -- The texts that make the tables, and what CREATE TABLE does to a database.
-use Rattle.std.specs.Prelude.{◌≡◌, ◌⊎◌, ℕ, false, IsTrue, List, [], ◌∷◌, codes}
+use Rattle.std.specs.Prelude.{◌≡◌, ◌⊎◌, ◌<◌, ◌+◌, ℕ, false, IsTrue, List, [], ◌∷◌, codes, length}
 use Rattle.std.specs.List.{AllByRecursion}
 use Rattle.sqlite.specs.Effect.{Database, IsDatabase, SparesFrozen}
 use Rattle.sqlite.specs.Table.{Table}
 use Rattle.sqlite.specs.Schema.{Schema}
-use Rattle.sqlite.specs.Change.{created, is_used}
+use Rattle.sqlite.specs.Change.{created, is_used, next_tree}
 use Rattle.sqlite.specs.Does.{lacks_sequence}
 use Rattle.dict_tables.specs.declared.tables.StoreTable.{StoreTable}
 use Rattle.dict_tables.specs.declared.tables.StoreTable.TheVariants.{Mark, Item, Member, Edition, Entry, Kept}
@@ -72,8 +72,13 @@ pub record IsReady (db : Database) : Type 0 where
   pub room : HasRoom db.schema
   pub sound : IsDatabase db
 
--- Several statements of a transaction failed: nothing was committed, and either the error tells that there are too many trees, or the store failed for the cause that the error names, and the transaction is undone.
-pub record FailsToMakeAll (old new : State) (e : Error) : Type 0 where
+-- the trees that the tables take: one for each, and one for each of its keys
+abbrev pub count_trees : List StoreTable → ℕ
+count_trees [] = 0
+count_trees (t ∷ ts) = 1 + length (table_of t 0).uniques + count_trees ts
+
+-- Several statements of a transaction failed, which make so many trees: nothing was committed, and either the error tells that there are too many trees, since all of them have no room below 65,536, or the store failed for the cause that the error names, and the transaction is undone.
+pub record FailsToMakeAll (count : ℕ) (old new : State) (e : Error) : Type 0 where
   pub keeps : KeepsCommit old new
-  pub cause : IsTrue old.in_transaction → (e ≡ SqliteFailure code.SchemaTooBig) ⊎ ((cause : StoreError) × (e ≡ store_error cause) × (new.in_transaction ≡ false) × (IsTrue new.is_open → new.now ≡ old.committed))
+  pub cause : IsTrue old.in_transaction → ((e ≡ SqliteFailure code.SchemaTooBig) × (65536 < next_tree old.now.schema + count)) ⊎ ((cause : StoreError) × (e ≡ store_error cause) × (new.in_transaction ≡ false) × (IsTrue new.is_open → new.now ≡ old.committed))
   pub counts : CountsFaults old new e

@@ -9,3 +9,5 @@ pub mod Deletes
 pub mod Creates
 pub mod Drops
 pub mod Keyed
+pub mod Added
+pub mod Statements

@@ -1,10 +1,11 @@
 //! The tables are made, inside an open transaction.
 
-ghost use Rattle.std.specs.Prelude.{◌≡◌, ◌<◌, length, IfErr, OnOk};
+ghost use Rattle.std.specs.Prelude.{◌≡◌, ◌<◌, length, map, IfErr, OnOk};
 ghost use Rattle.sqlite.specs.State.{HasCleanDisk, Survives};
 ghost use Rattle.dict_tables.specs.Tables.{table_of, store_tables};
 ghost use Rattle.dict_sql.specs.Effects.{WhileOpen, seen, GoesOn};
-ghost use Rattle.dict_sql.specs.Creates.{IsFree, Makes, FailsToMake, IsReady, AreApart, MadeInTurn, AreMade, FailsToMakeAll, create_text};
+ghost use Rattle.dict_sql.specs.Creates.{IsFree, Makes, FailsToMake, IsReady, AreApart, MadeInTurn, AreMade, FailsToMakeAll, count_trees, create_text};
+ghost use Rattle.dict_sql.specs.Statements.{make, RunInTurn, FailsInTurn};
 
 use dict_tables::StoreTable;
 use sqlite::{Alter, Error, Transaction};
@@ -55,7 +56,9 @@ fn create_each<S: Alter>(tx: &mut Transaction<'_, S>, tables: &[StoreTable]) -> 
     ensures same_reference { tx.new.conn.ghost_name ≡ tx.old.conn.ghost_name }
     ensures made { HasCleanDisk (seen S.Store tx.new) → OnOk result (MadeInTurn tables.now (seen S.Store tx.old).now (seen S.Store tx.new).now) }
     ensures goes { HasCleanDisk (seen S.Store tx.new) → OnOk result (0 < length tables.now → GoesOn (seen S.Store tx.old) (seen S.Store tx.new)) }
-    ensures failed { HasCleanDisk (seen S.Store tx.new) → IfErr result (FailsToMakeAll (seen S.Store tx.old) (seen S.Store tx.new)) }
+    ensures failed { HasCleanDisk (seen S.Store tx.new) → IfErr result (FailsToMakeAll (count_trees tables.now) (seen S.Store tx.old) (seen S.Store tx.new)) }
+    ensures ran { HasCleanDisk (seen S.Store tx.new) → OnOk result (RunInTurn S.Store (map make tables.now) tx.old.conn.now tx.new.conn.now) }
+    ensures failed_at { HasCleanDisk (seen S.Store tx.new) → IfErr result (FailsInTurn S.Store (map make tables.now) tx.old.conn.now tx.new.conn.now) }
     ensures survives { Survives (seen S.Store tx.old) (seen S.Store tx.new) (λ _. ⊥) }
 {
     'each: for table in tables {
@@ -69,7 +72,9 @@ pub fn create_tables<S: Alter>(tx: &mut Transaction<'_, S>) -> Result<(), Error>
     requires { WhileOpen (seen S.Store tx.old) IsReady }
     ensures same_reference { tx.new.conn.ghost_name ≡ tx.old.conn.ghost_name }
     ensures made { HasCleanDisk (seen S.Store tx.new) → OnOk result (AreMade store_tables (seen S.Store tx.old).now (seen S.Store tx.new).now × GoesOn (seen S.Store tx.old) (seen S.Store tx.new)) }
-    ensures failed { HasCleanDisk (seen S.Store tx.new) → IfErr result (FailsToMakeAll (seen S.Store tx.old) (seen S.Store tx.new)) }
+    ensures failed { HasCleanDisk (seen S.Store tx.new) → IfErr result (FailsToMakeAll (count_trees store_tables) (seen S.Store tx.old) (seen S.Store tx.new)) }
+    ensures ran { HasCleanDisk (seen S.Store tx.new) → OnOk result (RunInTurn S.Store (map make store_tables) tx.old.conn.now tx.new.conn.now) }
+    ensures failed_at { HasCleanDisk (seen S.Store tx.new) → IfErr result (FailsInTurn S.Store (map make store_tables) tx.old.conn.now tx.new.conn.now) }
     ensures survives { Survives (seen S.Store tx.old) (seen S.Store tx.new) (λ _. ⊥) }
 {
     create_each(

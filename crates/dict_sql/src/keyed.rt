@@ -2,18 +2,18 @@
 
 ghost use Rattle.std.specs.Prelude.{◌≡◌, ◌∷◌, drop, length, IfOk, IfErr, OnOk};
 ghost use Rattle.sqlite.specs.Order.{column};
-ghost use Rattle.dict_records.specs.Keyed.{owned_keyed_entry};
+ghost use Rattle.dict_records.specs.Keyed.{owned_keyed_entry, owned_old_entry};
 ghost use Rattle.dict_sql.specs.Columns.{HasColumns};
 ghost use Rattle.dict_sql.specs.Reads.{FailsToDecode};
-ghost use Rattle.dict_sql.specs.Keyed.{keyed_entry_row, keyed_entry_cells, keyed_entry_columns, piece_columns, stored_keyed_entry, stored_word, stored_gram};
+ghost use Rattle.dict_sql.specs.Keyed.{keyed_entry_row, keyed_entry_cells, keyed_entry_columns, old_entry_row, old_entry_cells, old_entry_columns, piece_columns, stored_keyed_entry, stored_old_entry, stored_word, stored_gram};
 
 use crate::records::{ReadError, Record, cell};
-use dict_records::{Gram, KeyedEntry, Stored, Word};
+use dict_records::{Gram, KeyedEntry, OldEntry, Stored, Word};
 use sqlite::Row;
 
 // What stands behind the rowid, or that it is no entry.
 fn keyed_entry(row: &Row) -> Result<KeyedEntry<String, Vec<u8>>, ReadError>
-    requires { length row.now ≡ 8 }
+    requires { length row.now ≡ 9 }
     ensures read { IfOk result (λ e. row.now ≡ column row.now 0 ∷ keyed_entry_row (owned_keyed_entry e)) }
     ensures lawful { OnOk result (HasColumns keyed_entry_cells (drop 1 row.now)) }
     ensures refused { IfErr result (FailsToDecode keyed_entry_columns row.now) }
@@ -26,6 +26,7 @@ fn keyed_entry(row: &Row) -> Result<KeyedEntry<String, Vec<u8>>, ReadError>
         length: cell(row, 5)?,
         key: cell(row, 6)?,
         reversed: cell(row, 7)?,
+        shown: cell(row, 8)?,
     })
 }
 
@@ -35,11 +36,48 @@ impl Record for Stored<KeyedEntry<String, Vec<u8>>> {
     ghost columns = { keyed_entry_columns };
 
     fn from_row(row: &Row) -> Result<Self, ReadError> {
-        if row.column_count() != 8 {
+        if row.column_count() != 9 {
             return Err(ReadError::NoRecord);
         }
         let rowid = cell(row, 0)?;
         let value = keyed_entry(row)?;
+        Ok(Stored { rowid, value })
+    }
+
+    fn rowid(&self) -> i64 {
+        self.rowid
+    }
+}
+
+// What stands behind the rowid, or that it is no entry of schemas 2 and 3.
+fn old_entry(row: &Row) -> Result<OldEntry<String, Vec<u8>>, ReadError>
+    requires { length row.now ≡ 8 }
+    ensures read { IfOk result (λ e. row.now ≡ column row.now 0 ∷ old_entry_row (owned_old_entry e)) }
+    ensures lawful { OnOk result (HasColumns old_entry_cells (drop 1 row.now)) }
+    ensures refused { IfErr result (FailsToDecode old_entry_columns row.now) }
+{
+    Ok(OldEntry {
+        edition: cell(row, 1)?,
+        ord: cell(row, 2)?,
+        headword: cell(row, 3)?,
+        start: cell(row, 4)?,
+        length: cell(row, 5)?,
+        key: cell(row, 6)?,
+        reversed: cell(row, 7)?,
+    })
+}
+
+impl Record for Stored<OldEntry<String, Vec<u8>>> {
+    ghost stored = { stored_old_entry };
+
+    ghost columns = { old_entry_columns };
+
+    fn from_row(row: &Row) -> Result<Self, ReadError> {
+        if row.column_count() != 8 {
+            return Err(ReadError::NoRecord);
+        }
+        let rowid = cell(row, 0)?;
+        let value = old_entry(row)?;
         Ok(Stored { rowid, value })
     }
 

@@ -1,6 +1,6 @@
 //! Laws of what the statements do: each function does nothing, and its contract is the law.
 
-ghost use Rattle.std.specs.Prelude.{◌≡◌, ◌≤◌, ℕ, Bool, true, false, List, [], codes, Some, None};
+ghost use Rattle.std.specs.Prelude.{◌≡◌, ◌≤◌, ◌++◌, ℕ, Bool, true, false, List, [], ◌∷◌, codes, Some, None, IsPermutation};
 ghost use Rattle.std.specs.List.{AllByRecursion, list_any};
 ghost use Rattle.sqlite.specs.Order.{Row};
 ghost use Rattle.sqlite.specs.Table.{Table};
@@ -16,6 +16,7 @@ ghost use Rattle.dict_tables.specs.Definitions.{IsDefinition, are_named_apart, n
 ghost use Rattle.dict_tables.specs.Found.{HasOwn};
 ghost use Rattle.dict_tables.specs.Room.{LeavesRoom, is_referred};
 ghost use Rattle.dict_sql.specs.Effects.{Has, HasApartRowids, IsAdded, IsRemoved, CountsFaults, rows_of, table_in};
+ghost use Rattle.dict_sql.specs.Added.{AreAdded};
 ghost use Rattle.dict_sql.specs.Creates.{IsMade};
 ghost use Rattle.dict_sql.specs.Drops.{IsDropped};
 ghost use Rattle.dict_sql.specs.Reads.{IsListing, FailsToRead};
@@ -56,6 +57,14 @@ pub fn apart_laws()
     ensures added { (name : List ℕ) (row : Row) (old new : Database) → IsAdded name row old new → HasApartRowids (rows_of name old) → HasApartRowids (rows_of name new) }
     ensures removed { (name : List ℕ) (test : Row → Bool) (old new : Database) → IsRemoved name test old new → HasApartRowids (rows_of name old) → HasApartRowids (rows_of name new) }
     ensures listed { (name columns : List ℕ) (db : Database) (rows : List Row) → IsListing name columns db rows → HasApartRowids rows → HasApartRowids (rows_of name db) }
+{}
+
+/// Rows that are added one after another are added all, and in whatever order they are listed.
+pub fn added_laws()
+    ensures none { (name : List ℕ) (db : Database) → AreAdded name [] db db }
+    ensures one { (name : List ℕ) (done : List Row) (row : Row) (old mid new : Database) → AreAdded name done old mid → IsAdded name row mid new → AreAdded name (done ++ row ∷ []) old new }
+    ensures more { (name : List ℕ) (done more : List Row) (old mid new : Database) → AreAdded name done old mid → AreAdded name more mid new → AreAdded name (done ++ more) old new }
+    ensures listed { (name : List ℕ) (rows same : List Row) (old new : Database) → IsPermutation rows same → AreAdded name rows old new → AreAdded name same old new }
 {}
 
 /// An error that names the disk comes with a fault of the disk, over one statement and, since no fault is forgotten, over several.

@@ -1,5 +1,9 @@
 pub mod Tables
+pub mod Keyed
 pub mod Names
 pub mod Found
 pub mod Definitions
 pub mod Room
+pub mod Indexes
+pub mod OwnNames
+pub mod Behind

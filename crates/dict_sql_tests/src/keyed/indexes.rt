@@ -2,9 +2,9 @@
 
 use super::rows::make as make_table;
 use crate::connections::raw;
-use dict_keyed_sql::{KeyIndex, KeyedTable, create_key_index, has_key_index, has_keyed_table};
+use dict_keyed_sql::{create_key_index, has_key_index, has_keyed_table};
 use dict_sql::commit::commit;
-use dict_tables::is_name_used;
+use dict_tables::{KeyIndex, KeyedTable, is_name_used};
 use sqlite::{Alter, Connection, Error};
 use std::process::Abort;
 use std::test::Fail;
@@ -54,7 +54,7 @@ pub(crate) fn run<S: Alter>(rt: &impl Abort, conn: &mut Connection<S>) -> Result
     }
     raw(
         conn,
-        "INSERT INTO entry VALUES (3, 0, 'z', 0, 0, x'7a', x'7a'); DELETE FROM entry WHERE edition = 3",
+        "INSERT INTO entry VALUES (3, 0, 'z', 0, 0, x'7a', x'7a', 'z'); DELETE FROM entry WHERE edition = 3",
     )?;
     Ok(())
 }

@@ -1,9 +1,10 @@
 //! The table `entry` as it is without keys, read inside a transaction.
 
 use crate::connections::{compare, raw, told};
-use dict_keyed_sql::{KeyedTable, entries_inside, has_keyed_table};
+use dict_keyed_sql::has_keyed_table;
+use dict_migration_sql::entries_inside;
 use dict_sql::records::ReadError;
-use dict_tables::{StoreTable, has_table};
+use dict_tables::{KeyedTable, StoreTable, has_table};
 use sqlite::{Alter, Connection, Error};
 use std::alloc::Global;
 use std::process::Abort;

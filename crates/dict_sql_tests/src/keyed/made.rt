@@ -1,14 +1,13 @@
 //! All tables and indexes are made by one transaction, which puts a row into each table.
 
 ghost use Rattle.dict_sql.specs.Effects.{Has, WhileOpen, seen};
-ghost use Rattle.dict_keyed_sql.specs.Tables.{table_of};
-ghost use Rattle.dict_keyed_sql.specs.declared.tables.KeyedTable.{KeyedTable as Table};
+ghost use Rattle.dict_tables.specs.Keyed.{table_of};
+ghost use Rattle.dict_tables.specs.declared.keyed.KeyedTable.{KeyedTable as Table};
 
-use dict_keyed_sql::{
-    create_keyed_tables, has_keyed_room, insert_gram, insert_keyed_entry, insert_word,
-};
+use dict_keyed_sql::{create_keyed_tables, insert_gram, insert_keyed_entry, insert_word};
 use dict_records::{Gram, KeyedEntry, Word};
 use dict_sql::commit::commit;
+use dict_tables::has_keyed_room;
 use sqlite::{Alter, Connection, Error, Transaction};
 
 // Puts in what is derived of an entry whose key has one word and one gram.
@@ -23,6 +22,7 @@ fn fill<S: Alter>(tx: &mut Transaction<'_, S>) -> Result<(), Error>
         length: 3,
         key: b"gem".as_slice(),
         reversed: b"meg".as_slice(),
+        shown: "Gem",
     };
     insert_keyed_entry(tx, &entry)?;
     let word = Word {

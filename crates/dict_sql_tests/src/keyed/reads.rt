@@ -3,12 +3,13 @@
 use crate::connections::{compare, told};
 use dict_derived::is_tested;
 use dict_keyed_sql::{
-    KeyedTable, count_rows, has_keyed_table, next_keyed, read_between, read_between_reversed,
+    count_rows, has_keyed_table, next_keyed, read_between, read_between_reversed, read_by_rowid,
     read_rows, read_rows_of, read_with_grams, read_with_key, read_with_word,
 };
 use dict_match::{Strategy, matches};
 use dict_records::{Gram, KeyedEntry, Stored, Word};
 use dict_sql::records::{ReadError, Record};
+use dict_tables::KeyedTable;
 use sqlite::{Alter, Connection, Error, Rows};
 use std::alloc::Global;
 use std::process::Abort;
@@ -18,6 +19,7 @@ use std::test::Fail;
 #[derive(Clone, Copy)]
 pub(crate) enum Wanted<'a> {
     Rows(KeyedTable, Option<i64>),
+    ByRowid(KeyedTable),
     Key(&'a [u8]),
     Between(&'a [u8], &'a [u8]),
     Reversed(&'a [u8], &'a [u8]),
@@ -43,6 +45,17 @@ fn begin_rows<'a, S: Alter>(
     }
 }
 
+// Begins to read a table by its rowids.
+fn begin_by_rowid<'a, S: Alter>(
+    conn: &'a mut Connection<S>,
+    table: KeyedTable,
+) -> Result<Rows<'a, S>, Error> {
+    if !has_keyed_table(conn.schema(), table) {
+        return Err(Error::InvalidQuery);
+    }
+    read_by_rowid(conn, table)
+}
+
 // Begins to read what is wanted: entries of the first edition, where they are found by their keys.
 fn begin<'a, S: Alter>(
     conn: &'a mut Connection<S>,
@@ -57,6 +70,7 @@ fn begin<'a, S: Alter>(
     }
     match wanted {
         Wanted::Rows(table, edition) => begin_rows(conn, *table, *edition),
+        Wanted::ByRowid(table) => begin_by_rowid(conn, *table),
         Wanted::Key(key) => read_with_key(conn, 1, key),
         Wanted::Between(low, high) => read_between(conn, 1, low, high),
         Wanted::Reversed(low, high) => read_between_reversed(conn, 1, low, high),
@@ -65,8 +79,8 @@ fn begin<'a, S: Alter>(
     }
 }
 
-// The records that are still to come.
-fn rest<S: Alter, R: Record + Drop>(
+/// The records that are still to come.
+pub(crate) fn rest<S: Alter, R: Record + Drop>(
     alloc: Global,
     rows: &mut Rows<'_, S>,
 ) -> Result<Vec<R>, ReadError> {
@@ -89,8 +103,8 @@ fn read<S: Alter, R: Record + Drop>(
     rest(alloc, &mut rows)
 }
 
-// The records that are wanted, as text.
-fn told_read<S: Alter>(
+/// The records that are wanted, as text.
+pub(crate) fn told_read<S: Alter>(
     alloc: Global,
     conn: &mut Connection<S>,
     wanted: &Wanted<'_>,
@@ -146,7 +160,7 @@ fn count<S: Alter>(
 
 // The entry at place 4.
 const FOURTH: &str =
-    "[Stored { rowid: 6, value: KeyedEntry { edition: 1, ord: 4, headword: \"ab\", start: 4, length: 9223372036854775807, key: [97, 98], reversed: [98, 97] } }]";
+    "[Stored { rowid: 6, value: KeyedEntry { edition: 1, ord: 4, headword: \"ab\", start: 4, length: 9223372036854775807, key: [97, 98], reversed: [98, 97], shown: \"shown\" } }]";
 
 // The rows of `word`, in their order, and those of the second edition.
 const WORDS: &str = "[Stored { rowid: 6, value: Word { edition: 1, word: [], ord: 3 } }, \
@@ -182,7 +196,11 @@ static TEXTS: [(Wanted<'static>, &str); 6] = [
 ];
 
 // What is read, and the places of the entries that come.
-static READS: [(Wanted<'static>, &[i64]); 35] = [
+static READS: [(Wanted<'static>, &[i64]); 36] = [
+    (
+        Wanted::ByRowid(KeyedTable::Entry),
+        &[0, 3, 0, 1, 2, 4, 5, 6],
+    ),
     (
         Wanted::Rows(KeyedTable::Entry, None),
         &[0, 1, 2, 3, 4, 5, 6, 0],

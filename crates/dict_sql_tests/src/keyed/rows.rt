@@ -5,15 +5,15 @@ ghost use Rattle.sqlite.specs.State.{HasCleanDisk};
 ghost use Rattle.sqlite.specs.Held.{state};
 ghost use Rattle.dict_sql.specs.Effects.{Has, HasApartRowids, WhileOpen, rows_of, seen};
 ghost use Rattle.dict_sql.specs.Deletes.{HasToRemove};
-ghost use Rattle.dict_keyed_sql.specs.Tables.{table_of};
+ghost use Rattle.dict_tables.specs.Keyed.{table_of};
 
 use dict_keyed_sql::{
-    KeyedTable, create_keyed_table, delete_grams, delete_keyed_entries, delete_words,
-    drop_keyed_table, has_keyed_table, insert_gram, insert_keyed_entry, insert_word,
+    create_keyed_table, delete_grams, delete_keyed_entries, delete_words, drop_keyed_table,
+    has_keyed_table, insert_gram, insert_keyed_entry, insert_word,
 };
 use dict_records::{Gram, KeyedEntry, Word};
 use dict_sql::commit::commit;
-use dict_tables::{is_name_used, waits_for_counter};
+use dict_tables::{KeyedTable, is_name_used, waits_for_counter};
 use sqlite::{Alter, Connection, Error, Transaction};
 
 /// The keyed tables.
@@ -146,6 +146,7 @@ fn add<S: Alter>(tx: &mut Transaction<'_, S>, table: KeyedTable, row: &Row) -> R
                 length: 9_223_372_036_854_775_807,
                 key: octets,
                 reversed: row.4,
+                shown: "shown",
             },
         ),
         KeyedTable::Word => insert_word(

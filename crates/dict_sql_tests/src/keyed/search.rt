@@ -5,9 +5,9 @@ use super::reads::{Wanted, places};
 use super::rows::empty_all;
 use crate::connections::raw;
 use dict_derived::{Selection, derive, grams_of, select, words_of};
-use dict_keyed_sql::KeyedTable;
 use dict_match::{Strategy, key_of, matches};
 use dict_sql::records::ReadError;
+use dict_tables::KeyedTable;
 use sqlite::{Alter, Connection, Error, params};
 use std::alloc::{AllocError, Global};
 use std::process::Abort;
@@ -85,7 +85,7 @@ fn put_entry<S: Alter>(
     let derived = derive(alloc, headword)?;
     let key = derived.key.as_bytes();
     conn.execute(
-        "INSERT INTO entry VALUES (1, ?1, ?2, 0, 0, ?3, ?4)",
+        "INSERT INTO entry VALUES (1, ?1, ?2, 0, 0, ?3, ?4, ?2)",
         params![ord, headword, key, &derived.reversed],
     )?;
     put_words(alloc, conn, key, ord)?;

@@ -3,7 +3,7 @@ use Rattle.sqlite.specs.Held.{state}
 use Rattle.dict_sql.specs.Effects.{seen}
 use Rattle.dict_sql.proofs.StateLemmas.{inside, fails_in}
 use Rattle.dict_sql.proofs.RefusalLemmas.{makes_aside}
-use Rattle.dict_keyed_sql.specs.Tables.{table_of}
+use Rattle.dict_tables.specs.Keyed.{table_of}
 use Rattle.dict_keyed_sql.specs.Texts.{create_text}
 use Rattle.dict_keyed_sql.proofs.CreateTexts.{makes_table, make_fails_in}
 use Rattle.dict_keyed_sql.proofs.create.create_keyed_table.Goals as goal

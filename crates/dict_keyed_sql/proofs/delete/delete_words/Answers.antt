@@ -6,7 +6,7 @@ use Rattle.dict_sql.proofs.StateLemmas.{inside, fails_in}
 use Rattle.dict_sql.proofs.RefusalLemmas.{removes_aside}
 use Rattle.dict_sql.proofs.NumberLemmas.{bound_int}
 use Rattle.dict_keyed_sql.specs.Texts.{delete_text}
-use Rattle.dict_keyed_sql.specs.declared.tables.KeyedTable.TheVariants as keyed
+use Rattle.dict_tables.specs.declared.keyed.KeyedTable.TheVariants as keyed
 use Rattle.dict_keyed_sql.proofs.DeleteTexts.{removes_word, word_stays}
 use Rattle.dict_keyed_sql.proofs.delete.delete_words.Goals as goal
 

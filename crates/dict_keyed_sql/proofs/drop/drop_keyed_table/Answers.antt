@@ -3,7 +3,7 @@ use Rattle.sqlite.specs.Held.{state}
 use Rattle.dict_sql.specs.Effects.{seen}
 use Rattle.dict_sql.proofs.StateLemmas.{inside, fails_in}
 use Rattle.dict_sql.proofs.RefusalLemmas.{drops_aside}
-use Rattle.dict_keyed_sql.specs.Tables.{table_of}
+use Rattle.dict_tables.specs.Keyed.{table_of}
 use Rattle.dict_keyed_sql.specs.Texts.{drop_text}
 use Rattle.dict_keyed_sql.proofs.DropTexts.{drops_table, drop_fails_in}
 use Rattle.dict_keyed_sql.proofs.drop.drop_keyed_table.Goals as goal

@@ -1,5 +1,5 @@
 use Rattle.std.proofs.Common.{◌≡◌, rules, IsTrue, Some}
-use Rattle.dict_keyed_sql.specs.Tables.{table_of}
+use Rattle.dict_tables.specs.Keyed.{table_of}
 use Rattle.dict_tables.specs.Found.{found_table}
 use Rattle.dict_keyed_sql.proofs.TableLemmas.{name_is, tree_is}
 use Rattle.dict_tables.proofs.FoundLemmas.{owns, is_own}

@@ -1,6 +1,7 @@
 use Rattle.std.proofs.Common.{◌≡◌, rules, codes, IsTrue, Some}
 use Rattle.dict_tables.specs.Found.{found_table}
-use Rattle.dict_keyed_sql.specs.Indexes.{index_of, found_index}
+use Rattle.dict_tables.specs.Keyed.{index_of}
+use Rattle.dict_tables.specs.Indexes.{found_index}
 use Rattle.dict_keyed_sql.proofs.IndexedLemmas.{has_index, is_over}
 use Rattle.dict_keyed_sql.proofs.indexes.has_key_index.Goals as goal
 

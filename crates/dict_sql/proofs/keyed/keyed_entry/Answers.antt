@@ -10,5 +10,5 @@ pub returns-clause-lawful : goal.returns-clause-lawful
 returns-clause-lawful c =
     let row = c.args.row.now in
     let H : Row → Type 0 = λ r. HasColumns keyed_entry_cells (drop 1 r) in
-    subst H (sym (cells row 8 c.requires))
-    ((_, c.in_ok-cell.ensures.ok), ((_, c.in_ok-cell-2.ensures.ok), ((_, c.in_ok-cell-3.ensures.ok, IsUtf8-string_bytes c.in_ok-cell-3.field-0), ((_, c.in_ok-cell-4.ensures.ok), ((_, c.in_ok-cell-5.ensures.ok), ((_, c.in_ok-cell-6.ensures.ok), ((_, c.in_ok-cell-7.ensures.ok), tt)))))))
+    subst H (sym (cells row 9 c.requires))
+    ((_, c.in_ok-cell.ensures.ok), ((_, c.in_ok-cell-2.ensures.ok), ((_, c.in_ok-cell-3.ensures.ok, IsUtf8-string_bytes c.in_ok-cell-3.field-0), ((_, c.in_ok-cell-4.ensures.ok), ((_, c.in_ok-cell-5.ensures.ok), ((_, c.in_ok-cell-6.ensures.ok), ((_, c.in_ok-cell-7.ensures.ok), ((_, c.in_ok-cell-8.ensures.ok, IsUtf8-string_bytes c.in_ok-cell-8.field-0), tt))))))))

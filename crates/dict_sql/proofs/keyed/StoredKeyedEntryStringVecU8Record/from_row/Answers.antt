@@ -7,5 +7,5 @@ use Rattle.dict_sql.proofs.keyed.StoredKeyedEntryStringVecU8Record.from_row.Goal
 pub returns-clause-lawful : goal.returns-clause-lawful
 returns-clause-lawful c =
     let row = c.args.row.now in
-    let wide : length row ≡ 8 = omega (arith, c.column_count.ensures) in
-    subst (HasColumns keyed_entry_columns) (sym (first_and_rest row 7 wide)) ((_, c.in_ok-rowid.ensures.ok), c.in_ok-value.ensures.lawful)
+    let wide : length row ≡ 9 = omega (arith, c.column_count.ensures) in
+    subst (HasColumns keyed_entry_columns) (sym (first_and_rest row 8 wide)) ((_, c.in_ok-rowid.ensures.ok), c.in_ok-value.ensures.lawful)

@@ -2,8 +2,8 @@ use Rattle.std.proofs.Common.{arith}
 use Rattle.sqlite.specs.State.{HasCleanDisk}
 use Rattle.dict_sql.specs.Effects.{seen}
 use Rattle.dict_sql.proofs.Callers.{still_has}
-use Rattle.dict_keyed_sql.specs.Tables.{word, gram}
-use Rattle.dict_keyed_sql.specs.declared.tables.KeyedTable.TheVariants.{Entry, Word, Gram}
+use Rattle.dict_tables.specs.Keyed.{word, gram}
+use Rattle.dict_tables.specs.declared.keyed.KeyedTable.TheVariants.{Entry, Word, Gram}
 use Rattle.dict_sql_tests.proofs.keyed.made.fill.Goals as goal
 
 pub insert_keyed_entry-requires : goal.insert_keyed_entry-requires

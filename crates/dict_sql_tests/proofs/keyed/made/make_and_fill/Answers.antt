@@ -1,6 +1,6 @@
 use Rattle.dict_sql.specs.Effects.{seen}
 use Rattle.dict_sql.proofs.Callers.{own_has}
-use Rattle.dict_keyed_sql.specs.Tables.{table_of}
+use Rattle.dict_tables.specs.Keyed.{table_of}
 use Rattle.dict_sql_tests.proofs.keyed.made.make_and_fill.Goals as goal
 
 pub fill-requires : goal.fill-requires

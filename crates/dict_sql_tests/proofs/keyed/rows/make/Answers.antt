@@ -3,7 +3,7 @@ use Rattle.sqlite.specs.State.{HasCleanDisk}
 use Rattle.sqlite.specs.Held.{state}
 use Rattle.dict_sql.specs.Effects.{HasApartRowids, rows_of}
 use Rattle.dict_sql.proofs.Callers.{after_commit, apart_made}
-use Rattle.dict_keyed_sql.specs.Tables.{table_of}
+use Rattle.dict_tables.specs.Keyed.{table_of}
 use Rattle.dict_sql_tests.proofs.keyed.rows.make.Goals as goal
 
 pub returns : goal.returns

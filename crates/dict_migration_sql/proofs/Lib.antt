@@ -1,0 +1,8 @@
+pub mod HelperTexts
+pub mod InsideLemmas
+pub mod EntryTexts
+pub mod ApartLemmas
+pub mod FreedLemmas
+pub mod CopyLemmas
+pub mod DefinitionLemmas
+pub mod GoneLemmas

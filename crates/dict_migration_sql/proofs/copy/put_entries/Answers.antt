@@ -1,0 +1,49 @@
+use Rattle.std.proofs.Common.{◌≡◌, ◌∙◌, ◌++◌, List, [], ◌∷◌, refl, sym, ap, subst, arith, codes, map, take}
+use Rattle.std.proofs.lemmas.List.{take_more}
+use Rattle.sqlite.specs.State.{HasCleanDisk}
+use Rattle.sqlite.specs.Order.{Row}
+use Rattle.sqlite.proofs.StateLemmas.{survives_then}
+use Rattle.dict_records.specs.Records.{Entry}
+use Rattle.dict_sql.specs.Added.{AreAdded}
+use Rattle.dict_sql.specs.Effects.{IsAdded, seen}
+use Rattle.dict_sql.specs.Encodings.{entry_row, stored_entry}
+use Rattle.dict_sql.proofs.AddedLemmas.{none_added, one_added}
+use Rattle.dict_sql.proofs.MakeLemmas.{goes_keeps, keeps_then}
+use Rattle.dict_migration_sql.specs.Copied.{plain_row}
+use Rattle.dict_migration_sql.proofs.CopyLemmas.{keeps_none, none_more, map_more, put_later}
+use Rattle.dict_migration_sql.proofs.copy.put_entries.Goals as goal
+
+pub each-init : goal.each-init
+each-init g c = record {
+  same_reference = refl;
+  added = λ clean. none_added (codes "dictcat_entry") (seen g.S.Store c.args.tx.now).now;
+  inside = λ clean h. h;
+  keeps = λ clean. keeps_none (seen g.S.Store c.args.tx.now);
+  survives = none_more (seen g.S.Store c.args.tx.now);
+}
+
+pub each-preserved : goal.each-preserved
+each-preserved g c =
+    let first = seen g.S.Store c.args.tx.now in
+    let mid = seen g.S.Store c.each.tx in
+    let new = seen g.S.Store c.insert_into_helper.new.tx in
+    let item = c.entry-item.result in
+    let all = c.args.all.now in
+    let i = c.each.entry-index in
+    let was = λ (clean : HasCleanDisk new). let early : HasCleanDisk mid = omega (arith, c.insert_into_helper.ensures.survives.clean, clean) in early in
+    record {
+      same_reference = c.insert_into_helper.ensures.same_reference ∙ c.each.invariant.same_reference;
+      added = λ clean.
+          let one = subst (λ (e : Entry). IsAdded (codes "dictcat_entry") (entry_row e) mid.now new.now) c.lend-plain.ensures (c.in_ok-insert_into_helper.ensures.added clean).0 in
+          subst (λ (l : List Row). AreAdded (codes "dictcat_entry") l first.now new.now)
+          (sym (ap (map (λ r. plain_row (stored_entry r))) (take_more all i item c.each-test.true ∙ ap (λ x. take i all ++ x ∷ []) (sym c.entry-item.is)) ∙ map_more (λ r. plain_row (stored_entry r)) (take i all) item))
+          (one_added (codes "dictcat_entry") (map (λ r. plain_row (stored_entry r)) (take i all)) (plain_row (stored_entry item)) first.now mid.now new.now (c.each.invariant.added (was clean)) one);
+      inside = λ clean h. (c.in_ok-insert_into_helper.ensures.added clean).1.mode;
+      keeps = λ clean. keeps_then first mid new (c.each.invariant.keeps (was clean)) (goes_keeps mid new (c.in_ok-insert_into_helper.ensures.added clean).1);
+      survives = survives_then first mid new _ _ (λ _. ⊥) (λ _ db none. none) (λ _ db none. none) c.each.invariant.survives c.insert_into_helper.ensures.survives;
+    }
+
+pub returns-in_err-insert_into_helper-clause-failed : goal.returns-in_err-insert_into_helper-clause-failed
+returns-in_err-insert_into_helper-clause-failed g c clean =
+    put_later g.S.Store c.args.tx.now.conn.now c.each.tx.conn.now c.insert_into_helper.new.tx.conn.now _ c.in_err-insert_into_helper.field-0.0 c.from_residual.result c.from_residual.ensures.1
+    c.each.invariant.survives c.insert_into_helper.ensures.survives c.each.invariant.inside clean (c.in_err-insert_into_helper.ensures.failed clean)

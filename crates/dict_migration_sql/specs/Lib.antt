@@ -1,0 +1,3 @@
+pub mod Helper
+pub mod Entries
+pub mod Copied

@@ -1,0 +1,49 @@
+//! The tables of what is derived of headwords and their indexes by name.
+
+ghost use Rattle.std.specs.Prelude.{◌≡◌};
+ghost use Rattle.dict_tables.specs.Keyed.{table_of, index_of};
+
+/// A table of what is derived of headwords.
+#[derive(Clone, Copy, Debug, PartialEq, Eq)]
+pub enum KeyedTable {
+    /// The entries of the editions, with the key of each headword, read in either direction.
+    Entry,
+    /// The words of the keys.
+    Word,
+    /// The runs of three octets of the keys.
+    Gram,
+}
+
+impl KeyedTable {
+    /// The name of the table.
+    pub fn name(self) -> &'static str
+        ensures { result.now ≡ (table_of self 0).name }
+    {
+        match self {
+            KeyedTable::Entry => "entry",
+            KeyedTable::Word => "word",
+            KeyedTable::Gram => "gram",
+        }
+    }
+}
+
+/// An index over the entries of an edition. It isn't unique, as entries may have equal keys.
+#[derive(Clone, Copy, Debug, PartialEq, Eq)]
+pub enum KeyIndex {
+    /// By the key.
+    Key,
+    /// By the key, read in reverse order.
+    Reversed,
+}
+
+impl KeyIndex {
+    /// The name of the index.
+    pub fn name(self) -> &'static str
+        ensures { result.now ≡ (index_of self).name }
+    {
+        match self {
+            KeyIndex::Key => "dictcat_entry_key",
+            KeyIndex::Reversed => "dictcat_entry_rkey",
+        }
+    }
+}
