@@ -1,0 +1,3 @@
+pub mod Searches
+pub mod Handed
+pub mod CountLemmas

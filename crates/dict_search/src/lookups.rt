@@ -1,0 +1,228 @@
+// What is asked of an edition by its number.
+ghost use Rattle.std.specs.Prelude.{◌≡◌, ◌≤◌, length, false, List, IfOk, IfErr, IsErr, OnOk};
+ghost use Rattle.sqlite.specs.State.{HasCleanDisk, IsUnchanged, Survives};
+ghost use Rattle.sqlite.specs.Held.{state};
+ghost use Rattle.dict_sql.specs.Effects.{WhileOpen};
+ghost use Rattle.dict_index.specs.Edition.{Entry, ReadEdition, edition_of};
+ghost use Rattle.dict_desk.specs.Found.{found};
+ghost use Rattle.dict_desk.specs.Shown.{headword_rows, info_rows, count_of};
+ghost use Rattle.dict_desk.specs.Handing.{Hands};
+ghost use Rattle.dict_search.specs.Searches.{HasTables, HoldsOne, IsReadable, FailsToLookUp, IsOfStore, column_of};
+
+use crate::begin::begin;
+use crate::counter::Counter;
+use crate::fault::fault_of;
+use crate::found::hand_found;
+use crate::listed::hand_listed;
+use crate::record::{column_number, edition_of_number};
+use dict_derived::select;
+use dict_desk::{End, Fault, RowSink, Turn, What};
+use dict_match::{Key, Strategy};
+use sqlite::{Alter, Connection};
+use std::alloc::Global;
+
+// Hands out those of the edition's entries that the query finds, cut from this text.
+fn find_in<S: Alter, T: RowSink>(
+    alloc: Global,
+    conn: &mut Connection<S>,
+    number: u64,
+    text: &[u8],
+    strategy: Strategy,
+    query: &Key,
+    sink: &mut T,
+    rows_taken: &mut u64,
+) -> Result<End, Fault>
+    requires { WhileOpen (state S.Store conn.old) HasTables }
+    ensures value { HasCleanDisk (state S.Store conn.new) → (reading : ReadEdition) → HoldsOne (state S.Store conn.old).now number reading → Hands T.takes T.stops sink.old sink.new (found strategy query.now (edition_of (record reading { text = text.now }))) result }
+    ensures handed { (rows : List Entry) × Hands T.takes T.stops sink.old sink.new rows result }
+    ensures few { HasCleanDisk (state S.Store conn.new) → IsReadable (state S.Store conn.old).now (column_of number) → (rows : List Entry) × (length rows ≤ 65535) × Hands T.takes T.stops sink.old sink.new rows result }
+    ensures same { HasCleanDisk (state S.Store conn.new) → OnOk result (IsUnchanged (state S.Store conn.old) (state S.Store conn.new)) }
+    ensures failed { HasCleanDisk (state S.Store conn.new) → IfErr result (FailsToLookUp (column_of number) (state S.Store conn.old) (state S.Store conn.new)) }
+    ensures shut { HasCleanDisk (state S.Store conn.new) → (state S.Store conn.old).is_open ≡ false → IsErr result × (sink.new ≡ sink.old) }
+    ensures kinds { IfErr result IsOfStore }
+    ensures mode { conn.old.in_transaction ≡ false → conn.new.in_transaction ≡ false }
+    ensures survives { Survives (state S.Store conn.old) (state S.Store conn.new) (λ _. ⊥) }
+{
+    let selection = select(alloc, strategy, query.as_bytes())?;
+    match begin(conn, column_number(number), &selection) {
+        Ok(mut rows) => hand_found(&mut rows, text, strategy, query, sink, rows_taken),
+        Err(error) => Err(fault_of(error)),
+    }
+}
+
+// Hands out those of the edition's headwords that the query finds, each once.
+fn heads_in<S: Alter, T: RowSink>(
+    alloc: Global,
+    conn: &mut Connection<S>,
+    number: u64,
+    strategy: Strategy,
+    query: &Key,
+    sink: &mut T,
+    rows_taken: &mut u64,
+) -> Result<End, Fault>
+    requires { WhileOpen (state S.Store conn.old) HasTables }
+    ensures value { HasCleanDisk (state S.Store conn.new) → (reading : ReadEdition) → HoldsOne (state S.Store conn.old).now number reading → Hands T.takes T.stops sink.old sink.new (headword_rows strategy query.now (edition_of reading)) result }
+    ensures handed { (rows : List Entry) × Hands T.takes T.stops sink.old sink.new rows result }
+    ensures few { HasCleanDisk (state S.Store conn.new) → IsReadable (state S.Store conn.old).now (column_of number) → (rows : List Entry) × (length rows ≤ 65535) × Hands T.takes T.stops sink.old sink.new rows result }
+    ensures same { HasCleanDisk (state S.Store conn.new) → OnOk result (IsUnchanged (state S.Store conn.old) (state S.Store conn.new)) }
+    ensures failed { HasCleanDisk (state S.Store conn.new) → IfErr result (FailsToLookUp (column_of number) (state S.Store conn.old) (state S.Store conn.new)) }
+    ensures shut { HasCleanDisk (state S.Store conn.new) → (state S.Store conn.old).is_open ≡ false → IsErr result × (sink.new ≡ sink.old) }
+    ensures kinds { IfErr result IsOfStore }
+    ensures mode { conn.old.in_transaction ≡ false → conn.new.in_transaction ≡ false }
+    ensures survives { Survives (state S.Store conn.old) (state S.Store conn.new) (λ _. ⊥) }
+{
+    let selection = select(alloc, strategy, query.as_bytes())?;
+    match begin(conn, column_number(number), &selection) {
+        Ok(mut rows) => hand_listed(alloc, &mut rows, strategy, query, sink, rows_taken),
+        Err(error) => Err(fault_of(error)),
+    }
+}
+
+/// Hands one row to the sink: the empty headword, and what the edition's database says of itself. Of a number that no
+/// edition has nothing is told. It reads the edition's whole record, its text too.
+///
+/// `Memory` tells that a growth was refused, `Disk` that the store failed, or that the limit on steps was met. The database
+/// stays as it is.
+pub fn info<S: Alter, T: RowSink>(
+    alloc: Global,
+    conn: &mut Connection<S>,
+    number: u64,
+    sink: &mut T,
+) -> Result<End, Fault>
+    requires { WhileOpen (state S.Store conn.old) HasTables }
+    ensures value { HasCleanDisk (state S.Store conn.new) → (reading : ReadEdition) → HoldsOne (state S.Store conn.old).now number reading → Hands T.takes T.stops sink.old sink.new (info_rows (edition_of reading)) result }
+    ensures handed { (rows : List Entry) × Hands T.takes T.stops sink.old sink.new rows result }
+    ensures same { HasCleanDisk (state S.Store conn.new) → OnOk result (IsUnchanged (state S.Store conn.old) (state S.Store conn.new)) }
+    ensures failed { HasCleanDisk (state S.Store conn.new) → IfErr result (FailsToLookUp (column_of number) (state S.Store conn.old) (state S.Store conn.new)) }
+    ensures shut { HasCleanDisk (state S.Store conn.new) → (state S.Store conn.old).is_open ≡ false → IsErr result × (sink.new ≡ sink.old) }
+    ensures kinds { IfErr result IsOfStore }
+    ensures mode { conn.old.in_transaction ≡ false → conn.new.in_transaction ≡ false }
+    ensures survives { Survives (state S.Store conn.old) (state S.Store conn.new) (λ _. ⊥) }
+{
+    let mut rows_taken = 0;
+    let Some(edition) = edition_of_number(alloc, conn, number, &mut rows_taken)? else {
+        return Ok(End::All);
+    };
+    match sink.take("", edition.info.as_bytes()) {
+        Turn::More => Ok(End::All),
+        Turn::Stop => Ok(End::Stopped),
+    }
+}
+
+/// Hands the entries of the edition that the query finds by the strategy to the sink, in the order of the index, each as
+/// a row of its headword and its text, and counts the rows that its statements hand over. Of a number that no edition has
+/// nothing is told.
+///
+/// `Memory` tells that a growth was refused, `Disk` that the store failed, or that the limit on steps was met. The database
+/// stays as it is.
+pub fn find<S: Alter, T: RowSink>(
+    alloc: Global,
+    conn: &mut Connection<S>,
+    number: u64,
+    strategy: Strategy,
+    query: &Key,
+    sink: &mut T,
+    rows_taken: &mut u64,
+) -> Result<End, Fault>
+    requires { WhileOpen (state S.Store conn.old) HasTables }
+    ensures value { HasCleanDisk (state S.Store conn.new) → (reading : ReadEdition) → HoldsOne (state S.Store conn.old).now number reading → Hands T.takes T.stops sink.old sink.new (found strategy query.now (edition_of reading)) result }
+    ensures handed { (rows : List Entry) × Hands T.takes T.stops sink.old sink.new rows result }
+    ensures same { HasCleanDisk (state S.Store conn.new) → OnOk result (IsUnchanged (state S.Store conn.old) (state S.Store conn.new)) }
+    ensures failed { HasCleanDisk (state S.Store conn.new) → IfErr result (FailsToLookUp (column_of number) (state S.Store conn.old) (state S.Store conn.new)) }
+    ensures shut { HasCleanDisk (state S.Store conn.new) → (state S.Store conn.old).is_open ≡ false → IsErr result × (sink.new ≡ sink.old) }
+    ensures kinds { IfErr result IsOfStore }
+    ensures mode { conn.old.in_transaction ≡ false → conn.new.in_transaction ≡ false }
+    ensures survives { Survives (state S.Store conn.old) (state S.Store conn.new) (λ _. ⊥) }
+{
+    let Some(edition) = edition_of_number(alloc, conn, number, rows_taken)? else {
+        return Ok(End::All);
+    };
+    find_in(
+        alloc,
+        conn,
+        number,
+        edition.body.as_slice(),
+        strategy,
+        query,
+        sink,
+        rows_taken,
+    )
+}
+
+/// Hands the headwords of the entries that the query finds by the strategy to the sink, each once, in the order in which
+/// they first stand among these, as rows with the empty text, and counts the rows that its statement hands over. Of a
+/// number that no edition has nothing is told.
+///
+/// `Memory` tells that a growth was refused, `Disk` that the store failed, or that the limit on steps was met. The database
+/// stays as it is.
+pub fn heads<S: Alter, T: RowSink>(
+    alloc: Global,
+    conn: &mut Connection<S>,
+    number: u64,
+    strategy: Strategy,
+    query: &Key,
+    sink: &mut T,
+    rows_taken: &mut u64,
+) -> Result<End, Fault>
+    requires { WhileOpen (state S.Store conn.old) HasTables }
+    ensures value { HasCleanDisk (state S.Store conn.new) → (reading : ReadEdition) → HoldsOne (state S.Store conn.old).now number reading → Hands T.takes T.stops sink.old sink.new (headword_rows strategy query.now (edition_of reading)) result }
+    ensures handed { (rows : List Entry) × Hands T.takes T.stops sink.old sink.new rows result }
+    ensures same { HasCleanDisk (state S.Store conn.new) → OnOk result (IsUnchanged (state S.Store conn.old) (state S.Store conn.new)) }
+    ensures failed { HasCleanDisk (state S.Store conn.new) → IfErr result (FailsToLookUp (column_of number) (state S.Store conn.old) (state S.Store conn.new)) }
+    ensures shut { HasCleanDisk (state S.Store conn.new) → (state S.Store conn.old).is_open ≡ false → IsErr result × (sink.new ≡ sink.old) }
+    ensures kinds { IfErr result IsOfStore }
+    ensures mode { conn.old.in_transaction ≡ false → conn.new.in_transaction ≡ false }
+    ensures survives { Survives (state S.Store conn.old) (state S.Store conn.new) (λ _. ⊥) }
+{
+    heads_in(alloc, conn, number, strategy, query, sink, rows_taken)
+}
+
+/// How many entries of the edition the query finds by the strategy, or how many headwords they have. It counts the rows
+/// that its statement hands over. Of a number that no edition has nothing is told.
+///
+/// `Memory` tells that a growth was refused, `Disk` that the store failed, or that the limit on steps was met. The database
+/// stays as it is.
+pub fn count<S: Alter>(
+    alloc: Global,
+    conn: &mut Connection<S>,
+    number: u64,
+    strategy: Strategy,
+    query: &Key,
+    what: What,
+    rows_taken: &mut u64,
+) -> Result<u64, Fault>
+    requires { WhileOpen (state S.Store conn.old) HasTables }
+    ensures value { HasCleanDisk (state S.Store conn.new) → (reading : ReadEdition) → HoldsOne (state S.Store conn.old).now number reading → IfOk result (λ count. count ≡ count_of what strategy query.now (edition_of reading)) }
+    ensures same { HasCleanDisk (state S.Store conn.new) → OnOk result (IsUnchanged (state S.Store conn.old) (state S.Store conn.new)) }
+    ensures failed { HasCleanDisk (state S.Store conn.new) → IfErr result (FailsToLookUp (column_of number) (state S.Store conn.old) (state S.Store conn.new)) }
+    ensures kinds { IfErr result IsOfStore }
+    ensures mode { conn.old.in_transaction ≡ false → conn.new.in_transaction ≡ false }
+    ensures survives { Survives (state S.Store conn.old) (state S.Store conn.new) (λ _. ⊥) }
+{
+    let mut counter = Counter { count: 0 };
+    let end = match what {
+        What::Entries => find_in(
+            alloc,
+            conn,
+            number,
+            b"",
+            strategy,
+            query,
+            &mut counter,
+            rows_taken,
+        )?,
+        What::Headwords => heads_in(
+            alloc,
+            conn,
+            number,
+            strategy,
+            query,
+            &mut counter,
+            rows_taken,
+        )?,
+    };
+    match end {
+        End::All => Ok(counter.count),
+        End::Stopped => Err(Fault::Disk),
+    }
+}
