@@ -12,12 +12,24 @@ use Rattle.dict_catalogue.specs.WellFormed.{IsWellFormed}
 use Rattle.dict_desk.specs.Found.{is_found}
 use Rattle.dict_desk.specs.PlainEntries.{LieWithin}
 use Rattle.dict_desk.specs.declared.counted.Counted.{Counted}
+use Rattle.dict_desk.specs.declared.fault.Fault.{Fault}
+use Rattle.dict_desk.specs.declared.fault.Fault.TheVariants.{Refused, Memory, Disk, Closed, NotACatalogue, Damaged, NewerSchema}
 use Rattle.dict_desk.specs.declared.replies.Filed.{Filed}
 
 -- what contracts see of a catalogue that is kept in memory, and whether the last call failed
 pub record PlainState : Type 0 where
   pub catalogue : Catalogue
   pub has_failed : Bool
+
+-- a growth was refused, and the catalogue is kept as it was. A catalogue in memory fails for no other cause
+abbrev pub WantsMemory : PlainState → PlainState → Fault → Type 0
+WantsMemory old new (Refused refusal) = ⊥
+WantsMemory old new Memory = new.catalogue ≡ old.catalogue
+WantsMemory old new Disk = ⊥
+WantsMemory old new Closed = ⊥
+WantsMemory old new NotACatalogue = ⊥
+WantsMemory old new Damaged = ⊥
+WantsMemory old new NewerSchema = ⊥
 
 -- the edition of this number
 abbrev pub numbered : ℕ → List (Stored Edition) → Option (Stored Edition)

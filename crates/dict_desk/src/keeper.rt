@@ -4,7 +4,7 @@ ghost use Rattle.dict_catalogue.specs.Steps.{Catalogue, Request, kept_under, ste
 ghost use Rattle.dict_catalogue.specs.declared.reply.Kept.{Kept as Reply};
 ghost use Rattle.dict_catalogue.specs.Views.{command_meant, kept_shown};
 ghost use Rattle.dict_desk.specs.Applying.{Applies, Leaves};
-ghost use Rattle.dict_desk.specs.Faults.{IsOfLookup, IsOfCommand, is_disk, has_failed_by, has_closed_by};
+ghost use Rattle.dict_desk.specs.Faults.{IsOfLookup, IsOfCommand, is_disk, is_failure, has_failed_by, has_closed_by};
 ghost use Rattle.dict_desk.specs.Requests.{requests_meant};
 ghost use Rattle.dict_desk.specs.AllApplied.{settled_answer, AllAnswered, HaltsAt, AreApplied, HasHalted};
 ghost use Rattle.dict_desk.specs.declared.fault.Fault.{Fault as Failure};
@@ -21,6 +21,9 @@ pub trait Keeper: Lookup {
     // tells by it which of them were.
     ghost applies: { Self → Request → Result Reply Failure → Self → Type 0 } = { λ _ _ _ _. ⊤ };
 
+    // Between two of its states a command under the id of its request failed by this fault, for a cause that this names.
+    ghost fails_to_apply: { Self → Request → Self → Failure → Type 0 };
+
     /// The reply that is kept under the id of a request, if there is one.
     fn kept(&mut self, id: &str) -> Result<Option<Kept>, Fault>
         ensures value { Self.is_trusted self.new → (M : Catalogue) → Self.shows self.old M → IfOk result (λ reply. option_map kept_shown reply ≡ kept_under M.kept id.now) }
@@ -28,6 +31,7 @@ pub trait Keeper: Lookup {
         ensures shows { Self.is_trusted self.new → (M : Catalogue) → Self.shows self.old M → Self.shows self.new M }
         ensures leaves { (ms : List (Option Catalogue)) → Self.leaves_one_of self.old ms → Self.leaves_one_of self.new ms }
         ensures kinds { IfErr result IsOfLookup }
+        ensures caused { Self.is_trusted self.new → IfErr result (Self.gives_way self.old self.new) }
         ensures failed { Self.has_failed self.new ≡ has_failed_by result }
         ensures closes { Self.is_closed self.new ≡ (Self.is_closed self.old || has_closed_by result) }
         ensures closed { (result ≡ Err Fault.Closed) ↔ (Self.is_closed self.old ≡ true) };
@@ -43,6 +47,7 @@ pub trait Keeper: Lookup {
         ensures leaves { Self.is_trusted self.new → (M : Catalogue) → Self.shows self.old M → Leaves (Self.leaves_one_of self.old) (Self.leaves_one_of self.new) (is_some (kept_under M.kept id.now)) (step M id.now (command_meant command.now)).catalogue result }
         ensures spares { (ms : List (Option Catalogue)) → Self.leaves_one_of self.old ms → IfErr result (λ fault. is_disk fault ≡ false → Self.leaves_one_of self.new ms) }
         ensures kinds { IfErr result IsOfCommand }
+        ensures caused { Self.is_trusted self.new → IfErr result (λ fault. is_failure fault ≡ true → fails_to_apply self.old (record { id = id.now; command = command_meant command.now }) self.new fault) }
         ensures failed { Self.has_failed self.new ≡ has_failed_by result }
         ensures closes { Self.is_closed self.new ≡ (Self.is_closed self.old || has_closed_by result) }
         ensures closed { (result ≡ Err Fault.Closed) ↔ (Self.is_closed self.old ≡ true) };

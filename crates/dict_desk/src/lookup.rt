@@ -8,6 +8,7 @@ ghost use Rattle.dict_desk.specs.Found.{found};
 ghost use Rattle.dict_desk.specs.Shown.{HasEdition, headword_rows, info_rows, count_of};
 ghost use Rattle.dict_desk.specs.Handing.{Hands};
 ghost use Rattle.dict_desk.specs.Faults.{IsOfLookup, has_failed_by, has_closed_by};
+ghost use Rattle.dict_desk.specs.declared.fault.Fault.{Fault as Failure};
 
 use crate::fault::Fault;
 use crate::sink::RowSink;
@@ -52,6 +53,9 @@ pub trait Lookup {
     // Its last call by `&mut self` answered a fault from 40 on.
     ghost has_failed: { Self → Bool };
 
+    // Between two of its states a call that changes no catalogue failed by this fault, for a cause that this names.
+    ghost gives_way: { Self → Self → Failure → Type 0 };
+
     /// The catalogue without its entries and its kept replies. No memory is taken; the only fault is `Closed`.
     fn summary(&self) -> Result<&Summary, Fault>
         ensures value { (M : Catalogue) → shows self.now M → IfOk result (λ summary. summary_shown summary.now ≡ summary_of M) }
@@ -66,6 +70,7 @@ pub trait Lookup {
         ensures shows { is_trusted self.new → (M : Catalogue) → shows self.old M → shows self.new M }
         ensures leaves { (ms : List (Option Catalogue)) → leaves_one_of self.old ms → leaves_one_of self.new ms }
         ensures kinds { IfErr result IsOfLookup }
+        ensures caused { is_trusted self.new → IfErr result (gives_way self.old self.new) }
         ensures failed { has_failed self.new ≡ has_failed_by result }
         ensures closes { is_closed self.new ≡ (is_closed self.old || has_closed_by result) }
         ensures closed { (result ≡ Err Fault.Closed) ↔ (is_closed self.old ≡ true) };
@@ -83,6 +88,7 @@ pub trait Lookup {
         ensures shows { is_trusted self.new → (M : Catalogue) → shows self.old M → shows self.new M }
         ensures leaves { (ms : List (Option Catalogue)) → leaves_one_of self.old ms → leaves_one_of self.new ms }
         ensures kinds { IfErr result IsOfLookup }
+        ensures caused { is_trusted self.new → IfErr result (gives_way self.old self.new) }
         ensures failed { has_failed self.new ≡ has_failed_by result }
         ensures closes { is_closed self.new ≡ (is_closed self.old || has_closed_by result) }
         ensures closed { (result ≡ Err Fault.Closed) ↔ (is_closed self.old ≡ true) };
@@ -102,6 +108,7 @@ pub trait Lookup {
         ensures shows { is_trusted self.new → (M : Catalogue) → shows self.old M → shows self.new M }
         ensures leaves { (ms : List (Option Catalogue)) → leaves_one_of self.old ms → leaves_one_of self.new ms }
         ensures kinds { IfErr result IsOfLookup }
+        ensures caused { is_trusted self.new → IfErr result (gives_way self.old self.new) }
         ensures failed { has_failed self.new ≡ has_failed_by result }
         ensures closes { is_closed self.new ≡ (is_closed self.old || has_closed_by result) }
         ensures closed { (result ≡ Err Fault.Closed) ↔ (is_closed self.old ≡ true) };
@@ -121,6 +128,7 @@ pub trait Lookup {
         ensures shows { is_trusted self.new → (M : Catalogue) → shows self.old M → shows self.new M }
         ensures leaves { (ms : List (Option Catalogue)) → leaves_one_of self.old ms → leaves_one_of self.new ms }
         ensures kinds { IfErr result IsOfLookup }
+        ensures caused { is_trusted self.new → IfErr result (gives_way self.old self.new) }
         ensures failed { has_failed self.new ≡ has_failed_by result }
         ensures closes { is_closed self.new ≡ (is_closed self.old || has_closed_by result) }
         ensures closed { (result ≡ Err Fault.Closed) ↔ (is_closed self.old ≡ true) };

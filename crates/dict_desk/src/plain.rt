@@ -181,6 +181,7 @@ impl PlainDesk {
 impl Lookup for PlainDesk {
     ghost use Rattle.std.specs.Prelude.{◌≡◌, true, false, refl};
     ghost use Rattle.dict_catalogue.specs.WellFormed.{IsWellFormed};
+    ghost use Rattle.dict_desk.specs.Plain.{WantsMemory};
 
     ghost shows = { λ s M. (M ≡ s.catalogue) × IsWellFormed M };
 
@@ -191,6 +192,8 @@ impl Lookup for PlainDesk {
     ghost is_closed = { λ _. false };
 
     ghost has_failed = { λ s. s.has_failed };
+
+    ghost gives_way = { WantsMemory };
 
     fn summary(&self) -> Result<&Summary, Fault> {
         Ok(&self.summary)
@@ -259,6 +262,14 @@ impl Lookup for PlainDesk {
 }
 
 impl Keeper for PlainDesk {
+    ghost use Rattle.dict_catalogue.specs.Steps.{step};
+    ghost use Rattle.dict_desk.specs.Applying.{Applies};
+    ghost use Rattle.dict_desk.specs.Plain.{WantsMemory};
+
+    ghost applies = { λ old request result new. Applies (λ M. new.catalogue ≡ M) old.catalogue (step old.catalogue request.id request.command) result };
+
+    ghost fails_to_apply = { λ old _ new. WantsMemory old new };
+
     fn kept(&mut self, id: &str) -> Result<Option<Kept>, Fault> {
         let reply = self.reply(id);
         self.has_failed = reply.is_err();

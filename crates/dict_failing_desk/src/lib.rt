@@ -54,6 +54,7 @@ impl FailingDesk {
         ensures closes { self.new.is_closed ≡ (self.old.is_closed || has_closed_by result) }
         ensures closed { (result ≡ Err faults.Closed) ↔ (self.old.is_closed ≡ true) }
         ensures goes_on { OnOk result (self.new.is_closed ≡ false) }
+        ensures by_disk { IfErr result (λ fault. fault ≡ faults.Disk → (self.old.by_disk ≡ true) × (self.old.left ≡ 0)) }
     {
         if self.is_closed {
             return Err(Fault::Closed);
@@ -75,6 +76,7 @@ impl FailingDesk {
 impl Lookup for FailingDesk {
     ghost use Rattle.std.specs.Prelude.{◌≡◌, ◌||◌, true, false};
     ghost use Rattle.std.proofs.lemmas.Bool.{true≢false};
+    ghost use Rattle.dict_desk.specs.declared.fault.Fault.TheVariants as faults;
 
     ghost shows = { λ _ _. ⊥ };
 
@@ -85,6 +87,8 @@ impl Lookup for FailingDesk {
     ghost is_closed = { λ s. s.is_closed };
 
     ghost has_failed = { λ s. s.has_failed || s.is_closed };
+
+    ghost gives_way = { λ old _ fault. fault ≡ faults.Disk → (old.by_disk ≡ true) × (old.left ≡ 0) };
 
     fn summary(&self) -> Result<&Summary, Fault> {
         if self.is_closed {
@@ -147,6 +151,11 @@ impl Lookup for FailingDesk {
 }
 
 impl Keeper for FailingDesk {
+    ghost use Rattle.std.specs.Prelude.{◌≡◌, true};
+    ghost use Rattle.dict_desk.specs.declared.fault.Fault.TheVariants as faults;
+
+    ghost fails_to_apply = { λ old _ _ fault. fault ≡ faults.Disk → (old.by_disk ≡ true) × (old.left ≡ 0) };
+
     fn kept(&mut self, id: &str) -> Result<Option<Kept>, Fault> {
         self.turn()?;
         let answer = self.desk.kept(id);
