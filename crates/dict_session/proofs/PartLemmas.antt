@@ -5,6 +5,8 @@ use Rattle.std.proofs.lemmas.List.{take-append-le, take_all}
 use Rattle.dict_io.specs.Streams.{Stream, PutsAll}
 use Rattle.dict_io.proofs.PutLemmas.{all_after, appends_longer, appends_after, front_after, front_longer}
 use Rattle.dict_catalogue.specs.Steps.{Catalogue}
+use Rattle.dict_desk.specs.declared.lookup.What.{What}
+use Rattle.dict_session.specs.Answers.{count_octets, counted_rows}
 use Rattle.dict_session.specs.Desks.{Stays}
 use Rattle.dict_session.specs.Spoken.{IsBeginning}
 use Rattle.dict_session.specs.Ending.{PutsPart, PutsBeginning, Breaks, PutsAnswer}
@@ -42,15 +44,18 @@ beginning_after xs ys zs k some more = record {
   more = λ e. omega (arith, ap length e, length-append (drop k ys) zs, more);
 }
 
--- xs was put, and then a front of ys, and zs was to come
-pub begun_after : (a b c : Stream) (xs ys zs : List ℕ) → 0 < length xs → 0 < length zs → PutsAll a b xs → PutsPart b c ys → PutsBeginning a c (xs ++ (ys ++ zs))
-begun_after a b c xs ys zs some more h p =
-    (xs ++ take p.front.0 ys, beginning_after xs ys zs p.front.0 some more, all_after a b c xs (take p.front.0 ys) h (record { octets = p.front.2; failures = p.failures }))
+-- the number of the rows was put, and then a front of ys, and zs was to come
+pub begun_after : (what : What) (count : ℕ) (a b c : Stream) (ys zs : List ℕ) → 0 < length (count_octets what count) → 0 < length zs → PutsAll a b (count_octets what count) → PutsPart b c ys
+    → PutsBeginning (counted_rows what) a c (count_octets what count ++ (ys ++ zs))
+begun_after what count a b c ys zs some more h p =
+    let xs = count_octets what count in
+    (xs ++ take p.front.0 ys, beginning_after xs ys zs p.front.0 some more, (count, take p.front.0 ys, refl), all_after a b c xs (take p.front.0 ys) h (record { octets = p.front.2; failures = p.failures }))
 
 -- an answer that was broken off among its rows
-pub breaks_answer : (failed : Bool) (fault : PutFault) (a b c : Stream) (xs ys zs : List ℕ) → 0 < length xs → 0 < length zs → PutsAll a b xs → Breaks failed fault b c ys → PutsAnswer failed (Err fault) a c (xs ++ (ys ++ zs)) true true
-breaks_answer failed Sink a b c xs ys zs some more h p = inl (front_after a b c xs (ys ++ zs) h (front_longer b c ys zs p))
-breaks_answer failed Desk a b c xs ys zs some more h p = (refl, p.0, begun_after a b c xs ys zs some more h p.1)
+pub breaks_answer : (what : What) (count : ℕ) (failed : Bool) (fault : PutFault) (a b c : Stream) (ys zs : List ℕ) → 0 < length (count_octets what count) → 0 < length zs → PutsAll a b (count_octets what count) → Breaks failed fault b c ys
+    → PutsAnswer failed (Err fault) a c (count_octets what count ++ (ys ++ zs)) (counted_rows what) true
+breaks_answer what count failed Sink a b c ys zs some more h p = inl (front_after a b c (count_octets what count) (ys ++ zs) h (front_longer b c ys zs p))
+breaks_answer what count failed Desk a b c ys zs some more h p = (p.0, begun_after what count a b c ys zs some more h p.1)
 
 module _ {S : Type 0} (Shows : S → Catalogue → Type 0) (LeavesOneOf : S → List (Option Catalogue) → Type 0) (IsTrusted : S → Type 0) (is_closed : S → Bool) where
   pub stays_same : (a : S) → Stays Shows LeavesOneOf IsTrusted is_closed a a

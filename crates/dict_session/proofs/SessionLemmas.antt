@@ -21,7 +21,7 @@ wrote_line d f More a b l (inr h) = (_, speaks_unavailable d f.closed l h.0, h.1
 wrote_line d f Quit a b l h = (d (meaning l), speaks_one d f.closed l true h.1, h.0)
 wrote_line d f SinkFailed a b l (inl h) = (d (meaning l), is_quit l, speaks_one d f.closed l (is_quit l) refl, h)
 wrote_line d f SinkFailed a b l (inr h) = (_, false, speaks_unavailable d f.closed l h.0, h.1)
-wrote_line d f DeskFailed a b l (asks, failed, (part, begins, put)) = (failed, (part, breaks_one d f.closed l part asks begins, put))
+wrote_line d f DeskFailed a b l (failed, (part, begins, told, put)) = (failed, (part, breaks_one d f.closed l part begins told, put))
 
 pub leaves_line : (d : Meaning → List ℕ) (f : Condition) (course : Course) (s : Session) (a b : Stream) (bs l : List ℕ) → cut bs ≡ record { lines = l ∷ []; rest = [] } → EndsLine d f course s a b l → Leaves d f course s a b bs
 leaves_line d f course s a b bs l e h = rw e (wrote_line d f course a b l h.0, h.1)

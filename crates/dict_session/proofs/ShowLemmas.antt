@@ -13,9 +13,10 @@ use Rattle.dict_index.specs.Edition.{Edition, Entry}
 use Rattle.dict_catalogue.specs.Items.{Item, Stored, regular, virtual, is_named, item_as, editions_of}
 use Rattle.dict_catalogue.specs.Steps.{Catalogue, summary_of}
 use Rattle.dict_desk.specs.Asked.{Database, databases_named}
-use Rattle.dict_desk.specs.Shown.{HasEdition, info_rows}
+use Rattle.dict_desk.specs.Shown.{HasEdition, info_rows, row}
 use Rattle.dict_proto.specs.declared.reply.Reply.TheVariants.{ListEnd, Help, ServerInformation, Done}
 use Rattle.dict_proto.specs.Replies.{reply_octets, list_end_octets, done_octets, invalid_database_octets, info_heading_octets, info_text_octets, no_databases_octets, database_count_octets, unavailable_octets, status_octets}
+use Rattle.dict_session.specs.Answers.{Need, no_rows, one_row}
 use Rattle.dict_session.specs.Ending.{PutsBeginning, PutsAnswer}
 use Rattle.dict_session.specs.declared.step.Answered.{Answered}
 use Rattle.dict_session.specs.declared.step.Answered.TheVariants.{Whole, Unavailable}
@@ -168,19 +169,24 @@ pub row_is : (edition : Edition) → flat_map info_row (info_rows edition) ++ do
 row_is edition =
     ap (λ (l : List ℕ). l ++ done_octets) (append-nil (info_heading_octets ++ info_text_octets edition.info)) ∙ append_assoc info_heading_octets (info_text_octets edition.info) done_octets
 
+no_more_rows : (one first : Entry) (front rest : List Entry) → one ∷ [] ≡ (first ∷ front) ++ rest → rest ≡ []
+no_more_rows one first [] rest e = cc
+no_more_rows one first (row ∷ front) rest e = cc
+
 -- a beginning of the row that was begun
 pub part_of_row : (a b : Stream) (edition : Edition) (front rest : List Entry) → true ≡ has_some front → info_rows edition ≡ front ++ rest → PutsAll a b (flat_map info_row front)
-    → PutsBeginning a b (info_heading_octets ++ (info_text_octets edition.info ++ done_octets))
+    → PutsBeginning one_row a b (info_heading_octets ++ (info_text_octets edition.info ++ done_octets))
 unfolding done_octets info_heading_octets
 part_of_row a b edition [] rest some e h = cc
-part_of_row a b edition (row ∷ front) rest some e h = (
-  flat_map info_row (row ∷ front),
+part_of_row a b edition (first ∷ front) rest some e h = (
+  flat_map info_row (first ∷ front),
   record {
     rest = flat_map info_row rest ++ done_octets;
-    are = sym (row_is edition) ∙ (ap (λ (l : List ℕ). l ++ done_octets) (ap (flat_map info_row) e ∙ flat_map-append info_row (row ∷ front) rest) ∙ append_assoc (flat_map info_row (row ∷ front)) (flat_map info_row rest) done_octets);
+    are = sym (row_is edition) ∙ (ap (λ (l : List ℕ). l ++ done_octets) (ap (flat_map info_row) e ∙ flat_map-append info_row (first ∷ front) rest) ∙ append_assoc (flat_map info_row (first ∷ front)) (flat_map info_row rest) done_octets);
     some = λ none. cc none;
     more = λ none. omega (arith, ap length none, length-append (flat_map info_row rest) done_octets);
   },
+  ap (λ (rows : List Entry). flat_map info_row rows ++ done_octets) (no_more_rows (row [] edition.info) first front rest e),
   h,
 )
 
@@ -190,19 +196,19 @@ none_begun a b (row ∷ front) e h = cc
 
 -- ---- what was put, and then an answer
 
-pub whole_after : (failed : Bool) (r : Result Answered PutFault) (a b c : Stream) (xs ys : List ℕ) → PutsAll a b xs → PutsAnswer failed r b c ys false false → PutsAnswer failed r a c (xs ++ ys) true true
-whole_after failed (Ok Whole) a b c xs ys h k = all_after a b c xs ys h k
-whole_after failed (Ok Unavailable) a b c xs ys h (e, k) = cc
-whole_after failed (Err Sink) a b c xs ys h (inl k) = inl (front_after a b c xs ys h k)
-whole_after failed (Err Sink) a b c xs ys h (inr (e, k)) = cc
-whole_after failed (Err Desk) a b c xs ys h (e, f, k) = cc
+pub whole_after : (need : Need) (failed : Bool) (r : Result Answered PutFault) (a b c : Stream) (xs ys : List ℕ) → PutsAll a b xs → PutsAnswer failed r b c ys no_rows false → PutsAnswer failed r a c (xs ++ ys) need true
+whole_after need failed (Ok Whole) a b c xs ys h k = all_after a b c xs ys h k
+whole_after need failed (Ok Unavailable) a b c xs ys h (e, k) = cc
+whole_after need failed (Err Sink) a b c xs ys h (inl k) = inl (front_after a b c xs ys h k)
+whole_after need failed (Err Sink) a b c xs ys h (inr (e, k)) = cc
+whole_after need failed (Err Desk) a b c xs ys h (e, (part, begins, far, k)) = absurd far
 
-pub none_before : (failed : Bool) (r : Result Answered PutFault) (a b c : Stream) (answer : List ℕ) (asks may : Bool) → PutsAll a b [] → PutsAnswer failed r b c answer asks may → PutsAnswer failed r a c answer asks may
-none_before failed (Ok Whole) a b c answer asks may h k = all_after a b c [] answer h k
-none_before failed (Ok Unavailable) a b c answer asks may h (e, k) = (e, all_after a b c [] unavailable_octets h k)
-none_before failed (Err Sink) a b c answer asks may h (inl k) = inl (front_after a b c [] answer h k)
-none_before failed (Err Sink) a b c answer asks may h (inr (e, k)) = inr (e, front_after a b c [] unavailable_octets h k)
-none_before failed (Err Desk) a b c answer asks may h (e, f, (part, begins, k)) = (e, f, (part, begins, all_after a b c [] part h k))
+pub none_before : (failed : Bool) (r : Result Answered PutFault) (a b c : Stream) (answer : List ℕ) (need : Need) (may : Bool) → PutsAll a b [] → PutsAnswer failed r b c answer need may → PutsAnswer failed r a c answer need may
+none_before failed (Ok Whole) a b c answer need may h k = all_after a b c [] answer h k
+none_before failed (Ok Unavailable) a b c answer need may h (e, k) = (e, all_after a b c [] unavailable_octets h k)
+none_before failed (Err Sink) a b c answer need may h (inl k) = inl (front_after a b c [] answer h k)
+none_before failed (Err Sink) a b c answer need may h (inr (e, k)) = inr (e, front_after a b c [] unavailable_octets h k)
+none_before failed (Err Desk) a b c answer need may h (e, (part, begins, far, k)) = (e, (part, begins, far, all_after a b c [] part h k))
 
 -- what isn't open is closed
 pub not_open : (closed : Bool) → (closed ≡ false → false ≡ true) → closed ≡ true

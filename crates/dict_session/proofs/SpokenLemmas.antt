@@ -4,7 +4,7 @@ use Rattle.std.specs.Prelude.{MatchBool, ◌||◌, if◌then◌else◌}
 use Rattle.dict_proto.specs.Replies.{unavailable_octets}
 use Rattle.dict_line.specs.Meaning.{Meaning, meaning, define, matching, show_databases, show_strategies, show_server, show_info, client, status, help, quit, not_recognized, illegal_parameters, not_implemented}
 use Rattle.dict_session.specs.Lines.{cut}
-use Rattle.dict_session.specs.Answers.{is_quit, asks_entries, may_be_unavailable}
+use Rattle.dict_session.specs.Answers.{is_quit, need_of, MayBreak, may_be_unavailable}
 use Rattle.dict_session.specs.Spoken.{Speaks, HasUnavailable, IsBeginning, BreaksOff, answers, has_quit, session}
 
 -- lines of which no QUIT was answered, and then more
@@ -136,8 +136,8 @@ breaks_append d k ls ms o p h b = record {
   part = b.part;
   are = ap (λ l. ls ++ l) b.are ∙ sym (append_assoc ls b.front (b.line ∷ b.behind));
   spoken = speaks_append d k ls b.front o b.said false h b.spoken;
-  needs = b.needs;
   begins = b.begins;
+  behind_told = b.behind_told;
   is = ap (λ l. o ++ l) b.is ∙ sym (append_assoc o b.said b.part);
 }
 
@@ -151,14 +151,14 @@ breaks_end d k ls ms o b = record {
   part = b.part;
   are = ap (λ l. l ++ ms) b.are ∙ append_assoc b.front (b.line ∷ b.behind) ms;
   spoken = b.spoken;
-  needs = b.needs;
   begins = b.begins;
+  behind_told = b.behind_told;
   is = b.is;
 }
 
 -- one line
-pub breaks_one : (d : Meaning → List ℕ) (k : Bool) (l part : List ℕ) → asks_entries (meaning l) ≡ true → IsBeginning part (d (meaning l)) → BreaksOff d k (l ∷ []) part
-breaks_one d k l part asks begins = record {
+pub breaks_one : (d : Meaning → List ℕ) (k : Bool) (l part : List ℕ) (begins : IsBeginning part (d (meaning l))) → MayBreak (need_of (meaning l)) part begins.rest → BreaksOff d k (l ∷ []) part
+breaks_one d k l part begins told = record {
   front = [];
   line = l;
   behind = [];
@@ -166,8 +166,8 @@ breaks_one d k l part asks begins = record {
   part = part;
   are = refl;
   spoken = (refl, refl);
-  needs = asks;
   begins = begins;
+  behind_told = told;
   is = refl;
 }
 

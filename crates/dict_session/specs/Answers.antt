@@ -1,11 +1,13 @@
 -- The answer to each line. RFC 2229, sections 3.2, 3.3 and 3.5 to 3.9.
-use Rattle.std.specs.Prelude.{ℕ, Bool, true, false, ◌==◌, ◌||◌, List, ◌++◌, length, codes, if◌then◌else◌, Option, Some, None}
+use Rattle.std.specs.Prelude.{◌≡◌, ℕ, Bool, true, false, ◌==◌, ◌||◌, List, ◌++◌, length, codes, if◌then◌else◌, Option, Some, None}
 use Rattle.std.specs.List.{flat_map}
 use Rattle.std.specs.Str.{bytes_eq}
 use Rattle.dict_match.specs.declared.strategy.Strategy.{Strategy}
 use Rattle.dict_catalogue.specs.Items.{is_known}
 use Rattle.dict_catalogue.specs.Steps.{Catalogue}
 use Rattle.dict_desk.specs.Asked.{Definition, Match, definitions, matches, strategy_of}
+use Rattle.dict_desk.specs.declared.lookup.What.{What}
+use Rattle.dict_desk.specs.declared.lookup.What.TheVariants.{Entries, Headwords}
 use Rattle.dict_line.specs.Meaning.{Meaning, meaning, define, matching, show_databases, show_strategies, show_server, show_info, client, status, help, quit, not_recognized, illegal_parameters, not_implemented}
 use Rattle.dict_proto.specs.Replies.{definition_count_octets, definition_octets, match_count_octets, list_line_octets, list_end_octets, done_octets, closing_octets, not_recognized_octets, illegal_parameters_octets, not_implemented_octets, invalid_database_octets, invalid_strategy_octets, no_match_octets}
 use Rattle.dict_session.specs.Shows.{databases_answer, strategies_answer, server_answer, info_answer, status_answer, help_answer}
@@ -75,22 +77,39 @@ answer_to catalogue host not_recognized = not_recognized_octets
 answer_to catalogue host illegal_parameters = illegal_parameters_octets
 answer_to catalogue host not_implemented = not_implemented_octets
 
--- the answer needs entries of the catalogue, or what an edition says of itself, and memory for words of the line or the key
--- of one
-abbrev pub asks_entries : Meaning → Bool
-asks_entries (define name word) = true
-asks_entries (matching name strategy word) = true
-asks_entries show_databases = false
-asks_entries show_strategies = false
-asks_entries show_server = false
-asks_entries (show_info name) = true
-asks_entries client = false
-asks_entries status = false
-asks_entries help = false
-asks_entries quit = false
-asks_entries not_recognized = false
-asks_entries illegal_parameters = false
-asks_entries not_implemented = false
+-- the line before the rows that a query gives, which tells how many they are
+abbrev pub count_octets : What → ℕ → List ℕ
+count_octets Entries count = definition_count_octets count
+count_octets Headwords count = match_count_octets count
+
+-- what an answer needs of a desk beside the catalogue's summary: nothing; rows, and first how many; or the one row in which an
+-- edition tells of itself
+pub data Need : Type 0 where
+  no_rows : Need
+  counted_rows : What → Need
+  one_row : Need
+
+abbrev pub need_of : Meaning → Need
+need_of (define name word) = counted_rows Entries
+need_of (matching name strategy word) = counted_rows Headwords
+need_of show_databases = no_rows
+need_of show_strategies = no_rows
+need_of show_server = no_rows
+need_of (show_info name) = one_row
+need_of client = no_rows
+need_of status = no_rows
+need_of help = no_rows
+need_of quit = no_rows
+need_of not_recognized = no_rows
+need_of illegal_parameters = no_rows
+need_of not_implemented = no_rows
+
+-- An answer may end in a failure of the desk between these two parts of it: the desk has told how many rows there are, and that
+-- line stands whole; or it has told the one row, and the last line alone is to come. Before that nothing of the answer stands.
+abbrev pub MayBreak : Need → List ℕ → List ℕ → Type 0
+MayBreak no_rows part rest = ⊥
+MayBreak (counted_rows what) part rest = (count : ℕ) × (rows : List ℕ) × (part ≡ count_octets what count ++ rows)
+MayBreak one_row part rest = rest ≡ done_octets
 
 -- the 420 line may stand in the answer's place: of an answer that needs entries where the desk failed or memory was
 -- refused, and of one that needs only the catalogue's summary where the desk is closed

@@ -3,7 +3,7 @@ use Rattle.std.specs.Prelude.{◌≡◌, ℕ, ◌⊎◌, List, Bool, true, false
 use Rattle.dict_io.specs.Streams.{Stream, AppendsFront, PutsAll, PutsFront}
 use Rattle.dict_line.specs.Meaning.{Meaning}
 use Rattle.dict_proto.specs.Replies.{unavailable_octets}
-use Rattle.dict_session.specs.Answers.{ends_session, asks_entries, may_be_unavailable}
+use Rattle.dict_session.specs.Answers.{Need, need_of, MayBreak, ends_session, may_be_unavailable}
 use Rattle.dict_session.specs.Spoken.{Speaks, IsBeginning, BreaksOff}
 use Rattle.dict_session.specs.Desks.{Condition}
 use Rattle.dict_session.specs.declared.step.Answered.{Answered}
@@ -20,9 +20,10 @@ pub record PutsPart (old new : Stream) (octets : List ℕ) : Type 0 where
   pub front : AppendsFront old.octets new.octets octets
   pub failures : new.failures ≡ old.failures
 
--- a beginning of these octets was put, at least one of them and not all, and no call of the sink failed
-abbrev pub PutsBeginning : Stream → Stream → List ℕ → Type 0
-PutsBeginning old new octets = (part : List ℕ) × IsBeginning part octets × PutsAll old new part
+-- a beginning of an answer with this need was put, at least one of its octets and not all, so far that it may end there, and no
+-- call of the sink failed
+abbrev pub PutsBeginning : Need → Stream → Stream → List ℕ → Type 0
+PutsBeginning need old new answer = (part : List ℕ) × (begins : IsBeginning part answer) × MayBreak need part begins.rest × PutsAll old new part
 
 -- the sink failed, and a front of these rows was put; or the desk did, of whose last call `failed` tells it, and so
 abbrev pub Breaks : Bool → PutFault → Stream → Stream → List ℕ → Type 0
@@ -35,13 +36,13 @@ Delivers failed (Ok done) old new octets = PutsAll old new octets
 Delivers failed (Err fault) old new octets = Breaks failed fault old new octets
 
 -- the answer was put, or where it may be unavailable the 420 line in its place; or the sink failed, and a front of either
--- was put; or where the answer asks for entries the desk did, of whose last call `failed` tells it, and a beginning of the
--- answer was put
-abbrev pub PutsAnswer : Bool → Result Answered PutFault → Stream → Stream → List ℕ → Bool → Bool → Type 0
-PutsAnswer failed (Ok Whole) old new answer asks may = PutsAll old new answer
-PutsAnswer failed (Ok Unavailable) old new answer asks may = (may ≡ true) × PutsAll old new unavailable_octets
-PutsAnswer failed (Err Sink) old new answer asks may = PutsFront old new answer ⊎ ((may ≡ true) × PutsFront old new unavailable_octets)
-PutsAnswer failed (Err Desk) old new answer asks may = (asks ≡ true) × (failed ≡ true) × PutsBeginning old new answer
+-- was put; or the desk did, of whose last call `failed` tells it, and a beginning of the answer was put, so far as its need
+-- has it
+abbrev pub PutsAnswer : Bool → Result Answered PutFault → Stream → Stream → List ℕ → Need → Bool → Type 0
+PutsAnswer failed (Ok Whole) old new answer need may = PutsAll old new answer
+PutsAnswer failed (Ok Unavailable) old new answer need may = (may ≡ true) × PutsAll old new unavailable_octets
+PutsAnswer failed (Err Sink) old new answer need may = PutsFront old new answer ⊎ ((may ≡ true) × PutsFront old new unavailable_octets)
+PutsAnswer failed (Err Desk) old new answer need may = (failed ≡ true) × PutsBeginning need old new answer
 
 -- a session that the sink or the desk broke off is broken
 abbrev pub step_at : Course → Step
@@ -57,7 +58,7 @@ Finishes answer desk courses.More old new asked = (PutsAll old new (answer asked
 Finishes answer desk courses.Quit old new asked = PutsAll old new (answer asked) × (ends_session asked ≡ true)
 Finishes answer desk courses.SinkFailed old new asked = PutsFront old new (answer asked)
     ⊎ ((may_be_unavailable desk.closed asked ≡ true) × PutsFront old new unavailable_octets)
-Finishes answer desk courses.DeskFailed old new asked = (asks_entries asked ≡ true) × (desk.failed ≡ true) × PutsBeginning old new (answer asked)
+Finishes answer desk courses.DeskFailed old new asked = (desk.failed ≡ true) × PutsBeginning (need_of asked) old new (answer asked)
 
 -- the call put these octets, and the session goes on; or the sink failed
 abbrev pub PutsLine : Course → Stream → Stream → List ℕ → Type 0
@@ -67,7 +68,8 @@ PutsLine courses.SinkFailed old new octets = PutsFront old new octets
 PutsLine courses.DeskFailed old new octets = ⊥
 
 -- the call wrote what answers these lines, and tells whether a QUIT was answered; or the sink failed, and a front of that
--- was written; or the desk's last call failed, and the answer to one of the lines was broken off behind its first octet
+-- was written; or the desk's last call failed, and the answer to one of the lines was broken off behind what the desk had
+-- to tell before its first octet
 abbrev pub Wrote : (Meaning → List ℕ) → Condition → Course → Stream → Stream → List (List ℕ) → Type 0
 Wrote answer desk courses.More old new ls = (o : List ℕ) × Speaks answer desk.closed ls o false × PutsAll old new o
 Wrote answer desk courses.Quit old new ls = (o : List ℕ) × Speaks answer desk.closed ls o true × PutsAll old new o

@@ -11,7 +11,8 @@ use Rattle.dict_desk.specs.Shown.{headword_rows, count_of}
 use Rattle.dict_desk.specs.Asked.{Database}
 use Rattle.dict_desk.specs.declared.lookup.What.{What}
 use Rattle.dict_desk.specs.declared.lookup.What.TheVariants.{Entries, Headwords}
-use Rattle.dict_proto.specs.Replies.{definition_count_octets, definition_octets, match_count_octets, list_line_octets, list_end_octets, info_heading_octets, info_text_octets, done_octets, no_match_octets, no_databases_octets, database_count_octets}
+use Rattle.dict_proto.specs.Replies.{definition_octets, list_line_octets, list_end_octets, info_heading_octets, info_text_octets, done_octets, no_match_octets, no_databases_octets, database_count_octets}
+pub use Rattle.dict_session.specs.Answers.{count_octets}
 use Rattle.dict_session.specs.Places.{is_regular_named}
 use Rattle.dict_session.specs.declared.query.Query.{Query}
 use Rattle.dict_session.specs.declared.found.Counted.{Counted}
@@ -56,10 +57,6 @@ first_counted count (place ∷ places) = if count place == 0 then first_counted 
 -- the places in which the rows of an answer stand
 abbrev pub answering : Query → List (Item Edition) → List ℕ → Bool → List ℕ
 answering query items places is_first = if is_first then first_counted (count_at query items) places else places
-
-abbrev pub count_octets : What → ℕ → List ℕ
-count_octets Entries count = definition_count_octets count
-count_octets Headwords count = match_count_octets count
 
 abbrev pub end_octets : What → List ℕ
 end_octets Entries = done_octets

@@ -4,7 +4,7 @@ use Rattle.std.specs.List.{list_any}
 use Rattle.dict_line.specs.Meaning.{Meaning, meaning}
 use Rattle.dict_proto.specs.Replies.{unavailable_octets}
 use Rattle.dict_session.specs.Lines.{cut}
-use Rattle.dict_session.specs.Answers.{is_quit, asks_entries, may_be_unavailable}
+use Rattle.dict_session.specs.Answers.{is_quit, need_of, MayBreak, may_be_unavailable}
 
 -- the answers to the lines in order, up to and with that of the first QUIT
 abbrev pub answers : (Meaning → List ℕ) → List (List ℕ) → List ℕ
@@ -47,7 +47,7 @@ pub record IsBeginning (part whole : List ℕ) : Type 0 where
   pub more : rest ≢ []
 
 -- the octets o answer the first of these lines, of which no QUIT was answered, and then they are a beginning of the answer
--- to the next, which needs entries
+-- to the next, behind what the desk had to tell before its first octet
 pub record BreaksOff (answer : Meaning → List ℕ) (closed : Bool) (lines : List (List ℕ)) (o : List ℕ) : Type 0 where
   pub front : List (List ℕ)
   pub line : List ℕ
@@ -56,6 +56,6 @@ pub record BreaksOff (answer : Meaning → List ℕ) (closed : Bool) (lines : Li
   pub part : List ℕ
   pub are : lines ≡ front ++ line ∷ behind
   pub spoken : Speaks answer closed front said false
-  pub needs : asks_entries (meaning line) ≡ true
   pub begins : IsBeginning part (answer (meaning line))
+  pub behind_told : MayBreak (need_of (meaning line)) part begins.rest
   pub is : o ≡ said ++ part

@@ -6,7 +6,7 @@ ghost use Rattle.dict_line.specs.Told.{Tells, requested};
 ghost use Rattle.dict_catalogue.specs.Steps.{Catalogue};
 ghost use Rattle.dict_proto.specs.Replies.{reply_octets};
 ghost use Rattle.dict_desk.specs.Asked.{strategy_of};
-ghost use Rattle.dict_session.specs.Answers.{answer_to, define_answer, match_answer, ends_session, asks_entries, may_be_unavailable};
+ghost use Rattle.dict_session.specs.Answers.{answer_to, counted_rows, define_answer, match_answer, Need, need_of, ends_session, may_be_unavailable};
 ghost use Rattle.dict_session.specs.Desks.{Condition, condition, Stays};
 ghost use Rattle.dict_session.specs.Places.{asked_in, HoldsAsked};
 ghost use Rattle.dict_session.specs.Ending.{Finishes, PutsAnswer, PutsLine};
@@ -101,7 +101,7 @@ fn put_answer<L: Lookup, K: Sink>(
     sink: &mut K,
 ) -> Result<Answered, PutFault>
     ensures value { L.is_trusted desk.new → (M : Catalogue) → L.shows desk.old M
-        → PutsAnswer (L.has_failed desk.new) result (K.stream sink.old) (K.stream sink.new) (answer_to M host.now (requested request.now)) (asks_entries (requested request.now)) (may_be_unavailable (L.is_closed desk.new) (requested request.now)) }
+        → PutsAnswer (L.has_failed desk.new) result (K.stream sink.old) (K.stream sink.new) (answer_to M host.now (requested request.now)) (need_of (requested request.now)) (may_be_unavailable (L.is_closed desk.new) (requested request.now)) }
     ensures desk { Stays L.shows L.leaves_one_of L.is_trusted L.is_closed desk.old desk.new }
 {
     match request {
@@ -133,7 +133,7 @@ fn put_answer<L: Lookup, K: Sink>(
 
 // An answer that was put whole, or that the sink broke off.
 pub(crate) fn whole(put: Result<(), SinkFault>) -> Result<Answered, PutFault>
-    ensures { (old new : Stream) (answer : List ℕ) (failed asks may : Bool) → Puts put old new answer → PutsAnswer failed result old new answer asks may }
+    ensures { (old new : Stream) (answer : List ℕ) (failed : Bool) (need : Need) (may : Bool) → Puts put old new answer → PutsAnswer failed result old new answer need may }
 {
     match put {
         Ok(()) => Ok(Answered::Whole),
@@ -142,7 +142,7 @@ pub(crate) fn whole(put: Result<(), SinkFault>) -> Result<Answered, PutFault>
 }
 
 pub(crate) fn put_whole<K: Sink>(reply: &Reply, sink: &mut K) -> Result<Answered, PutFault>
-    ensures { (failed asks may : Bool) → PutsAnswer failed result (K.stream sink.old) (K.stream sink.new) (reply_octets reply.now) asks may }
+    ensures { (failed : Bool) (need : Need) (may : Bool) → PutsAnswer failed result (K.stream sink.old) (K.stream sink.new) (reply_octets reply.now) need may }
 {
     match write_reply(sink, reply) {
         Ok(()) => Ok(Answered::Whole),
@@ -151,7 +151,7 @@ pub(crate) fn put_whole<K: Sink>(reply: &Reply, sink: &mut K) -> Result<Answered
 }
 
 pub(crate) fn put_unavailable<K: Sink>(sink: &mut K) -> Result<Answered, PutFault>
-    ensures { (answer : List ℕ) (failed asks : Bool) → PutsAnswer failed result (K.stream sink.old) (K.stream sink.new) answer asks true }
+    ensures { (answer : List ℕ) (failed : Bool) (need : Need) → PutsAnswer failed result (K.stream sink.old) (K.stream sink.new) answer need true }
 {
     match write_reply(sink, &Reply::Unavailable) {
         Ok(()) => Ok(Answered::Unavailable),
@@ -179,7 +179,7 @@ fn put_define<L: Lookup, K: Sink>(
     sink: &mut K,
 ) -> Result<Answered, PutFault>
     ensures value { L.is_trusted desk.new → (M : Catalogue) → L.shows desk.old M
-        → PutsAnswer (L.has_failed desk.new) result (K.stream sink.old) (K.stream sink.new) (define_answer M name.now word.now) true true }
+        → PutsAnswer (L.has_failed desk.new) result (K.stream sink.old) (K.stream sink.new) (define_answer M name.now word.now) (counted_rows What.Entries) true }
     ensures desk { Stays L.shows L.leaves_one_of L.is_trusted L.is_closed desk.old desk.new }
 {
     let asked = match asked_of(desk, name) {
@@ -219,7 +219,7 @@ fn put_match<L: Lookup, K: Sink>(
     sink: &mut K,
 ) -> Result<Answered, PutFault>
     ensures value { L.is_trusted desk.new → (M : Catalogue) → L.shows desk.old M
-        → PutsAnswer (L.has_failed desk.new) result (K.stream sink.old) (K.stream sink.new) (match_answer M name.now strategy.now word.now) true true }
+        → PutsAnswer (L.has_failed desk.new) result (K.stream sink.old) (K.stream sink.new) (match_answer M name.now strategy.now word.now) (counted_rows What.Headwords) true }
     ensures desk { Stays L.shows L.leaves_one_of L.is_trusted L.is_closed desk.old desk.new }
 {
     let asked = match asked_of(desk, name) {

@@ -7,6 +7,7 @@ ghost use Rattle.dict_catalogue.specs.WellFormed.{total};
 ghost use Rattle.dict_desk.specs.Shown.{HasEdition};
 ghost use Rattle.dict_desk.specs.Handing.{Hands};
 ghost use Rattle.dict_io.specs.Streams.{Puts};
+ghost use Rattle.dict_session.specs.Answers.{counted_rows};
 ghost use Rattle.dict_session.specs.Desks.{Stays};
 ghost use Rattle.dict_session.specs.Ending.{Delivers, PutsAnswer};
 ghost use Rattle.dict_session.specs.Places.{IsHeading};
@@ -244,7 +245,7 @@ fn put_counted<L: Lookup, K: Sink>(
 ) -> Result<Answered, PutFault>
     requires { L.is_closed desk.old ≡ false }
     ensures value { L.is_trusted desk.new → (M : Catalogue) → L.shows desk.old M
-        → PutsAnswer (L.has_failed desk.new) result (K.stream sink.old) (K.stream sink.new) (counted_octets query.now M.items counted.now.places.items counted.now.count) true true }
+        → PutsAnswer (L.has_failed desk.new) result (K.stream sink.old) (K.stream sink.new) (counted_octets query.now M.items counted.now.places.items counted.now.count) (counted_rows query.now.what) true }
     ensures desk { Stays L.shows L.leaves_one_of L.is_trusted L.is_closed desk.old desk.new }
 {
     match put_count(query.what, counted.count, sink) {
@@ -267,7 +268,7 @@ pub(crate) fn put_found<L: Lookup, K: Sink>(
 ) -> Result<Answered, PutFault>
     requires { L.is_closed desk.old ≡ false }
     ensures value { L.is_trusted desk.new → (M : Catalogue) → L.shows desk.old M → length asked.places.items ≤ 64
-        → PutsAnswer (L.has_failed desk.new) result (K.stream sink.old) (K.stream sink.new) (found_octets query.now M.items (answering query.now M.items asked.places.items asked.is_first)) true true }
+        → PutsAnswer (L.has_failed desk.new) result (K.stream sink.old) (K.stream sink.new) (found_octets query.now M.items (answering query.now M.items asked.places.items asked.is_first)) (counted_rows query.now.what) true }
     ensures desk { Stays L.shows L.leaves_one_of L.is_trusted L.is_closed desk.old desk.new }
 {
     let Ok(counted) = count_asked(desk, asked, query) else {

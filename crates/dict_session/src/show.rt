@@ -9,6 +9,7 @@ ghost use Rattle.dict_catalogue.specs.Views.{item_shown, texts_shown};
 ghost use Rattle.dict_desk.specs.Shown.{HasEdition};
 ghost use Rattle.dict_proto.specs.Replies.{reply_octets, list_end_octets, done_octets, info_heading_octets, info_text_octets};
 ghost use Rattle.dict_match.specs.StrategyText.{strategies};
+ghost use Rattle.dict_session.specs.Answers.{no_rows, one_row};
 ghost use Rattle.dict_session.specs.Desks.{Stays};
 ghost use Rattle.dict_session.specs.Ending.{PutsAnswer};
 ghost use Rattle.dict_session.specs.Rows.{shown_line, line_if_named, items_octets, members_octets};
@@ -80,7 +81,7 @@ pub(crate) fn put_databases<L: Lookup, K: Sink>(
     desk: &L,
     sink: &mut K,
 ) -> Result<Answered, PutFault>
-    ensures { (M : Catalogue) → L.shows desk.now M → (failed : Bool) → PutsAnswer failed result (K.stream sink.old) (K.stream sink.new) (databases_answer M) false (L.is_closed desk.now) }
+    ensures { (M : Catalogue) → L.shows desk.now M → (failed : Bool) → PutsAnswer failed result (K.stream sink.old) (K.stream sink.new) (databases_answer M) no_rows (L.is_closed desk.now) }
 {
     match desk.summary() {
         Ok(summary) => whole(put_items(&summary.items, sink)),
@@ -124,7 +125,7 @@ pub(crate) fn put_server<L: Lookup, K: Sink>(
     host: &str,
     sink: &mut K,
 ) -> Result<Answered, PutFault>
-    ensures { (M : Catalogue) → L.shows desk.now M → (failed : Bool) → PutsAnswer failed result (K.stream sink.old) (K.stream sink.new) (server_answer M host.now) false (L.is_closed desk.now) }
+    ensures { (M : Catalogue) → L.shows desk.now M → (failed : Bool) → PutsAnswer failed result (K.stream sink.old) (K.stream sink.new) (server_answer M host.now) no_rows (L.is_closed desk.now) }
 {
     match count_items(desk) {
         Ok(count) => {
@@ -186,7 +187,7 @@ fn put_row<L: Lookup, K: Sink>(
 ) -> Result<Answered, PutFault>
     requires { row.old.has_begun ≡ false }
     ensures value { L.is_trusted desk.new → (M : Catalogue) (edition : Edition) → L.shows desk.old M → HasEdition M number edition
-        → PutsAnswer (L.has_failed desk.new) result (K.stream row.old.sink.now) (K.stream row.new.sink.now) (info_heading_octets ++ (info_text_octets edition.info ++ done_octets)) true true }
+        → PutsAnswer (L.has_failed desk.new) result (K.stream row.old.sink.now) (K.stream row.new.sink.now) (info_heading_octets ++ (info_text_octets edition.info ++ done_octets)) one_row true }
     ensures same_reference { row.new.sink.ghost_name ≡ row.old.sink.ghost_name }
     ensures desk { Stays L.shows L.leaves_one_of L.is_trusted L.is_closed desk.old desk.new }
 {
@@ -210,7 +211,7 @@ fn put_edition<L: Lookup, K: Sink>(
     sink: &mut K,
 ) -> Result<Answered, PutFault>
     ensures value { L.is_trusted desk.new → (M : Catalogue) (edition : Edition) → L.shows desk.old M → HasEdition M number edition
-        → PutsAnswer (L.has_failed desk.new) result (K.stream sink.old) (K.stream sink.new) (info_heading_octets ++ (info_text_octets edition.info ++ done_octets)) true true }
+        → PutsAnswer (L.has_failed desk.new) result (K.stream sink.old) (K.stream sink.new) (info_heading_octets ++ (info_text_octets edition.info ++ done_octets)) one_row true }
     ensures desk { Stays L.shows L.leaves_one_of L.is_trusted L.is_closed desk.old desk.new }
 {
     let mut row = InfoRow {
@@ -248,7 +249,7 @@ pub(crate) fn put_info<L: Lookup, K: Sink>(
     sink: &mut K,
 ) -> Result<Answered, PutFault>
     ensures value { L.is_trusted desk.new → (M : Catalogue) → L.shows desk.old M
-        → PutsAnswer (L.has_failed desk.new) result (K.stream sink.old) (K.stream sink.new) (info_answer M name.now) true true }
+        → PutsAnswer (L.has_failed desk.new) result (K.stream sink.old) (K.stream sink.new) (info_answer M name.now) one_row true }
     ensures desk { Stays L.shows L.leaves_one_of L.is_trusted L.is_closed desk.old desk.new }
 {
     let Ok(summary) = desk.summary() else {
@@ -267,7 +268,7 @@ pub(crate) fn put_info<L: Lookup, K: Sink>(
 
 // Puts the answer to STATUS.
 pub(crate) fn put_status<L: Lookup, K: Sink>(desk: &L, sink: &mut K) -> Result<Answered, PutFault>
-    ensures { (M : Catalogue) → L.shows desk.now M → (failed : Bool) → PutsAnswer failed result (K.stream sink.old) (K.stream sink.new) (status_answer M) false (L.is_closed desk.now) }
+    ensures { (M : Catalogue) → L.shows desk.now M → (failed : Bool) → PutsAnswer failed result (K.stream sink.old) (K.stream sink.new) (status_answer M) no_rows (L.is_closed desk.now) }
 {
     match count_items(desk) {
         Ok(count) => put_whole(&Reply::Status(count), sink),

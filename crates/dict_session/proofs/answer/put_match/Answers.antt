@@ -1,5 +1,7 @@
 use Rattle.std.proofs.Common.{List, ℕ, true, sym, ap, ◌∙◌, subst}
 use Rattle.std.specs.Prelude.{Option}
+use Rattle.dict_desk.specs.declared.lookup.What.TheVariants.{Headwords}
+use Rattle.dict_session.specs.Answers.{counted_rows}
 use Rattle.dict_session.specs.Ending.{PutsAnswer}
 use Rattle.dict_session.specs.Places.{HoldsAsked, asked_in}
 use Rattle.dict_session.specs.Rows.{answering, found_octets}
@@ -12,15 +14,15 @@ pub returns-in-Ok-None-clause-value : goal.returns-in-Ok-None-clause-value
 returns-in-Ok-None-clause-value g c = λ trusted M shown.
     let failed = g.L.Lookup.has_failed c.args.desk.now in
     let none = none_asked (asked_in M.items c.args.name.now) (subst (λ (o : Option Asked). HoldsAsked o (asked_in M.items c.args.name.now)) c.in-Ok-None.field-0-is (c.in-Ok-None.ensures.value M shown)) in
-    subst (λ (answer : List ℕ). PutsAnswer failed c.put_whole.result (g.K.Sink.stream c.args.sink.now) (g.K.Sink.stream c.put_whole.new.sink) answer true true)
-    (sym (match_unknown M c.args.name.now c.args.strategy.now c.args.word.now none)) (c.put_whole.ensures failed true true)
+    subst (λ (answer : List ℕ). PutsAnswer failed c.put_whole.result (g.K.Sink.stream c.args.sink.now) (g.K.Sink.stream c.put_whole.new.sink) answer (counted_rows Headwords) true)
+    (sym (match_unknown M c.args.name.now c.args.strategy.now c.args.word.now none)) (c.put_whole.ensures failed (counted_rows Headwords) true)
 
 pub returns-in_default-clause-value : goal.returns-in_default-clause-value
 returns-in_default-clause-value g c = λ trusted M shown.
     let failed = g.L.Lookup.has_failed c.args.desk.now in
     let held = some_asked M c.args.name.now c.in-Ok-Some.asked (g.met.L.Lookup.well_formed c.args.desk.now M shown) (subst (λ (o : Option Asked). HoldsAsked o (asked_in M.items c.args.name.now)) c.in-Ok-Some.field-0-is (c.in-Ok-Some.ensures.value M shown)) in
-    subst (λ (answer : List ℕ). PutsAnswer failed c.put_whole-in_default.result (g.K.Sink.stream c.args.sink.now) (g.K.Sink.stream c.put_whole-in_default.new.sink) answer true true)
-    (sym (match_unnamed M c.args.name.now c.args.strategy.now c.args.word.now c.in-Ok-Some.asked held c.in_default.ensures)) (c.put_whole-in_default.ensures failed true true)
+    subst (λ (answer : List ℕ). PutsAnswer failed c.put_whole-in_default.result (g.K.Sink.stream c.args.sink.now) (g.K.Sink.stream c.put_whole-in_default.new.sink) answer (counted_rows Headwords) true)
+    (sym (match_unnamed M c.args.name.now c.args.strategy.now c.args.word.now c.in-Ok-Some.asked held c.in_default.ensures)) (c.put_whole-in_default.ensures failed (counted_rows Headwords) true)
 
 pub returns-clause-value : goal.returns-clause-value
 returns-clause-value g c = λ trusted M shown.
@@ -28,7 +30,7 @@ returns-clause-value g c = λ trusted M shown.
     let held = some_asked M c.args.name.now c.in-Ok-Some.asked (g.met.L.Lookup.well_formed c.args.desk.now M shown) (subst (λ (o : Option Asked). HoldsAsked o (asked_in M.items c.args.name.now)) c.in-Ok-Some.field-0-is (c.in-Ok-Some.ensures.value M shown)) in
     let asked = c.in-Ok-Some.asked in
     let strategy = c.in-Some.strategy in
-    subst (λ (answer : List ℕ). PutsAnswer failed c.put_found.result (g.K.Sink.stream c.args.sink.now) (g.K.Sink.stream c.put_found.new.sink) answer true true)
+    subst (λ (answer : List ℕ). PutsAnswer failed c.put_found.result (g.K.Sink.stream c.args.sink.now) (g.K.Sink.stream c.put_found.new.sink) answer (counted_rows Headwords) true)
     (ap (λ (key : List ℕ). found_octets (for_matches strategy key) M.items (answering (for_matches strategy key) M.items asked.places.items asked.is_first)) c.in-Ok.ensures
     ∙ match_held M c.args.name.now c.args.strategy.now c.args.word.now strategy asked held c.in-Some.ensures)
     (c.put_found.ensures.value trusted M shown (held_few M c.args.name.now asked (g.met.L.Lookup.well_formed c.args.desk.now M shown) held))

@@ -5,6 +5,7 @@ use Rattle.dict_catalogue.specs.Items.{is_named, regular, virtual}
 use Rattle.dict_catalogue.specs.Views.{item_shown, texts_shown, stored_shown}
 use Rattle.dict_catalogue.specs.declared.summary.Item.{Item as SummaryItem}
 use Rattle.dict_proto.specs.Replies.{info_heading_octets, list_end_octets, done_octets}
+use Rattle.dict_session.specs.Answers.{one_row}
 use Rattle.dict_session.specs.Ending.{PutsAnswer}
 use Rattle.dict_session.specs.Rows.{members_octets}
 use Rattle.dict_session.specs.Shows.{info_answer}
@@ -18,7 +19,7 @@ returns-in-None-clause-value g c = λ trusted M shown.
     let items = map item_shown c.deref-items.result.now in
     let same = (ap (λ (items : List SummaryItem). map item_shown items) c.deref-items.ensures.value ∙ ap (λ h. h.items) (c.in-Ok.ensures.value M shown)) in
     let named : None ≡ find (is_named c.args.name.now) items = found_shown item_shown (is_named c.args.name.now) c.deref-items.result.now None c.in-None.ensures in
-    subst (λ (answer : List ℕ). PutsAnswer failed c.put_whole.result (g.K.Sink.stream c.args.sink.now) (g.K.Sink.stream c.put_whole.new.sink) answer true true) (info_unknown M c.args.name.now items same named) (c.put_whole.ensures failed true true)
+    subst (λ (answer : List ℕ). PutsAnswer failed c.put_whole.result (g.K.Sink.stream c.args.sink.now) (g.K.Sink.stream c.put_whole.new.sink) answer one_row true) (info_unknown M c.args.name.now items same named) (c.put_whole.ensures failed one_row true)
 
 pub returns-in-Some-Virtual-clause-value : goal.returns-in-Some-Virtual-clause-value
 returns-in-Some-Virtual-clause-value g c = λ trusted M shown.
@@ -29,7 +30,7 @@ returns-in-Some-Virtual-clause-value g c = λ trusted M shown.
     let members = texts_shown c.in-Some-Virtual.members.items in
     let named : Some (virtual own title members) ≡ find (is_named c.args.name.now) items =
     ap (λ x. Some (item_shown x)) (sym c.in-Some-Virtual.field-0-is) ∙ found_shown item_shown (is_named c.args.name.now) c.deref-items.result.now (Some c.in-Some-Virtual.field-0.now) c.in-Some-Virtual.ensures in
-    c.whole.ensures (g.K.Sink.stream c.args.sink.now) (g.K.Sink.stream c.put_members.new.sink) (info_answer M c.args.name.now) (g.L.Lookup.has_failed c.args.desk.now) true true
+    c.whole.ensures (g.K.Sink.stream c.args.sink.now) (g.K.Sink.stream c.put_members.new.sink) (info_answer M c.args.name.now) (g.L.Lookup.has_failed c.args.desk.now) one_row true
     (subst (Puts c.put_members.result (g.K.Sink.stream c.args.sink.now) (g.K.Sink.stream c.put_members.new.sink))
     (ap (λ (texts : List (List ℕ)). info_heading_octets ++ (members_octets items texts ++ (list_end_octets ++ done_octets))) (ap texts_shown (c.deref.ensures.value ∙ ap (λ v. v.items) c.in-Some-Virtual.members-is)) ∙ info_virtual M c.args.name.now items same own title members named) c.put_members.ensures)
 
@@ -43,5 +44,5 @@ returns-in-Some-Regular-clause-value g c = λ trusted M shown.
     let named : Some (regular own current former) ≡ find (is_named c.args.name.now) items =
     ap (λ x. Some (item_shown x)) (sym c.in-Some-Regular.field-0-is) ∙ found_shown item_shown (is_named c.args.name.now) c.deref-items.result.now (Some c.in-Some-Regular.field-0.now) c.in-Some-Regular.ensures in
     let (edition, has, answer) = info_regular M c.args.name.now items same own current former named in
-    subst (λ (octets : List ℕ). PutsAnswer (g.L.Lookup.has_failed c.put_edition.new.desk) c.put_edition.result (g.K.Sink.stream c.args.sink.now) (g.K.Sink.stream c.put_edition.new.sink) octets true true) answer
+    subst (λ (octets : List ℕ). PutsAnswer (g.L.Lookup.has_failed c.put_edition.new.desk) c.put_edition.result (g.K.Sink.stream c.args.sink.now) (g.K.Sink.stream c.put_edition.new.sink) octets one_row true) answer
     (c.put_edition.ensures.value trusted M edition shown (subst (λ (n : ℕ). HasEdition M n edition) (ap (λ v. v.number) (sym c.in-Some-Regular.current-is)) has))
