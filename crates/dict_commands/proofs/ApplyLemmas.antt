@@ -3,7 +3,7 @@ use Rattle.std.proofs.Common.{◌≡◌, ◌⊎◌, inl, inr, ℕ, Bool, true, f
 use Rattle.std.proofs.lemmas.Bool.{false≢true}
 use Rattle.sqlite.specs.Effect.{Database}
 use Rattle.sqlite.specs.Tree.{Trees}
-use Rattle.sqlite.specs.State.{State, HasCleanDisk, IsUnchanged}
+use Rattle.sqlite.specs.State.{State, HasCleanDisk, IsUnchanged, Survives}
 use Rattle.sqlite.specs.Held.{Held, state}
 use Rattle.sqlite_trees.specs.declared.store.Store.{Ghosts}
 use Rattle.dict_desk.specs.Faults.{is_failure}
@@ -23,17 +23,21 @@ use Rattle.dict_desk.specs.declared.fault.Fault.{Fault}
 use Rattle.dict_desk.specs.declared.fault.Fault.TheVariants.{Refused, Memory, Disk, Closed, NotACatalogue, Damaged, NewerSchema}
 use Rattle.dict_rows.specs.After.{tables_after}
 use Rattle.dict_rows.proofs.ChangeLemmas.{after_stands}
+use Rattle.dict_rows.specs.Versions.{known}
 use Rattle.dict_file.specs.Faults.{IsUnread}
-use Rattle.dict_file.specs.Holds.{Holds, Rests, IsLeft}
+use Rattle.dict_file.specs.Holds.{Holds, Rests, IsLeftAs}
 use Rattle.dict_file.specs.Writing.{FailsToEnd}
 use Rattle.dict_commands.specs.Kept.{Turns}
 use Rattle.dict_commands.specs.Changes.{change_by}
 use Rattle.dict_commands.specs.Decided.{IsDeclined, LiesWithin}
 use Rattle.dict_commands.specs.Committed.{IsCommitted, IsTreesOf, Stays, IsOfStore}
-use Rattle.dict_commands.specs.Answers.{Answers, HoldsBy, summary_after, IsOfShut, HoldsAfter, FailsToApply}
+use Rattle.dict_commands.specs.Answers.{Answers, HoldsBy, summary_after, IsOfShut, HoldsAfter, IsPlanned, FailsToAct, FailsToApply}
+use Rattle.dict_commands.specs.Statements.{statements_of}
+use Rattle.dict_sql.specs.Statements.{Statement}
 use Rattle.dict_commands.specs.declared.applied.Applied.{Applied}
 use Rattle.dict_commands.specs.declared.applied.Applied.TheVariants.{Before, Now}
 use Rattle.dict_commands.proofs.DecideLemmas.{change_is}
+use Rattle.dict_file.proofs.ReadingLemmas.{plain_kept, kept_plain}
 
 -- ---- the cases of a step
 
@@ -53,25 +57,25 @@ same_refusal M command = sym (refusal_of_as (λ (edition : Edition). edition.tit
 
 -- ---- a store that stays holds what it held
 
-pub rests_still : (old new : State) (M : Catalogue) → Stays old new → IsTrue new.is_open → Rests 1 old M → Rests 1 new M
+pub rests_still : (old new : State) (M : Catalogue) → Stays old new → IsTrue new.is_open → Rests known old M → Rests known new M
 rests_still old new M stays lives rests = record {
   is_open = lives;
   settled = stays.settled lives rests.settled;
-  holds = subst (λ db. Holds 1 db M) (sym (stays.committed lives)) rests.holds;
+  holds = subst (λ db. Holds known db M) (sym (stays.committed lives)) rests.holds;
 }
 
-pub rests_unchanged : (old new : State) (M : Catalogue) → IsUnchanged old new → Rests 1 old M → Rests 1 new M
+pub rests_unchanged : (old new : State) (M : Catalogue) → IsUnchanged old new → Rests known old M → Rests known new M
 rests_unchanged old new M same rests = record {
   is_open = same.0.is_open;
   settled = same.0.now_is ∙ rests.settled ∙ sym same.0.committed_is;
-  holds = subst (λ db. Holds 1 db M) (sym same.0.committed_is) rests.holds;
+  holds = subst (λ db. Holds known db M) (sym same.0.committed_is) rests.holds;
 }
 
-pub holds_now : (s : State) (M : Catalogue) → Rests 1 s M → Holds 1 s.now M
-holds_now s M rests = subst (λ db. Holds 1 db M) (sym rests.settled) rests.holds
+pub holds_now : (s : State) (M : Catalogue) → Rests known s M → Holds known s.now M
+holds_now s M rests = subst (λ db. Holds known db M) (sym rests.settled) rests.holds
 
 pub declined_answers : (s : State) (M : Catalogue) (id : List ℕ) (command : typed.Command) (summary : Holdings (List ℕ)) (fault : Fault) → is_request_id id ≡ true → kept_under M.kept id ≡ None → summary_of M ≡ summary
-    → IsDeclined summary (command_shown command) fault → Rests 1 s M → Answers s M id (step M id (command_meant command)) (Err fault)
+    → IsDeclined summary (command_shown command) fault → Rests known s M → Answers s M id (step M id (command_meant command)) (Err fault)
 declined_answers s M id command summary (Refused refusal) lawful new is h rests =
     (refused_step M id (command_meant command) refusal lawful new (same_refusal M command ∙ ap (λ (b : Holdings (List ℕ)). refusal_of b (command_shown command)) is ∙ h), rests)
 declined_answers s M id command summary Memory lawful new is h rests = λ lives. rests
@@ -81,7 +85,7 @@ declined_answers s M id command summary NotACatalogue lawful new is h rests = ab
 declined_answers s M id command summary Damaged lawful new is h rests = absurd h
 declined_answers s M id command summary NewerSchema lawful new is h rests = absurd h
 
-pub failed_answers : (old new : State) (M : Catalogue) (id : List ℕ) (outcome : Outcome) (fault : Fault) → IsOfStore fault → Stays old new → Rests 1 old M → Answers new M id outcome (Err fault)
+pub failed_answers : (old new : State) (M : Catalogue) (id : List ℕ) (outcome : Outcome) (fault : Fault) → IsOfStore fault → Stays old new → Rests known old M → Answers new M id outcome (Err fault)
 failed_answers old new M id outcome (Refused refusal) h stays rests = absurd h
 failed_answers old new M id outcome Memory h stays rests = λ lives. rests_still old new M stays lives rests
 failed_answers old new M id outcome Disk h stays rests = λ lives. rests_still old new M stays lives rests
@@ -117,20 +121,20 @@ module _ (M : Catalogue) (id : List ℕ) (command : typed.Command) (planned : Pl
   acted : step M id (command_meant command) ≡ record { reply = accepted (reply_to (command_meant command) (effect (command_meant command) (holdings M))); catalogue = with_effect M id (command_meant command) }
   acted = accepted_step M id (command_meant command) lawful new none_refused
 
-  pub holds_after : (old db : Database) → Holds 1 old M → Turns (tables_after 1 (change_by id command planned)) old db → Holds 1 db (step M id (command_meant command)).catalogue
+  pub holds_after : (old db : Database) → Holds known old M → Turns (tables_after known (change_by id command planned)) old db → Holds known db (step M id (command_meant command)).catalogue
   holds_after old db h turns =
-      let it = turns h.tables (record { own = h.own; keeps = h.keeps }) in
-      subst (λ (o : Outcome). Holds 1 db o.catalogue) (sym acted) (record {
+      let it = turns h.tables (record { own = h.own; keeps = plain_kept old h.tables h.keeps }) in
+      subst (λ (o : Outcome). Holds known db o.catalogue) (sym acted) (record {
         own = it.own;
-        tables = tables_after 1 (change_by id command planned) h.tables;
-        keeps = it.keeps;
-        stands = after_stands 1 h.tables M id (command_meant command) (change_by id command planned) h.stands allowed lawful new none_refused (change_is M id command planned planned_here.1 lies);
+        tables = tables_after known (change_by id command planned) h.tables;
+        keeps = kept_plain db (tables_after known (change_by id command planned) h.tables) it.keeps;
+        stands = after_stands known h.tables M id (command_meant command) (change_by id command planned) h.stands allowed lawful new none_refused (change_is M id command planned planned_here.1 lies);
       })
 
-  pub left_after : (old : State) (trees : Trees) → Rests 1 old M → IsTreesOf (Turns (tables_after 1 (change_by id command planned)) old.now) trees → IsLeft 1 (step M id (command_meant command)).catalogue trees
+  pub left_after : (old : State) (trees : Trees) → Rests known old M → IsTreesOf (Turns (tables_after known (change_by id command planned)) old.now) trees → IsLeftAs known (step M id (command_meant command)).catalogue trees
   left_after old trees rests it = (it.0, it.1, it.2, holds_after old.now it.0 (holds_now old M rests) it.3)
 
-  pub acted_answers : (old now : State) → Rests 1 old M → IsCommitted (Turns (tables_after 1 (change_by id command planned)) old.now) now
+  pub acted_answers : (old now : State) → Rests known old M → IsCommitted (Turns (tables_after known (change_by id command planned)) old.now) now
       → Answers now M id (step M id (command_meant command)) (Rattle.std.proofs.Common.Ok (Now planned.kept planned.summary))
   acted_answers old now rests done = (
     new,
@@ -143,7 +147,7 @@ module _ (M : Catalogue) (id : List ℕ) (command : typed.Command) (planned : Pl
 -- ---- what the next command needs
 
 answered_by : (new : State) (M : Catalogue) (id : List ℕ) (outcome : Outcome) (summary : Holdings (List ℕ)) (result : Result Applied Fault) → IsTrue new.is_open → summary_of M ≡ summary → Answers new M id outcome result
-    → (N : Catalogue) × Rests 1 new N × (summary_of N ≡ summary_after summary result)
+    → (N : Catalogue) × Rests known new N × (summary_of N ≡ summary_after summary result)
 answered_by new M id outcome summary (Ok (Before kept)) lives is h = (M, h.2, is)
 answered_by new M id outcome summary (Ok (Now kept after)) lives is h = (outcome.catalogue, h.3, h.2)
 answered_by new M id outcome summary (Err (Refused refusal)) lives is h = (M, h.1, is)
@@ -155,7 +159,7 @@ answered_by new M id outcome summary (Err Damaged) lives is h = absurd h
 answered_by new M id outcome summary (Err NewerSchema) lives is h = absurd h
 
 pub holds_again : (summary : Holdings (List ℕ)) (id : List ℕ) (command : Command Edition) (old new : State) (result : Result Applied Fault) → HoldsBy summary old → (HasCleanDisk new → HasCleanDisk old) → (HasCleanDisk new → IsTrue new.is_open → IsTrue old.is_open)
-    → (HasCleanDisk new → (M : Catalogue) → Rests 1 old M → summary_of M ≡ summary → Answers new M id (step M id command) result) → HoldsBy (summary_after summary result) new
+    → (HasCleanDisk new → (M : Catalogue) → Rests known old M → summary_of M ≡ summary → Answers new M id (step M id command) result) → HoldsBy (summary_after summary result) new
 holds_again summary id command old new result holds early was value = λ clean lives.
     let it = holds (early clean) (was clean lives) in
     answered_by new it.0 id (step it.0 id command) summary result lives it.2 (value clean it.0 it.1 it.2)
@@ -173,12 +177,19 @@ declined_fails summary command NewerSchema h real = absurd h
 
 module _ {S : Type 0} (g : Ghosts S) where
   -- what was written is of a wider kind too
-  pub ends_weaker : (P Q : Database → Type 0) (old new : Held S) (fault : Fault) → ((db : Database) → P db → Q db) → FailsToEnd g P old new fault → FailsToEnd g Q old new fault
-  ends_weaker P Q old new fault wider (inl h) = inl h
-  ends_weaker P Q old new fault wider (inr h) = inr (record { told = h.told; last = h.last; before = h.before; written = wider (state g h.last).now h.written; error = h.error; fails = h.fails })
+  pub ends_weaker : (statements : List Statement) (P Q : Database → Type 0) (old new : Held S) (fault : Fault) → ((db : Database) → P db → Q db) → FailsToEnd g statements P old new fault → FailsToEnd g statements Q old new fault
+  ends_weaker statements P Q old new fault wider (inl h) = inl h
+  ends_weaker statements P Q old new fault wider (inr h) = inr (record { told = h.told; last = h.last; ran = h.ran; before = h.before; written = wider (state g h.last).now h.written; error = h.error; fails = h.fails })
 
   -- a command that is new fails after the id was looked up
-  pub new_fails : (summary : Holdings (List ℕ)) (id : List ℕ) (command : Command Edition) (P : Database → Type 0) (old mid new : Held S) → IsUnchanged (state g old) (state g mid) → ((db : Database) → P db → HoldsAfter summary (state g old) id command db)
-      → (fault : Fault) → ((fault ≡ Memory) × (new ≡ mid)) ⊎ FailsToEnd g P mid new fault → FailsToApply g summary id command old new fault
-  new_fails summary id command P old mid new same wider fault (inl h) = inl (inl (subst (λ k. IsUnchanged (state g old) (state g k)) (sym h.1) same, subst (IsUnread (state g old)) (sym h.0) tt))
-  new_fails summary id command P old mid new same wider fault (inr h) = inr (mid, same, ends_weaker P (HoldsAfter summary (state g old) id command) mid new fault wider h)
+  pub new_fails : (summary : Holdings (List ℕ)) (id : List ℕ) (command : Command Edition) (P : Database → Type 0) (old mid new : Held S) → IsUnchanged (state g old) (state g mid) → Survives (state g old) (state g mid) (λ _. ⊥)
+      → ((db : Database) → P db → HoldsAfter summary (state g old) id command db) → (fault : Fault) → ((fault ≡ Memory) × (new ≡ mid)) ⊎ FailsToAct g summary id command P mid new fault → FailsToApply g summary id command old new fault
+  new_fails summary id command P old mid new same survives wider fault (inl h) = inl (inl (subst (λ k. IsUnchanged (state g old) (state g k)) (sym h.1) same, subst (IsUnread (state g old)) (sym h.0) tt))
+  new_fails summary id command P old mid new same survives wider fault (inr h) =
+      inr (mid, same, survives, (h.0, h.1, ends_weaker (statements_of known h.0) P (HoldsAfter summary (state g old) id command) mid new fault wider h.2))
+
+-- what is written of a command that was planned
+pub is_planned : (id : List ℕ) (command : typed.Command) (planned : Planned) (summary : Holdings (List ℕ)) → IsChange summary (command_shown command) planned → LiesWithin command → (old : State) → IsPlanned summary old id (command_meant command) (change_by id command planned)
+is_planned id command planned summary change lies old = λ M rests is.
+    let here : IsChange (summary_of M) (command_shown command) planned = subst (λ (b : Holdings (List ℕ)). IsChange b (command_shown command) planned) (sym is) change in
+    (same_refusal M command ∙ here.0, change_is M id command planned here.1 lies)

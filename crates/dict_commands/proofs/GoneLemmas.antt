@@ -13,6 +13,11 @@ use Rattle.dict_rows.specs.Tables.{Tables, same_number}
 use Rattle.dict_rows.specs.After.{is_gone}
 use Rattle.dict_rows.proofs.PartLemmas.{filter_filter, filter_alike}
 use Rattle.dict_file.specs.Holds.{Keeps}
+use Rattle.std.specs.Prelude.{flat_map}
+use Rattle.std.proofs.Common.{append-nil}
+use Rattle.std.proofs.lemmas.Grind.{flat_map-append}
+use Rattle.dict_commands.specs.Statements.{taking}
+use Rattle.dict_commands.proofs.LoopLemmas.{Grows}
 use Rattle.dict_commands.specs.Kept.{HasRecords, IsStorable}
 use Rattle.dict_commands.specs.Changes.{without_editions}
 use Rattle.dict_commands.proofs.RowLemmas.{keeps_removed, next_column, compared_values}
@@ -68,3 +73,10 @@ next_gone db gone i lt tables it =
       entries = filter_filter (λ (row : Entry). not (is_gone (n ∷ []) row.edition)) (λ (row : Entry). not (is_gone some row.edition)) (λ (row : Entry). not (is_gone (some ++ n ∷ []) row.edition)) (λ row. gone_more some n row.edition) tables.entries k;
     }) it in
     subst (λ l. HasRecords db (without_editions l tables)) (sym (take_more gone i 0 lt)) more
+
+-- the statements that take them out
+pub taken_run : (gone : List ℕ) (i : ℕ) → i < length gone → flat_map taking (take i gone) ++ taking (get_or gone i 0) ≡ flat_map taking (take (i + 1) gone)
+taken_run gone i lt = sym (ap (flat_map taking) (take_more gone i 0 lt) ∙ flat_map-append taking (take i gone) (get_or gone i 0 ∷ []) ∙ ap (λ l. flat_map taking (take i gone) ++ l) (append-nil (taking (get_or gone i 0))))
+
+pub taken_grows : Grows (flat_map taking)
+taken_grows front back = (flat_map taking back, flat_map-append taking front back)

@@ -27,6 +27,8 @@ use Rattle.dict_rows.proofs.OrderLemmas.{IsIn, Same, same_from}
 use Rattle.dict_rows.proofs.OnceLemmas.{kept_same}
 use Rattle.dict_file.specs.Holds.{Holds, Keeps}
 use Rattle.dict_commands.proofs.RowLemmas.{filter_map}
+use Rattle.dict_file.proofs.ReadingLemmas.{replies_kept}
+use Rattle.dict_rows.specs.Versions.{layout_of}
 
 abbrev ReadKept : Type 0
 ReadKept = Stored (typed.Kept (String Global))
@@ -160,7 +162,7 @@ module _ (id : List ℕ) where
 
   pub kept_told : (version : ℕ) (db : Database) (M : Catalogue) (all : List ReadKept) → Holds version db M → IsSelection (codes "kept") (equals_text 1 id) (2 ∷ []) db (map stored_kept all) → IsToldBy M.kept all
   kept_told version db M all h selection =
-      told_by M.kept all h.stands.well_formed.ids (same_from _ _ (same_rows db h.tables.kept M.kept all h.stands.kept h.keeps.kept selection))
+      told_by M.kept all h.stands.well_formed.ids (same_from _ _ (same_rows db h.tables.kept M.kept all h.stands.kept (replies_kept (layout_of version) db h.tables h.keeps) selection))
 
   pub none_told : (kept : List KeptFor) (all : List ReadKept) → length all ≤ 0 → IsToldBy kept all → kept_under kept id ≡ None
   none_told kept [] few h = h

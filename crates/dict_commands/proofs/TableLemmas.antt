@@ -7,7 +7,7 @@ use Rattle.sqlite.specs.Effect.{Database}
 use Rattle.sqlite.specs.Order.{Row}
 use Rattle.sqlite.specs.Schema.{Schema}
 use Rattle.dict_tables.specs.Found.{HasOwn}
-use Rattle.dict_tables.specs.Tables.{table_of, store_tables}
+use Rattle.dict_tables.specs.Tables.{table_of}
 use Rattle.dict_tables.specs.declared.tables.StoreTable.{StoreTable}
 use Rattle.dict_tables.specs.declared.tables.StoreTable.TheVariants as table
 use Rattle.dict_sql.specs.Effects.{Has, HasApartRowids, IsAdded, IsRemoved, SameOthers, rows_of}
@@ -15,15 +15,16 @@ use Rattle.dict_sql.specs.Deletes.{HasToRemove}
 use Rattle.dict_sql.specs.Encodings.{mark_row, item_row, member_row, edition_row, entry_row, kept_row}
 use Rattle.dict_sql.proofs.Callers.{own_has}
 use Rattle.dict_records.specs.Records.{Mark, Item, Member, Edition, Entry, Kept}
+use Rattle.dict_rows.specs.Versions.{known, layout_of}
 use Rattle.dict_rows.specs.Tables.{Tables}
-use Rattle.dict_file.specs.Holds.{Keeps}
+use Rattle.dict_file.specs.Holds.{Keeps, HasLayout}
 use Rattle.dict_file.proofs.KeepLemmas.{unmoved, keeps_added}
 use Rattle.dict_commands.specs.Kept.{HasRecords, IsUsable}
 use Rattle.dict_commands.specs.Changes.{cleared}
 use Rattle.dict_commands.proofs.RowLemmas.{keeps_same, keeps_cleared}
 
 abbrev AreOwn : Schema → Type 0
-AreOwn s = AllByRecursion (λ t. HasOwn s (table_of t)) store_tables
+AreOwn s = HasLayout (layout_of known) s
 
 abbrev name : StoreTable → List ℕ
 name t = (table_of t 0).name
@@ -45,12 +46,12 @@ treed table.Entry tree = refl
 treed table.Kept tree = refl
 
 pub own_of : (t : StoreTable) (s : Schema) → AreOwn s → HasOwn s (table_of t)
-own_of table.Mark s own = own.0
-own_of table.Item s own = own.1.0
-own_of table.Member s own = own.1.1.0
-own_of table.Edition s own = own.1.1.1.0
-own_of table.Entry s own = own.1.1.1.1.0
-own_of table.Kept s own = own.1.1.1.1.1.0
+own_of table.Mark s own = own.tables.0
+own_of table.Item s own = own.tables.1.0
+own_of table.Member s own = own.tables.1.1.0
+own_of table.Edition s own = own.tables.1.1.1.0
+own_of table.Entry s own = own.tables.1.1.1.1.0
+own_of table.Kept s own = own.tables.1.1.1.1.1.0
 
 -- ---- the statements can use the tables
 

@@ -12,6 +12,7 @@ use Rattle.dict_catalogue.specs.declared.planning.Change.{Change as Planned}
 use Rattle.dict_rows.specs.Tables.{Tables}
 use Rattle.dict_rows.specs.Written.{numbered, mark_record, item_record, kept_record}
 use Rattle.dict_rows.specs.After.{Installed, Change, is_gone, installed_editions, installed_entries, all_members}
+use Rattle.dict_rows.specs.Versions.{known}
 use Rattle.dict_tables.specs.declared.tables.StoreTable.{StoreTable}
 use Rattle.dict_tables.specs.declared.tables.StoreTable.TheVariants.{Mark, Item as Items, Member, Edition, Entry, Kept}
 use Rattle.dict_commands.specs.Kept.{IsStorable, AreStorable}
@@ -27,7 +28,7 @@ cleared Kept tables = record tables { kept = [] }
 
 -- the mark, the items and the members written anew
 abbrev pub with_mark : ℕ → Tables → Tables
-with_mark installs tables = record tables { marks = mark_record 1 installs ∷ [] }
+with_mark installs tables = record tables { marks = mark_record known installs ∷ [] }
 
 abbrev pub with_items : {A : Type 0} → List (Item A) → Tables → Tables
 with_items items tables = record tables { items = numbered item_record 0 items }

@@ -2,15 +2,14 @@
 use Rattle.std.specs.Prelude.{ℕ, ◌≤◌, List}
 use Rattle.std.specs.List.{AllByRecursion}
 use Rattle.sqlite.specs.Effect.{Database}
-use Rattle.dict_tables.specs.Found.{HasOwn}
-use Rattle.dict_tables.specs.Tables.{table_of, store_tables}
+use Rattle.dict_rows.specs.Versions.{known, layout_of}
 use Rattle.dict_rows.specs.Tables.{Tables}
-use Rattle.dict_file.specs.Holds.{KeepsAll}
+use Rattle.dict_file.specs.Holds.{HasLayout, KeepsPlain}
 
 -- the database has the product's tables, and they keep these records
 pub record HasRecords (db : Database) (tables : Tables) : Type 0 where
-  pub own : AllByRecursion (λ t. HasOwn db.schema (table_of t)) store_tables
-  pub keeps : KeepsAll db tables
+  pub own : HasLayout (layout_of known) db.schema
+  pub keeps : KeepsPlain db tables
 
 -- they keep some records
 abbrev pub IsUsable : Database → Type 0

@@ -3,3 +3,4 @@ pub mod Changes
 pub mod Decided
 pub mod Committed
 pub mod Answers
+pub mod Statements

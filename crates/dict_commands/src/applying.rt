@@ -6,10 +6,10 @@ ghost use Rattle.dict_name.specs.Names.{is_request_id};
 ghost use Rattle.dict_catalogue.specs.Steps.{Catalogue, summary_of, kept_under, step};
 ghost use Rattle.dict_catalogue.specs.Views.{summary_shown, command_meant};
 ghost use Rattle.dict_desk.specs.Faults.{is_failure};
-ghost use Rattle.dict_file.specs.Holds.{Holds, Rests, IsLeft};
-ghost use Rattle.dict_file.specs.Writing.{FailsToEnd};
+ghost use Rattle.dict_file.specs.Holds.{Holds, Rests, IsLeftAs};
 ghost use Rattle.dict_commands.specs.Changes.{IsInRange};
-ghost use Rattle.dict_commands.specs.Answers.{HoldsBy, Answers, has_written, summary_after, IsOfApply, IsOfShut, FailsToApply};
+ghost use Rattle.dict_commands.specs.Answers.{HoldsBy, Answers, has_written, summary_after, IsOfApply, IsOfShut, FailsToAct, FailsToApply};
+ghost use Rattle.dict_rows.specs.Versions.{known};
 
 use crate::applied::Applied;
 use crate::committing::commit_change;
@@ -33,13 +33,13 @@ fn apply_new<S: Alter>(
     requires autocommit { conn.old.in_transaction ≡ false }
     requires holds { HoldsBy (summary_shown summary.now) (state S.Store conn.old) }
     requires range { IsInRange (summary_shown summary.now) }
-    ensures value { HasCleanDisk (state S.Store conn.new) → (M : Catalogue) → Rests 1 (state S.Store conn.old) M → summary_of M ≡ summary_shown summary.now → kept_under M.kept id.now ≡ None
+    ensures value { HasCleanDisk (state S.Store conn.new) → (M : Catalogue) → Rests known (state S.Store conn.old) M → summary_of M ≡ summary_shown summary.now → kept_under M.kept id.now ≡ None
         → Answers (state S.Store conn.new) M id.now (step M id.now (command_meant command.now)) result }
     ensures spares { has_written result ≡ false → Survives (state S.Store conn.old) (state S.Store conn.new) (λ _. ⊥) }
-    ensures crash { Survives (state S.Store conn.old) (state S.Store conn.new) (λ trees. (M : Catalogue) → Rests 1 (state S.Store conn.old) M → summary_of M ≡ summary_shown summary.now → kept_under M.kept id.now ≡ None
-        → IsLeft 1 (step M id.now (command_meant command.now)).catalogue trees) }
+    ensures crash { Survives (state S.Store conn.old) (state S.Store conn.new) (λ trees. (M : Catalogue) → Rests known (state S.Store conn.old) M → summary_of M ≡ summary_shown summary.now → kept_under M.kept id.now ≡ None
+        → IsLeftAs known (step M id.now (command_meant command.now)).catalogue trees) }
     ensures lives { HasCleanDisk (state S.Store conn.new) → IsTrue (state S.Store conn.new).is_open → IsTrue (state S.Store conn.old).is_open }
-    ensures failed { HasCleanDisk (state S.Store conn.new) → IfErr result (λ fault. is_failure fault ≡ true → ((fault ≡ Fault.Memory) × (conn.new ≡ conn.old)) ⊎ FailsToEnd S.Store (λ db. (M : Catalogue) → Rests 1 (state S.Store conn.old) M → summary_of M ≡ summary_shown summary.now → kept_under M.kept id.now ≡ None → Holds 1 db (step M id.now (command_meant command.now)).catalogue) conn.old conn.new fault) }
+    ensures failed { HasCleanDisk (state S.Store conn.new) → IfErr result (λ fault. is_failure fault ≡ true → ((fault ≡ Fault.Memory) × (conn.new ≡ conn.old)) ⊎ FailsToAct S.Store (summary_shown summary.now) id.now (command_meant command.now) (λ db. (M : Catalogue) → Rests known (state S.Store conn.old) M → summary_of M ≡ summary_shown summary.now → kept_under M.kept id.now ≡ None → Holds known db (step M id.now (command_meant command.now)).catalogue) conn.old conn.new fault) }
     ensures kinds { IfErr result IsOfApply }
     ensures range { IsInRange (summary_after (summary_shown summary.now) result) }
     ensures autocommit { (state S.Store conn.new).in_transaction ≡ false }
@@ -72,11 +72,11 @@ pub fn apply<S: Alter>(
     requires autocommit { conn.old.in_transaction ≡ false }
     requires holds { HoldsBy (summary_shown summary.now) (state S.Store conn.old) }
     requires range { IsInRange (summary_shown summary.now) }
-    ensures value { HasCleanDisk (state S.Store conn.new) → (M : Catalogue) → Rests 1 (state S.Store conn.old) M → summary_of M ≡ summary_shown summary.now
+    ensures value { HasCleanDisk (state S.Store conn.new) → (M : Catalogue) → Rests known (state S.Store conn.old) M → summary_of M ≡ summary_shown summary.now
         → Answers (state S.Store conn.new) M id.now (step M id.now (command_meant command.now)) result }
     ensures spares { has_written result ≡ false → Survives (state S.Store conn.old) (state S.Store conn.new) (λ _. ⊥) }
-    ensures crash { Survives (state S.Store conn.old) (state S.Store conn.new) (λ trees. IsTrue (state S.Store conn.old).is_open × ((M : Catalogue) → Rests 1 (state S.Store conn.old) M → summary_of M ≡ summary_shown summary.now
-        → IsLeft 1 (step M id.now (command_meant command.now)).catalogue trees)) }
+    ensures crash { Survives (state S.Store conn.old) (state S.Store conn.new) (λ trees. IsTrue (state S.Store conn.old).is_open × ((M : Catalogue) → Rests known (state S.Store conn.old) M → summary_of M ≡ summary_shown summary.now
+        → IsLeftAs known (step M id.now (command_meant command.now)).catalogue trees)) }
     ensures shut { HasCleanDisk (state S.Store conn.new) → (state S.Store conn.old).is_open ≡ false → IsOfShut id.now result }
     ensures lives { HasCleanDisk (state S.Store conn.new) → IsTrue (state S.Store conn.new).is_open → IsTrue (state S.Store conn.old).is_open }
     ensures failed { HasCleanDisk (state S.Store conn.new) → IfErr result (λ fault. is_failure fault ≡ true → FailsToApply S.Store (summary_shown summary.now) id.now (command_meant command.now) conn.old conn.new fault) }

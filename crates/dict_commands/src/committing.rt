@@ -5,9 +5,11 @@ ghost use Rattle.sqlite.specs.Held.{state};
 ghost use Rattle.dict_sql.specs.Effects.{WhileOpen};
 ghost use Rattle.dict_desk.specs.Faults.{is_disk};
 ghost use Rattle.dict_rows.specs.After.{tables_after};
+ghost use Rattle.dict_rows.specs.Versions.{known};
 ghost use Rattle.dict_file.specs.Writing.{FailsToEnd};
 ghost use Rattle.dict_commands.specs.Kept.{Turns, IsUsable};
 ghost use Rattle.dict_commands.specs.Changes.{change_by, IsWritable};
+ghost use Rattle.dict_commands.specs.Statements.{statements_of};
 ghost use Rattle.dict_commands.specs.Committed.{IsCommitted, IsTreesOf, Stays, IsOfStore};
 
 use crate::writing::write_all;
@@ -31,14 +33,14 @@ pub(crate) fn commit_change<S: Alter>(
     requires autocommit { conn.old.in_transaction ≡ false }
     requires usable { WhileOpen (state S.Store conn.old) IsUsable }
     requires writable { IsWritable change.now }
-    ensures made { HasCleanDisk (state S.Store conn.new) → OnOk result (IsCommitted (Turns (tables_after 1 (change_by id.now command.now change.now)) (state S.Store conn.old).now) (state S.Store conn.new)) }
+    ensures made { HasCleanDisk (state S.Store conn.new) → OnOk result (IsCommitted (Turns (tables_after known (change_by id.now command.now change.now)) (state S.Store conn.old).now) (state S.Store conn.new)) }
     ensures lives { HasCleanDisk (state S.Store conn.new) → IsTrue (state S.Store conn.new).is_open → IsTrue (state S.Store conn.old).is_open }
     ensures stays { HasCleanDisk (state S.Store conn.new) → OnErr result (Stays (state S.Store conn.old) (state S.Store conn.new)) }
     ensures adds_none { IfErr result (λ fault. is_disk fault ≡ false → Survives (state S.Store conn.old) (state S.Store conn.new) (λ _. ⊥)) }
-    ensures failed { HasCleanDisk (state S.Store conn.new) → IfErr result (FailsToEnd S.Store (Turns (tables_after 1 (change_by id.now command.now change.now)) (state S.Store conn.old).now) conn.old conn.new) }
+    ensures failed { HasCleanDisk (state S.Store conn.new) → IfErr result (FailsToEnd S.Store (statements_of known (change_by id.now command.now change.now)) (Turns (tables_after known (change_by id.now command.now change.now)) (state S.Store conn.old).now) conn.old conn.new) }
     ensures kinds { IfErr result IsOfStore }
     ensures autocommit { (state S.Store conn.new).in_transaction ≡ false }
-    ensures crash { Survives (state S.Store conn.old) (state S.Store conn.new) (IsTreesOf (Turns (tables_after 1 (change_by id.now command.now change.now)) (state S.Store conn.old).now)) }
+    ensures crash { Survives (state S.Store conn.old) (state S.Store conn.new) (IsTreesOf (Turns (tables_after known (change_by id.now command.now change.now)) (state S.Store conn.old).now)) }
 {
     let mut tx = conn.transaction();
     if let Err(error) = write_all(&mut tx, id, command, change) {

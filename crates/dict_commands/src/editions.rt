@@ -1,13 +1,14 @@
 // The editions that go, and the one that is installed.
-ghost use Rattle.std.specs.Prelude.{◌≡◌, ◌≤◌, ◌++◌, [], ◌∷◌, OnOk, map, not, filter, true, IfErr};
+ghost use Rattle.std.specs.Prelude.{◌≡◌, ◌≤◌, ◌++◌, [], ◌∷◌, OnOk, map, flat_map, Some, not, filter, true, IfErr};
 ghost use Rattle.std.specs.List.{AllByRecursion};
 ghost use Rattle.sqlite.specs.State.{HasCleanDisk, KeepsCommit, Survives};
 ghost use Rattle.dict_sql.specs.Effects.{WhileOpen, seen};
 ghost use Rattle.dict_index.specs.Views.{line_of};
 ghost use Rattle.dict_rows.specs.Written.{numbered, edition_record, entry_record};
 ghost use Rattle.dict_rows.specs.After.{is_gone};
-ghost use Rattle.dict_file.specs.Writing.{FailsWithin};
+ghost use Rattle.dict_sql.specs.Statements.{RunInTurn, FailsInTurn};
 ghost use Rattle.dict_commands.specs.Kept.{Turns, IsUsable, IsStorable, AreStorable};
+ghost use Rattle.dict_commands.specs.Statements.{taking_entries, taking_record, taking, adding_edition, adding_entry, installing};
 ghost use Rattle.dict_commands.specs.Changes.{without_editions, with_edition, with_installed, installed_by, IsShort};
 
 use dict_catalogue::Command;
@@ -25,7 +26,8 @@ fn take_entries<S: Alter>(tx: &mut Transaction<'_, S>, number: u64) -> Result<()
     ensures turns { HasCleanDisk (seen S.Store tx.new) → OnOk result (Turns (λ tables. record tables { entries = filter (λ row. not (is_gone (number ∷ []) row.edition)) tables.entries }) (seen S.Store tx.old).now (seen S.Store tx.new).now) }
     ensures usable { OnOk result (WhileOpen (seen S.Store tx.new) IsUsable) }
     ensures inside { HasCleanDisk (seen S.Store tx.new) → OnOk result ((seen S.Store tx.old).in_transaction ≡ true → (seen S.Store tx.new).in_transaction ≡ true) }
-    ensures failed { HasCleanDisk (seen S.Store tx.new) → IfErr result (FailsWithin S.Store tx.old.conn.now tx.new.conn.now) }
+    ensures ran { HasCleanDisk (seen S.Store tx.new) → OnOk result (RunInTurn S.Store (taking_entries number ∷ []) tx.old.conn.now tx.new.conn.now) }
+    ensures failed { HasCleanDisk (seen S.Store tx.new) → IfErr result (FailsInTurn S.Store (taking_entries number ∷ []) tx.old.conn.now tx.new.conn.now) }
     ensures keeps { HasCleanDisk (seen S.Store tx.new) → KeepsCommit (seen S.Store tx.old) (seen S.Store tx.new) }
     ensures survives { Survives (seen S.Store tx.old) (seen S.Store tx.new) (λ _. ⊥) }
 {
@@ -41,7 +43,8 @@ fn take_row<S: Alter>(tx: &mut Transaction<'_, S>, number: u64) -> Result<(), Er
     ensures turns { HasCleanDisk (seen S.Store tx.new) → OnOk result (Turns (λ tables. record tables { editions = filter (λ row. not (is_gone (number ∷ []) row.number)) tables.editions }) (seen S.Store tx.old).now (seen S.Store tx.new).now) }
     ensures usable { OnOk result (WhileOpen (seen S.Store tx.new) IsUsable) }
     ensures inside { HasCleanDisk (seen S.Store tx.new) → OnOk result ((seen S.Store tx.old).in_transaction ≡ true → (seen S.Store tx.new).in_transaction ≡ true) }
-    ensures failed { HasCleanDisk (seen S.Store tx.new) → IfErr result (FailsWithin S.Store tx.old.conn.now tx.new.conn.now) }
+    ensures ran { HasCleanDisk (seen S.Store tx.new) → OnOk result (RunInTurn S.Store (taking_record number ∷ []) tx.old.conn.now tx.new.conn.now) }
+    ensures failed { HasCleanDisk (seen S.Store tx.new) → IfErr result (FailsInTurn S.Store (taking_record number ∷ []) tx.old.conn.now tx.new.conn.now) }
     ensures keeps { HasCleanDisk (seen S.Store tx.new) → KeepsCommit (seen S.Store tx.old) (seen S.Store tx.new) }
     ensures survives { Survives (seen S.Store tx.old) (seen S.Store tx.new) (λ _. ⊥) }
 {
@@ -57,7 +60,8 @@ fn take_edition<S: Alter>(tx: &mut Transaction<'_, S>, number: u64) -> Result<()
     ensures turns { HasCleanDisk (seen S.Store tx.new) → OnOk result (Turns (without_editions (number ∷ [])) (seen S.Store tx.old).now (seen S.Store tx.new).now) }
     ensures usable { OnOk result (WhileOpen (seen S.Store tx.new) IsUsable) }
     ensures inside { HasCleanDisk (seen S.Store tx.new) → OnOk result ((seen S.Store tx.old).in_transaction ≡ true → (seen S.Store tx.new).in_transaction ≡ true) }
-    ensures failed { HasCleanDisk (seen S.Store tx.new) → IfErr result (FailsWithin S.Store tx.old.conn.now tx.new.conn.now) }
+    ensures ran { HasCleanDisk (seen S.Store tx.new) → OnOk result (RunInTurn S.Store (taking number) tx.old.conn.now tx.new.conn.now) }
+    ensures failed { HasCleanDisk (seen S.Store tx.new) → IfErr result (FailsInTurn S.Store (taking number) tx.old.conn.now tx.new.conn.now) }
     ensures keeps { HasCleanDisk (seen S.Store tx.new) → KeepsCommit (seen S.Store tx.old) (seen S.Store tx.new) }
     ensures survives { Survives (seen S.Store tx.old) (seen S.Store tx.new) (λ _. ⊥) }
 {
@@ -77,7 +81,8 @@ pub(crate) fn take_editions<S: Alter>(
     ensures turns { HasCleanDisk (seen S.Store tx.new) → OnOk result (Turns (without_editions gone.now) (seen S.Store tx.old).now (seen S.Store tx.new).now) }
     ensures usable { OnOk result (WhileOpen (seen S.Store tx.new) IsUsable) }
     ensures inside { HasCleanDisk (seen S.Store tx.new) → OnOk result ((seen S.Store tx.old).in_transaction ≡ true → (seen S.Store tx.new).in_transaction ≡ true) }
-    ensures failed { HasCleanDisk (seen S.Store tx.new) → IfErr result (FailsWithin S.Store tx.old.conn.now tx.new.conn.now) }
+    ensures ran { HasCleanDisk (seen S.Store tx.new) → OnOk result (RunInTurn S.Store (flat_map taking gone.now) tx.old.conn.now tx.new.conn.now) }
+    ensures failed { HasCleanDisk (seen S.Store tx.new) → IfErr result (FailsInTurn S.Store (flat_map taking gone.now) tx.old.conn.now tx.new.conn.now) }
     ensures keeps { HasCleanDisk (seen S.Store tx.new) → KeepsCommit (seen S.Store tx.old) (seen S.Store tx.new) }
     ensures survives { Survives (seen S.Store tx.old) (seen S.Store tx.new) (λ _. ⊥) }
 {
@@ -100,7 +105,8 @@ fn add_row<S: Alter>(
     ensures turns { HasCleanDisk (seen S.Store tx.new) → OnOk result (Turns (λ tables. record tables { editions = tables.editions ++ edition_record owner.now number edition.now ∷ [] }) (seen S.Store tx.old).now (seen S.Store tx.new).now) }
     ensures usable { OnOk result (WhileOpen (seen S.Store tx.new) IsUsable) }
     ensures inside { HasCleanDisk (seen S.Store tx.new) → OnOk result ((seen S.Store tx.old).in_transaction ≡ true → (seen S.Store tx.new).in_transaction ≡ true) }
-    ensures failed { HasCleanDisk (seen S.Store tx.new) → IfErr result (FailsWithin S.Store tx.old.conn.now tx.new.conn.now) }
+    ensures ran { HasCleanDisk (seen S.Store tx.new) → OnOk result (RunInTurn S.Store (adding_edition (edition_record owner.now number edition.now) ∷ []) tx.old.conn.now tx.new.conn.now) }
+    ensures failed { HasCleanDisk (seen S.Store tx.new) → IfErr result (FailsInTurn S.Store (adding_edition (edition_record owner.now number edition.now) ∷ []) tx.old.conn.now tx.new.conn.now) }
     ensures keeps { HasCleanDisk (seen S.Store tx.new) → KeepsCommit (seen S.Store tx.old) (seen S.Store tx.new) }
     ensures survives { Survives (seen S.Store tx.old) (seen S.Store tx.new) (λ _. ⊥) }
 {
@@ -124,7 +130,8 @@ fn add_entry<S: Alter>(
     ensures turns { HasCleanDisk (seen S.Store tx.new) → OnOk result (Turns (λ tables. record tables { entries = tables.entries ++ entry_record number ord (line_of entry.now) ∷ [] }) (seen S.Store tx.old).now (seen S.Store tx.new).now) }
     ensures usable { OnOk result (WhileOpen (seen S.Store tx.new) IsUsable) }
     ensures inside { HasCleanDisk (seen S.Store tx.new) → OnOk result ((seen S.Store tx.old).in_transaction ≡ true → (seen S.Store tx.new).in_transaction ≡ true) }
-    ensures failed { HasCleanDisk (seen S.Store tx.new) → IfErr result (FailsWithin S.Store tx.old.conn.now tx.new.conn.now) }
+    ensures ran { HasCleanDisk (seen S.Store tx.new) → OnOk result (RunInTurn S.Store (adding_entry (entry_record number ord (line_of entry.now)) ∷ []) tx.old.conn.now tx.new.conn.now) }
+    ensures failed { HasCleanDisk (seen S.Store tx.new) → IfErr result (FailsInTurn S.Store (adding_entry (entry_record number ord (line_of entry.now)) ∷ []) tx.old.conn.now tx.new.conn.now) }
     ensures keeps { HasCleanDisk (seen S.Store tx.new) → KeepsCommit (seen S.Store tx.old) (seen S.Store tx.new) }
     ensures survives { Survives (seen S.Store tx.old) (seen S.Store tx.new) (λ _. ⊥) }
 {
@@ -146,7 +153,8 @@ fn add_entries<S: Alter>(
     ensures turns { HasCleanDisk (seen S.Store tx.new) → OnOk result (Turns (λ tables. record tables { entries = tables.entries ++ numbered (entry_record number) 0 (map line_of entries.now) }) (seen S.Store tx.old).now (seen S.Store tx.new).now) }
     ensures usable { OnOk result (WhileOpen (seen S.Store tx.new) IsUsable) }
     ensures inside { HasCleanDisk (seen S.Store tx.new) → OnOk result ((seen S.Store tx.old).in_transaction ≡ true → (seen S.Store tx.new).in_transaction ≡ true) }
-    ensures failed { HasCleanDisk (seen S.Store tx.new) → IfErr result (FailsWithin S.Store tx.old.conn.now tx.new.conn.now) }
+    ensures ran { HasCleanDisk (seen S.Store tx.new) → OnOk result (RunInTurn S.Store (map adding_entry (numbered (entry_record number) 0 (map line_of entries.now))) tx.old.conn.now tx.new.conn.now) }
+    ensures failed { HasCleanDisk (seen S.Store tx.new) → IfErr result (FailsInTurn S.Store (map adding_entry (numbered (entry_record number) 0 (map line_of entries.now))) tx.old.conn.now tx.new.conn.now) }
     ensures keeps { HasCleanDisk (seen S.Store tx.new) → KeepsCommit (seen S.Store tx.old) (seen S.Store tx.new) }
     ensures survives { Survives (seen S.Store tx.old) (seen S.Store tx.new) (λ _. ⊥) }
 {
@@ -169,7 +177,8 @@ fn add_edition<S: Alter>(
     ensures turns { HasCleanDisk (seen S.Store tx.new) → OnOk result (Turns (with_edition (record { owner = owner.now; number = number; reading = edition.now })) (seen S.Store tx.old).now (seen S.Store tx.new).now) }
     ensures usable { OnOk result (WhileOpen (seen S.Store tx.new) IsUsable) }
     ensures inside { HasCleanDisk (seen S.Store tx.new) → OnOk result ((seen S.Store tx.old).in_transaction ≡ true → (seen S.Store tx.new).in_transaction ≡ true) }
-    ensures failed { HasCleanDisk (seen S.Store tx.new) → IfErr result (FailsWithin S.Store tx.old.conn.now tx.new.conn.now) }
+    ensures ran { HasCleanDisk (seen S.Store tx.new) → OnOk result (RunInTurn S.Store (installing (Some (record { owner = owner.now; number = number; reading = edition.now }))) tx.old.conn.now tx.new.conn.now) }
+    ensures failed { HasCleanDisk (seen S.Store tx.new) → IfErr result (FailsInTurn S.Store (installing (Some (record { owner = owner.now; number = number; reading = edition.now }))) tx.old.conn.now tx.new.conn.now) }
     ensures keeps { HasCleanDisk (seen S.Store tx.new) → KeepsCommit (seen S.Store tx.old) (seen S.Store tx.new) }
     ensures survives { Survives (seen S.Store tx.old) (seen S.Store tx.new) (λ _. ⊥) }
 {
@@ -191,7 +200,8 @@ pub(crate) fn add_installed<S: Alter>(
     ensures turns { HasCleanDisk (seen S.Store tx.new) → OnOk result (Turns (with_installed (installed_by number command.now)) (seen S.Store tx.old).now (seen S.Store tx.new).now) }
     ensures usable { OnOk result (WhileOpen (seen S.Store tx.new) IsUsable) }
     ensures inside { HasCleanDisk (seen S.Store tx.new) → OnOk result ((seen S.Store tx.old).in_transaction ≡ true → (seen S.Store tx.new).in_transaction ≡ true) }
-    ensures failed { HasCleanDisk (seen S.Store tx.new) → IfErr result (FailsWithin S.Store tx.old.conn.now tx.new.conn.now) }
+    ensures ran { HasCleanDisk (seen S.Store tx.new) → OnOk result (RunInTurn S.Store (installing (installed_by number command.now)) tx.old.conn.now tx.new.conn.now) }
+    ensures failed { HasCleanDisk (seen S.Store tx.new) → IfErr result (FailsInTurn S.Store (installing (installed_by number command.now)) tx.old.conn.now tx.new.conn.now) }
     ensures keeps { HasCleanDisk (seen S.Store tx.new) → KeepsCommit (seen S.Store tx.old) (seen S.Store tx.new) }
     ensures survives { Survives (seen S.Store tx.old) (seen S.Store tx.new) (λ _. ⊥) }
 {

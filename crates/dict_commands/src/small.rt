@@ -7,19 +7,18 @@ ghost use Rattle.dict_catalogue.specs.Items.{name_of, members_of, numbers_of};
 ghost use Rattle.dict_catalogue.specs.Views.{item_shown, texts_shown};
 ghost use Rattle.dict_rows.specs.Written.{numbered, mark_record, item_record, member_record};
 ghost use Rattle.dict_rows.specs.After.{all_members};
-ghost use Rattle.dict_file.specs.Writing.{FailsWithin};
+ghost use Rattle.dict_rows.specs.Versions.{known};
+ghost use Rattle.dict_sql.specs.Statements.{RunInTurn, FailsInTurn};
 ghost use Rattle.dict_commands.specs.Kept.{Turns, IsUsable, IsStorable, AreStorable};
+ghost use Rattle.dict_commands.specs.Statements.{clearing, adding_mark, adding_item, adding_member, mark_anew, items_anew, members_anew};
 ghost use Rattle.dict_commands.specs.Changes.{cleared, with_mark, with_items, with_members};
 
 use dict_catalogue::Item;
-use dict_rows::{item_row, mark_row, member_row};
+use dict_rows::{KNOWN_VERSION, item_row, mark_row, member_row};
 use dict_sql::delete::clear_table;
 use dict_sql::insert::{insert_item, insert_mark, insert_member};
 use dict_tables::StoreTable;
 use sqlite::{Alter, Error, Transaction};
-
-/// The version of the schema that is written.
-const VERSION: u64 = 1;
 
 // Takes all records out of the table.
 fn clear<S: Alter>(tx: &mut Transaction<'_, S>, table: StoreTable) -> Result<(), Error>
@@ -28,7 +27,8 @@ fn clear<S: Alter>(tx: &mut Transaction<'_, S>, table: StoreTable) -> Result<(),
     ensures turns { HasCleanDisk (seen S.Store tx.new) → OnOk result (Turns (cleared table) (seen S.Store tx.old).now (seen S.Store tx.new).now) }
     ensures usable { OnOk result (WhileOpen (seen S.Store tx.new) IsUsable) }
     ensures inside { HasCleanDisk (seen S.Store tx.new) → OnOk result ((seen S.Store tx.old).in_transaction ≡ true → (seen S.Store tx.new).in_transaction ≡ true) }
-    ensures failed { HasCleanDisk (seen S.Store tx.new) → IfErr result (FailsWithin S.Store tx.old.conn.now tx.new.conn.now) }
+    ensures ran { HasCleanDisk (seen S.Store tx.new) → OnOk result (RunInTurn S.Store (clearing table ∷ []) tx.old.conn.now tx.new.conn.now) }
+    ensures failed { HasCleanDisk (seen S.Store tx.new) → IfErr result (FailsInTurn S.Store (clearing table ∷ []) tx.old.conn.now tx.new.conn.now) }
     ensures keeps { HasCleanDisk (seen S.Store tx.new) → KeepsCommit (seen S.Store tx.old) (seen S.Store tx.new) }
     ensures survives { Survives (seen S.Store tx.old) (seen S.Store tx.new) (λ _. ⊥) }
 {
@@ -41,14 +41,15 @@ fn add_mark<S: Alter>(tx: &mut Transaction<'_, S>, installs: u64) -> Result<(), 
     requires storable { IsStorable installs }
     requires usable { WhileOpen (seen S.Store tx.old) IsUsable }
     ensures same_reference { tx.new.conn.ghost_name ≡ tx.old.conn.ghost_name }
-    ensures turns { HasCleanDisk (seen S.Store tx.new) → OnOk result (Turns (λ tables. record tables { marks = tables.marks ++ mark_record 1 installs ∷ [] }) (seen S.Store tx.old).now (seen S.Store tx.new).now) }
+    ensures turns { HasCleanDisk (seen S.Store tx.new) → OnOk result (Turns (λ tables. record tables { marks = tables.marks ++ mark_record known installs ∷ [] }) (seen S.Store tx.old).now (seen S.Store tx.new).now) }
     ensures usable { OnOk result (WhileOpen (seen S.Store tx.new) IsUsable) }
     ensures inside { HasCleanDisk (seen S.Store tx.new) → OnOk result ((seen S.Store tx.old).in_transaction ≡ true → (seen S.Store tx.new).in_transaction ≡ true) }
-    ensures failed { HasCleanDisk (seen S.Store tx.new) → IfErr result (FailsWithin S.Store tx.old.conn.now tx.new.conn.now) }
+    ensures ran { HasCleanDisk (seen S.Store tx.new) → OnOk result (RunInTurn S.Store (adding_mark (mark_record known installs) ∷ []) tx.old.conn.now tx.new.conn.now) }
+    ensures failed { HasCleanDisk (seen S.Store tx.new) → IfErr result (FailsInTurn S.Store (adding_mark (mark_record known installs) ∷ []) tx.old.conn.now tx.new.conn.now) }
     ensures keeps { HasCleanDisk (seen S.Store tx.new) → KeepsCommit (seen S.Store tx.old) (seen S.Store tx.new) }
     ensures survives { Survives (seen S.Store tx.old) (seen S.Store tx.new) (λ _. ⊥) }
 {
-    let mark = mark_row(VERSION, installs);
+    let mark = mark_row(KNOWN_VERSION, installs);
     insert_mark(tx, &mark)?;
     Ok(())
 }
@@ -61,7 +62,8 @@ pub(crate) fn write_mark<S: Alter>(tx: &mut Transaction<'_, S>, installs: u64) -
     ensures turns { HasCleanDisk (seen S.Store tx.new) → OnOk result (Turns (with_mark installs) (seen S.Store tx.old).now (seen S.Store tx.new).now) }
     ensures usable { OnOk result (WhileOpen (seen S.Store tx.new) IsUsable) }
     ensures inside { HasCleanDisk (seen S.Store tx.new) → OnOk result ((seen S.Store tx.old).in_transaction ≡ true → (seen S.Store tx.new).in_transaction ≡ true) }
-    ensures failed { HasCleanDisk (seen S.Store tx.new) → IfErr result (FailsWithin S.Store tx.old.conn.now tx.new.conn.now) }
+    ensures ran { HasCleanDisk (seen S.Store tx.new) → OnOk result (RunInTurn S.Store (mark_anew 1 installs) tx.old.conn.now tx.new.conn.now) }
+    ensures failed { HasCleanDisk (seen S.Store tx.new) → IfErr result (FailsInTurn S.Store (mark_anew 1 installs) tx.old.conn.now tx.new.conn.now) }
     ensures keeps { HasCleanDisk (seen S.Store tx.new) → KeepsCommit (seen S.Store tx.old) (seen S.Store tx.new) }
     ensures survives { Survives (seen S.Store tx.old) (seen S.Store tx.new) (λ _. ⊥) }
 {
@@ -79,7 +81,8 @@ fn add_item<S: Alter>(tx: &mut Transaction<'_, S>, place: u64, item: &Item) -> R
     ensures turns { HasCleanDisk (seen S.Store tx.new) → OnOk result (Turns (λ tables. record tables { items = tables.items ++ item_record place (item_shown item.now) ∷ [] }) (seen S.Store tx.old).now (seen S.Store tx.new).now) }
     ensures usable { OnOk result (WhileOpen (seen S.Store tx.new) IsUsable) }
     ensures inside { HasCleanDisk (seen S.Store tx.new) → OnOk result ((seen S.Store tx.old).in_transaction ≡ true → (seen S.Store tx.new).in_transaction ≡ true) }
-    ensures failed { HasCleanDisk (seen S.Store tx.new) → IfErr result (FailsWithin S.Store tx.old.conn.now tx.new.conn.now) }
+    ensures ran { HasCleanDisk (seen S.Store tx.new) → OnOk result (RunInTurn S.Store (adding_item (item_record place (item_shown item.now)) ∷ []) tx.old.conn.now tx.new.conn.now) }
+    ensures failed { HasCleanDisk (seen S.Store tx.new) → IfErr result (FailsInTurn S.Store (adding_item (item_record place (item_shown item.now)) ∷ []) tx.old.conn.now tx.new.conn.now) }
     ensures keeps { HasCleanDisk (seen S.Store tx.new) → KeepsCommit (seen S.Store tx.old) (seen S.Store tx.new) }
     ensures survives { Survives (seen S.Store tx.old) (seen S.Store tx.new) (λ _. ⊥) }
 {
@@ -96,7 +99,8 @@ fn add_items<S: Alter>(tx: &mut Transaction<'_, S>, items: &[Item]) -> Result<()
     ensures turns { HasCleanDisk (seen S.Store tx.new) → OnOk result (Turns (λ tables. record tables { items = tables.items ++ numbered item_record 0 (map item_shown items.now) }) (seen S.Store tx.old).now (seen S.Store tx.new).now) }
     ensures usable { OnOk result (WhileOpen (seen S.Store tx.new) IsUsable) }
     ensures inside { HasCleanDisk (seen S.Store tx.new) → OnOk result ((seen S.Store tx.old).in_transaction ≡ true → (seen S.Store tx.new).in_transaction ≡ true) }
-    ensures failed { HasCleanDisk (seen S.Store tx.new) → IfErr result (FailsWithin S.Store tx.old.conn.now tx.new.conn.now) }
+    ensures ran { HasCleanDisk (seen S.Store tx.new) → OnOk result (RunInTurn S.Store (map adding_item (numbered item_record 0 (map item_shown items.now))) tx.old.conn.now tx.new.conn.now) }
+    ensures failed { HasCleanDisk (seen S.Store tx.new) → IfErr result (FailsInTurn S.Store (map adding_item (numbered item_record 0 (map item_shown items.now))) tx.old.conn.now tx.new.conn.now) }
     ensures keeps { HasCleanDisk (seen S.Store tx.new) → KeepsCommit (seen S.Store tx.old) (seen S.Store tx.new) }
     ensures survives { Survives (seen S.Store tx.old) (seen S.Store tx.new) (λ _. ⊥) }
 {
@@ -117,7 +121,8 @@ pub(crate) fn write_items<S: Alter>(
     ensures turns { HasCleanDisk (seen S.Store tx.new) → OnOk result (Turns (with_items (map item_shown items.now)) (seen S.Store tx.old).now (seen S.Store tx.new).now) }
     ensures usable { OnOk result (WhileOpen (seen S.Store tx.new) IsUsable) }
     ensures inside { HasCleanDisk (seen S.Store tx.new) → OnOk result ((seen S.Store tx.old).in_transaction ≡ true → (seen S.Store tx.new).in_transaction ≡ true) }
-    ensures failed { HasCleanDisk (seen S.Store tx.new) → IfErr result (FailsWithin S.Store tx.old.conn.now tx.new.conn.now) }
+    ensures ran { HasCleanDisk (seen S.Store tx.new) → OnOk result (RunInTurn S.Store (items_anew (map item_shown items.now)) tx.old.conn.now tx.new.conn.now) }
+    ensures failed { HasCleanDisk (seen S.Store tx.new) → IfErr result (FailsInTurn S.Store (items_anew (map item_shown items.now)) tx.old.conn.now tx.new.conn.now) }
     ensures keeps { HasCleanDisk (seen S.Store tx.new) → KeepsCommit (seen S.Store tx.old) (seen S.Store tx.new) }
     ensures survives { Survives (seen S.Store tx.old) (seen S.Store tx.new) (λ _. ⊥) }
 {
@@ -139,7 +144,8 @@ fn add_member<S: Alter>(
     ensures turns { HasCleanDisk (seen S.Store tx.new) → OnOk result (Turns (λ tables. record tables { members = tables.members ++ member_record owner.now ord name.now ∷ [] }) (seen S.Store tx.old).now (seen S.Store tx.new).now) }
     ensures usable { OnOk result (WhileOpen (seen S.Store tx.new) IsUsable) }
     ensures inside { HasCleanDisk (seen S.Store tx.new) → OnOk result ((seen S.Store tx.old).in_transaction ≡ true → (seen S.Store tx.new).in_transaction ≡ true) }
-    ensures failed { HasCleanDisk (seen S.Store tx.new) → IfErr result (FailsWithin S.Store tx.old.conn.now tx.new.conn.now) }
+    ensures ran { HasCleanDisk (seen S.Store tx.new) → OnOk result (RunInTurn S.Store (adding_member (member_record owner.now ord name.now) ∷ []) tx.old.conn.now tx.new.conn.now) }
+    ensures failed { HasCleanDisk (seen S.Store tx.new) → IfErr result (FailsInTurn S.Store (adding_member (member_record owner.now ord name.now) ∷ []) tx.old.conn.now tx.new.conn.now) }
     ensures keeps { HasCleanDisk (seen S.Store tx.new) → KeepsCommit (seen S.Store tx.old) (seen S.Store tx.new) }
     ensures survives { Survives (seen S.Store tx.old) (seen S.Store tx.new) (λ _. ⊥) }
 {
@@ -159,7 +165,8 @@ fn add_members<S: Alter>(
     ensures turns { HasCleanDisk (seen S.Store tx.new) → OnOk result (Turns (λ tables. record tables { members = tables.members ++ numbered (member_record owner.now) 0 (texts_shown members.now) }) (seen S.Store tx.old).now (seen S.Store tx.new).now) }
     ensures usable { OnOk result (WhileOpen (seen S.Store tx.new) IsUsable) }
     ensures inside { HasCleanDisk (seen S.Store tx.new) → OnOk result ((seen S.Store tx.old).in_transaction ≡ true → (seen S.Store tx.new).in_transaction ≡ true) }
-    ensures failed { HasCleanDisk (seen S.Store tx.new) → IfErr result (FailsWithin S.Store tx.old.conn.now tx.new.conn.now) }
+    ensures ran { HasCleanDisk (seen S.Store tx.new) → OnOk result (RunInTurn S.Store (map adding_member (numbered (member_record owner.now) 0 (texts_shown members.now))) tx.old.conn.now tx.new.conn.now) }
+    ensures failed { HasCleanDisk (seen S.Store tx.new) → IfErr result (FailsInTurn S.Store (map adding_member (numbered (member_record owner.now) 0 (texts_shown members.now))) tx.old.conn.now tx.new.conn.now) }
     ensures keeps { HasCleanDisk (seen S.Store tx.new) → KeepsCommit (seen S.Store tx.old) (seen S.Store tx.new) }
     ensures survives { Survives (seen S.Store tx.old) (seen S.Store tx.new) (λ _. ⊥) }
 {
@@ -176,7 +183,8 @@ fn add_members_of<S: Alter>(tx: &mut Transaction<'_, S>, item: &Item) -> Result<
     ensures turns { HasCleanDisk (seen S.Store tx.new) → OnOk result (Turns (λ tables. record tables { members = tables.members ++ numbered (member_record (name_of (item_shown item.now))) 0 (members_of (item_shown item.now)) }) (seen S.Store tx.old).now (seen S.Store tx.new).now) }
     ensures usable { OnOk result (WhileOpen (seen S.Store tx.new) IsUsable) }
     ensures inside { HasCleanDisk (seen S.Store tx.new) → OnOk result ((seen S.Store tx.old).in_transaction ≡ true → (seen S.Store tx.new).in_transaction ≡ true) }
-    ensures failed { HasCleanDisk (seen S.Store tx.new) → IfErr result (FailsWithin S.Store tx.old.conn.now tx.new.conn.now) }
+    ensures ran { HasCleanDisk (seen S.Store tx.new) → OnOk result (RunInTurn S.Store (map adding_member (numbered (member_record (name_of (item_shown item.now))) 0 (members_of (item_shown item.now)))) tx.old.conn.now tx.new.conn.now) }
+    ensures failed { HasCleanDisk (seen S.Store tx.new) → IfErr result (FailsInTurn S.Store (map adding_member (numbered (member_record (name_of (item_shown item.now))) 0 (members_of (item_shown item.now)))) tx.old.conn.now tx.new.conn.now) }
     ensures keeps { HasCleanDisk (seen S.Store tx.new) → KeepsCommit (seen S.Store tx.old) (seen S.Store tx.new) }
     ensures survives { Survives (seen S.Store tx.old) (seen S.Store tx.new) (λ _. ⊥) }
 {
@@ -196,7 +204,8 @@ fn add_all_members<S: Alter>(tx: &mut Transaction<'_, S>, items: &[Item]) -> Res
     ensures turns { HasCleanDisk (seen S.Store tx.new) → OnOk result (Turns (λ tables. record tables { members = tables.members ++ all_members (map item_shown items.now) }) (seen S.Store tx.old).now (seen S.Store tx.new).now) }
     ensures usable { OnOk result (WhileOpen (seen S.Store tx.new) IsUsable) }
     ensures inside { HasCleanDisk (seen S.Store tx.new) → OnOk result ((seen S.Store tx.old).in_transaction ≡ true → (seen S.Store tx.new).in_transaction ≡ true) }
-    ensures failed { HasCleanDisk (seen S.Store tx.new) → IfErr result (FailsWithin S.Store tx.old.conn.now tx.new.conn.now) }
+    ensures ran { HasCleanDisk (seen S.Store tx.new) → OnOk result (RunInTurn S.Store (map adding_member (all_members (map item_shown items.now))) tx.old.conn.now tx.new.conn.now) }
+    ensures failed { HasCleanDisk (seen S.Store tx.new) → IfErr result (FailsInTurn S.Store (map adding_member (all_members (map item_shown items.now))) tx.old.conn.now tx.new.conn.now) }
     ensures keeps { HasCleanDisk (seen S.Store tx.new) → KeepsCommit (seen S.Store tx.old) (seen S.Store tx.new) }
     ensures survives { Survives (seen S.Store tx.old) (seen S.Store tx.new) (λ _. ⊥) }
 {
@@ -216,7 +225,8 @@ pub(crate) fn write_members<S: Alter>(
     ensures turns { HasCleanDisk (seen S.Store tx.new) → OnOk result (Turns (with_members (map item_shown items.now)) (seen S.Store tx.old).now (seen S.Store tx.new).now) }
     ensures usable { OnOk result (WhileOpen (seen S.Store tx.new) IsUsable) }
     ensures inside { HasCleanDisk (seen S.Store tx.new) → OnOk result ((seen S.Store tx.old).in_transaction ≡ true → (seen S.Store tx.new).in_transaction ≡ true) }
-    ensures failed { HasCleanDisk (seen S.Store tx.new) → IfErr result (FailsWithin S.Store tx.old.conn.now tx.new.conn.now) }
+    ensures ran { HasCleanDisk (seen S.Store tx.new) → OnOk result (RunInTurn S.Store (members_anew (map item_shown items.now)) tx.old.conn.now tx.new.conn.now) }
+    ensures failed { HasCleanDisk (seen S.Store tx.new) → IfErr result (FailsInTurn S.Store (members_anew (map item_shown items.now)) tx.old.conn.now tx.new.conn.now) }
     ensures keeps { HasCleanDisk (seen S.Store tx.new) → KeepsCommit (seen S.Store tx.old) (seen S.Store tx.new) }
     ensures survives { Survives (seen S.Store tx.old) (seen S.Store tx.new) (λ _. ⊥) }
 {

@@ -7,8 +7,10 @@ ghost use Rattle.dict_sql.specs.Effects.{WhileOpen, seen};
 ghost use Rattle.dict_catalogue.specs.Items.{numbers_of};
 ghost use Rattle.dict_catalogue.specs.Views.{item_shown, kept_shown};
 ghost use Rattle.dict_rows.specs.After.{tables_after};
-ghost use Rattle.dict_file.specs.Writing.{FailsWithin};
+ghost use Rattle.dict_rows.specs.Versions.{known};
+ghost use Rattle.dict_sql.specs.Statements.{RunInTurn, FailsInTurn};
 ghost use Rattle.dict_commands.specs.Kept.{Turns, IsUsable, IsStorable, AreStorable};
+ghost use Rattle.dict_commands.specs.Statements.{summary_anew, exchanging, replying, statements_of};
 ghost use Rattle.dict_commands.specs.Changes.{with_mark, with_items, with_members, without_editions, with_installed, with_reply, installed_by, change_by, IsWritable};
 
 use crate::editions::{add_installed, take_editions};
@@ -27,7 +29,8 @@ fn write_summary<S: Alter>(tx: &mut Transaction<'_, S>, summary: &Summary) -> Re
     ensures turns { HasCleanDisk (seen S.Store tx.new) → OnOk result (Turns (λ tables. with_members (map item_shown summary.now.items.items) (with_items (map item_shown summary.now.items.items) (with_mark summary.now.installs tables))) (seen S.Store tx.old).now (seen S.Store tx.new).now) }
     ensures usable { OnOk result (WhileOpen (seen S.Store tx.new) IsUsable) }
     ensures inside { HasCleanDisk (seen S.Store tx.new) → OnOk result ((seen S.Store tx.old).in_transaction ≡ true → (seen S.Store tx.new).in_transaction ≡ true) }
-    ensures failed { HasCleanDisk (seen S.Store tx.new) → IfErr result (FailsWithin S.Store tx.old.conn.now tx.new.conn.now) }
+    ensures ran { HasCleanDisk (seen S.Store tx.new) → OnOk result (RunInTurn S.Store (summary_anew 1 summary.now.installs (map item_shown summary.now.items.items)) tx.old.conn.now tx.new.conn.now) }
+    ensures failed { HasCleanDisk (seen S.Store tx.new) → IfErr result (FailsInTurn S.Store (summary_anew 1 summary.now.installs (map item_shown summary.now.items.items)) tx.old.conn.now tx.new.conn.now) }
     ensures keeps { HasCleanDisk (seen S.Store tx.new) → KeepsCommit (seen S.Store tx.old) (seen S.Store tx.new) }
     ensures survives { Survives (seen S.Store tx.old) (seen S.Store tx.new) (λ _. ⊥) }
 {
@@ -51,7 +54,8 @@ fn write_editions<S: Alter>(
     ensures turns { HasCleanDisk (seen S.Store tx.new) → OnOk result (Turns (λ tables. with_installed (installed_by installs command.now) (without_editions gone.now tables)) (seen S.Store tx.old).now (seen S.Store tx.new).now) }
     ensures usable { OnOk result (WhileOpen (seen S.Store tx.new) IsUsable) }
     ensures inside { HasCleanDisk (seen S.Store tx.new) → OnOk result ((seen S.Store tx.old).in_transaction ≡ true → (seen S.Store tx.new).in_transaction ≡ true) }
-    ensures failed { HasCleanDisk (seen S.Store tx.new) → IfErr result (FailsWithin S.Store tx.old.conn.now tx.new.conn.now) }
+    ensures ran { HasCleanDisk (seen S.Store tx.new) → OnOk result (RunInTurn S.Store (exchanging gone.now (installed_by installs command.now)) tx.old.conn.now tx.new.conn.now) }
+    ensures failed { HasCleanDisk (seen S.Store tx.new) → IfErr result (FailsInTurn S.Store (exchanging gone.now (installed_by installs command.now)) tx.old.conn.now tx.new.conn.now) }
     ensures keeps { HasCleanDisk (seen S.Store tx.new) → KeepsCommit (seen S.Store tx.old) (seen S.Store tx.new) }
     ensures survives { Survives (seen S.Store tx.old) (seen S.Store tx.new) (λ _. ⊥) }
 {
@@ -69,7 +73,8 @@ fn add_reply<S: Alter>(tx: &mut Transaction<'_, S>, id: &str, reply: &Kept) -> R
     ensures turns { HasCleanDisk (seen S.Store tx.new) → OnOk result (Turns (with_reply (record { id = id.now; reply = kept_shown reply.now })) (seen S.Store tx.old).now (seen S.Store tx.new).now) }
     ensures sound { HasCleanDisk (seen S.Store tx.new) → OnOk result (IsDatabase (seen S.Store tx.new).now) }
     ensures inside { HasCleanDisk (seen S.Store tx.new) → OnOk result ((seen S.Store tx.new).in_transaction ≡ true) }
-    ensures failed { HasCleanDisk (seen S.Store tx.new) → IfErr result (FailsWithin S.Store tx.old.conn.now tx.new.conn.now) }
+    ensures ran { HasCleanDisk (seen S.Store tx.new) → OnOk result (RunInTurn S.Store (replying (record { id = id.now; reply = kept_shown reply.now })) tx.old.conn.now tx.new.conn.now) }
+    ensures failed { HasCleanDisk (seen S.Store tx.new) → IfErr result (FailsInTurn S.Store (replying (record { id = id.now; reply = kept_shown reply.now })) tx.old.conn.now tx.new.conn.now) }
     ensures keeps { HasCleanDisk (seen S.Store tx.new) → KeepsCommit (seen S.Store tx.old) (seen S.Store tx.new) }
     ensures survives { Survives (seen S.Store tx.old) (seen S.Store tx.new) (λ _. ⊥) }
 {
@@ -88,9 +93,10 @@ pub(crate) fn write_all<S: Alter>(
     requires writable { IsWritable change.now }
     requires usable { WhileOpen (seen S.Store tx.old) IsUsable }
     ensures same_reference { tx.new.conn.ghost_name ≡ tx.old.conn.ghost_name }
-    ensures made { HasCleanDisk (seen S.Store tx.new) → OnOk result (Turns (tables_after 1 (change_by id.now command.now change.now)) (seen S.Store tx.old).now (seen S.Store tx.new).now × IsDatabase (seen S.Store tx.new).now) }
+    ensures made { HasCleanDisk (seen S.Store tx.new) → OnOk result (Turns (tables_after known (change_by id.now command.now change.now)) (seen S.Store tx.old).now (seen S.Store tx.new).now × IsDatabase (seen S.Store tx.new).now) }
     ensures inside { HasCleanDisk (seen S.Store tx.new) → OnOk result ((seen S.Store tx.new).in_transaction ≡ true) }
-    ensures failed { HasCleanDisk (seen S.Store tx.new) → IfErr result (FailsWithin S.Store tx.old.conn.now tx.new.conn.now) }
+    ensures ran { HasCleanDisk (seen S.Store tx.new) → OnOk result (RunInTurn S.Store (statements_of known (change_by id.now command.now change.now)) tx.old.conn.now tx.new.conn.now) }
+    ensures failed { HasCleanDisk (seen S.Store tx.new) → IfErr result (FailsInTurn S.Store (statements_of known (change_by id.now command.now change.now)) tx.old.conn.now tx.new.conn.now) }
     ensures keeps { HasCleanDisk (seen S.Store tx.new) → KeepsCommit (seen S.Store tx.old) (seen S.Store tx.new) }
     ensures survives { Survives (seen S.Store tx.old) (seen S.Store tx.new) (λ _. ⊥) }
 {

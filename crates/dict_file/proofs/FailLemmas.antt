@@ -21,7 +21,8 @@ use Rattle.dict_catalogue.specs.Steps.{Catalogue}
 use Rattle.dict_desk.specs.declared.fault.Fault.{Fault}
 use Rattle.dict_desk.specs.declared.fault.Fault.TheVariants.{Refused, Memory, Disk, Closed, NotACatalogue, Damaged, NewerSchema}
 use Rattle.dict_file.specs.Faults.{fault_of, fault_of_read, IsUnread, FailsToLookUp}
-use Rattle.dict_file.specs.Holds.{Holds, HoldsNone}
+use Rattle.dict_file.specs.Holds.{Holds, HoldsNoneAs}
+use Rattle.dict_rows.specs.Versions.{known}
 
 pub read_fails : (old new : State) (e : Error) → FailsToRead old new e → FailsToLookUp old new (fault_of e)
 read_fails old new e (inl fails) = inr (e, refl, fails)
@@ -32,7 +33,7 @@ module _ (a b c : State) (same : IsUnchanged a b) (survives : Survives a b (λ _
   unread_behind (Refused refusal) h = h
   unread_behind Memory h = tt
   unread_behind Disk (inl limit) = inl (subst IsSome survives.limit limit)
-  unread_behind Disk (inr none) = inr (subst HoldsNone same.0.now_is none)
+  unread_behind Disk (inr none) = inr (subst (HoldsNoneAs known) same.0.now_is none)
   unread_behind Closed h = h
   unread_behind NotACatalogue h = h
   unread_behind Damaged h = h
@@ -73,7 +74,7 @@ all_contains : {X : Type 0} (P : X → Type 0) (xs : List X) (x : X) → AllByRe
 all_contains P xs x all h = subst P h.2 (All-from_recursion P xs all h.0 x h.1)
 
 -- some rows of a table could not be read, each of which stands for a record in a catalogue
-pub list_fails : (name : List ℕ) (test : Row → Bool) (columns : List Content) (old new : State) → ((M : Catalogue) → Holds 1 old.now M → AllByRecursion (HasColumns columns) (rows_of name old.now))
+pub list_fails : (name : List ℕ) (test : Row → Bool) (columns : List Content) (old new : State) → ((M : Catalogue) → Holds known old.now M → AllByRecursion (HasColumns columns) (rows_of name old.now))
     → (e : ReadError) → FailsToList columns (filter test (rows_of name old.now)) old new e → FailsToLookUp old new (fault_of_read e)
 list_fails name test columns old new readable NoRecord h =
     inl (h.0, inr (λ M holds. h.1.2 (all_contains (HasColumns columns) (filter test (rows_of name old.now)) h.1.0 (all_filter (HasColumns columns) test (rows_of name old.now) (readable M holds)) h.1.1)))

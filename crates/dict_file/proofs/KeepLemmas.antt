@@ -18,7 +18,10 @@ use Rattle.dict_sql.proofs.Callers.{apart_added, apart_none}
 use Rattle.dict_catalogue.specs.Steps.{empty_catalogue}
 use Rattle.dict_catalogue.proofs.WellFormedLemmas.{empty_well_formed}
 use Rattle.dict_rows.specs.Written.{mark_record}
-use Rattle.dict_file.specs.Holds.{Keeps, KeepsAll, Holds}
+use Rattle.dict_rows.specs.Versions.{known, Plain}
+use Rattle.dict_file.specs.Holds.{Keeps, KeepsPlain, HasLayout, HasPlace, Holds}
+use Rattle.dict_file.proofs.ReadingLemmas.{kept_plain}
+use Rattle.dict_file.proofs.PlaceLemmas.{later_room}
 
 at_place : {X : Type 0} (P : X → Type 0) (xs : List X) (at : ℕ) (x : X) → AllByRecursion P xs → slice_get xs at ≡ Some x → P x
 at_place P [] at x h e = absurd (cc)
@@ -69,8 +72,8 @@ keeps_added name encode old new records r one k = record {
 letter_apart : (at m n : ℕ) (a b : List ℕ) → unwrap_or (slice_get a at) 0 ≡ m → unwrap_or (slice_get b at) 0 ≡ n → (m ≡ n → ⊥) → a ≢ b
 letter_apart at m n a b is has apart e = apart (sym is ∙ ap (λ l. unwrap_or (slice_get l at) 0) e ∙ has)
 
-pub marked : (before old new : Database) → AreMade store_tables before old → IsAdded (codes "mark") (mark_row (mark_record 1 0)) old new → Holds 1 new empty_catalogue
-marked before old new made one =
+pub marked : (before old new : Database) → HasPlace before.schema → AreMade store_tables before old → IsAdded (codes "mark") (mark_row (mark_record known 0)) old new → Holds known new empty_catalogue
+marked before old new place made one =
     let own = made.own in
     let empty = made.empty in
     let item_none : rows_of (codes "item") new ≡ [] = unmoved (codes "mark") (codes "item") mark item old new (λ t. refl) (λ t. refl) (λ t. refl) (letter_apart 0 109 105 (codes "mark") (codes "item") refl refl (λ e. absurd (omega arith))) own.0 own.1.0 one.schema one.others ∙ empty.1.0 in
@@ -79,15 +82,15 @@ marked before old new made one =
     let entry_none : rows_of (codes "entry") new ≡ [] = unmoved (codes "mark") (codes "entry") mark entry old new (λ t. refl) (λ t. refl) (λ t. refl) (letter_apart 0 109 101 (codes "mark") (codes "entry") refl refl (λ e. absurd (omega arith))) own.0 own.1.1.1.1.0 one.schema one.others ∙ empty.1.1.1.1.0 in
     let kept_none : rows_of (codes "kept") new ≡ [] = unmoved (codes "mark") (codes "kept") mark kept old new (λ t. refl) (λ t. refl) (λ t. refl) (letter_apart 0 109 107 (codes "mark") (codes "kept") refl refl (λ e. absurd (omega arith))) own.0 own.1.1.1.1.1.0 one.schema one.others ∙ empty.1.1.1.1.1.0 in
     record {
-      own = subst (λ (s : Schema). AllByRecursion (λ t. HasOwn s (table_of t)) store_tables) (sym one.schema) own;
-      tables = record { marks = mark_record 1 0 ∷ []; items = []; members = []; editions = []; entries = []; kept = [] };
-      keeps = record {
-        marks = keeps_added (codes "mark") mark_row old new [] (mark_record 1 0) one (keeps_none (codes "mark") mark_row old empty.0);
+      own = subst (HasLayout Plain) (sym one.schema) (record { tables = own; indexes = tt; room = later_room store_tables before old made.in_turn place.room.counted place.later });
+      tables = record { marks = mark_record known 0 ∷ []; items = []; members = []; editions = []; entries = []; kept = [] };
+      keeps = kept_plain new (record { marks = mark_record known 0 ∷ []; items = []; members = []; editions = []; entries = []; kept = [] }) (record {
+        marks = keeps_added (codes "mark") mark_row old new [] (mark_record known 0) one (keeps_none (codes "mark") mark_row old empty.0);
         items = keeps_none (codes "item") item_row new item_none;
         members = keeps_none (codes "member") member_row new member_none;
         editions = keeps_none (codes "edition") edition_row new edition_none;
         entries = keeps_none (codes "entry") entry_row new entry_none;
         kept = keeps_none (codes "kept") kept_row new kept_none;
-      };
+      });
       stands = record { well_formed = empty_well_formed; marks = refl; items = refl; members = tt; owners = tt; editions = tt; numbers = tt; entries = tt; kept = refl };
     }

@@ -1,3 +1,5 @@
+pub mod ReadingLemmas
+pub mod PlaceLemmas
 pub mod KeepLemmas
 pub mod CommitLemmas
 pub mod ReadLemmas

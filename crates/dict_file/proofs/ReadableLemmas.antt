@@ -30,7 +30,10 @@ use Rattle.dict_rows.specs.Written.{numbered, item_record, member_record, entry_
 use Rattle.dict_rows.specs.Stands.{HoldsMembers, HoldsEdition, HoldsEditions, has_number, Stands}
 use Rattle.dict_rows.proofs.OrderLemmas.{IsIn, in_all, all_same, all_with, passed_in}
 use Rattle.dict_rows.proofs.TakenLemmas.{same_number_is, same_itself}
-use Rattle.dict_file.specs.Holds.{Keeps, Holds, HasReadableRows}
+use Rattle.dict_file.specs.Holds.{Keeps, Holds}
+use Rattle.dict_file.specs.Readings.{HasReadableRows}
+use Rattle.dict_file.proofs.ReadingLemmas.{plain_of}
+use Rattle.dict_rows.specs.Versions.{Plain, layout_of}
 
 -- ---- texts of ASCII
 
@@ -306,14 +309,25 @@ reply_rows version tables M s = subst (AllByRecursion KeptRow) (sym s.kept) (all
 pub few_entries : (version : ℕ) (db : Database) (M : Catalogue) (h : Holds version db M) (number : ℤ) → AreFew h.tables number
 few_entries version db M h number = few_of version h.tables M h.stands number (has_number M.items number) refl
 
-pub held_rows : (db : Database) (M : Catalogue) → Holds 1 db M → HasReadableRows db
-held_rows db M h =
+pub held_rows : (version : ℕ) (db : Database) (M : Catalogue) → layout_of version ≡ Plain → Holds version db M → HasReadableRows Plain db
+held_rows version db M is h =
     let tables = h.tables in
-    record {
-      marks = kept_rows (codes "mark") mark_row mark_values db tables.marks h.keeps.marks (mark_rows 1 tables M h.stands);
-      items = kept_rows (codes "item") item_row item_values db tables.items h.keeps.items (item_rows 1 tables M h.stands);
-      members = kept_rows (codes "member") member_row member_values db tables.members h.keeps.members (member_rows 1 tables M h.stands);
-      editions = kept_rows (codes "edition") edition_row edition_values db tables.editions h.keeps.editions (edition_rows 1 tables M h.stands);
-      entries = kept_rows (codes "entry") entry_row entry_values db tables.entries h.keeps.entries (entry_rows 1 tables M h.stands);
-      kept = kept_rows (codes "kept") kept_row kept_values db tables.kept h.keeps.kept (reply_rows 1 tables M h.stands);
-    }
+    let keeps = plain_of version db M is h in (
+      kept_rows (codes "mark") mark_row mark_values db tables.marks keeps.marks (mark_rows version tables M h.stands),
+      (
+        kept_rows (codes "item") item_row item_values db tables.items keeps.items (item_rows version tables M h.stands),
+        (
+          kept_rows (codes "member") member_row member_values db tables.members keeps.members (member_rows version tables M h.stands),
+          (
+            kept_rows (codes "edition") edition_row edition_values db tables.editions keeps.editions (edition_rows version tables M h.stands),
+            (
+              kept_rows (codes "entry") entry_row entry_values db tables.entries keeps.entries (entry_rows version tables M h.stands),
+              (
+                kept_rows (codes "kept") kept_row kept_values db tables.kept keeps.kept (reply_rows version tables M h.stands),
+                tt,
+              ),
+            ),
+          ),
+        ),
+      ),
+    )

@@ -8,7 +8,8 @@ use Rattle.dict_sql.specs.declared.records.ReadError.{ReadError}
 use Rattle.dict_sql.specs.declared.records.ReadError.TheVariants.{NoRecord, Store}
 use Rattle.dict_desk.specs.declared.fault.Fault.{Fault}
 use Rattle.dict_desk.specs.declared.fault.Fault.TheVariants.{Refused, Memory, Disk, Closed, NotACatalogue, Damaged, NewerSchema}
-use Rattle.dict_file.specs.Holds.{HoldsNone}
+use Rattle.dict_rows.specs.Versions.{known}
+use Rattle.dict_file.specs.Holds.{HoldsNoneAs}
 
 -- refused memory, or the store failed
 abbrev pub fault_of : Error → Fault
@@ -21,11 +22,11 @@ fault_of_read NoRecord = Disk
 fault_of_read (Store e) = fault_of e
 
 -- Why a call that reads fails though its store doesn't: a growth was refused; or the limit on steps was met, or what is
--- read is no catalogue's.
+-- read is no catalogue's, under the known version.
 abbrev pub IsUnread : State → Fault → Type 0
 IsUnread old (Refused refusal) = ⊥
 IsUnread old Memory = Unit {0}
-IsUnread old Disk = IsSome old.step_limit ⊎ HoldsNone old.now
+IsUnread old Disk = IsSome old.step_limit ⊎ HoldsNoneAs known old.now
 IsUnread old Closed = ⊥
 IsUnread old NotACatalogue = ⊥
 IsUnread old Damaged = ⊥

@@ -1,4 +1,4 @@
--- Which catalogue a database stands for.
+-- Which catalogue a database stands for, under which version.
 use Rattle.std.specs.Prelude.{◌≡◌, ℕ, false, IsTrue, List, map, drop, codes, IsPermutation}
 use Rattle.std.specs.List.{AllByRecursion}
 use Rattle.sqlite.specs.Effect.{Database, IsDatabase}
@@ -7,23 +7,26 @@ use Rattle.sqlite.specs.Tree.{Trees}
 use Rattle.sqlite.specs.State.{State}
 use Rattle.sqlite.specs.Schema.{Schema}
 use Rattle.dict_tables.specs.Found.{HasOwn}
-use Rattle.dict_tables.specs.Tables.{table_of, store_tables}
+use Rattle.dict_tables.specs.Indexes.{HasIndex}
 use Rattle.dict_tables.specs.Names.{has_prefixed}
 use Rattle.dict_tables.specs.Room.{HasRoom}
 use Rattle.dict_sql.specs.Effects.{HasApartRowids, rows_of}
-use Rattle.dict_sql.specs.Columns.{HasColumns, mark_columns, item_columns, member_columns, edition_columns, entry_columns, kept_columns}
 use Rattle.dict_sql.specs.Encodings.{mark_row, item_row, member_row, edition_row, entry_row, kept_row}
 use Rattle.dict_catalogue.specs.Steps.{Catalogue}
+use Rattle.dict_rows.specs.Versions.{Layout, layout_of, IsVersion}
 use Rattle.dict_rows.specs.Tables.{Tables}
 use Rattle.dict_rows.specs.Stands.{Stands}
+use Rattle.dict_derived.specs.AllTables.{with_derived}
+use Rattle.dict_file.specs.Readings.{KeepsAll, tables_of, indexes_of}
+use Rattle.dict_file.specs.Room.{MayBecomeShown, HasLaterRoom}
 
 -- a table has a row for each of these records and no others, in no order that counts, and no two under one rowid
 pub record Keeps {R : Type 0} (name : List ℕ) (encode : R → Row) (db : Database) (records : List R) : Type 0 where
   pub rows : IsPermutation (map encode records) (map (drop 1) (rows_of name db))
   pub apart : HasApartRowids (rows_of name db)
 
--- each table has the rows of its records
-pub record KeepsAll (db : Database) (tables : Tables) : Type 0 where
+-- the tables of a version without keys, each with the rows of its records
+pub record KeepsPlain (db : Database) (tables : Tables) : Type 0 where
   pub marks : Keeps (codes "mark") mark_row db tables.marks
   pub items : Keeps (codes "item") item_row db tables.items
   pub members : Keeps (codes "member") member_row db tables.members
@@ -31,37 +34,50 @@ pub record KeepsAll (db : Database) (tables : Tables) : Type 0 where
   pub entries : Keeps (codes "entry") entry_row db tables.entries
   pub kept : Keeps (codes "kept") kept_row db tables.kept
 
--- the database has the product's tables, and the records that they keep stand for the catalogue
+-- the tables and indexes of a layout are there, and beside an older one there is room for those of the last
+pub record HasLayout (layout : Layout) (schema : Schema) : Type 0 where
+  pub tables : AllByRecursion (HasOwn schema) (tables_of layout)
+  pub indexes : AllByRecursion (HasIndex schema) (indexes_of layout)
+  pub room : MayBecomeShown layout schema
+
+-- The database has the product's tables, as this version lays them out; and the records that they keep, with what is derived
+-- of them where it is looked at, stand for the catalogue.
 pub record Holds (version : ℕ) (db : Database) (M : Catalogue) : Type 0 where
-  pub own : AllByRecursion (λ t. HasOwn db.schema (table_of t)) store_tables
+  pub own : HasLayout (layout_of version) db.schema
   pub tables : Tables
-  pub keeps : KeepsAll db tables
+  pub keeps : KeepsAll (layout_of version) db (with_derived tables)
   pub stands : Stands version tables M
 
--- the database holds no catalogue
+-- the database holds the catalogue under a version that is known
+pub record IsHeld (db : Database) (M : Catalogue) : Type 0 where
+  pub version : ℕ
+  pub known : IsVersion version
+  pub holds : Holds version db M
+
+-- the database holds no catalogue under this version
+abbrev pub HoldsNoneAs : ℕ → Database → Type 0
+HoldsNoneAs version db = (M : Catalogue) → Holds version db M → ⊥
+
+-- the database holds no catalogue, under no version that is known
 abbrev pub HoldsNone : Database → Type 0
-HoldsNone db = (M : Catalogue) → Holds 1 db M → ⊥
+HoldsNone db = (M : Catalogue) → IsHeld db M → ⊥
 
--- each row of each table stands for a record: above all, each text is UTF-8
-pub record HasReadableRows (db : Database) : Type 0 where
-  pub marks : AllByRecursion (HasColumns mark_columns) (rows_of (codes "mark") db)
-  pub items : AllByRecursion (HasColumns item_columns) (rows_of (codes "item") db)
-  pub members : AllByRecursion (HasColumns member_columns) (rows_of (codes "member") db)
-  pub editions : AllByRecursion (HasColumns edition_columns) (rows_of (codes "edition") db)
-  pub entries : AllByRecursion (HasColumns entry_columns) (rows_of (codes "entry") db)
-  pub kept : AllByRecursion (HasColumns kept_columns) (rows_of (codes "kept") db)
-
--- the store is open, what it shows is committed, and holds the catalogue
+-- the store is open, what it shows is committed, and holds the catalogue, under this version
 pub record Rests (version : ℕ) (s : State) (M : Catalogue) : Type 0 where
   pub is_open : IsTrue s.is_open
   pub settled : s.now ≡ s.committed
   pub holds : Holds version s.committed M
 
--- trees that a stop may leave, from which the catalogue is opened again
-abbrev pub IsLeft : ℕ → Catalogue → Trees → Type 0
-IsLeft version M trees = (db : Database) × (trees ≡ db.trees) × IsDatabase db × Holds version db M
+-- trees that a stop may leave, from which the catalogue is opened again: as those of this version
+abbrev pub IsLeftAs : ℕ → Catalogue → Trees → Type 0
+IsLeftAs version M trees = (db : Database) × (trees ≡ db.trees) × IsDatabase db × Holds version db M
 
--- there is room for all tables, and no name begins as those that are kept for the product
+-- and as those of any that is known
+abbrev pub IsLeft : Catalogue → Trees → Type 0
+IsLeft M trees = (db : Database) × (trees ≡ db.trees) × IsDatabase db × IsHeld db M
+
+-- there is room for all tables, and for those that come later, and no name begins as those that are kept for the product
 pub record HasPlace (schema : Schema) : Type 0 where
   pub room : HasRoom schema
   pub unprefixed : has_prefixed schema ≡ false
+  pub later : HasLaterRoom schema

@@ -1,3 +1,5 @@
+pub mod Readings
+pub mod Room
 pub mod Holds
 pub mod Faults
 pub mod Writing

@@ -4,7 +4,9 @@
 mod fault;
 mod laws;
 mod making;
+mod room;
 
 pub use fault::fault_of;
-pub use laws::read_in_order;
+pub use laws::{plain_records, read_in_order};
 pub use making::create;
+pub use room::may_become_shown;

@@ -1,19 +1,24 @@
 // A store is made in a database.
-ghost use Rattle.std.specs.Prelude.{◌≡◌, ◌≢◌, ◌↔◌, true, false, IsTrue, IfErr, OnOk, OnErr, Err};
+ghost use Rattle.std.specs.Prelude.{◌≡◌, ◌≢◌, ◌↔◌, [], ◌∷◌, codes, true, false, IsTrue, IfErr, OnOk, OnErr, Err};
 ghost use Rattle.sqlite.specs.Effect.{Database, IsDatabase};
 ghost use Rattle.sqlite.specs.State.{HasCleanDisk, KeepsCommit, Survives};
 ghost use Rattle.sqlite.specs.Held.{state};
 ghost use Rattle.dict_tables.specs.Tables.{mark, store_tables};
 ghost use Rattle.dict_sql.specs.Effects.{Has, WhileOpen, seen};
 ghost use Rattle.dict_sql.specs.Creates.{AreMade, IsReady};
+ghost use Rattle.dict_sql.specs.Encodings.{mark_row as row_of_mark};
+ghost use Rattle.dict_sql.specs.Statements.{add, RunInTurn, FailsInTurn};
+ghost use Rattle.dict_rows.specs.Written.{mark_record};
+ghost use Rattle.dict_rows.specs.Versions.{known};
 ghost use Rattle.dict_catalogue.specs.Steps.{empty_catalogue};
 ghost use Rattle.dict_desk.specs.Faults.{is_disk};
-ghost use Rattle.dict_file.specs.Holds.{Holds, Rests, IsLeft, HasPlace};
-ghost use Rattle.dict_file.specs.Writing.{Stays, FailsWithin, FailsToEnd, IsOfCreation};
+ghost use Rattle.dict_file.specs.Holds.{Holds, Rests, IsLeftAs, HasPlace};
+ghost use Rattle.dict_file.specs.Writing.{Stays, creation, FailsToEnd, IsOfCreation};
 
 use crate::fault::fault_of;
+use crate::room::has_later_room;
 use dict_desk::Fault;
-use dict_rows::mark_row;
+use dict_rows::{KNOWN_VERSION, mark_row};
 use dict_sql::commit::commit;
 use dict_sql::create::create_tables;
 use dict_sql::insert::insert_mark;
@@ -21,32 +26,32 @@ use dict_tables::{has_room, is_own_name_used};
 use sqlite::{Alter, Connection, Error, Transaction};
 use sqlite_schema::schema::Schema;
 
-/// The version of the schema that is made.
-const VERSION: u64 = 1;
-
 /// Adds the mark of the empty catalogue to the tables that were made.
 fn add_mark<S: Alter>(tx: &mut Transaction<'_, S>) -> Result<(), Error>
     requires { WhileOpen (seen S.Store tx.old) (Has mark) }
     ensures same_reference { tx.new.conn.ghost_name ≡ tx.old.conn.ghost_name }
-    ensures marked { HasCleanDisk (seen S.Store tx.new) → OnOk result ((before : Database) → AreMade store_tables before (seen S.Store tx.old).now → Holds 1 (seen S.Store tx.new).now empty_catalogue) }
+    ensures marked { HasCleanDisk (seen S.Store tx.new) → OnOk result ((before : Database) → HasPlace before.schema → AreMade store_tables before (seen S.Store tx.old).now → Holds known (seen S.Store tx.new).now empty_catalogue) }
     ensures sound { HasCleanDisk (seen S.Store tx.new) → OnOk result (IsDatabase (seen S.Store tx.new).now) }
     ensures inside { HasCleanDisk (seen S.Store tx.new) → OnOk result ((seen S.Store tx.new).in_transaction ≡ true) }
-    ensures failed { HasCleanDisk (seen S.Store tx.new) → IfErr result (FailsWithin S.Store tx.old.conn.now tx.new.conn.now) }
+    ensures ran { HasCleanDisk (seen S.Store tx.new) → OnOk result (RunInTurn S.Store (add (codes "mark") (row_of_mark (mark_record known 0)) ∷ []) tx.old.conn.now tx.new.conn.now) }
+    ensures failed { HasCleanDisk (seen S.Store tx.new) → IfErr result (FailsInTurn S.Store (add (codes "mark") (row_of_mark (mark_record known 0)) ∷ []) tx.old.conn.now tx.new.conn.now) }
     ensures keeps { HasCleanDisk (seen S.Store tx.new) → KeepsCommit (seen S.Store tx.old) (seen S.Store tx.new) }
     ensures survives { Survives (seen S.Store tx.old) (seen S.Store tx.new) (λ _. ⊥) }
 {
-    let mark = mark_row(VERSION, 0);
+    let mark = mark_row(KNOWN_VERSION, 0);
     insert_mark(tx, &mark)?;
     Ok(())
 }
 
 /// Makes the tables, with the mark of the empty catalogue.
 fn make_all<S: Alter>(tx: &mut Transaction<'_, S>) -> Result<(), Error>
-    requires { WhileOpen (seen S.Store tx.old) IsReady }
+    requires ready { WhileOpen (seen S.Store tx.old) IsReady }
+    requires place { WhileOpen (seen S.Store tx.old) (λ db. HasPlace db.schema) }
     ensures same_reference { tx.new.conn.ghost_name ≡ tx.old.conn.ghost_name }
-    ensures made { HasCleanDisk (seen S.Store tx.new) → OnOk result (Holds 1 (seen S.Store tx.new).now empty_catalogue × IsDatabase (seen S.Store tx.new).now) }
+    ensures made { HasCleanDisk (seen S.Store tx.new) → OnOk result (Holds known (seen S.Store tx.new).now empty_catalogue × IsDatabase (seen S.Store tx.new).now) }
     ensures inside { HasCleanDisk (seen S.Store tx.new) → OnOk result ((seen S.Store tx.new).in_transaction ≡ true) }
-    ensures failed { HasCleanDisk (seen S.Store tx.new) → IfErr result (FailsWithin S.Store tx.old.conn.now tx.new.conn.now) }
+    ensures ran { HasCleanDisk (seen S.Store tx.new) → OnOk result (RunInTurn S.Store (creation known) tx.old.conn.now tx.new.conn.now) }
+    ensures failed { HasCleanDisk (seen S.Store tx.new) → IfErr result (FailsInTurn S.Store (creation known) tx.old.conn.now tx.new.conn.now) }
     ensures keeps { HasCleanDisk (seen S.Store tx.new) → KeepsCommit (seen S.Store tx.old) (seen S.Store tx.new) }
     ensures survives { Survives (seen S.Store tx.old) (seen S.Store tx.new) (λ _. ⊥) }
 {
@@ -54,33 +59,33 @@ fn make_all<S: Alter>(tx: &mut Transaction<'_, S>) -> Result<(), Error>
     add_mark(tx)
 }
 
-/// Whether all tables can be made, and no name is in use that is kept for the product.
+/// Whether all tables can be made, now and later, and no name is in use that is kept for the product.
 fn has_place(schema: &Schema) -> bool
     ensures { IsTrue result ↔ HasPlace schema.now }
 {
-    has_room(schema) && !is_own_name_used(schema)
+    has_room(schema) && !is_own_name_used(schema) && has_later_room(schema)
 }
 
 /// Makes the tables of the empty catalogue in a database that has none of them, by one commit.
 ///
-/// `NotACatalogue` tells that there is no place for them: one of their names is in use, or a name that is kept for the
-/// product, or a table waits for its counter. `Memory` tells that a growth was refused before the commit. After both all
+/// `NotACatalogue` tells that there is no place for them: one of their names is in use, or one of those that come later, or a
+/// name that is kept for the product, or a table waits for its counter. `Memory` tells that a growth was refused before the commit. After both all
 /// is as it was. `Disk` tells that a statement failed for another cause, or that the commit did for any: once the file is
 /// opened anew, the tables are there whole or not at all. These are all faults of it.
 pub fn create<S: Alter>(conn: &mut Connection<S>) -> Result<(), Fault>
     requires { conn.old.in_transaction ≡ false }
-    ensures rests { HasCleanDisk (state S.Store conn.new) → OnOk result (Rests 1 (state S.Store conn.new) empty_catalogue) }
-    ensures only { HasCleanDisk (state S.Store conn.new) → OnOk result ((trees : _) → (state S.Store conn.new).may_leave trees → IsLeft 1 empty_catalogue trees) }
+    ensures rests { HasCleanDisk (state S.Store conn.new) → OnOk result (Rests known (state S.Store conn.new) empty_catalogue) }
+    ensures only { HasCleanDisk (state S.Store conn.new) → OnOk result ((trees : _) → (state S.Store conn.new).may_leave trees → IsLeftAs known empty_catalogue trees) }
     ensures place { OnOk result (HasPlace (state S.Store conn.old).now.schema) }
     ensures no_place { (result ≡ Err Fault.NotACatalogue) ↔ (HasPlace (state S.Store conn.old).now.schema → ⊥) }
     ensures unchanged { result ≡ Err Fault.NotACatalogue → conn.new ≡ conn.old }
     ensures adds_none { IfErr result (λ fault. is_disk fault ≡ false → Survives (state S.Store conn.old) (state S.Store conn.new) (λ _. ⊥)) }
     ensures undone { HasCleanDisk (state S.Store conn.new) → IfErr result (λ fault. is_disk fault ≡ false → IsTrue (state S.Store conn.new).is_open → (state S.Store conn.new).committed ≡ (state S.Store conn.old).committed) }
     ensures stays { HasCleanDisk (state S.Store conn.new) → OnErr result (Stays (state S.Store conn.old) (state S.Store conn.new)) }
-    ensures failed { HasCleanDisk (state S.Store conn.new) → IfErr result (λ fault. fault ≢ Fault.NotACatalogue → FailsToEnd S.Store (λ db. Holds 1 db empty_catalogue) conn.old conn.new fault) }
+    ensures failed { HasCleanDisk (state S.Store conn.new) → IfErr result (λ fault. fault ≢ Fault.NotACatalogue → FailsToEnd S.Store (creation known) (λ db. Holds known db empty_catalogue) conn.old conn.new fault) }
     ensures kinds { IfErr result IsOfCreation }
     ensures autocommit { (state S.Store conn.new).in_transaction ≡ false }
-    ensures crash { Survives (state S.Store conn.old) (state S.Store conn.new) (IsLeft 1 empty_catalogue) }
+    ensures crash { Survives (state S.Store conn.old) (state S.Store conn.new) (IsLeftAs known empty_catalogue) }
 {
     if !has_place(conn.schema()) {
         return Err(Fault::NotACatalogue);

@@ -43,10 +43,12 @@ use Rattle.dict_rows.specs.Stands.{HoldsEdition, HoldsEditions}
 use Rattle.dict_rows.specs.Order.{InOrder}
 use Rattle.dict_rows.proofs.TakenLemmas.{same_number_is, same_itself}
 use Rattle.dict_rows.proofs.OrderLemmas.{same_from, ordered_once, one_once, numbered_rise}
+use Rattle.dict_rows.specs.Versions.{known}
 use Rattle.dict_desk.specs.Shown.{HasEdition}
 use Rattle.dict_file.specs.Holds.{Keeps, Holds}
 use Rattle.dict_file.proofs.ReadLemmas.{sorted_order, one_le}
 use Rattle.dict_lookup.specs.Lookups.{HoldsOne, number_in, text_in, entry_in}
+use Rattle.dict_file.proofs.ReadingLemmas.{plain_of}
 
 all_same : {X : Type 0} (P : X → Type 0) (xs ys : List X) → IsPermutation xs ys → AllByRecursion P xs → AllByRecursion P ys
 all_same P xs ys same h = recursion_from_All P ys (All-permutation P xs ys same (All-from_recursion P xs h))
@@ -202,7 +204,7 @@ how_many_few test (x ∷ xs) = by_test (test x) (how_many_few test xs)
 number_all : {A : Type 0} (P : ℕ → Type 0) (stored : List (Stored A)) (one : Stored A) → AllByRecursion P (map (λ s. s.number) stored) → Contains stored one → P one.number
 number_all P stored one all at = all_contains (λ s. P s.number) stored one (all_unmapped P (λ s. s.number) stored all) at
 
-pub held_one : (db : Database) (M : Catalogue) (number : ℕ) (edition : AnEdition) → Holds 1 db M → HasEdition M number edition → (reading : ReadEdition) × HoldsOne db number reading × (edition ≡ edition_of reading)
+pub held_one : (db : Database) (M : Catalogue) (number : ℕ) (edition : AnEdition) → Holds known db M → HasEdition M number edition → (reading : ReadEdition) × HoldsOne db number reading × (edition ≡ edition_of reading)
 held_one db M number edition holds has =
     let held : HoldsEditions holds.tables has.item = all_contains (HoldsEditions holds.tables) M.items has.item holds.stands.editions has.stands in
     let one : HoldsEdition holds.tables (name_of has.item) (record { number = number; content = edition }) = all_contains (HoldsEdition holds.tables (name_of has.item)) (editions_of has.item) (record { number = number; content = edition }) held has.stored in
@@ -218,8 +220,8 @@ held_one db M number edition holds has =
         owner = name_of has.item;
         editions = holds.tables.editions;
         entries = holds.tables.entries;
-        keeps_editions = holds.keeps.editions;
-        keeps_entries = holds.keeps.entries;
+        keeps_editions = (plain_of known db M refl holds).editions;
+        keeps_entries = (plain_of known db M refl holds).entries;
         row = one.row;
         lines = one.entries;
       },

@@ -19,20 +19,22 @@ use Rattle.dict_index.specs.Edition.{ReadEdition}
 use Rattle.dict_catalogue.specs.Steps.{Catalogue}
 use Rattle.dict_rows.specs.Written.{numbered, entry_record}
 use Rattle.dict_rows.proofs.OrderLemmas.{all_same}
+use Rattle.dict_rows.specs.Versions.{known}
 use Rattle.dict_file.specs.Faults.{fault_of, IsUnread}
 use Rattle.dict_file.specs.Holds.{Holds}
 use Rattle.dict_file.proofs.FailLemmas.{read_fails}
 use Rattle.dict_file.proofs.ReadableLemmas.{held_rows, few_entries}
 use Rattle.dict_lookup.specs.Lookups.{HoldsOne, FailsToLookUp, IsReading, IsToCome, fault_of_read, entry_in}
 use Rattle.dict_lookup.proofs.RecordLemmas.{entries_read}
+use Rattle.dict_file.proofs.ReadingLemmas.{plain_of}
 
 tails_same : {X : Type 0} (x y : X) (xs ys : List X) → x ∷ xs ≡ y ∷ ys → xs ≡ ys
 tails_same x y xs ys e = cc
 
 -- the row that was read is one that stands for a record
-row_read : (db : Database) (M : Catalogue) → Holds 1 db M → (number : ℤ) (given : List Row) (row : Row) → IsFront (EntriesOf number) db (given ++ row ∷ []) → HasColumns entry_columns row
+row_read : (db : Database) (M : Catalogue) → Holds known db M → (number : ℤ) (given : List Row) (row : Row) → IsFront (EntriesOf number) db (given ++ row ∷ []) → HasColumns entry_columns row
 row_read db M holds number given row front =
-    let all = all_filter (HasColumns entry_columns) (equals_number 1 number) (rows_of (codes "entry") db) (held_rows db M holds).entries in
+    let all = all_filter (HasColumns entry_columns) (equals_number 1 number) (rows_of (codes "entry") db) (held_rows known db M refl holds).1.1.1.1.0 in
     (all_append_parts (HasColumns entry_columns) given (row ∷ []) (all_append_parts (HasColumns entry_columns) (given ++ row ∷ []) front.0 (all_same (HasColumns entry_columns) _ _ front.1.same all)).0).1.0
 
 length_numbered : {X Y : Type 0} (f : ℕ → X → Y) (place : ℕ) (xs : List X) → length (numbered f place xs) ≡ length xs
@@ -57,14 +59,14 @@ module _ {S : Type 0} (g : Ghosts S) where
   begun_reading h number is_open given = record { is_open = is_open; number = number; given = []; has_given = given }
 
   -- the entries of a catalogue's edition that are to come
-  pub some_to_come : (h : Held S) → IsReading g h → (M : Catalogue) → Holds 1 (state g h).now M → (all : List Entry) × IsToCome g h all × (length all ≤ 65535)
+  pub some_to_come : (h : Held S) → IsReading g h → (M : Catalogue) → Holds known (state g h).now M → (all : List Entry) × IsToCome g h all × (length all ≤ 65535)
   some_to_come h reading M holds =
       let db = (state g h).now in
-      let few = few_entries 1 db M holds reading.number in
+      let few = few_entries known db M holds reading.number in
       let lines : List Entry = numbered (entry_record few.edition) 0 few.lines in
       let front = reading.has_given.front in
       let read : (rows : List Row) → IsWhole (EntriesOf reading.number) db (reading.given ++ rows) → map entry_in reading.given ++ map entry_in rows ≡ lines =
-      λ rows whole. sym (map-append entry_in reading.given rows) ∙ entries_read db holds.tables.entries reading.number few.edition few.lines (reading.given ++ rows) holds.keeps.entries few.are whole in
+      λ rows whole. sym (map-append entry_in reading.given rows) ∙ entries_read db holds.tables.entries reading.number few.edition few.lines (reading.given ++ rows) (plain_of known db M refl holds).entries few.are whole in
       let first = read front.0 front.1 in (
         map entry_in front.0,
         record {
@@ -111,7 +113,7 @@ module _ {S : Type 0} (g : Ghosts S) where
     pub fails_next : (e : ReadError) → ((what : Scan) (given : List Row) → HasGiven g what old given → FailsToGive g entry_columns what old new given e) → IsReading g old → FailsToLookUp (state g old) (state g new) (fault_of_read e)
     fails_next NoRecord why h =
         let passed = why (EntriesOf h.number) h.given h.has_given in
-        inl (passed.1.0, inr (λ M holds. passed.2 (row_read (state g new).now M (subst (λ (db : Database). Holds 1 db M) (sym passed.1.0.0.now_is) holds) h.number h.given passed.0 passed.1.1.front)))
+        inl (passed.1.0, inr (λ M holds. passed.2 (row_read (state g new).now M (subst (λ (db : Database). Holds known db M) (sym passed.1.0.0.now_is) holds) h.number h.given passed.0 passed.1.1.front)))
     fails_next (Store e) why h = by_cause (why (EntriesOf h.number) h.given h.has_given)
       where
         by_cause : FailsToGive g entry_columns (EntriesOf h.number) old new h.given (Store e) → FailsToLookUp (state g old) (state g new) (fault_of_read (Store e))

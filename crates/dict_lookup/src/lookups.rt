@@ -11,6 +11,7 @@ ghost use Rattle.dict_desk.specs.Shown.{HasEdition, headword_rows, info_rows, co
 ghost use Rattle.dict_desk.specs.Handing.{Hands};
 ghost use Rattle.dict_file.specs.Holds.{Holds};
 ghost use Rattle.dict_lookup.specs.Lookups.{HasTables, HoldsOne, FailsToLookUp, IsOfStore};
+ghost use Rattle.dict_rows.specs.Versions.{known};
 
 use crate::counter::Counter;
 use crate::fault::fault_of_read;
@@ -37,7 +38,7 @@ fn find_in<S: Alter, T: RowSink>(
     requires { WhileOpen (state S.Store conn.old) (Has entry_table) }
     ensures value { HasCleanDisk (state S.Store conn.new) → (reading : ReadEdition) → HoldsOne (state S.Store conn.old).now number reading → Hands T.takes T.stops sink.old sink.new (found strategy query.now (edition_of (record reading { text = text.now }))) result }
     ensures handed { (rows : List Entry) × Hands T.takes T.stops sink.old sink.new rows result }
-    ensures few { HasCleanDisk (state S.Store conn.new) → (M : Catalogue) → Holds 1 (state S.Store conn.old).now M → (rows : List Entry) × (length rows ≤ 65535) × Hands T.takes T.stops sink.old sink.new rows result }
+    ensures few { HasCleanDisk (state S.Store conn.new) → (M : Catalogue) → Holds known (state S.Store conn.old).now M → (rows : List Entry) × (length rows ≤ 65535) × Hands T.takes T.stops sink.old sink.new rows result }
     ensures same { HasCleanDisk (state S.Store conn.new) → OnOk result (IsUnchanged (state S.Store conn.old) (state S.Store conn.new)) }
     ensures failed { HasCleanDisk (state S.Store conn.new) → IfErr result (FailsToLookUp (state S.Store conn.old) (state S.Store conn.new)) }
     ensures shut { HasCleanDisk (state S.Store conn.new) → (state S.Store conn.old).is_open ≡ false → IsErr result × (sink.new ≡ sink.old) }
@@ -63,7 +64,7 @@ fn heads_in<S: Alter, T: RowSink>(
     requires { WhileOpen (state S.Store conn.old) (Has entry_table) }
     ensures value { HasCleanDisk (state S.Store conn.new) → (reading : ReadEdition) → HoldsOne (state S.Store conn.old).now number reading → Hands T.takes T.stops sink.old sink.new (headword_rows strategy query.now (edition_of reading)) result }
     ensures handed { (rows : List Entry) × Hands T.takes T.stops sink.old sink.new rows result }
-    ensures few { HasCleanDisk (state S.Store conn.new) → (M : Catalogue) → Holds 1 (state S.Store conn.old).now M → (rows : List Entry) × (length rows ≤ 65535) × Hands T.takes T.stops sink.old sink.new rows result }
+    ensures few { HasCleanDisk (state S.Store conn.new) → (M : Catalogue) → Holds known (state S.Store conn.old).now M → (rows : List Entry) × (length rows ≤ 65535) × Hands T.takes T.stops sink.old sink.new rows result }
     ensures same { HasCleanDisk (state S.Store conn.new) → OnOk result (IsUnchanged (state S.Store conn.old) (state S.Store conn.new)) }
     ensures failed { HasCleanDisk (state S.Store conn.new) → IfErr result (FailsToLookUp (state S.Store conn.old) (state S.Store conn.new)) }
     ensures shut { HasCleanDisk (state S.Store conn.new) → (state S.Store conn.old).is_open ≡ false → IsErr result × (sink.new ≡ sink.old) }
@@ -89,7 +90,7 @@ pub fn info<S: Alter, T: RowSink>(
     sink: &mut T,
 ) -> Result<End, Fault>
     requires { WhileOpen (state S.Store conn.old) HasTables }
-    ensures value { HasCleanDisk (state S.Store conn.new) → (M : Catalogue) (edition : Edition) → Holds 1 (state S.Store conn.old).now M → HasEdition M number edition → Hands T.takes T.stops sink.old sink.new (info_rows edition) result }
+    ensures value { HasCleanDisk (state S.Store conn.new) → (M : Catalogue) (edition : Edition) → Holds known (state S.Store conn.old).now M → HasEdition M number edition → Hands T.takes T.stops sink.old sink.new (info_rows edition) result }
     ensures handed { (rows : List Entry) × Hands T.takes T.stops sink.old sink.new rows result }
     ensures same { HasCleanDisk (state S.Store conn.new) → OnOk result (IsUnchanged (state S.Store conn.old) (state S.Store conn.new)) }
     ensures failed { HasCleanDisk (state S.Store conn.new) → IfErr result (FailsToLookUp (state S.Store conn.old) (state S.Store conn.new)) }
@@ -121,7 +122,7 @@ pub fn find<S: Alter, T: RowSink>(
     sink: &mut T,
 ) -> Result<End, Fault>
     requires { WhileOpen (state S.Store conn.old) HasTables }
-    ensures value { HasCleanDisk (state S.Store conn.new) → (M : Catalogue) (edition : Edition) → Holds 1 (state S.Store conn.old).now M → HasEdition M number edition → Hands T.takes T.stops sink.old sink.new (found strategy query.now edition) result }
+    ensures value { HasCleanDisk (state S.Store conn.new) → (M : Catalogue) (edition : Edition) → Holds known (state S.Store conn.old).now M → HasEdition M number edition → Hands T.takes T.stops sink.old sink.new (found strategy query.now edition) result }
     ensures handed { (rows : List Entry) × Hands T.takes T.stops sink.old sink.new rows result }
     ensures same { HasCleanDisk (state S.Store conn.new) → OnOk result (IsUnchanged (state S.Store conn.old) (state S.Store conn.new)) }
     ensures failed { HasCleanDisk (state S.Store conn.new) → IfErr result (FailsToLookUp (state S.Store conn.old) (state S.Store conn.new)) }
@@ -158,7 +159,7 @@ pub fn heads<S: Alter, T: RowSink>(
     sink: &mut T,
 ) -> Result<End, Fault>
     requires { WhileOpen (state S.Store conn.old) HasTables }
-    ensures value { HasCleanDisk (state S.Store conn.new) → (M : Catalogue) (edition : Edition) → Holds 1 (state S.Store conn.old).now M → HasEdition M number edition → Hands T.takes T.stops sink.old sink.new (headword_rows strategy query.now edition) result }
+    ensures value { HasCleanDisk (state S.Store conn.new) → (M : Catalogue) (edition : Edition) → Holds known (state S.Store conn.old).now M → HasEdition M number edition → Hands T.takes T.stops sink.old sink.new (headword_rows strategy query.now edition) result }
     ensures handed { (rows : List Entry) × Hands T.takes T.stops sink.old sink.new rows result }
     ensures same { HasCleanDisk (state S.Store conn.new) → OnOk result (IsUnchanged (state S.Store conn.old) (state S.Store conn.new)) }
     ensures failed { HasCleanDisk (state S.Store conn.new) → IfErr result (FailsToLookUp (state S.Store conn.old) (state S.Store conn.new)) }
@@ -184,7 +185,7 @@ pub fn count<S: Alter>(
     what: What,
 ) -> Result<u64, Fault>
     requires { WhileOpen (state S.Store conn.old) HasTables }
-    ensures value { HasCleanDisk (state S.Store conn.new) → (M : Catalogue) (edition : Edition) → Holds 1 (state S.Store conn.old).now M → HasEdition M number edition → IfOk result (λ count. count ≡ count_of what strategy query.now edition) }
+    ensures value { HasCleanDisk (state S.Store conn.new) → (M : Catalogue) (edition : Edition) → Holds known (state S.Store conn.old).now M → HasEdition M number edition → IfOk result (λ count. count ≡ count_of what strategy query.now edition) }
     ensures same { HasCleanDisk (state S.Store conn.new) → OnOk result (IsUnchanged (state S.Store conn.old) (state S.Store conn.new)) }
     ensures failed { HasCleanDisk (state S.Store conn.new) → IfErr result (FailsToLookUp (state S.Store conn.old) (state S.Store conn.new)) }
     ensures kinds { IfErr result IsOfStore }

@@ -57,7 +57,7 @@ rows_known : {R : Type 0} (stored : R → Row) (number : R → ℤ) → ((r : R)
 rows_known stored number is ns [] h = tt
 rows_known stored number is ns (r ∷ given) h = (numbered_row (stored r) (number r) ns (is r) h.0, rows_known stored number is ns given h.1)
 
-module _ (db : Database) (reader : Reader) (front taken : Tables) (all : AreAllKnown db reader) (named : HasNamed db reader front taken) where
+module _ (version : ℕ) (db : Database) (reader : Reader) (front taken : Tables) (all : AreAllKnown db reader) (named : HasNamed version db reader front taken) where
   abbrev IsNamed : Row → Type 0
   IsNamed row = one_of named.numbers row ≡ true
 
@@ -80,7 +80,7 @@ module _ (db : Database) (reader : Reader) (front taken : Tables) (all : AreAllK
       let same = subst (λ rows. IsPermutation rows named.read.entry_rows) (filter_whole (one_of named.numbers) rows each) named.read.entries in
       subst (λ xs. IsPermutation xs (map (drop 1) (rows_of (codes "entry") db))) named.read.entries_are (IsPermutation-map (drop 1) _ _ (IsPermutation-sym _ _ same))
 
-  module _ (begun : HasBegun db front) (after : Tables) (replies : HasReplies db taken after) where
+  module _ (begun : HasBegun version db front) (after : Tables) (replies : HasReplies db taken after) where
     none_yet : taken.kept ≡ []
     none_yet = named.read.kept ∙ begun.no_kept
 
@@ -90,7 +90,7 @@ module _ (db : Database) (reader : Reader) (front taken : Tables) (all : AreAllK
     kept_is : taken.kept ++ kept_given given ≡ kept_given given
     kept_is = ap (λ l. l ++ kept_given given) none_yet
 
-    all_read : HasAll db front (with_replies taken (kept_given given))
+    all_read : HasAll version db front (with_replies taken (kept_given given))
     all_read = record {
       keeps = record {
         marks = subst (λ ms. IsPermutation (map mark_row ms) (map (drop 1) (rows_of (codes "mark") db))) (sym named.read.marks) begun.marks;
@@ -101,12 +101,12 @@ module _ (db : Database) (reader : Reader) (front taken : Tables) (all : AreAllK
         kept = subst (λ ks. IsPermutation (map kept_row ks) (map (drop 1) (rows_of (codes "kept") db))) (sym kept_is) (rows_listed kept_codec (codes "kept") (2 ∷ []) db given replies.listing);
       };
       members = named.read.members;
-      fits = fits_replies db taken named.read.fits none_yet given ([], subst (λ rows. IsListing (codes "kept") (2 ∷ []) db rows) (sym (append-nil (map stored_kept given))) replies.listing);
+      fits = fits_replies version db taken named.read.fits none_yet given ([], subst (λ rows. IsListing (codes "kept") (2 ∷ []) db rows) (sym (append-nil (map stored_kept given))) replies.listing);
       ids = subst (λ ks. IsEachOnce (map (λ (row : spec.Kept). row.id) ks)) (sym kept_is) replies.ids;
     }
 
-    pub has_all : HasAll db front after
-    has_all = subst (HasAll db front) (sym replies.after_is) all_read
+    pub has_all : HasAll version db front after
+    has_all = subst (HasAll version db front) (sym replies.after_is) all_read
 
 -- ---- tables that stand for a catalogue are those that were read
 
@@ -129,8 +129,8 @@ nothing_more xs ys b s =
     let none : b.0 ≡ [] = no_more b.0 (omega (arith, one, two)) in
     b.1 ∙ ap (λ l. ys ++ l) none ∙ append-nil ys
 
-module _ (db : Database) (after : Tables) (keeps : KeepsRows db after) (fits : Fits db after) where
-  stands_after : (T : Tables) (M : Catalogue) → Keeping db after.members T M → Stands 1 after M
+module _ (version : ℕ) (db : Database) (after : Tables) (keeps : KeepsRows db after) (fits : Fits version db after) where
+  stands_after : (T : Tables) (M : Catalogue) → Keeping version db after.members T M → Stands version after M
   stands_after T M K =
       let goes = fits T M K in
       let s = K.stands in
@@ -151,5 +151,5 @@ module _ (db : Database) (after : Tables) (keeps : KeepsRows db after) (fits : F
         kept = sym (nothing_more T.kept after.kept goes.kept (same_from T.kept after.kept kept)) ∙ s.kept;
       }
 
-  pub finish_wrong : ((M : Catalogue) → Stands 1 after M → ⊥) → KeepsNone db after.members
+  pub finish_wrong : ((M : Catalogue) → Stands version after M → ⊥) → KeepsNone version db after.members
   finish_wrong none T M K = none M (stands_after T M K)

@@ -43,7 +43,7 @@ behind_is row s k n e f = behind_column row k ∙ ap (λ t. column t k) e ∙ f
 
 -- ---- what the tables keep of what was read
 
-module _ (db : Database) (members : List spec.Member) (T : Tables) (M : Catalogue) (K : Keeping db members T M) where
+module _ (version : ℕ) (db : Database) (members : List spec.Member) (T : Tables) (M : Catalogue) (K : Keeping version db members T M) where
   pub marks_read : (rows : List Row) → IsListing (codes "mark") (1 ∷ []) db rows → T.marks ≡ map (read mark_codec) rows
   marks_read rows l =
       let found = (listed_records mark_codec (codes "mark") db T.marks K.keeps.marks rows l.same).0 in
@@ -82,10 +82,10 @@ front_read k given tail = map-append (read k) (map k.stored given) tail ∙ ap (
 
 -- ---- the mark, the items and the members
 
-pub fits_begun : (db : Database) (marks : List _) (items : List _) (members : List _) → IsListing (codes "mark") (1 ∷ []) db (map stored_mark marks) → IsListing (codes "item") (1 ∷ []) db (map stored_item items) → Fits db (begun (marks_given marks) (items_given items) (members_given members))
-fits_begun db marks items members lm li T M K = record {
-  marks = marks_read db (members_given members) T M K (map stored_mark marks) lm ∙ read_stored mark_codec marks;
-  items = items_read db (members_given members) T M K (map stored_item items) li ∙ read_stored item_codec items;
+pub fits_begun : (version : ℕ) (db : Database) (marks : List _) (items : List _) (members : List _) → IsListing (codes "mark") (1 ∷ []) db (map stored_mark marks) → IsListing (codes "item") (1 ∷ []) db (map stored_item items) → Fits version db (begun (marks_given marks) (items_given items) (members_given members))
+fits_begun version db marks items members lm li T M K = record {
+  marks = marks_read version db (members_given members) T M K (map stored_mark marks) lm ∙ read_stored mark_codec marks;
+  items = items_read version db (members_given members) T M K (map stored_item items) li ∙ read_stored item_codec items;
   members = K.same_members;
   editions = (λ n. (editions_numbered n T.editions, refl));
   entries = (λ n. (entries_of n T.entries, refl));
@@ -94,12 +94,12 @@ fits_begun db marks items members lm li T M K = record {
 
 -- ---- an edition
 
-module _ (db : Database) (taken : Tables) (fits : Fits db taken) (n : ℤ) (known : (T : Tables) (M : Catalogue) → Keeping db taken.members T M → has_number M.items n ≡ true) where
-  pub fits_edition : (row : EditionRow) → IsSelection (codes "edition") (equals_number 1 n) (1 ∷ []) db (stored_edition row ∷ []) → editions_numbered n taken.editions ≡ [] → Fits db (with_edition taken (edition_codec.owned row))
+module _ (version : ℕ) (db : Database) (taken : Tables) (fits : Fits version db taken) (n : ℤ) (known : (T : Tables) (M : Catalogue) → Keeping version db taken.members T M → has_number M.items n ≡ true) where
+  pub fits_edition : (row : EditionRow) → IsSelection (codes "edition") (equals_number 1 n) (1 ∷ []) db (stored_edition row ∷ []) → editions_numbered n taken.editions ≡ [] → Fits version db (with_edition taken (edition_codec.owned row))
   fits_edition row s none T M K =
       let goes = fits T M K in
       let e = edition_codec.owned row in
-      let only : editions_numbered n T.editions ≡ e ∷ [] = one_once e (editions_numbered n T.editions) (subst (λ x. Same (x ∷ []) (editions_numbered n T.editions)) (read_is edition_codec (stored_edition row) e refl) (editions_read db taken.members T M K n (stored_edition row ∷ []) s)) in
+      let only : editions_numbered n T.editions ≡ e ∷ [] = one_once e (editions_numbered n T.editions) (subst (λ x. Same (x ∷ []) (editions_numbered n T.editions)) (read_is edition_codec (stored_edition row) e refl) (editions_read version db taken.members T M K n (stored_edition row ∷ []) s)) in
       let passes = subst (AllByRecursion (λ x. same_number x.number n ≡ true)) only (all_passed (λ (x : spec.Edition). same_number x.number n) T.editions) in
       let is : e.number ≡ n = same_number_is e.number n passes.0 in
       record { marks = goes.marks; items = goes.items; members = goes.members; editions = (λ m. step T goes e is only m (same_number e.number m) refl); entries = goes.entries; kept = goes.kept }
@@ -112,12 +112,12 @@ module _ (db : Database) (taken : Tables) (fits : Fits db taken) (n : ℤ) (know
           ([], subst (λ z. editions_numbered z T.editions ≡ e ∷ []) same only ∙ ap (λ l. l ++ []) (sym front))
 
   -- the edition's entries, as far as they were read
-  pub fits_entries : (given : List EntryRow) → IsFront (EntriesOf n) db (map stored_entry given) → entries_of n taken.entries ≡ [] → Fits db (with_entries taken (entries_given given))
+  pub fits_entries : (given : List EntryRow) → IsFront (EntriesOf n) db (map stored_entry given) → entries_of n taken.entries ≡ [] → Fits version db (with_entries taken (entries_given given))
   fits_entries given front none T M K =
       let goes = fits T M K in
       let found = find_edition T M.items n K.stands.editions (known T M K) in
       let more = map (read entry_codec) front.0 in
-      let whole : entries_of n T.entries ≡ entries_given given ++ more = entries_read db taken.members T M K n found (map stored_entry given ++ front.0) front.1 ∙ front_read entry_codec given front.0 in
+      let whole : entries_of n T.entries ≡ entries_given given ++ more = entries_read version db taken.members T M K n found (map stored_entry given ++ front.0) front.1 ∙ front_read entry_codec given front.0 in
       let all = (all_append_parts (λ (x : spec.Entry). same_number x.edition n ≡ true) (entries_given given) more (subst (AllByRecursion (λ (x : spec.Entry). same_number x.edition n ≡ true)) whole (all_passed (λ (x : spec.Entry). same_number x.edition n) T.entries))).0 in
       record { marks = goes.marks; items = goes.items; members = goes.members; editions = goes.editions; entries = (λ m. step T goes more whole all m (same_number n m) refl); kept = goes.kept }
     where
@@ -139,13 +139,13 @@ module _ (db : Database) (taken : Tables) (fits : Fits db taken) (n : ℤ) (know
 
 -- ---- the kept replies
 
-pub fits_replies : (db : Database) (taken : Tables) → Fits db taken → taken.kept ≡ [] → (given : List KeptRow) → IsFront AllKept db (map stored_kept given) → Fits db (with_replies taken (kept_given given))
-fits_replies db taken fits none given front T M K =
-    let whole = replies_read db taken.members T M K (map stored_kept given ++ front.0) front.1 ∙ front_read kept_codec given front.0 in
+pub fits_replies : (version : ℕ) (db : Database) (taken : Tables) → Fits version db taken → taken.kept ≡ [] → (given : List KeptRow) → IsFront AllKept db (map stored_kept given) → Fits version db (with_replies taken (kept_given given))
+fits_replies version db taken fits none given front T M K =
+    let whole = replies_read version db taken.members T M K (map stored_kept given ++ front.0) front.1 ∙ front_read kept_codec given front.0 in
     let goes = fits T M K in
     record { marks = goes.marks; items = goes.items; members = goes.members; editions = goes.editions; entries = goes.entries; kept = (map (read kept_codec) front.0, whole ∙ ap (λ l. (l ++ kept_given given) ++ map (read kept_codec) front.0) (sym none)) }
 
 -- ---- none
 
-pub none_kept : (db : Database) (front : Tables) → Fits db front → StandsForNone 1 front → KeepsNone db front.members
-none_kept db front fits none T M K = none T M (fits T M K) K.stands
+pub none_kept : (version : ℕ) (db : Database) (front : Tables) → Fits version db front → StandsForNone version front → KeepsNone version db front.members
+none_kept version db front fits none T M K = none T M (fits T M K) K.stands

@@ -1,11 +1,13 @@
 -- A database holds one catalogue at most, and so do trees that are left of one.
-use Rattle.std.proofs.Common.{◌≡◌, ℕ, ℤ, pos, Bool, true, false, List, [], ◌∷◌, map, codes, refl, sym, subst, ◌∙◌}
+use Rattle.std.proofs.Common.{◌≡◌, ℕ, ℤ, pos, Bool, true, false, List, [], ◌∷◌, map, take, codes, refl, sym, ap, subst, ◌∙◌, arith}
 use Rattle.std.specs.Prelude.{◌≤ℤ◌, bytes_eq, cond, filter, IsTrue}
 use Rattle.std.specs.List.{AllByRecursion}
 use Rattle.std.specs.List.Sorted.{IsPermutation}
 use Rattle.std.proofs.lemmas.Bool.{false≢true}
-use Rattle.std.proofs.lemmas.List.Sorted.{IsPermutation-sym, IsPermutation-trans}
+use Rattle.std.proofs.lemmas.List.Sorted.{IsPermutation-map, IsPermutation-sym, IsPermutation-trans}
 use Rattle.sqlite.specs.Effect.{Database, IsDatabase}
+use Rattle.sqlite.specs.Order.{Row}
+use Rattle.dict_sql.specs.Encodings.{entry_row}
 use Rattle.sqlite.specs.Tree.{Trees}
 use Rattle.sqlite_trees.specs.Objects.{catalog_tree}
 use Rattle.sqlite_catalog.specs.Listing.{Lists}
@@ -17,15 +19,20 @@ use Rattle.dict_index.specs.Edition.{Edition}
 use Rattle.dict_catalogue.specs.Items.{Stored, Item, name_of, members_of, editions_of, is_named, is_known, numbers_of, edition_numbers}
 use Rattle.dict_catalogue.specs.Steps.{Catalogue}
 use Rattle.dict_catalogue.proofs.ItemLemmas.{same_text, text_itself}
+use Rattle.dict_rows.specs.Versions.{Layout, Plain, Keyed, Shown, layout_of, known, IsVersion}
 use Rattle.dict_rows.specs.Tables.{Tables, same_number, members_of_owner, entries_of}
-use Rattle.dict_rows.specs.Written.{item_record, member_record, entry_record}
+use Rattle.dict_rows.specs.Written.{mark_record, item_record, member_record, entry_record}
 use Rattle.dict_rows.specs.Stands.{HoldsMembers, HoldsEdition, HoldsEditions, has_number, Stands}
 use Rattle.dict_rows.specs.Order.{InOrder, HaveSame, AreOrdered}
 use Rattle.dict_rows.proofs.OnceLemmas.{catalogue_same}
-use Rattle.dict_rows.proofs.OrderLemmas.{Below, numbered_rise, kept_rise, item_placed, ordered_stands}
+use Rattle.dict_rows.proofs.OrderLemmas.{Same, Below, same_from, one_once, numbered_rise, kept_rise, item_placed, ordered_stands}
 use Rattle.dict_rows.proofs.TakenLemmas.{same_number_is, same_itself}
-use Rattle.dict_file.specs.Holds.{Keeps, KeepsAll, Holds, IsLeft}
-use Rattle.dict_opening.proofs.CodecLemmas.{Codec, read, records_kept, mark_codec, item_codec, member_codec, edition_codec, entry_codec, kept_codec}
+use Rattle.dict_file.specs.Readings.{KeepsAll, KeepsRows, entries, filed_row}
+use Rattle.dict_file.proofs.ReadingLemmas.{marks_kept}
+use Rattle.dict_derived.specs.Entries.{Filed, filed, plain}
+use Rattle.dict_derived.specs.AllTables.{with_derived}
+use Rattle.dict_file.specs.Holds.{Keeps, Holds, IsHeld, IsLeftAs, IsLeft}
+use Rattle.dict_opening.proofs.CodecLemmas.{decode_entry, entry_back, Codec, read, records_kept, mark_codec, item_codec, member_codec, edition_codec, entry_codec, kept_codec}
 use Rattle.dict_file.proofs.ReadableLemmas.{any_holds}
 
 -- ---- lists that are in order group by group
@@ -105,21 +112,55 @@ both_kept : {R W : Type 0} (k : Codec R W) (name : List ℕ) (db : Database) (xs
 both_kept k name db xs ys a b =
     IsPermutation-trans xs (map (read k) (rows_of name db)) ys (records_kept k name db xs a) (IsPermutation-sym ys (map (read k) (rows_of name db)) (records_kept k name db ys b))
 
-same_kept : (db : Database) (T U : Tables) → KeepsAll db T → KeepsAll db U → HaveSame T U
-same_kept db T U a b = record {
-  marks = both_kept mark_codec (codes "mark") db T.marks U.marks a.marks b.marks;
-  items = both_kept item_codec (codes "item") db T.items U.items a.items b.items;
-  members = both_kept member_codec (codes "member") db T.members U.members a.members b.members;
-  editions = both_kept edition_codec (codes "edition") db T.editions U.editions a.editions b.editions;
-  entries = both_kept entry_codec (codes "entry") db T.entries U.entries a.entries b.entries;
-  kept = both_kept kept_codec (codes "kept") db T.kept U.kept a.kept b.kept;
+-- entries with what is derived of them, by rows of which some columns are read
+filed_kept : (encode : Filed → Row) (decode : Row → spec.Entry) → ((e : spec.Entry) → decode (encode (filed e)) ≡ e) → (xs ys : List spec.Entry) (rows : List Row) → IsPermutation (map encode (map filed xs)) rows → IsPermutation (map encode (map filed ys)) rows → IsPermutation xs ys
+filed_kept encode decode undo xs ys rows a b =
+    let between = IsPermutation-trans (map encode (map filed xs)) rows (map encode (map filed ys)) a (IsPermutation-sym (map encode (map filed ys)) rows b) in
+    let read = IsPermutation-map decode (map encode (map filed xs)) (map encode (map filed ys)) between in
+    subst (λ l. IsPermutation l ys) (back xs) (subst (IsPermutation (map decode (map encode (map filed xs)))) (back ys) read)
+  where
+    back : (es : List spec.Entry) → map decode (map encode (map filed es)) ≡ es
+    back [] = refl
+    back (e ∷ es) = λ i. undo e i ∷ back es i
+
+entries_kept : (layout : Layout) (db : Database) (T U : Tables) → KeepsRows (entries layout) db (with_derived T) → KeepsRows (entries layout) db (with_derived U) → IsPermutation T.entries U.entries
+entries_kept Plain db T U a b = filed_kept (λ f. entry_row (plain f)) decode_entry entry_back T.entries U.entries _ a.rows b.rows
+entries_kept Keyed db T U a b = filed_kept (λ f. entry_row (plain f)) decode_entry entry_back T.entries U.entries _ a.rows b.rows
+entries_kept Shown db T U a b = filed_kept filed_row (λ row. decode_entry (take 5 row)) entry_back T.entries U.entries _ a.rows b.rows
+
+same_kept : (layout : Layout) (db : Database) (T U : Tables) → KeepsAll layout db (with_derived T) → KeepsAll layout db (with_derived U) → HaveSame T U
+same_kept layout db T U a b = record {
+  marks = both_kept mark_codec (codes "mark") db T.marks U.marks (record { rows = a.0.rows; apart = a.0.apart }) (record { rows = b.0.rows; apart = b.0.apart });
+  items = both_kept item_codec (codes "item") db T.items U.items (record { rows = a.1.0.rows; apart = a.1.0.apart }) (record { rows = b.1.0.rows; apart = b.1.0.apart });
+  members = both_kept member_codec (codes "member") db T.members U.members (record { rows = a.1.1.0.rows; apart = a.1.1.0.apart }) (record { rows = b.1.1.0.rows; apart = b.1.1.0.apart });
+  editions = both_kept edition_codec (codes "edition") db T.editions U.editions (record { rows = a.1.1.1.0.rows; apart = a.1.1.1.0.apart }) (record { rows = b.1.1.1.0.rows; apart = b.1.1.1.0.apart });
+  entries = entries_kept layout db T U a.1.1.1.1.0 b.1.1.1.1.0;
+  kept = both_kept kept_codec (codes "kept") db T.kept U.kept (record { rows = a.1.1.1.1.1.0.rows; apart = a.1.1.1.1.1.0.apart }) (record { rows = b.1.1.1.1.1.0.rows; apart = b.1.1.1.1.1.0.apart });
 }
+
+-- ---- one version
+
+marks_version : (a b : List spec.Mark) (v w m n : ℕ) → IsPermutation a b → a ≡ mark_record v m ∷ [] → b ≡ mark_record w n ∷ [] → v ≡ w
+marks_version a b v w m n same one two =
+    let only : b ≡ mark_record v m ∷ [] = one_once (mark_record v m) b (subst (λ rows. Same rows b) one (same_from a b same)) in
+    let marks : mark_record v m ∷ [] ≡ mark_record w n ∷ [] = sym only ∙ two in
+    let mark : mark_record v m ≡ mark_record w n = cc in
+    let number : pos v ≡ pos w = ap (λ (r : spec.Mark). r.version) mark in
+    cc
+
+pub one_version : (db : Database) (v w : ℕ) (M N : Catalogue) → Holds v db M → Holds w db N → v ≡ w
+one_version db v w M N a b =
+    marks_version a.tables.marks b.tables.marks v w M.installs N.installs (both_kept mark_codec (codes "mark") db a.tables.marks b.tables.marks (marks_kept (layout_of v) db a.tables a.keeps) (marks_kept (layout_of w) db b.tables b.keeps)) a.stands.marks b.stands.marks
 
 -- ---- one catalogue
 
-pub one_held : (version : ℕ) (db : Database) (M N : Catalogue) → Holds version db M → Holds version db N → M ≡ N
-one_held version db M N a b =
-    catalogue_same version b.tables M N (ordered_stands version a.tables b.tables M (same_kept db a.tables b.tables a.keeps b.keeps) (ordered version b.tables N b.stands) a.stands) b.stands
+pub same_version : (version : ℕ) (db : Database) (M N : Catalogue) → Holds version db M → Holds version db N → M ≡ N
+same_version version db M N a b =
+    catalogue_same version b.tables M N (ordered_stands version a.tables b.tables M (same_kept (layout_of version) db a.tables b.tables a.keeps b.keeps) (ordered version b.tables N b.stands) a.stands) b.stands
+
+pub one_held : (db : Database) (M N : Catalogue) → IsHeld db M → IsHeld db N → M ≡ N
+one_held db M N a b =
+    same_version a.version db M N a.holds (subst (λ v. Holds v db N) (sym (one_version db a.version b.version M N a.holds b.holds)) b.holds)
 
 -- two databases over the same trees are the same
 database_once : (a b : Database) → IsDatabase a → IsDatabase b → a.trees ≡ b.trees → a ≡ b
@@ -127,9 +168,27 @@ database_once a b x y same =
     let schemas : a.schema ≡ b.schema = lists_once (b.trees catalog_tree) a.schema b.schema (subst (λ (t : Trees). Lists (t catalog_tree) a.schema) same x.lists) y.lists in
     λ i. record { schema = schemas i; trees = same i }
 
-pub left_held : (version : ℕ) (db : Database) (M : Catalogue) → IsDatabase db → IsLeft version M db.trees → Holds version db M
-left_held version db M sound left = subst (λ (d : Database). Holds version d M) (sym (database_once db left.0 sound left.2 left.1)) left.3
+pub left_held : (db : Database) (M : Catalogue) → IsDatabase db → IsLeft M db.trees → IsHeld db M
+left_held db M sound left = subst (λ (d : Database). IsHeld d M) (sym (database_once db left.0 sound left.2 left.1)) left.3
 
-pub one_left : (version : ℕ) (trees : Trees) (M N : Catalogue) → IsLeft version M trees → IsLeft version N trees → M ≡ N
-one_left version trees M N a b =
-    one_held version b.0 M N (left_held version b.0 M b.2 (subst (IsLeft version M) b.1 a)) b.3
+pub one_left : (trees : Trees) (M N : Catalogue) → IsLeft M trees → IsLeft N trees → M ≡ N
+one_left trees M N a b = one_held b.0 M N (left_held b.0 M b.2 (subst (IsLeft M) b.1 a)) b.3
+
+-- ---- the known version
+
+pub known_is : IsVersion known
+known_is = record { counted = omega arith; within = omega arith }
+
+-- no other is opened yet
+pub only_known : (version : ℕ) → IsVersion version → version ≡ known
+only_known version h = let low = h.counted in let high = h.within in omega (arith, low, high)
+
+-- and its tables have no keys
+pub plain_version : (version : ℕ) → IsVersion version → layout_of version ≡ Plain
+plain_version version h = ap layout_of (only_known version h)
+
+pub held_known : (db : Database) (M : Catalogue) → Holds known db M → IsHeld db M
+held_known db M h = record { version = known; known = known_is; holds = h }
+
+pub left_known : (M : Catalogue) (trees : Trees) → IsLeftAs known M trees → IsLeft M trees
+left_known M trees h = (h.0, h.1, h.2, held_known h.0 M h.3)

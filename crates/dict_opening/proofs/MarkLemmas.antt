@@ -23,10 +23,15 @@ use Rattle.dict_sql.specs.Encodings.{mark_row, stored_mark}
 use Rattle.dict_sql.specs.Reads.{IsListing, HasNoRecord}
 use Rattle.dict_catalogue.specs.Steps.{Catalogue, summary_of}
 use Rattle.dict_catalogue.specs.Tests.{Holdings}
-use Rattle.dict_file.specs.Holds.{Holds}
+use Rattle.dict_file.specs.Holds.{Holds, HasLayout, IsHeld}
+use Rattle.dict_file.specs.Readings.{KeepsAll}
+use Rattle.dict_file.specs.Room.{MayBecomeShown}
+use Rattle.dict_file.proofs.ReadingLemmas.{kept_plain}
+use Rattle.dict_derived.specs.AllTables.{with_derived}
+use Rattle.dict_rows.specs.Versions.{Layout, Plain, layout_of}
 use Rattle.dict_rows.specs.Given.{marks_given}
 use Rattle.dict_rows.proofs.OrderLemmas.{Same, same_from, one_once}
-use Rattle.dict_opening.specs.Opens.{HasTables, HasRowidsApart, HasSummary, HasMark, IsMarked, marked}
+use Rattle.dict_opening.specs.Opens.{HasTables, HasRowidsApart, HasSummary, HasMark, HasKnownMark, HoldsNone, HoldsNoneAs, IsMarked, marked}
 use Rattle.dict_desk.specs.declared.fault.Fault.TheVariants as desk
 use Rattle.dict_opening.specs.declared.fault.ReadingFault.{ReadingFault}
 use Rattle.dict_opening.specs.declared.fault.ReadingFault.TheVariants.{Damaged, Memory, Disk}
@@ -71,24 +76,29 @@ pub err_is : {X E : Type 0} (result : Result X E) (e f : E) → IsErrAnd result 
 err_is (Ok x) e f h is = absurd (cc)
 err_is (Err g) e f h is = sym h ∙ (let same : g ≡ f = cc in same)
 
-pub holds_of : (db : Database) (shown : Holdings (List ℕ)) → HasTables db → HasRowidsApart db → HasSummary db shown → (M : Catalogue) × Holds 1 db M × (summary_of M ≡ shown)
-holds_of db shown own apart s = (
+pub holds_of : (version : ℕ) (db : Database) (shown : Holdings (List ℕ)) → layout_of version ≡ Plain → HasTables db → MayBecomeShown Plain db.schema → HasRowidsApart Plain db → HasSummary version db shown → (M : Catalogue) × Holds version db M × (summary_of M ≡ shown)
+holds_of version db shown is own room apart s = (
   s.catalogue,
   record {
-    own = own;
+    own = subst (λ (layout : Layout). HasLayout layout db.schema) (sym is) (record { tables = own; indexes = tt; room = room });
     tables = s.tables;
-    keeps = record {
-      marks = record { rows = s.keeps.marks; apart = apart.marks };
-      items = record { rows = s.keeps.items; apart = apart.items };
-      members = record { rows = s.keeps.members; apart = apart.members };
-      editions = record { rows = s.keeps.editions; apart = apart.editions };
-      entries = record { rows = s.keeps.entries; apart = apart.entries };
-      kept = record { rows = s.keeps.kept; apart = apart.kept };
-    };
+    keeps = subst (λ (layout : Layout). KeepsAll layout db (with_derived s.tables)) (sym is) (kept_plain db s.tables (record {
+      marks = record { rows = s.keeps.marks; apart = apart.0 };
+      items = record { rows = s.keeps.items; apart = apart.1.0 };
+      members = record { rows = s.keeps.members; apart = apart.1.1.0 };
+      editions = record { rows = s.keeps.editions; apart = apart.1.1.1.0 };
+      entries = record { rows = s.keeps.entries; apart = apart.1.1.1.1.0 };
+      kept = record { rows = s.keeps.kept; apart = apart.1.1.1.1.1.0 };
+    }));
     stands = s.stands;
   },
   s.summary,
 )
+
+-- a schema without the tables, or without room for the later ones, is that of no such database
+pub none_without : (version : ℕ) (db : Database) → layout_of version ≡ Plain → (HasTables db → MayBecomeShown Plain db.schema → ⊥) → HoldsNoneAs version db
+none_without version db is none M h =
+    let own = subst (λ (layout : Layout). HasLayout layout db.schema) is h.own in none own.tables own.room
 
 ascii_text : (bs : List ℕ) → list_all (λ b. nat_lt b 128) bs ≡ true → IsAscii bs
 ascii_text [] h = IsAscii-nil
@@ -119,16 +129,23 @@ one_row row ([] ∷ rows) some e all = absurd (some (let same : row ≡ [] = cc 
 one_row row ((x ∷ r) ∷ []) some e all = (all.0.0, λ i. (all.0.1 i ∷ (let same : r ≡ row = cc in same) i) ∷ [])
 one_row row ((x ∷ r) ∷ s ∷ rows) some e all = absurd (cc)
 
-pub held_mark : (db : Database) (M : Catalogue) → Holds 1 db M → HasMark db 1
-held_mark db M h =
-    let row = mark_row (marked 1 (pos M.installs)) in
-    let written = subst (λ (ms : List spec.Mark). IsPermutation (map mark_row ms) (map (drop 1) (rows_of (codes "mark") db))) h.stands.marks h.keeps.marks.rows in
+pub held_mark : (version : ℕ) (db : Database) (M : Catalogue) → 1 ≤ version → Holds version db M → HasMark db version
+held_mark version db M counted h =
+    let row = mark_row (marked version (pos M.installs)) in
+    let written = subst (λ (ms : List spec.Mark). IsPermutation (map mark_row ms) (map (drop 1) (rows_of (codes "mark") db))) h.stands.marks h.keeps.0.rows in
     let only = one_once row (map (drop 1) (rows_of (codes "mark") db)) (same_from (row ∷ []) (map (drop 1) (rows_of (codes "mark") db)) written) in
-    let found = one_row row (rows_of (codes "mark") db) (λ e. let wrong : ⊥ = cc in wrong) only h.keeps.marks.apart.integers in
-    record { own = h.own.0; rowid = found.0; installs = pos M.installs; rows = found.1; counted = (let le : 1 ≤ 1 = omega arith in le) }
+    let found = one_row row (rows_of (codes "mark") db) (λ e. let wrong : ⊥ = cc in wrong) only h.keeps.0.apart.integers in
+    record { own = h.own.tables.0; rowid = found.0; installs = pos M.installs; rows = found.1; counted = counted }
 
-pub held_once : (db : Database) (M : Catalogue) (version : ℕ) → Holds 1 db M → HasMark db version → version ≡ 1
-held_once db M version h m =
-    let one = held_mark db M h in
-    let same : (Int m.rowid ∷ mark_row (marked version m.installs)) ∷ [] ≡ (Int one.rowid ∷ mark_row (marked 1 one.installs)) ∷ [] = sym m.rows ∙ one.rows in
-    (let e : version ≡ 1 = cc in e)
+pub known_mark : (db : Database) (M : Catalogue) → IsHeld db M → HasKnownMark db
+known_mark db M h = record { version = h.version; known = h.known; marked = held_mark h.version db M h.known.counted h.holds }
+
+pub mark_once : (db : Database) (v w : ℕ) → HasMark db v → HasMark db w → v ≡ w
+mark_once db v w a b =
+    let same : (Int a.rowid ∷ mark_row (marked v a.installs)) ∷ [] ≡ (Int b.rowid ∷ mark_row (marked w b.installs)) ∷ [] = sym a.rows ∙ b.rows in
+    (let e : v ≡ w = cc in e)
+
+-- of a database with this mark that holds no catalogue under its version none is held
+pub none_held : (version : ℕ) (db : Database) → HasMark db version → HoldsNoneAs version db → HoldsNone db
+none_held version db m none M h =
+    none M (subst (λ v. Holds v db M) (mark_once db h.version version (held_mark h.version db M h.known.counted h.holds) m) h.holds)

@@ -50,42 +50,42 @@ one_item [] x e f = absurd (omega arith)
 one_item (y ∷ []) x e f = ap (λ z. z ∷ []) (sym f)
 one_item (y ∷ z ∷ zs) x e f = absurd (omega arith)
 
-module _ (db : Database) (taken : Tables) (n : ℤ) (can : CanReadOne db taken n) where
-  pub not_one : IsNotOne db n → KeepsNone db taken.members
-  not_one (inl h) T M K = h.2 (all_contains (HasColumns edition_columns) (filter (equals_number 1 n) (rows_of (codes "edition") db)) h.0 (all_filter (HasColumns edition_columns) (equals_number 1 n) (rows_of (codes "edition") db) K.records.editions) h.1)
+module _ (version : ℕ) (db : Database) (taken : Tables) (n : ℤ) (can : CanReadOne version db taken n) where
+  pub not_one : IsNotOne db n → KeepsNone version db taken.members
+  not_one (inl h) T M K = h.2 (all_contains (HasColumns edition_columns) (filter (equals_number 1 n) (rows_of (codes "edition") db)) h.0 (all_filter (HasColumns edition_columns) (equals_number 1 n) (rows_of (codes "edition") db) K.records.1.1.1.0) h.1)
   not_one (inr h) T M K =
       let rows = h.0 in
       let found = find_edition T M.items n K.stands.editions (can.known T M K) in
       let x = edition_record found.owner found.edition.number found.holds.reading in
       let only : editions_numbered n T.editions ≡ x ∷ [] = subst (λ m. editions_numbered m T.editions ≡ x ∷ []) found.number found.holds.row in
-      let same = subst (Same (map (read edition_codec) (map stored_edition rows))) only (editions_read db taken.members T M K n (map stored_edition rows) h.1) in
+      let same = subst (Same (map (read edition_codec) (map stored_edition rows))) only (editions_read version db taken.members T M K n (map stored_edition rows) h.1) in
       h.2 (one_long rows x (sym (read_stored edition_codec rows) ∙ one_once x (map (read edition_codec) (map stored_edition rows)) (same_back _ _ same)))
 
   module _ (row : EditionRow) (one : IsSelection (codes "edition") (equals_number 1 n) (1 ∷ []) db (stored_edition row ∷ [])) where
     abbrev e : spec.Edition
     e = edition_codec.owned row
 
-    pub now_fits : Fits db (with_edition taken e)
-    now_fits = fits_edition db taken can.fits n can.known row one can.no_editions
+    pub now_fits : Fits version db (with_edition taken e)
+    now_fits = fits_edition version db taken can.fits n can.known row one can.no_editions
 
-    pub edition_refused : (reader : Reader) → HasTaken 1 reader taken → ((version : ℕ) (before : Tables) → HasTaken version reader before → StandsForNone version (with_edition before e)) → KeepsNone db taken.members
-    edition_refused reader h wrong = none_kept db (with_edition taken e) now_fits (wrong 1 taken h)
+    pub edition_refused : (reader : Reader) → HasTaken version reader taken → ((version : ℕ) (before : Tables) → HasTaken version reader before → StandsForNone version (with_edition before e)) → KeepsNone version db taken.members
+    edition_refused reader h wrong = none_kept version db (with_edition taken e) now_fits (wrong version taken h)
 
-    number_is : (T : Tables) (M : Catalogue) → Keeping db taken.members T M → e.number ≡ n
+    number_is : (T : Tables) (M : Catalogue) → Keeping version db taken.members T M → e.number ≡ n
     number_is T M K =
-        let only : editions_numbered n T.editions ≡ e ∷ [] = one_once e (editions_numbered n T.editions) (subst (λ x. Same (x ∷ []) (editions_numbered n T.editions)) (read_is edition_codec (stored_edition row) e refl) (editions_read db taken.members T M K n (stored_edition row ∷ []) one)) in
+        let only : editions_numbered n T.editions ≡ e ∷ [] = one_once e (editions_numbered n T.editions) (subst (λ x. Same (x ∷ []) (editions_numbered n T.editions)) (read_is edition_codec (stored_edition row) e refl) (editions_read version db taken.members T M K n (stored_edition row ∷ []) one)) in
         same_number_is e.number n (subst (AllByRecursion (λ x. same_number x.number n ≡ true)) only (all_passed (λ (x : spec.Edition). same_number x.number n) T.editions)).0
 
-    entries_are_of : (T : Tables) (M : Catalogue) → Keeping db taken.members T M → (given : List EntryRow) → IsFront (EntriesOf n) db (map stored_entry given) → AreOf (with_edition taken e) (entries_given given)
+    entries_are_of : (T : Tables) (M : Catalogue) → Keeping version db taken.members T M → (given : List EntryRow) → IsFront (EntriesOf n) db (map stored_entry given) → AreOf (with_edition taken e) (entries_given given)
     entries_are_of T M K given front =
         let found = find_edition T M.items n K.stands.editions (can.known T M K) in
         let more = map (read entry_codec) front.0 in
-        let whole : entries_of n T.entries ≡ entries_given given ++ more = entries_read db taken.members T M K n found (map stored_entry given ++ front.0) front.1 ∙ front_read entry_codec given front.0 in
+        let whole : entries_of n T.entries ≡ entries_given given ++ more = entries_read version db taken.members T M K n found (map stored_entry given ++ front.0) front.1 ∙ front_read entry_codec given front.0 in
         let all = (all_append_parts (λ (x : spec.Entry). same_number x.edition n ≡ true) (entries_given given) more (subst (AllByRecursion (λ (x : spec.Entry). same_number x.edition n ≡ true)) whole (all_passed (λ (x : spec.Entry). same_number x.edition n) T.entries))).0 in
         all_weaker (λ (x : spec.Entry). same_number x.edition n ≡ true) (IsOfLast (with_edition taken e)) (λ x p. (taken.editions, e, refl, same_number_is x.edition n p ∙ sym (number_is T M K))) (entries_given given) all
 
-    pub entries_wrong : (reader : Reader) → HasTaken 1 reader (with_edition taken e) → IsWrong stored_entry entry_columns refuses_entries (EntriesOf n) db reader → KeepsNone db taken.members
+    pub entries_wrong : (reader : Reader) → HasTaken version reader (with_edition taken e) → IsWrong stored_entry entry_columns refuses_entries (EntriesOf n) db reader → KeepsNone version db taken.members
     entries_wrong reader h (inl w) T M K =
-        w.3 (last_holds (HasColumns entry_columns) (filter (equals_number 1 n) (rows_of (codes "entry") db)) (map stored_entry w.0) w.2.0 w.1 (all_filter (HasColumns entry_columns) (equals_number 1 n) (rows_of (codes "entry") db) K.records.entries) w.2.1.same)
+        w.3 (last_holds (HasColumns entry_columns) (filter (equals_number 1 n) (rows_of (codes "entry") db)) (map stored_entry w.0) w.2.0 w.1 (all_filter (HasColumns entry_columns) (equals_number 1 n) (rows_of (codes "entry") db) K.records.1.1.1.1.0) w.2.1.same)
     entries_wrong reader h (inr w) T M K =
-        w.2 1 (with_edition taken e) h (entries_are_of T M K w.0 w.1) T M (fits_entries db (with_edition taken e) now_fits n can.known w.0 w.1 can.no_entries T M K) K.stands
+        w.2 version (with_edition taken e) h (entries_are_of T M K w.0 w.1) T M (fits_entries version db (with_edition taken e) now_fits n can.known w.0 w.1 can.no_entries T M K) K.stands

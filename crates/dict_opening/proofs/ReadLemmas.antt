@@ -56,8 +56,8 @@ none_passes : {X : Type 0} (xs : List X) → filter (λ _. false) xs ≡ []
 none_passes [] = refl
 none_passes (x ∷ xs) = none_passes xs
 
-pub read_none : (db : Database) (reader : Reader) (numbers : List ℤ) (front : Tables) → CanRead db reader numbers front → HasRead db [] front front
-read_none db reader numbers front can = record {
+pub read_none : (version : ℕ) (db : Database) (reader : Reader) (numbers : List ℤ) (front : Tables) → CanRead version db reader numbers front → HasRead version db [] front front
+read_none version db reader numbers front can = record {
   marks = refl;
   items = refl;
   members = refl;
@@ -75,16 +75,16 @@ read_none db reader numbers front can = record {
 
 -- ---- the next one
 
-pub can_one : (db : Database) (reader : Reader) (numbers ns : List ℤ) (front taken : Tables) (n : ℤ) → CanRead db reader numbers front → HasRead db ns front taken → has_number (items_in reader) n ≡ true → is_of ns n ≡ false → CanReadOne db taken n
-can_one db reader numbers ns front taken n can done there new = record {
+pub can_one : (version : ℕ) (db : Database) (reader : Reader) (numbers ns : List ℤ) (front taken : Tables) (n : ℤ) → CanRead version db reader numbers front → HasRead version db ns front taken → has_number (items_in reader) n ≡ true → is_of ns n ≡ false → CanReadOne version db taken n
+can_one version db reader numbers ns front taken n can done there new = record {
   fits = done.fits;
   known = (λ T M K. known T M (record { keeps = K.keeps; same_members = K.same_members ∙ done.members; stands = K.stands; records = K.records }));
   no_editions = done.other_editions n new;
   no_entries = done.other_entries n new;
 }
   where
-    known : (T : Tables) (M : Catalogue) → Keeping db front.members T M → has_number M.items n ≡ true
-    known T M K = ap (λ ns. list_any (λ one. same_number (pos one) n) ns) (numbers_taken 1 reader front T M can.taken (can.fits T M K) K.stands) ∙ there
+    known : (T : Tables) (M : Catalogue) → Keeping version db front.members T M → has_number M.items n ≡ true
+    known T M K = ap (λ ns. list_any (λ one. same_number (pos one) n) ns) (numbers_taken version reader front T M can.taken (can.fits T M K) K.stands) ∙ there
 
 both_no : (a b : Bool) → (a ≡ true → b ≡ true → ⊥) → (a && b) ≡ false
 both_no true true h = absurd (h refl refl)
@@ -128,7 +128,7 @@ turned : (a b : ℤ) (s : Bool) → same_number a b ≡ s → same_number b a �
 turned a b true e h = absurd (false≢true (sym h ∙ subst (λ z. same_number z a ≡ true) (same_number_is a b e) (same_itself a)))
 turned a b false e h = refl
 
-module _ (db : Database) (ns : List ℤ) (front taken after : Tables) (n : ℤ) (done : HasRead db ns front taken) (can : CanReadOne db taken n) (one : HasReadOne db n taken after) (new : is_of ns n ≡ false) where
+module _ (version : ℕ) (db : Database) (ns : List ℤ) (front taken after : Tables) (n : ℤ) (done : HasRead version db ns front taken) (can : CanReadOne version db taken n) (one : HasReadOne db n taken after) (new : is_of ns n ≡ false) where
   abbrev e : spec.Edition
   e = edition_codec.owned one.row
 
@@ -155,10 +155,10 @@ module _ (db : Database) (ns : List ℤ) (front taken after : Tables) (n : ℤ) 
   all_given : IsFront (EntriesOf n) db (map stored_entry one.given)
   all_given = ([], subst (λ rows. IsSelection (codes "entry") (equals_number 1 n) (2 ∷ []) db rows) (sym (append-nil (map stored_entry one.given))) one.entries)
 
-  fits : Fits db whole
-  fits = fits_entries db (with_edition taken e) (fits_edition db taken can.fits n can.known one.row one.edition can.no_editions) n can.known one.given all_given can.no_entries
+  fits : Fits version db whole
+  fits = fits_entries version db (with_edition taken e) (fits_edition version db taken can.fits n can.known one.row one.edition can.no_editions) n can.known one.given all_given can.no_entries
 
-  whole_read : HasRead db (ns ++ n ∷ []) front whole
+  whole_read : HasRead version db (ns ++ n ∷ []) front whole
   whole_read = record {
     marks = done.marks;
     items = done.items;
@@ -178,5 +178,5 @@ module _ (db : Database) (ns : List ℤ) (front taken after : Tables) (n : ℤ) 
         filter-append (λ (x : spec.Entry). same_number x.edition m) taken.entries es ∙ (λ i. done.other_entries m p.0 i ++ none_of m (turned n m (same_number n m) refl p.1) es entries_are i));
   }
 
-  pub read_more : HasRead db (ns ++ n ∷ []) front after
-  read_more = subst (HasRead db (ns ++ n ∷ []) front) (sym one.after_is) whole_read
+  pub read_more : HasRead version db (ns ++ n ∷ []) front after
+  read_more = subst (HasRead version db (ns ++ n ∷ []) front) (sym one.after_is) whole_read

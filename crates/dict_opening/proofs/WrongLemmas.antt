@@ -30,7 +30,7 @@ use Rattle.dict_sql.specs.Encodings.{stored_mark, stored_item, stored_member, st
 use Rattle.dict_sql.specs.Reads.{IsListing, by_columns, numbered}
 use Rattle.dict_sql.specs.Streams.Scan.{AllEntries, AllKept, KeptById, ByRowid, EditionNumbers}
 use Rattle.dict_sql.proofs.KitLemmas.{value_cmp_total}
-use Rattle.dict_file.specs.Holds.{Keeps, KeepsAll}
+use Rattle.dict_file.specs.Holds.{Keeps, KeepsPlain}
 use Rattle.dict_file.proofs.ReadLemmas.{sorted_order, second_le, records_order}
 use Rattle.dict_catalogue.specs.Items.{Item, name_of, editions_of, edition_numbers, is_known}
 use Rattle.dict_catalogue.specs.Steps.{Catalogue}
@@ -49,13 +49,15 @@ use Rattle.dict_rows.proofs.LawfulLemmas.{once_true}
 use Rattle.dict_rows.proofs.FinishLemmas.{ids_same}
 use Rattle.dict_rows.proofs.OrderLemmas.{Same, same_from, all_same, members_same}
 use Rattle.dict_rows.proofs.TakenLemmas.{same_itself, holds_same}
-use Rattle.dict_opening.specs.Opens.{KeepsNone, Fits, HoldsNone, HasBegun, CanRead}
+use Rattle.dict_opening.specs.Opens.{KeepsNone, Fits, HoldsNoneAs, HasBegun, CanRead}
 use Rattle.dict_opening.specs.Scans.{HasNoRecordIn, IsWrong}
 use Rattle.dict_opening.specs.Takers.{KeptRow, ids_given, HasStray, HasIdsApart, HasIdTwice, refuses_replies, number_given, entry_edition}
 use Rattle.dict_opening.proofs.CodecLemmas.{Codec, read, read_stored, stored_rows, listed_records, member_codec, entry_codec, kept_codec, mark_codec, item_codec}
 use Rattle.dict_opening.proofs.FitLemmas.{front_read, fits_begun, fits_replies, none_kept}
 use Rattle.dict_opening.proofs.NoneLemmas.{last_holds}
 use Rattle.dict_file.proofs.ReadableLemmas.{held_rows}
+use Rattle.dict_file.proofs.ReadingLemmas.{plain_of}
+use Rattle.dict_rows.specs.Versions.{Plain, layout_of}
 use Rattle.dict_opening.proofs.RowidLemmas.{all_numbered}
 
 -- ---- rowids
@@ -92,9 +94,9 @@ members_order db rows h =
     records_order stored_member (λ (row : MemberRow). owned_member row.value) (λ (a b : Row). is_lt (by_columns (1 ∷ 2 ∷ []) b a) ≡ false) (λ (a b : spec.Member). a.owner ≡ b.owner → a.ord ≤ℤ b.ord)
     (λ a b r same. second_le (owned_member a.value).owner (owned_member b.value).owner a.value.ord b.value.ord same r) rows (sorted_order (1 ∷ 2 ∷ []) (map stored_member rows) h.sorted)
 
-module _ (db : Database) (marks : List (Beside (typed.Mark.Mark (String Global)))) (items : List (Beside (typed.Item.Item (String Global)))) (members : List MemberRow)
+module _ (version : ℕ) (without_keys : layout_of version ≡ Plain) (db : Database) (marks : List (Beside (typed.Mark.Mark (String Global)))) (items : List (Beside (typed.Item.Item (String Global)))) (members : List MemberRow)
     (lm : IsListing (codes "mark") (1 ∷ []) db (map stored_mark marks)) (li : IsListing (codes "item") (1 ∷ []) db (map stored_item items)) (lo : IsListing (codes "member") (1 ∷ 2 ∷ []) db (map stored_member members)) where
-  stands_so : (T : Tables) (M : Catalogue) → KeepsAll db T → Stands 1 T M → Stands 1 (record T { members = members_given members }) M
+  stands_so : (T : Tables) (M : Catalogue) → KeepsPlain db T → Stands version T M → Stands version (record T { members = members_given members }) M
   stands_so T M keeps s =
       let new = members_given members in
       let changed : Tables = record T { members = new } in
@@ -111,10 +113,10 @@ module _ (db : Database) (marks : List (Beside (typed.Mark.Mark (String Global))
         kept = s.kept;
       }
 
-  keeps_so : (T : Tables) → KeepsAll db T → KeepsAll db (record T { members = members_given members })
+  keeps_so : (T : Tables) → KeepsPlain db T → KeepsPlain db (record T { members = members_given members })
   keeps_so T k = record { marks = k.marks; items = k.items; members = record { rows = rows_listed member_codec (codes "member") (1 ∷ 2 ∷ []) db members lo; apart = k.members.apart }; editions = k.editions; entries = k.entries; kept = k.kept }
 
-  pub has_begun : HasBegun db (begun (marks_given marks) (items_given items) (members_given members))
+  pub has_begun : HasBegun version db (begun (marks_given marks) (items_given items) (members_given members))
   has_begun = record {
     marks = rows_listed mark_codec (codes "mark") (1 ∷ []) db marks lm;
     items = rows_listed item_codec (codes "item") (1 ∷ []) db items li;
@@ -122,12 +124,14 @@ module _ (db : Database) (marks : List (Beside (typed.Mark.Mark (String Global))
     no_editions = refl;
     no_entries = refl;
     no_kept = refl;
-    fits = fits_begun db marks items members lm li;
-    none = (λ none M h. none (record h.tables { members = members_given members }) M (record { keeps = keeps_so h.tables h.keeps; same_members = refl; stands = stands_so h.tables M h.keeps h.stands; records = held_rows db M h }));
+    fits = fits_begun version db marks items members lm li;
+    none = (λ none M h.
+        let k = plain_of version db M without_keys h in
+        none (record h.tables { members = members_given members }) M (record { keeps = keeps_so h.tables k; same_members = refl; stands = stands_so h.tables M k h.stands; records = held_rows version db M without_keys h }));
   }
 
-  pub begin_wrong : StandsForNone 1 (begun (marks_given marks) (items_given items) (members_given members)) → HoldsNone db
-  begin_wrong none = has_begun.none (none_kept db (begun (marks_given marks) (items_given items) (members_given members)) has_begun.fits none)
+  pub begin_wrong : StandsForNone version (begun (marks_given marks) (items_given items) (members_given members)) → HoldsNoneAs version db
+  begin_wrong none = has_begun.none (none_kept version db (begun (marks_given marks) (items_given items) (members_given members)) has_begun.fits none)
 
 -- ---- numbers
 
@@ -166,8 +170,8 @@ once_of installs items h =
     let a = and_parts (nat_le (length items) 64 && list_all is_lawful_item items && has_names_once items && list_all (has_known_members items) items) (has_lawful_numbers installs (edition_numbers items)) h in
     (and_parts (list_all (is_from_one_to installs) (edition_numbers items)) (has_numbers_once (edition_numbers items)) a.1).1
 
-pub can_read : (db : Database) (reader : Reader) (front : Tables) → HasTaken 1 reader front → HasBegun db front → CanRead db reader (map pos (edition_numbers (items_in reader))) front
-can_read db reader front h b = record {
+pub can_read : (version : ℕ) (db : Database) (reader : Reader) (front : Tables) → HasTaken version reader front → HasBegun version db front → CanRead version db reader (map pos (edition_numbers (items_in reader))) front
+can_read version db reader front h b = record {
   taken = h;
   no_editions = b.no_editions;
   no_entries = b.no_entries;
@@ -200,26 +204,26 @@ none_numbered : (n : ℤ) (rows : List Row) → AllByRecursion (λ r. column r 0
 none_numbered n [] h = tt
 none_numbered n (r ∷ rows) h = ((λ e. h.0 (behind r ∙ e)), none_numbered n rows h.1)
 
-pub editions_stray : (db : Database) (reader : Reader) (taken : Tables) → HasTaken 1 reader taken → Fits db taken → HasNoRecordIn stored_number number_columns EditionNumbers db ⊎ HasStray stored_number number_given EditionNumbers db reader → KeepsNone db taken.members
-editions_stray db reader taken h fits (inl w) T M K = no_numbered_record db K.records.editions w
-editions_stray db reader taken h fits (inr w) T M K =
+pub editions_stray : (version : ℕ) (db : Database) (reader : Reader) (taken : Tables) → HasTaken version reader taken → Fits version db taken → HasNoRecordIn stored_number number_columns EditionNumbers db ⊎ HasStray stored_number number_given EditionNumbers db reader → KeepsNone version db taken.members
+editions_stray version db reader taken h fits (inl w) T M K = no_numbered_record db K.records.1.1.1.0 w
+editions_stray version db reader taken h fits (inr w) T M K =
     let n = number_given w.1 in
     let rows = rows_of (codes "edition") db in
-    let none = (w.3 1 taken T M h (fits T M K) K.stands).0 in
+    let none = (w.3 version taken T M h (fits T M K) K.stands).0 in
     let all = none_numbered n rows (all_same (λ r. column r 0 ≡ Int n → ⊥) (map edition_row T.editions) (map (drop 1) rows) K.keeps.editions.rows (no_number n T.editions none)) in
     last_holds (λ r. column r 1 ≡ Int n → ⊥) (map numbered rows) (map stored_number w.0) w.2.0 (stored_number w.1) all
     (subst (λ l. IsPermutation (map numbered rows) (l ++ w.2.0)) (map-append stored_number w.0 (w.1 ∷ [])) w.2.1.same) refl
 
-pub entries_stray : (db : Database) (reader : Reader) (taken : Tables) → HasTaken 1 reader taken → Fits db taken → HasNoRecordIn stored_entry entry_columns AllEntries db ⊎ HasStray stored_entry entry_edition AllEntries db reader → KeepsNone db taken.members
-entries_stray db reader taken h fits (inl w) T M K = w.3 (last_holds (HasColumns entry_columns) (rows_of (codes "entry") db) (map stored_entry w.0) w.2.0 w.1 K.records.entries w.2.1.same)
-entries_stray db reader taken h fits (inr w) T M K =
-    last_read entry_codec (codes "entry") (1 ∷ 2 ∷ []) db T.entries K.keeps.entries (λ row. row.edition ≡ entry_edition w.1 → ⊥) (w.3 1 taken T M h (fits T M K) K.stands).1 w.0 w.1 w.2.0 w.2.1 refl
+pub entries_stray : (version : ℕ) (db : Database) (reader : Reader) (taken : Tables) → HasTaken version reader taken → Fits version db taken → HasNoRecordIn stored_entry entry_columns AllEntries db ⊎ HasStray stored_entry entry_edition AllEntries db reader → KeepsNone version db taken.members
+entries_stray version db reader taken h fits (inl w) T M K = w.3 (last_holds (HasColumns entry_columns) (rows_of (codes "entry") db) (map stored_entry w.0) w.2.0 w.1 K.records.1.1.1.1.0 w.2.1.same)
+entries_stray version db reader taken h fits (inr w) T M K =
+    last_read entry_codec (codes "entry") (1 ∷ 2 ∷ []) db T.entries K.keeps.entries (λ row. row.edition ≡ entry_edition w.1 → ⊥) (w.3 version taken T M h (fits T M K) K.stands).1 w.0 w.1 w.2.0 w.2.1 refl
 
 -- ---- the kept replies
 
-pub replies_wrong : (db : Database) (reader : Reader) (taken : Tables) → HasTaken 1 reader taken → Fits db taken → taken.kept ≡ [] → IsWrong stored_kept kept_columns refuses_replies AllKept db reader → KeepsNone db taken.members
-replies_wrong db reader taken h fits none (inl w) T M K = w.3 (last_holds (HasColumns kept_columns) (rows_of (codes "kept") db) (map stored_kept w.0) w.2.0 w.1 K.records.kept w.2.1.same)
-replies_wrong db reader taken h fits none (inr w) T M K = none_kept db (with_replies taken (kept_given w.0)) (fits_replies db taken fits none w.0 w.1) (w.2 1 taken h) T M K
+pub replies_wrong : (version : ℕ) (db : Database) (reader : Reader) (taken : Tables) → HasTaken version reader taken → Fits version db taken → taken.kept ≡ [] → IsWrong stored_kept kept_columns refuses_replies AllKept db reader → KeepsNone version db taken.members
+replies_wrong version db reader taken h fits none (inl w) T M K = w.3 (last_holds (HasColumns kept_columns) (rows_of (codes "kept") db) (map stored_kept w.0) w.2.0 w.1 K.records.1.1.1.1.1.0 w.2.1.same)
+replies_wrong version db reader taken h fits none (inr w) T M K = none_kept version db (with_replies taken (kept_given w.0)) (fits_replies version db taken fits none w.0 w.1) (w.2 version taken h) T M K
 
 once_same : (xs ys : List (List ℕ)) → Same xs ys → IsEachOnce xs → IsEachOnce ys
 once_same xs ys s h text = let few : total (λ one. cond (bytes_eq one text) 1 0) xs ≤ 1 = h text in let same = s.counts (λ one. bytes_eq one text) in omega (arith, few, same)
@@ -233,9 +237,9 @@ once_front xs ys h text =
 abbrev id_of : spec.Kept → List ℕ
 id_of row = row.id
 
-pub ids_twice : (db : Database) (members : List spec.Member) → HasNoRecordIn stored_kept kept_columns KeptById db ⊎ HasIdTwice db → KeepsNone db members
-ids_twice db members (inl w) T M K = w.3 (last_holds (HasColumns kept_columns) (rows_of (codes "kept") db) (map stored_kept w.0) w.2.0 w.1 K.records.kept w.2.1.same)
-ids_twice db members (inr w) T M K =
+pub ids_twice : (version : ℕ) (db : Database) (members : List spec.Member) → HasNoRecordIn stored_kept kept_columns KeptById db ⊎ HasIdTwice db → KeepsNone version db members
+ids_twice version db members (inl w) T M K = w.3 (last_holds (HasColumns kept_columns) (rows_of (codes "kept") db) (map stored_kept w.0) w.2.0 w.1 K.records.1.1.1.1.1.0 w.2.1.same)
+ids_twice version db members (inr w) T M K =
     let rows = map stored_kept w.0 ++ w.1.0 in
     let found = (listed_records kept_codec (codes "kept") db T.kept K.keeps.kept rows w.1.1.same).0 in
     let once : IsEachOnce (map id_of T.kept) = subst IsEachOnce (sym (ap (map id_of) K.stands.kept ∙ ids_same M.kept)) K.stands.well_formed.ids in

@@ -29,23 +29,25 @@ use Rattle.sqlite.specs.declared.types.Value.TheVariants.{Int}
 use Rattle.dict_rows.specs.Tables.{Tables, editions_numbered, entries_of}
 use Rattle.dict_rows.specs.Stands.{Stands, has_number}
 use Rattle.dict_rows.specs.Taken.{GoesOn, HasTaken, HasIdsOnce, items_in, with_edition}
-use Rattle.dict_file.specs.Holds.{KeepsAll}
-pub use Rattle.dict_file.specs.Holds.{HasReadableRows, HoldsNone}
+use Rattle.dict_rows.specs.Versions.{Plain, IsVersion}
+use Rattle.dict_file.specs.Holds.{KeepsPlain}
+pub use Rattle.dict_file.specs.Holds.{HoldsNone, HoldsNoneAs}
+pub use Rattle.dict_file.specs.Readings.{HasReadableRows, HasRowidsApart}
 
--- the database keeps tables with the members in this order, and they stand for the catalogue
-pub record Keeping (db : Database) (members : List Member) (tables : Tables) (M : Catalogue) : Type 0 where
-  pub keeps : KeepsAll db tables
+-- the database keeps tables with the members in this order, and they stand for the catalogue under this version
+pub record Keeping (version : ℕ) (db : Database) (members : List Member) (tables : Tables) (M : Catalogue) : Type 0 where
+  pub keeps : KeepsPlain db tables
   pub same_members : tables.members ≡ members
-  pub stands : Stands 1 tables M
-  pub records : HasReadableRows db
+  pub stands : Stands version tables M
+  pub records : HasReadableRows Plain db
 
 -- it keeps none that stand for a catalogue
-abbrev pub KeepsNone : Database → List Member → Type 0
-KeepsNone db members = (tables : Tables) (M : Catalogue) → Keeping db members tables M → ⊥
+abbrev pub KeepsNone : ℕ → Database → List Member → Type 0
+KeepsNone version db members = (tables : Tables) (M : Catalogue) → Keeping version db members tables M → ⊥
 
 -- all such tables go on from these
-abbrev pub Fits : Database → Tables → Type 0
-Fits db front = (tables : Tables) (M : Catalogue) → Keeping db front.members tables M → GoesOn front tables
+abbrev pub Fits : ℕ → Database → Tables → Type 0
+Fits version db front = (tables : Tables) (M : Catalogue) → Keeping version db front.members tables M → GoesOn front tables
 
 -- ---- the editions of some numbers
 
@@ -54,9 +56,9 @@ abbrev pub one_of : List ℤ → Row → Bool
 one_of numbers row = list_any (λ n. equals_number 1 n row) numbers
 
 -- what is known before the edition of a number is read
-pub record CanReadOne (db : Database) (taken : Tables) (n : ℤ) : Type 0 where
-  pub fits : Fits db taken
-  pub known : (tables : Tables) (M : Catalogue) → Keeping db taken.members tables M → has_number M.items n ≡ true
+pub record CanReadOne (version : ℕ) (db : Database) (taken : Tables) (n : ℤ) : Type 0 where
+  pub fits : Fits version db taken
+  pub known : (tables : Tables) (M : Catalogue) → Keeping version db taken.members tables M → has_number M.items n ≡ true
   pub no_editions : editions_numbered n taken.editions ≡ []
   pub no_entries : entries_of n taken.entries ≡ []
 
@@ -69,16 +71,16 @@ pub record HasReadOne (db : Database) (n : ℤ) (taken after : Tables) : Type 0 
   pub after_is : after ≡ with_entries (with_edition taken (owned_edition row.value)) (entries_given given)
 
 -- what is known before the editions of some numbers are read
-pub record CanRead (db : Database) (reader : Reader) (numbers : List ℤ) (front : Tables) : Type 0 where
-  pub taken : HasTaken 1 reader front
+pub record CanRead (version : ℕ) (db : Database) (reader : Reader) (numbers : List ℤ) (front : Tables) : Type 0 where
+  pub taken : HasTaken version reader front
   pub no_editions : front.editions ≡ []
   pub no_entries : front.entries ≡ []
-  pub fits : Fits db front
+  pub fits : Fits version db front
   pub known : AllByRecursion (λ n. has_number (items_in reader) n ≡ true) numbers
   pub apart : InOrder (λ a b. a ≡ b → ⊥) numbers
 
 -- the editions of these numbers were read, and their entries
-pub record HasRead (db : Database) (numbers : List ℤ) (front after : Tables) : Type 0 where
+pub record HasRead (version : ℕ) (db : Database) (numbers : List ℤ) (front after : Tables) : Type 0 where
   pub marks : after.marks ≡ front.marks
   pub items : after.items ≡ front.items
   pub members : after.members ≡ front.members
@@ -89,7 +91,7 @@ pub record HasRead (db : Database) (numbers : List ℤ) (front after : Tables) :
   pub entry_rows : List Row
   pub entries : IsPermutation (filter (one_of numbers) (rows_of (codes "entry") db)) entry_rows
   pub entries_are : map (drop 1) entry_rows ≡ map entry_row after.entries
-  pub fits : Fits db after
+  pub fits : Fits version db after
   pub other_editions : (n : ℤ) → is_of numbers n ≡ false → editions_numbered n after.editions ≡ []
   pub other_entries : (n : ℤ) → is_of numbers n ≡ false → entries_of n after.entries ≡ []
 
@@ -114,31 +116,22 @@ pub record KeepsRows (db : Database) (tables : Tables) : Type 0 where
   pub entries : IsPermutation (map entry_row tables.entries) (map (drop 1) (rows_of (codes "entry") db))
   pub kept : IsPermutation (map kept_row tables.kept) (map (drop 1) (rows_of (codes "kept") db))
 
--- In no table do two rows have one rowid.
-pub record HasRowidsApart (db : Database) : Type 0 where
-  pub marks : HasApartRowids (rows_of (codes "mark") db)
-  pub items : HasApartRowids (rows_of (codes "item") db)
-  pub members : HasApartRowids (rows_of (codes "member") db)
-  pub editions : HasApartRowids (rows_of (codes "edition") db)
-  pub entries : HasApartRowids (rows_of (codes "entry") db)
-  pub kept : HasApartRowids (rows_of (codes "kept") db)
-
 -- the mark, the items and the members were read
-pub record HasBegun (db : Database) (front : Tables) : Type 0 where
+pub record HasBegun (version : ℕ) (db : Database) (front : Tables) : Type 0 where
   pub marks : IsPermutation (map mark_row front.marks) (map (drop 1) (rows_of (codes "mark") db))
   pub items : IsPermutation (map item_row front.items) (map (drop 1) (rows_of (codes "item") db))
   pub members : IsPermutation (map member_row front.members) (map (drop 1) (rows_of (codes "member") db))
   pub no_editions : front.editions ≡ []
   pub no_entries : front.entries ≡ []
   pub no_kept : front.kept ≡ []
-  pub fits : Fits db front
-  pub none : KeepsNone db front.members → HoldsNone db
+  pub fits : Fits version db front
+  pub none : KeepsNone version db front.members → HoldsNoneAs version db
 
 -- the editions that the items name were read, with their entries
-pub record HasNamed (db : Database) (reader : Reader) (front after : Tables) : Type 0 where
+pub record HasNamed (version : ℕ) (db : Database) (reader : Reader) (front after : Tables) : Type 0 where
   pub numbers : List ℤ
   pub are : numbers ≡ map pos (edition_numbers (items_in reader))
-  pub read : HasRead db numbers front after
+  pub read : HasRead version db numbers front after
 
 -- the numbers of all editions and entries are those of the items
 pub record AreAllKnown (db : Database) (reader : Reader) : Type 0 where
@@ -160,18 +153,18 @@ pub record HasReplies (db : Database) (taken after : Tables) : Type 0 where
   pub ids : IsEachOnce (ids_given given)
 
 -- all records were read
-pub record HasAll (db : Database) (front after : Tables) : Type 0 where
+pub record HasAll (version : ℕ) (db : Database) (front after : Tables) : Type 0 where
   pub keeps : KeepsRows db after
   pub members : after.members ≡ front.members
-  pub fits : Fits db after
+  pub fits : Fits version db after
   pub ids : HasIdsOnce after
 
--- the records of all rows stand for the catalogue of this summary
-pub record HasSummary (db : Database) (shown : Holdings (List ℕ)) : Type 0 where
+-- the records of all rows stand for the catalogue of this summary, under this version
+pub record HasSummary (version : ℕ) (db : Database) (shown : Holdings (List ℕ)) : Type 0 where
   pub catalogue : Catalogue
   pub tables : Tables
   pub keeps : KeepsRows db tables
-  pub stands : Stands 1 tables catalogue
+  pub stands : Stands version tables catalogue
   pub summary : summary_of catalogue ≡ shown
 
 -- ---- the mark
@@ -187,6 +180,12 @@ pub record HasMark (db : Database) (version : ℕ) : Type 0 where
   pub installs : ℤ
   pub rows : rows_of (codes "mark") db ≡ (Int rowid ∷ mark_row (marked version installs)) ∷ []
   pub counted : 1 ≤ version
+
+-- there is the mark of a version that is known
+pub record HasKnownMark (db : Database) : Type 0 where
+  pub version : ℕ
+  pub known : IsVersion version
+  pub marked : HasMark db version
 
 -- the list of marks is one of this version, with the product's id and word
 abbrev pub IsMarked : List (Stored (typed.Mark.Mark (String Global))) → ℕ → Type 0

@@ -1,5 +1,5 @@
 // The editions that the items name, each with its entries.
-ghost use Rattle.std.specs.Prelude.{◌≡◌, [], ◌∷◌, codes, IfOk, IfErr, OnOk};
+ghost use Rattle.std.specs.Prelude.{◌≡◌, ℕ, [], ◌∷◌, codes, IfOk, IfErr, OnOk};
 ghost use Rattle.sqlite.specs.State.{HasCleanDisk};
 ghost use Rattle.sqlite.specs.Held.{state};
 ghost use Rattle.dict_tables.specs.Tables.{edition as edition_table};
@@ -53,8 +53,8 @@ fn read_number<S: Alter>(
     ensures reads { OnlyReads (state S.Store conn.old) (state S.Store conn.new) }
     ensures failed { HasCleanDisk (state S.Store conn.new) → IfErr result (IsExcused (state S.Store conn.old) (state S.Store conn.new)) }
     ensures same { HasCleanDisk (state S.Store conn.new) → OnOk result (Same (state S.Store conn.old) (state S.Store conn.new)) }
-    ensures whole { HasCleanDisk (state S.Store conn.new) → OnOk result ((taken : Tables) → HasTaken 1 reader.old taken → (after : Tables) × HasTaken 1 reader.new after × HasReadOne (state S.Store conn.old).now number taken after) }
-    ensures damaged { HasCleanDisk (state S.Store conn.new) → IfErr result (λ fault. fault ≡ ReadingFault.Damaged → (taken : Tables) → HasTaken 1 reader.old taken → CanReadOne (state S.Store conn.old).now taken number → KeepsNone (state S.Store conn.old).now taken.members) }
+    ensures whole { HasCleanDisk (state S.Store conn.new) → OnOk result ((version : ℕ) (taken : Tables) → HasTaken version reader.old taken → (after : Tables) × HasTaken version reader.new after × HasReadOne (state S.Store conn.old).now number taken after) }
+    ensures damaged { HasCleanDisk (state S.Store conn.new) → IfErr result (λ fault. fault ≡ ReadingFault.Damaged → (version : ℕ) (taken : Tables) → HasTaken version reader.old taken → CanReadOne version (state S.Store conn.old).now taken number → KeepsNone version (state S.Store conn.old).now taken.members) }
 {
     reader.let_go();
     let row = edition_numbered(alloc, conn, number)?;
@@ -75,8 +75,8 @@ pub(crate) fn read_numbers<S: Alter>(
     ensures reads { OnlyReads (state S.Store conn.old) (state S.Store conn.new) }
     ensures failed { HasCleanDisk (state S.Store conn.new) → IfErr result (IsExcused (state S.Store conn.old) (state S.Store conn.new)) }
     ensures same { HasCleanDisk (state S.Store conn.new) → OnOk result (Same (state S.Store conn.old) (state S.Store conn.new)) }
-    ensures whole { HasCleanDisk (state S.Store conn.new) → OnOk result ((front : Tables) → CanRead (state S.Store conn.old).now reader.old numbers.now front → (after : Tables) × HasTaken 1 reader.new after × HasRead (state S.Store conn.old).now numbers.now front after) }
-    ensures damaged { HasCleanDisk (state S.Store conn.new) → IfErr result (λ fault. fault ≡ ReadingFault.Damaged → (front : Tables) → CanRead (state S.Store conn.old).now reader.old numbers.now front → KeepsNone (state S.Store conn.old).now front.members) }
+    ensures whole { HasCleanDisk (state S.Store conn.new) → OnOk result ((version : ℕ) (front : Tables) → CanRead version (state S.Store conn.old).now reader.old numbers.now front → (after : Tables) × HasTaken version reader.new after × HasRead version (state S.Store conn.old).now numbers.now front after) }
+    ensures damaged { HasCleanDisk (state S.Store conn.new) → IfErr result (λ fault. fault ≡ ReadingFault.Damaged → (version : ℕ) (front : Tables) → CanRead version (state S.Store conn.old).now reader.old numbers.now front → KeepsNone version (state S.Store conn.old).now front.members) }
 {
     for number in numbers {
         read_number(alloc, conn, *number, reader)?;

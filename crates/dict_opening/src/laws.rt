@@ -1,26 +1,28 @@
 // What holds of a database that holds a catalogue.
-ghost use Rattle.std.specs.Prelude.{◌≡◌, ℕ};
+ghost use Rattle.std.specs.Prelude.{◌≡◌, ◌≤◌, ℕ};
 ghost use Rattle.sqlite.specs.Effect.{Database, IsDatabase};
 ghost use Rattle.sqlite.specs.Tree.{Trees};
 ghost use Rattle.dict_catalogue.specs.Steps.{Catalogue};
-ghost use Rattle.dict_file.specs.Holds.{Holds, IsLeft};
-ghost use Rattle.dict_opening.specs.Opens.{HasMark};
+ghost use Rattle.dict_file.specs.Holds.{Holds, IsHeld, IsLeft};
+ghost use Rattle.dict_opening.specs.Opens.{HasMark, HasKnownMark};
 
-/// A database that holds a catalogue has the readable mark of the known version, and of no other: it is never told that it
-/// is no catalogue, or one of a newer schema.
+/// A database that holds a catalogue has the readable mark of its version, and of no other: what the faults of an opening tell of
+/// a database is never so of one that holds a catalogue.
 ///
 /// It does nothing. Its clauses are the law.
 pub fn held_is_marked()
-    ensures marked { (db : Database) (M : Catalogue) → Holds 1 db M → HasMark db 1 }
-    ensures once { (db : Database) (M : Catalogue) (version : ℕ) → Holds 1 db M → HasMark db version → version ≡ 1 }
+    ensures marked { (version : ℕ) (db : Database) (M : Catalogue) → 1 ≤ version → Holds version db M → HasMark db version }
+    ensures known { (db : Database) (M : Catalogue) → IsHeld db M → HasKnownMark db }
+    ensures once { (db : Database) (v w : ℕ) → HasMark db v → HasMark db w → v ≡ w }
 {}
 
-/// A database holds one catalogue at most. So do the trees that a stop leaves, and every database over them holds what they
-/// hold.
+/// A database that holds a catalogue has one version, and holds no other catalogue under any. So do the trees that a stop leaves,
+/// and every database over them holds what they hold.
 ///
 /// It does nothing. Its clauses are the law.
 pub fn one_is_held()
-    ensures held { (version : ℕ) (db : Database) (M N : Catalogue) → Holds version db M → Holds version db N → M ≡ N }
-    ensures left { (version : ℕ) (trees : Trees) (M N : Catalogue) → IsLeft version M trees → IsLeft version N trees → M ≡ N }
-    ensures over { (version : ℕ) (db : Database) (M : Catalogue) → IsDatabase db → IsLeft version M db.trees → Holds version db M }
+    ensures version { (db : Database) (v w : ℕ) (M N : Catalogue) → Holds v db M → Holds w db N → v ≡ w }
+    ensures held { (db : Database) (M N : Catalogue) → IsHeld db M → IsHeld db N → M ≡ N }
+    ensures left { (trees : Trees) (M N : Catalogue) → IsLeft M trees → IsLeft N trees → M ≡ N }
+    ensures over { (db : Database) (M : Catalogue) → IsDatabase db → IsLeft M db.trees → IsHeld db M }
 {}

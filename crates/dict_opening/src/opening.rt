@@ -11,16 +11,19 @@ ghost use Rattle.dict_sql.specs.Reads.{IsListing};
 ghost use Rattle.dict_catalogue.specs.Steps.{Catalogue, summary_of};
 ghost use Rattle.dict_catalogue.specs.Views.{summary_shown};
 ghost use Rattle.dict_file.specs.Holds.{Holds, Rests};
+ghost use Rattle.dict_file.specs.Room.{MayBecomeShown};
 ghost use Rattle.dict_opening.specs.Reading.{Same, OnlyReads, IsOfOpening, IsExcused, HasFailed, fault_told};
-ghost use Rattle.dict_opening.specs.Opens.{HoldsNone, HasMark, IsMarked, marked};
+ghost use Rattle.dict_opening.specs.Opens.{HoldsNone, HoldsNoneAs, HasMark, HasKnownMark, IsMarked, marked};
+ghost use Rattle.dict_rows.specs.Versions.{Plain, layout_of, known, IsVersion};
 
 use crate::fault::ReadingFault;
 use crate::records::read_records;
 use crate::rowids::test_all_rowids;
 use dict_catalogue::Summary;
 use dict_desk::Fault;
-use dict_file::fault_of;
+use dict_file::{fault_of, may_become_shown};
 use dict_records::{Mark, Stored};
+use dict_rows::KNOWN_VERSION;
 use dict_sql::read::marks;
 use dict_sql::records::ReadError;
 use dict_tables::{StoreTable, has_table};
@@ -40,23 +43,32 @@ fn has_tables(schema: &Schema) -> bool
         && has_table(schema, StoreTable::Kept)
 }
 
-/// The summary of the catalogue that the tables hold, where these are the records of the mark. Editions are read first: what
+/// Whether a schema has all tables of a version without keys, and leaves room for those that come with keys.
+fn has_layout(schema: &Schema) -> bool
+    ensures { IsTrue result ↔ (AllByRecursion (λ t. HasOwn schema.now (table_of t)) store_tables × MayBecomeShown Plain schema.now) }
+{
+    has_tables(schema) && may_become_shown(schema)
+}
+
+/// The summary of the catalogue that the tables hold, where these are the records of the mark, which is of this version. Editions are read first: what
 /// is read before them leaves less room for their texts.
 fn read_tables<S: Alter>(
     alloc: Global,
     conn: &mut Connection<S>,
+    version: u64,
     marks: &[Stored<Mark<String>>],
 ) -> Result<Summary, ReadingFault>
+    requires plain { layout_of version ≡ Plain }
     ensures reads { OnlyReads (state S.Store conn.old) (state S.Store conn.new) }
     ensures failed { HasCleanDisk (state S.Store conn.new) → IfErr result (IsExcused (state S.Store conn.old) (state S.Store conn.new)) }
     ensures same { HasCleanDisk (state S.Store conn.new) → OnOk result (Same (state S.Store conn.old) (state S.Store conn.new)) }
-    ensures holds { HasCleanDisk (state S.Store conn.new) → IfOk result (λ summary. IsListing (codes "mark") (1 ∷ []) (state S.Store conn.old).now (map stored_mark marks.now) → (M : Catalogue) × Holds 1 (state S.Store conn.old).now M × (summary_of M ≡ summary_shown summary)) }
-    ensures damaged { HasCleanDisk (state S.Store conn.new) → IfErr result (λ fault. fault ≡ ReadingFault.Damaged → IsListing (codes "mark") (1 ∷ []) (state S.Store conn.old).now (map stored_mark marks.now) → HoldsNone (state S.Store conn.old).now) }
+    ensures holds { HasCleanDisk (state S.Store conn.new) → IfOk result (λ summary. IsListing (codes "mark") (1 ∷ []) (state S.Store conn.old).now (map stored_mark marks.now) → (M : Catalogue) × Holds version (state S.Store conn.old).now M × (summary_of M ≡ summary_shown summary)) }
+    ensures damaged { HasCleanDisk (state S.Store conn.new) → IfErr result (λ fault. fault ≡ ReadingFault.Damaged → IsListing (codes "mark") (1 ∷ []) (state S.Store conn.old).now (map stored_mark marks.now) → HoldsNoneAs version (state S.Store conn.old).now) }
 {
-    if !has_tables(conn.schema()) {
+    if !has_layout(conn.schema()) {
         return Err(ReadingFault::Damaged);
     }
-    let summary = read_records(alloc, conn, marks)?;
+    let summary = read_records(alloc, conn, version, marks)?;
     test_all_rowids(alloc, conn)?;
     Ok(summary)
 }
@@ -104,16 +116,17 @@ fn version_of(marks: &[Stored<Mark<String>>]) -> Option<u64>
     version_in(&marks[0].value)
 }
 
-/// The records of the mark, where it is readable and of the version that is known.
+/// The version that the mark tells, and its records, where it is readable and of a version that is known.
 fn read_mark<S: Alter>(
     alloc: Global,
     conn: &mut Connection<S>,
-) -> Result<Vec<Stored<Mark<String>>>, Fault>
+) -> Result<(u64, Vec<Stored<Mark<String>>>), Fault>
     ensures reads { OnlyReads (state S.Store conn.old) (state S.Store conn.new) }
     ensures failed { HasCleanDisk (state S.Store conn.new) → result ≡ Err Fault.Disk → HasFailed (state S.Store conn.old) (state S.Store conn.new) }
     ensures same { HasCleanDisk (state S.Store conn.new) → OnOk result (Same (state S.Store conn.old) (state S.Store conn.new) × IsTrue (state S.Store conn.new).is_open) }
-    ensures marked { HasCleanDisk (state S.Store conn.new) → IfOk result (λ marks. IsListing (codes "mark") (1 ∷ []) (state S.Store conn.old).now (map stored_mark marks.items) × HasMark (state S.Store conn.old).now 1) }
-    ensures newer { HasCleanDisk (state S.Store conn.new) → result ≡ Err Fault.NewerSchema → (version : ℕ) × HasMark (state S.Store conn.old).now version × (1 < version) }
+    ensures marked { HasCleanDisk (state S.Store conn.new) → IfOk result (λ found. IsListing (codes "mark") (1 ∷ []) (state S.Store conn.old).now (map stored_mark found.1.items) × HasMark (state S.Store conn.old).now found.0) }
+    ensures known { IfOk result (λ found. IsVersion found.0) }
+    ensures newer { HasCleanDisk (state S.Store conn.new) → result ≡ Err Fault.NewerSchema → (version : ℕ) × HasMark (state S.Store conn.old).now version × (known < version) }
     ensures none { HasCleanDisk (state S.Store conn.new) → result ≡ Err Fault.NotACatalogue → (version : ℕ) → HasMark (state S.Store conn.old).now version → ⊥ }
     ensures sound { result ≡ Err Fault.Damaged → ⊥ }
     ensures kinds { IfErr result IsOfOpening }
@@ -130,10 +143,10 @@ fn read_mark<S: Alter>(
         Some(version) => version,
         None => return Err(Fault::NotACatalogue),
     };
-    if version != 1 {
+    if version > KNOWN_VERSION {
         return Err(Fault::NewerSchema);
     }
-    Ok(marks)
+    Ok((version, marks))
 }
 
 /// The fault as it is told.
@@ -152,13 +165,14 @@ fn told(fault: ReadingFault) -> Fault
 /// largest edition, and not by their sum.
 ///
 /// `NotACatalogue` tells that there is no readable mark, `NewerSchema` that the mark is of a version above the known one,
-/// and `Damaged` that the mark is readable and of the known version, and the tables hold no catalogue: they are tested in
+/// and `Damaged` that the mark is readable and of a known version, and the tables hold no catalogue, or the names of
+/// the tables that come with keys are in use by others: they are tested in
 /// this order. `Memory` tells that a growth was refused, and `Disk` that the disk failed, or that the limit on steps was met.
 pub fn read_catalogue<S: Alter>(alloc: Global, conn: &mut Connection<S>) -> Result<Summary, Fault>
     requires { conn.old.in_transaction ≡ false }
-    ensures rests { HasCleanDisk (state S.Store conn.new) → IfOk result (λ summary. (M : Catalogue) × Rests 1 (state S.Store conn.new) M × (summary_of M ≡ summary_shown summary)) }
-    ensures damaged { HasCleanDisk (state S.Store conn.new) → result ≡ Err Fault.Damaged → HasMark (state S.Store conn.old).now 1 × HoldsNone (state S.Store conn.old).now }
-    ensures newer { HasCleanDisk (state S.Store conn.new) → result ≡ Err Fault.NewerSchema → (version : ℕ) × HasMark (state S.Store conn.old).now version × (1 < version) }
+    ensures rests { HasCleanDisk (state S.Store conn.new) → IfOk result (λ summary. (M : Catalogue) × Rests known (state S.Store conn.new) M × (summary_of M ≡ summary_shown summary)) }
+    ensures damaged { HasCleanDisk (state S.Store conn.new) → result ≡ Err Fault.Damaged → HasKnownMark (state S.Store conn.old).now × HoldsNone (state S.Store conn.old).now }
+    ensures newer { HasCleanDisk (state S.Store conn.new) → result ≡ Err Fault.NewerSchema → (version : ℕ) × HasMark (state S.Store conn.old).now version × (known < version) }
     ensures none { HasCleanDisk (state S.Store conn.new) → result ≡ Err Fault.NotACatalogue → (version : ℕ) → HasMark (state S.Store conn.old).now version → ⊥ }
     ensures lives { HasCleanDisk (state S.Store conn.new) → IsTrue (state S.Store conn.new).is_open → IsTrue (state S.Store conn.old).is_open }
     ensures kinds { IfErr result IsOfOpening }
@@ -171,8 +185,8 @@ pub fn read_catalogue<S: Alter>(alloc: Global, conn: &mut Connection<S>) -> Resu
     if !conn.is_autocommit() {
         return Err(Fault::Disk);
     }
-    let marks = read_mark(alloc, conn)?;
-    match read_tables(alloc, conn, &marks) {
+    let (version, marks) = read_mark(alloc, conn)?;
+    match read_tables(alloc, conn, version, &marks) {
         Ok(summary) => Ok(summary),
         Err(fault) => Err(told(fault)),
     }

@@ -1,15 +1,16 @@
 // The records of all tables, and the catalogue that they stand for.
-ghost use Rattle.std.specs.Prelude.{◌≡◌, ◌<◌, ◌↔◌, IsTrue, map, codes, [], ◌∷◌, IfOk, IfErr, OnOk, Err};
+ghost use Rattle.std.specs.Prelude.{◌≡◌, ℕ, ◌<◌, ◌↔◌, IsTrue, map, codes, [], ◌∷◌, IfOk, IfErr, OnOk, Err};
 ghost use Rattle.sqlite.specs.State.{HasCleanDisk};
 ghost use Rattle.sqlite.specs.Held.{state};
 ghost use Rattle.dict_sql.specs.Effects.{Has, WhileOpen};
 ghost use Rattle.dict_sql.specs.Encodings.{stored_mark};
 ghost use Rattle.dict_sql.specs.Reads.{IsListing};
+ghost use Rattle.dict_rows.specs.Versions.{Plain, layout_of};
 ghost use Rattle.dict_rows.specs.Tables.{Tables};
 ghost use Rattle.dict_rows.specs.Taken.{HasTaken};
 ghost use Rattle.dict_catalogue.specs.Views.{summary_shown};
 ghost use Rattle.dict_opening.specs.Reading.{Same, OnlyReads, IsExcused};
-ghost use Rattle.dict_opening.specs.Opens.{HasTables, KeepsNone, HoldsNone, HasBegun, Fits, HasNamed, AreAllKnown, HasReplies, HasAll, HasSummary};
+ghost use Rattle.dict_opening.specs.Opens.{HasTables, KeepsNone, HoldsNoneAs, HasBegun, Fits, HasNamed, AreAllKnown, HasReplies, HasAll, HasSummary};
 
 use crate::editions::read_numbers;
 use crate::fault::{ReadingFault, fault_of_read, fault_of_rows};
@@ -21,18 +22,20 @@ use dict_sql::read::{items, members};
 use sqlite::{Alter, Connection};
 use std::alloc::Global;
 
-/// Begins with the mark, the items and the members.
+/// Begins with the mark, which is of this version, the items and the members.
 fn begin<S: Alter>(
     alloc: Global,
     conn: &mut Connection<S>,
+    version: u64,
     marks: &[Stored<Mark<String>>],
 ) -> Result<Reader, ReadingFault>
-    requires { WhileOpen (state S.Store conn.old) HasTables }
+    requires plain { layout_of version ≡ Plain }
+    requires tables { WhileOpen (state S.Store conn.old) HasTables }
     ensures reads { OnlyReads (state S.Store conn.old) (state S.Store conn.new) }
     ensures failed { HasCleanDisk (state S.Store conn.new) → IfErr result (IsExcused (state S.Store conn.old) (state S.Store conn.new)) }
     ensures same { HasCleanDisk (state S.Store conn.new) → OnOk result (Same (state S.Store conn.old) (state S.Store conn.new)) }
-    ensures begun { HasCleanDisk (state S.Store conn.new) → IfOk result (λ reader. IsListing (codes "mark") (1 ∷ []) (state S.Store conn.old).now (map stored_mark marks.now) → (front : Tables) × HasTaken 1 reader front × HasBegun (state S.Store conn.old).now front) }
-    ensures damaged { HasCleanDisk (state S.Store conn.new) → IfErr result (λ fault. fault ≡ ReadingFault.Damaged → IsListing (codes "mark") (1 ∷ []) (state S.Store conn.old).now (map stored_mark marks.now) → HoldsNone (state S.Store conn.old).now) }
+    ensures begun { HasCleanDisk (state S.Store conn.new) → IfOk result (λ reader. IsListing (codes "mark") (1 ∷ []) (state S.Store conn.old).now (map stored_mark marks.now) → (front : Tables) × HasTaken version reader front × HasBegun version (state S.Store conn.old).now front) }
+    ensures damaged { HasCleanDisk (state S.Store conn.new) → IfErr result (λ fault. fault ≡ ReadingFault.Damaged → IsListing (codes "mark") (1 ∷ []) (state S.Store conn.old).now (map stored_mark marks.now) → HoldsNoneAs version (state S.Store conn.old).now) }
 {
     let items = match items(alloc, conn) {
         Ok(items) => items,
@@ -42,7 +45,7 @@ fn begin<S: Alter>(
         Ok(members) => members,
         Err(error) => return Err(fault_of_read(error)),
     };
-    match Reader::begin(alloc, 1, marks, &items, &members) {
+    match Reader::begin(alloc, version, marks, &items, &members) {
         Ok(reader) => Ok(reader),
         Err(fault) => Err(fault_of_rows(fault)),
     }
@@ -58,8 +61,8 @@ fn read_named<S: Alter>(
     ensures reads { OnlyReads (state S.Store conn.old) (state S.Store conn.new) }
     ensures failed { HasCleanDisk (state S.Store conn.new) → IfErr result (IsExcused (state S.Store conn.old) (state S.Store conn.new)) }
     ensures same { HasCleanDisk (state S.Store conn.new) → OnOk result (Same (state S.Store conn.old) (state S.Store conn.new)) }
-    ensures named { HasCleanDisk (state S.Store conn.new) → OnOk result ((front : Tables) → HasTaken 1 reader.old front → HasBegun (state S.Store conn.old).now front → (after : Tables) × HasTaken 1 reader.new after × HasNamed (state S.Store conn.old).now reader.old front after) }
-    ensures damaged { HasCleanDisk (state S.Store conn.new) → IfErr result (λ fault. fault ≡ ReadingFault.Damaged → (front : Tables) → HasTaken 1 reader.old front → HasBegun (state S.Store conn.old).now front → HoldsNone (state S.Store conn.old).now) }
+    ensures named { HasCleanDisk (state S.Store conn.new) → OnOk result ((version : ℕ) (front : Tables) → HasTaken version reader.old front → HasBegun version (state S.Store conn.old).now front → (after : Tables) × HasTaken version reader.new after × HasNamed version (state S.Store conn.old).now reader.old front after) }
+    ensures damaged { HasCleanDisk (state S.Store conn.new) → IfErr result (λ fault. fault ≡ ReadingFault.Damaged → (version : ℕ) (front : Tables) → HasTaken version reader.old front → HasBegun version (state S.Store conn.old).now front → HoldsNoneAs version (state S.Store conn.old).now) }
 {
     let numbers = match reader.numbers(alloc) {
         Ok(numbers) => numbers,
@@ -79,7 +82,7 @@ fn test_named<S: Alter>(
     ensures failed { HasCleanDisk (state S.Store conn.new) → IfErr result (IsExcused (state S.Store conn.old) (state S.Store conn.new)) }
     ensures same { HasCleanDisk (state S.Store conn.new) → OnOk result (Same (state S.Store conn.old) (state S.Store conn.new)) }
     ensures known { HasCleanDisk (state S.Store conn.new) → OnOk result (AreAllKnown (state S.Store conn.old).now reader.now) }
-    ensures damaged { HasCleanDisk (state S.Store conn.new) → IfErr result (λ fault. fault ≡ ReadingFault.Damaged → (taken : Tables) → HasTaken 1 reader.now taken → Fits (state S.Store conn.old).now taken → KeepsNone (state S.Store conn.old).now taken.members) }
+    ensures damaged { HasCleanDisk (state S.Store conn.new) → IfErr result (λ fault. fault ≡ ReadingFault.Damaged → (version : ℕ) (taken : Tables) → HasTaken version reader.now taken → Fits version (state S.Store conn.old).now taken → KeepsNone version (state S.Store conn.old).now taken.members) }
 {
     test_editions(alloc, conn, reader)?;
     test_entries(alloc, conn, reader)
@@ -95,8 +98,8 @@ fn read_kept<S: Alter>(
     ensures reads { OnlyReads (state S.Store conn.old) (state S.Store conn.new) }
     ensures failed { HasCleanDisk (state S.Store conn.new) → IfErr result (IsExcused (state S.Store conn.old) (state S.Store conn.new)) }
     ensures same { HasCleanDisk (state S.Store conn.new) → OnOk result (Same (state S.Store conn.old) (state S.Store conn.new)) }
-    ensures replies { HasCleanDisk (state S.Store conn.new) → OnOk result ((taken : Tables) → HasTaken 1 reader.old taken → (after : Tables) × HasTaken 1 reader.new after × HasReplies (state S.Store conn.old).now taken after) }
-    ensures damaged { HasCleanDisk (state S.Store conn.new) → IfErr result (λ fault. fault ≡ ReadingFault.Damaged → (taken : Tables) → HasTaken 1 reader.old taken → Fits (state S.Store conn.old).now taken → taken.kept ≡ [] → KeepsNone (state S.Store conn.old).now taken.members) }
+    ensures replies { HasCleanDisk (state S.Store conn.new) → OnOk result ((version : ℕ) (taken : Tables) → HasTaken version reader.old taken → (after : Tables) × HasTaken version reader.new after × HasReplies (state S.Store conn.old).now taken after) }
+    ensures damaged { HasCleanDisk (state S.Store conn.new) → IfErr result (λ fault. fault ≡ ReadingFault.Damaged → (version : ℕ) (taken : Tables) → HasTaken version reader.old taken → Fits version (state S.Store conn.old).now taken → taken.kept ≡ [] → KeepsNone version (state S.Store conn.old).now taken.members) }
 {
     read_replies(alloc, conn, reader)?;
     test_ids(alloc, conn)
@@ -112,28 +115,30 @@ fn read_all<S: Alter>(
     ensures reads { OnlyReads (state S.Store conn.old) (state S.Store conn.new) }
     ensures failed { HasCleanDisk (state S.Store conn.new) → IfErr result (IsExcused (state S.Store conn.old) (state S.Store conn.new)) }
     ensures same { HasCleanDisk (state S.Store conn.new) → OnOk result (Same (state S.Store conn.old) (state S.Store conn.new)) }
-    ensures all { HasCleanDisk (state S.Store conn.new) → OnOk result ((front : Tables) → HasTaken 1 reader.old front → HasBegun (state S.Store conn.old).now front → (after : Tables) × HasTaken 1 reader.new after × HasAll (state S.Store conn.old).now front after) }
-    ensures damaged { HasCleanDisk (state S.Store conn.new) → IfErr result (λ fault. fault ≡ ReadingFault.Damaged → (front : Tables) → HasTaken 1 reader.old front → HasBegun (state S.Store conn.old).now front → HoldsNone (state S.Store conn.old).now) }
+    ensures all { HasCleanDisk (state S.Store conn.new) → OnOk result ((version : ℕ) (front : Tables) → HasTaken version reader.old front → HasBegun version (state S.Store conn.old).now front → (after : Tables) × HasTaken version reader.new after × HasAll version (state S.Store conn.old).now front after) }
+    ensures damaged { HasCleanDisk (state S.Store conn.new) → IfErr result (λ fault. fault ≡ ReadingFault.Damaged → (version : ℕ) (front : Tables) → HasTaken version reader.old front → HasBegun version (state S.Store conn.old).now front → HoldsNoneAs version (state S.Store conn.old).now) }
 {
     test_named(alloc, conn, reader)?;
     read_named(alloc, conn, reader)?;
     read_kept(alloc, conn, reader)
 }
 
-/// The summary of the catalogue that the records of all tables stand for, where these are those of the mark.
+/// The summary of the catalogue that the records of all tables stand for, where these are those of the mark, which is of this version.
 pub(crate) fn read_records<S: Alter>(
     alloc: Global,
     conn: &mut Connection<S>,
+    version: u64,
     marks: &[Stored<Mark<String>>],
 ) -> Result<Summary, ReadingFault>
-    requires { WhileOpen (state S.Store conn.old) HasTables }
+    requires plain { layout_of version ≡ Plain }
+    requires tables { WhileOpen (state S.Store conn.old) HasTables }
     ensures reads { OnlyReads (state S.Store conn.old) (state S.Store conn.new) }
     ensures failed { HasCleanDisk (state S.Store conn.new) → IfErr result (IsExcused (state S.Store conn.old) (state S.Store conn.new)) }
     ensures same { HasCleanDisk (state S.Store conn.new) → OnOk result (Same (state S.Store conn.old) (state S.Store conn.new)) }
-    ensures stands { HasCleanDisk (state S.Store conn.new) → IfOk result (λ summary. IsListing (codes "mark") (1 ∷ []) (state S.Store conn.old).now (map stored_mark marks.now) → HasSummary (state S.Store conn.old).now (summary_shown summary)) }
-    ensures damaged { HasCleanDisk (state S.Store conn.new) → IfErr result (λ fault. fault ≡ ReadingFault.Damaged → IsListing (codes "mark") (1 ∷ []) (state S.Store conn.old).now (map stored_mark marks.now) → HoldsNone (state S.Store conn.old).now) }
+    ensures stands { HasCleanDisk (state S.Store conn.new) → IfOk result (λ summary. IsListing (codes "mark") (1 ∷ []) (state S.Store conn.old).now (map stored_mark marks.now) → HasSummary version (state S.Store conn.old).now (summary_shown summary)) }
+    ensures damaged { HasCleanDisk (state S.Store conn.new) → IfErr result (λ fault. fault ≡ ReadingFault.Damaged → IsListing (codes "mark") (1 ∷ []) (state S.Store conn.old).now (map stored_mark marks.now) → HoldsNoneAs version (state S.Store conn.old).now) }
 {
-    let mut reader = begin(alloc, conn, marks)?;
+    let mut reader = begin(alloc, conn, version, marks)?;
     read_all(alloc, conn, &mut reader)?;
     match reader.finish() {
         Ok(summary) => Ok(summary),

@@ -5,6 +5,7 @@ ghost use Rattle.sqlite.specs.Held.{state};
 ghost use Rattle.dict_sql.specs.Effects.{Has, WhileOpen};
 ghost use Rattle.dict_sql.specs.Encodings.{stored_mark};
 ghost use Rattle.dict_sql.specs.Reads.{IsListing};
+ghost use Rattle.dict_rows.specs.Versions.{Plain};
 ghost use Rattle.dict_rows.specs.Tables.{Tables};
 ghost use Rattle.dict_rows.specs.Taken.{HasTaken};
 ghost use Rattle.dict_opening.specs.Reading.{Same, OnlyReads, IsExcused};
@@ -24,7 +25,7 @@ fn test_small<S: Alter>(alloc: Global, conn: &mut Connection<S>) -> Result<(), R
     ensures failed { HasCleanDisk (state S.Store conn.new) → IfErr result (IsExcused (state S.Store conn.old) (state S.Store conn.new)) }
     ensures same { HasCleanDisk (state S.Store conn.new) → OnOk result (Same (state S.Store conn.old) (state S.Store conn.new)) }
     ensures apart { HasCleanDisk (state S.Store conn.new) → OnOk result (IsApartFirst (state S.Store conn.old).now) }
-    ensures damaged { HasCleanDisk (state S.Store conn.new) → IfErr result (λ fault. fault ≡ ReadingFault.Damaged → HasReadableRows (state S.Store conn.old).now → IsApartFirst (state S.Store conn.old).now → ⊥) }
+    ensures damaged { HasCleanDisk (state S.Store conn.new) → IfErr result (λ fault. fault ≡ ReadingFault.Damaged → HasReadableRows Plain (state S.Store conn.old).now → IsApartFirst (state S.Store conn.old).now → ⊥) }
 {
     test_rowids::<S, Stored<Mark<String>>>(alloc, conn, StoreTable::Mark)?;
     test_rowids::<S, Stored<Item<String>>>(alloc, conn, StoreTable::Item)?;
@@ -38,7 +39,7 @@ fn test_large<S: Alter>(alloc: Global, conn: &mut Connection<S>) -> Result<(), R
     ensures failed { HasCleanDisk (state S.Store conn.new) → IfErr result (IsExcused (state S.Store conn.old) (state S.Store conn.new)) }
     ensures same { HasCleanDisk (state S.Store conn.new) → OnOk result (Same (state S.Store conn.old) (state S.Store conn.new)) }
     ensures apart { HasCleanDisk (state S.Store conn.new) → OnOk result (IsApartLast (state S.Store conn.old).now) }
-    ensures damaged { HasCleanDisk (state S.Store conn.new) → IfErr result (λ fault. fault ≡ ReadingFault.Damaged → HasReadableRows (state S.Store conn.old).now → IsApartLast (state S.Store conn.old).now → ⊥) }
+    ensures damaged { HasCleanDisk (state S.Store conn.new) → IfErr result (λ fault. fault ≡ ReadingFault.Damaged → HasReadableRows Plain (state S.Store conn.old).now → IsApartLast (state S.Store conn.old).now → ⊥) }
 {
     test_edition_rowids(alloc, conn)?;
     test_rowids::<S, Stored<Entry<String>>>(alloc, conn, StoreTable::Entry)?;
@@ -54,8 +55,8 @@ pub(crate) fn test_all_rowids<S: Alter>(
     ensures reads { OnlyReads (state S.Store conn.old) (state S.Store conn.new) }
     ensures failed { HasCleanDisk (state S.Store conn.new) → IfErr result (IsExcused (state S.Store conn.old) (state S.Store conn.new)) }
     ensures same { HasCleanDisk (state S.Store conn.new) → OnOk result (Same (state S.Store conn.old) (state S.Store conn.new)) }
-    ensures apart { HasCleanDisk (state S.Store conn.new) → OnOk result (HasRowidsApart (state S.Store conn.old).now) }
-    ensures damaged { HasCleanDisk (state S.Store conn.new) → IfErr result (λ fault. fault ≡ ReadingFault.Damaged → HasReadableRows (state S.Store conn.old).now → HasRowidsApart (state S.Store conn.old).now → ⊥) }
+    ensures apart { HasCleanDisk (state S.Store conn.new) → OnOk result (HasRowidsApart Plain (state S.Store conn.old).now) }
+    ensures damaged { HasCleanDisk (state S.Store conn.new) → IfErr result (λ fault. fault ≡ ReadingFault.Damaged → HasReadableRows Plain (state S.Store conn.old).now → HasRowidsApart Plain (state S.Store conn.old).now → ⊥) }
 {
     test_small(alloc, conn)?;
     test_large(alloc, conn)

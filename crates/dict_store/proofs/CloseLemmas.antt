@@ -23,22 +23,24 @@ use Rattle.dict_store.specs.Closed.{HoldsAlone, IsInAlone, StoreLeaves}
 use Rattle.dict_store.specs.Desk.{DeskState, IsAtRest, LeavesOneOf, Shows, is_closed}
 use Rattle.dict_store.specs.declared.last.Last.{Last}
 use Rattle.std.proofs.Common.{ℕ}
+use Rattle.dict_rows.specs.Versions.{known}
+use Rattle.dict_opening.proofs.HeldLemmas.{held_known}
 
 -- what is shown is committed
 pub committed_holds : {S : Type 0} (g : store.Ghosts S) (conn : Held S) (summary : Holdings (List ℕ)) (last : Last) → IsAtRest g last summary conn → IsLive (state g conn)
     → is_closed last ≡ false → HasCleanDisk (state g conn) → IsTrue (state g conn).is_open → (M : Catalogue) → Shows g (record { conn = conn; summary = summary; last = last }) M
-    → IsLeft 1 M (state g conn).committed.trees
+    → IsLeft M (state g conn).committed.trees
 committed_holds g conn summary last rest whole fine clean live M shown =
-    ((state g conn).committed, refl, (whole live).1, subst (λ (db : Database). Holds 1 db M) (rest.settled fine clean live) (shown.holds fine clean live))
+    ((state g conn).committed, refl, (whole live).1, held_known (state g conn).committed M (subst (λ (db : Database). Holds known db M) (rest.settled fine clean live) (shown.holds fine clean live)))
 
-in_alone : (M : Catalogue) (image : Image) (trees : Trees) → IsLeft 1 M trees → copies.HoldsAlone image trees → IsInAlone M image
+in_alone : (M : Catalogue) (image : Image) (trees : Trees) → IsLeft M trees → copies.HoldsAlone image trees → IsInAlone M image
 in_alone M image trees left holds = record {
   both = ∥∥₁_map holds.both (λ h. (trees, h, left));
   alone = ∥∥₁_map holds.alone (λ h. (trees, h, left));
 }
 
 module _ {D : Type 0} {g : Ghosts D} (conn : Held (FileStore D g)) where
-  pub copy_holds : (files : Files D) (M : Catalogue) → IsCopied conn files → IsLeft 1 M (file_state conn).committed.trees → HoldsAlone g files M
+  pub copy_holds : (files : Files D) (M : Catalogue) → IsCopied conn files → IsLeft M (file_state conn).committed.trees → HoldsAlone g files M
   copy_holds files M copied left = record {
     seen = in_alone M _ _ left copied.seen;
     left = λ image may. in_alone M image _ left (copied.left image may);

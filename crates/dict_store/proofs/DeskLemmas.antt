@@ -1,15 +1,12 @@
 -- What a lookup leaves of a desk.
 use Rattle.std.proofs.Common.{◌≡◌, inl, inr, ℕ, Bool, true, false, List, [], ◌∷◌, refl, sym, subst, ◌∙◌, arith}
 use Rattle.std.specs.Prelude.{IsTrue, Some, Contains, Result, Ok, Err, OnOk, IfOk, IfErr, IsErr}
-use Rattle.std.specs.List.{AllByRecursion}
 use Rattle.std.proofs.lemmas.Bool.{false≢true}
 use Rattle.sqlite.specs.Effect.{Database, IsDatabase}
 use Rattle.sqlite.specs.Tree.{Trees}
 use Rattle.sqlite.specs.State.{State, HasCleanDisk, IsUnchanged, Survives}
 use Rattle.sqlite.specs.Held.{Held, state}
 use Rattle.sqlite_trees.specs.declared.store.Store.{Ghosts}
-use Rattle.dict_tables.specs.Found.{HasOwn}
-use Rattle.dict_tables.specs.Tables.{table_of, store_tables}
 use Rattle.dict_catalogue.specs.Tests.{Holdings}
 use Rattle.dict_catalogue.specs.Steps.{Catalogue}
 use Rattle.dict_index.specs.Edition.{Entry}
@@ -17,10 +14,12 @@ use Rattle.dict_desk.specs.Handing.{Hands}
 use Rattle.dict_desk.specs.declared.fault.Fault.{Fault}
 use Rattle.dict_desk.specs.declared.lookup.End.{End}
 use Rattle.dict_desk.proofs.HandingLemmas.{hands_front}
-use Rattle.dict_file.specs.Holds.{Holds, IsLeft}
+use Rattle.dict_file.specs.Holds.{HasLayout, Holds, IsLeft}
 use Rattle.dict_lookup.specs.Lookups.{FailsToLookUp}
 use Rattle.dict_store.specs.Desk.{IsAtRest, Shows, is_closed}
 use Rattle.dict_store.specs.declared.last.Last.{Last}
+use Rattle.dict_rows.specs.Versions.{known, layout_of}
+use Rattle.dict_opening.proofs.HeldLemmas.{held_known}
 
 -- a store that is open was so before, and shows what it did, if that was committed
 pub record Stays (old new : State) : Type 0 where
@@ -49,18 +48,19 @@ module _ {S : Type 0} (g : Ghosts S) (old new : Held S) (summary : Holdings (Lis
   pub rests_on : (old.in_transaction ≡ false → new.in_transaction ≡ false) → IsAtRest g after summary new
   rests_on mode = record {
     autocommit = mode rest.autocommit;
+    limit = survives.limit ∙ rest.limit;
     range = rest.range;
     holds = λ fine clean live. let it = rest.holds open_before (clean_first clean) ((stays clean).was_open live) in (
       it.0,
       record {
         is_open = live;
         settled = now_same clean live ∙ (it.1.settled ∙ sym ((stays clean).committed live));
-        holds = subst (λ (db : Database). Holds 1 db it.0) (sym ((stays clean).committed live)) it.1.holds;
+        holds = subst (λ (db : Database). Holds known db it.0) (sym ((stays clean).committed live)) it.1.holds;
       },
       it.2,
     );
     settled = λ fine clean live. now_same clean live ∙ (rest.settled open_before (clean_first clean) ((stays clean).was_open live) ∙ sym ((stays clean).committed live));
-    own = λ fine clean live. subst (λ (db : Database). AllByRecursion (λ t. HasOwn db.schema (table_of t)) store_tables) (sym (now_same clean live)) (rest.own open_before (clean_first clean) ((stays clean).was_open live));
+    own = λ fine clean live. subst (λ (db : Database). HasLayout (layout_of known) db.schema) (sym (now_same clean live)) (rest.own open_before (clean_first clean) ((stays clean).was_open live));
   }
 
   module _ (M : Catalogue) (shown : Shows g (record { conn = old; summary = summary; last = before }) M) where
@@ -68,10 +68,10 @@ module _ {S : Type 0} (g : Ghosts S) (old new : Held S) (summary : Holdings (Lis
     shows_on = record {
       summary = shown.summary;
       well_formed = shown.well_formed;
-      holds = λ fine clean live. subst (λ (db : Database). Holds 1 db M) (sym (now_same clean live)) (shown.holds open_before (clean_first clean) ((stays clean).was_open live));
+      holds = λ fine clean live. subst (λ (db : Database). Holds known db M) (sym (now_same clean live)) (shown.holds open_before (clean_first clean) ((stays clean).was_open live));
     }
 
-    pub held : HasCleanDisk (state g new) → IsTrue (state g old).is_open → Holds 1 (state g old).now M
+    pub held : HasCleanDisk (state g new) → IsTrue (state g old).is_open → Holds known (state g old).now M
     held clean live = shown.holds open_before (clean_first clean) live
 
 -- what was handed out over a store that may be shut
@@ -89,8 +89,8 @@ alone M = (0, omega arith, refl)
 
 -- of a store that is open a stop leaves what is committed, and the catalogue that this holds
 pub left_alone : {S : Type 0} (g : Ghosts S) (conn : Held S) (M : Catalogue) → ((db : Trees) → IsTrue (state g conn).is_open → (state g conn).may_leave db → db ≡ (state g conn).committed.trees)
-    → IsTrue (state g conn).is_open → IsDatabase (state g conn).committed → Holds 1 (state g conn).committed M → (trees : Trees) → (state g conn).may_leave trees → IsLeft 1 M trees
-left_alone g conn M settled live sound holds trees may = ((state g conn).committed, settled trees live may, sound, holds)
+    → IsTrue (state g conn).is_open → IsDatabase (state g conn).committed → Holds known (state g conn).committed M → (trees : Trees) → (state g conn).may_leave trees → IsLeft M trees
+left_alone g conn M settled live sound holds trees may = ((state g conn).committed, settled trees live may, sound, held_known (state g conn).committed M holds)
 
 -- what was counted, which tells that the store was open
 pub value_by : {T : Type 0} (P : T → Type 0) (result : Result T Fault) (old new : State) → OnOk result (IsUnchanged old new) → (IsTrue old.is_open → IfOk result P) → IfOk result P

@@ -1,15 +1,12 @@
 -- What a command leaves of a desk.
 use Rattle.std.proofs.Common.{◌≡◌, inl, inr, ℕ, Bool, true, false, List, [], ◌∷◌, refl, sym, ap, subst, ◌∙◌, arith}
 use Rattle.std.specs.Prelude.{IsTrue, Option, Some, is_some, Contains, Result, Ok, Err, OnOk, OnErr, IfOk, IfErr, MatchBool}
-use Rattle.std.specs.List.{AllByRecursion}
 use Rattle.std.proofs.lemmas.Bool.{false≢true}
 use Rattle.sqlite.specs.Effect.{Database}
 use Rattle.sqlite.specs.Tree.{Trees}
 use Rattle.sqlite.specs.State.{State, HasCleanDisk, IsUnchanged, Survives}
 use Rattle.sqlite.specs.Held.{Held, state}
 use Rattle.sqlite_trees.specs.declared.store.Store.{Ghosts}
-use Rattle.dict_tables.specs.Found.{HasOwn}
-use Rattle.dict_tables.specs.Tables.{table_of, store_tables}
 use Rattle.dict_index.specs.Edition.{Edition}
 use Rattle.dict_name.specs.Names.{is_request_id}
 use Rattle.dict_catalogue.specs.Commands.{Command}
@@ -24,7 +21,7 @@ use Rattle.dict_desk.specs.Faults.{is_disk, has_failed_by, has_closed_by}
 use Rattle.dict_desk.specs.declared.fault.Fault.{Fault}
 use Rattle.dict_desk.specs.declared.fault.Fault.TheVariants.{Refused, Memory, Disk, Closed, NotACatalogue, Damaged, NewerSchema}
 use Rattle.dict_desk.proofs.LeavesLemmas.{contains_later}
-use Rattle.dict_file.specs.Holds.{Holds, Rests, IsLeft}
+use Rattle.dict_file.specs.Holds.{HasLayout, Holds, Rests, IsLeftAs}
 use Rattle.dict_commands.specs.Changes.{IsInRange}
 use Rattle.dict_commands.specs.Committed as committed
 use Rattle.dict_commands.specs.Answers.{HoldsBy, Answers, has_written, summary_after, IsOfShut}
@@ -33,6 +30,8 @@ use Rattle.dict_commands.specs.declared.applied.Applied.TheVariants.{Before, Now
 use Rattle.dict_store.specs.Desk.{DeskState, IsAtRest, Shows, LeavesOneOf, StandsFor, is_closed, has_failed, last_by, reply_of}
 use Rattle.dict_store.specs.declared.last.Last.{Last}
 use Rattle.dict_store.proofs.DeskLemmas.{Stays}
+use Rattle.dict_rows.specs.Versions.{known, layout_of}
+use Rattle.dict_opening.proofs.HeldLemmas.{left_known}
 
 -- ---- kept replies
 
@@ -52,11 +51,11 @@ kept_value P Q (Err fault) old new then same h = tt
 
 -- what a command answers over a store that is open
 module _ {S : Type 0} (g : Ghosts S) (new : Held S) (M : Catalogue) (id : List ℕ) (outcome : Outcome) where
-  shown_by : (summary : Holdings (List ℕ)) (last : Last) (N : Catalogue) → summary ≡ summary_of N → IsWellFormed N → (IsTrue (state g new).is_open → Rests 1 (state g new) N) → Shows g (record { conn = new; summary = summary; last = last }) N
+  shown_by : (summary : Holdings (List ℕ)) (last : Last) (N : Catalogue) → summary ≡ summary_of N → IsWellFormed N → (IsTrue (state g new).is_open → Rests known (state g new) N) → Shows g (record { conn = new; summary = summary; last = last }) N
   shown_by summary last N is well rests = record {
     summary = is;
     well_formed = well;
-    holds = λ fine clean live. let it = rests live in subst (λ (db : Database). Holds 1 db N) (sym it.settled) it.holds;
+    holds = λ fine clean live. let it = rests live in subst (λ (db : Database). Holds known db N) (sym it.settled) it.holds;
   }
 
   pub applies_open : (summary : Holdings (List ℕ)) (result : Result Applied Fault) → summary ≡ summary_of M → IsWellFormed M → Answers (state g new) M id outcome result
@@ -100,7 +99,7 @@ abbrev Left : Type 1
 Left = List (Option Catalogue) → Type 0
 
 pub leaves_open : (Old New : Left) (M : Catalogue) (id : List ℕ) (s : State) (outcome : Outcome) (result : Result Applied Fault) → Answers s M id outcome result → (has_written result ≡ false → LeavesNoMore Old New)
-    → (((trees : Trees) → s.may_leave trees → IsLeft 1 outcome.catalogue trees) → New (Some outcome.catalogue ∷ [])) → ((ms : List (Option Catalogue)) → Old ms → New (Some outcome.catalogue ∷ ms))
+    → (((trees : Trees) → s.may_leave trees → IsLeftAs known outcome.catalogue trees) → New (Some outcome.catalogue ∷ [])) → ((ms : List (Option Catalogue)) → Old ms → New (Some outcome.catalogue ∷ ms))
     → Leaves Old New (is_some (kept_under M.kept id)) outcome.catalogue (reply_of result)
 leaves_open Old New M id s outcome (Ok (Before kept)) h none alone more = subst (λ (k : Option KeptReply). MatchBool (is_some k) (LeavesNoMore Old New) (New (Some outcome.catalogue ∷ []))) (sym h.0) (none refl)
 leaves_open Old New M id s outcome (Ok (Now kept summary)) h none alone more = subst (λ (k : Option KeptReply). MatchBool (is_some k) (LeavesNoMore Old New) (New (Some outcome.catalogue ∷ []))) (sym h.0) (alone h.4)
@@ -156,9 +155,9 @@ closed_by (Err NewerSchema) = refl
 
 module _ {S : Type 0} (g : Ghosts S) (old new : Held S) (summary : Holdings (List ℕ)) (before : Last) (id : List ℕ) (command : Command Edition) (result : Result Applied Fault)
     (open_before : is_closed before ≡ false) (rest : IsAtRest g before summary old)
-    (value : HasCleanDisk (state g new) → (M : Catalogue) → Rests 1 (state g old) M → summary_of M ≡ summary → Answers (state g new) M id (step M id command) result)
+    (value : HasCleanDisk (state g new) → (M : Catalogue) → Rests known (state g old) M → summary_of M ≡ summary → Answers (state g new) M id (step M id command) result)
     (spares : has_written result ≡ false → Survives (state g old) (state g new) (λ _. ⊥))
-    (crash : Survives (state g old) (state g new) (λ trees. IsTrue (state g old).is_open × ((M : Catalogue) → Rests 1 (state g old) M → summary_of M ≡ summary → IsLeft 1 (step M id command).catalogue trees)))
+    (crash : Survives (state g old) (state g new) (λ trees. IsTrue (state g old).is_open × ((M : Catalogue) → Rests known (state g old) M → summary_of M ≡ summary → IsLeftAs known (step M id command).catalogue trees)))
     (lives : HasCleanDisk (state g new) → IsTrue (state g new).is_open → IsTrue (state g old).is_open)
     (shut : HasCleanDisk (state g new) → (state g old).is_open ≡ false → IsOfShut id result) where
   clean_first : HasCleanDisk (state g new) → HasCleanDisk (state g old)
@@ -171,32 +170,32 @@ module _ {S : Type 0} (g : Ghosts S) (old new : Held S) (summary : Holdings (Lis
   desk_after = record { conn = new; summary = summary_after summary result; last = last_by result }
 
   -- what is shown still
-  same_shown : (M : Catalogue) (after : Last) → Shows g desk_before M → (IsTrue (state g new).is_open → Rests 1 (state g new) M) → Shows g (record { conn = new; summary = summary; last = after }) M
+  same_shown : (M : Catalogue) (after : Last) → Shows g desk_before M → (IsTrue (state g new).is_open → Rests known (state g new) M) → Shows g (record { conn = new; summary = summary; last = after }) M
   same_shown M after shown rests = record {
     summary = shown.summary;
     well_formed = shown.well_formed;
-    holds = λ fine clean live. let it = rests live in subst (λ (db : Database). Holds 1 db M) (sym it.settled) it.holds;
+    holds = λ fine clean live. let it = rests live in subst (λ (db : Database). Holds known db M) (sym it.settled) it.holds;
   }
 
   no_more : Survives (state g old) (state g new) (λ _. ⊥) → (ms : List (Option Catalogue)) → LeavesOneOf g desk_before ms → LeavesOneOf g desk_after ms
   no_more survives ms left clean trees may = left (clean_first clean) trees (elim (survives.crash clean trees may) as (λ _. (state g old).may_leave trees) [ inl h ↦ h | inr h ↦ absurd h ])
 
-  one_more : (M : Catalogue) → (IsTrue (state g old).is_open → Rests 1 (state g old) M) → summary_of M ≡ summary → (ms : List (Option Catalogue)) → LeavesOneOf g desk_before ms → LeavesOneOf g desk_after (Some (step M id command).catalogue ∷ ms)
+  one_more : (M : Catalogue) → (IsTrue (state g old).is_open → Rests known (state g old) M) → summary_of M ≡ summary → (ms : List (Option Catalogue)) → LeavesOneOf g desk_before ms → LeavesOneOf g desk_after (Some (step M id command).catalogue ∷ ms)
   one_more M rests is ms left clean trees may =
       elim (crash.crash clean trees may) as (λ _. (m : Option Catalogue) × Contains (Some (step M id command).catalogue ∷ ms) m × StandsFor g m trees) [
         | inl h ↦ let it = left (clean_first clean) trees h in (it.0, contains_later (Some (step M id command).catalogue) it.0 ms it.1, it.2)
-        | inr h ↦ (Some (step M id command).catalogue, (0, omega arith, refl), h.1 M (rests h.0) is)
+        | inr h ↦ (Some (step M id command).catalogue, (0, omega arith, refl), left_known (step M id command).catalogue trees (h.1 M (rests h.0) is))
       ]
 
-  rests_before : (M : Catalogue) → Shows g desk_before M → HasCleanDisk (state g new) → IsTrue (state g old).is_open → Rests 1 (state g old) M
+  rests_before : (M : Catalogue) → Shows g desk_before M → HasCleanDisk (state g new) → IsTrue (state g old).is_open → Rests known (state g old) M
   rests_before M shown clean live = record {
     is_open = live;
     settled = rest.settled open_before (clean_first clean) live;
-    holds = subst (λ (db : Database). Holds 1 db M) (rest.settled open_before (clean_first clean) live) (shown.holds open_before (clean_first clean) live);
+    holds = subst (λ (db : Database). Holds known db M) (rest.settled open_before (clean_first clean) live) (shown.holds open_before (clean_first clean) live);
   }
 
   -- shut before: it is so after
-  shut_after : HasCleanDisk (state g new) → (state g old).is_open ≡ false → (M : Catalogue) → IsTrue (state g new).is_open → Rests 1 (state g new) M
+  shut_after : HasCleanDisk (state g new) → (state g old).is_open ≡ false → (M : Catalogue) → IsTrue (state g new).is_open → Rests known (state g new) M
   shut_after clean closed M live = absurd (false≢true (sym closed ∙ lives clean live))
 
   by_open : (A : Type 0) (b : Bool) → (b ≡ true → A) → (b ≡ false → A) → A
@@ -214,7 +213,7 @@ module _ {S : Type 0} (g : Ghosts S) (old new : Held S) (summary : Holdings (Lis
   pub leaves : HasCleanDisk (state g new) → (M : Catalogue) → Shows g desk_before M → Leaves (LeavesOneOf g desk_before) (LeavesOneOf g desk_after) (is_some (kept_under M.kept id)) (step M id command).catalogue (reply_of result)
   leaves clean M shown = by_open (Leaves (LeavesOneOf g desk_before) (LeavesOneOf g desk_after) (is_some (kept_under M.kept id)) (step M id command).catalogue (reply_of result)) (state g old).is_open
       (λ live. leaves_open (LeavesOneOf g desk_before) (LeavesOneOf g desk_after) M id (state g new) (step M id command) result (value clean M (rests_before M shown clean live) (sym shown.summary)) spared
-      (λ all clean_now trees may. (Some (step M id command).catalogue, (0, omega arith, refl), all trees may)) (one_more M (rests_before M shown clean) (sym shown.summary)))
+      (λ all clean_now trees may. (Some (step M id command).catalogue, (0, omega arith, refl), left_known (step M id command).catalogue trees (all trees may))) (one_more M (rests_before M shown clean) (sym shown.summary)))
       (λ closed. leaves_shut (LeavesOneOf g desk_before) (LeavesOneOf g desk_after) (is_some (kept_under M.kept id)) (step M id command).catalogue id result (shut clean closed) spared (one_more M (rests_before M shown clean) (sym shown.summary)))
 
   pub spares_all : (ms : List (Option Catalogue)) → LeavesOneOf g desk_before ms → IfErr (reply_of result) (λ fault. is_disk fault ≡ false → LeavesOneOf g desk_after ms)
@@ -223,10 +222,11 @@ module _ {S : Type 0} (g : Ghosts S) (old new : Held S) (summary : Holdings (Lis
   pub rests_after : HoldsBy (summary_after summary result) (state g new) → IsInRange (summary_after summary result) → new.in_transaction ≡ false → IsAtRest g (last_by result) (summary_after summary result) new
   rests_after holds range mode = record {
     autocommit = mode;
+    limit = crash.limit ∙ rest.limit;
     range = range;
     holds = λ fine. holds;
     settled = λ fine clean live. (holds clean live).1.settled;
-    own = λ fine clean live. let rests = (holds clean live).1 in subst (λ (db : Database). AllByRecursion (λ t. HasOwn db.schema (table_of t)) store_tables) (sym rests.settled) rests.holds.own;
+    own = λ fine clean live. let rests = (holds clean live).1 in subst (λ (db : Database). HasLayout (layout_of known) db.schema) (sym rests.settled) rests.holds.own;
   }
 
   -- the desk after the call, by what its fields became

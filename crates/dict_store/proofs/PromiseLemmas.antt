@@ -57,15 +57,15 @@ module _ {S : Type 0} (g : Ghosts S) (old new : DeskState S) (M : Catalogue) (re
   pub left_after : (front : List Request) → LeftAfter (LeavesOneOf g old) M front (Some (after M front) ∷ [])
   left_after front = left_by front (has_acted M front) refl
 
-  alone_left : (N : Catalogue) (trees : Trees) → IsLeft 1 N trees → IsLeftAlone N trees
-  alone_left N trees left = record { left = left; alone = λ other found. one_left 1 trees other N found left }
+  alone_left : (N : Catalogue) (trees : Trees) → IsLeft N trees → IsLeftAlone N trees
+  alone_left N trees left = record { left = left; alone = λ other found. one_left trees other N found left }
 
-  sole_left : (N : Catalogue) → LeavesOneOf g new (Some N ∷ []) → HasCleanDisk (state g new.conn) → (trees : Trees) → (state g new.conn).may_leave trees → IsLeft 1 N trees
+  sole_left : (N : Catalogue) → LeavesOneOf g new (Some N ∷ []) → HasCleanDisk (state g new.conn) → (trees : Trees) → (state g new.conn).may_leave trees → IsLeft N trees
   sole_left N left clean trees may = let it = left clean trees may in subst (λ m. StandsFor g m trees) (sym (only (Some N) it.0 it.1)) it.2
 
-  two_left : (N P : Catalogue) → LeavesOneOf g new (Some N ∷ Some P ∷ []) → HasCleanDisk (state g new.conn) → (trees : Trees) → (state g new.conn).may_leave trees → IsLeft 1 N trees ⊎ IsLeft 1 P trees
+  two_left : (N P : Catalogue) → LeavesOneOf g new (Some N ∷ Some P ∷ []) → HasCleanDisk (state g new.conn) → (trees : Trees) → (state g new.conn).may_leave trees → IsLeft N trees ⊎ IsLeft P trees
   two_left N P left clean trees may = let it = left clean trees may in
-      elim (either (Some N) (Some P) it.0 it.1) as (λ _. IsLeft 1 N trees ⊎ IsLeft 1 P trees) [
+      elim (either (Some N) (Some P) it.0 it.1) as (λ _. IsLeft N trees ⊎ IsLeft P trees) [
         | inl e ↦ inl (subst (λ m. StandsFor g m trees) (sym e) it.2)
         | inr e ↦ inr (subst (λ m. StandsFor g m trees) (sym e) it.2)
       ]

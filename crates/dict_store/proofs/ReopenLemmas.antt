@@ -32,6 +32,8 @@ use Rattle.dict_store.specs.Unopened.{IsOf, IsOneIn, IsOneOf, IsRejected, IsUnop
 use Rattle.dict_store.specs.declared.reopening.Unopened.{Unopened}
 use Rattle.dict_store.specs.declared.reopening.Unopened.TheVariants as left
 use Rattle.dict_store.proofs.UnopenedLemmas.{rest_leaves, excused_by}
+use Rattle.dict_rows.specs.Versions.{known}
+use Rattle.dict_opening.proofs.HeldLemmas.{held_known}
 
 -- what a stop leaves of two files is a database that holds what its trees stand for
 pub front_in : {D : Type 0} {g : Ghosts D} (it : FileStore D g) (before : Catalogue) (requests : List Request) (answered : ℕ) (left : Image)
@@ -87,11 +89,11 @@ module _ {D : Type 0} {g : Ghosts D} (stays : SeenMayStay g) (desk : DeskState (
     early = omega (arith, over.adopted.spares.clean, honest)
 
     -- what was opened is a catalogue
-    opened : (M : Catalogue) × IsLeft 1 M (file_state over.conn).committed.trees
+    opened : (M : Catalogue) × IsLeft M (file_state over.conn).committed.trees
     opened =
         let it = over.adopted.shows honest in
         let db = (file_state over.conn).committed in
-        let whole = (over.opened early).0 in (it.0, (db, refl, (whole.1 whole.0.is_open).1, subst (λ (d : Database). Holds 1 d it.0) (over.adopted.same honest) it.1.holds))
+        let whole = (over.opened early).0 in (it.0, (db, refl, (whole.1 whole.0.is_open).1, held_known db it.0 (subst (λ (d : Database). Holds known d it.0) (over.adopted.same honest) it.1.holds)))
 
     shows_as : (ms : List (Option Catalogue)) (m : Option Catalogue) → Contains ms m → StandsFor (over_files {D = D} {g = g}) m (file_state over.conn).committed.trees → ShowsOneOf over_files next ms
     shows_as ms (Some M) is stands = (M, is, over.left honest M stands)
@@ -109,7 +111,7 @@ module _ {D : Type 0} {g : Ghosts D} (stays : SeenMayStay g) (desk : DeskState (
   -- ---- or none
 
   -- what stands for one of these, of which each is a catalogue, is left of that
-  left_as : (trees : Trees) (ms : List (Option Catalogue)) (m : Option Catalogue) → Contains ms m → StandsFor (over_files {D = D} {g = g}) m trees → (Contains ms None → ⊥) → (M : Catalogue) × IsLeft 1 M trees
+  left_as : (trees : Trees) (ms : List (Option Catalogue)) (m : Option Catalogue) → Contains ms m → StandsFor (over_files {D = D} {g = g}) m trees → (Contains ms None → ⊥) → (M : Catalogue) × IsLeft M trees
   left_as trees ms (Some M) is stands never = (M, stands)
   left_as trees ms None is stands never = absurd (never is)
 
@@ -118,13 +120,13 @@ module _ {D : Type 0} {g : Ghosts D} (stays : SeenMayStay g) (desk : DeskState (
     first_clean = omega (arith, over.adopted.adds_none.clean, honest)
 
     -- no fault tells of what was opened, where a stop always leaves a catalogue
-    is_of_store : (HasCleanDisk (file_state desk.conn) → (trees : Trees) → (file_state desk.conn).may_leave trees → (M : Catalogue) × IsLeft 1 M trees) → IsOfStore fault
+    is_of_store : (HasCleanDisk (file_state desk.conn) → (trees : Trees) → (file_state desk.conn).may_leave trees → (M : Catalogue) × IsLeft M trees) → IsOfStore fault
     is_of_store leaves =
         let first = over.conn in
         let whole = (over.opened first_clean).0.0 in
         let never = λ (both : HasCleanDisk (file_state desk.conn) × (file_state desk.conn).may_leave (file_state first).committed.trees).
         let h = leaves both.0 (file_state first).committed.trees both.1 in
-        over.not_left honest whole.is_open h.0 (subst (λ (db : Database). IsLeft 1 h.0 db.trees) (sym whole.clean) h.1) in
+        over.not_left honest whole.is_open h.0 (subst (λ (db : Database). IsLeft h.0 db.trees) (sym whole.clean) h.1) in
         let found = may first over.opened first_clean in
         (λ is. ∥∥₁_elim found (λ x y. absurd x) (λ both. (never both).0 is), λ is. ∥∥₁_elim found (λ x y. absurd x) (λ both. (never both).1 is), λ is. ∥∥₁_elim found (λ x y. absurd x) (λ both. (never both).2 is))
 

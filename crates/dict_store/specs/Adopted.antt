@@ -10,12 +10,13 @@ use Rattle.dict_opening.specs.Reading.{IsOfOpening}
 use Rattle.dict_store.specs.Desk.{DeskState, Shows, LeavesOneOf}
 use Rattle.dict_store.specs.Opened.{IsTold, IsNotHeld}
 use Rattle.dict_store.specs.declared.last.Last.TheVariants.{Fine}
+use Rattle.dict_rows.specs.Versions.{known}
 
 module _ {S : Type 0} (g : Ghosts S) where
   -- The database holds a catalogue, which the desk over it shows, and a stop leaves that one alone. Nothing was written.
   pub record IsAdopted (conn : Held S) (desk : DeskState S) : Type 0 where
     pub fine : desk.last ≡ Fine
-    pub shows : HasCleanDisk (state g desk.conn) → (M : Catalogue) × Rests 1 (state g desk.conn) M × Shows g desk M
+    pub shows : HasCleanDisk (state g desk.conn) → (M : Catalogue) × Rests known (state g desk.conn) M × Shows g desk M
     pub only : (M : Catalogue) → Shows g desk M → LeavesOneOf g desk (Some M ∷ [])
     pub same : HasCleanDisk (state g desk.conn) → (state g desk.conn).committed ≡ (state g conn).committed
     pub spares : Survives (state g (record conn { step_limit = None })) (state g desk.conn) (λ _. ⊥)

@@ -1,18 +1,15 @@
 -- A desk over one database: what it is seen as, which catalogue it shows, and what a stop may leave of it.
-use Rattle.std.specs.Prelude.{◌≡◌, ℕ, Bool, true, false, IsTrue, List, Option, MatchOption, Contains, Result, Ok, Err, if◌then◌else◌}
-use Rattle.std.specs.List.{AllByRecursion}
+use Rattle.std.specs.Prelude.{◌≡◌, ℕ, Bool, true, false, IsTrue, List, Option, None, MatchOption, Contains, Result, Ok, Err, if◌then◌else◌}
 use Rattle.sqlite.specs.Tree.{Trees}
 use Rattle.sqlite.specs.State.{HasCleanDisk}
 use Rattle.sqlite.specs.Held.{Held, state}
 use Rattle.sqlite_trees.specs.declared.store.Store.{Ghosts}
-use Rattle.dict_tables.specs.Found.{HasOwn}
-use Rattle.dict_tables.specs.Tables.{table_of, store_tables}
 use Rattle.dict_catalogue.specs.Tests.{Holdings}
 use Rattle.dict_catalogue.specs.Steps.{Catalogue, summary_of}
 use Rattle.dict_catalogue.specs.WellFormed.{IsWellFormed}
 use Rattle.dict_desk.specs.Faults.{is_disk, is_failure}
 use Rattle.dict_desk.specs.declared.fault.Fault.{Fault}
-use Rattle.dict_file.specs.Holds.{Holds, IsLeft}
+use Rattle.dict_file.specs.Holds.{HasLayout, Holds, IsLeft}
 use Rattle.dict_commands.specs.Changes.{IsInRange}
 use Rattle.dict_commands.specs.Answers.{HoldsBy}
 use Rattle.dict_commands.specs.declared.applied.Applied.{Applied}
@@ -20,6 +17,7 @@ use Rattle.dict_commands.specs.declared.applied.Applied.TheVariants.{Before, Now
 use Rattle.dict_catalogue.specs.declared.reply.Kept.{Kept}
 use Rattle.dict_store.specs.declared.last.Last.{Last}
 use Rattle.dict_store.specs.declared.last.Last.TheVariants.{Fine, Failed, Closed}
+use Rattle.dict_rows.specs.Versions.{known, layout_of}
 
 -- the connection, the summary in memory, and how the last call by `&mut` ended
 pub record DeskState (S : Type 0) : Type 0 where
@@ -49,25 +47,26 @@ reply_of (Ok (Now kept summary)) = Ok kept
 reply_of (Err fault) = Err fault
 
 module _ {S : Type 0} (g : Ghosts S) where
-  -- What is true of every desk: its connection is in no transaction; the numbers in its summary are those of installs; and
+  -- What is true of every desk: its connection is in no transaction, and has no limit on steps; the numbers in its summary are those of installs; and
   -- where it isn't closed, and while the store is open and the disk gives what was written, a catalogue of this summary is
   -- committed, and what is shown is that, in the product's tables.
   pub record IsAtRest (last : Last) (summary : Holdings (List ℕ)) (h : Held S) : Type 0 where
     pub autocommit : h.in_transaction ≡ false
+    pub limit : h.step_limit ≡ None
     pub range : IsInRange summary
     pub holds : is_closed last ≡ false → HoldsBy summary (state g h)
     pub settled : is_closed last ≡ false → HasCleanDisk (state g h) → IsTrue (state g h).is_open → (state g h).now ≡ (state g h).committed
-    pub own : is_closed last ≡ false → HasCleanDisk (state g h) → IsTrue (state g h).is_open → AllByRecursion (λ t. HasOwn (state g h).now.schema (table_of t)) store_tables
+    pub own : is_closed last ≡ false → HasCleanDisk (state g h) → IsTrue (state g h).is_open → HasLayout (layout_of known) (state g h).now.schema
 
   -- The catalogue is shown: the summary is its, and while the desk isn't closed and the store is open, the database holds it.
   pub record Shows (desk : DeskState S) (M : Catalogue) : Type 0 where
     pub summary : desk.summary ≡ summary_of M
     pub well_formed : IsWellFormed M
-    pub holds : is_closed desk.last ≡ false → HasCleanDisk (state g desk.conn) → IsTrue (state g desk.conn).is_open → Holds 1 (state g desk.conn).now M
+    pub holds : is_closed desk.last ≡ false → HasCleanDisk (state g desk.conn) → IsTrue (state g desk.conn).is_open → Holds known (state g desk.conn).now M
 
   -- trees of which the catalogue is opened again, or of which none is
   abbrev pub StandsFor : Option Catalogue → Trees → Type 0
-  StandsFor m trees = MatchOption m ((M : Catalogue) → IsLeft 1 M trees → ⊥) (λ M. IsLeft 1 M trees)
+  StandsFor m trees = MatchOption m ((M : Catalogue) → IsLeft M trees → ⊥) (λ M. IsLeft M trees)
 
   -- whatever a stop now leaves stands for one of these
   abbrev pub LeavesOneOf : DeskState S → List (Option Catalogue) → Type 0

@@ -6,7 +6,7 @@ use Rattle.sqlite.specs.Held.{Held, state}
 use Rattle.sqlite_trees.specs.declared.store.Store.{Ghosts}
 use Rattle.dict_catalogue.specs.Steps.{Catalogue}
 use Rattle.dict_desk.specs.declared.fault.Fault.{Fault}
-use Rattle.dict_file.specs.Holds.{Holds, IsLeft}
+use Rattle.dict_file.specs.Holds.{IsHeld, IsLeft}
 use Rattle.dict_io.specs.Streams.{Change}
 use Rattle.dict_session.specs.Desks.{Condition}
 use Rattle.dict_session.specs.Run.{Ends}
@@ -34,9 +34,9 @@ module _ {S : Type 0} (g : Ghosts S) where
   -- stop left its trees.
   pub record HasRun (conn : Held S) (desk : DeskState S) (host : List ℕ) (number : ℕ) (end : Result End SessionFault) (reader writer : Change) : Type 0 where
     pub catalogue : Catalogue
-    pub held : Holds 1 (state g conn).committed catalogue
-    pub over : (M : Catalogue) → Holds 1 (state g conn).committed M → EndsOver desk host number end reader writer M
-    pub left : (M : Catalogue) → IsLeft 1 M (state g conn).committed.trees → EndsOver desk host number end reader writer M
+    pub held : IsHeld (state g conn).committed catalogue
+    pub over : (M : Catalogue) → IsHeld (state g conn).committed M → EndsOver desk host number end reader writer M
+    pub left : (M : Catalogue) → IsLeft M (state g conn).committed.trees → EndsOver desk host number end reader writer M
 
   -- the fault of an opening tells nothing of what a stop left of a catalogue
   abbrev pub TellsNoLeft : Held S → Held S → Fault → Type 0

@@ -12,8 +12,8 @@ use Rattle.dict_store.specs.Desk.{DeskState, Shows, LeavesOneOf}
 
 -- these trees are of a database that holds this catalogue, and no other
 pub record IsLeftAlone (M : Catalogue) (trees : Trees) : Type 0 where
-  pub left : IsLeft 1 M trees
-  pub alone : (N : Catalogue) → IsLeft 1 N trees → N ≡ M
+  pub left : IsLeft M trees
+  pub alone : (N : Catalogue) → IsLeft N trees → N ≡ M
 
 -- these trees are of a database that holds the catalogue after a front of the commands, and no other; the front has every one
 -- of so many that were answered, and at most one more

@@ -23,7 +23,7 @@ use Rattle.dict_store.specs.Promise.{HoldsFront}
 
 -- these octets of a log and of its database file are those of a database from which the catalogue is opened
 abbrev pub IsIn : Catalogue → Image → Type 0
-IsIn M image = (db : Trees) × HoldsDatabase image db × IsLeft 1 M db
+IsIn M image = (db : Trees) × HoldsDatabase image db × IsLeft M db
 
 -- no fault of what a database holds
 abbrev pub IsOfStore : Fault → Type 0
@@ -67,7 +67,7 @@ module _ {D : Type 0} {d : disk.Ghosts D} where
     pub conn : Held (FileStore D d)
     pub opened : HasCleanDisk (file_state conn) → IsOpened conn × Finds files conn
     pub adopted : IsAdopted over_files conn desk
-    pub left : HasCleanDisk (file_state desk.conn) → (M : Catalogue) → IsLeft 1 M (file_state conn).committed.trees → Shows over_files desk M
+    pub left : HasCleanDisk (file_state desk.conn) → (M : Catalogue) → IsLeft M (file_state conn).committed.trees → Shows over_files desk M
 
   -- The desk is over the two files that a desk let go of.
   pub record IsReopened (old new : DeskState (FileStore D d)) : Type 0 where

@@ -42,7 +42,7 @@ fault_of_files _ = NotACatalogue
 
 -- trees of a database from which this is opened: a catalogue, or none
 abbrev pub IsOf : Option Catalogue → Trees → Type 0
-IsOf m trees = MatchOption m ((M : Catalogue) → IsLeft 1 M trees → ⊥) (λ M. IsLeft 1 M trees)
+IsOf m trees = MatchOption m ((M : Catalogue) → IsLeft M trees → ⊥) (λ M. IsLeft M trees)
 
 abbrev pub IsOneOf : List (Option Catalogue) → Trees → Type 0
 IsOneOf ms trees = (m : Option Catalogue) × Contains ms m × IsOf m trees

@@ -4,12 +4,13 @@ ghost use Rattle.sqlite.specs.State.{HasCleanDisk, IsLive, Survives};
 ghost use Rattle.sqlite.specs.Held.{state};
 ghost use Rattle.dict_catalogue.specs.Steps.{Catalogue, summary_of};
 ghost use Rattle.dict_catalogue.specs.Views.{summary_shown};
-ghost use Rattle.dict_file.specs.Holds.{Holds, IsLeft, Rests};
+ghost use Rattle.dict_file.specs.Holds.{IsHeld, IsLeft, Rests};
 ghost use Rattle.dict_commands.specs.Changes.{IsInRange};
 ghost use Rattle.dict_desk.specs.Faults.{has_closed_by, has_failed_by};
 ghost use Rattle.dict_opening.specs.Reading.{IsOfOpening, HasFailed};
 ghost use Rattle.dict_store.specs.Desk.{Shows, LeavesOneOf, is_closed, has_failed};
 ghost use Rattle.dict_store.specs.Opened.{IsTold, IsNotHeld, IsNotLeft, HoldsItsTrees};
+ghost use Rattle.dict_rows.specs.Versions.{known};
 
 use crate::desk::Desk;
 use crate::last::{Last, last_by};
@@ -41,8 +42,8 @@ pub(crate) fn is_whole<S: Alter>(conn: &Connection<S>)
 // Reads a database whole: the summary of the catalogue that it holds. Nothing is written.
 fn read<S: Alter>(alloc: Global, conn: &mut Connection<S>) -> Result<Summary, Fault>
     requires { conn.old.in_transaction ≡ false }
-    ensures rests { HasCleanDisk (state S.Store conn.new) → IfOk result (λ summary. (M : Catalogue) × Rests 1 (state S.Store conn.new) M × (summary_of M ≡ summary_shown summary)) }
-    ensures every { HasCleanDisk (state S.Store conn.new) → IfOk result (λ summary. (M : Catalogue) → Holds 1 (state S.Store conn.old).committed M → Rests 1 (state S.Store conn.new) M × (summary_of M ≡ summary_shown summary)) }
+    ensures rests { HasCleanDisk (state S.Store conn.new) → IfOk result (λ summary. (M : Catalogue) × Rests known (state S.Store conn.new) M × (summary_of M ≡ summary_shown summary)) }
+    ensures every { HasCleanDisk (state S.Store conn.new) → IfOk result (λ summary. (M : Catalogue) → IsHeld (state S.Store conn.old).committed M → Rests known (state S.Store conn.new) M × (summary_of M ≡ summary_shown summary)) }
     ensures range { IfOk result (λ summary. IsInRange (summary_shown summary)) }
     ensures kinds { IfErr result IsOfOpening }
     ensures failed { HasCleanDisk (state S.Store conn.new) → IfErr result (λ fault. fault ≡ Fault.Disk → HasFailed (state S.Store conn.old) (state S.Store conn.new)) }
@@ -74,9 +75,9 @@ impl<S: Alter + Drop> Desk<S> {
     /// a growth was refused. `Disk`: the store failed. The connection's limit on steps is taken away.
     pub fn adopt(alloc: Global, conn: Connection<S>) -> Result<Desk<S>, (Connection<S>, Fault)>
         requires { conn.in_transaction ≡ false }
-        ensures rests { IfOk result (λ desk. HasCleanDisk (state S.Store desk.conn) → (M : Catalogue) × Rests 1 (state S.Store desk.conn) M × Shows S.Store desk M) }
-        ensures held { IfOk result (λ desk. HasCleanDisk (state S.Store desk.conn) → (M : Catalogue) → Holds 1 (state S.Store conn).committed M → Shows S.Store desk M) }
-        ensures left { IfOk result (λ desk. HasCleanDisk (state S.Store desk.conn) → (M : Catalogue) → IsLeft 1 M (state S.Store conn).committed.trees → Shows S.Store desk M) }
+        ensures rests { IfOk result (λ desk. HasCleanDisk (state S.Store desk.conn) → (M : Catalogue) × Rests known (state S.Store desk.conn) M × Shows S.Store desk M) }
+        ensures held { IfOk result (λ desk. HasCleanDisk (state S.Store desk.conn) → (M : Catalogue) → IsHeld (state S.Store conn).committed M → Shows S.Store desk M) }
+        ensures left { IfOk result (λ desk. HasCleanDisk (state S.Store desk.conn) → (M : Catalogue) → IsLeft M (state S.Store conn).committed.trees → Shows S.Store desk M) }
         ensures only { IfOk result (λ desk. (M : Catalogue) → Shows S.Store desk M → LeavesOneOf S.Store desk (Some M ∷ [])) }
         ensures open { IfOk result (λ desk. (desk.last ≡ Last.Fine) × (desk.conn.in_transaction ≡ false)) }
         ensures same { IfOk result (λ desk. HasCleanDisk (state S.Store desk.conn) → (state S.Store desk.conn).committed ≡ (state S.Store conn).committed) }
@@ -104,7 +105,7 @@ impl<S: Alter + Drop> Desk<S> {
     /// `Ok`: it holds a catalogue, and the desk goes on. `Damaged`, `NewerSchema` and `NotACatalogue` tell what `adopt` would.
     /// `Memory`: a growth was refused. `Disk`: the store failed, and the desk is closed. `Closed`: it was so before.
     pub fn audit(&mut self) -> Result<(), Fault>
-        ensures sound { IfOk result (λ _. HasCleanDisk (state S.Store self.new.conn) → (M : Catalogue) × Rests 1 (state S.Store self.new.conn) M) }
+        ensures sound { IfOk result (λ _. HasCleanDisk (state S.Store self.new.conn) → (M : Catalogue) × Rests known (state S.Store self.new.conn) M) }
         ensures told { IfErr result (λ fault. HasCleanDisk (state S.Store self.new.conn) → IsTold (state S.Store self.old.conn).now fault) }
         ensures not_held { IfErr result (λ fault. HasCleanDisk (state S.Store self.new.conn) → IsNotHeld (state S.Store self.old.conn).now fault) }
         ensures broken { HasCleanDisk (state S.Store self.new.conn) → IfErr result (λ fault. fault ≡ Fault.Disk → HasFailed (state S.Store self.old.conn) (state S.Store self.new.conn)) }

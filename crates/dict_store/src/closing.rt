@@ -34,7 +34,7 @@ fn let_go<S: Alter + Drop>(desk: Desk<S>) -> (Connection<S>, bool)
     ensures same { result.0 ≡ desk.conn }
     ensures closed { result.1 ≡ is_closed desk.last }
     ensures holds { is_closed desk.last ≡ false → HasCleanDisk (state S.Store desk.conn) → IsTrue (state S.Store desk.conn).is_open → (M : Catalogue) → Shows S.Store desk M
-        → IsLeft 1 M (state S.Store desk.conn).committed.trees }
+        → IsLeft M (state S.Store desk.conn).committed.trees }
 {
     let is_closed = desk.last == Last::Closed;
     let Desk { conn, .. } = desk;

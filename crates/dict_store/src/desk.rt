@@ -6,11 +6,12 @@ ghost use Rattle.dict_catalogue.specs.Steps.{Catalogue, empty_catalogue, summary
 ghost use Rattle.dict_catalogue.specs.Views.{summary_shown};
 ghost use Rattle.dict_catalogue.specs.WellFormed.{IsWellFormed};
 ghost use Rattle.dict_desk.specs.Faults.{is_disk};
-ghost use Rattle.dict_file.specs.Holds.{Holds, Rests, IsLeft, HasPlace};
-ghost use Rattle.dict_file.specs.Writing.{Stays, FailsToEnd, IsOfCreation};
+ghost use Rattle.dict_file.specs.Holds.{Holds, Rests, IsLeftAs, HasPlace};
+ghost use Rattle.dict_file.specs.Writing.{Stays, creation, FailsToEnd, IsOfCreation};
 ghost use Rattle.dict_commands.specs.Changes.{IsInRange};
 ghost use Rattle.dict_commands.specs.Answers.{HoldsBy};
 ghost use Rattle.dict_store.specs.Desk.{Shows, LeavesOneOf, is_closed};
+ghost use Rattle.dict_rows.specs.Versions.{known};
 
 use crate::last::Last;
 use dict_catalogue::Summary;
@@ -48,10 +49,11 @@ impl<S: Alter + Drop> Desk<S> {
     // The desk over a database at rest that holds a catalogue of this summary.
     pub(crate) fn over(alloc: Global, conn: Connection<S>, summary: Summary) -> Desk<S>
         requires autocommit { conn.in_transaction ≡ false }
+        requires limit { conn.step_limit ≡ None }
         requires range { IsInRange (summary_shown summary) }
         requires holds { HoldsBy (summary_shown summary) (state S.Store conn) }
         ensures is { result ≡ record { conn = conn; summary = summary_shown summary; last = Last.Fine } }
-        ensures shows { (M : Catalogue) → summary_shown summary ≡ summary_of M → IsWellFormed M → (HasCleanDisk (state S.Store conn) → Rests 1 (state S.Store conn) M) → Shows S.Store result M }
+        ensures shows { (M : Catalogue) → summary_shown summary ≡ summary_of M → IsWellFormed M → (HasCleanDisk (state S.Store conn) → Rests known (state S.Store conn) M) → Shows S.Store result M }
     {
         Desk {
             alloc,
@@ -69,17 +71,17 @@ impl<S: Alter + Drop> Desk<S> {
     pub fn create(alloc: Global, conn: Connection<S>) -> Result<Desk<S>, (Connection<S>, Fault)>
         requires { conn.in_transaction ≡ false }
         ensures shows { IfOk result (λ desk. Shows S.Store desk empty_catalogue) }
-        ensures rests { IfOk result (λ desk. HasCleanDisk (state S.Store desk.conn) → Rests 1 (state S.Store desk.conn) empty_catalogue) }
+        ensures rests { IfOk result (λ desk. HasCleanDisk (state S.Store desk.conn) → Rests known (state S.Store desk.conn) empty_catalogue) }
         ensures open { IfOk result (λ desk. (desk.last ≡ Last.Fine) × (desk.conn.in_transaction ≡ false)) }
         ensures only { IfOk result (λ desk. LeavesOneOf S.Store desk (Some empty_catalogue ∷ [])) }
-        ensures made { IfOk result (λ desk. Survives (state S.Store (record conn { step_limit = None })) (state S.Store desk.conn) (IsLeft 1 empty_catalogue)) }
+        ensures made { IfOk result (λ desk. Survives (state S.Store (record conn { step_limit = None })) (state S.Store desk.conn) (IsLeftAs known empty_catalogue)) }
         ensures place { IfOk result (λ desk. HasPlace (state S.Store conn).now.schema) }
         ensures handed { IfErr result (λ left. left.0.in_transaction ≡ false) }
         ensures no_place { IfErr result (λ left. left.1 ≡ Fault.NotACatalogue → (HasPlace (state S.Store conn).now.schema → ⊥) × (left.0 ≡ record conn { step_limit = None })) }
-        ensures crash { IfErr result (λ left. Survives (state S.Store (record conn { step_limit = None })) (state S.Store left.0) (IsLeft 1 empty_catalogue)) }
+        ensures crash { IfErr result (λ left. Survives (state S.Store (record conn { step_limit = None })) (state S.Store left.0) (IsLeftAs known empty_catalogue)) }
         ensures adds_none { IfErr result (λ left. is_disk left.1 ≡ false → Survives (state S.Store (record conn { step_limit = None })) (state S.Store left.0) (λ _. ⊥)) }
         ensures stays { IfErr result (λ left. HasCleanDisk (state S.Store left.0) → Stays (state S.Store conn) (state S.Store left.0)) }
-        ensures failed { IfErr result (λ left. HasCleanDisk (state S.Store left.0) → left.1 ≢ Fault.NotACatalogue → FailsToEnd S.Store (λ db. Holds 1 db empty_catalogue) (record conn { step_limit = None }) left.0 left.1) }
+        ensures failed { IfErr result (λ left. HasCleanDisk (state S.Store left.0) → left.1 ≢ Fault.NotACatalogue → FailsToEnd S.Store (creation known) (λ db. Holds known db empty_catalogue) (record conn { step_limit = None }) left.0 left.1) }
         ensures kinds { IfErr result (λ left. IsOfCreation left.1) }
     {
         let mut conn = conn;

@@ -27,6 +27,12 @@ fn take_over(summary: &mut Summary, outcome: Result<Applied, Fault>) -> Result<K
 }
 
 impl<S: Alter + Drop> Keeper for Desk<S> {
+    ghost use Rattle.dict_store.specs.Causes.{FailsToApplyTo, IsAppliedTo};
+
+    ghost applies = { λ old request result new. IsAppliedTo S.Store old request result new };
+
+    ghost fails_to_apply = { FailsToApplyTo S.Store };
+
     fn kept(&mut self, id: &str) -> Result<Option<Kept>, Fault> {
         if self.last == Last::Closed {
             return Err(Fault::Closed);

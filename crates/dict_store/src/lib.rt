@@ -6,6 +6,7 @@ mod closing;
 mod desk;
 mod keeper;
 mod last;
+mod laws;
 mod lookups;
 mod promise;
 mod reopening;
@@ -13,6 +14,7 @@ mod session;
 
 pub use desk::Desk;
 pub use last::Last;
+pub use laws::committed_may_stay;
 pub use promise::apply_to_file;
 pub use reopening::{Unopened, stopped_files};
 pub use session::session_over;

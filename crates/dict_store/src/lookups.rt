@@ -11,6 +11,7 @@ impl<S: Alter + Drop> Lookup for Desk<S> {
     ghost use Rattle.sqlite.specs.State.{HasCleanDisk};
     ghost use Rattle.sqlite.specs.Held.{state};
     ghost use Rattle.dict_store.specs.Desk.{Shows, LeavesOneOf, is_closed, has_failed};
+    ghost use Rattle.dict_store.specs.Causes.{GivesWay};
     ghost use Rattle.dict_store.specs.DeskLaws.{open_unless_failed};
 
     ghost shows = { λ s M. Shows S.Store s M };
@@ -22,6 +23,8 @@ impl<S: Alter + Drop> Lookup for Desk<S> {
     ghost is_closed = { λ s. is_closed s.last };
 
     ghost has_failed = { λ s. has_failed s.last };
+
+    ghost gives_way = { GivesWay S.Store };
 
     fn summary(&self) -> Result<&Summary, Fault> {
         match self.last {

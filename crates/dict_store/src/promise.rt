@@ -3,10 +3,11 @@ ghost use Rattle.std.specs.Prelude.{◌≡◌, ◌≤◌, ◌<◌, ◌||◌, ℕ
 ghost use Rattle.sqlite.specs.State.{HasCleanDisk};
 ghost use Rattle.sqlite.specs.Held.{state};
 ghost use Rattle.dict_catalogue.specs.Steps.{Catalogue, after};
-ghost use Rattle.dict_desk.specs.AllApplied.{reply_shown, replies};
+ghost use Rattle.dict_desk.specs.AllApplied.{reply_shown, replies, AreApplied, HasHalted};
 ghost use Rattle.dict_desk.specs.Faults.{IsOfLookup, is_disk};
 ghost use Rattle.dict_desk.specs.Requests.{requests_meant};
 ghost use Rattle.dict_store.specs.Desk.{LeavesOneOf, is_closed, has_failed};
+ghost use Rattle.dict_store.specs.Causes.{IsAppliedTo};
 ghost use Rattle.dict_store.specs.Promise.{KeepsAlone, KeepsFront, KeepsAt};
 
 use crate::desk::Desk;
@@ -30,6 +31,8 @@ pub fn apply_to_file<S: Alter + Drop>(
 ) -> Result<Vec<Result<Kept, Refusal>>, Halted>
     ensures answered { IfOk result (λ outcomes. KeepsFront S.Store desk.old desk.new (requests_meant requests.now) (vec_len outcomes)) }
     ensures halted { IfErr result (λ halted. KeepsFront S.Store desk.old desk.new (requests_meant requests.now) halted.stand) }
+    ensures called { IfOk result (λ outcomes. AreApplied (IsAppliedTo S.Store) desk.old (requests_meant requests.now) outcomes.items desk.new) }
+    ensures failed { IfErr result (λ halted. HasHalted (IsAppliedTo S.Store) desk.old (requests_meant requests.now) halted.stand halted.fault desk.new) }
     ensures told { IfOk result (λ outcomes. HasCleanDisk (state S.Store desk.new.conn) → (M : Catalogue) → KeepsAlone S.Store desk.old M → map reply_shown outcomes.items ≡ replies M (requests_meant requests.now)) }
     ensures goes_on { IfOk result (λ outcomes. HasCleanDisk (state S.Store desk.new.conn) → (M : Catalogue) → KeepsAlone S.Store desk.old M → KeepsAlone S.Store desk.new (after M (requests_meant requests.now))) }
     ensures stands { IfErr result (λ halted. HasCleanDisk (state S.Store desk.new.conn) → (M : Catalogue) → KeepsAlone S.Store desk.old M → KeepsAt S.Store desk.new M (requests_meant requests.now) halted.stand halted.fault) }

@@ -1,5 +1,5 @@
 // A desk over files that are opened, and over what a stop left of them.
-ghost use Rattle.std.specs.Prelude.{◌≡◌, ◌⊎◌, ℕ, List, [], ◌∷◌, Option, Some, IfOk, IfErr, IsTrue};
+ghost use Rattle.std.specs.Prelude.{◌≡◌, ◌⊎◌, ℕ, List, [], ◌∷◌, codes, Option, Some, IfOk, IfErr, IsErrAnd, IsTrue};
 ghost use Rattle.sqlite.specs.State.{HasCleanDisk};
 ghost use Rattle.sqlite.specs.Files.{file_state, over_files};
 ghost use Rattle.sqlite.specs.FileStore as store;
@@ -16,6 +16,7 @@ ghost use Rattle.dict_store.specs.Adopted.{IsAdopted};
 ghost use Rattle.dict_opening.specs.Reading.{IsOfOpening};
 ghost use Rattle.dict_store.specs.Reopened.{IsIn, HoldsFrontIn, IsLetGo, IsOpenedOver, IsReopened, IsRestarted, LeavesFront, ShowsFront, ShowsOneOf};
 ghost use Rattle.dict_store.specs.Unopened.{fault_of_files, IsUnopened, IsUnopenedOver, IsUnreopened, IsUnrestarted};
+ghost use Rattle.dict_rows.specs.Versions.{known};
 
 use crate::desk::Desk;
 use dict_desk::Fault;
@@ -73,18 +74,19 @@ impl<S: Start> Desk<FileStore<FileFrom<S>>> {
     /// A desk over the files at a path, of which the last commit is recovered. It takes what `Connection::open_from` takes, and
     /// `S` stands for the octets that the files hold.
     ///
-    /// Where no connection is opened, the fault is `Memory` for memory and else `NotACatalogue`: the error of `sqlite` tells why. The
-    /// others are those of `adopt`. At each fault a stop leaves what the files hold.
+    /// Where no connection is opened, the fault is `Memory` for memory and else `NotACatalogue`: the error of `sqlite` tells why. It
+    /// refuses `:memory:`, which names no file. The others are those of `adopt`. At each fault a stop leaves what the files hold.
     pub fn open_from(
         rt: &HostRuntime,
         path: &str,
         new_has_sums: bool,
         start: S,
     ) -> Result<Desk<FileStore<FileFrom<S>>>, (Unopened<FileFrom<S>>, Fault)>
-        ensures rests { IfOk result (λ desk. HasCleanDisk (file_state desk.conn) → (M : Catalogue) × Rests 1 (file_state desk.conn) M × Shows over_files desk M) }
+        ensures rests { IfOk result (λ desk. HasCleanDisk (file_state desk.conn) → (M : Catalogue) × Rests known (file_state desk.conn) M × Shows over_files desk M) }
         ensures shows { IfOk result (λ desk. HasCleanDisk (file_state desk.conn) → (M : Catalogue) → IsIn M (image_at S.Start) → Shows over_files desk M) }
         ensures only { IfOk result (λ desk. (M : Catalogue) → Shows over_files desk M → LeavesOneOf over_files desk (Some M ∷ [])) }
         ensures unopened { IfErr result (λ left. IsUnopened (image_at S.Start) left.0 left.1) }
+        ensures memory { path.now ≡ codes ":memory:" → IsErrAnd result (λ left. left.1 ≡ Fault.NotACatalogue) }
     {
         let conn = match Connection::open_from(rt, path, new_has_sums, start) {
             Ok(conn) => conn,

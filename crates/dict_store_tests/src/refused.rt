@@ -8,12 +8,13 @@ use std::alloc::{AllocError, Global};
 use std::test::Fail;
 
 // Each of these takes a name, or refers to one, that a store needs.
-static IN_USE: [&str; 5] = [
+static IN_USE: [&str; 6] = [
     "CREATE TABLE kept (a TEXT) STRICT",
     "CREATE TABLE Word (a TEXT) STRICT",
     "CREATE TABLE dictcat_more (a TEXT) STRICT",
     "CREATE TABLE others (a TEXT) STRICT; CREATE INDEX entry ON others (a)",
     "CREATE TABLE others (a TEXT REFERENCES item (name)) STRICT",
+    "CREATE TABLE others (a TEXT REFERENCES dictcat_entry (a)) STRICT",
 ];
 
 // Two databases, and a list of both.
@@ -24,7 +25,7 @@ static CATALOGUE: [(&str, Asked); 3] = [
 ];
 
 // Each of these makes a file that is refused.
-static STATEMENTS: [(&str, Fault); 24] = [
+static STATEMENTS: [(&str, Fault); 27] = [
     ("UPDATE item SET place = 9 WHERE place = 2", Fault::Damaged),
     ("UPDATE item SET kind = 2 WHERE place = 0", Fault::Damaged),
     (
@@ -74,6 +75,15 @@ static STATEMENTS: [(&str, Fault); 24] = [
     ("DROP TABLE kept", Fault::Damaged),
     (
         "CREATE UNIQUE INDEX more ON entry (headword)",
+        Fault::Damaged,
+    ),
+    ("CREATE TABLE word (a TEXT) STRICT", Fault::Damaged),
+    (
+        "CREATE TABLE others (a TEXT) STRICT; CREATE INDEX dictcat_entry_key ON others (a)",
+        Fault::Damaged,
+    ),
+    (
+        "CREATE TABLE others (a TEXT REFERENCES gram (a)) STRICT",
         Fault::Damaged,
     ),
     ("UPDATE mark SET version = 9", Fault::NewerSchema),
@@ -135,6 +145,10 @@ fn refused_files(rt: HostRuntime) -> Result<(), Fail> {
         let conn = batched(conn, *statement)?;
         holds(&rt, is_refused(alloc, conn, false, *wanted), statement);
     }
+    // a name that goes with the table of entries is no hindrance
+    let own = made_in(alloc, Connection::open_in_memory(alloc)?, &CATALOGUE)?;
+    let own = batched(own, "CREATE INDEX dictcat_entry_key ON entry (headword)")?;
+    holds(&rt, desk_over(alloc, own, false).is_ok(), "own");
     let empty = Connection::open_in_memory(alloc)?;
     holds(
         &rt,

@@ -12,16 +12,16 @@ use Rattle.dict_sql.proofs.StreamLemmas.{passed_on}
 use Rattle.dict_desk.specs.Faults.{is_failure}
 use Rattle.dict_desk.specs.declared.fault.Fault.TheVariants.{Memory}
 use Rattle.dict_file.specs.Holds.{Holds, Rests}
-use Rattle.dict_file.specs.Writing.{FailsToEnd}
-use Rattle.dict_commands.specs.Answers.{FailsToApply}
+use Rattle.dict_commands.specs.Answers.{FailsToAct, FailsToApply}
 use Rattle.std.proofs.lemmas.Result.{err_from_is_err_and}
 use Rattle.dict_commands.proofs.applying.apply.Goals as goal
+use Rattle.dict_rows.specs.Versions.{known}
 
 pub returns-in-Some-clause-value : goal.returns-in-Some-clause-value
 returns-in-Some-clause-value g c = λ clean M rests is.
     let old = state g.S.Store c.args.conn.now in
     let new = state g.S.Store c.kept_reply.new.conn in
-    let there : kept_under M.kept c.args.id.now ≡ Some (kept_shown c.in-Some.kept) = sym (rw c.in-Some.is at (c.in_ok-kept.ensures.value clean 1 M (holds_now old M rests))) in
+    let there : kept_under M.kept c.args.id.now ≡ Some (kept_shown c.in-Some.kept) = sym (rw c.in-Some.is at (c.in_ok-kept.ensures.value clean known M (holds_now old M rests))) in
     let lawful : is_request_id c.args.id.now ≡ true = search rules in
     (there, kept_step M c.args.id.now (command_meant c.args.command.now) (kept_shown c.in-Some.kept) lawful there, rests_unchanged old new M (c.in_ok-kept.ensures.same clean) rests)
 
@@ -35,7 +35,7 @@ returns-clause-crash g c =
       (c.in_ok-kept.ensures.same (clean_before mid new c.apply_new.ensures.crash clean)).0.was_open,
       λ M rests is.
           let early : HasCleanDisk mid = clean_before mid new c.apply_new.ensures.crash clean in
-          let none : kept_under M.kept c.args.id.now ≡ None = sym (rw c.in_default.is at (c.in_ok-kept.ensures.value early 1 M (holds_now old M rests))) in
+          let none : kept_under M.kept c.args.id.now ≡ None = sym (rw c.in_default.is at (c.in_ok-kept.ensures.value early known M (holds_now old M rests))) in
           left M (rests_unchanged old mid M (c.in_ok-kept.ensures.same early) rests) is none,
     )) c.kept_reply.ensures.survives c.apply_new.ensures.crash
 
@@ -73,12 +73,12 @@ returns-clause-failed g c clean =
     let command = command_meant c.args.command.now in
     let early : HasCleanDisk (state g.S.Store mid) = clean_before (state g.S.Store mid) (state g.S.Store new) c.apply_new.ensures.crash clean in
     let same = c.in_ok-kept.ensures.same early in
-    let P = λ (db : Database). (M : Catalogue) → Rests 1 (state g.S.Store mid) M → summary_of M ≡ summary → kept_under M.kept c.args.id.now ≡ None → Holds 1 db (step M c.args.id.now command).catalogue in
-    each_err c.apply_new.result (λ fault. is_failure fault ≡ true → ((fault ≡ Memory) × (new ≡ mid)) ⊎ FailsToEnd g.S.Store P mid new fault)
+    let P = λ (db : Database). (M : Catalogue) → Rests known (state g.S.Store mid) M → summary_of M ≡ summary → kept_under M.kept c.args.id.now ≡ None → Holds known db (step M c.args.id.now command).catalogue in
+    each_err c.apply_new.result (λ fault. is_failure fault ≡ true → ((fault ≡ Memory) × (new ≡ mid)) ⊎ FailsToAct g.S.Store summary c.args.id.now command P mid new fault)
     (λ fault. is_failure fault ≡ true → FailsToApply g.S.Store summary c.args.id.now command old new fault)
-    (λ fault h real. new_fails g.S.Store summary c.args.id.now command P old mid new same
+    (λ fault h real. new_fails g.S.Store summary c.args.id.now command P old mid new same c.kept_reply.ensures.survives
     (λ db then M rests is.
-    let none : kept_under M.kept c.args.id.now ≡ None = sym (rw c.in_default.is at (c.in_ok-kept.ensures.value early 1 M (holds_now (state g.S.Store old) M rests))) in
+    let none : kept_under M.kept c.args.id.now ≡ None = sym (rw c.in_default.is at (c.in_ok-kept.ensures.value early known M (holds_now (state g.S.Store old) M rests))) in
     then M (rests_unchanged (state g.S.Store old) (state g.S.Store mid) M same rests) is none) fault (h real)) (c.apply_new.ensures.failed clean)
 
 pub returns-in_err-kept-clause-value : goal.returns-in_err-kept-clause-value

@@ -2,7 +2,7 @@ use Rattle.std.proofs.lemmas.Result.{err_from_is_err_and}
 use Rattle.sqlite.specs.Held.{state}
 use Rattle.sqlite.proofs.StateLemmas.{survives_weaker}
 use Rattle.dict_catalogue.specs.Views.{summary_shown, command_shown, command_meant}
-use Rattle.dict_commands.proofs.ApplyLemmas.{declined_answers, failed_answers, acted_answers, left_after, declined_fails, ends_weaker, holds_after, holds_now}
+use Rattle.dict_commands.proofs.ApplyLemmas.{declined_answers, failed_answers, acted_answers, left_after, declined_fails, ends_weaker, is_planned, holds_after, holds_now}
 use Rattle.std.proofs.Common.{◌≡◌, ◌⊎◌, inl, inr, refl, true, None}
 use Rattle.sqlite.specs.Effect.{Database}
 use Rattle.dict_sql.proofs.StreamLemmas.{passed_on}
@@ -10,10 +10,13 @@ use Rattle.dict_catalogue.specs.Steps.{Catalogue, summary_of, kept_under, step}
 use Rattle.dict_desk.specs.Faults.{is_failure}
 use Rattle.dict_desk.specs.declared.fault.Fault.TheVariants.{Memory}
 use Rattle.dict_rows.specs.After.{tables_after}
+use Rattle.dict_rows.specs.Versions.{known}
 use Rattle.dict_file.specs.Holds.{Holds, Rests}
-use Rattle.dict_file.specs.Writing.{FailsToEnd}
+use Rattle.dict_commands.specs.Answers.{FailsToAct}
+use Rattle.dict_commands.specs.Statements.{statements_of}
 use Rattle.dict_commands.specs.Kept.{Turns}
 use Rattle.dict_commands.specs.Changes.{change_by}
+use Rattle.dict_file.proofs.ReadingLemmas.{plain_kept}
 use Rattle.dict_commands.proofs.applying.apply_new.Goals as goal
 
 pub returns-in_err-change-clause-value : goal.returns-in_err-change-clause-value
@@ -55,8 +58,21 @@ returns-in_err-commit_change-clause-failed g c clean =
     let new = c.commit_change.new.conn in
     let fault = c.in_err-commit_change.field-0.0 in
     let summary = summary_shown c.args.summary.now in
-    let P = λ (db : Database). (M : Catalogue) → Rests 1 (state g.S.Store old) M → summary_of M ≡ summary → kept_under M.kept c.args.id.now ≡ None → Holds 1 db (step M c.args.id.now (command_meant c.args.command.now)).catalogue in
-    passed_on (λ fault. is_failure fault ≡ true → ((fault ≡ Memory) × (new ≡ old)) ⊎ FailsToEnd g.S.Store P old new fault) fault c.from_residual-in_err-commit_change.result c.from_residual-in_err-commit_change.ensures.1
-    (λ real. inr (ends_weaker g.S.Store (Turns (tables_after 1 (change_by c.args.id.now c.args.command.now c.in_ok-change.change)) (state g.S.Store old).now) P old new fault
-    (λ db turns M rests is new. holds_after M c.args.id.now c.args.command.now c.in_ok-change.change summary c.requires.id new is c.in_ok-change.ensures.planned c.is_lawful.ensures c.lies_within.ensures (state g.S.Store old).now db (holds_now (state g.S.Store old) M rests) turns)
-    (c.in_err-commit_change.ensures.failed clean)))
+    let P = λ (db : Database). (M : Catalogue) → Rests known (state g.S.Store old) M → summary_of M ≡ summary → kept_under M.kept c.args.id.now ≡ None → Holds known db (step M c.args.id.now (command_meant c.args.command.now)).catalogue in
+    let change = change_by c.args.id.now c.args.command.now c.in_ok-change.change in
+    let planned = is_planned c.args.id.now c.args.command.now c.in_ok-change.change summary c.in_ok-change.ensures.planned c.lies_within.ensures (state g.S.Store old) in
+    passed_on (λ fault. is_failure fault ≡ true → ((fault ≡ Memory) × (new ≡ old)) ⊎ FailsToAct g.S.Store summary c.args.id.now (command_meant c.args.command.now) P old new fault) fault c.from_residual-in_err-commit_change.result c.from_residual-in_err-commit_change.ensures.1
+    (λ real. inr (
+      change,
+      planned,
+      ends_weaker g.S.Store (statements_of known change) (Turns (tables_after known change) (state g.S.Store old).now) P old new fault
+          (λ db turns M rests is new. holds_after M c.args.id.now c.args.command.now c.in_ok-change.change summary c.requires.id new is c.in_ok-change.ensures.planned c.is_lawful.ensures c.lies_within.ensures (state g.S.Store old).now db (holds_now (state g.S.Store old) M rests) turns)
+          (c.in_err-commit_change.ensures.failed clean),
+    ))
+
+pub commit_change-requires-clause-usable : goal.commit_change-requires-clause-usable
+commit_change-requires-clause-usable g c = λ clean live.
+    let old = state g.S.Store c.args.conn.now in
+    let it = c.requires.holds clean live in
+    let held = holds_now old it.0 it.1 in
+    (held.tables, record { own = held.own; keeps = plain_kept old.now held.tables held.keeps })

@@ -4,7 +4,11 @@ use Rattle.dict_sql.specs.Encodings.{entry_row}
 use Rattle.dict_records.specs.Records.{Entry}
 use Rattle.dict_commands.proofs.TableLemmas.{entry_added}
 use Rattle.dict_commands.proofs.LoopLemmas.{usable_then}
-use Rattle.dict_file.proofs.WithinLemmas.{err_added}
+use Rattle.dict_file.proofs.WithinLemmas.{ran_one, err_one}
+use Rattle.dict_commands.specs.Statements.{adding_entry}
+use Rattle.dict_records.specs.Typed.{lent_entry}
+use Rattle.dict_rows.specs.Written.{entry_record}
+use Rattle.dict_index.specs.Views.{line_of}
 use Rattle.dict_commands.proofs.editions.add_entry.Goals as goal
 
 pub returns-clause-turns : goal.returns-clause-turns
@@ -19,4 +23,9 @@ returns-clause-usable g c =
 
 pub returns-in_err-insert_entry-clause-failed : goal.returns-in_err-insert_entry-clause-failed
 returns-in_err-insert_entry-clause-failed g c clean =
-    err_added g.S.Store _ _ c.args.tx.now.conn.now c.insert_entry.new.tx.conn.now c.in_err-insert_entry.field-0.0 c.from_residual.result c.from_residual.ensures.1 (c.in_err-insert_entry.ensures.failed clean)
+    err_one g.S.Store c.args.tx.now.conn.now c.insert_entry.new.tx.conn.now c.in_err-insert_entry.field-0.0 c.from_residual.result c.from_residual.ensures.1
+    adding_entry (lent_entry c.entry_row-row.result) (entry_record c.args.number c.args.ord (line_of c.args.entry.now)) c.entry_row-row.ensures (c.in_err-insert_entry.ensures.failed clean) c.insert_entry.ensures.survives
+
+pub returns-clause-ran : goal.returns-clause-ran
+returns-clause-ran g c clean =
+    ran_one g.S.Store adding_entry (lent_entry c.entry_row-row.result) (entry_record c.args.number c.args.ord (line_of c.args.entry.now)) c.entry_row-row.ensures c.args.tx.now.conn.now c.insert_entry.new.tx.conn.now (c.in_ok-insert_entry.ensures.added clean) c.insert_entry.ensures.survives

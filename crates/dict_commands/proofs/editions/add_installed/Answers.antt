@@ -1,4 +1,7 @@
-use Rattle.dict_file.proofs.WithinLemmas.{err_first}
+use Rattle.dict_sql.proofs.StreamLemmas.{passed_on}
+use Rattle.dict_sql.specs.Statements.{FailsInTurn}
+use Rattle.dict_commands.specs.Statements.{installing}
+use Rattle.dict_commands.specs.Changes.{installed_by}
 use Rattle.dict_commands.proofs.editions.add_installed.Goals as goal
 
 pub returns-in_ok-add_edition-in-Install-clause-turns : goal.returns-in_ok-add_edition-in-Install-clause-turns
@@ -6,4 +9,8 @@ returns-in_ok-add_edition-in-Install-clause-turns g c = λ clean tables it. rw c
 
 pub returns-in_err-add_edition-in-Install-clause-failed : goal.returns-in_err-add_edition-in-Install-clause-failed
 returns-in_err-add_edition-in-Install-clause-failed g c clean =
-    err_first g.S.Store c.args.tx.now.conn.now c.add_edition.new.tx.conn.now c.in_err-add_edition-in-Install.field-0.0 c.from_residual.result c.from_residual.ensures.1 (c.in_err-add_edition-in-Install.ensures.failed clean)
+    passed_on (FailsInTurn g.S.Store (installing (installed_by c.args.number c.args.command.now)) c.args.tx.now.conn.now c.add_edition.new.tx.conn.now) c.in_err-add_edition-in-Install.field-0.0 c.from_residual.result c.from_residual.ensures.1
+    (rw c.in-Install.is (c.in_err-add_edition-in-Install.ensures.failed clean))
+
+pub returns-in_ok-add_edition-in-Install-clause-ran : goal.returns-in_ok-add_edition-in-Install-clause-ran
+returns-in_ok-add_edition-in-Install-clause-ran g c clean = rw c.in-Install.is (c.in_ok-add_edition-in-Install.ensures.ran clean)

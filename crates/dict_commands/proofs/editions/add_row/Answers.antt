@@ -4,7 +4,10 @@ use Rattle.dict_sql.specs.Encodings.{edition_row}
 use Rattle.dict_records.specs.Records.{Edition}
 use Rattle.dict_commands.proofs.TableLemmas.{edition_added}
 use Rattle.dict_commands.proofs.LoopLemmas.{usable_then}
-use Rattle.dict_file.proofs.WithinLemmas.{err_added}
+use Rattle.dict_file.proofs.WithinLemmas.{ran_one, err_one}
+use Rattle.dict_commands.specs.Statements.{adding_edition}
+use Rattle.dict_records.specs.Typed.{lent_edition}
+use Rattle.dict_rows.specs.Written.{edition_record}
 use Rattle.dict_commands.proofs.editions.add_row.Goals as goal
 
 pub returns-clause-turns : goal.returns-clause-turns
@@ -19,4 +22,9 @@ returns-clause-usable g c =
 
 pub returns-in_err-insert_edition-clause-failed : goal.returns-in_err-insert_edition-clause-failed
 returns-in_err-insert_edition-clause-failed g c clean =
-    err_added g.S.Store _ _ c.args.tx.now.conn.now c.insert_edition.new.tx.conn.now c.in_err-insert_edition.field-0.0 c.from_residual.result c.from_residual.ensures.1 (c.in_err-insert_edition.ensures.failed clean)
+    err_one g.S.Store c.args.tx.now.conn.now c.insert_edition.new.tx.conn.now c.in_err-insert_edition.field-0.0 c.from_residual.result c.from_residual.ensures.1
+    adding_edition (lent_edition c.edition_row-row.result) (edition_record c.args.owner.now c.args.number c.args.edition.now) c.edition_row-row.ensures (c.in_err-insert_edition.ensures.failed clean) c.insert_edition.ensures.survives
+
+pub returns-clause-ran : goal.returns-clause-ran
+returns-clause-ran g c clean =
+    ran_one g.S.Store adding_edition (lent_edition c.edition_row-row.result) (edition_record c.args.owner.now c.args.number c.args.edition.now) c.edition_row-row.ensures c.args.tx.now.conn.now c.insert_edition.new.tx.conn.now (c.in_ok-insert_edition.ensures.added clean) c.insert_edition.ensures.survives

@@ -2,9 +2,11 @@ use Rattle.std.proofs.Common.{codes, subst}
 use Rattle.dict_sql.specs.Effects.{seen, IsRemoved, equals_number}
 use Rattle.dict_commands.proofs.GoneLemmas.{handed, edition_gone}
 use Rattle.dict_commands.proofs.LoopLemmas.{usable_then}
-use Rattle.dict_file.proofs.WithinLemmas.{err_removed}
 use mir.Val.{to_z}
 use mir.Syntax.{w64}
+use Rattle.dict_file.proofs.WithinLemmas.{ran_one, err_one}
+use Rattle.dict_sql.specs.Statements.{remove}
+use Rattle.std.specs.Prelude.{ℤ, pos}
 use Rattle.dict_commands.proofs.editions.take_row.Goals as goal
 
 pub returns-clause-turns : goal.returns-clause-turns
@@ -19,4 +21,9 @@ returns-clause-usable g c =
 
 pub returns-in_err-delete_edition-clause-failed : goal.returns-in_err-delete_edition-clause-failed
 returns-in_err-delete_edition-clause-failed g c clean =
-    err_removed g.S.Store (codes "edition") (equals_number 1 (to_z w64 c.args.number)) c.args.tx.now.conn.now c.delete_edition.new.tx.conn.now c.in_err-delete_edition.field-0.0 c.from_residual.result c.from_residual.ensures.1 (c.in_err-delete_edition.ensures.failed clean)
+    err_one g.S.Store c.args.tx.now.conn.now c.delete_edition.new.tx.conn.now c.in_err-delete_edition.field-0.0 c.from_residual.result c.from_residual.ensures.1
+    (λ (n : ℤ). remove (codes "edition") (equals_number 1 n)) (to_z w64 c.args.number) (pos c.args.number) (handed c.args.number c.requires.number) (c.in_err-delete_edition.ensures.failed clean) c.delete_edition.ensures.survives
+
+pub returns-clause-ran : goal.returns-clause-ran
+returns-clause-ran g c clean =
+    ran_one g.S.Store (λ (n : ℤ). remove (codes "edition") (equals_number 1 n)) (to_z w64 c.args.number) (pos c.args.number) (handed c.args.number c.requires.number) c.args.tx.now.conn.now c.delete_edition.new.tx.conn.now (c.in_ok-delete_edition.ensures.removed clean) c.delete_edition.ensures.survives

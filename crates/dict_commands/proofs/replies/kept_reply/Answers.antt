@@ -1,4 +1,4 @@
-use Rattle.std.proofs.Common.{arith, sym, string_bytes, ◌≤◌, length, codes, subst, inl, inr}
+use Rattle.std.proofs.Common.{refl, arith, sym, string_bytes, ◌≤◌, length, codes, subst, inl, inr}
 use Rattle.dict_catalogue.specs.Views.{kept_shown}
 use Rattle.dict_commands.proofs.KeptLemmas.{kept_told, none_told, first_told, reply_told}
 use Rattle.sqlite.specs.Held.{state}
@@ -8,6 +8,7 @@ use Rattle.dict_file.specs.Faults.{FailsToLookUp}
 use Rattle.dict_file.proofs.FailLemmas.{list_fails, refused_memory}
 use Rattle.dict_file.proofs.ReadableLemmas.{held_rows}
 use Rattle.dict_commands.proofs.replies.kept_reply.Goals as goal
+use Rattle.dict_rows.specs.Versions.{known}
 
 pub returns-in_default-clause-value : goal.returns-in_default-clause-value
 returns-in_default-clause-value g c = λ clean version M h.
@@ -26,7 +27,7 @@ returns-in-Err-clause-failed g c clean =
     let old = state g.S.Store c.args.conn.now in
     let new = state g.S.Store c.kept_replies_of.new.conn in
     subst (FailsToLookUp old new) (sym c.read_fault.ensures.is)
-    (list_fails (codes "kept") (equals_text 1 c.args.id.now) kept_columns old new (λ M holds. (held_rows old.now M holds).kept) c.in-Err.error (c.in-Err.ensures.failed clean))
+    (list_fails (codes "kept") (equals_text 1 c.args.id.now) kept_columns old new (λ M holds. (held_rows known old.now M refl holds).1.1.1.1.1.0) c.in-Err.error (c.in-Err.ensures.failed clean))
 
 pub returns-in_err-reply-clause-failed : goal.returns-in_err-reply-clause-failed
 returns-in_err-reply-clause-failed g c clean =
@@ -40,7 +41,7 @@ returns-clause-failed g c clean =
     inl (
       (c.in-Ok.ensures.selected clean).1,
       inr (λ M holds.
-          let all = kept_told c.args.id.now 1 _ M c.in-Ok.rows.items holds (c.in-Ok.ensures.selected clean).0 in
+          let all = kept_told c.args.id.now known _ M c.in-Ok.rows.items holds (c.in-Ok.ensures.selected clean).0 in
           let one = first_told c.args.id.now M.kept c.in-Ok.rows.items row (rw c.deref.ensures.value at (c.in-Some.ensures.item.3.0)) (rw c.deref.ensures.value at (c.in-Some.ensures.item.1)) all in
           (rw c.in-None.is at c.in_ok-reply.ensures.none) one.0 one.1),
     )

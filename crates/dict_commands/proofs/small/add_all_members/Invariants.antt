@@ -5,12 +5,15 @@ use Rattle.dict_sql.specs.Effects.{WhileOpen, seen}
 use Rattle.dict_rows.specs.After.{all_members}
 use Rattle.dict_catalogue.specs.Views.{item_shown}
 use Rattle.dict_commands.specs.Kept.{Turns, IsUsable}
+use Rattle.dict_sql.specs.Statements.{RunInTurn}
+use Rattle.dict_commands.specs.Statements.{adding_member}
 use Rattle.dict_commands.proofs.small.add_all_members.Given as goal
 
 abbrev pub invariant-each : goal.invariant-each
 invariant-each g l = record {
   same_reference : l.tx.conn.ghost_name ≡ l.fn.tx.conn.ghost_name;
   turns : HasCleanDisk (seen g.S.Store l.tx) → Turns (λ tables. record tables { members = tables.members ++ all_members (map item_shown (take l.item-index l.items)) }) (seen g.S.Store l.fn.tx).now (seen g.S.Store l.tx).now;
+  ran : HasCleanDisk (seen g.S.Store l.tx) → RunInTurn g.S.Store (map adding_member (all_members (map item_shown (take l.item-index l.items)))) l.fn.tx.conn.now l.tx.conn.now;
   usable : WhileOpen (seen g.S.Store l.tx) IsUsable;
   keeps : HasCleanDisk (seen g.S.Store l.tx) → KeepsCommit (seen g.S.Store l.fn.tx) (seen g.S.Store l.tx);
   survives : Survives (seen g.S.Store l.fn.tx) (seen g.S.Store l.tx) (λ _. ⊥);

@@ -1,9 +1,9 @@
 use Rattle.dict_sql.specs.Effects.{seen}
 use Rattle.dict_commands.proofs.TableLemmas.{usable_to_remove, all_cleared}
 use Rattle.dict_commands.proofs.LoopLemmas.{usable_then}
-use Rattle.dict_file.proofs.WithinLemmas.{err_removed}
-use Rattle.std.proofs.Common.{true}
-use Rattle.dict_tables.specs.Tables.{table_of}
+use Rattle.dict_file.proofs.WithinLemmas.{ran_one, err_one}
+use Rattle.dict_commands.specs.Statements.{clearing}
+use Rattle.std.proofs.Common.{refl}
 use Rattle.dict_commands.proofs.small.clear.Goals as goal
 
 pub clear_table-requires : goal.clear_table-requires
@@ -18,4 +18,9 @@ returns-clause-usable g c =
 
 pub returns-in_err-clear_table-clause-failed : goal.returns-in_err-clear_table-clause-failed
 returns-in_err-clear_table-clause-failed g c clean =
-    err_removed g.S.Store (table_of c.args.table 0).name (λ _. true) c.args.tx.now.conn.now c.clear_table.new.tx.conn.now c.in_err-clear_table.field-0.0 c.from_residual.result c.from_residual.ensures.1 (c.in_err-clear_table.ensures.failed clean)
+    err_one g.S.Store c.args.tx.now.conn.now c.clear_table.new.tx.conn.now c.in_err-clear_table.field-0.0 c.from_residual.result c.from_residual.ensures.1
+    clearing c.args.table c.args.table refl (c.in_err-clear_table.ensures.failed clean) c.clear_table.ensures.survives
+
+pub returns-clause-ran : goal.returns-clause-ran
+returns-clause-ran g c clean =
+    ran_one g.S.Store clearing c.args.table c.args.table refl c.args.tx.now.conn.now c.clear_table.new.tx.conn.now (c.in_ok-clear_table.ensures.removed clean) c.clear_table.ensures.survives

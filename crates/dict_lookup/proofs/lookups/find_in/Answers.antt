@@ -8,6 +8,7 @@ use Rattle.sqlite.specs.Held.{state}
 use Rattle.dict_sql.specs.Streams.{HasGiven}
 use Rattle.dict_sql.specs.Streams.Scan.{EntriesOf}
 use Rattle.dict_rows.specs.Written.{numbered, entry_record}
+use Rattle.dict_rows.specs.Versions.{known}
 use Rattle.dict_desk.specs.Handing.{Hands}
 use Rattle.dict_lookup.specs.Lookups.{HoldsOne, FailsToLookUp}
 use Rattle.dict_lookup.proofs.RecordLemmas.{at_number, found_lines}
@@ -56,7 +57,7 @@ returns-in-Ok-clause-few g c clean M holds =
     let last : HasCleanDisk (state g.S.Store end) = subst (λ h. HasCleanDisk (state g.S.Store h)) (sym same) clean in
     let first : HasCleanDisk (state g.S.Store begun) = clean_before (state g.S.Store begun) (state g.S.Store end) c.hand_found.ensures.survives last in
     let reads = c.in-Ok.ensures.begun first in
-    let here : Holds 1 (state g.S.Store begun).now M = subst (λ (db : Database). Holds 1 db M) (sym reads.1.0.now_is) holds in
+    let here : Holds known (state g.S.Store begun).now M = subst (λ (db : Database). Holds known db M) (sym reads.1.0.now_is) holds in
     let all = some_to_come g.S.Store begun (begun_reading g.S.Store begun _ reads.1.0.is_open reads.0) M here in
     ((rows_found c.args.text.now c.args.strategy c.args.query.now all.0), few_found c.args.text.now c.args.strategy c.args.query.now all.0 all.2, c.hand_found.ensures.value last all.0 all.1)
 

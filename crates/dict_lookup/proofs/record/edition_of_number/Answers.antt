@@ -1,4 +1,4 @@
-use Rattle.std.proofs.Common.{ap, sym, subst, codes, ◌∙◌, Some}
+use Rattle.std.proofs.Common.{refl, ap, sym, subst, codes, ◌∙◌, Some}
 use Rattle.std.specs.Prelude.{ℤ}
 use mir.Val.{to_z, of_z}
 use mir.Syntax.{w64}
@@ -7,6 +7,7 @@ use Rattle.dict_sql.specs.Effects.{equals_number}
 use Rattle.dict_file.specs.Faults.{FailsToLookUp}
 use Rattle.dict_file.proofs.FailLemmas.{list_fails}
 use Rattle.dict_file.proofs.ReadableLemmas.{held_rows}
+use Rattle.dict_rows.specs.Versions.{known}
 use Rattle.dict_lookup.proofs.RecordLemmas.{edition_owned, at_number, value_told}
 use Rattle.dict_lookup.proofs.record.edition_of_number.Goals as goal
 use Rattle.sqlite.specs.Held.{state}
@@ -22,4 +23,4 @@ returns-in-Err-clause-failed g c clean =
     let old = state g.S.Store c.args.conn.now in
     let new = state g.S.Store c.editions_numbered.new.conn in
     subst (FailsToLookUp old new) (sym c.fault_of_read.ensures.is)
-    (list_fails (codes "edition") (equals_number 1 (to_z w64 (of_z w64 c.column_number.result))) edition_columns old new (λ M holds. (held_rows old.now M holds).editions) c.in-Err.error (c.in-Err.ensures.failed clean))
+    (list_fails (codes "edition") (equals_number 1 (to_z w64 (of_z w64 c.column_number.result))) edition_columns old new (λ M holds. (held_rows known old.now M refl holds).1.1.1.0) c.in-Err.error (c.in-Err.ensures.failed clean))

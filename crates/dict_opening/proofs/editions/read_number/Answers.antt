@@ -1,4 +1,4 @@
-use Rattle.std.proofs.Common.{◌≡◌, [], ◌∷◌, map, codes, subst, refl, sym}
+use Rattle.std.proofs.Common.{ℕ, ◌≡◌, [], ◌∷◌, map, codes, subst, refl, sym}
 use Rattle.std.proofs.lemmas.Int.{to_z-of_z}
 use Rattle.std.proofs.lemmas.Result.{on_ok_weaker}
 use mir.Syntax.{w64}
@@ -31,15 +31,15 @@ use Rattle.dict_opening.proofs.editions.read_number.Goals as goal
 pub returns-in_err-row-clause-damaged : goal.returns-in_err-row-clause-damaged
 returns-in_err-row-clause-damaged g c clean =
     let old = state g.S.Store c.args.conn.now in
-    let wrong : (fault : ReadingFault) → Type 0 = λ fault. fault ≡ Damaged → (taken : Tables) → HasTaken 1 c.args.reader.now taken → CanReadOne old.now taken c.args.number → KeepsNone old.now taken.members in
+    let wrong : (fault : ReadingFault) → Type 0 = λ fault. fault ≡ Damaged → (version : ℕ) (taken : Tables) → HasTaken version c.args.reader.now taken → CanReadOne version old.now taken c.args.number → KeepsNone version old.now taken.members in
     passed_on wrong c.in_err-row.field-0.0 c.from_residual.result c.from_residual.ensures.1
-    (λ is taken h can. not_one old.now taken c.args.number can (subst (IsNotOne old.now) (to_z-of_z w64 c.args.number c.ranges.number) (c.in_err-row.ensures.damaged clean is)))
+    (λ is version taken h can. not_one version old.now taken c.args.number can (subst (IsNotOne old.now) (to_z-of_z w64 c.args.number c.ranges.number) (c.in_err-row.ensures.damaged clean is)))
 
 pub returns-in-Err-clause-damaged : goal.returns-in-Err-clause-damaged
-returns-in-Err-clause-damaged g c clean is taken h can =
+returns-in-Err-clause-damaged g c clean is version taken h can =
     let old = state g.S.Store c.args.conn.now in
     let one = subst (λ n. IsSelection (codes "edition") (equals_number 1 n) (1 ∷ []) old.now (stored_edition c.in_ok-row.row ∷ [])) (to_z-of_z w64 c.args.number c.ranges.number) (c.in_ok-row.ensures.one clean) in
-    edition_refused old.now taken c.args.number can c.in_ok-row.row one c.args.reader.now h (λ version before k. c.in-Err.ensures.damaged version before (c.let_go.ensures.taken version before k))
+    edition_refused version old.now taken c.args.number can c.in_ok-row.row one c.args.reader.now h (λ v before k. c.in-Err.ensures.damaged v before (c.let_go.ensures.taken v before k))
 
 pub returns-clause-reads : goal.returns-clause-reads
 returns-clause-reads g c =
@@ -55,9 +55,9 @@ returns-clause-whole g c clean =
     let one = subst (λ m. IsSelection (codes "edition") (equals_number 1 m) (1 ∷ []) old.now (stored_edition c.in_ok-row.row ∷ [])) (to_z-of_z w64 n c.ranges.number) (c.in_ok-row.ensures.one early) in
     let same = (c.in_ok-row.ensures.same early).now in
     on_ok_weaker c.read_entries.result
-    (λ all taken h. (
+    (λ all version taken h. (
       with_entries (with_edition taken (owned_edition c.in_ok-row.row.value)) (entries_given all.0),
-      all.2 1 (with_edition taken (owned_edition c.in_ok-row.row.value)) (c.in_default.ensures.taken 1 taken (c.let_go.ensures.taken 1 taken h)),
+      all.2 version (with_edition taken (owned_edition c.in_ok-row.row.value)) (c.in_default.ensures.taken version taken (c.let_go.ensures.taken version taken h)),
       record {
         row = c.in_ok-row.row;
         given = all.0;
@@ -78,7 +78,7 @@ returns-clause-damaged g c clean =
     let one = subst (λ m. IsSelection (codes "edition") (equals_number 1 m) (1 ∷ []) old.now (stored_edition c.in_ok-row.row ∷ [])) (to_z-of_z w64 n c.ranges.number) (c.in_ok-row.ensures.one early) in
     let same = (c.in_ok-row.ensures.same early).now in
     if_err_then _ _ c.read_entries.result
-    (λ fault wrong is taken h can. entries_wrong old.now taken n can c.in_ok-row.row one c.edition.new.self (c.in_default.ensures.taken 1 taken (c.let_go.ensures.taken 1 taken h))
+    (λ fault wrong is version taken h can. entries_wrong version old.now taken n can c.in_ok-row.row one c.edition.new.self (c.in_default.ensures.taken version taken (c.let_go.ensures.taken version taken h))
     (subst (λ (d : Database). IsWrong stored_entry entry_columns refuses_entries (EntriesOf n) d c.edition.new.self) same (subst (λ m. IsWrong stored_entry entry_columns refuses_entries (EntriesOf m) mid.now c.edition.new.self) (to_z-of_z w64 n c.ranges.number) (wrong is))))
     (c.read_entries.ensures.damaged clean)
 

@@ -1,4 +1,4 @@
-use Rattle.std.proofs.Common.{◌≡◌, false, take}
+use Rattle.std.proofs.Common.{ℕ, ◌≡◌, false, take}
 use Rattle.sqlite.specs.State.{HasCleanDisk, Survives}
 use Rattle.sqlite.specs.Held.{state}
 use Rattle.dict_rows.specs.Tables.{Tables}
@@ -15,5 +15,5 @@ invariant-loop-number g l =
       mode : old.in_transaction ≡ false → now.in_transaction ≡ false;
       survives : Survives old now (λ _. ⊥);
       same : HasCleanDisk now → Same old now;
-      read : HasCleanDisk now → (front : Tables) → CanRead old.now l.fn.reader l.numbers front → (after : Tables) × HasTaken 1 l.reader after × HasRead old.now (take l.number-index l.numbers) front after;
+      read : HasCleanDisk now → (version : ℕ) (front : Tables) → CanRead version old.now l.fn.reader l.numbers front → (after : Tables) × HasTaken version l.reader after × HasRead version old.now (take l.number-index l.numbers) front after;
     }

@@ -1,5 +1,8 @@
-use Rattle.dict_opening.proofs.HeldLemmas.{one_held, one_left, left_held}
+use Rattle.dict_opening.proofs.HeldLemmas.{one_version, one_held, one_left, left_held}
 use Rattle.dict_opening.proofs.laws.one_is_held.Goals as goal
+
+pub returns-clause-version : goal.returns-clause-version
+returns-clause-version c = one_version
 
 pub returns-clause-held : goal.returns-clause-held
 returns-clause-held c = one_held

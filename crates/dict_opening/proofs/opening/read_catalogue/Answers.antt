@@ -7,17 +7,22 @@ use Rattle.dict_sql.specs.Encodings.{stored_mark}
 use Rattle.dict_sql.specs.Reads.{IsListing}
 use Rattle.dict_file.specs.Holds.{Holds}
 use Rattle.dict_desk.specs.declared.fault.Fault.TheVariants as desk
-use Rattle.dict_opening.specs.Opens.{HoldsNone}
+use Rattle.dict_opening.specs.Opens.{HoldsNoneAs}
+use Rattle.dict_opening.proofs.HeldLemmas.{only_known, plain_version}
 use Rattle.dict_opening.proofs.StateLemmas.{clean_before, reads_then}
-use Rattle.dict_opening.proofs.MarkLemmas.{err_is, told_damaged, MarkRow}
+use Rattle.dict_opening.proofs.MarkLemmas.{err_is, told_damaged, none_held, MarkRow}
 use Rattle.dict_opening.specs.declared.fault.ReadingFault.TheVariants.{Disk}
 use Rattle.dict_opening.specs.Reading.{IsExcused}
 use Rattle.dict_opening.proofs.CauseLemmas.{cause_then, told_disk}
 use Rattle.dict_opening.proofs.opening.read_catalogue.Goals as goal
+use Rattle.dict_rows.specs.Versions.{known}
 
-pub returns-in_err-marks-clause-none : goal.returns-in_err-marks-clause-none
-returns-in_err-marks-clause-none g c clean is =
-    c.read_mark.ensures.none clean (c.in_err-marks.was ∙ ap Err (err_is c.from_residual.result c.in_err-marks.field-0.0 _ c.from_residual.ensures.1 is))
+pub returns-in_err-version-clause-none : goal.returns-in_err-version-clause-none
+returns-in_err-version-clause-none g c clean is =
+    c.read_mark.ensures.none clean (c.in_err-version.was ∙ ap Err (err_is c.from_residual.result c.in_err-version.field-0.0 _ c.from_residual.ensures.1 is))
+
+pub read_tables-requires : goal.read_tables-requires
+read_tables-requires g c = record { plain = plain_version c.in_ok-version.version c.in_ok-version.ensures.known }
 
 pub returns-in-Ok-clause-survives : goal.returns-in-Ok-clause-survives
 returns-in-Ok-clause-survives g c =
@@ -29,17 +34,18 @@ returns-in-Ok-clause-rests g c clean =
     let mid = state g.S.Store c.read_mark.new.conn in
     let new = state g.S.Store c.read_tables.new.conn in
     let early : HasCleanDisk mid = clean_before old mid new c.read_tables.ensures.reads.survives clean in
-    let first = c.in_ok-marks.ensures.same early in
+    let first = c.in_ok-version.ensures.same early in
     let then = c.in-Ok.ensures.same clean in
-    let listing = (c.in_ok-marks.ensures.marked early).0 in
-    let here = subst (λ (l : List MarkRow). IsListing (codes "mark") (1 ∷ []) mid.now (map stored_mark l)) (sym c.deref.ensures.value) (subst (λ (d : Database). IsListing (codes "mark") (1 ∷ []) d (map stored_mark c.in_ok-marks.marks.items)) (sym first.0.now) listing) in
+    let marked = c.in_ok-version.ensures.marked early in
+    let here = subst (λ (l : List MarkRow). IsListing (codes "mark") (1 ∷ []) mid.now (map stored_mark l)) (sym c.deref.ensures.value) (subst (λ (d : Database). IsListing (codes "mark") (1 ∷ []) d (map stored_mark c.in_ok-version.marks.items)) (sym first.0.now) marked.0) in
     let found = c.in-Ok.ensures.holds clean here in
     let auto' : IsTrue c.is_autocommit.result = search rules in
     let open' : IsTrue old.is_open = sym first.0.is_open ∙ first.1 in
     let settled = c.is_autocommit.ensures.settled auto' open' in
     let one = then.now ∙ first.0.now in
     let two = then.committed ∙ first.0.committed in
-    (found.0, record { is_open = then.is_open ∙ first.1; settled = one ∙ settled ∙ sym two; holds = subst (λ (d : Database). Holds 1 d found.0) (first.0.now ∙ settled ∙ sym two) found.1 }, found.2)
+    let known' : Holds known mid.now found.0 = subst (λ v. Holds v mid.now found.0) (only_known c.in_ok-version.version c.in_ok-version.ensures.known) found.1 in
+    (found.0, record { is_open = then.is_open ∙ first.1; settled = one ∙ settled ∙ sym two; holds = subst (λ (d : Database). Holds known d found.0) (first.0.now ∙ settled ∙ sym two) known' }, found.2)
 
 pub returns-clause-damaged : goal.returns-clause-damaged
 returns-clause-damaged g c clean is =
@@ -47,16 +53,17 @@ returns-clause-damaged g c clean is =
     let mid = state g.S.Store c.read_mark.new.conn in
     let new = state g.S.Store c.read_tables.new.conn in
     let early : HasCleanDisk mid = clean_before old mid new c.read_tables.ensures.reads.survives clean in
-    let first = c.in_ok-marks.ensures.same early in
-    let marked = c.in_ok-marks.ensures.marked early in
-    let here = subst (λ (l : List MarkRow). IsListing (codes "mark") (1 ∷ []) mid.now (map stored_mark l)) (sym c.deref.ensures.value) (subst (λ (d : Database). IsListing (codes "mark") (1 ∷ []) d (map stored_mark c.in_ok-marks.marks.items)) (sym first.0.now) marked.0) in
+    let first = c.in_ok-version.ensures.same early in
+    let marked = c.in_ok-version.ensures.marked early in
+    let here = subst (λ (l : List MarkRow). IsListing (codes "mark") (1 ∷ []) mid.now (map stored_mark l)) (sym c.deref.ensures.value) (subst (λ (d : Database). IsListing (codes "mark") (1 ∷ []) d (map stored_mark c.in_ok-version.marks.items)) (sym first.0.now) marked.0) in
     let same : c.told.result ≡ desk.Damaged = cc in
     let fault = told_damaged c.in-Err.fault (sym c.told.ensures.is ∙ same) in
-    (marked.1, subst HoldsNone first.0.now (c.in-Err.ensures.damaged clean fault here))
+    let none = subst (HoldsNoneAs c.in_ok-version.version) first.0.now (c.in-Err.ensures.damaged clean fault here) in
+    (record { version = c.in_ok-version.version; known = c.in_ok-version.ensures.known; marked = marked.1 }, none_held c.in_ok-version.version old.now marked.1 none)
 
-pub returns-in_err-marks-clause-failed : goal.returns-in_err-marks-clause-failed
-returns-in_err-marks-clause-failed g c clean is =
-    c.read_mark.ensures.failed clean (c.in_err-marks.was ∙ ap Err (err_is c.from_residual.result c.in_err-marks.field-0.0 _ c.from_residual.ensures.1 is))
+pub returns-in_err-version-clause-failed : goal.returns-in_err-version-clause-failed
+returns-in_err-version-clause-failed g c clean is =
+    c.read_mark.ensures.failed clean (c.in_err-version.was ∙ ap Err (err_is c.from_residual.result c.in_err-version.field-0.0 _ c.from_residual.ensures.1 is))
 
 pub returns-clause-failed : goal.returns-clause-failed
 returns-clause-failed g c clean is =
@@ -66,4 +73,4 @@ returns-clause-failed g c clean is =
     let early : HasCleanDisk mid = clean_before old mid new c.read_tables.ensures.reads.survives clean in
     let same : c.told.result ≡ desk.Disk = cc in
     let fault = told_disk c.in-Err.fault (sym c.told.ensures.is ∙ same) in
-    cause_then old mid new c.read_mark.ensures.reads.survives (c.in_ok-marks.ensures.same early).0 Disk (subst (IsExcused mid new) fault (c.in-Err.ensures.failed clean))
+    cause_then old mid new c.read_mark.ensures.reads.survives (c.in_ok-version.ensures.same early).0 Disk (subst (IsExcused mid new) fault (c.in-Err.ensures.failed clean))

@@ -1,4 +1,4 @@
-use Rattle.std.proofs.Common.{◌≡◌, ℕ, ◌<◌, List, IfNone, IfSome, rules, arith, sym, subst, ◌∙◌, codes}
+use Rattle.std.proofs.Common.{◌≡◌, ℕ, ◌<◌, ◌≤◌, List, IfNone, IfSome, rules, arith, sym, subst, ◌∙◌, codes}
 use Rattle.sqlite.specs.Held.{state}
 use Rattle.dict_tables.specs.Found.{HasOwn}
 use Rattle.dict_tables.specs.Tables.{mark}
@@ -9,6 +9,7 @@ use Rattle.dict_desk.specs.declared.fault.Fault.TheVariants as desk
 use Rattle.dict_sql.specs.Columns.{mark_columns}
 use Rattle.dict_sql.specs.Effects.{rows_of}
 use Rattle.dict_opening.proofs.opening.read_mark.Goals as goal
+use Rattle.dict_rows.specs.Versions.{known}
 
 pub returns-in-Err-NoRecord-clause-none : goal.returns-in-Err-NoRecord-clause-none
 returns-in-Err-NoRecord-clause-none g c clean is v h =
@@ -21,13 +22,13 @@ returns-in-None-clause-none g c clean is v h =
     let none = subst (λ o. IfNone o ((version : ℕ) → IsMarked c.deref.result.now version → ⊥)) c.in-None.is c.version_of.ensures.none in
     none v (subst (λ (l : List MarkRow). IsMarked l v) (sym c.deref.ensures.value) (is_marked old.now c.in-Ok.marks.items v (c.in-Ok.ensures.listed clean).0 h))
 
-pub returns-then-version-ne1-clause-newer : goal.returns-then-version-ne1-clause-newer
-returns-then-version-ne1-clause-newer g c clean is =
+pub returns-then-version-gt-KNOWN_VERSION-clause-newer : goal.returns-then-version-gt-KNOWN_VERSION-clause-newer
+returns-then-version-gt-KNOWN_VERSION-clause-newer g c clean is =
     let old = state g.S.Store c.args.conn.now in
     let own : HasOwn old.now.schema mark = search rules in
     let told = subst (λ o. IfSome o (λ version. IsMarked c.deref.result.now version)) c.in-Some.is c.version_of.ensures.told in
     let marked = subst (λ (l : List MarkRow). IsMarked l c.in-Some.version) c.deref.ensures.value told in
-    let above : 1 < c.in-Some.version = omega (arith, marked.2) in
+    let above : known < c.in-Some.version = omega (arith, marked.2) in
     (c.in-Some.version, has_mark old.now c.in-Ok.marks.items c.in-Some.version own (c.in-Ok.ensures.listed clean).0 marked, above)
 
 pub returns-clause-marked : goal.returns-clause-marked
@@ -36,8 +37,13 @@ returns-clause-marked g c clean =
     let own : HasOwn old.now.schema mark = search rules in
     let told = subst (λ o. IfSome o (λ version. IsMarked c.deref.result.now version)) c.in-Some.is c.version_of.ensures.told in
     let marked = subst (λ (l : List MarkRow). IsMarked l c.in-Some.version) c.deref.ensures.value told in
-    let one : c.in-Some.version ≡ 1 = omega arith in
-    ((c.in-Ok.ensures.listed clean).0, subst (HasMark old.now) one (has_mark old.now c.in-Ok.marks.items c.in-Some.version own (c.in-Ok.ensures.listed clean).0 marked))
+    ((c.in-Ok.ensures.listed clean).0, has_mark old.now c.in-Ok.marks.items c.in-Some.version own (c.in-Ok.ensures.listed clean).0 marked)
+
+pub returns-clause-known : goal.returns-clause-known
+returns-clause-known g c =
+    let told = subst (λ o. IfSome o (λ version. IsMarked c.deref.result.now version)) c.in-Some.is c.version_of.ensures.told in
+    let within : c.in-Some.version ≤ known = omega arith in
+    record { counted = told.2; within = within }
 
 pub returns-in-Err-Store-clause-failed : goal.returns-in-Err-Store-clause-failed
 returns-in-Err-Store-clause-failed g c clean is =

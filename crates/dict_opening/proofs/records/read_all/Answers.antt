@@ -1,4 +1,4 @@
-use Rattle.std.proofs.Common.{◌≡◌, sym, subst, ◌∙◌}
+use Rattle.std.proofs.Common.{ℕ, ◌≡◌, sym, subst, ◌∙◌}
 use Rattle.std.proofs.lemmas.Result.{on_ok_weaker}
 use Rattle.sqlite.specs.Effect.{Database}
 use Rattle.sqlite.specs.State.{HasCleanDisk}
@@ -10,7 +10,7 @@ use Rattle.dict_opening.specs.declared.fault.ReadingFault.{ReadingFault}
 use Rattle.dict_opening.specs.declared.fault.ReadingFault.TheVariants.{Damaged}
 use Rattle.dict_opening.proofs.StateLemmas.{clean_before, reads_then, same_then}
 use Rattle.dict_opening.proofs.TakerLemmas.{if_err_then}
-use Rattle.dict_opening.specs.Opens.{HasTables, KeepsNone, HoldsNone, Fits, HasBegun, HasNamed, HasReplies}
+use Rattle.dict_opening.specs.Opens.{HasTables, KeepsNone, HoldsNoneAs, Fits, HasBegun, HasNamed, HasReplies}
 use Rattle.dict_opening.proofs.StateLemmas.{while_same}
 use Rattle.dict_opening.proofs.CloseLemmas.{has_all}
 use Rattle.dict_opening.proofs.CauseLemmas.{cause_passed, cause_later, cause_last}
@@ -19,9 +19,9 @@ use Rattle.dict_opening.proofs.records.read_all.Goals as goal
 pub returns-in_err-test_named-clause-damaged : goal.returns-in_err-test_named-clause-damaged
 returns-in_err-test_named-clause-damaged g c clean =
     let old = state g.S.Store c.args.conn.now in
-    let wrong : (fault : ReadingFault) → Type 0 = λ fault. fault ≡ Damaged → (front : Tables) → HasTaken 1 c.args.reader.now front → HasBegun old.now front → HoldsNone old.now in
+    let wrong : (fault : ReadingFault) → Type 0 = λ fault. fault ≡ Damaged → (version : ℕ) (front : Tables) → HasTaken version c.args.reader.now front → HasBegun version old.now front → HoldsNoneAs version old.now in
     passed_on wrong c.in_err-test_named.field-0.0 c.from_residual.result c.from_residual.ensures.1
-    (λ is front h b. b.none (c.in_err-test_named.ensures.damaged clean is front h b.fits))
+    (λ is version front h b. b.none (c.in_err-test_named.ensures.damaged clean is version front h b.fits))
 
 pub returns-in_err-read_named-clause-damaged : goal.returns-in_err-read_named-clause-damaged
 returns-in_err-read_named-clause-damaged g c clean =
@@ -30,9 +30,9 @@ returns-in_err-read_named-clause-damaged g c clean =
     let new = state g.S.Store c.read_named.new.conn in
     let early : HasCleanDisk mid = clean_before old mid new c.read_named.ensures.reads.survives clean in
     let same = (c.in_ok-test_named.ensures.same early).now in
-    let wrong : (fault : ReadingFault) → Type 0 = λ fault. fault ≡ Damaged → (front : Tables) → HasTaken 1 c.args.reader.now front → HasBegun old.now front → HoldsNone old.now in
+    let wrong : (fault : ReadingFault) → Type 0 = λ fault. fault ≡ Damaged → (version : ℕ) (front : Tables) → HasTaken version c.args.reader.now front → HasBegun version old.now front → HoldsNoneAs version old.now in
     passed_on wrong c.in_err-read_named.field-0.0 c.from_residual-in_err-read_named.result c.from_residual-in_err-read_named.ensures.1
-    (λ is front h b. subst HoldsNone same (c.in_err-read_named.ensures.damaged clean is front h (subst (λ (d : Database). HasBegun d front) (sym same) b)))
+    (λ is version front h b. subst (HoldsNoneAs version) same (c.in_err-read_named.ensures.damaged clean is version front h (subst (λ (d : Database). HasBegun version d front) (sym same) b)))
 
 pub read_kept-requires : goal.read_kept-requires
 read_kept-requires g c =
@@ -53,10 +53,10 @@ returns-clause-all g c clean =
     let one = (c.in_ok-test_named.ensures.same early).now in
     let same = (c.in_ok-read_named.ensures.same late).now ∙ one in
     on_ok_weaker c.read_kept.result
-    (λ replies front h b.
-    let named = c.in_ok-read_named.ensures.named late front h (subst (λ (d : Database). HasBegun d front) (sym one) b) in
-    let got = replies named.0 named.1 in
-    (got.0, got.1, has_all old.now c.args.reader.now front named.0 (c.in_ok-test_named.ensures.known early) (subst (λ (d : Database). HasNamed d c.args.reader.now front named.0) one named.2) b got.0 (subst (λ (d : Database). HasReplies d named.0 got.0) same got.2)))
+    (λ replies version front h b.
+    let named = c.in_ok-read_named.ensures.named late version front h (subst (λ (d : Database). HasBegun version d front) (sym one) b) in
+    let got = replies version named.0 named.1 in
+    (got.0, got.1, has_all version old.now c.args.reader.now front named.0 (c.in_ok-test_named.ensures.known early) (subst (λ (d : Database). HasNamed version d c.args.reader.now front named.0) one named.2) b got.0 (subst (λ (d : Database). HasReplies d named.0 got.0) same got.2)))
     (c.read_kept.ensures.replies clean)
 
 pub returns-clause-damaged : goal.returns-clause-damaged
@@ -70,11 +70,11 @@ returns-clause-damaged g c clean =
     let one = (c.in_ok-test_named.ensures.same early).now in
     let same = (c.in_ok-read_named.ensures.same late).now ∙ one in
     if_err_then _ _ c.read_kept.result
-    (λ fault wrong is front h b.
-    let named = c.in_ok-read_named.ensures.named late front h (subst (λ (d : Database). HasBegun d front) (sym one) b) in
-    let read = (subst (λ (d : Database). HasNamed d c.args.reader.now front named.0) one named.2).read in
-    let none = wrong is named.0 named.1 (subst (λ (d : Database). Fits d named.0) (sym same) read.fits) (read.kept ∙ b.no_kept) in
-    b.none (subst (KeepsNone old.now) read.members (subst (λ (d : Database). KeepsNone d named.0.members) same none)))
+    (λ fault wrong is version front h b.
+    let named = c.in_ok-read_named.ensures.named late version front h (subst (λ (d : Database). HasBegun version d front) (sym one) b) in
+    let read = (subst (λ (d : Database). HasNamed version d c.args.reader.now front named.0) one named.2).read in
+    let none = wrong is version named.0 named.1 (subst (λ (d : Database). Fits version d named.0) (sym same) read.fits) (read.kept ∙ b.no_kept) in
+    b.none (subst (KeepsNone version old.now) read.members (subst (λ (d : Database). KeepsNone version d named.0.members) same none)))
     (c.read_kept.ensures.damaged clean)
 
 pub returns-in_err-test_named-clause-failed : goal.returns-in_err-test_named-clause-failed

@@ -1,4 +1,4 @@
-use Rattle.std.proofs.Common.{◌≡◌, [], refl, subst}
+use Rattle.std.proofs.Common.{ℕ, ◌≡◌, [], refl, subst}
 use Rattle.std.proofs.lemmas.Result.{on_ok_weaker}
 use Rattle.sqlite.specs.Effect.{Database}
 use Rattle.sqlite.specs.State.{HasCleanDisk}
@@ -26,9 +26,9 @@ use Rattle.dict_opening.proofs.records.read_kept.Goals as goal
 pub returns-in_err-read_replies-clause-damaged : goal.returns-in_err-read_replies-clause-damaged
 returns-in_err-read_replies-clause-damaged g c clean =
     let old = state g.S.Store c.args.conn.now in
-    let wrong : (fault : ReadingFault) → Type 0 = λ fault. fault ≡ Damaged → (taken : Tables) → HasTaken 1 c.args.reader.now taken → Fits old.now taken → taken.kept ≡ [] → KeepsNone old.now taken.members in
+    let wrong : (fault : ReadingFault) → Type 0 = λ fault. fault ≡ Damaged → (version : ℕ) (taken : Tables) → HasTaken version c.args.reader.now taken → Fits version old.now taken → taken.kept ≡ [] → KeepsNone version old.now taken.members in
     passed_on wrong c.in_err-read_replies.field-0.0 c.from_residual.result c.from_residual.ensures.1
-    (λ is taken h fits none. replies_wrong old.now c.args.reader.now taken h fits none (c.in_err-read_replies.ensures.damaged clean is))
+    (λ is version taken h fits none. replies_wrong version old.now c.args.reader.now taken h fits none (c.in_err-read_replies.ensures.damaged clean is))
 
 pub returns-clause-replies : goal.returns-clause-replies
 returns-clause-replies g c clean =
@@ -39,9 +39,9 @@ returns-clause-replies g c clean =
     let same = (c.in_ok-read_replies.ensures.same early).now in
     let all = c.in_ok-read_replies.ensures.whole early in
     on_ok_weaker c.test_ids.result
-    (λ apart taken h. (
+    (λ apart version taken h. (
       with_replies taken (kept_given all.0),
-      all.2 1 taken h,
+      all.2 version taken h,
       record { given = all.0; listing = all.1; after_is = refl; ids = ids_apart old.now all.0 all.1 (subst HasIdsApart same apart) },
     ))
     (c.test_ids.ensures.whole clean)
@@ -54,7 +54,7 @@ returns-clause-damaged g c clean =
     let early : HasCleanDisk mid = clean_before old mid new c.test_ids.ensures.reads.survives clean in
     let same = (c.in_ok-read_replies.ensures.same early).now in
     if_err_then _ _ c.test_ids.result
-    (λ fault wrong is taken h fits none. ids_twice old.now taken.members (subst (λ (d : Database). HasNoRecordIn stored_kept kept_columns KeptById d ⊎ HasIdTwice d) same (wrong is)))
+    (λ fault wrong is version taken h fits none. ids_twice version old.now taken.members (subst (λ (d : Database). HasNoRecordIn stored_kept kept_columns KeptById d ⊎ HasIdTwice d) same (wrong is)))
     (c.test_ids.ensures.damaged clean)
 
 pub returns-in_err-read_replies-clause-failed : goal.returns-in_err-read_replies-clause-failed

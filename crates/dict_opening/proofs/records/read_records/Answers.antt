@@ -8,7 +8,7 @@ use Rattle.dict_opening.specs.declared.fault.ReadingFault.TheVariants.{Damaged}
 use Rattle.dict_opening.proofs.StateLemmas.{clean_before}
 use Rattle.dict_sql.specs.Encodings.{stored_mark}
 use Rattle.dict_sql.specs.Reads.{IsListing}
-use Rattle.dict_opening.specs.Opens.{HasTables, KeepsNone, HoldsNone, HasBegun, HasAll}
+use Rattle.dict_opening.specs.Opens.{HasTables, KeepsNone, HoldsNoneAs, HasBegun, HasAll}
 use Rattle.dict_opening.proofs.StateLemmas.{while_same}
 use Rattle.dict_opening.proofs.CloseLemmas.{finish_wrong}
 use Rattle.dict_opening.proofs.CauseLemmas.{cause_passed, cause_later, rows_cause}
@@ -18,12 +18,12 @@ use Rattle.dict_opening.proofs.records.read_records.Goals as goal
 pub returns-in_err-reader-clause-damaged : goal.returns-in_err-reader-clause-damaged
 returns-in_err-reader-clause-damaged g c clean =
     let old = state g.S.Store c.args.conn.now in
-    let wrong : (fault : ReadingFault) → Type 0 = λ fault. fault ≡ Damaged → IsListing (codes "mark") (1 ∷ []) old.now (map stored_mark c.args.marks.now) → HoldsNone old.now in
+    let wrong : (fault : ReadingFault) → Type 0 = λ fault. fault ≡ Damaged → IsListing (codes "mark") (1 ∷ []) old.now (map stored_mark c.args.marks.now) → HoldsNoneAs c.args.version old.now in
     passed_on wrong c.in_err-reader.field-0.0 c.from_residual.result c.from_residual.ensures.1 (c.in_err-reader.ensures.damaged clean)
 
 pub read_all-requires : goal.read_all-requires
 read_all-requires g c =
-    while_same HasTables (state g.S.Store c.args.conn.now) (state g.S.Store c.begin.new.conn) c.begin.ensures.reads.survives c.in_ok-reader.ensures.same c.requires
+    while_same HasTables (state g.S.Store c.args.conn.now) (state g.S.Store c.begin.new.conn) c.begin.ensures.reads.survives c.in_ok-reader.ensures.same c.requires.tables
 
 pub returns-in_err-read_all-clause-damaged : goal.returns-in_err-read_all-clause-damaged
 returns-in_err-read_all-clause-damaged g c clean =
@@ -32,9 +32,9 @@ returns-in_err-read_all-clause-damaged g c clean =
     let new = state g.S.Store c.read_all.new.conn in
     let early : HasCleanDisk mid = clean_before old mid new c.read_all.ensures.reads.survives clean in
     let same = (c.in_ok-reader.ensures.same early).now in
-    let wrong : (fault : ReadingFault) → Type 0 = λ fault. fault ≡ Damaged → IsListing (codes "mark") (1 ∷ []) old.now (map stored_mark c.args.marks.now) → HoldsNone old.now in
+    let wrong : (fault : ReadingFault) → Type 0 = λ fault. fault ≡ Damaged → IsListing (codes "mark") (1 ∷ []) old.now (map stored_mark c.args.marks.now) → HoldsNoneAs c.args.version old.now in
     passed_on wrong c.in_err-read_all.field-0.0 c.from_residual-in_err-read_all.result c.from_residual-in_err-read_all.ensures.1
-    (λ is lm. let begun = c.in_ok-reader.ensures.begun early lm in subst HoldsNone same (c.in_err-read_all.ensures.damaged clean is begun.0 begun.1 (subst (λ (d : Database). HasBegun d begun.0) (sym same) begun.2)))
+    (λ is lm. let begun = c.in_ok-reader.ensures.begun early lm in subst (HoldsNoneAs c.args.version) same (c.in_err-read_all.ensures.damaged clean is c.args.version begun.0 begun.1 (subst (λ (d : Database). HasBegun c.args.version d begun.0) (sym same) begun.2)))
 
 pub returns-in-Ok-clause-stands : goal.returns-in-Ok-clause-stands
 returns-in-Ok-clause-stands g c clean lm =
@@ -44,9 +44,9 @@ returns-in-Ok-clause-stands g c clean lm =
     let early : HasCleanDisk mid = clean_before old mid new c.read_all.ensures.reads.survives clean in
     let same = (c.in_ok-reader.ensures.same early).now in
     let begun = c.in_ok-reader.ensures.begun early lm in
-    let all = c.in_ok-read_all.ensures.all clean begun.0 begun.1 (subst (λ (d : Database). HasBegun d begun.0) (sym same) begun.2) in
-    let has = subst (λ (d : Database). HasAll d begun.0 all.0) same all.2 in
-    let found = c.in-Ok.ensures.stands 1 all.0 all.1 has.ids in
+    let all = c.in_ok-read_all.ensures.all clean c.args.version begun.0 begun.1 (subst (λ (d : Database). HasBegun c.args.version d begun.0) (sym same) begun.2) in
+    let has = subst (λ (d : Database). HasAll c.args.version d begun.0 all.0) same all.2 in
+    let found = c.in-Ok.ensures.stands c.args.version all.0 all.1 has.ids in
     record { catalogue = found.0; tables = all.0; keeps = has.keeps; stands = found.1; summary = found.2 }
 
 pub returns-in-Err-clause-damaged : goal.returns-in-Err-clause-damaged
@@ -57,9 +57,9 @@ returns-in-Err-clause-damaged g c clean is lm =
     let early : HasCleanDisk mid = clean_before old mid new c.read_all.ensures.reads.survives clean in
     let same = (c.in_ok-reader.ensures.same early).now in
     let begun = c.in_ok-reader.ensures.begun early lm in
-    let all = c.in_ok-read_all.ensures.all clean begun.0 begun.1 (subst (λ (d : Database). HasBegun d begun.0) (sym same) begun.2) in
-    let has = subst (λ (d : Database). HasAll d begun.0 all.0) same all.2 in
-    begun.2.none (subst (KeepsNone old.now) has.members (finish_wrong old.now all.0 has.keeps has.fits (c.in-Err.ensures.damaged 1 all.0 all.1)))
+    let all = c.in_ok-read_all.ensures.all clean c.args.version begun.0 begun.1 (subst (λ (d : Database). HasBegun c.args.version d begun.0) (sym same) begun.2) in
+    let has = subst (λ (d : Database). HasAll c.args.version d begun.0 all.0) same all.2 in
+    begun.2.none (subst (KeepsNone c.args.version old.now) has.members (finish_wrong c.args.version old.now all.0 has.keeps has.fits (c.in-Err.ensures.damaged c.args.version all.0 all.1)))
 
 pub returns-in_err-reader-clause-failed : goal.returns-in_err-reader-clause-failed
 returns-in_err-reader-clause-failed g c clean =

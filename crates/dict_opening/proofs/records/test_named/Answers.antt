@@ -1,4 +1,4 @@
-use Rattle.std.proofs.Common.{◌≡◌, subst}
+use Rattle.std.proofs.Common.{ℕ, ◌≡◌, subst}
 use Rattle.sqlite.specs.Effect.{Database}
 use Rattle.sqlite.specs.State.{HasCleanDisk}
 use Rattle.sqlite.specs.Held.{state}
@@ -23,9 +23,9 @@ use Rattle.dict_opening.proofs.records.test_named.Goals as goal
 pub returns-in_err-test_editions-clause-damaged : goal.returns-in_err-test_editions-clause-damaged
 returns-in_err-test_editions-clause-damaged g c clean =
     let old = state g.S.Store c.args.conn.now in
-    let wrong : (fault : ReadingFault) → Type 0 = λ fault. fault ≡ Damaged → (taken : Tables) → HasTaken 1 c.args.reader.now taken → Fits old.now taken → KeepsNone old.now taken.members in
+    let wrong : (fault : ReadingFault) → Type 0 = λ fault. fault ≡ Damaged → (version : ℕ) (taken : Tables) → HasTaken version c.args.reader.now taken → Fits version old.now taken → KeepsNone version old.now taken.members in
     passed_on wrong c.in_err-test_editions.field-0.0 c.from_residual.result c.from_residual.ensures.1
-    (λ is taken h fits. editions_stray old.now c.args.reader.now taken h fits (c.in_err-test_editions.ensures.damaged clean is))
+    (λ is version taken h fits. editions_stray version old.now c.args.reader.now taken h fits (c.in_err-test_editions.ensures.damaged clean is))
 
 pub returns-clause-damaged : goal.returns-clause-damaged
 returns-clause-damaged g c clean =
@@ -35,7 +35,7 @@ returns-clause-damaged g c clean =
     let early : HasCleanDisk mid = clean_before old mid new c.test_entries.ensures.reads.survives clean in
     let same = (c.in_ok-test_editions.ensures.same early).now in
     if_err_then _ _ c.test_entries.result
-    (λ fault wrong is taken h fits. entries_stray old.now c.args.reader.now taken h fits
+    (λ fault wrong is version taken h fits. entries_stray version old.now c.args.reader.now taken h fits
     (subst (λ (d : Database). HasNoRecordIn stored_entry entry_columns AllEntries d ⊎ HasStray stored_entry entry_edition AllEntries d c.args.reader.now) same (wrong is)))
     (c.test_entries.ensures.damaged clean)
 

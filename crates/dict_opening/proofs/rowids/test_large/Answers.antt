@@ -14,6 +14,7 @@ use Rattle.dict_sql.specs.Columns.{entry_columns, kept_columns}
 use Rattle.dict_sql.specs.Encodings.{stored_entry, stored_kept}
 use Rattle.dict_sql.specs.Effects.{HasApartRowids, rows_of}
 use Rattle.dict_sql.specs.Streams.Scan.{ByRowid}
+use Rattle.dict_rows.specs.Versions.{Plain}
 use Rattle.dict_opening.specs.Opens.{HasReadableRows, IsApartLast}
 use Rattle.dict_opening.specs.Scans.{HasNoRecordIn}
 use Rattle.dict_opening.proofs.WrongLemmas.{wrong_rowids, wrong_numbers}
@@ -23,9 +24,9 @@ use Rattle.dict_opening.proofs.rowids.test_large.Goals as goal
 pub returns-in_err-test_edition_rowids-clause-damaged : goal.returns-in_err-test_edition_rowids-clause-damaged
 returns-in_err-test_edition_rowids-clause-damaged g c clean =
     let old = state g.S.Store c.args.conn.now in
-    let wrong : (fault : ReadingFault) → Type 0 = λ fault. fault ≡ Damaged → HasReadableRows old.now → IsApartLast old.now → ⊥ in
+    let wrong : (fault : ReadingFault) → Type 0 = λ fault. fault ≡ Damaged → HasReadableRows Plain old.now → IsApartLast old.now → ⊥ in
     passed_on wrong c.in_err-test_edition_rowids.field-0.0 c.from_residual.result c.from_residual.ensures.1
-    (λ is records apart. wrong_numbers old.now records.editions apart.0 (c.in_err-test_edition_rowids.ensures.damaged clean is))
+    (λ is records apart. wrong_numbers old.now records.1.1.1.0 apart.0 (c.in_err-test_edition_rowids.ensures.damaged clean is))
 
 pub returns-in_err-test_rowids-clause-damaged : goal.returns-in_err-test_rowids-clause-damaged
 returns-in_err-test_rowids-clause-damaged g c clean =
@@ -34,9 +35,9 @@ returns-in_err-test_rowids-clause-damaged g c clean =
     let new = state g.S.Store c.test_rowids.new.conn in
     let early : HasCleanDisk mid = clean_before old mid new c.test_rowids.ensures.reads.survives clean in
     let same = (c.in_ok-test_edition_rowids.ensures.same early).now in
-    let wrong : (fault : ReadingFault) → Type 0 = λ fault. fault ≡ Damaged → HasReadableRows old.now → IsApartLast old.now → ⊥ in
+    let wrong : (fault : ReadingFault) → Type 0 = λ fault. fault ≡ Damaged → HasReadableRows Plain old.now → IsApartLast old.now → ⊥ in
     passed_on wrong c.in_err-test_rowids.field-0.0 c.from_residual-in_err-test_rowids.result c.from_residual-in_err-test_rowids.ensures.1
-    (λ is records apart. wrong_rowids stored_entry entry_columns Entry old.now records.entries apart.1
+    (λ is records apart. wrong_rowids stored_entry entry_columns Entry old.now records.1.1.1.1.0 apart.1
     (subst (λ (d : Database). HasNoRecordIn stored_entry entry_columns (ByRowid Entry) d ⊎ (HasApartRowids (rows_of (table_of Entry 0).name d) → ⊥)) same (c.in_err-test_rowids.ensures.damaged clean is)))
 
 pub returns-clause-damaged : goal.returns-clause-damaged
@@ -49,7 +50,7 @@ returns-clause-damaged g c clean =
     let early : HasCleanDisk one = clean_before old one two c.test_rowids.ensures.reads.survives late in
     let same = (same_then old one two (c.in_ok-test_edition_rowids.ensures.same early) (c.in_ok-test_rowids.ensures.same late)).now in
     if_err_then _ _ c.test_rowids-2.result
-    (λ fault wrong is records apart. wrong_rowids stored_kept kept_columns Kept old.now records.kept apart.2
+    (λ fault wrong is records apart. wrong_rowids stored_kept kept_columns Kept old.now records.1.1.1.1.1.0 apart.2
     (subst (λ (d : Database). HasNoRecordIn stored_kept kept_columns (ByRowid Kept) d ⊎ (HasApartRowids (rows_of (table_of Kept 0).name d) → ⊥)) same (wrong is)))
     (c.test_rowids-2.ensures.damaged clean)
 

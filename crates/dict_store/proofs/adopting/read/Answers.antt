@@ -3,10 +3,12 @@ use Rattle.std.proofs.lemmas.Result.{err_from_is_err_and}
 use Rattle.sqlite.specs.Effect.{Database}
 use Rattle.sqlite.specs.Held.{state}
 use Rattle.dict_catalogue.specs.Steps.{summary_of}
-use Rattle.dict_file.specs.Holds.{Holds, Rests}
+use Rattle.dict_file.specs.Holds.{IsHeld, Rests}
 use Rattle.dict_commands.specs.Changes.{IsInRange}
 use Rattle.dict_store.proofs.DeskLemmas.{not_both}
 use Rattle.dict_store.proofs.adopting.read.Goals as goal
+use Rattle.dict_rows.specs.Versions.{known}
+use Rattle.dict_opening.proofs.HeldLemmas.{held_known}
 
 pub returns-in_err-summary-clause-told : goal.returns-in_err-summary-clause-told
 returns-in_err-summary-clause-told g c = λ clean.
@@ -22,9 +24,15 @@ returns-in_err-summary-clause-not_held g c = λ clean.
     let p = err_from_is_err_and c.from_residual.result c.from_residual.ensures.1 in
     let db = (state g.S.Store c.args.conn.now).now in
     rw (p.1, p.2) (record {
-      none = λ is M holds. c.in_err-summary.ensures.none clean (ap Err is) 1 (c.held_is_marked.ensures.marked db M holds);
-      newer = λ is M holds. let it = c.in_err-summary.ensures.newer clean (ap Err is) in let once = c.held_is_marked.ensures.once db M it.0 holds it.1 in let more = it.2 in absurd (omega (arith, once, more));
-      damaged = λ is M holds. (c.in_err-summary.ensures.damaged clean (ap Err is)).1 M holds;
+      none = λ is M held. let it = c.held_is_marked.ensures.known db M held in c.in_err-summary.ensures.none clean (ap Err is) it.version it.marked;
+      newer = λ is M held.
+          let newer = c.in_err-summary.ensures.newer clean (ap Err is) in
+          let it = c.held_is_marked.ensures.known db M held in
+          let same = c.held_is_marked.ensures.once db newer.0 it.version newer.1 it.marked in
+          let above = newer.2 in
+          let within = it.known.within in
+          absurd (omega (arith, same, above, within));
+      damaged = λ is M held. (c.in_err-summary.ensures.damaged clean (ap Err is)).1 M held;
     })
 
 pub returns-in_err-summary-clause-failed : goal.returns-in_err-summary-clause-failed
@@ -44,5 +52,5 @@ returns-clause-every g c = λ clean M held.
     let new = state g.S.Store c.read_catalogue.new.conn in
     let found = c.in_ok-summary.ensures.rests clean in
     let kept = c.read_catalogue.ensures.committed clean found.1.is_open in
-    let same : found.0 ≡ M = c.one_is_held.ensures.held 1 new.committed found.0 M found.1.holds (subst (λ (db : Database). Holds 1 db M) (sym kept) held) in
-    (subst (Rests 1 new) same found.1, ap summary_of (sym same) ∙ found.2)
+    let same : found.0 ≡ M = c.one_is_held.ensures.held new.committed found.0 M (held_known new.committed found.0 found.1.holds) (subst (λ (db : Database). IsHeld db M) (sym kept) held) in
+    (subst (Rests known new) same found.1, ap summary_of (sym same) ∙ found.2)

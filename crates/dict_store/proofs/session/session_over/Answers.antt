@@ -2,6 +2,8 @@ use Rattle.std.proofs.Common.{ap, subst}
 use Rattle.dict_file.specs.Holds.{Holds}
 use Rattle.dict_store.proofs.OverLemmas.{leaves_after}
 use Rattle.dict_store.proofs.session.session_over.Goals as goal
+use Rattle.dict_rows.specs.Versions.{known}
+use Rattle.dict_opening.proofs.HeldLemmas.{held_known}
 
 pub returns-clause-ran : goal.returns-clause-ran
 returns-clause-ran g c = λ clean.
@@ -9,7 +11,7 @@ returns-clause-ran g c = λ clean.
     let is = c.in-Ok.ensures.rests opened in
     record {
       catalogue = is.0;
-      held = subst (λ db. Holds 1 db is.0) (c.in-Ok.ensures.same opened) is.1.holds;
+      held = held_known _ is.0 (subst (λ db. Holds known db is.0) (c.in-Ok.ensures.same opened) is.1.holds);
       over = λ M held. let shown = c.in-Ok.ensures.held opened M held in record { ended = c.run-end.ensures.answers clean M shown; shown = c.run-end.ensures.desk.shows clean M shown };
       left = λ M left. let shown = c.in-Ok.ensures.left opened M left in record { ended = c.run-end.ensures.answers clean M shown; shown = c.run-end.ensures.desk.shows clean M shown };
     }

@@ -3,12 +3,13 @@ use Rattle.std.specs.Prelude.{IsTrue, Some}
 use Rattle.sqlite.specs.Effect.{Database, IsDatabase}
 use Rattle.sqlite.specs.State.{HasCleanDisk}
 use Rattle.sqlite.specs.Held.{state}
-use Rattle.dict_file.specs.Holds.{Holds}
+use Rattle.dict_file.specs.Holds.{Holds, IsHeld}
 use Rattle.dict_opening.specs.Reading.{HasFailed}
 use Rattle.dict_store.specs.Desk.{DeskState, Shows}
 use Rattle.dict_store.specs.Opened.{IsNotHeld}
 use Rattle.dict_store.proofs.DeskLemmas.{alone, left_alone}
 use Rattle.dict_store.proofs.desk.Desk.adopt.Goals as goal
+use Rattle.dict_rows.specs.Versions.{known}
 
 pub returns-in-Ok-clause-left : goal.returns-in-Ok-clause-left
 returns-in-Ok-clause-left g c = λ clean M left.
@@ -16,7 +17,7 @@ returns-in-Ok-clause-left g c = λ clean M left.
     let rests = (c.in-Ok.ensures.rests there).1 in
     let live = subst (λ conn. IsTrue (state g.S.Store conn).is_open) c.set_step_limit.ensures (c.in-Ok.ensures.lives there rests.is_open) in
     let held = (c.is_whole.ensures.whole live).committed M left in
-    let it = c.in-Ok.ensures.every there M (subst (λ conn. Holds 1 (state g.S.Store conn).committed M) (sym c.set_step_limit.ensures) held) in
+    let it = c.in-Ok.ensures.every there M (subst (λ conn. IsHeld (state g.S.Store conn).committed M) (sym c.set_step_limit.ensures) held) in
     c.over.ensures.shows M (sym it.1) it.0.holds.stands.well_formed (λ _. it.0)
 
 pub returns-in-Err-clause-not_left : goal.returns-in-Err-clause-not_left
@@ -34,7 +35,7 @@ returns-in-Ok-clause-only g c = λ M shown clean trees may.
     let sound = subst IsDatabase (sym (c.in-Ok.ensures.committed there rests.is_open)) first in
     let held = (subst (λ (d : DeskState _). Shows g.S.Store d M) c.over.ensures.is shown).holds refl there rests.is_open in
     let left = subst (λ (d : DeskState _). (state g.S.Store d.conn).may_leave trees) c.over.ensures.is may in
-    (Some M, alone M, left_alone g.S.Store c.read.new.conn M (g.met.S.Store.settled c.read.new.conn.store) rests.is_open sound (subst (λ (db : Database). Holds 1 db M) rests.settled held) trees left)
+    (Some M, alone M, left_alone g.S.Store c.read.new.conn M (g.met.S.Store.settled c.read.new.conn.store) rests.is_open sound (subst (λ (db : Database). Holds known db M) rests.settled held) trees left)
 
 pub returns-in-Err-clause-failed : goal.returns-in-Err-clause-failed
 returns-in-Err-clause-failed g c = λ clean is.

@@ -1,10 +1,12 @@
-use Rattle.std.proofs.Common.{◌≡◌, false, sym, subst, ap, ◌∙◌, rules}
-use Rattle.std.specs.Prelude.{is_some}
+use Rattle.std.proofs.Common.{◌≡◌, true, false, sym, subst, ap, ◌∙◌, rules}
+use Rattle.std.specs.Prelude.{is_some, IfErr}
 use Rattle.dict_catalogue.specs.Steps.{kept_under, step}
 use Rattle.dict_catalogue.specs.Views.{summary_shown, command_meant}
-use Rattle.dict_desk.specs.Faults.{has_failed_by}
+use Rattle.dict_desk.specs.Faults.{has_failed_by, is_failure}
 use Rattle.dict_desk.specs.Applying.{Leaves}
+use Rattle.dict_store.specs.Causes.{FailsToApplyTo}
 use Rattle.dict_store.specs.Desk.{Shows, LeavesOneOf, is_closed, has_failed}
+use Rattle.dict_store.proofs.CauseLemmas.{fails_to_apply}
 use Rattle.dict_store.proofs.KeeperLemmas.{told_applies, told_leaves, told_spares, failed_by}
 use Rattle.dict_store.proofs.keeper.DeskKeeper.apply.Goals as goal
 
@@ -35,3 +37,12 @@ returns-clause-spares g c = λ ms left.
 
 pub returns-clause-failed : goal.returns-clause-failed
 returns-clause-failed g c = ap has_failed c.last_by-self-inside.ensures ∙ failed_by c.apply-outcome.result ∙ ap has_failed_by (sym c.take_over.ensures.reply)
+
+pub returns-clause-caused : goal.returns-clause-caused
+returns-clause-caused g c = λ clean.
+    subst (λ desk. IfErr c.take_over.result (λ fault. is_failure fault ≡ true → FailsToApplyTo g.S.Store desk (record { id = c.args.id.now; command = command_meant c.args.command.now }) (record { conn = c.apply-outcome.new.conn; summary = summary_shown c.take_over.new.summary; last = c.last_by-self-inside.result }) fault)) c.self.view_is
+    (fails_to_apply g.S.Store (record { conn = c.self.inside.conn; summary = summary_shown c.self.inside.summary; last = c.self.inside.last }) c.args.id.now (command_meant c.args.command.now) (record { conn = c.apply-outcome.new.conn; summary = summary_shown c.take_over.new.summary; last = c.last_by-self-inside.result })
+    c.apply-outcome.result c.take_over.result c.take_over.ensures.reply c.apply-outcome.ensures.kinds (c.apply-outcome.ensures.failed clean))
+
+pub returns-clause-applied : goal.returns-clause-applied
+returns-clause-applied g c = record { answered = returns-clause-value g c; left = returns-clause-leaves g c; spared = returns-clause-spares g c; failed = returns-clause-caused g c }

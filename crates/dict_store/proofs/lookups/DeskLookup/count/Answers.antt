@@ -3,6 +3,7 @@ use Rattle.sqlite.specs.Held.{state}
 use Rattle.dict_catalogue.specs.Views.{summary_shown}
 use Rattle.dict_desk.specs.Shown.{count_of}
 use Rattle.dict_store.specs.Desk.{Shows, is_closed}
+use Rattle.dict_store.proofs.CauseLemmas.{gives_way}
 use Rattle.dict_store.proofs.DeskLemmas.{stays_by, rests_on, shows_on, held, value_by}
 use Rattle.dict_store.proofs.lookups.DeskLookup.count.Goals as goal
 
@@ -26,3 +27,9 @@ returns-clause-value g c = λ clean M edition shown has.
     (λ clean. stays_by (state g.S.Store c.self.inside.conn) (state g.S.Store c.count-outcome.new.conn) c.count-outcome.result (c.count-outcome.ensures.same clean) (c.count-outcome.ensures.failed clean))
     M (subst (λ desk. Shows g.S.Store desk M) (sym c.self.view_is) shown) clean in
     value_by (λ count. count ≡ count_of c.args.what c.args.strategy c.args.query.now edition) c.count-outcome.result (state g.S.Store c.self.inside.conn) (state g.S.Store c.count-outcome.new.conn) (c.count-outcome.ensures.same clean) (λ live. c.count-outcome.ensures.value clean M edition (holds live) has)
+
+pub returns-clause-caused : goal.returns-clause-caused
+returns-clause-caused g c =
+    let before : is_closed c.self.inside.last ≡ false = search rules in
+    gives_way g.S.Store c.self.inside.conn c.count-outcome.new.conn (summary_shown c.self.inside.summary) c.self.inside.last c.last_by-self-inside.result before c.self.invariant c.count-outcome.ensures.survives
+    c.count-outcome.result c.count-outcome.ensures.kinds c.count-outcome.ensures.failed _ c.self.view_is

@@ -2,6 +2,7 @@ use Rattle.std.proofs.Common.{◌≡◌, false, sym, subst, rules}
 use Rattle.sqlite.specs.Held.{state}
 use Rattle.dict_catalogue.specs.Views.{summary_shown}
 use Rattle.dict_store.specs.Desk.{Shows, is_closed}
+use Rattle.dict_store.proofs.CauseLemmas.{gives_way}
 use Rattle.dict_store.proofs.DeskLemmas.{stays_by, rests_on, shows_on, held, handed_by}
 use Rattle.dict_desk.specs.Shown.{headword_rows}
 use Rattle.dict_store.proofs.lookups.DeskLookup.heads.Goals as goal
@@ -27,3 +28,9 @@ returns-clause-value g c = λ clean M edition shown has.
     M (subst (λ desk. Shows g.S.Store desk M) (sym c.self.view_is) shown) clean in
     handed_by g.T.RowSink.takes g.T.RowSink.stops c.args.sink.now c.heads-outcome.new.sink (headword_rows c.args.strategy c.args.query.now edition) c.heads-outcome.result (state g.S.Store c.self.inside.conn).is_open
     (λ live. c.heads-outcome.ensures.value clean M edition (holds live) has) (c.heads-outcome.ensures.shut clean) (g.met.T.RowSink.none c.args.sink.now)
+
+pub returns-clause-caused : goal.returns-clause-caused
+returns-clause-caused g c =
+    let before : is_closed c.self.inside.last ≡ false = search rules in
+    gives_way g.S.Store c.self.inside.conn c.heads-outcome.new.conn (summary_shown c.self.inside.summary) c.self.inside.last c.last_by-self-inside.result before c.self.invariant c.heads-outcome.ensures.survives
+    c.heads-outcome.result c.heads-outcome.ensures.kinds c.heads-outcome.ensures.failed _ c.self.view_is

@@ -1,10 +1,10 @@
-use Rattle.std.proofs.Common.{◌∙◌, inl, subst, sym, refl, arith}
+use Rattle.std.proofs.Common.{◌∙◌, ap, inl, subst, sym, refl, arith}
 use Rattle.std.proofs.lemmas.Option.{IfSome_then}
 use Rattle.sqlite.specs.State.{HasCleanDisk}
 use Rattle.sqlite.specs.Files.{file_state}
 use Rattle.sqlite.specs.WalFiles.{image_at}
 use Rattle.dict_file.specs.Holds.{IsLeft}
-use Rattle.dict_store.specs.Unopened.{IsOf}
+use Rattle.dict_store.specs.Unopened.{IsOf, fault_of_files}
 use Rattle.dict_store.proofs.ReopenLemmas.{only_committed}
 use Rattle.dict_store.proofs.FreshLemmas.{seen_is, left_is, honest_is, octets_by, unopened_from}
 use Rattle.dict_store.proofs.reopening.Desk+FileStore+FileFrom+S.open_from.Goals as goal
@@ -13,7 +13,7 @@ pub returns-in-Ok-adopt-clause-shows : goal.returns-in-Ok-adopt-clause-shows
 returns-in-Ok-adopt-clause-shows g c = λ clean M held.
     let early : HasCleanDisk (file_state c.in-Ok.conn) = omega (arith, c.in-Ok-adopt.ensures.spares.clean, clean) in
     let found = c.in-Ok.ensures.found early in
-    c.in-Ok-adopt.ensures.left clean M (subst (IsLeft 1 M) (sym (found.holds held.0 held.1)) held.2)
+    c.in-Ok-adopt.ensures.left clean M (subst (IsLeft M) (sym (found.holds held.0 held.1)) held.2)
 
 pub returns-in-Err-adopt-clause-unopened : goal.returns-in-Err-adopt-clause-unopened
 returns-in-Err-adopt-clause-unopened g c = record {
@@ -26,7 +26,7 @@ returns-in-Err-adopt-clause-unopened g c = record {
       let early : HasCleanDisk (file_state c.in-Ok.conn) = omega (arith, c.in-Err-adopt.ensures.adds_none.clean, clean) in
       let opened = (c.in-Ok.ensures.opened early).0 in
       let found = c.in-Ok.ensures.found early in
-      c.in-Err-adopt.ensures.not_left clean opened.is_open M (subst (λ db. IsLeft 1 M db.trees) (sym opened.clean) (subst (IsLeft 1 M) (sym (found.holds held.0 held.1)) held.2));
+      c.in-Err-adopt.ensures.not_left clean opened.is_open M (subst (λ db. IsLeft M db.trees) (sym opened.clean) (subst (IsLeft M) (sym (found.holds held.0 held.1)) held.2));
   leaves = λ m stands clean trees stop.
       let early : HasCleanDisk (file_state c.in-Ok.conn) = omega (arith, c.in-Err-adopt.ensures.adds_none.clean, clean) in
       let opened = (c.in-Ok.ensures.opened early).0 in
@@ -48,3 +48,6 @@ returns-in-Err-clause-unopened g c =
           (honest_is start.log start.db _ _ _ _ log.0 log.1) (honest_is start.log start.db _ _ _ _ db.0 db.1),
       it.3,
     )))
+
+pub returns-in-Err-clause-memory : goal.returns-in-Err-clause-memory
+returns-in-Err-clause-memory g c named = c.fault_of_files.ensures.value ∙ ap fault_of_files (c.in-Err.ensures.memory named)

@@ -1,0 +1,77 @@
+-- Why a call of a desk failed.
+use Rattle.std.proofs.Common.{◌≡◌, inl, inr, ℕ, true, false, List, sym, ap, subst, ◌∙◌, arith}
+use Rattle.std.specs.Prelude.{Option, None, IsSome, is_some, Result, Ok, Err, IfErr}
+use Rattle.std.proofs.lemmas.Bool.{false≢true}
+use Rattle.sqlite.specs.Effect.{Database}
+use Rattle.sqlite.specs.State.{HasCleanDisk, IsUnchanged, Survives}
+use Rattle.sqlite.specs.Held.{Held, state}
+use Rattle.sqlite_trees.specs.declared.store.Store.{Ghosts}
+use Rattle.dict_index.specs.Edition.{Edition}
+use Rattle.dict_catalogue.specs.Commands.{Command}
+use Rattle.dict_catalogue.specs.Tests.{Holdings}
+use Rattle.dict_catalogue.specs.declared.reply.Kept.{Kept}
+use Rattle.dict_desk.specs.Faults.{is_failure}
+use Rattle.dict_desk.specs.declared.fault.Fault.{Fault}
+use Rattle.dict_desk.specs.declared.fault.Fault.TheVariants.{Refused, Memory, Disk, Closed, NotACatalogue, Damaged, NewerSchema}
+use Rattle.dict_rows.specs.Versions.{known}
+use Rattle.dict_file.specs.Faults.{IsUnread, FailsToLookUp}
+use Rattle.dict_file.specs.Holds.{Holds}
+use Rattle.dict_lookup.specs.Lookups.{IsOfStore}
+use Rattle.dict_commands.specs.Answers.{FailsToApply, IsOfApply}
+use Rattle.dict_commands.specs.declared.applied.Applied.{Applied}
+use Rattle.dict_commands.specs.declared.applied.Applied.TheVariants.{Before, Now}
+use Rattle.dict_store.specs.Desk.{DeskState, IsAtRest, is_closed, reply_of}
+use Rattle.dict_store.specs.Causes.{GivesWay, FailsToApplyTo}
+use Rattle.dict_store.specs.declared.last.Last.{Last}
+
+no_limit : (limit : Option ℕ) → limit ≡ None → IsSome limit → ⊥
+no_limit limit is some = false≢true (sym (ap is_some is) ∙ some)
+
+-- a lookup, or a reading of a kept reply
+module _ {S : Type 0} (g : Ghosts S) (old new : Held S) (summary : Holdings (List ℕ)) (before after : Last) (open_before : is_closed before ≡ false) (rest : IsAtRest g before summary old) (survives : Survives (state g old) (state g new) (λ _. ⊥)) where
+  -- what an open desk reads is a catalogue's, and it has no limit on steps
+  is_read : HasCleanDisk (state g new) → IsUnchanged (state g old) (state g new) → IsUnread (state g old) Disk → ⊥
+  is_read clean same (inl limited) = no_limit old.step_limit rest.limit limited
+  is_read clean same (inr none) =
+      let it = rest.holds open_before (omega (arith, survives.clean)) same.0.was_open in
+      none it.0 (subst (λ (db : Database). Holds known db it.0) (sym it.1.settled) it.1.holds)
+
+  fails_for : HasCleanDisk (state g new) → (fault : Fault) → IsOfStore fault → FailsToLookUp (state g old) (state g new) fault
+      → GivesWay g (record { conn = old; summary = summary; last = before }) (record { conn = new; summary = summary; last = after }) fault
+  fails_for clean (Refused refusal) kind h = absurd kind
+  fails_for clean Memory kind h = h
+  fails_for clean Disk kind (inl h) = absurd (is_read clean h.0 h.1)
+  fails_for clean Disk kind (inr h) = h
+  fails_for clean Closed kind h = absurd kind
+  fails_for clean NotACatalogue kind h = absurd kind
+  fails_for clean Damaged kind h = absurd kind
+  fails_for clean NewerSchema kind h = absurd kind
+
+  pub gives_way : {T : Type 0} (result : Result T Fault) → IfErr result IsOfStore → (HasCleanDisk (state g new) → IfErr result (FailsToLookUp (state g old) (state g new)))
+      → (desk : DeskState S) → record { conn = old; summary = summary; last = before } ≡ desk → HasCleanDisk (state g new) → IfErr result (GivesWay g desk (record { conn = new; summary = summary; last = after }))
+  gives_way (Ok value) kind failed desk is clean = tt
+  gives_way (Err fault) kind failed desk is clean =
+      subst (λ (d : DeskState S). GivesWay g d (record { conn = new; summary = summary; last = after }) fault) is (fails_for clean fault kind (failed clean))
+
+-- a command
+module _ {S : Type 0} (g : Ghosts S) (old : DeskState S) (id : List ℕ) (command : Command Edition) (new : DeskState S) where
+  fails_as : (fault : Fault) → IsOfApply fault → (is_failure fault ≡ true → FailsToApply g old.summary id command old.conn new.conn fault) → is_failure fault ≡ true → FailsToApplyTo g old (record { id = id; command = command }) new fault
+  fails_as (Refused refusal) kind h failure = absurd (false≢true failure)
+  fails_as Memory kind h failure = h failure
+  fails_as Disk kind h failure = h failure
+  fails_as Closed kind h failure = absurd kind
+  fails_as NotACatalogue kind h failure = absurd kind
+  fails_as Damaged kind h failure = absurd kind
+  fails_as NewerSchema kind h failure = absurd kind
+
+  fails_by : (result : Result Applied Fault) → IfErr result IsOfApply → IfErr result (λ fault. is_failure fault ≡ true → FailsToApply g old.summary id command old.conn new.conn fault)
+      → IfErr (reply_of result) (λ fault. is_failure fault ≡ true → FailsToApplyTo g old (record { id = id; command = command }) new fault)
+  fails_by (Ok (Before kept)) kind h = tt
+  fails_by (Ok (Now kept summary)) kind h = tt
+  fails_by (Err fault) kind h = fails_as fault kind h
+
+  pub fails_to_apply : (result : Result Applied Fault) (told : Result Kept Fault) → told ≡ reply_of result → IfErr result IsOfApply
+      → IfErr result (λ fault. is_failure fault ≡ true → FailsToApply g old.summary id command old.conn new.conn fault)
+      → IfErr told (λ fault. is_failure fault ≡ true → FailsToApplyTo g old (record { id = id; command = command }) new fault)
+  fails_to_apply result told is kind h =
+      subst (λ (r : Result Kept Fault). IfErr r (λ fault. is_failure fault ≡ true → FailsToApplyTo g old (record { id = id; command = command }) new fault)) (sym is) (fails_by result kind h)

@@ -1,0 +1,52 @@
+-- Why a call of a desk fails, and what a command does to it.
+use Rattle.std.specs.Prelude.{◌≡◌, true, false, List, Option, is_some, Result, IfErr}
+use Rattle.sqlite.specs.State.{State, HasCleanDisk, Fails}
+use Rattle.sqlite.specs.Held.{state}
+use Rattle.sqlite.specs.declared.error.Error.{Error}
+use Rattle.sqlite_trees.specs.declared.store.Store.{Ghosts}
+use Rattle.dict_catalogue.specs.Steps.{Catalogue, Request, kept_under, step}
+use Rattle.dict_catalogue.specs.declared.reply.Kept.{Kept}
+use Rattle.dict_desk.specs.Applying.{Applies, Leaves}
+use Rattle.dict_desk.specs.Faults.{is_disk, is_failure}
+use Rattle.dict_desk.specs.declared.fault.Fault.{Fault}
+use Rattle.dict_desk.specs.declared.fault.Fault.TheVariants.{Refused, Memory, Disk, Closed, NotACatalogue, Damaged, NewerSchema}
+use Rattle.dict_file.specs.Faults.{fault_of, FailsToLookUp}
+use Rattle.dict_commands.specs.Answers.{FailsToApply}
+use Rattle.dict_store.specs.Desk.{DeskState, Shows, LeavesOneOf, is_closed}
+
+-- The store failed between these two states, by an error that is no want of memory, for the cause that it names: its disk
+-- failed once more, or it was shut before. It shows what was committed.
+abbrev pub StoreFails : State → State → Type 0
+StoreFails old new = (e : Error) × (Disk ≡ fault_of e) × Fails old new ⊥ e
+
+module _ {S : Type 0} (g : Ghosts S) where
+  -- A call that changes no catalogue failed: memory was refused, to it or to the store; the store failed between just these two
+  -- states of the connection; or the desk was closed, and is as it was.
+  abbrev pub GivesWay : DeskState S → DeskState S → Fault → Type 0
+  GivesWay old new (Refused refusal) = ⊥
+  GivesWay old new Memory = FailsToLookUp (state g old.conn) (state g new.conn) Memory
+  GivesWay old new Disk = StoreFails (state g old.conn) (state g new.conn)
+  GivesWay old new Closed = (is_closed old.last ≡ true) × (new ≡ old)
+  GivesWay old new NotACatalogue = ⊥
+  GivesWay old new Damaged = ⊥
+  GivesWay old new NewerSchema = ⊥
+
+  -- A command that is not refused failed: its reply was not looked up, or its change was not made; or the desk was closed, and is
+  -- as it was.
+  abbrev pub FailsToApplyTo : DeskState S → Request → DeskState S → Fault → Type 0
+  FailsToApplyTo old request new (Refused refusal) = ⊥
+  FailsToApplyTo old request new Memory = FailsToApply g old.summary request.id request.command old.conn new.conn Memory
+  FailsToApplyTo old request new Disk = FailsToApply g old.summary request.id request.command old.conn new.conn Disk
+  FailsToApplyTo old request new Closed = (is_closed old.last ≡ true) × (new ≡ old)
+  FailsToApplyTo old request new NotACatalogue = ⊥
+  FailsToApplyTo old request new Damaged = ⊥
+  FailsToApplyTo old request new NewerSchema = ⊥
+
+  -- One command was applied to a desk, and answered so: over whichever catalogue was shown, what is answered, what is shown and
+  -- what a stop may leave are those of its step; and a failure has its cause.
+  pub record IsAppliedTo (old : DeskState S) (request : Request) (result : Result Kept Fault) (new : DeskState S) : Type 0 where
+    pub answered : HasCleanDisk (state g new.conn) → (M : Catalogue) → Shows g old M → Applies (Shows g new) M (step M request.id request.command) result
+    pub left : HasCleanDisk (state g new.conn) → (M : Catalogue) → Shows g old M
+        → Leaves (LeavesOneOf g old) (LeavesOneOf g new) (is_some (kept_under M.kept request.id)) (step M request.id request.command).catalogue result
+    pub spared : (ms : List (Option Catalogue)) → LeavesOneOf g old ms → IfErr result (λ fault. is_disk fault ≡ false → LeavesOneOf g new ms)
+    pub failed : HasCleanDisk (state g new.conn) → IfErr result (λ fault. is_failure fault ≡ true → FailsToApplyTo old request new fault)
