@@ -1,4 +1,4 @@
-pub mod QueueLemmas
+pub mod OutletLemmas
 pub mod CallLemmas
 pub mod EventLemmas
 pub mod LeadLemmas

@@ -1,9 +1,11 @@
 -- What one event puts in its connection's queue.
-use Rattle.std.proofs.Common.{◌≡◌, ℕ, List, [], ◌∷◌, ◌++◌, refl, sym, ap, ◌∙◌, subst, append-nil, take, inl, inr}
+use Rattle.std.proofs.Common.{◌≡◌, ◌+◌, ◌<◌, ℕ, true, List, [], ◌∷◌, ◌++◌, refl, sym, ap, ◌∙◌, subst, append-nil, length, length-append, take, inl, inr, arith}
+use Rattle.std.proofs.Math.Dec.{ltb}
+use Rattle.std.proofs.lemmas.Bool.{ltb-true, lt-ltb}
 use Rattle.std.specs.Prelude.{Option, Some, None}
 use Rattle.std.specs.Io.KnownBytes.{Appends}
 use Rattle.std.proofs.KnownBytes.{Appends-nil}
-use Rattle.dict_io.specs.Streams.{Stream, AppendsFront}
+use Rattle.dict_io.specs.Streams.{Change, Stream, AppendsFront}
 use Rattle.dict_catalogue.specs.Steps.{Catalogue}
 use Rattle.dict_hub.specs.Holding.{Holding}
 use Rattle.dict_hub.specs.Given.{Greets, Replies, Gets}
@@ -22,7 +24,11 @@ use Rattle.dict_driver.specs.Queues.{waiting, stream_of}
 use Rattle.dict_driver.specs.Events.{AreOf, piece_of, pieces_of}
 use Rattle.dict_driver.specs.Ordering.{IsOnly}
 use Rattle.dict_driver.specs.Leading.{HasLedOn}
-use Rattle.dict_driver.specs.Telling.{IsAnswered, IsTold}
+use Rattle.dict_driver.specs.Telling.{IsAnswered, IsTold, IsToldThrough}
+use Rattle.dict_driver.specs.Calls.{Call}
+use Rattle.dict_driver.specs.Outlets.{HasTaken, MakesSendings, Passes, carried, stream_through}
+use Rattle.dict_driver.specs.declared.trail.Trail.{Trail}
+use Rattle.dict_driver.proofs.OutletLemmas.{kept_as, passes_none, sendings_of, taken_as}
 use Rattle.dict_driver.specs.declared.queue.Queue.{Queue}
 
 -- known octets have grown at their end
@@ -64,24 +70,16 @@ serves_grow host desk S B A M None (came id piece) out old new serves = absurd s
 serves_grow host desk S B A M (Some held) (came id piece) out old new serves = gets_grow host desk S B A M held.kind (held.octets ++ piece) out old new serves
 serves_grow host desk S B A M held (ended id) out old new serves = grows_same old new serves.nothing
 
-told_one : (one : Accepted) (old new : Queue) → one.put.old ≡ stream_of old → one.put.new ≡ stream_of new → Grows (stream_of old).octets (stream_of new).octets
-    → IsTold one.what (Some one.out) old new (one ∷ [])
-told_one one old new was is (octets, grows) = record {
-  answered = (one, refl, refl, refl);
-  put = octets;
-  are_put = (octets, [], (waiting old, ap (λ (s : Stream). s.octets) was, ap (λ (s : Stream). s.octets) is ∙ ap Some grows), refl, sym (append-nil octets));
-  order = grows;
-}
-
 -- an event that was accepted
-pub told_accepted : (T : Type 0) (S0 S1 : Catalogue → Type 0) (L0 L1 : List (Option Catalogue) → Type 0) (a b : Hub) (what : Happening) (out : Out) (desk : Condition) (old new : Queue)
+pub led_accepted : (T : Type 0) (S0 S1 : Catalogue → Type 0) (L0 L1 : List (Option Catalogue) → Type 0) (a b : Hub) (what : Happening) (out : Out) (desk : Condition) (old new : Stream) (P : List Accepted → Type 0)
     → (T → (origin : State) (start : Standing) (events : List Accepted) (state : State) (stands : Standing) → Leads origin start events state stands → IsAt a state → S0 stands.catalogue → L0 stands.leaves
-    → LeadsOn S1 L1 origin start events state stands what out desk (record { old = stream_of old; new = stream_of new }) b)
-    → HasLedOn T S0 L0 S1 L1 a b (λ events. IsTold what (Some out) old new events)
-told_accepted T S0 S1 L0 L1 a b what out desk old new leads = record {
+    → LeadsOn S1 L1 origin start events state stands what out desk (record { old = old; new = new }) b)
+    → ((one : Accepted) → one.what ≡ what → one.out ≡ out → one.put ≡ record { old = old; new = new } → Grows old.octets new.octets → P (one ∷ []))
+    → HasLedOn T S0 L0 S1 L1 a b P
+led_accepted T S0 S1 L0 L1 a b what out desk old new P leads holds = record {
   led = λ trusted origin start at shown left.
       let on = leads trusted origin start [] origin start (refl, refl) at shown left in
-      let one : Accepted = record { what = what; out = out; desk = desk; put = record { old = stream_of old; new = stream_of new }; before = start; after = on.after } in
+      let one : Accepted = record { what = what; out = out; desk = desk; put = record { old = old; new = new }; before = start; after = on.after } in
       let step : IsStep origin one = on.leads.1 in
       record {
         events = one ∷ [];
@@ -91,11 +89,72 @@ told_accepted T S0 S1 L0 L1 a b what out desk old new leads = record {
         is_at = on.is_at;
         shows = on.shows;
         leaves = on.leaves;
-        holds = told_one one old new refl refl (serves_grow _ _ _ _ _ _ _ _ _ _ _ step);
+        holds = holds one refl refl refl (serves_grow _ _ _ _ _ _ _ _ _ _ _ step);
       };
 }
 
+pub told_one : (what : Happening) (out : Out) (old new : Queue) (one : Accepted) → one.what ≡ what → one.out ≡ out → one.put ≡ record { old = stream_of old; new = stream_of new }
+    → Grows (stream_of old).octets (stream_of new).octets → IsTold what (Some out) old new (one ∷ [])
+told_one what out old new one same answer put (octets, grows) = record {
+  answered = (one, refl, same, answer);
+  put = octets;
+  are_put = (octets, [], (waiting old, ap (λ (c : Change). c.old.octets) put, ap (λ (c : Change). c.new.octets) put ∙ ap Some grows), refl, sym (append-nil octets));
+  order = grows;
+}
+
+-- what facts of an outlet tell of an event that put these octets
+passed : {T : Type 0} (taken coming : T → Option (List ℕ)) (made : T → Option (List Call)) (at_first gives : Option (List ℕ)) (calls : Option (List Call)) (from to : T) (trail before after put : List ℕ)
+    → at_first ≡ taken from → gives ≡ coming from → calls ≡ made from
+    → HasTaken at_first (taken to) trail → HasTaken gives (coming to) [] → MakesSendings calls (made to)
+    → (length trail + length after < 1048576 → (trail ≡ []) × (made to ≡ calls)) → trail ++ after ≡ before ++ put
+    → Passes taken coming made from to before after put
+passed taken coming made at_first gives calls from to trail before after put was will did takes keeps makes lazy order =
+    let few = ltb (length before + length put) 1048576 in
+    let same : length trail + length after ≡ length before + length put = omega (arith, ap length order, length-append trail after, length-append before put) in
+    let less : few ≡ true → length trail + length after < 1048576 = λ is. omega (arith, same, ltb-true (length before + length put) 1048576 is) in
+    let all = sendings_of (made from) (made to) few (subst (λ (o : Option (List Call)). MakesSendings o (made to)) did makes) (λ is. (lazy (less is)).1 ∙ did) in
+    record {
+      sent = trail;
+      takes = taken_as (taken from) (taken to) trail (subst (λ (o : Option (List ℕ)). HasTaken o (taken to) trail) was takes);
+      order = order;
+      comes = kept_as (coming from) (coming to) (subst (λ (o : Option (List ℕ)). HasTaken o (coming to) []) will keeps);
+      within = all.0;
+      sendings = all.1;
+      calls = all.2;
+      lazy = λ is. let so = lt-ltb (length before + length put) 1048576 is in ((lazy (less so)).0, all.3 so);
+    }
+
+pub told_through : {T : Type 0} (taken coming : T → Option (List ℕ)) (made : T → Option (List Call)) (at_first gives : Option (List ℕ)) (calls : Option (List Call)) (what : Happening) (out : Out) (old new : Queue)
+    (from to : T) (trail : Trail) (begun : Stream) (one : Accepted) → at_first ≡ taken from → gives ≡ coming from → calls ≡ made from
+    → HasTaken at_first (taken to) trail.octets → HasTaken gives (coming to) [] → MakesSendings calls (made to)
+    → (length trail.octets + length (waiting new) < 1048576 → (trail.octets ≡ []) × (made to ≡ calls)) → begun.octets ≡ Some (waiting old)
+    → one.what ≡ what → one.out ≡ out → one.put ≡ record { old = begun; new = stream_through trail new }
+    → Grows begun.octets (stream_through trail new).octets → IsToldThrough taken coming made what (Some out) old new from to (one ∷ [])
+told_through taken coming made at_first gives calls what out old new from to trail begun one was will did takes keeps makes lazy began same answer put (octets, grows) =
+    let order : carried trail new ≡ waiting old ++ octets = subst (λ (o : Option (List ℕ)). Appends o (Some (carried trail new)) octets) began grows in
+    record {
+      answered = (one, refl, same, answer);
+      put = octets;
+      are_put = (
+        octets,
+        [],
+        (waiting old, ap (λ (c : Change). c.old.octets) put ∙ began, ap (λ (c : Change). c.new.octets) put ∙ ap Some order),
+        refl,
+        sym (append-nil octets),
+      );
+      passes = passed taken coming made at_first gives calls from to trail.octets (waiting old) (waiting new) octets was will did takes keeps makes lazy order;
+    }
+
 -- an event that was refused
+pub told_through_none : {T : Type 0} (taken coming : T → Option (List ℕ)) (made : T → Option (List Call)) (what : Happening) (old new : Queue) (from to : T) → new ≡ old → to ≡ from
+    → IsToldThrough taken coming made what None old new from to []
+told_through_none taken coming made what old new from to same still = record {
+  answered = refl;
+  put = [];
+  are_put = refl;
+  passes = passes_none taken coming made from to (waiting old) (waiting new) still (ap waiting same);
+}
+
 pub told_none : (what : Happening) (old new : Queue) → new ≡ old → IsTold what None old new []
 told_none what old new same = record {
   answered = refl;

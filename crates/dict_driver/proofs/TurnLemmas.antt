@@ -1,6 +1,7 @@
 -- Turns of one connection, one call after the other.
-use Rattle.std.proofs.Common.{◌≡◌, ◌≢◌, ◌≤◌, ℕ, Bool, true, false, List, [], ◌∷◌, ◌++◌, refl, sym, ap, ◌∙◌, subst, append_assoc, append-nil, take, length, take-append-drop, inl, inr, arith}
-use Rattle.std.specs.Prelude.{Option, Some, None, Result, Ok, Err, not, ◌==◌, ◌-◌, nat_le, if◌then◌else◌}
+use Rattle.std.proofs.Common.{◌≡◌, ◌≢◌, ◌≤◌, ℕ, Bool, true, false, List, [], ◌∷◌, ◌++◌, refl, sym, ap, ◌∙◌, subst, append_assoc, append-nil, take, length, length-append, take-append-drop, inl, inr, arith, ◌+◌, ◌<◌}
+use Rattle.std.proofs.lemmas.List.Elements.{All-nil}
+use Rattle.std.specs.Prelude.{Option, Some, None, Result, Ok, Err, ◌-◌, nat_le, if◌then◌else◌}
 use Rattle.std.specs.Io.{ReadsAtMost}
 use Rattle.std.specs.Io.KnownBytes.{Appends, Consumes, Keeps, ReadConsumes}
 use Rattle.std.specs.declared.io.Error.{Error}
@@ -17,8 +18,9 @@ use Rattle.dict_driver.specs.Queues.{waiting, is_clear, Sends}
 use Rattle.dict_driver.specs.Stages.{is_open, count_received, answered, parted}
 use Rattle.dict_driver.specs.Calls.{Call, Makes, sends, receives, sendings, readings, endings, is_dropped, calls_of_turn, sent_by, received_by, received_by_kind, has_failed, has_moved}
 use Rattle.dict_driver.specs.Events.{ArePut, AreOf, piece_of, pieces_of}
-use Rattle.dict_driver.specs.Telling.{IsAnswered, IsTold}
-use Rattle.dict_driver.specs.Turns.{BringAllOrNone, Hands, LeadsByAnswer, LeadsByEnd, LeadsByReading, LeadsByTurn, SendsOnce, ReadsOnce, Turns, Finishes, Drains, LeadsOut, LeadsAway, Departs, stage_between, stage_drained, dropped_after, marked_after}
+use Rattle.dict_driver.specs.Outlets.{Passes, is_sending}
+use Rattle.dict_driver.specs.Telling.{IsAnswered, IsTold, IsToldThrough}
+use Rattle.dict_driver.specs.Turns.{BringAllOrNone, Hands, HandsOver, LeadsByAnswer, LeadsByEnd, LeadsByReading, LeadsByTurn, SendsOnce, ReadsOnce, Turns, Finishes, Drains, LeadsOut, LeadsAway, Departs, stage_between, stage_drained, dropped_after, marked_after}
 use Rattle.dict_driver.specs.declared.connection.Connection.{Connection}
 use Rattle.dict_driver.specs.declared.stage.Sent.{Sent}
 use Rattle.dict_driver.specs.declared.stage.Sent.TheVariants as sents
@@ -29,6 +31,7 @@ use Rattle.dict_driver.specs.declared.stage.Stage.TheVariants as stages
 use Rattle.dict_driver.specs.Ordering.{IsOfTurn, IsOnly}
 use Rattle.dict_driver.proofs.CallLemmas.{makes_none, makes_joined}
 use Rattle.dict_driver.proofs.EventLemmas.{put_joined}
+use Rattle.dict_driver.proofs.OutletLemmas.{passes_none}
 use Rattle.dict_driver.proofs.OrderLemmas.{only_turn}
 use Rattle.dict_driver.proofs.TellLemmas.{answered_own, answered_only, answered_pieces}
 
@@ -53,6 +56,24 @@ kept_then_consumes None b c l kept consumes = tt
 kept_then_consumes (Some x) None c l kept consumes = absurd kept
 kept_then_consumes (Some x) (Some y) None l kept consumes = absurd consumes
 kept_then_consumes (Some x) (Some y) (Some z) l kept consumes = sym kept ∙ consumes
+
+pub kept_then_appends : (a b c : Option (List ℕ)) (l : List ℕ) → Keeps a b → Appends b c l → Appends a c l
+kept_then_appends None b c l kept appends = tt
+kept_then_appends (Some x) None c l kept appends = absurd kept
+kept_then_appends (Some x) (Some y) None l kept appends = absurd appends
+kept_then_appends (Some x) (Some y) (Some z) l kept appends = appends ∙ ap (λ (k : List ℕ). k ++ l) kept
+
+consumes_kept : (a b c : Option (List ℕ)) (l : List ℕ) → Consumes a b l → Keeps b c → Consumes a c l
+consumes_kept None b c l consumes kept = tt
+consumes_kept (Some x) None c l consumes kept = absurd consumes
+consumes_kept (Some x) (Some y) None l consumes kept = absurd kept
+consumes_kept (Some x) (Some y) (Some z) l consumes kept = consumes ∙ ap (λ (k : List ℕ). l ++ k) (sym kept)
+
+appends_joined : (a b c : Option (List ℕ)) (l m : List ℕ) → Appends a b l → Appends b c m → Appends a c (l ++ m)
+appends_joined None b c l m first more = tt
+appends_joined (Some x) None c l m first more = absurd first
+appends_joined (Some x) (Some y) None l m first more = absurd more
+appends_joined (Some x) (Some y) (Some z) l m first more = more ∙ ap (λ (k : List ℕ). k ++ m) first ∙ append_assoc x l m
 
 none_by_kind : (kind : ErrorKind) → count_received (received_by_kind kind) ≡ 0
 none_by_kind kinds.WouldBlock = refl
@@ -79,18 +100,18 @@ told_pieces what None events none = inr (ap pieces_of none)
 told_pieces what (Some out) events one = inl (answered_pieces what out events one)
 
 -- an event of a connection, by which it isn't opened, and which the hub accepted
-pub hands_told : {T : Type 0} (a b : Connection T) (what : Happening) (out : Out) (events : List Accepted) → b.id ≡ a.id → b.transport ≡ a.transport → b.may_receive ≡ a.may_receive → id_of what ≡ a.id → IsOfTurn what
-    → (is_open b.stage ≡ true → is_open a.stage ≡ true) → IsTold what (Some out) a.queue b.queue events → Hands (piece_of what) a b events
-hands_told a b what out events id transport marks own turn was_open told = record {
+pub hands_told : {T : Type 0} (taken coming : T → Option (List ℕ)) (made : T → Option (List Call)) (a b : Connection T) (what : Happening) (out : Out) (events : List Accepted) → b.id ≡ a.id → b.may_receive ≡ a.may_receive
+    → id_of what ≡ a.id → IsOfTurn what → (is_open b.stage ≡ true → is_open a.stage ≡ true) → IsToldThrough taken coming made what (Some out) a.queue b.queue a.transport b.transport events
+    → HandsOver taken coming made (piece_of what) a b events
+hands_told taken coming made a b what out events id marks own turn was_open told = record {
   id = id;
-  transport = transport;
   may_receive = marks;
   was_open = was_open;
   own = subst (λ (i : ℕ). AreOf i events) own (answered_own what (Some out) events told.answered);
   are_turns = only_turn what events turn (answered_only what (Some out) events told.answered);
   put = told.put;
   are_put = told.are_put;
-  order = told.order;
+  passes = told.passes;
   pieces = told_pieces what (Some out) events told.answered;
   handed = λ is. answered_pieces what out events told.answered;
 }
@@ -119,23 +140,53 @@ no_pieces : (events : List Accepted) → BringAllOrNone [] events → pieces_of 
 no_pieces events (inl is) = is
 no_pieces events (inr is) = is
 
+-- octets behind those that were passed on
+passes_more : {T : Type 0} (taken coming : T → Option (List ℕ)) (made : T → Option (List Call)) (from to last : T) (x y z put more : List ℕ) → Passes taken coming made from to x y put → last ≡ to → z ≡ y ++ more
+    → Passes taken coming made from last x z (put ++ more)
+passes_more taken coming made from to last x y z put more passes still is = record {
+  sent = passes.sent;
+  takes = subst (λ t. Appends (taken from) (taken t) passes.sent) (sym still) passes.takes;
+  order = ap (λ (l : List ℕ). passes.sent ++ l) is ∙ sym (append_assoc passes.sent y more) ∙ ap (λ (l : List ℕ). l ++ more) passes.order ∙ append_assoc x put more;
+  comes = subst (λ t. Keeps (coming from) (coming t)) (sym still) passes.comes;
+  within = passes.within;
+  sendings = passes.sendings;
+  calls = subst (λ t. Makes (made from) (made t) passes.within) (sym still) passes.calls;
+  lazy = λ few. passes.lazy (omega (arith, few, length-append put more));
+}
+
+-- an event by which the transport was asked nothing
+hands_over : {T : Type 0} (taken coming : T → Option (List ℕ)) (made : T → Option (List Call)) (octets : List ℕ) (a b : Connection T) (events : List Accepted) → Hands octets a b events → HandsOver taken coming made octets a b events
+hands_over taken coming made octets a b events hands = record {
+  id = hands.id;
+  may_receive = hands.may_receive;
+  was_open = hands.was_open;
+  own = hands.own;
+  are_turns = hands.are_turns;
+  put = hands.put;
+  are_put = hands.are_put;
+  passes = passes_more taken coming made a.transport a.transport b.transport (waiting a.queue) (waiting a.queue) (waiting b.queue) [] hands.put
+      (passes_none taken coming made a.transport a.transport (waiting a.queue) (waiting a.queue) refl refl) hands.transport hands.order;
+  pieces = hands.pieces;
+  handed = hands.handed;
+}
+
 -- an event that was refused, and then the end
-pub hands_refused : {T : Type 0} (a b c : Connection T) (octets : List ℕ) (what : Happening) (es fs : List Accepted) → b.id ≡ a.id → b.transport ≡ a.transport → b.may_receive ≡ a.may_receive
-    → c.stage ≡ stages.Over → IsTold what None a.queue b.queue es → Hands [] b c fs × IsOnly (ended b.id) fs → Hands octets a c (es ++ fs) × LeadsByAnswer octets a c (es ++ fs)
-hands_refused a b c octets what es fs id transport marks over told (later, only) =
+pub hands_refused : {T : Type 0} (taken coming : T → Option (List ℕ)) (made : T → Option (List Call)) (a b c : Connection T) (octets : List ℕ) (what : Happening) (es fs : List Accepted) → b.id ≡ a.id → b.may_receive ≡ a.may_receive
+    → c.stage ≡ stages.Over → IsToldThrough taken coming made what None a.queue b.queue a.transport b.transport es → Hands [] b c fs × IsOnly (ended b.id) fs
+    → HandsOver taken coming made octets a c (es ++ fs) × LeadsByAnswer octets a c (es ++ fs)
+hands_refused taken coming made a b c octets what es fs id marks over told (later, only) =
     let closed : is_open c.stage ≡ false = ap is_open over in
     let whole : es ++ fs ≡ fs = ap (λ (l : List Accepted). l ++ fs) told.answered in
     rw whole (
       record {
         id = later.id ∙ id;
-        transport = later.transport ∙ transport;
         may_receive = later.may_receive ∙ marks;
         was_open = λ still. absurd (let never : true ≡ false = sym still ∙ closed in cc);
         own = subst (λ (i : ℕ). AreOf i fs) id later.own;
         are_turns = later.are_turns;
         put = told.put ++ later.put;
         are_put = subst (λ (l : List Accepted). ArePut l (told.put ++ later.put)) whole (put_joined es fs told.put later.put told.are_put later.are_put);
-        order = later.order ∙ ap (λ (l : List ℕ). l ++ later.put) told.order ∙ append_assoc (waiting a.queue) told.put later.put;
+        passes = passes_more taken coming made a.transport b.transport c.transport (waiting a.queue) (waiting b.queue) (waiting c.queue) told.put later.put told.passes later.transport later.order;
         pieces = inr (no_pieces fs later.pieces);
         handed = λ still. absurd (let never : true ≡ false = sym still ∙ closed in cc);
       },
@@ -143,16 +194,15 @@ hands_refused a b c octets what es fs id transport marks over told (later, only)
     )
 
 -- octets that the hub answered
-pub leads_answered : {T : Type 0} (a b : Connection T) (octets : List ℕ) (out : Out) (events : List Accepted) → b.stage ≡ answered out (not (b.queue.failures == a.queue.failures)) a.stage
+pub leads_answered : {T : Type 0} (a b : Connection T) (octets : List ℕ) (out : Out) (events : List Accepted) → b.stage ≡ answered out a.stage
     → IsAnswered (came a.id octets) (Some out) events → LeadsByAnswer octets a b events
 leads_answered a b octets out events stage (one, is, same, told) =
-    inl (one, is, same, stage ∙ ap (λ (o : Out). answered o (not (b.queue.failures == a.queue.failures)) a.stage) (sym told))
+    inl (one, is, same, stage ∙ ap (λ (o : Out). answered o a.stage) (sym told))
 
 -- only an open connection goes on
-pub answered_open : (out : Out) (failed : Bool) (before : Stage) → is_open (answered out failed before) ≡ true → is_open before ≡ true
-answered_open outs.More failed before still = still
-answered_open outs.Close true before still = cc
-answered_open outs.Close false before still = cc
+pub answered_open : (out : Out) (before : Stage) → is_open (answered out before) ≡ true → is_open before ≡ true
+answered_open outs.More before still = still
+answered_open outs.Close before still = cc
 
 -- nothing has changed but how far the connection has come
 pub hands_closed : {T : Type 0} (a b c : Connection T) (octets : List ℕ) (events : List Accepted) → c.id ≡ b.id → c.transport ≡ b.transport → c.may_receive ≡ b.may_receive → c.queue ≡ b.queue → is_open c.stage ≡ false
@@ -220,27 +270,27 @@ sends_none taken coming made a clear = record {
 }
 
 -- where a reading leads is told of what was before it
-leads_from : {T : Type 0} (a b c : Connection T) (reading : Received) (octets : List ℕ) (events : List Accepted) → b.id ≡ a.id → b.stage ≡ a.stage → b.may_receive ≡ a.may_receive → b.queue.failures ≡ a.queue.failures
+leads_from : {T : Type 0} (a b c : Connection T) (reading : Received) (octets : List ℕ) (events : List Accepted) → b.id ≡ a.id → b.stage ≡ a.stage → b.may_receive ≡ a.may_receive
     → LeadsByReading reading octets b c events → LeadsByReading reading octets a c events
-leads_from a b c receiveds.Nothing octets events id stage marks failures leads = ((leads.0.0, leads.0.1 ∙ stage), leads.1)
-leads_from a b c receiveds.Interrupted octets events id stage marks failures leads = ((leads.0.0, leads.0.1 ∙ stage), leads.1 ∙ marks)
-leads_from a b c (receiveds.Octets count) octets events id stage marks failures (inl (one, is, same, led), marked) = (
+leads_from a b c receiveds.Nothing octets events id stage marks leads = ((leads.0.0, leads.0.1 ∙ stage), leads.1)
+leads_from a b c receiveds.Interrupted octets events id stage marks leads = ((leads.0.0, leads.0.1 ∙ stage), leads.1 ∙ marks)
+leads_from a b c (receiveds.Octets count) octets events id stage marks (inl (one, is, same, led), marked) = (
   inl (
     one,
     is,
     same ∙ ap (λ (i : ℕ). came i octets) id,
-    led ∙ ap (λ (s : Stage). answered one.out (not (c.queue.failures == b.queue.failures)) s) stage ∙ ap (λ (n : ℕ). answered one.out (not (c.queue.failures == n)) a.stage) failures,
+    led ∙ ap (λ (s : Stage). answered one.out s) stage,
   ),
   marked ∙ marks,
 )
-leads_from a b c (receiveds.Octets count) octets events id stage marks failures (inr (only, over), marked) = (inr (subst (λ (i : ℕ). IsOnly (ended i) events) id only, over), marked ∙ marks)
-leads_from a b c receiveds.End octets events id stage marks failures leads = (subst (λ (i : ℕ). IsOnly (ended i) events) id leads.0, leads.1)
-leads_from a b c receiveds.Failed octets events id stage marks failures leads = (subst (λ (i : ℕ). IsOnly (ended i) events) id leads.0, leads.1)
+leads_from a b c (receiveds.Octets count) octets events id stage marks (inr (only, over), marked) = (inr (subst (λ (i : ℕ). IsOnly (ended i) events) id only, over), marked ∙ marks)
+leads_from a b c receiveds.End octets events id stage marks leads = (subst (λ (i : ℕ). IsOnly (ended i) events) id leads.0, leads.1)
+leads_from a b c receiveds.Failed octets events id stage marks leads = (subst (λ (i : ℕ). IsOnly (ended i) events) id leads.0, leads.1)
 
 -- octets came, or an end, and the hub was told
 pub reads_handed : {T : Type 0} (taken coming : T → Option (List ℕ)) (made : T → Option (List Call)) (a b c : Connection T) (reading : Received) (octets : List ℕ) (events : List Accepted)
     → b ≡ record a { transport = b.transport } → a.may_receive ≡ true → Keeps (taken a.transport) (taken b.transport) → Consumes (coming a.transport) (coming b.transport) octets
-    → Makes (made a.transport) (made b.transport) (receives reading ∷ []) → Hands octets b c events → LeadsByReading reading octets b c events → ReadsOnce taken coming made a c reading events
+    → Makes (made a.transport) (made b.transport) (receives reading ∷ []) → HandsOver taken coming made octets b c events → LeadsByReading reading octets b c events → ReadsOnce taken coming made a c reading events
 reads_handed taken coming made a b c reading octets events same marked took comes calls hands leads =
     let id : b.id ≡ a.id = ap (λ it. it.id) same in
     let stage : b.stage ≡ a.stage = ap (λ it. it.stage) same in
@@ -251,18 +301,29 @@ reads_handed taken coming made a b c reading octets events same marked took come
       was_open = λ still. ap is_open (sym stage) ∙ hands.was_open still;
       own = subst (λ (i : ℕ). AreOf i events) id hands.own;
       are_turns = hands.are_turns;
-      takes = subst (λ t. Keeps (taken a.transport) (taken t)) (sym hands.transport) took;
+      sent = hands.passes.sent;
+      takes = kept_then_appends _ _ _ hands.passes.sent took hands.passes.takes;
       put = hands.put;
       are_put = hands.are_put;
-      order = hands.order ∙ ap (λ q. waiting q ++ hands.put) queue;
+      order = hands.passes.order ∙ ap (λ q. waiting q ++ hands.put) queue;
       received = octets;
-      gives = subst (λ t. Consumes (coming a.transport) (coming t) octets) (sym hands.transport) comes;
+      gives = consumes_kept _ _ _ octets comes hands.passes.comes;
       pieces = hands.pieces;
       handed = hands.handed;
-      calls = rw marked (subst (λ t. Makes (made a.transport) (made t) (receives reading ∷ [])) (sym hands.transport) calls);
+      within = hands.passes.within;
+      sendings = hands.passes.sendings;
+      calls = rw marked (makes_joined _ _ _ (receives reading ∷ []) hands.passes.within calls hands.passes.calls);
+      lazy = λ few. hands.passes.lazy (subst (λ q. length (waiting q) + length hands.put < 1048576) (sym queue) few);
       unmarked = λ isnt. absurd (let never : true ≡ false = sym marked ∙ isnt in cc);
-      leads = leads_from a b c reading octets events id stage marks (ap (λ q. q.failures) queue) leads;
+      leads = leads_from a b c reading octets events id stage marks leads;
     }
+
+-- the same, where the transport was asked nothing then
+pub reads_still : {T : Type 0} (taken coming : T → Option (List ℕ)) (made : T → Option (List Call)) (a b c : Connection T) (reading : Received) (octets : List ℕ) (events : List Accepted)
+    → b ≡ record a { transport = b.transport } → a.may_receive ≡ true → Keeps (taken a.transport) (taken b.transport) → Consumes (coming a.transport) (coming b.transport) octets
+    → Makes (made a.transport) (made b.transport) (receives reading ∷ []) → Hands octets b c events → LeadsByReading reading octets b c events → ReadsOnce taken coming made a c reading events
+reads_still taken coming made a b c reading octets events same marked took comes calls hands leads =
+    reads_handed taken coming made a b c reading octets events same marked took comes calls (hands_over taken coming made octets b c events hands) leads
 
 -- nothing came
 pub reads_none : {T : Type 0} (taken coming : T → Option (List ℕ)) (made : T → Option (List Call)) (a b : Connection T) (reading : Received) → b.id ≡ a.id → b.stage ≡ a.stage → b.queue ≡ a.queue
@@ -273,7 +334,8 @@ reads_none taken coming made a b reading id stage queue took comes calls unmarke
   was_open = λ still. ap is_open (sym stage) ∙ still;
   own = tt;
   are_turns = tt;
-  takes = took;
+  sent = [];
+  takes = kept_appends _ _ took;
   put = [];
   are_put = refl;
   order = ap waiting queue ∙ sym (append-nil (waiting a.queue));
@@ -281,7 +343,10 @@ reads_none taken coming made a b reading id stage queue took comes calls unmarke
   gives = comes;
   pieces = inl refl;
   handed = λ _. refl;
-  calls = calls;
+  within = [];
+  sendings = All-nil (λ call. is_sending call ≡ true);
+  calls = subst (λ (l : List Call). Makes (made a.transport) (made b.transport) l) (sym (append-nil (readings a.may_receive reading))) calls;
+  lazy = λ few. (refl, refl);
   unmarked = unmarked;
   leads = leads;
 }
@@ -292,11 +357,13 @@ leads_by_turn a c sents.Nothing reading octets events well leads = leads
 leads_by_turn a c sents.Some reading octets events well leads = leads
 leads_by_turn a c sents.Failed reading octets events well leads = absurd (well refl)
 
-calls_of_both : (a b c : Option (List Call)) (clear may : Bool) (sending : Sent) (reading : Received) → sending ≢ sents.Failed → Makes a b (sendings clear sending) → Makes b c (readings may reading)
-    → Makes a c (calls_of_turn clear may sending reading)
-calls_of_both a b c clear may sents.Nothing reading well first later = makes_joined a b c (sendings clear sents.Nothing) (readings may reading) first later
-calls_of_both a b c clear may sents.Some reading well first later = makes_joined a b c (sendings clear sents.Some) (readings may reading) first later
-calls_of_both a b c clear may sents.Failed reading well first later = absurd (well refl)
+calls_of_both : (a b c : Option (List Call)) (clear may : Bool) (sending : Sent) (reading : Received) (within : List Call) → sending ≢ sents.Failed → Makes a b (sendings clear sending) → Makes b c (readings may reading ++ within)
+    → Makes a c (calls_of_turn clear may sending reading ++ within)
+calls_of_both a b c clear may sents.Nothing reading within well first later =
+    subst (λ (l : List Call). Makes a c l) (sym (append_assoc (sendings clear sents.Nothing) (readings may reading) within)) (makes_joined a b c (sendings clear sents.Nothing) (readings may reading ++ within) first later)
+calls_of_both a b c clear may sents.Some reading within well first later =
+    subst (λ (l : List Call). Makes a c l) (sym (append_assoc (sendings clear sents.Some) (readings may reading) within)) (makes_joined a b c (sendings clear sents.Some) (readings may reading ++ within) first later)
+calls_of_both a b c clear may sents.Failed reading within well first later = absurd (well refl)
 
 -- a sending, and then a reading
 pub turns_read : {T : Type 0} (taken coming : T → Option (List ℕ)) (made : T → Option (List Call)) (a b c : Connection T) (sending : Sent) (reading : Received) (events : List Accepted) → sending ≢ sents.Failed
@@ -306,22 +373,26 @@ turns_read taken coming made a b c sending reading events well first later = rec
   was_open = λ still. ap is_open (sym first.stage) ∙ later.was_open still;
   own = subst (λ (i : ℕ). AreOf i events) first.id later.own;
   are_turns = later.are_turns;
-  sent = first.sent;
-  takes = appends_kept _ _ _ first.sent first.takes later.takes;
+  sent = first.sent ++ later.sent;
+  takes = appends_joined _ _ _ first.sent later.sent first.takes later.takes;
   put = later.put;
   are_put = later.are_put;
-  order = ap (λ (l : List ℕ). first.sent ++ l) later.order ∙ sym (append_assoc first.sent (waiting b.queue) later.put) ∙ ap (λ (l : List ℕ). l ++ later.put) first.order;
+  order = append_assoc first.sent later.sent (waiting c.queue) ∙ ap (λ (l : List ℕ). first.sent ++ l) later.order ∙ sym (append_assoc first.sent (waiting b.queue) later.put)
+      ∙ ap (λ (l : List ℕ). l ++ later.put) first.order;
   received = later.received;
   gives = kept_then_consumes _ _ _ later.received first.comes later.gives;
   pieces = later.pieces;
   handed = later.handed;
   sending = sending;
   reading = reading;
-  calls = calls_of_both _ _ _ (is_clear a.queue) a.may_receive sending reading well first.calls
-      (subst (λ (m : Bool). Makes (made b.transport) (made c.transport) (readings m reading)) first.may_receive later.calls);
+  within = later.within;
+  sendings = later.sendings;
+  calls = calls_of_both _ _ _ (is_clear a.queue) a.may_receive sending reading later.within well first.calls
+      (subst (λ (m : Bool). Makes (made b.transport) (made c.transport) (readings m reading ++ later.within)) first.may_receive later.calls);
+  lazy = λ few. (later.lazy (omega (arith, few, ap length first.order, length-append first.sent (waiting b.queue)))).1;
   idle = first.idle;
   unmarked = λ isnt. later.unmarked (first.may_receive ∙ isnt);
-  leads = leads_by_turn a c sending reading later.received events well (leads_from a b c reading later.received events first.id first.stage first.may_receive first.failures later.leads);
+  leads = leads_by_turn a c sending reading later.received events well (leads_from a b c reading later.received events first.id first.stage first.may_receive later.leads);
 }
 
 -- a sending that failed, and then the hub was told the end
@@ -343,8 +414,12 @@ turns_failed taken coming made a b c sending events failed first over (hands, on
   handed = hands.handed;
   sending = sents.Failed;
   reading = receiveds.Nothing;
-  calls = subst (λ t. Makes (made a.transport) (made t) (sendings (is_clear a.queue) sents.Failed)) (sym hands.transport)
-      (subst (λ (s : Sent). Makes (made a.transport) (made b.transport) (sendings (is_clear a.queue) s)) failed first.calls);
+  within = [];
+  sendings = All-nil (λ call. is_sending call ≡ true);
+  calls = subst (λ (l : List Call). Makes (made a.transport) (made c.transport) l) (sym (append-nil (sendings (is_clear a.queue) sents.Failed)))
+      (subst (λ t. Makes (made a.transport) (made t) (sendings (is_clear a.queue) sents.Failed)) (sym hands.transport)
+      (subst (λ (s : Sent). Makes (made a.transport) (made b.transport) (sendings (is_clear a.queue) s)) failed first.calls));
+  lazy = λ few. refl;
   idle = λ is. sym failed ∙ first.idle is;
   unmarked = λ isnt. refl;
   leads = (subst (λ (i : ℕ). IsOnly (ended i) events) first.id only, over);

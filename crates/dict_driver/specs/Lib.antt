@@ -1,6 +1,7 @@
 pub mod Binding
 pub mod Queues
 pub mod Calls
+pub mod Outlets
 pub mod Stages
 pub mod Events
 pub mod Leading

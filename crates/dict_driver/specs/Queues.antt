@@ -6,7 +6,7 @@ use Rattle.dict_driver.specs.declared.queue.Queue.{Queue}
 
 -- the octets that were put and that the transport has not taken, in order
 abbrev pub waiting : Queue → List ℕ
-waiting queue = drop queue.sent queue.front.items ++ queue.back.items
+waiting queue = drop queue.sent queue.octets.items
 
 -- nothing waits
 abbrev pub is_clear : Queue → Bool

@@ -44,10 +44,10 @@ abbrev pub stage_of_new : Out → Stage
 stage_of_new outs.More = Open
 stage_of_new outs.Close = Over
 
--- the stage by the hub's answer to octets: it goes on; or it is closed once all is sent, or at once where a put has failed
-abbrev pub answered : Out → Bool → Stage → Stage
-answered outs.More has_failed before = before
-answered outs.Close has_failed before = if has_failed then Over else Closing
+-- the stage by the hub's answer to octets: it goes on, or it is closed once all is sent that was put
+abbrev pub answered : Out → Stage → Stage
+answered outs.More before = before
+answered outs.Close before = Closing
 
 -- the stage where the peer ended its side: what waits is still sent
 abbrev pub parted : Bool → Stage

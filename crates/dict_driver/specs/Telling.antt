@@ -3,6 +3,8 @@ use Rattle.std.specs.Prelude.{◌≡◌, ℕ, List, [], ◌∷◌, ◌++◌, Opt
 use Rattle.dict_hub.specs.Events.{Happening}
 use Rattle.dict_hub.specs.Runs.{Accepted}
 use Rattle.dict_hub.specs.declared.asking.Out.{Out}
+use Rattle.dict_driver.specs.Calls.{Call}
+use Rattle.dict_driver.specs.Outlets.{Passes}
 use Rattle.dict_driver.specs.Queues.{waiting}
 use Rattle.dict_driver.specs.Events.{ArePut}
 use Rattle.dict_driver.specs.declared.queue.Queue.{Queue}
@@ -18,3 +20,10 @@ pub record IsTold (what : Happening) (answer : Option Out) (old new : Queue) (ev
   pub put : List ℕ
   pub are_put : ArePut events put
   pub order : waiting new ≡ waiting old ++ put
+
+-- the same, where the transport may have taken a front of what waits at once
+pub record IsToldThrough {T : Type 0} (taken coming : T → Option (List ℕ)) (made : T → Option (List Call)) (what : Happening) (answer : Option Out) (old new : Queue) (from to : T) (events : List Accepted) : Type 0 where
+  pub answered : IsAnswered what answer events
+  pub put : List ℕ
+  pub are_put : ArePut events put
+  pub passes : Passes taken coming made from to (waiting old) (waiting new) put

@@ -1,11 +1,12 @@
 -- What a turn of one connection does. Of a transport in memory the octets that it took and that it gives, and the calls that were
 -- made of it, are known. Of a socket they aren't (`None`), so nothing is claimed of them: that a socket carries what it took, and
 -- gives what its peer sent, is shown by tests alone.
-use Rattle.std.specs.Prelude.{◌≡◌, ◌⊎◌, ◌+◌, ◌-◌, ◌^◌, ◌==◌, ℕ, min, Bool, true, false, not, List, [], ◌∷◌, ◌++◌, Option, if◌then◌else◌}
+use Rattle.std.specs.Prelude.{◌≡◌, ◌⊎◌, ◌<◌, ◌+◌, ◌-◌, ◌^◌, ℕ, min, Bool, true, false, All, length, List, [], ◌∷◌, ◌++◌, Option, if◌then◌else◌}
 use Rattle.std.specs.Io.KnownBytes.{Appends, Consumes, Keeps}
 use Rattle.dict_hub.specs.Events.{opened, came, ended}
 use Rattle.dict_hub.specs.Runs.{Accepted}
 use Rattle.dict_hub.specs.declared.kind.Kind.{Kind}
+use Rattle.dict_driver.specs.Outlets.{Passes, is_sending}
 use Rattle.dict_driver.specs.Queues.{waiting, is_clear}
 use Rattle.dict_driver.specs.Stages.{is_open, count_received, stage_of_new, answered, parted, finished, drained}
 use Rattle.dict_driver.specs.Calls.{Call, sends, Makes, sendings, endings, readings, is_dropped, calls_of_turn}
@@ -38,10 +39,23 @@ pub record Hands {T : Type 0} (octets : List ℕ) (old new : Connection T) (even
   pub pieces : BringAllOrNone octets events
   pub handed : is_open new.stage ≡ true → pieces_of events ≡ octets
 
+-- The same, where the transport may have taken a front of what waits at once
+pub record HandsOver {T : Type 0} (taken coming : T → Option (List ℕ)) (made : T → Option (List Call)) (octets : List ℕ) (old new : Connection T) (events : List Accepted) : Type 0 where
+  pub id : new.id ≡ old.id
+  pub may_receive : new.may_receive ≡ old.may_receive
+  pub was_open : is_open new.stage ≡ true → is_open old.stage ≡ true
+  pub own : AreOf old.id events
+  pub are_turns : AreOfTurns events
+  pub put : List ℕ
+  pub are_put : ArePut events put
+  pub passes : Passes taken coming made old.transport new.transport (waiting old.queue) (waiting new.queue) put
+  pub pieces : BringAllOrNone octets events
+  pub handed : is_open new.stage ≡ true → pieces_of events ≡ octets
+
 -- the hub was told these octets, and the stage is that of its answer; or it refused them, was told the end, and the connection is over
 abbrev pub LeadsByAnswer : {T : Type 0} → List ℕ → Connection T → Connection T → List Accepted → Type 0
 LeadsByAnswer octets old new events =
-    ((one : Accepted) × (events ≡ one ∷ []) × (one.what ≡ came old.id octets) × (new.stage ≡ answered one.out (not (new.queue.failures == old.queue.failures)) old.stage))
+    ((one : Accepted) × (events ≡ one ∷ []) × (one.what ≡ came old.id octets) × (new.stage ≡ answered one.out old.stage))
     ⊎ (IsOnly (ended old.id) events × (new.stage ≡ stages.Over))
 
 -- the hub was told the end and nothing else, and this is the stage
@@ -81,28 +95,33 @@ pub record SendsOnce {T : Type 0} (taken coming : T → Option (List ℕ)) (made
   pub calls : Makes (made old.transport) (made new.transport) (sendings (is_clear old.queue) sending)
   pub idle : is_clear old.queue ≡ true → sending ≡ sents.Nothing
 
--- What came was handed to the hub, or none of it, by one call where a reading may give something; nothing was sent
+-- What came was handed to the hub, or none of it, by one call where a reading may give something; and then the transport was asked no
+-- more than to take octets, and not even that while fewer than 1,048,576 of them were there
 pub record ReadsOnce {T : Type 0} (taken coming : T → Option (List ℕ)) (made : T → Option (List Call)) (old new : Connection T) (reading : Received) (events : List Accepted) : Type 0 where
   pub id : new.id ≡ old.id
   pub was_open : is_open new.stage ≡ true → is_open old.stage ≡ true
   pub own : AreOf old.id events
   pub are_turns : AreOfTurns events
-  pub takes : Keeps (taken old.transport) (taken new.transport)
+  pub sent : List ℕ
+  pub takes : Appends (taken old.transport) (taken new.transport) sent
   pub put : List ℕ
   pub are_put : ArePut events put
-  pub order : waiting new.queue ≡ waiting old.queue ++ put
+  pub order : sent ++ waiting new.queue ≡ waiting old.queue ++ put
   pub received : List ℕ
   pub gives : Consumes (coming old.transport) (coming new.transport) received
   pub pieces : BringAllOrNone received events
   pub handed : is_open new.stage ≡ true → pieces_of events ≡ received
-  pub calls : Makes (made old.transport) (made new.transport) (readings old.may_receive reading)
+  pub within : List Call
+  pub sendings : All (λ call. is_sending call ≡ true) within
+  pub calls : Makes (made old.transport) (made new.transport) (readings old.may_receive reading ++ within)
+  pub lazy : length (waiting old.queue) + length put < 1048576 → (sent ≡ []) × (within ≡ [])
   pub unmarked : old.may_receive ≡ false → reading ≡ receiveds.Nothing
   pub leads : LeadsByReading reading received old new events
 
 -- A turn of an open connection. The events are of this connection alone. What waited and what they put: a front of it is sent, which
 -- the transport took, and the rest waits. What came was handed to the hub, all of it while the connection is open, and else all or
--- none. The calls are a sending, where something waits, and then a reading, where one may give something, and what these came to, and
--- the hub's answer, tells the stage
+-- none. The calls are a sending, where something waits, then a reading, where one may give something, and within the event sendings
+-- again, once 1,048,576 octets are there; and what the first two came to, and the hub's answer, tells the stage
 pub record Turns {T : Type 0} (taken coming : T → Option (List ℕ)) (made : T → Option (List Call)) (old new : Connection T) (events : List Accepted) : Type 0 where
   pub id : new.id ≡ old.id
   pub was_open : is_open new.stage ≡ true → is_open old.stage ≡ true
@@ -119,7 +138,10 @@ pub record Turns {T : Type 0} (taken coming : T → Option (List ℕ)) (made : T
   pub handed : is_open new.stage ≡ true → pieces_of events ≡ received
   pub sending : Sent
   pub reading : Received
-  pub calls : Makes (made old.transport) (made new.transport) (calls_of_turn (is_clear old.queue) old.may_receive sending reading)
+  pub within : List Call
+  pub sendings : All (λ call. is_sending call ≡ true) within
+  pub calls : Makes (made old.transport) (made new.transport) (calls_of_turn (is_clear old.queue) old.may_receive sending reading ++ within)
+  pub lazy : length (waiting old.queue) + length put < 1048576 → within ≡ []
   pub idle : is_clear old.queue ≡ true → sending ≡ sents.Nothing
   pub unmarked : old.may_receive ≡ false → reading ≡ receiveds.Nothing
   pub leads : LeadsByTurn sending reading received old new events

@@ -12,7 +12,7 @@ use crate::stage::{
     Received, Sent, Stage, answered, drained, has_any, has_moved, parted, received_by, sent_by,
     stage_of_new, told,
 };
-use crate::telling::tell;
+use crate::telling::{tell, tell_through};
 use crate::transport::Transport;
 use dict_desk::Keeper;
 use dict_hub::{Event, Hub, Kind};
@@ -36,7 +36,7 @@ pub struct Connection<T: Transport> {
 
 impl<T: Transport> Connection<T> {
     ghost use Rattle.dict_driver.specs.Queues.{waiting, is_clear};
-    ghost use Rattle.dict_driver.specs.Turns.{Departs, Drains, Finishes, Hands, IsOpened, LeadsByAnswer, LeadsByEnd, ReadsOnce, SendsOnce, Turns};
+    ghost use Rattle.dict_driver.specs.Turns.{Departs, Drains, Finishes, Hands, HandsOver, IsOpened, LeadsByAnswer, LeadsByEnd, ReadsOnce, SendsOnce, Turns};
     ghost use Rattle.dict_driver.specs.Turning.{marked};
     ghost use Rattle.dict_driver.specs.Ordering.{IsOnly};
 
@@ -82,6 +82,21 @@ impl<T: Transport> Connection<T> {
         ensures { result ≡ self.now.stage }
     {
         self.stage
+    }
+
+    /// How many octets wait for its peer.
+    pub fn waiting_count(&self) -> usize
+        ensures count { result ≡ length (waiting self.now.queue) }
+        ensures most { result ≤ 1048576 }
+    {
+        self.queue.len()
+    }
+
+    /// What carries its octets.
+    pub fn transport(&self) -> &T
+        ensures { result.now ≡ self.now.transport }
+    {
+        &self.transport
     }
 
     /// Notes that a reading may give something, where this is its id.
@@ -181,20 +196,16 @@ impl<T: Transport> Connection<T> {
         }
     }
 
-    // Hands octets to the hub. Where the hub closes it, what waits is still sent, but for a queue that took no more: then it is over, as
-    // it is where the hub refuses the octets.
+    // Hands octets to the hub. Where the hub closes it, what waits is still sent; and where it refuses the octets, nothing is.
     fn take<K: Keeper>(&mut self, hub: &mut Hub, desk: &mut K, piece: &[u8])
         ensures led { HasLedOn (K.is_trusted desk.new) (K.shows desk.old) (K.leaves_one_of desk.old) (K.shows desk.new) (K.leaves_one_of desk.new) hub.old hub.new
-            (λ events. Hands piece.now self.old self.new events × LeadsByAnswer piece.now self.old self.new events) }
+            (λ events. HandsOver T.taken T.coming T.made piece.now self.old self.new events × LeadsByAnswer piece.now self.old self.new events) }
         ensures trust { K.is_trusted desk.new → K.is_trusted desk.old }
         ensures id { self.new.id ≡ self.old.id }
     {
-        let failures = self.queue.failures();
-        match tell(hub, desk, Event::Bytes(self.id, piece), &mut self.queue) {
-            Some(out) => {
-                let has_failed = self.queue.failures() != failures;
-                self.stage = answered(out, has_failed, self.stage);
-            }
+        let event = Event::Bytes(self.id, piece);
+        match tell_through(hub, desk, event, &mut self.queue, &mut self.transport) {
+            Some(out) => self.stage = answered(out, self.stage),
             None => self.end(hub, desk),
         }
     }

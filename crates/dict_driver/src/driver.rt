@@ -11,6 +11,7 @@ use crate::connections::Connections;
 use crate::fault::{AddressFault, BindFault};
 use crate::listening::{Listening, listening_by};
 use crate::stage::has_any;
+use crate::transport::Socket;
 use dict_desk::Keeper;
 use dict_hub::{Hub, Kind};
 use mio::event::Event;
@@ -38,7 +39,7 @@ pub struct Driver<'h> {
     events: Events,
     dict_listening: Listening,
     http_listening: Listening,
-    connections: Connections<TcpStream>,
+    connections: Connections<Socket>,
     hub: Hub<'h>,
     // How many rounds were made, those that failed left out.
     rounds: u64,
@@ -222,7 +223,8 @@ impl<'h> Driver<'h> {
         };
         let mut stream = stream;
         if register(&self.poll, &mut stream, id).is_ok() {
-            self.connections.admit(stream, kind, &mut self.hub, desk);
+            self.connections
+                .admit(Socket::new(stream), kind, &mut self.hub, desk);
         }
     }
 }
@@ -277,7 +279,7 @@ fn failure_of(looked: &io::Result<()>) -> Option<ErrorKind>
 }
 
 // Marks the connections of which the events tell.
-fn mark_ready(events: &[Event], connections: &mut Connections<TcpStream>)
+fn mark_ready(events: &[Event], connections: &mut Connections<Socket>)
     ensures opened { MarkAll (tells events.now) connections.old.opened.items connections.new.opened.items }
     ensures departing { MarkAll (tells events.now) connections.old.departing.items connections.new.departing.items }
     ensures last { connections.new.last ≡ connections.old.last }

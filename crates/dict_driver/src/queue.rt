@@ -13,22 +13,21 @@ pub const MOST_WAITING: usize = 1_048_576;
 // A queue that is empty keeps room for this many octets.
 const KEPT_ROOM: usize = 16_384;
 
-/// The octets that were put for a peer and that its transport has not taken, in order: at most `MOST_WAITING`.
+/// The octets that were put for a peer and that its transport has not taken, in order: at most `MOST_WAITING`. Its room is
+/// that of as many octets at most.
 #[derive(Drop)]
 pub struct Queue {
     alloc: Global,
-    // Those that are being sent, of which so many were.
-    front: Vec<u8>,
+    octets: Vec<u8>,
+    // How many of them were sent.
     sent: usize,
-    // Those that were put since.
-    back: Vec<u8>,
     failures: u64,
-    ghost in_front: { sent ≤ vec_len front },
-    ghost within: { vec_len front + vec_len back ≤ sent + 1048576 },
+    ghost in_front: { sent ≤ vec_len octets },
+    ghost within: { vec_len octets ≤ 1048576 },
 }
 
 impl Queue {
-    ghost use Rattle.std.specs.Prelude.{◌∷◌, ◌<◌, ◌⊎◌, ◌++◌, IsErr, OnErr, OnOk, vec_capacity};
+    ghost use Rattle.std.specs.Prelude.{◌∷◌, ◌<◌, ◌⊎◌, ◌++◌, ◌-◌, ◌^◌, IsErr, drop, OnErr, OnOk, vec_capacity, min};
     ghost use Rattle.dict_driver.specs.Calls.{Makes, sends, sent_by};
     ghost use Rattle.dict_driver.specs.Queues.{waiting, Sends};
 
@@ -39,11 +38,18 @@ impl Queue {
     {
         Queue {
             alloc,
-            front: Vec::new(alloc),
+            octets: Vec::new(alloc),
             sent: 0,
-            back: Vec::new(alloc),
             failures: 0,
         }
+    }
+
+    /// Takes out all that it holds.
+    pub fn take(&mut self) -> Queue
+        ensures { result ≡ self.old }
+    {
+        let none = Queue::new(self.alloc);
+        mem::replace(self, none)
     }
 
     /// How many octets wait.
@@ -51,7 +57,14 @@ impl Queue {
         ensures count { result ≡ length (waiting self.now) }
         ensures most { result ≤ 1048576 }
     {
-        self.front.len() - self.sent + self.back.len()
+        self.octets.len() - self.sent
+    }
+
+    /// How many more octets may wait.
+    pub fn room(&self) -> usize
+        ensures { result + length (waiting self.now) ≡ 1048576 }
+    {
+        MOST_WAITING - self.len()
     }
 
     /// Whether no octet waits.
@@ -68,6 +81,15 @@ impl Queue {
         self.failures
     }
 
+    /// Notes that a call failed. After 18,446,744,073,709,551,615 the count stays there.
+    pub fn note_failure(&mut self)
+        ensures octets { self.new.octets ≡ self.old.octets }
+        ensures sent { self.new.sent ≡ self.old.sent }
+        ensures failures { self.new.failures ≡ min (self.old.failures + 1) (2 ^ 64 - 1) }
+    {
+        self.failures = self.failures.saturating_add(1);
+    }
+
     /// Hands what waits to the transport, by one call of it, and tells how many octets it took.
     pub fn send<T: Transport>(&mut self, transport: &mut T) -> io::Result<usize>
         ensures sends { Sends result self.old self.new (T.taken transport.old) (T.taken transport.new) }
@@ -75,45 +97,97 @@ impl Queue {
         ensures coming { Keeps (T.coming transport.old) (T.coming transport.new) }
         ensures made { Makes (T.made transport.old) (T.made transport.new) (sends (sent_by result) ∷ []) }
     {
-        self.turn_over();
-        let (_, rest) = self.front.as_slice().split_at(self.sent);
-        let count = transport.send(rest)?;
-        self.sent += count;
-        self.turn_over();
+        let count = transport.send(self.as_slice())?;
+        self.pass(count);
         Ok(count)
     }
 
-    // Has all of the octets wait, or where more than `MOST_WAITING` would or memory is short none of them.
-    fn append(&mut self, bytes: &[u8]) -> Result<(), SinkFault>
+    /// Lets so many octets go that were sent.
+    pub fn pass(&mut self, count: usize)
+        requires { count ≤ length (waiting self.old) }
+        ensures waits { waiting self.new ≡ drop count (waiting self.old) }
+        ensures failures { self.new.failures ≡ self.old.failures }
+    {
+        self.sent += count;
+        self.let_go();
+    }
+
+    /// The octets that wait.
+    pub fn as_slice(&self) -> &[u8]
+        ensures { result.now ≡ waiting self.now }
+    {
+        self.octets.as_slice().split_at(self.sent).1
+    }
+
+    /// Has all of the octets wait, or where more than `MOST_WAITING` would or memory is short none of them.
+    pub fn append(&mut self, bytes: &[u8]) -> Result<(), SinkFault>
         ensures all { OnOk result (waiting self.new ≡ waiting self.old ++ bytes.now) }
         ensures none { OnErr result (waiting self.new ≡ waiting self.old) }
         ensures bound { 1048576 < length (waiting self.old) + length bytes.now → IsErr result }
-        ensures refuses { OnErr result ((1048576 < length (waiting self.old) + length bytes.now) ⊎ (vec_capacity self.old.back < vec_len self.old.back + length bytes.now)) }
+        ensures refuses { OnErr result ((1048576 < length (waiting self.old) + length bytes.now) ⊎ (vec_capacity self.old.octets < vec_len self.old.octets + length bytes.now)) }
+        ensures memory { OnErr result ((1048576 < length (waiting self.old) + length bytes.now) ⊎ (vec_capacity self.new.octets < 1048576)) }
         ensures failures { self.new.failures ≡ self.old.failures }
     {
-        if bytes.len() > MOST_WAITING - self.len() {
+        if bytes.len() > self.room() {
             return Err(SinkFault);
         }
-        match self.back.extend_from_slice(bytes) {
+        if bytes.len() > MOST_WAITING - self.octets.len() {
+            self.compact();
+        }
+        self.reserve(bytes.len())?;
+        match self.octets.extend_from_slice(bytes) {
             Ok(()) => Ok(()),
             Err(_) => Err(SinkFault),
         }
     }
 
-    // Where all of the front is sent, what was put since is the front. Large room is let go.
-    fn turn_over(&mut self)
+    // Takes room for so many octets more. It is doubled, up to that of `MOST_WAITING`.
+    fn reserve(&mut self, count: usize) -> Result<(), SinkFault>
+        requires { vec_len self.old.octets + count ≤ 1048576 }
+        ensures octets { self.new.octets.items ≡ self.old.octets.items }
+        ensures sent { self.new.sent ≡ self.old.sent }
+        ensures room { OnOk result (vec_len self.new.octets + count ≤ vec_capacity self.new.octets) }
+        ensures refuses { OnErr result (vec_capacity self.old.octets < vec_len self.old.octets + count) }
+        ensures capacity { OnErr result (vec_capacity self.new.octets ≡ vec_capacity self.old.octets) }
+        ensures failures { self.new.failures ≡ self.old.failures }
+    {
+        if count <= self.octets.capacity() - self.octets.len() {
+            return Ok(());
+        }
+        let doubled = self.octets.len().min(MOST_WAITING - self.octets.len());
+        match self.octets.reserve_exact(count.max(doubled)) {
+            Ok(()) => Ok(()),
+            Err(_) => Err(SinkFault),
+        }
+    }
+
+    // Moves what waits to the front of the room.
+    fn compact(&mut self)
+        ensures waits { waiting self.new ≡ waiting self.old }
+        ensures sent { self.new.sent ≡ 0 }
+        ensures len { vec_len self.new.octets ≤ vec_len self.old.octets }
+        ensures capacity { vec_capacity self.new.octets ≡ vec_capacity self.old.octets }
+        ensures failures { self.new.failures ≡ self.old.failures }
+    {
+        let count = self.len();
+        self.octets.rotate_left(self.sent);
+        self.sent = 0;
+        self.octets.truncate(count);
+    }
+
+    // Where all is sent, the octets are let go, and large room with them.
+    fn let_go(&mut self)
         ensures waits { waiting self.new ≡ waiting self.old }
         ensures failures { self.new.failures ≡ self.old.failures }
     {
-        if self.sent < self.front.len() {
+        if self.sent < self.octets.len() {
             return;
         }
-        if self.front.capacity() > KEPT_ROOM {
-            self.front = Vec::new(self.alloc);
+        if self.octets.capacity() > KEPT_ROOM {
+            self.octets = Vec::new(self.alloc);
         }
-        self.front.clear();
+        self.octets.clear();
         self.sent = 0;
-        mem::swap(&mut self.front, &mut self.back);
     }
 }
 
@@ -134,7 +208,7 @@ impl Sink for Queue {
         ensures takes { TakesAll result self.old self.new bytes.now }
         ensures bound { 1048576 < length (waiting self.old) + length bytes.now → IsErr result }
         ensures refuses { OnErr result ((self.old.failures ≡ 2 ^ 64 - 1) ⊎ ((1048576 < length (waiting self.old) + length bytes.now)
-            ⊎ (vec_capacity self.old.back < vec_len self.old.back + length bytes.now))) }
+            ⊎ (vec_capacity self.old.octets < vec_len self.old.octets + length bytes.now))) }
     {
         if self.failures == u64::MAX {
             return Err(SinkFault);

@@ -185,14 +185,12 @@ pub fn stage_of_new(out: Out) -> Stage
     }
 }
 
-/// The stage after the hub's answer to octets, where a put has failed or not. One that is closed is over then, since what waits isn't
-/// the whole answer.
-pub fn answered(out: Out, has_failed: bool, before: Stage) -> Stage
-    ensures { result ≡ answered out has_failed before }
+/// The stage after the hub's answer to octets.
+pub fn answered(out: Out, before: Stage) -> Stage
+    ensures { result ≡ answered out before }
 {
     match out {
         Out::More => before,
-        Out::Close if has_failed => Stage::Over,
         Out::Close => Stage::Closing,
     }
 }

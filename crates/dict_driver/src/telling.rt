@@ -2,11 +2,15 @@
 ghost use Rattle.std.specs.Prelude.{◌≡◌};
 ghost use Rattle.dict_hub.specs.Events.{happening};
 ghost use Rattle.dict_driver.specs.Leading.{HasLedOn};
-ghost use Rattle.dict_driver.specs.Telling.{IsTold};
+ghost use Rattle.dict_driver.specs.Telling.{IsTold, IsToldThrough};
 
+use crate::outlet::{Beginning, Outlet};
 use crate::queue::Queue;
+use crate::transport::Transport;
 use dict_desk::Keeper;
 use dict_hub::{Event, Hub, Out};
+use std::marker::Brand;
+use std::mem;
 
 /// Hands an event to the hub, whose octets wait in the queue of its connection then. `None` where the hub refused it.
 pub fn tell<K: Keeper>(hub: &mut Hub, desk: &mut K, event: Event, queue: &mut Queue) -> Option<Out>
@@ -17,5 +21,53 @@ pub fn tell<K: Keeper>(hub: &mut Hub, desk: &mut K, event: Event, queue: &mut Qu
     match hub.event(desk, event, queue) {
         Ok(out) => Some(out),
         Err(_) => None,
+    }
+}
+
+/// The same, where the transport is asked to take what waits as often as the queue is full.
+pub fn tell_through<T: Transport, K: Keeper>(
+    hub: &mut Hub,
+    desk: &mut K,
+    event: Event,
+    queue: &mut Queue,
+    transport: &mut T,
+) -> Option<Out>
+    ensures led { HasLedOn (K.is_trusted desk.new) (K.shows desk.old) (K.leaves_one_of desk.old) (K.shows desk.new) (K.leaves_one_of desk.new) hub.old hub.new
+        (λ events. IsToldThrough T.taken T.coming T.made (happening event.entry) result queue.old queue.new transport.old transport.new events) }
+    ensures trust { K.is_trusted desk.new → K.is_trusted desk.old }
+{
+    let absent = transport.absent();
+    let lent = mem::replace(transport, absent);
+    let (answer, waiting, returned) = tell_from::<T, K, Brand>(
+        hub,
+        desk,
+        event,
+        queue.take(),
+        lent,
+    );
+    *queue = waiting;
+    *transport = returned;
+    answer
+}
+
+// Hands an event to the hub, and gives back the queue and the transport of its connection.
+fn tell_from<T: Transport, K: Keeper, B: Beginning>(
+    hub: &mut Hub,
+    desk: &mut K,
+    event: Event,
+    queue: Queue,
+    transport: T,
+) -> (Option<Out>, Queue, T)
+    requires taken { B.taken ≡ T.taken transport }
+    requires coming { B.coming ≡ T.coming transport }
+    requires made { B.made ≡ T.made transport }
+    ensures led { HasLedOn (K.is_trusted desk.new) (K.shows desk.old) (K.leaves_one_of desk.old) (K.shows desk.new) (K.leaves_one_of desk.new) hub.old hub.new
+        (λ events. IsToldThrough T.taken T.coming T.made (happening event.entry) result.0 queue result.1 transport result.2 events) }
+    ensures trust { K.is_trusted desk.new → K.is_trusted desk.old }
+{
+    let mut outlet = Outlet::<T, B>::new(queue, transport);
+    match hub.event(desk, event, &mut outlet) {
+        Ok(out) => outlet.over(Some(out)),
+        Err(_) => outlet.over(None),
     }
 }

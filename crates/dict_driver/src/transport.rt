@@ -1,11 +1,11 @@
 // What carries a connection's octets.
-ghost use Rattle.std.specs.Prelude.{ℕ, List, Option, [], ◌∷◌, None, is_ok};
+ghost use Rattle.std.specs.Prelude.{◌≡◌, ℕ, List, Option, [], ◌∷◌, None, is_ok};
 ghost use Rattle.std.specs.Io.{ReadsAtMost, WritesAtMost};
 ghost use Rattle.std.specs.Io.KnownBytes.{Keeps, ReadConsumes, WriteAppends};
 ghost use Rattle.dict_driver.specs.Calls.{Call, Makes, sends, receives, ends, sent_by, received_by};
 
 use mio::net::TcpStream;
-use std::io::{Read, Result, Write};
+use std::io::{Error, ErrorKind, Read, Result, Write};
 use std::net::Shutdown;
 
 /// Carries octets to a peer and from it. No call waits: one that would is an error of the kind `WouldBlock`.
@@ -18,6 +18,9 @@ pub trait Transport: Drop {
 
     /// The calls that were made of it so far, where they are known.
     ghost made: { Self → Option (List Call) };
+
+    /// A transport to nobody, to stand in the place of this one while it is lent out.
+    fn absent(&self) -> Self;
 
     /// Takes a front of the octets, and tells how many.
     fn send(&mut self, octets: &[u8]) -> Result<usize>
@@ -40,23 +43,53 @@ pub trait Transport: Drop {
         ensures made { Makes (made self.old) (made self.new) (ends (is_ok result) ∷ []) };
 }
 
+/// A socket, or none.
+#[derive(Drop)]
+pub struct Socket {
+    stream: Option<TcpStream>,
+}
+
+impl Socket {
+    /// This socket.
+    pub fn new(stream: TcpStream) -> Self
+        ensures { result.stream ≡ Some stream }
+    {
+        Socket {
+            stream: Some(stream),
+        }
+    }
+}
+
 // Of a socket no octet is known.
-impl Transport for TcpStream {
+impl Transport for Socket {
     ghost taken = { λ _. None };
 
     ghost coming = { λ _. None };
 
     ghost made = { λ _. None };
 
+    fn absent(&self) -> Self {
+        Socket { stream: None }
+    }
+
     fn send(&mut self, octets: &[u8]) -> Result<usize> {
-        self.write(octets)
+        match &mut self.stream {
+            Some(stream) => stream.write(octets),
+            None => Err(Error::from(ErrorKind::NotConnected)),
+        }
     }
 
     fn receive(&mut self, room: &mut [u8]) -> Result<usize> {
-        self.read(room)
+        match &mut self.stream {
+            Some(stream) => stream.read(room),
+            None => Err(Error::from(ErrorKind::NotConnected)),
+        }
     }
 
     fn end_sending(&mut self) -> Result<()> {
-        self.shutdown(Shutdown::Write)
+        match &self.stream {
+            Some(stream) => stream.shutdown(Shutdown::Write),
+            None => Err(Error::from(ErrorKind::NotConnected)),
+        }
     }
 }

@@ -31,7 +31,7 @@ fn ask_to_the_end(
     for _ in 0..asked {
         play.run(net, &[Step::Send(2, HELPS)])?;
     }
-    play.run(net, &[Step::End(2), Step::Held(1, 1)])
+    play.run(net, &[Step::End(2), Step::Held(1, 2)])
 }
 
 // Client 2 reads to the end. How many octets came.
@@ -49,14 +49,14 @@ fn read_to_the_end(play: &mut Play) -> Result<usize, Fail> {
 static TWO_READERS: [Step; 3] = [Step::Reader, Step::Got(0, FIRST), Step::Reader];
 
 static ONE_IS_ANSWERED: [Step; 5] = [
-    Step::Held(1, 0),
+    Step::Held(1, 1),
     Step::Send(0, "STATUS\r\n"),
     Step::Got(0, "210 0 databases\r\n"),
     Step::Reader,
     Step::Got(2, "220 localhost dictcat ready <3@localhost>\r\n"),
 ];
 
-// A peer that never reads loses its connection, and the others are answered meanwhile. One that asks a little less, for
+// A peer that never reads is asked nothing more, and what waits for it is held; the others are answered meanwhile. One that asks a little less, for
 // more than 1 MiB, and then ends its side gets every answer. How many octets are due to it, and how many came.
 fn drown_and_ask(
     net: &impl Net<Stream = TcpStream>,

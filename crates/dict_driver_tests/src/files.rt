@@ -19,19 +19,37 @@ pub(crate) const DELETE: &[u8] = b"DELETE /databases/gem HTTP/1.1\r\nRequest-Id:
 pub(crate) const DELETED_TOLD: &str =
     "Ok(Close) HTTP/1.1 200 OK\r\nContent-Type: application/json\r\nContent-Length: 56\r\nConnection: close\r\n\r\n{\"edition\":null,\"name\":\"gem\",\"number\":2,\"verb\":\"retire\"}";
 
-// Installs `gem` by a request.
-fn install(alloc: Global, desk: &mut PlainDesk) -> Result<(), Fail> {
+// Does what a request asks.
+fn install(alloc: Global, desk: &mut PlainDesk, request: &[u8]) -> Result<(), Fail> {
     let service = Service::new(alloc)?;
     let mut sink = LimitedSink::new(alloc, 1000)?;
     let mut held = Vec::new(alloc);
-    take_piece(&service, alloc, &mut held, PUT, desk, &mut sink)?;
+    take_piece(&service, alloc, &mut held, request, desk, &mut sink)?;
     Ok(())
 }
 
 /// A desk over which `gem` was installed.
 pub(crate) fn gem_desk(alloc: Global) -> Result<PlainDesk, Fail> {
     let mut desk = PlainDesk::new(alloc);
-    install(alloc, &mut desk)?;
+    install(alloc, &mut desk, PUT)?;
+    Ok(desk)
+}
+
+const LONG_HEAD: &[u8] =
+    b"PUT /databases/gem HTTP/1.1\r\nRequest-Id: r1\r\nContent-Length: 5242942\r\n\r\n34\n00-database-short\tA\tZ\nopal\tZ\tUAAA\n00-database-short\n  Gems\n";
+
+// One of 81,920 lines of a text, of 64 octets.
+const LONG_LINE: &[u8] = b"..........................................a line of a long text\n";
+
+/// A desk over which `gem` was installed, whose one entry has a text of 5,242,880 octets.
+pub(crate) fn long_desk(alloc: Global) -> Result<PlainDesk, Fail> {
+    let mut request = Vec::new(alloc);
+    request.extend_from_slice(LONG_HEAD)?;
+    for _ in 0..81_920u32 {
+        request.extend_from_slice(LONG_LINE)?;
+    }
+    let mut desk = PlainDesk::new(alloc);
+    install(alloc, &mut desk, request.as_slice())?;
     Ok(desk)
 }
 

@@ -22,7 +22,7 @@ use std::time::Duration;
 /// catalogues that a stop could have left. In the end the file is closed.
 ///
 /// The faults come in this order: of the file and its catalogue, of the address for readers, of that for editors, of the
-/// writer, of waiting for sockets or of opening the file again.
+/// writer, of waiting for sockets or of opening the file again. The driver is kept, where sockets were bound and told.
 pub fn serve_catalogue<'w, K: Keeper + Drop, D: Desks<K>, W: Sink>(
     net: &impl Net,
     alloc: Global,
@@ -30,10 +30,12 @@ pub fn serve_catalogue<'w, K: Keeper + Drop, D: Desks<K>, W: Sink>(
     path: &'w str,
     wanted: &ServerOptions<'w>,
     writer: &mut W,
+    kept: &mut Option<Driver<'static>>,
 ) -> Result<(), Fault<'w>>
     ensures { ServeEnds K.shows K.leaves_one_of K.is_trusted D.is_opened K.is_closed D.is_unopened D.is_unreopened (D.history desks.old) (D.history desks.new) path.entry.now wanted.now.dict.now wanted.now.http.now wanted.now.rounds result
-        (change W.stream writer.old writer.new) }
+        (change W.stream writer.old writer.new) kept.new }
 {
+    *kept = None;
     let desk = desks.open(path)?;
     let mut driver = match listen(net, alloc, wanted, writer) {
         Ok(driver) => driver,
@@ -43,7 +45,9 @@ pub fn serve_catalogue<'w, K: Keeper + Drop, D: Desks<K>, W: Sink>(
         }
     };
     let (rounds, wait) = pace(wanted.rounds);
-    let desk = serve_rounds(desks, path, &mut driver, desk, rounds, wait)?;
+    let served = serve_rounds(desks, path, &mut driver, desk, rounds, wait);
+    *kept = Some(driver);
+    let desk = served?;
     let _ = desks.close(desk);
     Ok(())
 }

@@ -8,7 +8,7 @@ use Rattle.dict_serving.proofs.serving.serve_catalogue.Goals as goal
 pub returns-in_err-desk : goal.returns-in_err-desk
 returns-in_err-desk g c =
     let error = err_from_is_err_and c.from_residual.result c.from_residual.ensures.1 in
-    inl (error.0, error.1, rw error.2 c.in_err-desk.ensures.opened, refl, c.in_err-desk.ensures.history)
+    inl (error.0, error.1, rw error.2 c.in_err-desk.ensures.opened, refl, c.in_err-desk.ensures.history, refl)
 
 pub returns-in-Err : goal.returns-in-Err
 returns-in-Err g c = inr (
@@ -19,6 +19,7 @@ returns-in-Err g c = inr (
     refl,
     c.in-Err.ensures.begins,
     does_both (g.D.Desks.history c.args.desks.now) (g.D.Desks.history c.open.new.self) (g.D.Desks.history c.close.new.self) _ _ c.in_ok-desk.ensures.history c.close.ensures.history,
+    refl,
   ),
 )
 
@@ -29,7 +30,7 @@ returns-in_err-desk-2 g c =
     let told = c.in-Ok.ensures.begins in
     let none : c.in-Ok.driver.rounds ≡ 0 = c.in-Ok.ensures.rounds in
     let asked : c.pace-rounds.result.0 ≡ rounds_of c.args.wanted.now.rounds = c.pace-rounds.ensures.count in
-    let made : c.serve_rounds.new.driver.rounds ≤ rounds_of c.args.wanted.now.rounds =
+    let made : c.serve_rounds-served.new.driver.rounds ≤ rounds_of c.args.wanted.now.rounds =
     let some = c.in_err-desk-2.ensures.made (omega (arith, none)) in
     omega (arith, none, asked, some) in
     rw (error.1, error.2) (inr (
@@ -38,7 +39,7 @@ returns-in_err-desk-2 g c =
       inr (
         record {
           first = c.in-Ok.driver;
-          last = c.serve_rounds.new.driver;
+          last = c.serve_rounds-served.new.driver;
           readers = told.0.0;
           editors = told.0.1;
           bound = c.in-Ok.ensures.bound;
@@ -52,8 +53,9 @@ returns-in_err-desk-2 g c =
           made = made;
           ends = served.3;
         },
-        was_done c.args.path.now c.in_ok-desk.desk served.0 None (g.D.Desks.history c.args.desks.now) (g.D.Desks.history c.open.new.self) (g.D.Desks.history c.serve_rounds.new.desks)
-            (g.D.Desks.history c.serve_rounds.new.desks) c.in_ok-desk.ensures.history served.4 (does_none _),
+        was_done c.args.path.now c.in_ok-desk.desk served.0 None (g.D.Desks.history c.args.desks.now) (g.D.Desks.history c.open.new.self) (g.D.Desks.history c.serve_rounds-served.new.desks)
+            (g.D.Desks.history c.serve_rounds-served.new.desks) c.in_ok-desk.ensures.history served.4 (does_none _),
+        refl,
       ),
     ))
 
@@ -63,7 +65,7 @@ returns g c =
     let told = c.in-Ok.ensures.begins in
     let none : c.in-Ok.driver.rounds ≡ 0 = c.in-Ok.ensures.rounds in
     let asked : c.pace-rounds.result.0 ≡ rounds_of c.args.wanted.now.rounds = c.pace-rounds.ensures.count in
-    let made : c.serve_rounds.new.driver.rounds ≡ rounds_of c.args.wanted.now.rounds =
+    let made : c.serve_rounds-served.new.driver.rounds ≡ rounds_of c.args.wanted.now.rounds =
     let all = c.in_ok-desk-2.ensures.made (omega (arith, none)) in
     omega (arith, none, asked, all) in
     inr (
@@ -72,7 +74,7 @@ returns g c =
       inr (
         record {
           first = c.in-Ok.driver;
-          last = c.serve_rounds.new.driver;
+          last = c.serve_rounds-served.new.driver;
           readers = told.0.0;
           editors = told.0.1;
           bound = c.in-Ok.ensures.bound;
@@ -87,6 +89,7 @@ returns g c =
           ends = tt;
         },
         was_done c.args.path.now c.in_ok-desk.desk served.0 (Some c.in_ok-desk-2.desk) (g.D.Desks.history c.args.desks.now) (g.D.Desks.history c.open.new.self)
-            (g.D.Desks.history c.serve_rounds.new.desks) (g.D.Desks.history c.close-2.new.self) c.in_ok-desk.ensures.history served.4 c.close-2.ensures.history,
+            (g.D.Desks.history c.serve_rounds-served.new.desks) (g.D.Desks.history c.close-2.new.self) c.in_ok-desk.ensures.history served.4 c.close-2.ensures.history,
+        refl,
       ),
     )

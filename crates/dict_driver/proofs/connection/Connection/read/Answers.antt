@@ -4,7 +4,7 @@ use Rattle.dict_driver.specs.Turns.{ReadsOnce}
 use Rattle.dict_driver.specs.declared.stage.Received.TheVariants as receiveds
 use Rattle.dict_driver.proofs.CallLemmas.{makes_none}
 use Rattle.dict_driver.proofs.LeadLemmas.{led_as, led_still}
-use Rattle.dict_driver.proofs.TurnLemmas.{reads_handed, reads_none}
+use Rattle.dict_driver.proofs.TurnLemmas.{reads_handed, reads_none, reads_still}
 use Rattle.dict_driver.proofs.connection.Connection.read.Goals as goal
 
 pub returns-then-not-self-clause-led : goal.returns-then-not-self-clause-led
@@ -24,14 +24,14 @@ pub returns-in-End-clause-led : goal.returns-in-End-clause-led
 returns-in-End-clause-led g c =
     led_as c.part.ensures.led
     (λ events handed. subst (λ r. ReadsOnce g.T.Transport.taken g.T.Transport.coming g.T.Transport.made c.args.self.now c.part.new.self r events) (sym c.in-End.is)
-    (reads_handed g.T.Transport.taken g.T.Transport.coming g.T.Transport.made c.args.self.now c.receive-received.new.self c.part.new.self receiveds.End [] events c.receive-received.ensures.same
+    (reads_still g.T.Transport.taken g.T.Transport.coming g.T.Transport.made c.args.self.now c.receive-received.new.self c.part.new.self receiveds.End [] events c.receive-received.ensures.same
     c.if-not-self.false c.receive-received.ensures.taken c.in-End.ensures.gives c.in-End.ensures.made handed.0 handed.1))
 
 pub returns-in-Failed-clause-led : goal.returns-in-Failed-clause-led
 returns-in-Failed-clause-led g c =
     led_as c.end.ensures.led
     (λ events handed. subst (λ r. ReadsOnce g.T.Transport.taken g.T.Transport.coming g.T.Transport.made c.args.self.now c.end.new.self r events) (sym c.in-Failed.is)
-    (reads_handed g.T.Transport.taken g.T.Transport.coming g.T.Transport.made c.args.self.now c.receive-received.new.self c.end.new.self receiveds.Failed [] events c.receive-received.ensures.same
+    (reads_still g.T.Transport.taken g.T.Transport.coming g.T.Transport.made c.args.self.now c.receive-received.new.self c.end.new.self receiveds.Failed [] events c.receive-received.ensures.same
     c.if-not-self.false c.receive-received.ensures.taken c.in-Failed.ensures.gives c.in-Failed.ensures.made handed.0 (handed.1, c.end.ensures.over)))
 
 pub returns-in-Interrupted-clause-led : goal.returns-in-Interrupted-clause-led
