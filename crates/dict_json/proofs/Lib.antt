@@ -1,2 +1,3 @@
 pub mod BodyLemmas
+pub mod EscapeLemmas
 pub mod TextLemmas

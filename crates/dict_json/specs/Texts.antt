@@ -1,6 +1,6 @@
 -- The JSON of answers, octet by octet: compact, with the keys in the order of their octets. RFC 8259; which members
 -- there are is this server's.
-use Rattle.std.specs.Prelude.{ℕ, List, ◌++◌, map, option_map, Option, Some, None, codes, decimal}
+use Rattle.std.specs.Prelude.{ℕ, Bool, ◌==◌, ◌||◌, nat_lt, List, ◌++◌, map, option_map, Option, Some, None, codes, decimal}
 use Rattle.std.specs.List.{join_with_byte}
 use Rattle.json.specs.Print.{quoted}
 use Rattle.dict_catalogue.specs.Items.{Item, regular, virtual}
@@ -11,6 +11,10 @@ use Rattle.dict_catalogue.specs.declared.reply.Verb.{Verb}
 use Rattle.dict_catalogue.specs.declared.reply.Verb.TheVariants.{Install, Rollback, Retire, Virtual, Place}
 use Rattle.dict_index.specs.Refusals.{refusal_number as edition_refusal_number, refusal_name as edition_refusal_name}
 use Rattle.dict_index.specs.declared.fault.Refusal as editions
+
+-- an octet that can't stand for itself in a string. RFC 8259, section 7: a quotation mark, a backslash, a control character
+abbrev pub needs_escape : ℕ → Bool
+needs_escape octet = ((octet == 34) || (octet == 92)) || nat_lt octet 32
 
 -- a number, or `null`
 abbrev pub number_or_null : Option ℕ → List ℕ

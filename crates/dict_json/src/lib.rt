@@ -7,9 +7,11 @@
 mod bodies;
 mod items;
 mod laws;
+mod putting;
 mod replies;
 
 pub use bodies::{VirtualBody, read_json, read_place, read_virtual};
 pub use items::list_json;
 pub use laws::one_body;
+pub use putting::put_kept;
 pub use replies::{kept_json, refused_command_json, refused_edition_json};

@@ -11,7 +11,7 @@ use serde_json::{Value, json};
 use std::alloc::{AllocError, Global};
 
 // The verb, as replies have it.
-fn verb_text(verb: Verb) -> &'static str
+pub(crate) fn verb_text(verb: Verb) -> &'static str
     ensures { result.now ≡ verb_text verb }
 {
     match verb {

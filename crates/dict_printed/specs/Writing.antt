@@ -1,5 +1,5 @@
 -- What is written to standard output.
-use Rattle.std.specs.Prelude.{◌≡◌, ℕ, List, Result, Ok, Err}
+use Rattle.std.specs.Prelude.{◌≡◌, ◌≢◌, ℕ, List, Result, Ok, Err}
 use Rattle.dict_io.specs.Streams.{Change, PutsAll, PutsFront}
 use Rattle.dict_printed.specs.declared.fault.Fault.{Fault}
 use Rattle.dict_printed.specs.declared.fault.Fault.TheVariants as faults
@@ -21,3 +21,7 @@ Writes text (Err (faults.CannotRead path)) writer = ⊥
 Writes text (Err faults.SessionEnded) writer = ⊥
 Writes text (Err (faults.CannotBind address)) writer = ⊥
 Writes text (Err faults.CannotWait) writer = ⊥
+
+-- a text was written; or where the writer failed a front of it. No memory is taken for it
+abbrev pub Prints : List ℕ → Result (Unit {0}) Fault → Change → Type 0
+Prints text result writer = Writes text result writer × (result ≢ Err faults.Memory)

@@ -12,7 +12,7 @@ use Rattle.dict_desk.specs.Faults.{is_disk}
 use Rattle.dict_desk.specs.declared.fault.Fault.{Fault as DeskFault}
 use Rattle.dict_json.specs.Texts.{kept_text}
 use Rattle.dict_printed.specs.Faults.{told_of}
-use Rattle.dict_printed.specs.Writing.{IsUntouched, Writes}
+use Rattle.dict_printed.specs.Writing.{IsUntouched, Prints}
 use Rattle.dict_printed.specs.declared.fault.Fault.{Fault}
 
 -- a reply as a line
@@ -21,7 +21,7 @@ kept_line kept = kept_text kept ++ codes "\n"
 
 -- the reply of a command is written; of a command that wasn't done the fault is told, and nothing is written
 abbrev pub TellsAnswer : Result Kept DeskFault → Result (Unit {0}) Fault → Change → Type 0
-TellsAnswer (Ok kept) result writer = Writes (kept_line (kept_shown kept)) result writer
+TellsAnswer (Ok kept) result writer = Prints (kept_line (kept_shown kept)) result writer
 TellsAnswer (Err fault) result writer = (result ≡ Err (told_of fault)) × IsUntouched writer
 
 -- A desk answered a command under an id, and the answer was told: over a catalogue that it showed, the answer is that of the

@@ -12,7 +12,7 @@ use Rattle.dict_desk.specs.Faults.{IsOfLookup}
 use Rattle.dict_desk.specs.declared.fault.Fault.{Fault as DeskFault}
 use Rattle.dict_session.specs.Desks.{Stays}
 use Rattle.dict_printed.specs.Faults.{told_of}
-use Rattle.dict_printed.specs.Writing.{IsUntouched, Writes}
+use Rattle.dict_printed.specs.Writing.{IsUntouched, Prints}
 use Rattle.dict_printed.specs.declared.fault.Fault.{Fault}
 use Rattle.dict_printed.specs.declared.fault.Fault.TheVariants as faults
 use Rattle.dict_tasks.specs.Changing.{IsChanged, kept_line}
@@ -31,7 +31,7 @@ module _ {D : Type 0} (Shows : D → Catalogue → Type 0) (LeavesOneOf : D → 
     pub reply : Kept
     pub kept : IsTrusted new → (catalogue : Catalogue) → Shows old catalogue → Some (kept_shown reply) ≡ kept_under catalogue.kept id
     pub stays : Stays Shows LeavesOneOf IsTrusted is_closed old new
-    pub line : Writes (kept_line (kept_shown reply)) result writer
+    pub line : Prints (kept_line (kept_shown reply)) result writer
 
   -- whether one is kept couldn't be told
   pub record IsNotLookedUp (old new : D) (result : Result (Unit {0}) Fault) (writer : Change) : Type 0 where

@@ -4,11 +4,11 @@ use Rattle.dict_io.specs.Streams.{Change}
 use Rattle.dict_catalogue.specs.Items.{Item}
 use Rattle.dict_catalogue.specs.Steps.{Catalogue, summary_of}
 use Rattle.dict_printed.specs.Listing.{list_text}
-use Rattle.dict_printed.specs.Writing.{Writes}
+use Rattle.dict_printed.specs.Writing.{Prints}
 use Rattle.dict_printed.specs.declared.fault.Fault.{Fault}
 
 -- the lines of some items were written, and these are those of the catalogue that is shown
 pub record IsListed (Shows : Catalogue → Type 0) (result : Result (Unit {0}) Fault) (writer : Change) : Type 0 where
   pub items : List (Item (List ℕ))
-  pub lines : Writes (list_text items) result writer
+  pub lines : Prints (list_text items) result writer
   pub shown : (catalogue : Catalogue) → Shows catalogue → items ≡ (summary_of catalogue).items

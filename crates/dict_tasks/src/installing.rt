@@ -1,7 +1,9 @@
 // An install of an edition that two files make.
+ghost use Rattle.std.specs.Prelude.{◌≡◌};
 ghost use Rattle.dict_io.specs.Streams.{change};
 ghost use Rattle.dict_index.specs.Edition.{edition_of};
 ghost use Rattle.dict_catalogue.specs.Commands.{install};
+ghost use Rattle.dict_session.specs.Desks.{Stays};
 ghost use Rattle.dict_tasks.specs.Changing.{IsChanged};
 ghost use Rattle.dict_tasks.specs.Installing.{InstallEnds, InstallsFiles, InstallsRead};
 
@@ -24,7 +26,8 @@ pub struct Wanted<'w> {
 
 /// Installs the edition that an index and a text make, under the id of its request, and writes the reply as a line of JSON.
 ///
-/// Where a reply is kept under the id, it is written again, and neither file is read.
+/// Where a reply is kept under the id, it is written again, and neither file is read. Where `Memory` is told, nothing was
+/// changed.
 pub fn install<'w, K: Keeper, I: InputFiles, W: Sink>(
     alloc: Global,
     desk: &mut K,
@@ -33,11 +36,12 @@ pub fn install<'w, K: Keeper, I: InputFiles, W: Sink>(
     files: &I,
     writer: &mut W,
 ) -> Result<(), Fault<'w>>
-    ensures { InstallEnds K.shows K.leaves_one_of K.is_trusted K.is_closed (I.octets files.now) desk.old desk.new wanted.entry.name.now id.now
+    ensures installed { InstallEnds K.shows K.leaves_one_of K.is_trusted K.is_closed (I.octets files.now) desk.old desk.new wanted.entry.name.now id.now
         wanted.entry.index.now wanted.entry.text.now result (change W.stream writer.old writer.new) }
+    ensures memory { result ≡ Err Fault.Memory → Stays K.shows K.leaves_one_of K.is_trusted K.is_closed desk.old desk.new }
 {
     match desk.kept(id) {
-        Ok(Some(kept)) => tell_kept(alloc, &kept, writer),
+        Ok(Some(kept)) => tell_kept(&kept, writer),
         Ok(None) => install_files(alloc, desk, id, wanted, files, writer),
         Err(fault) => Err(Fault::from(fault)),
     }
@@ -52,8 +56,9 @@ fn install_files<'w, K: Keeper, I: InputFiles, W: Sink>(
     files: &I,
     writer: &mut W,
 ) -> Result<(), Fault<'w>>
-    ensures { InstallsFiles K.shows K.leaves_one_of K.is_trusted K.is_closed (I.octets files.now) desk.old desk.new wanted.entry.name.now id.now
+    ensures installed { InstallsFiles K.shows K.leaves_one_of K.is_trusted K.is_closed (I.octets files.now) desk.old desk.new wanted.entry.name.now id.now
         wanted.entry.index.now wanted.entry.text.now result (change W.stream writer.old writer.new) }
+    ensures memory { result ≡ Err Fault.Memory → Stays K.shows K.leaves_one_of K.is_trusted K.is_closed desk.old desk.new }
 {
     let index = read_file(files, wanted.index)?;
     let text = read_file(files, wanted.text)?;
@@ -70,28 +75,29 @@ fn install_octets<K: Keeper, W: Sink>(
     text: Vec<u8>,
     writer: &mut W,
 ) -> Result<(), Fault<'static>>
-    ensures { InstallsRead K.shows K.leaves_one_of K.is_trusted K.is_closed desk.old desk.new name.now id.now index.items text.items result
+    ensures installed { InstallsRead K.shows K.leaves_one_of K.is_trusted K.is_closed desk.old desk.new name.now id.now index.items text.items result
         (change W.stream writer.old writer.new) }
+    ensures memory { result ≡ Err Fault.Memory → Stays K.shows K.leaves_one_of K.is_trusted K.is_closed desk.old desk.new }
 {
     let edition = match read_edition(alloc, &index, &text) {
         Ok(edition) => edition,
         Err(fault) => return Err(Fault::from(fault)),
     };
-    install_edition(alloc, desk, id, name, &edition, writer)
+    install_edition(desk, id, name, &edition, writer)
 }
 
 // Installs an edition.
 fn install_edition<K: Keeper, W: Sink>(
-    alloc: Global,
     desk: &mut K,
     id: &str,
     name: &str,
     edition: &Edition,
     writer: &mut W,
 ) -> Result<(), Fault<'static>>
-    ensures { IsChanged K.shows K.leaves_one_of K.is_trusted desk.old desk.new id.now (install name.now (edition_of edition.now)) result
+    ensures changed { IsChanged K.shows K.leaves_one_of K.is_trusted desk.old desk.new id.now (install name.now (edition_of edition.now)) result
         (change W.stream writer.old writer.new) }
+    ensures memory { result ≡ Err Fault.Memory → Stays K.shows K.leaves_one_of K.is_trusted K.is_closed desk.old desk.new }
 {
     let command = Command::Install { name, edition };
-    change(alloc, desk, id, &command, writer)
+    change(desk, id, &command, writer)
 }

@@ -1,11 +1,14 @@
 -- What each status tells of how the program ended.
-use Rattle.std.proofs.Common.{◌≡◌, ℕ, ◌≤◌, List, Option, Ok, Err, refl, inl, inr, arith, ap}
-use Rattle.std.specs.Prelude.{Result}
+use Rattle.std.proofs.Common.{◌≡◌, ℕ, ◌≤◌, List, Option, Ok, Err, refl, inl, inr, arith, subst}
+use Rattle.std.specs.Prelude.{◌⊎◌}
 use Rattle.dict_desk.specs.Plain.{PlainState}
 use Rattle.dict_desk.specs.declared.lookup.Lookup as lookup
 use Rattle.dict_io.specs.Streams.{Change}
 use Rattle.dict_serving.specs.declared.desks.Desks as desks
 use Rattle.dict_words.specs.Asked.{Asks}
+use Rattle.dict_session.specs.Desks.{Stays as DeskStays}
+use Rattle.dict_words.specs.declared.task.Change.{Change as AskedChange}
+use Rattle.dict_words.specs.declared.task.Change.TheVariants as changes
 use Rattle.dict_words.specs.declared.task.Task.{Task}
 use Rattle.dict_words.specs.declared.task.Task.TheVariants.{Plain, Create, List as Lists, Audit, Session as SpeaksOver, Change as Changes, Serve as Serves}
 use Rattle.dict_printed.specs.Faults.{status_of}
@@ -13,10 +16,11 @@ use Rattle.dict_printed.specs.declared.fault.Fault.{Fault}
 use Rattle.dict_printed.specs.declared.fault.Fault.TheVariants.{Line, Edition, Refused, Store, CannotRead, SessionEnded, CannotWrite, CannotBind, CannotWait, Memory}
 use Rattle.dict_printed.specs.Writing.{IsUntouched}
 use Rattle.dictcat_lib.specs.Catalogues.{IsSpared}
-use Rattle.dictcat_lib.specs.Working.{SessionEnds}
+use Rattle.dictcat_lib.specs.Working.{EndsOn, SessionEnds}
+use Rattle.dictcat_lib.proofs.ServingLemmas.{memory_by_status}
 use Rattle.dictcat_lib.proofs.WritingLemmas.{list_spoils, audit_spoils, task_spoils, serves_refused, serves_memory, serves_failed, spoils_not_3, spoiled_failed}
 use Rattle.dictcat_lib.specs.declared.catalogues.Catalogues as catalogues
-use Rattle.dictcat_lib.specs.Program.{CommandEnds, IsDone, IsExhausted, IsFailed, Shows, TaskEnds}
+use Rattle.dictcat_lib.specs.Program.{ChangeTaskEnds, CommandEnds, IsCutOff, IsDone, IsExhausted, IsFailed, IsUnchanged, Shows, TaskEnds}
 
 status_at_most_4 : (fault : Fault) → status_of fault ≤ 4
 status_at_most_4 (Line refusal line) = omega arith
@@ -217,7 +221,8 @@ module _ {K D : Type 0} (k : lookup.Ghosts K) (d : desks.Ghosts D K) (c : catalo
 
   -- memory ran out in a task
   task_memory : (files : List ℕ → Option (List ℕ)) (words : List (List ℕ)) (task : Task) (fault : Fault) (reader writer : Change)
-      → Asks words task → TaskEnds k d c files plain old new task (Err fault) reader writer → 4 ≡ status_of fault → IsExhausted k d c old new words reader writer
+      → Asks words task → TaskEnds k d c files plain old new task (Err fault) reader writer → 4 ≡ status_of fault
+      → (IsUntouched reader × IsUntouched writer) ⊎ IsCutOff k d c old new words Memory reader writer
   unfolding Rattle.dictcat_lib.specs.Plain.FilesEnd
   task_memory files words (Plain name index text) (Line refusal line) reader writer asks h e = absurd (omega (arith, e))
   task_memory files words (Plain name index text) (Edition refusal) reader writer asks h e = absurd (omega (arith, e))
@@ -240,12 +245,52 @@ module _ {K D : Type 0} (k : lookup.Ghosts K) (d : desks.Ghosts D K) (c : catalo
   ]
   task_memory files words (SpeaksOver file) fault reader writer asks h e = inl (spared_other fault reader writer h.1 (λ f. omega (arith, e, f)))
 
-  -- with 4 nothing was touched, or memory ran out in a server
+  -- a change for which memory ran out was not made
+  change_unchanged : (files : List ℕ → Option (List ℕ)) (path name id : List ℕ) (what : AskedChange) (writer : Change) → ChangeTaskEnds k d files old new path name id what (Err Memory) writer
+      → EndsOn k d path (λ desk left closed. DeskStays k.shows k.leaves_one_of k.is_trusted k.is_closed desk left) old new (Err Memory) writer
+  change_unchanged files path name id (changes.Install index text) writer (inl h) = inl h
+  change_unchanged files path name id (changes.Install index text) writer (inr (desk, left, closed, is, does, shut, (made, spared))) = inr (desk, left, closed, is, does, shut, spared refl)
+  change_unchanged files path name id changes.Rollback writer (inl h) = inl h
+  change_unchanged files path name id changes.Rollback writer (inr (desk, left, closed, is, does, shut, (made, spared))) = inr (desk, left, closed, is, does, shut, spared refl)
+  change_unchanged files path name id changes.Retire writer (inl h) = inl h
+  change_unchanged files path name id changes.Retire writer (inr (desk, left, closed, is, does, shut, (made, spared))) = inr (desk, left, closed, is, does, shut, spared refl)
+  change_unchanged files path name id (changes.Virtual title members) writer (inl h) = inl h
+  change_unchanged files path name id (changes.Virtual title members) writer (inr (desk, left, closed, is, does, shut, (made, spared))) = inr (desk, left, closed, is, does, shut, spared refl)
+  change_unchanged files path name id (changes.Place at) writer (inl h) = inl h
+  change_unchanged files path name id (changes.Place at) writer (inr (desk, left, closed, is, does, shut, (made, spared))) = inr (desk, left, closed, is, does, shut, spared refl)
+
+  task_unchanged : (files : List ℕ → Option (List ℕ)) (task : Task) (reader writer : Change) → TaskEnds k d c files plain old new task (Err Memory) reader writer → IsUnchanged k d c old new task writer
+  task_unchanged files (Plain name index text) reader writer h = tt
+  task_unchanged files (Create file) reader writer h = tt
+  task_unchanged files (Lists file) reader writer h = tt
+  task_unchanged files (Audit file) reader writer h = tt
+  task_unchanged files (Changes file name id what) reader writer h = change_unchanged files file.now name.now id.now what writer h.0
+  task_unchanged files (Serves file dict http rounds) reader writer h = tt
+  task_unchanged files (SpeaksOver file) reader writer h = tt
+
+  task_exhausted : (files : List ℕ → Option (List ℕ)) (words : List (List ℕ)) (task : Task) (fault : Fault) (reader writer : Change)
+      → Asks words task → TaskEnds k d c files plain old new task (Err fault) reader writer → 4 ≡ status_of fault → IsExhausted k d c old new words reader writer
+  task_exhausted files words task fault reader writer asks ends e = elim (task_memory files words task fault reader writer asks ends e) [
+    | inl untouched ↦ inl (
+      untouched.0,
+      untouched.1,
+      inr (
+        task,
+        asks,
+        task_unchanged files task reader writer
+            (subst (λ (f : Fault). TaskEnds k d c files plain old new task (Err f) reader writer) (memory_by_status fault e) ends),
+      ),
+    )
+    | inr cut ↦ inr cut
+  ]
+
+  -- with 4 nothing was touched and no change made, or memory ran out in a server
   pub memory : (files : List ℕ → Option (List ℕ)) (words : List (List ℕ)) (reader writer faults : Change)
       → CommandEnds k d c files plain old new words 4 reader writer faults → IsExhausted k d c old new words reader writer
   memory files words reader writer faults (inl (Ok end, h, closes)) = absurd (omega (arith, closes.0))
   memory files words reader writer faults (inl (Err fault, inl (task, asks, ends), closes)) =
-      task_memory files words task fault reader writer asks ends closes.0
-  memory files words reader writer faults (inl (Err fault, inr (inl shown, same), closes)) = inl (shown_memory fault reader writer shown.1 shown.2 closes.0)
-  memory files words reader writer faults (inl (Err fault, inr (inr early, same), closes)) = inl (early.1, early.2)
+      task_exhausted files words task fault reader writer asks ends closes.0
+  memory files words reader writer faults (inl (Err fault, inr (inl shown, same), closes)) =
+      let untouched = shown_memory fault reader writer shown.1 shown.2 closes.0 in inl (untouched.0, untouched.1, inl same)
+  memory files words reader writer faults (inl (Err fault, inr (inr early, same), closes)) = inl (early.1, early.2, inl same)
   memory files words reader writer faults (inr (h, same)) = absurd (omega (arith, h.0))

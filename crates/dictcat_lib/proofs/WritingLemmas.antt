@@ -47,11 +47,11 @@ writes_spoils text CannotWait writer h = absurd h
 writes_spoils text Memory writer h = inl h
 
 pub answer_spoils : (answer : Result Kept DeskFault) (fault : Fault) (writer : Change) → TellsAnswer answer (Err fault) writer → Spoils fault writer
-answer_spoils (Ok kept) fault writer h = writes_spoils _ fault writer h
+answer_spoils (Ok kept) fault writer h = writes_spoils _ fault writer h.0
 answer_spoils (Err why) fault writer h = inl h.1
 
 pub sound_spoils : (audited closed : Result (Unit {0}) Fault) (fault : Fault) (writer : Change) → TellsSound audited closed (Err fault) writer → Spoils fault writer
-sound_spoils (Ok read) (Ok done) fault writer h = writes_spoils _ fault writer h
+sound_spoils (Ok read) (Ok done) fault writer h = writes_spoils _ fault writer h.0
 sound_spoils (Ok read) (Err why) fault writer h = inl h.1
 sound_spoils (Err why) closed fault writer h = inl h.1
 
@@ -59,7 +59,7 @@ module _ {D : Type 0} (Shows : D → Catalogue → Type 0) (LeavesOneOf : D → 
   pub install_spoils : (files : List ℕ → Option (List ℕ)) (old new : D) (name id index text : List ℕ) (fault : Fault) (writer : Change)
       → InstallEnds Shows LeavesOneOf IsTrusted is_closed files old new name id index text (Err fault) writer → Spoils fault writer
   unfolding Rattle.dict_tasks.specs.Installing.InstallEnds
-  install_spoils files old new name id index text fault writer (inl again) = writes_spoils _ fault writer again.line
+  install_spoils files old new name id index text fault writer (inl again) = writes_spoils _ fault writer again.line.0
   install_spoils files old new name id index text fault writer (inr (inl unknown)) = inl unknown.untouched
   install_spoils files old new name id index text fault writer (inr (inr (middle, none, inl unread))) = inl unread.2
   install_spoils files old new name id index text fault writer (inr (inr (middle, none, inr (i, t, a, b, inl unsaid)))) = inl unsaid.2
@@ -68,16 +68,16 @@ module _ {D : Type 0} (Shows : D → Catalogue → Type 0) (LeavesOneOf : D → 
 module _ {K D : Type 0} (k : lookup.Ghosts K) (d : desks.Ghosts D K) where
   pub list_spoils : (path : List ℕ) (old new : D) (fault : Fault) (writer : Change) → ListEnds k d path old new (Err fault) writer → Spoils fault writer
   list_spoils path old new fault writer (inl h) = inl h.4
-  list_spoils path old new fault writer (inr (desk, left, closed, is, does, shut, (same, listed))) = writes_spoils _ fault writer listed.lines
+  list_spoils path old new fault writer (inr (desk, left, closed, is, does, shut, (same, listed))) = writes_spoils _ fault writer listed.lines.0
 
   change_spoils : (path id : List ℕ) (command : Command AnEdition) (old new : D) (fault : Fault) (writer : Change) → ChangeEnds k d path id command old new (Err fault) writer → Spoils fault writer
   change_spoils path id command old new fault writer (inl h) = inl h.4
-  change_spoils path id command old new fault writer (inr (desk, left, closed, is, does, shut, changed)) = answer_spoils changed.answer fault writer changed.told
+  change_spoils path id command old new fault writer (inr (desk, left, closed, is, does, shut, (changed, spared))) = answer_spoils changed.answer fault writer changed.told
 
   installs_spoils : (files : List ℕ → Option (List ℕ)) (path name id index text : List ℕ) (old new : D) (fault : Fault) (writer : Change)
       → InstallsOn k d files path name id index text old new (Err fault) writer → Spoils fault writer
   installs_spoils files path name id index text old new fault writer (inl h) = inl h.4
-  installs_spoils files path name id index text old new fault writer (inr (desk, left, closed, is, does, shut, installed)) =
+  installs_spoils files path name id index text old new fault writer (inr (desk, left, closed, is, does, shut, (installed, spared))) =
       install_spoils k.shows k.leaves_one_of k.is_trusted k.is_closed files desk left name id index text fault writer installed
 
   pub task_spoils : (files : List ℕ → Option (List ℕ)) (old new : D) (path name id : List ℕ) (what : Asked) (fault : Fault) (writer : Change)
@@ -92,12 +92,12 @@ module _ {K D : Type 0} (k : lookup.Ghosts K) (d : desks.Ghosts D K) where
     serves_spoils : (path dict http : List ℕ) (rounds : Option ℕ) (fault : Fault) (writer : Change) → ServesOn k d path dict http rounds old new (Err fault) writer
         → Spoils fault writer ⊎ IsServedUntil k d path dict http rounds old new fault writer
     unfolding Rattle.dictcat_lib.specs.Working.ServesOn
-    serves_spoils path dict http rounds fault writer (inl h) = inl (inl h.3)
-    serves_spoils path dict http rounds fault writer (inr (desk, opened, inl (other, is, inl h, does))) = inl (inl h.3)
-    serves_spoils path dict http rounds fault writer (inr (desk, opened, inl (other, is, inr (inl (same, (readers, editors, put))), does))) =
+    serves_spoils path dict http rounds fault writer (kept, inl h) = inl (inl h.3)
+    serves_spoils path dict http rounds fault writer (kept, inr (desk, opened, inl (other, is, inl h, does, none))) = inl (inl h.3)
+    serves_spoils path dict http rounds fault writer (kept, inr (desk, opened, inl (other, is, inr (inl (same, (readers, editors, put))), does, none))) =
         let e : fault ≡ CannotWrite = cc in inl (inr (e, put.failures))
-    serves_spoils path dict http rounds fault writer (inr (desk, opened, inl (other, is, inr (inr h), does))) = inl (inl h.1)
-    serves_spoils path dict http rounds fault writer (inr (desk, opened, inr (served, done))) = inr (desk, served, done)
+    serves_spoils path dict http rounds fault writer (kept, inr (desk, opened, inl (other, is, inr (inr h), does, none))) = inl (inl h.1)
+    serves_spoils path dict http rounds fault writer (kept, inr (desk, opened, inr (served, done, same))) = inr (desk, served, done)
 
     -- a server is never refused
     pub serves_refused : (path dict http : List ℕ) (rounds : Option ℕ) (fault : Fault) (writer : Change) → 1 ≡ status_of fault → ServesOn k d path dict http rounds old new (Err fault) writer → IsUntouched writer

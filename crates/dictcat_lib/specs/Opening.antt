@@ -7,7 +7,8 @@ use Rattle.dict_catalogue.specs.Steps.{Catalogue, empty_catalogue}
 use Rattle.dict_desk.specs.Faults.{is_disk}
 use Rattle.dict_desk.specs.declared.fault.Fault.{Fault as DeskFault}
 use Rattle.dict_desk.specs.declared.fault.Fault.TheVariants.{NotACatalogue}
-use Rattle.dict_file.specs.Holds.{Rests, IsLeft, HasPlace}
+use Rattle.dict_file.specs.Holds.{Rests, IsLeftAs, HasPlace}
+use Rattle.dict_rows.specs.Versions.{known}
 use Rattle.dict_io.specs.Streams.{Change}
 use Rattle.dict_session.specs.declared.session.run.End.{End}
 use Rattle.dict_session.specs.declared.session.run.SessionFault.{SessionFault}
@@ -47,13 +48,13 @@ module _ {S : Type 0} (g : Ghosts S) where
   pub record IsCreated (conn : Held S) (desk : DeskState S) : Type 0 where
     pub place : HasPlace (state g conn).now.schema
     pub shows : Shows g desk empty_catalogue
-    pub rests : HasCleanDisk (state g desk.conn) → Rests 1 (state g desk.conn) empty_catalogue
+    pub rests : HasCleanDisk (state g desk.conn) → Rests known (state g desk.conn) empty_catalogue
     pub only : LeavesOneOf g desk (Some empty_catalogue ∷ [])
 
   -- None was made: there is no place for it, or the store failed, and then a stop may leave the empty catalogue, or memory ran out.
   pub record IsNotCreated (conn left : Held S) (fault : DeskFault) : Type 0 where
     pub no_place : fault ≡ NotACatalogue → (HasPlace (state g conn).now.schema → ⊥) × (left ≡ record conn { step_limit = None })
-    pub crash : Survives (state g (record conn { step_limit = None })) (state g left) (IsLeft 1 empty_catalogue)
+    pub crash : Survives (state g (record conn { step_limit = None })) (state g left) (IsLeftAs known empty_catalogue)
     pub adds_none : is_disk fault ≡ false → Survives (state g (record conn { step_limit = None })) (state g left) (λ _. ⊥)
 
   -- the desk is one over a catalogue that was made in the database that a file was opened as, or made as
@@ -67,7 +68,7 @@ module _ {S : Type 0} (g : Ghosts S) where
 
   -- the database of a desk was read whole, and holds a catalogue at rest
   abbrev pub IsSound : DeskState S → Type 0
-  IsSound new = HasCleanDisk (state g new.conn) → (M : Catalogue) × Rests 1 (state g new.conn) M
+  IsSound new = HasCleanDisk (state g new.conn) → (M : Catalogue) × Rests known (state g new.conn) M
 
   -- it was read, and the fault, as the program tells it, is what it holds instead; or it couldn't be read
   abbrev pub IsUnsound : DeskState S → DeskState S → Fault → Type 0

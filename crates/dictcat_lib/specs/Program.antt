@@ -1,5 +1,5 @@
 -- How the program ends.
-use Rattle.std.specs.Prelude.{◌≡◌, ◌≢◌, ℕ, ◌⊎◌, List, ◌++◌, Option, Result, Ok, Err, codes}
+use Rattle.std.specs.Prelude.{◌≡◌, ◌≢◌, ℕ, ◌⊎◌, List, ◌++◌, Option, Result, Ok, Err, codes, ⊤}
 use Rattle.clap.specs.Kinds.{IsAmong}
 use Rattle.clap.specs.declared.error.kind.ErrorKind.{ErrorKind}
 use Rattle.clap.specs.declared.error.kind.ErrorKind.TheVariants as kinds
@@ -8,6 +8,7 @@ use Rattle.dict_desk.specs.Plain.{PlainState}
 use Rattle.dict_desk.specs.declared.lookup.Lookup as lookup
 use Rattle.dict_io.specs.Streams.{Change, HasFailed, Puts, PutsAll, PutsFront}
 use Rattle.dict_io.specs.declared.sink.SinkFault.{SinkFault}
+use Rattle.dict_session.specs.Desks.{Stays as DeskStays}
 use Rattle.dict_session.specs.declared.session.run.SessionFault.{SessionFault}
 use Rattle.dict_session.specs.declared.session.run.SessionFault.TheVariants as session_faults
 use Rattle.dict_serving.specs.declared.desks.Desks as desks
@@ -22,7 +23,7 @@ use Rattle.dict_printed.specs.declared.fault.Fault.TheVariants as faults
 use Rattle.dict_printed.specs.Writing.{IsUntouched}
 use Rattle.dictcat_lib.specs.Plain.{EndsOver, FilesEnd, standing}
 use Rattle.dictcat_lib.specs.Serving.{IsServedUntil}
-use Rattle.dictcat_lib.specs.Working.{AuditEnds, ChangeEnds, CreateEnds, InstallsOn, ListEnds, ServesOn, SessionEnds}
+use Rattle.dictcat_lib.specs.Working.{AuditEnds, ChangeEnds, CreateEnds, EndsOn, InstallsOn, ListEnds, ServesOn, SessionEnds}
 use Rattle.dictcat_lib.specs.declared.catalogues.Catalogues as catalogues
 
 -- a text was put, or a front of it where the sink failed
@@ -108,9 +109,18 @@ module _ {K D : Type 0} (k : lookup.Ghosts K) (d : desks.Ghosts D K) (c : catalo
       ⊎ ((IsUntouched reader × HasFailed writer.old.failures writer.new.failures)
       ⊎ ((fault : Fault) × (3 ≡ status_of fault) × IsCutOff old new words fault reader writer)))
 
-  -- nothing was read or written, or memory ran out in a server
+  -- a change that was asked for was not made: there is no desk of the file, or what one showed it showed then, and a stop leaves nothing
+  -- that it couldn't leave before
+  abbrev pub IsUnchanged : D → D → Task → Change → Type 0
+  IsUnchanged old new (tasks.Change file name id what) writer =
+      EndsOn k d file.now (λ desk left closed. DeskStays k.shows k.leaves_one_of k.is_trusted k.is_closed desk left) old new (Err faults.Memory) writer
+  IsUnchanged old new _ writer = ⊤
+
+  -- nothing was read or written, and no change was made; or memory ran out in a server
   abbrev pub IsExhausted : D → D → List (List ℕ) → Change → Change → Type 0
-  IsExhausted old new words reader writer = (IsUntouched reader × IsUntouched writer) ⊎ IsCutOff old new words faults.Memory reader writer
+  IsExhausted old new words reader writer =
+      (IsUntouched reader × IsUntouched writer × ((new ≡ old) ⊎ ((task : Task) × Asks words task × IsUnchanged old new task writer)))
+      ⊎ IsCutOff old new words faults.Memory reader writer
 
 -- Over files of these octets, by their paths.
 module _ {K D : Type 0} (k : lookup.Ghosts K) (d : desks.Ghosts D K) (files : List ℕ → Option (List ℕ)) where

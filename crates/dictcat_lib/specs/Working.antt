@@ -1,13 +1,16 @@
 -- What comes of work over the desk of a file's catalogue, whatever opens it.
 use Rattle.std.specs.Prelude.{◌≡◌, ◌⊎◌, false, ℕ, List, [], ◌∷◌, Option, Some, None, MatchOption, Result, Ok, Err, IfOk, MatchResult, codes, ⊤}
 use Rattle.dict_catalogue.specs.Commands.{Command}
-use Rattle.dict_catalogue.specs.Steps.{Catalogue, empty_catalogue}
+use Rattle.dict_catalogue.specs.Steps.{Catalogue}
 use Rattle.dict_desk.specs.declared.lookup.Lookup as lookup
 use Rattle.dict_index.specs.Edition.{Edition}
 use Rattle.dict_io.specs.Streams.{Change}
-use Rattle.dict_printed.specs.Writing.{IsUntouched, Writes}
+use Rattle.dict_printed.specs.Writing.{IsUntouched, Prints}
 use Rattle.dict_printed.specs.declared.fault.Fault.{Fault}
-use Rattle.dict_serving.specs.Deeds.{Deed, Makes, Opens, Speaks, Closes, Does, IsShut}
+use Rattle.dict_printed.specs.declared.fault.Fault.TheVariants as faults
+use Rattle.dict_session.specs.Desks.{Stays as DeskStays}
+use Rattle.dict_serving.specs.Deeds.{Makes, Opens, Speaks, Closes, Does, IsShut}
+use Rattle.dict_driver.specs.declared.driver.Driver.{Driver}
 use Rattle.dict_serving.specs.Done.{ServeEnds}
 use Rattle.dict_serving.specs.Serving.{IsNew, IsNone}
 use Rattle.dict_serving.specs.declared.desks.Desks as desks
@@ -21,7 +24,7 @@ use Rattle.dictcat_lib.specs.declared.catalogues.Catalogues as catalogues
 abbrev pub TellsSound : Result (Unit {0}) Fault → Result (Unit {0}) Fault → Result (Unit {0}) Fault → Change → Type 0
 TellsSound (Err fault) closed result writer = (result ≡ Err fault) × IsUntouched writer
 TellsSound (Ok _) (Err fault) result writer = (result ≡ Err fault) × IsUntouched writer
-TellsSound (Ok _) (Ok _) result writer = Writes (codes "sound\n") result writer
+TellsSound (Ok _) (Ok _) result writer = Prints (codes "sound\n") result writer
 
 -- By what is known of desks, and of what opens and closes them.
 module _ {K D : Type 0} (k : lookup.Ghosts K) (d : desks.Ghosts D K) where
@@ -41,6 +44,10 @@ module _ {K D : Type 0} (k : lookup.Ghosts K) (d : desks.Ghosts D K) where
       ⊎ ((desk : K) × (left : K) × (closed : Result (Unit {0}) Fault) × IsAnswering desk
       × Does (d.history old) (d.history new) (Opens path (Some desk) ∷ Closes left ∷ []) × IsShutBy left closed new × Done desk left closed)
 
+  -- where memory is told to have run out, a desk shows what it showed, and a stop leaves nothing that it couldn't leave before
+  abbrev pub WasSpared : K → K → Result (Unit {0}) Fault → Type 0
+  WasSpared desk left result = result ≡ Err faults.Memory → DeskStays k.shows k.leaves_one_of k.is_trusted k.is_closed desk left
+
   -- the items were listed
   abbrev pub ListEnds : List ℕ → D → D → Result (Unit {0}) Fault → Change → Type 0
   ListEnds path old new result writer = EndsOn path (λ desk left closed. (left ≡ desk) × IsListed (k.shows desk) result writer) old new result writer
@@ -48,17 +55,17 @@ module _ {K D : Type 0} (k : lookup.Ghosts K) (d : desks.Ghosts D K) where
   -- a command was asked for
   abbrev pub ChangeEnds : List ℕ → List ℕ → Command Edition → D → D → Result (Unit {0}) Fault → Change → Type 0
   ChangeEnds path id command old new result writer =
-      EndsOn path (λ desk left closed. IsChanged k.shows k.leaves_one_of k.is_trusted desk left id command result writer) old new result writer
+      EndsOn path (λ desk left closed. IsChanged k.shows k.leaves_one_of k.is_trusted desk left id command result writer × WasSpared desk left result) old new result writer
 
   -- an install of two files was asked for
   abbrev pub InstallsOn : (List ℕ → Option (List ℕ)) → List ℕ → List ℕ → List ℕ → List ℕ → List ℕ → D → D → Result (Unit {0}) Fault → Change → Type 0
   InstallsOn files path name id index text old new result writer =
-      EndsOn path (λ desk left closed. InstallEnds k.shows k.leaves_one_of k.is_trusted k.is_closed files desk left name id index text result writer) old new result writer
+      EndsOn path (λ desk left closed. InstallEnds k.shows k.leaves_one_of k.is_trusted k.is_closed files desk left name id index text result writer × WasSpared desk left result) old new result writer
 
   -- the catalogue of the file with a path was served at two addresses, for so many rounds, or wasn't
   unfoldable pub ServesOn : List ℕ → List ℕ → List ℕ → Option ℕ → D → D → Result (Unit {0}) Fault → Change → Type 0
   ServesOn path dict http rounds old new result writer =
-      ServeEnds k.shows k.leaves_one_of k.is_trusted d.is_opened k.is_closed d.is_unopened d.is_unreopened (d.history old) (d.history new) path dict http rounds result writer
+      (kept : Option Driver) × ServeEnds k.shows k.leaves_one_of k.is_trusted d.is_opened k.is_closed d.is_unopened d.is_unreopened (d.history old) (d.history new) path dict http rounds result writer kept
 
   module _ (c : catalogues.Ghosts D K) where
     -- the file that was closed holds alone a catalogue that the desk showed: this is told where it returned what was written to it

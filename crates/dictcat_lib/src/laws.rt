@@ -10,8 +10,8 @@ use dict_desk::Keeper;
 
 /// With 0 what was asked for was done, and nothing is told. With 1 and 2 nothing was read or written. With 3 neither, or a
 /// session ended by a fault, or nothing was read and the writer failed, or a server that had told its addresses was cut off
-/// by a fault. With 4 nothing was read or written, or memory ran out in a server that had told its addresses. There is no
-/// other status.
+/// by a fault. With 4 nothing was read or written, and a change that was asked for was not made; or memory ran out in a
+/// server that had told its addresses. There is no other status.
 pub fn status_laws<K: Keeper, D: Catalogues<K>>()
     ensures statuses { (files : List ℕ → Option (List ℕ)) (plain : PlainState) (old new : D) (words : List (List ℕ)) (status : ℕ) (reader writer faults : Change)
         → CommandEnds K.Lookup D.Desks D.Catalogues.own files plain old new words status reader writer faults → status ≤ 4 }

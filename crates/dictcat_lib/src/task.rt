@@ -80,7 +80,8 @@ fn serve<'w, K: Keeper + Drop, D: Desks<K>, W: Sink>(
     ensures { ServesOn K.Lookup D.Desks file.entry.now wanted.now.dict.now wanted.now.http.now wanted.now.rounds desks.old desks.new result
         (change W.stream writer.old writer.new) }
 {
-    serve_catalogue(rt, rt.alloc(), desks, file, wanted, writer)
+    let mut driver = None;
+    serve_catalogue(rt, rt.alloc(), desks, file, wanted, writer, &mut driver)
 }
 
 // Changes the catalogue of a file.
@@ -105,11 +106,11 @@ fn perform_change<'w, K: Keeper + Drop, D: Desks<K>, I: InputFiles, W: Sink>(
         }
         Change::Rollback => {
             let command = Command::Rollback { name };
-            change_over(alloc, desks, file, id, &command, writer)
+            change_over(desks, file, id, &command, writer)
         }
         Change::Retire => {
             let command = Command::Retire { name };
-            change_over(alloc, desks, file, id, &command, writer)
+            change_over(desks, file, id, &command, writer)
         }
         Change::Virtual { title, members } => {
             let (title, members) = (*title, members.as_slice());
@@ -118,12 +119,12 @@ fn perform_change<'w, K: Keeper + Drop, D: Desks<K>, I: InputFiles, W: Sink>(
                 title,
                 members,
             };
-            change_over(alloc, desks, file, id, &command, writer)
+            change_over(desks, file, id, &command, writer)
         }
         Change::Place { place } => {
             let place = u64::from(*place);
             let command = Command::Place { name, place };
-            change_over(alloc, desks, file, id, &command, writer)
+            change_over(desks, file, id, &command, writer)
         }
     }
 }

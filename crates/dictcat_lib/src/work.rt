@@ -70,7 +70,6 @@ fn tell_sound<W: Sink>(
 
 // Applies a command to a catalogue, and writes its reply.
 pub(crate) fn change_over<'w, K: Keeper + Drop, D: Desks<K>, W: Sink>(
-    alloc: Global,
     desks: &mut D,
     path: &'w str,
     id: &str,
@@ -81,7 +80,7 @@ pub(crate) fn change_over<'w, K: Keeper + Drop, D: Desks<K>, W: Sink>(
         (change W.stream writer.old writer.new) }
 {
     let mut desk = desks.open(path)?;
-    let end = change(alloc, &mut desk, id, command, writer);
+    let end = change(&mut desk, id, command, writer);
     let _ = desks.close(desk);
     end
 }

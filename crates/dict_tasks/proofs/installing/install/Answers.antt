@@ -2,29 +2,29 @@ use Rattle.std.proofs.Common.{Err, refl, ap, inl, inr}
 use Rattle.dict_tasks.specs.Installing.{InstallEnds}
 use Rattle.dict_tasks.proofs.installing.install.Goals as goal
 
-pub returns-in-Ok-Some : goal.returns-in-Ok-Some
+pub returns-in-Ok-Some-clause-installed : goal.returns-in-Ok-Some-clause-installed
 unfolding InstallEnds
-returns-in-Ok-Some g c = inl (record {
+returns-in-Ok-Some-clause-installed g c = inl (record {
   reply = c.in-Ok-Some.kept;
   kept = rw c.in-Ok-Some.field-0-is at c.in-Ok-Some.ensures.value;
   stays = record { trust = c.in-Ok-Some.ensures.trust; shows = c.in-Ok-Some.ensures.shows; leaves = c.in-Ok-Some.ensures.leaves; closed = λ is. search (is, c.in-Ok-Some.ensures.closes) };
   line = c.tell_kept.ensures;
 })
 
-pub returns-in-Ok-None : goal.returns-in-Ok-None
+pub returns-in-Ok-None-clause-installed : goal.returns-in-Ok-None-clause-installed
 unfolding InstallEnds
-returns-in-Ok-None g c = inr (inr (
+returns-in-Ok-None-clause-installed g c = inr (inr (
   c.kept.new.self,
   record {
     none = rw c.in-Ok-None.field-0-is at c.in-Ok-None.ensures.value;
     stays = record { trust = c.in-Ok-None.ensures.trust; shows = c.in-Ok-None.ensures.shows; leaves = c.in-Ok-None.ensures.leaves; closed = λ is. search (is, c.in-Ok-None.ensures.closes) };
   },
-  c.install_files.ensures,
+  c.install_files.ensures.installed,
 ))
 
-pub returns-in-Err : goal.returns-in-Err
+pub returns-in-Err-clause-installed : goal.returns-in-Err-clause-installed
 unfolding InstallEnds
-returns-in-Err g c = inr (inl (record {
+returns-in-Err-clause-installed g c = inr (inl (record {
   fault = c.in-Err.fault;
   kind = c.in-Err.ensures.kinds;
   told = ap Err c.from.ensures;

@@ -16,5 +16,5 @@ returns g c = inr (
   (c.in_ok-desk.ensures.opened, c.in_ok-desk.ensures.answers),
   does_both (g.D.Desks.history c.args.desks.now) (g.D.Desks.history c.open.new.self) (g.D.Desks.history c.close.new.self) _ _ c.in_ok-desk.ensures.history c.close.ensures.history,
   c.close.ensures.shut,
-  c.change-end.ensures,
+  (c.change-end.ensures.changed, c.change-end.ensures.memory),
 )
