@@ -1,0 +1,84 @@
+//! Runs of what takes memory, each of which looks at its own answers: whether it is the right one, or the one that is named
+//! for memory, with nothing changed by it and the same asked again answered rightly. With no word each is run, with words
+//! those of these names. A line tells what came of each; the status is the number of the first that went wrong, from 1, or 0.
+#![tactic(auto)]
+
+mod answers;
+mod asked;
+mod commands;
+mod events;
+mod outcome;
+mod reading;
+
+use crate::outcome::Outcome;
+use dict_io::{OverWrite, Sink, put_all};
+use std::alloc::Global;
+use std::env;
+use std::process::ExitCode;
+use std::rt::Env;
+
+/// What is run.
+#[derive(Clone, Copy)]
+enum Run {
+    Reading,
+    Planning,
+    Applying,
+    Searching,
+    Request,
+    Events,
+}
+
+static RUNS: [(&str, Run); 6] = [
+    ("reading", Run::Reading),
+    ("planning", Run::Planning),
+    ("applying", Run::Applying),
+    ("searching", Run::Searching),
+    ("request", Run::Request),
+    ("events", Run::Events),
+];
+
+// What comes of a run.
+fn outcome_of(alloc: Global, run: Run) -> Outcome {
+    match run {
+        Run::Reading => reading::read(alloc),
+        Run::Planning => commands::plan_each(alloc),
+        Run::Applying => commands::apply_each(alloc),
+        Run::Searching => answers::search(alloc),
+        Run::Request => answers::install(alloc),
+        Run::Events => events::serve(alloc),
+    }
+}
+
+// Makes the runs of these names, all where there is none, and tells what came of each; the number of the first that was wrong.
+fn run_named<W: Sink>(alloc: Global, names: &[String], writer: &mut W) -> u8 {
+    let mut first = 0u8;
+    let mut number = 0u8;
+    for (name, run) in &RUNS {
+        number = number.saturating_add(1);
+        if names.is_empty() || names.iter().any(|word| word.as_str() == *name) {
+            let outcome = outcome_of(alloc, *run);
+            let is_told = put_all(
+                writer,
+                &[name.as_bytes(), b" ", outcome.text().as_bytes(), b"\n"],
+            )
+            .is_ok();
+            if first == 0 && (outcome == Outcome::Wrong || !is_told) {
+                first = number;
+            }
+        }
+    }
+    first
+}
+
+// The words behind the program's name.
+fn words<R: Env + AllocGlobal>(rt: &R) -> Option<Vec<String>> {
+    env::args(rt).ok()?.skip(1).collect(rt.alloc()).ok()
+}
+
+fn main(rt: HostRuntime) -> ExitCode {
+    let mut writer = OverWrite::new(rt.stdout());
+    match words(&rt) {
+        Some(names) => ExitCode::from(run_named(rt.alloc(), names.as_slice(), &mut writer)),
+        None => ExitCode::from(0),
+    }
+}
