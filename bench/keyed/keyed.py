@@ -15,7 +15,7 @@ import time
 
 program, work = sys.argv[1], sys.argv[2]
 TABLES = (
-    "CREATE TABLE entry (edition INTEGER NOT NULL, ord INTEGER NOT NULL, headword TEXT NOT NULL, start INTEGER NOT NULL, length INTEGER NOT NULL, key BLOB NOT NULL, rkey BLOB NOT NULL, PRIMARY KEY (edition, ord)) STRICT",
+    "CREATE TABLE entry (edition INTEGER NOT NULL, ord INTEGER NOT NULL, headword TEXT NOT NULL, start INTEGER NOT NULL, length INTEGER NOT NULL, key BLOB NOT NULL, rkey BLOB NOT NULL, shown TEXT NOT NULL, PRIMARY KEY (edition, ord)) STRICT",
     "CREATE TABLE word (edition INTEGER NOT NULL, word BLOB NOT NULL, ord INTEGER NOT NULL, PRIMARY KEY (edition, word, ord)) STRICT",
     "CREATE TABLE gram (edition INTEGER NOT NULL, gram BLOB NOT NULL, ord INTEGER NOT NULL, PRIMARY KEY (edition, gram, ord)) STRICT",
 )
@@ -60,7 +60,7 @@ def fill(path, words, way):
     start, processor = time.perf_counter(), time.process_time()
     conn.execute("BEGIN")
     for row in rows:
-        conn.execute("INSERT INTO entry (edition, ord, headword, start, length, key, rkey) VALUES (?1, ?2, ?3, ?4, ?5, ?6, ?7)", row)
+        conn.execute("INSERT INTO entry (edition, ord, headword, start, length, key, rkey, shown) VALUES (?1, ?2, ?3, ?4, ?5, ?6, ?7, ?3)", row)
     for piece, at in of_words:
         conn.execute("INSERT INTO word (edition, word, ord) VALUES (?1, ?2, ?3)", (1, piece, at))
     for piece, at in of_grams:
