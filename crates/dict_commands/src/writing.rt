@@ -3,7 +3,8 @@ ghost use Rattle.std.specs.Prelude.{◌≡◌, ◌++◌, ◌∷◌, [], true, On
 ghost use Rattle.std.specs.List.{AllByRecursion};
 ghost use Rattle.sqlite.specs.Effect.{IsDatabase};
 ghost use Rattle.sqlite.specs.State.{HasCleanDisk, KeepsCommit, Survives};
-ghost use Rattle.dict_sql.specs.Effects.{WhileOpen, seen};
+ghost use Rattle.sqlite.specs.Held.{state};
+ghost use Rattle.dict_sql.specs.Effects.{WhileOpen};
 ghost use Rattle.dict_catalogue.specs.Items.{numbers_of};
 ghost use Rattle.dict_catalogue.specs.Views.{item_shown, kept_shown};
 ghost use Rattle.dict_rows.specs.After.{tables_after};
@@ -18,21 +19,25 @@ use crate::small::{write_items, write_mark, write_members};
 use dict_catalogue::{Change, Command, Kept, Summary};
 use dict_rows::kept_row;
 use dict_sql::insert::insert_kept;
-use sqlite::{Alter, Error, Transaction};
+use dict_sql::transaction::OpenTransaction;
+use sqlite::{Alter, Error};
 
 // Writes the mark, the items and the members of a summary anew.
-fn write_summary<S: Alter>(tx: &mut Transaction<'_, S>, summary: &Summary) -> Result<(), Error>
+fn write_summary<S: Alter, T: OpenTransaction<S>>(
+    tx: &mut T,
+    summary: &Summary,
+) -> Result<(), Error>
     requires installs { IsStorable summary.now.installs }
     requires numbers { AllByRecursion (λ item. AreStorable (numbers_of (item_shown item))) summary.now.items.items }
-    requires usable { WhileOpen (seen S.Store tx.old) IsUsable }
-    ensures same_reference { tx.new.conn.ghost_name ≡ tx.old.conn.ghost_name }
-    ensures turns { HasCleanDisk (seen S.Store tx.new) → OnOk result (Turns (λ tables. with_members (map item_shown summary.now.items.items) (with_items (map item_shown summary.now.items.items) (with_mark summary.now.installs tables))) (seen S.Store tx.old).now (seen S.Store tx.new).now) }
-    ensures usable { OnOk result (WhileOpen (seen S.Store tx.new) IsUsable) }
-    ensures inside { HasCleanDisk (seen S.Store tx.new) → OnOk result ((seen S.Store tx.old).in_transaction ≡ true → (seen S.Store tx.new).in_transaction ≡ true) }
-    ensures ran { HasCleanDisk (seen S.Store tx.new) → OnOk result (RunInTurn S.Store (summary_anew 1 summary.now.installs (map item_shown summary.now.items.items)) tx.old.conn.now tx.new.conn.now) }
-    ensures failed { HasCleanDisk (seen S.Store tx.new) → IfErr result (FailsInTurn S.Store (summary_anew 1 summary.now.installs (map item_shown summary.now.items.items)) tx.old.conn.now tx.new.conn.now) }
-    ensures keeps { HasCleanDisk (seen S.Store tx.new) → KeepsCommit (seen S.Store tx.old) (seen S.Store tx.new) }
-    ensures survives { Survives (seen S.Store tx.old) (seen S.Store tx.new) (λ _. ⊥) }
+    requires usable { WhileOpen (state S.Store (T.held tx.old)) IsUsable }
+    ensures same_reference { T.reference tx.new ≡ T.reference tx.old }
+    ensures turns { HasCleanDisk (state S.Store (T.held tx.new)) → OnOk result (Turns (λ tables. with_members (map item_shown summary.now.items.items) (with_items (map item_shown summary.now.items.items) (with_mark summary.now.installs tables))) (state S.Store (T.held tx.old)).now (state S.Store (T.held tx.new)).now) }
+    ensures usable { OnOk result (WhileOpen (state S.Store (T.held tx.new)) IsUsable) }
+    ensures inside { HasCleanDisk (state S.Store (T.held tx.new)) → OnOk result ((state S.Store (T.held tx.old)).in_transaction ≡ true → (state S.Store (T.held tx.new)).in_transaction ≡ true) }
+    ensures ran { HasCleanDisk (state S.Store (T.held tx.new)) → OnOk result (RunInTurn S.Store (summary_anew 1 summary.now.installs (map item_shown summary.now.items.items)) (T.held tx.old) (T.held tx.new)) }
+    ensures failed { HasCleanDisk (state S.Store (T.held tx.new)) → IfErr result (FailsInTurn S.Store (summary_anew 1 summary.now.installs (map item_shown summary.now.items.items)) (T.held tx.old) (T.held tx.new)) }
+    ensures keeps { HasCleanDisk (state S.Store (T.held tx.new)) → KeepsCommit (state S.Store (T.held tx.old)) (state S.Store (T.held tx.new)) }
+    ensures survives { Survives (state S.Store (T.held tx.old)) (state S.Store (T.held tx.new)) (λ _. ⊥) }
 {
     write_mark(tx, summary.installs)?;
     write_items(tx, &summary.items)?;
@@ -41,23 +46,23 @@ fn write_summary<S: Alter>(tx: &mut Transaction<'_, S>, summary: &Summary) -> Re
 }
 
 // Takes out the editions that go, and adds the one that the command installs.
-fn write_editions<S: Alter>(
-    tx: &mut Transaction<'_, S>,
+fn write_editions<S: Alter, T: OpenTransaction<S>>(
+    tx: &mut T,
     gone: &[u64],
     installs: u64,
     command: &Command,
 ) -> Result<(), Error>
     requires gone { AreStorable gone.now }
     requires installs { IsStorable installs }
-    requires usable { WhileOpen (seen S.Store tx.old) IsUsable }
-    ensures same_reference { tx.new.conn.ghost_name ≡ tx.old.conn.ghost_name }
-    ensures turns { HasCleanDisk (seen S.Store tx.new) → OnOk result (Turns (λ tables. with_installed (installed_by installs command.now) (without_editions gone.now tables)) (seen S.Store tx.old).now (seen S.Store tx.new).now) }
-    ensures usable { OnOk result (WhileOpen (seen S.Store tx.new) IsUsable) }
-    ensures inside { HasCleanDisk (seen S.Store tx.new) → OnOk result ((seen S.Store tx.old).in_transaction ≡ true → (seen S.Store tx.new).in_transaction ≡ true) }
-    ensures ran { HasCleanDisk (seen S.Store tx.new) → OnOk result (RunInTurn S.Store (exchanging gone.now (installed_by installs command.now)) tx.old.conn.now tx.new.conn.now) }
-    ensures failed { HasCleanDisk (seen S.Store tx.new) → IfErr result (FailsInTurn S.Store (exchanging gone.now (installed_by installs command.now)) tx.old.conn.now tx.new.conn.now) }
-    ensures keeps { HasCleanDisk (seen S.Store tx.new) → KeepsCommit (seen S.Store tx.old) (seen S.Store tx.new) }
-    ensures survives { Survives (seen S.Store tx.old) (seen S.Store tx.new) (λ _. ⊥) }
+    requires usable { WhileOpen (state S.Store (T.held tx.old)) IsUsable }
+    ensures same_reference { T.reference tx.new ≡ T.reference tx.old }
+    ensures turns { HasCleanDisk (state S.Store (T.held tx.new)) → OnOk result (Turns (λ tables. with_installed (installed_by installs command.now) (without_editions gone.now tables)) (state S.Store (T.held tx.old)).now (state S.Store (T.held tx.new)).now) }
+    ensures usable { OnOk result (WhileOpen (state S.Store (T.held tx.new)) IsUsable) }
+    ensures inside { HasCleanDisk (state S.Store (T.held tx.new)) → OnOk result ((state S.Store (T.held tx.old)).in_transaction ≡ true → (state S.Store (T.held tx.new)).in_transaction ≡ true) }
+    ensures ran { HasCleanDisk (state S.Store (T.held tx.new)) → OnOk result (RunInTurn S.Store (exchanging gone.now (installed_by installs command.now)) (T.held tx.old) (T.held tx.new)) }
+    ensures failed { HasCleanDisk (state S.Store (T.held tx.new)) → IfErr result (FailsInTurn S.Store (exchanging gone.now (installed_by installs command.now)) (T.held tx.old) (T.held tx.new)) }
+    ensures keeps { HasCleanDisk (state S.Store (T.held tx.new)) → KeepsCommit (state S.Store (T.held tx.old)) (state S.Store (T.held tx.new)) }
+    ensures survives { Survives (state S.Store (T.held tx.old)) (state S.Store (T.held tx.new)) (λ _. ⊥) }
 {
     take_editions(tx, gone)?;
     add_installed(tx, installs, command)?;
@@ -65,18 +70,22 @@ fn write_editions<S: Alter>(
 }
 
 // Adds the reply that is kept for an id. It comes last, so it tells that the database is sound.
-fn add_reply<S: Alter>(tx: &mut Transaction<'_, S>, id: &str, reply: &Kept) -> Result<(), Error>
+fn add_reply<S: Alter, T: OpenTransaction<S>>(
+    tx: &mut T,
+    id: &str,
+    reply: &Kept,
+) -> Result<(), Error>
     requires number { IsStorable reply.now.number }
     requires edition { IfSome reply.now.edition IsStorable }
-    requires usable { WhileOpen (seen S.Store tx.old) IsUsable }
-    ensures same_reference { tx.new.conn.ghost_name ≡ tx.old.conn.ghost_name }
-    ensures turns { HasCleanDisk (seen S.Store tx.new) → OnOk result (Turns (with_reply (record { id = id.now; reply = kept_shown reply.now })) (seen S.Store tx.old).now (seen S.Store tx.new).now) }
-    ensures sound { HasCleanDisk (seen S.Store tx.new) → OnOk result (IsDatabase (seen S.Store tx.new).now) }
-    ensures inside { HasCleanDisk (seen S.Store tx.new) → OnOk result ((seen S.Store tx.new).in_transaction ≡ true) }
-    ensures ran { HasCleanDisk (seen S.Store tx.new) → OnOk result (RunInTurn S.Store (replying (record { id = id.now; reply = kept_shown reply.now })) tx.old.conn.now tx.new.conn.now) }
-    ensures failed { HasCleanDisk (seen S.Store tx.new) → IfErr result (FailsInTurn S.Store (replying (record { id = id.now; reply = kept_shown reply.now })) tx.old.conn.now tx.new.conn.now) }
-    ensures keeps { HasCleanDisk (seen S.Store tx.new) → KeepsCommit (seen S.Store tx.old) (seen S.Store tx.new) }
-    ensures survives { Survives (seen S.Store tx.old) (seen S.Store tx.new) (λ _. ⊥) }
+    requires usable { WhileOpen (state S.Store (T.held tx.old)) IsUsable }
+    ensures same_reference { T.reference tx.new ≡ T.reference tx.old }
+    ensures turns { HasCleanDisk (state S.Store (T.held tx.new)) → OnOk result (Turns (with_reply (record { id = id.now; reply = kept_shown reply.now })) (state S.Store (T.held tx.old)).now (state S.Store (T.held tx.new)).now) }
+    ensures sound { HasCleanDisk (state S.Store (T.held tx.new)) → OnOk result (IsDatabase (state S.Store (T.held tx.new)).now) }
+    ensures inside { HasCleanDisk (state S.Store (T.held tx.new)) → OnOk result ((state S.Store (T.held tx.new)).in_transaction ≡ true) }
+    ensures ran { HasCleanDisk (state S.Store (T.held tx.new)) → OnOk result (RunInTurn S.Store (replying (record { id = id.now; reply = kept_shown reply.now })) (T.held tx.old) (T.held tx.new)) }
+    ensures failed { HasCleanDisk (state S.Store (T.held tx.new)) → IfErr result (FailsInTurn S.Store (replying (record { id = id.now; reply = kept_shown reply.now })) (T.held tx.old) (T.held tx.new)) }
+    ensures keeps { HasCleanDisk (state S.Store (T.held tx.new)) → KeepsCommit (state S.Store (T.held tx.old)) (state S.Store (T.held tx.new)) }
+    ensures survives { Survives (state S.Store (T.held tx.old)) (state S.Store (T.held tx.new)) (λ _. ⊥) }
 {
     let row = kept_row(id, reply);
     insert_kept(tx, &row)?;
@@ -84,21 +93,21 @@ fn add_reply<S: Alter>(tx: &mut Transaction<'_, S>, id: &str, reply: &Kept) -> R
 }
 
 /// Writes all that a planned command does, and its reply for the id of its request.
-pub(crate) fn write_all<S: Alter>(
-    tx: &mut Transaction<'_, S>,
+pub(crate) fn write_all<S: Alter, T: OpenTransaction<S>>(
+    tx: &mut T,
     id: &str,
     command: &Command,
     change: &Change,
 ) -> Result<(), Error>
     requires writable { IsWritable change.now }
-    requires usable { WhileOpen (seen S.Store tx.old) IsUsable }
-    ensures same_reference { tx.new.conn.ghost_name ≡ tx.old.conn.ghost_name }
-    ensures made { HasCleanDisk (seen S.Store tx.new) → OnOk result (Turns (tables_after known (change_by id.now command.now change.now)) (seen S.Store tx.old).now (seen S.Store tx.new).now × IsDatabase (seen S.Store tx.new).now) }
-    ensures inside { HasCleanDisk (seen S.Store tx.new) → OnOk result ((seen S.Store tx.new).in_transaction ≡ true) }
-    ensures ran { HasCleanDisk (seen S.Store tx.new) → OnOk result (RunInTurn S.Store (statements_of known (change_by id.now command.now change.now)) tx.old.conn.now tx.new.conn.now) }
-    ensures failed { HasCleanDisk (seen S.Store tx.new) → IfErr result (FailsInTurn S.Store (statements_of known (change_by id.now command.now change.now)) tx.old.conn.now tx.new.conn.now) }
-    ensures keeps { HasCleanDisk (seen S.Store tx.new) → KeepsCommit (seen S.Store tx.old) (seen S.Store tx.new) }
-    ensures survives { Survives (seen S.Store tx.old) (seen S.Store tx.new) (λ _. ⊥) }
+    requires usable { WhileOpen (state S.Store (T.held tx.old)) IsUsable }
+    ensures same_reference { T.reference tx.new ≡ T.reference tx.old }
+    ensures made { HasCleanDisk (state S.Store (T.held tx.new)) → OnOk result (Turns (tables_after known (change_by id.now command.now change.now)) (state S.Store (T.held tx.old)).now (state S.Store (T.held tx.new)).now × IsDatabase (state S.Store (T.held tx.new)).now) }
+    ensures inside { HasCleanDisk (state S.Store (T.held tx.new)) → OnOk result ((state S.Store (T.held tx.new)).in_transaction ≡ true) }
+    ensures ran { HasCleanDisk (state S.Store (T.held tx.new)) → OnOk result (RunInTurn S.Store (statements_of known (change_by id.now command.now change.now)) (T.held tx.old) (T.held tx.new)) }
+    ensures failed { HasCleanDisk (state S.Store (T.held tx.new)) → IfErr result (FailsInTurn S.Store (statements_of known (change_by id.now command.now change.now)) (T.held tx.old) (T.held tx.new)) }
+    ensures keeps { HasCleanDisk (state S.Store (T.held tx.new)) → KeepsCommit (state S.Store (T.held tx.old)) (state S.Store (T.held tx.new)) }
+    ensures survives { Survives (state S.Store (T.held tx.old)) (state S.Store (T.held tx.new)) (λ _. ⊥) }
 {
     write_summary(tx, &change.summary)?;
     write_editions(tx, &change.gone, change.summary.installs, command)?;

@@ -37,3 +37,7 @@ pub mod NumberLemmas
 pub mod AddedLemmas
 pub mod TurnLemmas
 pub mod CountLemmas
+pub mod KindLemmas
+pub mod TransactionLemmas
+pub mod TransactionTexts
+pub mod EndLemmas

@@ -1,5 +1,5 @@
 -- A SELECT writes nothing, whatever the schema is, so that it is known of a connection that shows no tables too.
-use Rattle.std.proofs.Common.{◌≡◌, ℕ, List, false, Ok, Err, Result, Option, Some, None, IsTrue, inl, inr, refl, subst}
+use Rattle.std.proofs.Common.{◌≡◌, ℕ, List, false, Ok, Err, Result, Option, Some, None, IfOk, IsTrue, inl, inr, refl, subst}
 use Rattle.std.specs.Prelude.{⊤}
 use Rattle.std.proofs.lemmas.Bool.{cases_Bool}
 use Rattle.sqlite_resolve.specs.Lowering.{Checked, and_then}
@@ -20,6 +20,7 @@ use Rattle.sqlite_resolve.specs.declared.error.CompileError.{CompileError}
 use Rattle.sqlite_schema.specs.declared.command.Returning.{Returning}
 use Rattle.sqlite_syntax.specs.declared.statement.Parsed.{Parsed}
 use Rattle.dict_sql.specs.Reads.{FailsToRead}
+use Rattle.dict_sql.specs.Transactions.{ShowsNoWrite}
 
 abbrev IsSilent : Result Compiled CompileError → Type 0
 IsSilent (Ok c) = c.returning ≡ None
@@ -44,6 +45,13 @@ module _ (text : List ℕ) (p : Parsed) (query : Select) (read : first text ≡ 
     | inl listing ↦ rw listing (silent_select (compiled listing_schema text) (silent_compiled listing_schema))
     | inr other ↦ rw other (silent_compiled schema)
   ]
+
+  if_silent : (r : Result Compiled CompileError) → IsSilent r → IfOk r (λ c. c.returning ≡ None)
+  if_silent (Ok c) h = h
+  if_silent (Err e) h = tt
+
+  pub shows_no_write : ShowsNoWrite text
+  shows_no_write schema = if_silent (understood schema text) (silent schema)
 
   returns_none : (schema : Schema) (c : Compiled) → understood schema text ≡ Ok c → c.returning ≡ None
   returns_none schema c is = subst IsSilent is (silent schema)

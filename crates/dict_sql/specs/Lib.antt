@@ -11,3 +11,4 @@ pub mod Drops
 pub mod Keyed
 pub mod Added
 pub mod Statements
+pub mod Transactions

@@ -2,25 +2,27 @@
 
 ghost use Rattle.std.specs.Prelude.{◌≡◌, codes, IfErr, OnOk};
 ghost use Rattle.sqlite.specs.State.{HasCleanDisk, Survives};
+ghost use Rattle.sqlite.specs.Held.{state};
 ghost use Rattle.dict_tables.specs.Tables.{mark, item, member, edition, entry, kept};
 ghost use Rattle.dict_records.specs.Typed.{lent_mark, lent_item, lent_member, lent_edition, lent_entry, lent_kept};
 ghost use Rattle.dict_sql.specs.Encodings.{mark_row, item_row, member_row, edition_row, entry_row, kept_row};
-ghost use Rattle.dict_sql.specs.Effects.{Has, WhileOpen, seen};
+ghost use Rattle.dict_sql.specs.Effects.{Has, WhileOpen};
 ghost use Rattle.dict_sql.specs.Inserts.{Inserts, FailsToInsert};
 
+use crate::transaction::OpenTransaction;
 use dict_records::{Edition, Entry, Item, Kept, Mark, Member};
-use sqlite::{Alter, Error, Transaction, params};
+use sqlite::{Alter, Error, params};
 
 /// Inserts the mark. It answers the count of written rows that `sqlite` reports.
-pub fn insert_mark<S: Alter>(
-    tx: &mut Transaction<'_, S>,
+pub fn insert_mark<S: Alter, T: OpenTransaction<S>>(
+    tx: &mut T,
     given: &Mark<&str>,
 ) -> Result<usize, Error>
-    requires { WhileOpen (seen S.Store tx.old) (Has mark) }
-    ensures same_reference { tx.new.conn.ghost_name ≡ tx.old.conn.ghost_name }
-    ensures added { HasCleanDisk (seen S.Store tx.new) → OnOk result (Inserts (codes "mark") (mark_row (lent_mark given.now)) (seen S.Store tx.old) (seen S.Store tx.new)) }
-    ensures failed { HasCleanDisk (seen S.Store tx.new) → IfErr result (FailsToInsert (codes "mark") (mark_row (lent_mark given.now)) (seen S.Store tx.old) (seen S.Store tx.new)) }
-    ensures survives { Survives (seen S.Store tx.old) (seen S.Store tx.new) (λ _. ⊥) }
+    requires { WhileOpen (state S.Store (T.held tx.old)) (Has mark) }
+    ensures same_reference { T.reference tx.new ≡ T.reference tx.old }
+    ensures added { HasCleanDisk (state S.Store (T.held tx.new)) → OnOk result (Inserts (codes "mark") (mark_row (lent_mark given.now)) (state S.Store (T.held tx.old)) (state S.Store (T.held tx.new))) }
+    ensures failed { HasCleanDisk (state S.Store (T.held tx.new)) → IfErr result (FailsToInsert (codes "mark") (mark_row (lent_mark given.now)) (state S.Store (T.held tx.old)) (state S.Store (T.held tx.new))) }
+    ensures survives { Survives (state S.Store (T.held tx.old)) (state S.Store (T.held tx.new)) (λ _. ⊥) }
 {
     let id = given.id;
     let version = given.version;
@@ -32,15 +34,15 @@ pub fn insert_mark<S: Alter>(
 }
 
 /// Inserts an item of the list of databases. It answers the count of written rows that `sqlite` reports.
-pub fn insert_item<S: Alter>(
-    tx: &mut Transaction<'_, S>,
+pub fn insert_item<S: Alter, T: OpenTransaction<S>>(
+    tx: &mut T,
     given: &Item<&str>,
 ) -> Result<usize, Error>
-    requires { WhileOpen (seen S.Store tx.old) (Has item) }
-    ensures same_reference { tx.new.conn.ghost_name ≡ tx.old.conn.ghost_name }
-    ensures added { HasCleanDisk (seen S.Store tx.new) → OnOk result (Inserts (codes "item") (item_row (lent_item given.now)) (seen S.Store tx.old) (seen S.Store tx.new)) }
-    ensures failed { HasCleanDisk (seen S.Store tx.new) → IfErr result (FailsToInsert (codes "item") (item_row (lent_item given.now)) (seen S.Store tx.old) (seen S.Store tx.new)) }
-    ensures survives { Survives (seen S.Store tx.old) (seen S.Store tx.new) (λ _. ⊥) }
+    requires { WhileOpen (state S.Store (T.held tx.old)) (Has item) }
+    ensures same_reference { T.reference tx.new ≡ T.reference tx.old }
+    ensures added { HasCleanDisk (state S.Store (T.held tx.new)) → OnOk result (Inserts (codes "item") (item_row (lent_item given.now)) (state S.Store (T.held tx.old)) (state S.Store (T.held tx.new))) }
+    ensures failed { HasCleanDisk (state S.Store (T.held tx.new)) → IfErr result (FailsToInsert (codes "item") (item_row (lent_item given.now)) (state S.Store (T.held tx.old)) (state S.Store (T.held tx.new))) }
+    ensures survives { Survives (state S.Store (T.held tx.old)) (state S.Store (T.held tx.new)) (λ _. ⊥) }
 {
     let place = given.place;
     let kind = given.kind;
@@ -58,15 +60,15 @@ pub fn insert_item<S: Alter>(
 }
 
 /// Inserts a member of a virtual item. It answers the count of written rows that `sqlite` reports.
-pub fn insert_member<S: Alter>(
-    tx: &mut Transaction<'_, S>,
+pub fn insert_member<S: Alter, T: OpenTransaction<S>>(
+    tx: &mut T,
     given: &Member<&str>,
 ) -> Result<usize, Error>
-    requires { WhileOpen (seen S.Store tx.old) (Has member) }
-    ensures same_reference { tx.new.conn.ghost_name ≡ tx.old.conn.ghost_name }
-    ensures added { HasCleanDisk (seen S.Store tx.new) → OnOk result (Inserts (codes "member") (member_row (lent_member given.now)) (seen S.Store tx.old) (seen S.Store tx.new)) }
-    ensures failed { HasCleanDisk (seen S.Store tx.new) → IfErr result (FailsToInsert (codes "member") (member_row (lent_member given.now)) (seen S.Store tx.old) (seen S.Store tx.new)) }
-    ensures survives { Survives (seen S.Store tx.old) (seen S.Store tx.new) (λ _. ⊥) }
+    requires { WhileOpen (state S.Store (T.held tx.old)) (Has member) }
+    ensures same_reference { T.reference tx.new ≡ T.reference tx.old }
+    ensures added { HasCleanDisk (state S.Store (T.held tx.new)) → OnOk result (Inserts (codes "member") (member_row (lent_member given.now)) (state S.Store (T.held tx.old)) (state S.Store (T.held tx.new))) }
+    ensures failed { HasCleanDisk (state S.Store (T.held tx.new)) → IfErr result (FailsToInsert (codes "member") (member_row (lent_member given.now)) (state S.Store (T.held tx.old)) (state S.Store (T.held tx.new))) }
+    ensures survives { Survives (state S.Store (T.held tx.old)) (state S.Store (T.held tx.new)) (λ _. ⊥) }
 {
     let ord = given.ord;
     tx.execute(
@@ -76,15 +78,15 @@ pub fn insert_member<S: Alter>(
 }
 
 /// Inserts an edition, with the whole text that its entries are cut from. It answers the count of written rows that `sqlite` reports.
-pub fn insert_edition<S: Alter>(
-    tx: &mut Transaction<'_, S>,
+pub fn insert_edition<S: Alter, T: OpenTransaction<S>>(
+    tx: &mut T,
     given: &Edition<&str, &[u8]>,
 ) -> Result<usize, Error>
-    requires { WhileOpen (seen S.Store tx.old) (Has edition) }
-    ensures same_reference { tx.new.conn.ghost_name ≡ tx.old.conn.ghost_name }
-    ensures added { HasCleanDisk (seen S.Store tx.new) → OnOk result (Inserts (codes "edition") (edition_row (lent_edition given.now)) (seen S.Store tx.old) (seen S.Store tx.new)) }
-    ensures failed { HasCleanDisk (seen S.Store tx.new) → IfErr result (FailsToInsert (codes "edition") (edition_row (lent_edition given.now)) (seen S.Store tx.old) (seen S.Store tx.new)) }
-    ensures survives { Survives (seen S.Store tx.old) (seen S.Store tx.new) (λ _. ⊥) }
+    requires { WhileOpen (state S.Store (T.held tx.old)) (Has edition) }
+    ensures same_reference { T.reference tx.new ≡ T.reference tx.old }
+    ensures added { HasCleanDisk (state S.Store (T.held tx.new)) → OnOk result (Inserts (codes "edition") (edition_row (lent_edition given.now)) (state S.Store (T.held tx.old)) (state S.Store (T.held tx.new))) }
+    ensures failed { HasCleanDisk (state S.Store (T.held tx.new)) → IfErr result (FailsToInsert (codes "edition") (edition_row (lent_edition given.now)) (state S.Store (T.held tx.old)) (state S.Store (T.held tx.new))) }
+    ensures survives { Survives (state S.Store (T.held tx.old)) (state S.Store (T.held tx.new)) (λ _. ⊥) }
 {
     let number = given.number;
     tx.execute(
@@ -94,15 +96,15 @@ pub fn insert_edition<S: Alter>(
 }
 
 /// Inserts an entry of an edition: its headword, and where its body stands in the text. It answers the count of written rows that `sqlite` reports.
-pub fn insert_entry<S: Alter>(
-    tx: &mut Transaction<'_, S>,
+pub fn insert_entry<S: Alter, T: OpenTransaction<S>>(
+    tx: &mut T,
     given: &Entry<&str>,
 ) -> Result<usize, Error>
-    requires { WhileOpen (seen S.Store tx.old) (Has entry) }
-    ensures same_reference { tx.new.conn.ghost_name ≡ tx.old.conn.ghost_name }
-    ensures added { HasCleanDisk (seen S.Store tx.new) → OnOk result (Inserts (codes "entry") (entry_row (lent_entry given.now)) (seen S.Store tx.old) (seen S.Store tx.new)) }
-    ensures failed { HasCleanDisk (seen S.Store tx.new) → IfErr result (FailsToInsert (codes "entry") (entry_row (lent_entry given.now)) (seen S.Store tx.old) (seen S.Store tx.new)) }
-    ensures survives { Survives (seen S.Store tx.old) (seen S.Store tx.new) (λ _. ⊥) }
+    requires { WhileOpen (state S.Store (T.held tx.old)) (Has entry) }
+    ensures same_reference { T.reference tx.new ≡ T.reference tx.old }
+    ensures added { HasCleanDisk (state S.Store (T.held tx.new)) → OnOk result (Inserts (codes "entry") (entry_row (lent_entry given.now)) (state S.Store (T.held tx.old)) (state S.Store (T.held tx.new))) }
+    ensures failed { HasCleanDisk (state S.Store (T.held tx.new)) → IfErr result (FailsToInsert (codes "entry") (entry_row (lent_entry given.now)) (state S.Store (T.held tx.old)) (state S.Store (T.held tx.new))) }
+    ensures survives { Survives (state S.Store (T.held tx.old)) (state S.Store (T.held tx.new)) (λ _. ⊥) }
 {
     let edition = given.edition;
     let ord = given.ord;
@@ -115,15 +117,15 @@ pub fn insert_entry<S: Alter>(
 }
 
 /// Inserts a reply that is kept for its id. It answers the count of written rows that `sqlite` reports.
-pub fn insert_kept<S: Alter>(
-    tx: &mut Transaction<'_, S>,
+pub fn insert_kept<S: Alter, T: OpenTransaction<S>>(
+    tx: &mut T,
     given: &Kept<&str>,
 ) -> Result<usize, Error>
-    requires { WhileOpen (seen S.Store tx.old) (Has kept) }
-    ensures same_reference { tx.new.conn.ghost_name ≡ tx.old.conn.ghost_name }
-    ensures added { HasCleanDisk (seen S.Store tx.new) → OnOk result (Inserts (codes "kept") (kept_row (lent_kept given.now)) (seen S.Store tx.old) (seen S.Store tx.new)) }
-    ensures failed { HasCleanDisk (seen S.Store tx.new) → IfErr result (FailsToInsert (codes "kept") (kept_row (lent_kept given.now)) (seen S.Store tx.old) (seen S.Store tx.new)) }
-    ensures survives { Survives (seen S.Store tx.old) (seen S.Store tx.new) (λ _. ⊥) }
+    requires { WhileOpen (state S.Store (T.held tx.old)) (Has kept) }
+    ensures same_reference { T.reference tx.new ≡ T.reference tx.old }
+    ensures added { HasCleanDisk (state S.Store (T.held tx.new)) → OnOk result (Inserts (codes "kept") (kept_row (lent_kept given.now)) (state S.Store (T.held tx.old)) (state S.Store (T.held tx.new))) }
+    ensures failed { HasCleanDisk (state S.Store (T.held tx.new)) → IfErr result (FailsToInsert (codes "kept") (kept_row (lent_kept given.now)) (state S.Store (T.held tx.old)) (state S.Store (T.held tx.new))) }
+    ensures survives { Survives (state S.Store (T.held tx.old)) (state S.Store (T.held tx.new)) (λ _. ⊥) }
 {
     let number = given.number;
     tx.execute(

@@ -11,3 +11,4 @@ pub mod laws;
 pub mod read;
 pub mod records;
 pub mod stream;
+pub mod transaction;

@@ -9,10 +9,11 @@ use std::alloc::Global;
 use std::process::Abort;
 use std::test::Fail;
 
+mod left_open;
 mod reads;
 mod rows;
 
-/// Makes the tables, fills them and reads them. There is no room for them a second time.
+/// Makes the tables, fills them and reads them. There is no room for them a second time. A transaction is left open between calls.
 pub(crate) fn fill<S: Alter>(
     rt: &impl Abort,
     alloc: Global,
@@ -33,7 +34,8 @@ pub(crate) fn fill<S: Alter>(
         conn,
         "INSERT INTO mark VALUES (2, '', 9223372036854775807, -1); INSERT INTO entry (rowid, edition, ord, headword, start, length) VALUES (9223372036854775807, 3, 0, 'zinc', 0, 0)",
     )?;
-    reads::look(rt, alloc, conn)
+    reads::look(rt, alloc, conn)?;
+    left_open::run(rt, conn)
 }
 
 // The rows of the other tables, and of two of the store's.

@@ -9,7 +9,7 @@ returns-in_ok-add_edition-in-Install-clause-turns g c = λ clean tables it. rw c
 
 pub returns-in_err-add_edition-in-Install-clause-failed : goal.returns-in_err-add_edition-in-Install-clause-failed
 returns-in_err-add_edition-in-Install-clause-failed g c clean =
-    passed_on (FailsInTurn g.S.Store (installing (installed_by c.args.number c.args.command.now)) c.args.tx.now.conn.now c.add_edition.new.tx.conn.now) c.in_err-add_edition-in-Install.field-0.0 c.from_residual.result c.from_residual.ensures.1
+    passed_on (FailsInTurn g.S.Store (installing (installed_by c.args.number c.args.command.now)) (g.T.OpenTransaction.held c.args.tx.now) (g.T.OpenTransaction.held c.add_edition.new.tx)) c.in_err-add_edition-in-Install.field-0.0 c.from_residual.result c.from_residual.ensures.1
     (rw c.in-Install.is (c.in_err-add_edition-in-Install.ensures.failed clean))
 
 pub returns-in_ok-add_edition-in-Install-clause-ran : goal.returns-in_ok-add_edition-in-Install-clause-ran

@@ -1,7 +1,8 @@
 -- what was written so far
 use Rattle.std.proofs.Common.{◌≡◌, ◌++◌, take, true}
 use Rattle.sqlite.specs.State.{HasCleanDisk, KeepsCommit, Survives}
-use Rattle.dict_sql.specs.Effects.{WhileOpen, seen}
+use Rattle.sqlite.specs.Held.{state}
+use Rattle.dict_sql.specs.Effects.{WhileOpen}
 use Rattle.dict_rows.specs.Written.{numbered, member_record}
 use Rattle.dict_catalogue.specs.Views.{texts_shown}
 use Rattle.dict_commands.specs.Kept.{Turns, IsUsable}
@@ -12,11 +13,11 @@ use Rattle.dict_commands.proofs.small.add_members.Given as goal
 
 abbrev pub invariant-loop-ord : goal.invariant-loop-ord
 invariant-loop-ord g l = record {
-  same_reference : l.tx.conn.ghost_name ≡ l.fn.tx.conn.ghost_name;
-  turns : HasCleanDisk (seen g.S.Store l.tx) → Turns (λ tables. record tables { members = tables.members ++ numbered (member_record l.owner) 0 (texts_shown (take l.ord l.members)) }) (seen g.S.Store l.fn.tx).now (seen g.S.Store l.tx).now;
-  ran : HasCleanDisk (seen g.S.Store l.tx) → RunInTurn g.S.Store (map adding_member (numbered (member_record l.owner) 0 (texts_shown (take l.ord l.members)))) l.fn.tx.conn.now l.tx.conn.now;
-  usable : WhileOpen (seen g.S.Store l.tx) IsUsable;
-  keeps : HasCleanDisk (seen g.S.Store l.tx) → KeepsCommit (seen g.S.Store l.fn.tx) (seen g.S.Store l.tx);
-  survives : Survives (seen g.S.Store l.fn.tx) (seen g.S.Store l.tx) (λ _. ⊥);
-  inside : HasCleanDisk (seen g.S.Store l.tx) → (seen g.S.Store l.fn.tx).in_transaction ≡ true → (seen g.S.Store l.tx).in_transaction ≡ true;
+  same_reference : g.T.OpenTransaction.reference l.tx ≡ g.T.OpenTransaction.reference l.fn.tx;
+  turns : HasCleanDisk (state g.S.Store (g.T.OpenTransaction.held l.tx)) → Turns (λ tables. record tables { members = tables.members ++ numbered (member_record l.owner) 0 (texts_shown (take l.ord l.members)) }) (state g.S.Store (g.T.OpenTransaction.held l.fn.tx)).now (state g.S.Store (g.T.OpenTransaction.held l.tx)).now;
+  ran : HasCleanDisk (state g.S.Store (g.T.OpenTransaction.held l.tx)) → RunInTurn g.S.Store (map adding_member (numbered (member_record l.owner) 0 (texts_shown (take l.ord l.members)))) (g.T.OpenTransaction.held l.fn.tx) (g.T.OpenTransaction.held l.tx);
+  usable : WhileOpen (state g.S.Store (g.T.OpenTransaction.held l.tx)) IsUsable;
+  keeps : HasCleanDisk (state g.S.Store (g.T.OpenTransaction.held l.tx)) → KeepsCommit (state g.S.Store (g.T.OpenTransaction.held l.fn.tx)) (state g.S.Store (g.T.OpenTransaction.held l.tx));
+  survives : Survives (state g.S.Store (g.T.OpenTransaction.held l.fn.tx)) (state g.S.Store (g.T.OpenTransaction.held l.tx)) (λ _. ⊥);
+  inside : HasCleanDisk (state g.S.Store (g.T.OpenTransaction.held l.tx)) → (state g.S.Store (g.T.OpenTransaction.held l.fn.tx)).in_transaction ≡ true → (state g.S.Store (g.T.OpenTransaction.held l.tx)).in_transaction ≡ true;
 }

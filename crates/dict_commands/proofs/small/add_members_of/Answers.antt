@@ -13,8 +13,8 @@ returns-in_ok-add_members-in-Virtual-clause-turns g c = λ clean tables it.
 
 pub returns-in_err-add_members-in-Virtual-clause-failed : goal.returns-in_err-add_members-in-Virtual-clause-failed
 returns-in_err-add_members-in-Virtual-clause-failed g c clean =
-    let old = c.args.tx.now.conn.now in
-    let new = c.add_members.new.tx.conn.now in
+    let old = (g.T.OpenTransaction.held c.args.tx.now) in
+    let new = (g.T.OpenTransaction.held c.add_members.new.tx) in
     let it = item_shown c.args.item.now in
     passed_on (FailsInTurn g.S.Store (map adding_member (numbered (member_record (name_of it)) 0 (members_of it))) old new) c.in_err-add_members-in-Virtual.field-0.0 c.from_residual.result c.from_residual.ensures.1
     (rw c.in-Virtual.is (rw (c.deref.ensures, c.deref-in-Virtual.ensures.value) at (c.in_err-add_members-in-Virtual.ensures.failed clean)))

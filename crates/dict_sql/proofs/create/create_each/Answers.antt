@@ -1,9 +1,9 @@
 use Rattle.std.proofs.Common.{arith, ◌∙◌, get_or, map, subst}
 use Rattle.std.proofs.lemmas.List.{take_all}
 use Rattle.sqlite.specs.State.{HasCleanDisk}
+use Rattle.sqlite.specs.Held.{state}
 use Rattle.sqlite.proofs.StateLemmas.{survives_then}
 use Rattle.dict_tables.specs.declared.tables.StoreTable.TheVariants.{Mark}
-use Rattle.dict_sql.specs.Effects.{seen}
 use Rattle.dict_sql.specs.Creates.{FailsToMakeAll, count_trees}
 use Rattle.dict_sql.specs.Statements.{make, RunInTurn, FailsInTurn}
 use Rattle.dict_sql.proofs.MakeLemmas.{got, next_free, next_made, next_fails, keeps_then, goes_keeps, goes_then}
@@ -13,8 +13,8 @@ use Rattle.dict_sql.proofs.create.create_each.Goals as goal
 
 pub create_table-requires : goal.create_table-requires
 create_table-requires g c clean =
-    let old = seen g.S.Store c.args.tx.now in
-    let mid = seen g.S.Store c.each.tx in
+    let old = state g.S.Store (g.T.OpenTransaction.held c.args.tx.now) in
+    let mid = state g.S.Store (g.T.OpenTransaction.held c.each.tx) in
     let ts = c.args.tables.now in
     let i = c.each.table-index in
     let start : HasCleanDisk old = omega (arith, c.each.invariant.survives.clean, clean) in
@@ -22,9 +22,9 @@ create_table-requires g c clean =
 
 pub returns-in_err-create_table-clause-failed : goal.returns-in_err-create_table-clause-failed
 returns-in_err-create_table-clause-failed g c clean =
-    let old = seen g.S.Store c.args.tx.now in
-    let mid = seen g.S.Store c.each.tx in
-    let new = seen g.S.Store c.create_table.new.tx in
+    let old = state g.S.Store (g.T.OpenTransaction.held c.args.tx.now) in
+    let mid = state g.S.Store (g.T.OpenTransaction.held c.each.tx) in
+    let new = state g.S.Store (g.T.OpenTransaction.held c.create_table.new.tx) in
     let ts = c.args.tables.now in
     let i = c.each.table-index in
     let early : HasCleanDisk mid = omega (arith, c.create_table.ensures.survives.clean, clean) in
@@ -35,25 +35,25 @@ returns-in_err-create_table-clause-failed g c clean =
 
 pub returns-in_err-create_table-clause-failed_at : goal.returns-in_err-create_table-clause-failed_at
 returns-in_err-create_table-clause-failed_at g c clean =
-    let old = c.args.tx.now.conn in
-    let mid = c.each.tx.conn in
-    let new = c.create_table.new.tx.conn in
+    let old = g.T.OpenTransaction.held c.args.tx.now in
+    let mid = g.T.OpenTransaction.held c.each.tx in
+    let new = g.T.OpenTransaction.held c.create_table.new.tx in
     let ts = c.args.tables.now in
     let i = c.each.table-index in
-    let early : HasCleanDisk (seen g.S.Store c.each.tx) = omega (arith, c.create_table.ensures.survives.clean, clean) in
+    let early : HasCleanDisk (state g.S.Store (g.T.OpenTransaction.held c.each.tx)) = omega (arith, c.create_table.ensures.survives.clean, clean) in
     let e = c.in_err-create_table.field-0.0 in
-    passed_on (FailsInTurn g.S.Store (map make ts) old.now new.now) e c.from_residual.result c.from_residual.ensures.1
-    (fails_next g.S.Store make ts i (get_or ts i Mark) (got ts i Mark c.each-test.true) old.now mid.now new.now e (c.each.invariant.ran early) (c.in_err-create_table.ensures.failed clean) c.create_table.ensures.survives)
+    passed_on (FailsInTurn g.S.Store (map make ts) old new) e c.from_residual.result c.from_residual.ensures.1
+    (fails_next g.S.Store make ts i (get_or ts i Mark) (got ts i Mark c.each-test.true) old mid new e (c.each.invariant.ran early) (c.in_err-create_table.ensures.failed clean) c.create_table.ensures.survives)
 
 pub returns-clause-ran : goal.returns-clause-ran
 returns-clause-ran g c clean =
-    subst (λ l. RunInTurn g.S.Store (map make l) c.args.tx.now.conn.now c.each.tx.conn.now) (take_all c.each.table-index c.args.tables.now c.each-test.false) (c.each.invariant.ran clean)
+    subst (λ l. RunInTurn g.S.Store (map make l) (g.T.OpenTransaction.held c.args.tx.now) (g.T.OpenTransaction.held c.each.tx)) (take_all c.each.table-index c.args.tables.now c.each-test.false) (c.each.invariant.ran clean)
 
 pub each-preserved : goal.each-preserved
 each-preserved g c =
-    let old = seen g.S.Store c.args.tx.now in
-    let mid = seen g.S.Store c.each.tx in
-    let new = seen g.S.Store c.create_table.new.tx in
+    let old = state g.S.Store (g.T.OpenTransaction.held c.args.tx.now) in
+    let mid = state g.S.Store (g.T.OpenTransaction.held c.each.tx) in
+    let new = state g.S.Store (g.T.OpenTransaction.held c.create_table.new.tx) in
     let ts = c.args.tables.now in
     let i = c.each.table-index in
     let was = λ (clean : HasCleanDisk new). let early : HasCleanDisk mid = omega (arith, c.create_table.ensures.survives.clean, clean) in early in
@@ -61,7 +61,7 @@ each-preserved g c =
     record {
       same_reference = c.create_table.ensures.same_reference ∙ c.each.invariant.same_reference;
       made = λ clean. next_made ts i (get_or ts i Mark) (got ts i Mark c.each-test.true) c.requires.apart old mid (c.requires.ready (first clean)) (c.each.invariant.keeps (was clean)) (c.each.invariant.made (was clean)) new (c.in_ok-create_table.ensures.made clean).0;
-      ran = λ clean. run_next g.S.Store make ts i (get_or ts i Mark) (got ts i Mark c.each-test.true) c.args.tx.now.conn.now c.each.tx.conn.now c.create_table.new.tx.conn.now (c.each.invariant.ran (was clean)) (c.in_ok-create_table.ensures.made clean) c.create_table.ensures.survives;
+      ran = λ clean. run_next g.S.Store make ts i (get_or ts i Mark) (got ts i Mark c.each-test.true) (g.T.OpenTransaction.held c.args.tx.now) (g.T.OpenTransaction.held c.each.tx) (g.T.OpenTransaction.held c.create_table.new.tx) (c.each.invariant.ran (was clean)) (c.in_ok-create_table.ensures.made clean) c.create_table.ensures.survives;
       goes = λ clean _. goes_then old mid new (c.each.invariant.keeps (was clean)) (c.in_ok-create_table.ensures.made clean).1;
       mode = λ clean _. (c.in_ok-create_table.ensures.made clean).1.mode;
       keeps = λ clean. keeps_then old mid new (c.each.invariant.keeps (was clean)) (goes_keeps mid new (c.in_ok-create_table.ensures.made clean).1);

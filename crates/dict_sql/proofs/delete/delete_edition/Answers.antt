@@ -1,6 +1,6 @@
 use Rattle.std.proofs.Common.{[], ◌∷◌, codes, refl, ap, arith}
 use Rattle.sqlite.specs.Held.{state}
-use Rattle.dict_sql.specs.Effects.{seen, equals_number}
+use Rattle.dict_sql.specs.Effects.{equals_number}
 use Rattle.dict_sql.proofs.StateLemmas.{inside, fails_in}
 use Rattle.dict_sql.proofs.RefusalLemmas.{removes_aside}
 use Rattle.sqlite.specs.declared.types.Value.TheVariants.{Int}
@@ -9,19 +9,23 @@ use Rattle.dict_sql.specs.Deletes.{delete_edition}
 use Rattle.dict_sql.proofs.NumberLemmas.{bound_int}
 use Rattle.dict_sql.proofs.DeleteRefusals.{takes_edition, remove_fails}
 use Rattle.dict_sql.proofs.DeleteTexts.{read_edition, reads_edition, removes_rows, edition_goes}
+use Rattle.dict_sql.proofs.EndLemmas.{delete_ends_none}
 use Rattle.dict_sql.proofs.delete.delete_edition.Goals as goal
+
+pub execute-requires : goal.execute-requires
+execute-requires g c = delete_ends_none delete_edition read_edition _ _ _ _ reads_edition
 
 pub returns-clause-removed : goal.returns-clause-removed
 returns-clause-removed g c clean =
-    let old = seen g.S.Store c.args.tx.now in
-    let new = seen g.S.Store c.execute.new.self in
+    let old = state g.S.Store (g.T.OpenTransaction.held c.args.tx.now) in
+    let new = state g.S.Store (g.T.OpenTransaction.held c.execute.new.self) in
     inside delete_edition (Int c.args.number ∷ []) old new c.execute.result
     (λ open' count. let it = c.requires (omega (arith, c.execute.ensures.survives.clean)) open' in removes_rows delete_edition read_edition edition _ _ _ reads_edition (λ tree. refl) (Int c.args.number ∷ []) (equals_number 1 c.args.number) (λ tree row. edition_goes tree c.args.number row) old new count it.has it.apart)
     (λ outside. (c.execute.ensures.ended outside).0) (λ within. (rw (bound_int _ c.args.number c.ranges.number c.params-to_sql.ensures) at (c.execute.ensures.runs clean within)))
 
 pub returns-clause-failed : goal.returns-clause-failed
 returns-clause-failed g c clean =
-    let old = seen g.S.Store c.args.tx.now in
-    let new = seen g.S.Store c.execute.new.self in
+    let old = state g.S.Store (g.T.OpenTransaction.held c.args.tx.now) in
+    let new = state g.S.Store (g.T.OpenTransaction.held c.execute.new.self) in
     fails_in _ ⊥ (removes_aside (codes "edition") (equals_number 1 c.args.number) old) old new delete_edition (Int c.args.number ∷ []) c.execute.result (λ outside. ((c.execute.ensures.ended outside).0, ap (state g.S.Store) (c.execute.ensures.ended outside).1)) (λ within. (rw (bound_int _ c.args.number c.ranges.number c.params-to_sql.ensures) at (c.execute.ensures.runs clean within)))
     (λ open' e. let it = c.requires (omega (arith, c.execute.ensures.survives.clean)) open' in remove_fails delete_edition read_edition edition _ _ _ reads_edition (λ tree. refl) (Int c.args.number ∷ []) (takes_edition c.args.number) (equals_number 1 c.args.number) (λ tree row. edition_goes tree c.args.number row) old new e it.has it.apart)

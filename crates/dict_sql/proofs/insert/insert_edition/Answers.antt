@@ -6,18 +6,22 @@ use Rattle.dict_records.specs.Records.{Edition}
 use Rattle.dict_records.specs.Typed.{lent_edition}
 use Rattle.dict_sql.specs.Inserts.{insert_edition}
 use Rattle.dict_sql.specs.Encodings.{edition_row}
-use Rattle.dict_sql.specs.Effects.{seen}
 use Rattle.dict_sql.proofs.NumberLemmas.{bound_int}
 use Rattle.dict_sql.proofs.StateLemmas.{inside, fails_in}
 use Rattle.dict_sql.proofs.RefusalLemmas.{adds_aside}
 use Rattle.dict_sql.proofs.AddRefusals.{edition_fails}
 use Rattle.dict_sql.proofs.AddLemmas.{adds_edition}
+use Rattle.dict_sql.proofs.EndLemmas.{insert_ends_none}
+use Rattle.dict_sql.proofs.InsertTexts.{read_edition, reads_edition}
 use Rattle.dict_sql.proofs.insert.insert_edition.Goals as goal
+
+pub execute-requires : goal.execute-requires
+execute-requires g c = insert_ends_none insert_edition read_edition _ _ reads_edition
 
 pub returns-clause-added : goal.returns-clause-added
 returns-clause-added g c clean =
-    let old = seen g.S.Store c.args.tx.now in
-    let new = seen g.S.Store c.execute.new.self in
+    let old = state g.S.Store (g.T.OpenTransaction.held c.args.tx.now) in
+    let new = state g.S.Store (g.T.OpenTransaction.held c.execute.new.self) in
     let given : Edition = lent_edition c.args.given.now in
     let fits_number : SFits w64 c.args.given.now.number = search rules in
     inside insert_edition (edition_row given) old new c.execute.result (λ open' count. adds_edition old new given count (c.requires (omega (arith, c.execute.ensures.survives.clean)) open')) (λ outside. (c.execute.ensures.ended outside).0)
@@ -25,8 +29,8 @@ returns-clause-added g c clean =
 
 pub returns-clause-failed : goal.returns-clause-failed
 returns-clause-failed g c clean =
-    let old = seen g.S.Store c.args.tx.now in
-    let new = seen g.S.Store c.execute.new.self in
+    let old = state g.S.Store (g.T.OpenTransaction.held c.args.tx.now) in
+    let new = state g.S.Store (g.T.OpenTransaction.held c.execute.new.self) in
     let given : Edition = lent_edition c.args.given.now in
     let fits_number : SFits w64 c.args.given.now.number = search rules in
     fails_in _ _ (adds_aside (codes "edition") (edition_row given) old) old new insert_edition _ c.execute.result (λ outside. ((c.execute.ensures.ended outside).0, ap (state g.S.Store) (c.execute.ensures.ended outside).1))

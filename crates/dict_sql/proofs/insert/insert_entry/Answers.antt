@@ -6,18 +6,22 @@ use Rattle.dict_records.specs.Records.{Entry}
 use Rattle.dict_records.specs.Typed.{lent_entry}
 use Rattle.dict_sql.specs.Inserts.{insert_entry}
 use Rattle.dict_sql.specs.Encodings.{entry_row}
-use Rattle.dict_sql.specs.Effects.{seen}
 use Rattle.dict_sql.proofs.NumberLemmas.{bound_int}
 use Rattle.dict_sql.proofs.StateLemmas.{inside, fails_in}
 use Rattle.dict_sql.proofs.RefusalLemmas.{adds_aside}
 use Rattle.dict_sql.proofs.AddRefusals.{entry_fails}
 use Rattle.dict_sql.proofs.AddLemmas.{adds_entry}
+use Rattle.dict_sql.proofs.EndLemmas.{insert_ends_none}
+use Rattle.dict_sql.proofs.InsertTexts.{read_entry, reads_entry}
 use Rattle.dict_sql.proofs.insert.insert_entry.Goals as goal
+
+pub execute-requires : goal.execute-requires
+execute-requires g c = insert_ends_none insert_entry read_entry _ _ reads_entry
 
 pub returns-clause-added : goal.returns-clause-added
 returns-clause-added g c clean =
-    let old = seen g.S.Store c.args.tx.now in
-    let new = seen g.S.Store c.execute.new.self in
+    let old = state g.S.Store (g.T.OpenTransaction.held c.args.tx.now) in
+    let new = state g.S.Store (g.T.OpenTransaction.held c.execute.new.self) in
     let given : Entry = lent_entry c.args.given.now in
     let fits_edition : SFits w64 c.args.given.now.edition = search rules in
     let fits_ord : SFits w64 c.args.given.now.ord = search rules in
@@ -28,8 +32,8 @@ returns-clause-added g c clean =
 
 pub returns-clause-failed : goal.returns-clause-failed
 returns-clause-failed g c clean =
-    let old = seen g.S.Store c.args.tx.now in
-    let new = seen g.S.Store c.execute.new.self in
+    let old = state g.S.Store (g.T.OpenTransaction.held c.args.tx.now) in
+    let new = state g.S.Store (g.T.OpenTransaction.held c.execute.new.self) in
     let given : Entry = lent_entry c.args.given.now in
     let fits_edition : SFits w64 c.args.given.now.edition = search rules in
     let fits_ord : SFits w64 c.args.given.now.ord = search rules in

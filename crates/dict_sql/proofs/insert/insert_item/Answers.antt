@@ -6,18 +6,22 @@ use Rattle.dict_records.specs.Records.{Item}
 use Rattle.dict_records.specs.Typed.{lent_item}
 use Rattle.dict_sql.specs.Inserts.{insert_item}
 use Rattle.dict_sql.specs.Encodings.{item_row}
-use Rattle.dict_sql.specs.Effects.{seen}
 use Rattle.dict_sql.proofs.NumberLemmas.{bound_int}
 use Rattle.dict_sql.proofs.StateLemmas.{inside, fails_in}
 use Rattle.dict_sql.proofs.RefusalLemmas.{adds_aside}
 use Rattle.dict_sql.proofs.AddRefusals.{item_fails}
 use Rattle.dict_sql.proofs.AddLemmas.{adds_item, bound_number, bound_text}
+use Rattle.dict_sql.proofs.EndLemmas.{insert_ends_none}
+use Rattle.dict_sql.proofs.InsertTexts.{read_item, reads_item}
 use Rattle.dict_sql.proofs.insert.insert_item.Goals as goal
+
+pub execute-requires : goal.execute-requires
+execute-requires g c = insert_ends_none insert_item read_item _ _ reads_item
 
 pub returns-clause-added : goal.returns-clause-added
 returns-clause-added g c clean =
-    let old = seen g.S.Store c.args.tx.now in
-    let new = seen g.S.Store c.execute.new.self in
+    let old = state g.S.Store (g.T.OpenTransaction.held c.args.tx.now) in
+    let new = state g.S.Store (g.T.OpenTransaction.held c.execute.new.self) in
     let given : Item = lent_item c.args.given.now in
     let fits_place : SFits w64 c.args.given.now.place = search rules in
     let fits_kind : SFits w64 c.args.given.now.kind = search rules in
@@ -26,8 +30,8 @@ returns-clause-added g c clean =
 
 pub returns-clause-failed : goal.returns-clause-failed
 returns-clause-failed g c clean =
-    let old = seen g.S.Store c.args.tx.now in
-    let new = seen g.S.Store c.execute.new.self in
+    let old = state g.S.Store (g.T.OpenTransaction.held c.args.tx.now) in
+    let new = state g.S.Store (g.T.OpenTransaction.held c.execute.new.self) in
     let given : Item = lent_item c.args.given.now in
     let fits_place : SFits w64 c.args.given.now.place = search rules in
     let fits_kind : SFits w64 c.args.given.now.kind = search rules in

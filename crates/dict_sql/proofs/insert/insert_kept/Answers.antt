@@ -6,18 +6,22 @@ use Rattle.dict_records.specs.Records.{Kept}
 use Rattle.dict_records.specs.Typed.{lent_kept}
 use Rattle.dict_sql.specs.Inserts.{insert_kept}
 use Rattle.dict_sql.specs.Encodings.{kept_row}
-use Rattle.dict_sql.specs.Effects.{seen}
 use Rattle.dict_sql.proofs.NumberLemmas.{bound_int}
 use Rattle.dict_sql.proofs.StateLemmas.{inside, fails_in}
 use Rattle.dict_sql.proofs.RefusalLemmas.{adds_aside}
 use Rattle.dict_sql.proofs.AddRefusals.{kept_fails}
 use Rattle.dict_sql.proofs.AddLemmas.{adds_kept, bound_number}
+use Rattle.dict_sql.proofs.EndLemmas.{insert_ends_none}
+use Rattle.dict_sql.proofs.InsertTexts.{read_kept, reads_kept}
 use Rattle.dict_sql.proofs.insert.insert_kept.Goals as goal
+
+pub execute-requires : goal.execute-requires
+execute-requires g c = insert_ends_none insert_kept read_kept _ _ reads_kept
 
 pub returns-clause-added : goal.returns-clause-added
 returns-clause-added g c clean =
-    let old = seen g.S.Store c.args.tx.now in
-    let new = seen g.S.Store c.execute.new.self in
+    let old = state g.S.Store (g.T.OpenTransaction.held c.args.tx.now) in
+    let new = state g.S.Store (g.T.OpenTransaction.held c.execute.new.self) in
     let given : Kept = lent_kept c.args.given.now in
     let fits_number : SFits w64 c.args.given.now.number = search rules in
     inside insert_kept (kept_row given) old new c.execute.result (λ open' count. adds_kept old new given count (c.requires (omega (arith, c.execute.ensures.survives.clean)) open')) (λ outside. (c.execute.ensures.ended outside).0)
@@ -25,8 +29,8 @@ returns-clause-added g c clean =
 
 pub returns-clause-failed : goal.returns-clause-failed
 returns-clause-failed g c clean =
-    let old = seen g.S.Store c.args.tx.now in
-    let new = seen g.S.Store c.execute.new.self in
+    let old = state g.S.Store (g.T.OpenTransaction.held c.args.tx.now) in
+    let new = state g.S.Store (g.T.OpenTransaction.held c.execute.new.self) in
     let given : Kept = lent_kept c.args.given.now in
     let fits_number : SFits w64 c.args.given.now.number = search rules in
     fails_in _ _ (adds_aside (codes "kept") (kept_row given) old) old new insert_kept _ c.execute.result (λ outside. ((c.execute.ensures.ended outside).0, ap (state g.S.Store) (c.execute.ensures.ended outside).1))

@@ -6,18 +6,22 @@ use Rattle.dict_records.specs.Records.{Mark}
 use Rattle.dict_records.specs.Typed.{lent_mark}
 use Rattle.dict_sql.specs.Inserts.{insert_mark}
 use Rattle.dict_sql.specs.Encodings.{mark_row}
-use Rattle.dict_sql.specs.Effects.{seen}
 use Rattle.dict_sql.proofs.NumberLemmas.{bound_int}
 use Rattle.dict_sql.proofs.StateLemmas.{inside, fails_in}
 use Rattle.dict_sql.proofs.RefusalLemmas.{adds_aside}
 use Rattle.dict_sql.proofs.AddRefusals.{mark_fails}
 use Rattle.dict_sql.proofs.AddLemmas.{adds_mark}
+use Rattle.dict_sql.proofs.EndLemmas.{insert_ends_none}
+use Rattle.dict_sql.proofs.InsertTexts.{read_mark, reads_mark}
 use Rattle.dict_sql.proofs.insert.insert_mark.Goals as goal
+
+pub execute-requires : goal.execute-requires
+execute-requires g c = insert_ends_none insert_mark read_mark _ _ reads_mark
 
 pub returns-clause-added : goal.returns-clause-added
 returns-clause-added g c clean =
-    let old = seen g.S.Store c.args.tx.now in
-    let new = seen g.S.Store c.execute.new.self in
+    let old = state g.S.Store (g.T.OpenTransaction.held c.args.tx.now) in
+    let new = state g.S.Store (g.T.OpenTransaction.held c.execute.new.self) in
     let given : Mark = lent_mark c.args.given.now in
     let fits_id : SFits w64 c.args.given.now.id = search rules in
     let fits_version : SFits w64 c.args.given.now.version = search rules in
@@ -27,8 +31,8 @@ returns-clause-added g c clean =
 
 pub returns-clause-failed : goal.returns-clause-failed
 returns-clause-failed g c clean =
-    let old = seen g.S.Store c.args.tx.now in
-    let new = seen g.S.Store c.execute.new.self in
+    let old = state g.S.Store (g.T.OpenTransaction.held c.args.tx.now) in
+    let new = state g.S.Store (g.T.OpenTransaction.held c.execute.new.self) in
     let given : Mark = lent_mark c.args.given.now in
     let fits_id : SFits w64 c.args.given.now.id = search rules in
     let fits_version : SFits w64 c.args.given.now.version = search rules in

@@ -1,0 +1,67 @@
+//! A transaction that stays open between calls: what is written in it stays by its commit alone.
+
+use crate::checks::holds;
+use crate::connections::{compare_numbers, raw};
+use dict_records::Mark;
+use dict_sql::insert::insert_mark;
+use dict_sql::transaction::{begin, commit_open, roll_back};
+use dict_tables::{StoreTable, has_table};
+use sqlite::{Alter, Connection, Error};
+use std::process::Abort;
+use std::test::Fail;
+
+fn open<S: Alter>(conn: &mut Connection<S>) -> Result<(), Error> {
+    if !conn.is_autocommit() {
+        return Err(Error::InvalidQuery);
+    }
+    begin(conn);
+    Ok(())
+}
+
+fn put<S: Alter>(conn: &mut Connection<S>, id: i64) -> Result<usize, Error> {
+    if !has_table(conn.schema(), StoreTable::Mark) {
+        return Err(Error::InvalidQuery);
+    }
+    let mark = Mark {
+        id,
+        magic: "dictcat",
+        version: 1,
+        installs: 0,
+    };
+    insert_mark(conn, &mark)
+}
+
+fn count<S: Alter>(rt: &impl Abort, conn: &mut Connection<S>, expected: i64) -> Result<(), Fail> {
+    compare_numbers(rt, conn, &[("SELECT count(*) FROM mark", expected)])
+}
+
+// Two rows are put in, each by a call of its own, and undone.
+fn undo<S: Alter>(rt: &impl Abort, conn: &mut Connection<S>) -> Result<(), Fail> {
+    open(conn)?;
+    put(conn, 3)?;
+    put(conn, 4)?;
+    count(rt, conn, 4)?;
+    roll_back(conn);
+    holds(rt, conn.is_autocommit(), "rolled back");
+    count(rt, conn, 2)
+}
+
+// One row is put in and committed.
+fn keep<S: Alter>(rt: &impl Abort, conn: &mut Connection<S>) -> Result<(), Fail> {
+    open(conn)?;
+    put(conn, 3)?;
+    holds(rt, !conn.is_autocommit(), "open");
+    commit_open(conn)?;
+    roll_back(conn);
+    count(rt, conn, 3)
+}
+
+/// Nothing is put in where no transaction is open, nor committed. The marks, of which there are two, are left as they were.
+pub(crate) fn run<S: Alter>(rt: &impl Abort, conn: &mut Connection<S>) -> Result<(), Fail> {
+    holds(rt, put(conn, 3).is_err(), "put in outside");
+    undo(rt, conn)?;
+    keep(rt, conn)?;
+    holds(rt, commit_open(conn).is_err(), "committed twice");
+    raw(conn, "DELETE FROM mark WHERE id = 3")?;
+    Ok(())
+}
