@@ -16,6 +16,8 @@ use Rattle.dict_tables.specs.Keyed.{entry, word, gram, table_of}
 use Rattle.dict_keyed_sql.specs.Texts.{create_text}
 use Rattle.dict_tables.specs.declared.keyed.KeyedTable.{KeyedTable}
 use Rattle.dict_tables.specs.declared.keyed.KeyedTable.TheVariants as keyed
+use Rattle.dict_sql.proofs.EndLemmas.{create_ends_none}
+use Rattle.dict_sql.specs.Transactions.{EndsNothing}
 
 unfoldable pub read_entry : Parsed
 unfolding everything
@@ -62,3 +64,8 @@ pub make_fails_in : (t : KeyedTable) (old new : State) → IsFree old.now.schema
 make_fails_in keyed.Entry = make_fails (create_text keyed.Entry) read_entry (entry 0) reads_entry entry_stands
 make_fails_in keyed.Word = make_fails (create_text keyed.Word) read_word (word 0) reads_word word_stands
 make_fails_in keyed.Gram = make_fails (create_text keyed.Gram) read_gram (gram 0) reads_gram gram_stands
+
+pub make_ends_none : (t : KeyedTable) → EndsNothing (create_text t)
+make_ends_none keyed.Entry = create_ends_none (create_text keyed.Entry) read_entry (entry 0) reads_entry
+make_ends_none keyed.Word = create_ends_none (create_text keyed.Word) read_word (word 0) reads_word
+make_ends_none keyed.Gram = create_ends_none (create_text keyed.Gram) read_gram (gram 0) reads_gram

@@ -1,5 +1,5 @@
 -- The tables of what is derived are defined for whichever tree they are made in, and there is room for them.
-use Rattle.std.proofs.Common.{◌≡◌, ◌==◌, ℕ, [], ◌∷◌, true, false, refl, arith}
+use Rattle.std.proofs.Common.{◌≡◌, ◌==◌, ℕ, true, false, refl, arith}
 use Rattle.sqlite_schema.specs.Names.{same_name}
 use Rattle.dict_tables.specs.Definitions.{IsDefinition, are_named_apart}
 use Rattle.dict_tables.specs.Tables as store

@@ -25,6 +25,8 @@ use Rattle.dict_sql.proofs.TextLemmas.{parsed_or}
 use Rattle.dict_tables.specs.Keyed.{entry, word, gram}
 use Rattle.dict_keyed_sql.specs.Texts.{delete_text}
 use Rattle.dict_tables.specs.declared.keyed.KeyedTable.TheVariants as keyed
+use Rattle.dict_sql.proofs.EndLemmas.{delete_ends_none}
+use Rattle.dict_sql.specs.Transactions.{EndsNothing}
 
 -- the edition is the one that is given
 abbrev test_edition : List Term
@@ -119,3 +121,12 @@ removes_gram old new n count = removes_rows (delete_text keyed.Gram) read_gram g
 pub gram_stays : (old new : State) (n : ℤ) (e : Error) → Has gram old.now → HasApartRowids (rows_of (codes "gram") old.now) → ExecutesInside 0 (delete_text keyed.Gram) (Int n ∷ []) old new (Err e)
     → (RefusesToRemove (codes "gram") (equals_number 1 n) old e × IsUnchanged old new) ⊎ Fails old new ⊥ e
 gram_stays old new n e = remove_fails (delete_text keyed.Gram) read_gram gram (Some (equals_expr (codes "edition"))) test_edition 99997 reads_gram (λ tree. refl) (Int n ∷ []) (takes_gram n) (equals_number 1 n) (λ tree row. gram_goes tree n row) old new e
+
+pub entry_ends_none : EndsNothing (delete_text keyed.Entry)
+entry_ends_none = delete_ends_none (delete_text keyed.Entry) read_entry entry _ _ _ reads_entry
+
+pub word_ends_none : EndsNothing (delete_text keyed.Word)
+word_ends_none = delete_ends_none (delete_text keyed.Word) read_word word _ _ _ reads_word
+
+pub gram_ends_none : EndsNothing (delete_text keyed.Gram)
+gram_ends_none = delete_ends_none (delete_text keyed.Gram) read_gram gram _ _ _ reads_gram

@@ -15,6 +15,8 @@ use Rattle.dict_tables.specs.Keyed.{entry, word, gram, table_of}
 use Rattle.dict_keyed_sql.specs.Texts.{drop_text}
 use Rattle.dict_tables.specs.declared.keyed.KeyedTable.{KeyedTable}
 use Rattle.dict_tables.specs.declared.keyed.KeyedTable.TheVariants as keyed
+use Rattle.dict_sql.proofs.EndLemmas.{drop_ends_none}
+use Rattle.dict_sql.specs.Transactions.{EndsNothing}
 
 -- all of the text is read, and it names no value
 abbrev IsRead : KeyedTable → Parsed → Type 0
@@ -65,3 +67,8 @@ pub drop_fails_in : (t : KeyedTable) (old new : State) (e : Error) → Has (tabl
 drop_fails_in keyed.Entry old new e has = fails (drop_text keyed.Entry) read_entry entry reads_entry whole_entry.0 whole_entry.1 old new has.0 has.1 has.2 e
 drop_fails_in keyed.Word old new e has = fails (drop_text keyed.Word) read_word word reads_word whole_word.0 whole_word.1 old new has.0 has.1 has.2 e
 drop_fails_in keyed.Gram old new e has = fails (drop_text keyed.Gram) read_gram gram reads_gram whole_gram.0 whole_gram.1 old new has.0 has.1 has.2 e
+
+pub take_ends_none : (t : KeyedTable) → EndsNothing (drop_text t)
+take_ends_none keyed.Entry = drop_ends_none (drop_text keyed.Entry) read_entry entry reads_entry
+take_ends_none keyed.Word = drop_ends_none (drop_text keyed.Word) read_word word reads_word
+take_ends_none keyed.Gram = drop_ends_none (drop_text keyed.Gram) read_gram gram reads_gram

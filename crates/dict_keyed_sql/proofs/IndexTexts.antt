@@ -47,6 +47,8 @@ use Rattle.dict_tables.specs.Keyed.{entry, index_of}
 use Rattle.dict_keyed_sql.specs.Indexes.{index_text, HasToIndex, IsIndexed, RefusesToIndex, IsTooLong}
 use Rattle.dict_tables.specs.declared.keyed.KeyIndex.{KeyIndex}
 use Rattle.dict_tables.specs.declared.keyed.KeyIndex.TheVariants as key_index
+use Rattle.dict_sql.proofs.KindLemmas.{index_ends_nothing}
+use Rattle.dict_sql.specs.Transactions.{EndsNothing}
 
 abbrev nothing_defined : ast.CreateIndex
 nothing_defined = record { is_unique = false; if_missing = false; name = []; table = []; columns = [] }
@@ -299,3 +301,7 @@ index_fails_in key_index.Reversed old new to = index_fails (index_text key_index
 pub indexes_aside : (old : State) (e : Error) → RefusesToIndex old e → is_disk_error e ≡ false
 indexes_aside old e (inl many) = rw many.0 refl
 indexes_aside old e (inr broken) = rw broken.0 refl
+
+pub index_ends_none : (which : KeyIndex) → EndsNothing (index_text which)
+index_ends_none key_index.Key = index_ends_nothing (index_text key_index.Key) read_key reads_key.read (def_in read_key.statement) reads_key.statement
+index_ends_none key_index.Reversed = index_ends_nothing (index_text key_index.Reversed) read_reversed reads_reversed.read (def_in read_reversed.statement) reads_reversed.statement

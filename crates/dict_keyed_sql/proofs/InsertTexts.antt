@@ -23,6 +23,8 @@ use Rattle.dict_sql.proofs.TextLemmas.{parsed_or, ReadsInsert, insert_is, insert
 use Rattle.dict_sql.specs.Keyed.{keyed_entry_row, piece_row}
 use Rattle.dict_tables.specs.Keyed.{entry, word, gram}
 use Rattle.dict_keyed_sql.specs.Texts.{insert_keyed_entry, insert_word, insert_gram}
+use Rattle.dict_sql.proofs.EndLemmas.{insert_ends_none}
+use Rattle.dict_sql.specs.Transactions.{EndsNothing}
 
 -- ---- entry
 
@@ -131,3 +133,12 @@ gram_fails old new r e has h =
     (next_rowid (old.now.trees tree)) (cast_all (gram tree).columns (Int r.edition ∷ Blob r.piece ∷ Int r.ord ∷ [])) (rw cast_null refl)
     (rw (cast_int r.edition, cast_int r.ord) (refl)) (rw (cast_int r.edition, cast_int r.ord) (refl)) e
     (faults_inside insert_gram read_gram (Insert at (Values gram_terms 4)) (piece_row r) old new e (insert_is insert_gram read_gram gram (Values gram_terms 4) reads_gram old.now.schema at tree has.2) whole_gram.0 whole_gram.1 refl refl h)
+
+pub entry_ends_none : EndsNothing insert_keyed_entry
+entry_ends_none = insert_ends_none insert_keyed_entry read_entry entry _ reads_entry
+
+pub word_ends_none : EndsNothing insert_word
+word_ends_none = insert_ends_none insert_word read_word word _ reads_word
+
+pub gram_ends_none : EndsNothing insert_gram
+gram_ends_none = insert_ends_none insert_gram read_gram gram _ reads_gram

@@ -9,6 +9,8 @@ pub mod GramAnswers
 pub mod GramTexts
 pub mod IndexTexts
 pub mod IndexedLemmas
+pub mod InfoLemmas
+pub mod InfoTexts
 pub mod InsertTexts
 pub mod JoinAnswers
 pub mod JoinFaults

@@ -1,4 +1,5 @@
 pub mod Indexes
+pub mod Infos
 pub mod Joined
 pub mod Made
 pub mod Pieces

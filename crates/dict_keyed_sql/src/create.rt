@@ -2,15 +2,17 @@
 
 ghost use Rattle.std.specs.Prelude.{◌≡◌, IfErr, OnOk};
 ghost use Rattle.sqlite.specs.State.{HasCleanDisk, Survives};
-ghost use Rattle.dict_sql.specs.Effects.{GoesOn, WhileOpen, seen};
+ghost use Rattle.sqlite.specs.Held.{state};
+ghost use Rattle.dict_sql.specs.Effects.{GoesOn, WhileOpen};
 ghost use Rattle.dict_sql.specs.Creates.{IsFree, Makes, FailsToMake, FailsToMakeAll};
 ghost use Rattle.dict_keyed_sql.specs.Made.{IsKeyedReady, AreKeyedMade, keyed_trees};
 ghost use Rattle.dict_tables.specs.Keyed.{table_of};
 ghost use Rattle.dict_keyed_sql.specs.Texts.{create_text};
 
 use crate::indexes::create_key_index;
+use dict_sql::transaction::OpenTransaction;
 use dict_tables::{KeyIndex, KeyedTable};
-use sqlite::{Alter, Error, Transaction};
+use sqlite::{Alter, Error};
 
 fn text_of(table: KeyedTable) -> &'static str
     ensures { result.now ≡ create_text table }
@@ -29,15 +31,15 @@ fn text_of(table: KeyedTable) -> &'static str
 }
 
 /// Makes the table with the index of its key. It answers the count that `sqlite` reports.
-pub fn create_keyed_table<S: Alter>(
-    tx: &mut Transaction<'_, S>,
+pub fn create_keyed_table<S: Alter, T: OpenTransaction<S>>(
+    tx: &mut T,
     table: KeyedTable,
 ) -> Result<usize, Error>
-    requires { WhileOpen (seen S.Store tx.old) (λ db. IsFree db.schema (table_of table 0).name) }
-    ensures same_reference { tx.new.conn.ghost_name ≡ tx.old.conn.ghost_name }
-    ensures made { HasCleanDisk (seen S.Store tx.new) → OnOk result (Makes (table_of table 0) (seen S.Store tx.old) (seen S.Store tx.new)) }
-    ensures failed { HasCleanDisk (seen S.Store tx.new) → IfErr result (FailsToMake (table_of table 0) (seen S.Store tx.old) (seen S.Store tx.new)) }
-    ensures survives { Survives (seen S.Store tx.old) (seen S.Store tx.new) (λ _. ⊥) }
+    requires { WhileOpen (state S.Store (T.held tx.old)) (λ db. IsFree db.schema (table_of table 0).name) }
+    ensures same_reference { T.reference tx.new ≡ T.reference tx.old }
+    ensures made { HasCleanDisk (state S.Store (T.held tx.new)) → OnOk result (Makes (table_of table 0) (state S.Store (T.held tx.old)) (state S.Store (T.held tx.new))) }
+    ensures failed { HasCleanDisk (state S.Store (T.held tx.new)) → IfErr result (FailsToMake (table_of table 0) (state S.Store (T.held tx.old)) (state S.Store (T.held tx.new))) }
+    ensures survives { Survives (state S.Store (T.held tx.old)) (state S.Store (T.held tx.new)) (λ _. ⊥) }
 {
     tx.execute(text_of(table), &[])
 }
@@ -45,12 +47,12 @@ pub fn create_keyed_table<S: Alter>(
 /// Makes all three tables and the indexes of the entries by their keys, where there is room for them: they are there as every statement needs them, and have no rows. What was there stays, so that a transaction may make them behind other tables, and fill them all.
 ///
 /// An error commits nothing: it is the store's, and the transaction is undone, or it tells that there are too many trees.
-pub fn create_keyed_tables<S: Alter>(tx: &mut Transaction<'_, S>) -> Result<(), Error>
-    requires { WhileOpen (seen S.Store tx.old) IsKeyedReady }
-    ensures same_reference { tx.new.conn.ghost_name ≡ tx.old.conn.ghost_name }
-    ensures made { HasCleanDisk (seen S.Store tx.new) → OnOk result (AreKeyedMade (seen S.Store tx.old).now (seen S.Store tx.new).now × GoesOn (seen S.Store tx.old) (seen S.Store tx.new)) }
-    ensures failed { HasCleanDisk (seen S.Store tx.new) → IfErr result (FailsToMakeAll keyed_trees (seen S.Store tx.old) (seen S.Store tx.new)) }
-    ensures survives { Survives (seen S.Store tx.old) (seen S.Store tx.new) (λ _. ⊥) }
+pub fn create_keyed_tables<S: Alter, T: OpenTransaction<S>>(tx: &mut T) -> Result<(), Error>
+    requires { WhileOpen (state S.Store (T.held tx.old)) IsKeyedReady }
+    ensures same_reference { T.reference tx.new ≡ T.reference tx.old }
+    ensures made { HasCleanDisk (state S.Store (T.held tx.new)) → OnOk result (AreKeyedMade (state S.Store (T.held tx.old)).now (state S.Store (T.held tx.new)).now × GoesOn (state S.Store (T.held tx.old)) (state S.Store (T.held tx.new))) }
+    ensures failed { HasCleanDisk (state S.Store (T.held tx.new)) → IfErr result (FailsToMakeAll keyed_trees (state S.Store (T.held tx.old)) (state S.Store (T.held tx.new))) }
+    ensures survives { Survives (state S.Store (T.held tx.old)) (state S.Store (T.held tx.new)) (λ _. ⊥) }
 {
     create_keyed_table(tx, KeyedTable::Entry)?;
     create_keyed_table(tx, KeyedTable::Word)?;

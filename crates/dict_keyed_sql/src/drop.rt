@@ -2,13 +2,15 @@
 
 ghost use Rattle.std.specs.Prelude.{◌≡◌, IfErr, OnOk};
 ghost use Rattle.sqlite.specs.State.{HasCleanDisk, Survives};
-ghost use Rattle.dict_sql.specs.Effects.{Has, WhileOpen, seen};
+ghost use Rattle.sqlite.specs.Held.{state};
+ghost use Rattle.dict_sql.specs.Effects.{Has, WhileOpen};
 ghost use Rattle.dict_sql.specs.Drops.{Drops, FailsToDrop};
 ghost use Rattle.dict_tables.specs.Keyed.{table_of};
 ghost use Rattle.dict_keyed_sql.specs.Texts.{drop_text};
 
+use dict_sql::transaction::OpenTransaction;
 use dict_tables::KeyedTable;
-use sqlite::{Alter, Error, Transaction};
+use sqlite::{Alter, Error};
 
 fn text_of(table: KeyedTable) -> &'static str
     ensures { result.now ≡ drop_text table }
@@ -21,15 +23,15 @@ fn text_of(table: KeyedTable) -> &'static str
 }
 
 /// Drops the table with its rows and its indexes, those by keys among them. It answers the count that `sqlite` reports.
-pub fn drop_keyed_table<S: Alter>(
-    tx: &mut Transaction<'_, S>,
+pub fn drop_keyed_table<S: Alter, T: OpenTransaction<S>>(
+    tx: &mut T,
     table: KeyedTable,
 ) -> Result<usize, Error>
-    requires { WhileOpen (seen S.Store tx.old) (Has (table_of table)) }
-    ensures same_reference { tx.new.conn.ghost_name ≡ tx.old.conn.ghost_name }
-    ensures dropped { HasCleanDisk (seen S.Store tx.new) → OnOk result (Drops (table_of table 0).name (seen S.Store tx.old) (seen S.Store tx.new)) }
-    ensures failed { HasCleanDisk (seen S.Store tx.new) → IfErr result (FailsToDrop (table_of table 0).name (seen S.Store tx.old) (seen S.Store tx.new)) }
-    ensures survives { Survives (seen S.Store tx.old) (seen S.Store tx.new) (λ _. ⊥) }
+    requires { WhileOpen (state S.Store (T.held tx.old)) (Has (table_of table)) }
+    ensures same_reference { T.reference tx.new ≡ T.reference tx.old }
+    ensures dropped { HasCleanDisk (state S.Store (T.held tx.new)) → OnOk result (Drops (table_of table 0).name (state S.Store (T.held tx.old)) (state S.Store (T.held tx.new))) }
+    ensures failed { HasCleanDisk (state S.Store (T.held tx.new)) → IfErr result (FailsToDrop (table_of table 0).name (state S.Store (T.held tx.old)) (state S.Store (T.held tx.new))) }
+    ensures survives { Survives (state S.Store (T.held tx.old)) (state S.Store (T.held tx.new)) (λ _. ⊥) }
 {
     tx.execute(text_of(table), &[])
 }

@@ -4,14 +4,16 @@
 
 ghost use Rattle.std.specs.Prelude.{◌≡◌, ◌↔◌, codes, false, IfErr, IsTrue, OnOk, option_copied};
 ghost use Rattle.sqlite.specs.State.{HasCleanDisk, Survives};
-ghost use Rattle.dict_sql.specs.Effects.{WhileOpen, seen};
+ghost use Rattle.sqlite.specs.Held.{state};
+ghost use Rattle.dict_sql.specs.Effects.{WhileOpen};
 ghost use Rattle.dict_keyed_sql.specs.Indexes.{index_text, HasToIndex, Indexes, FailsToIndex};
 ghost use Rattle.dict_tables.specs.Keyed.{index_of};
 ghost use Rattle.dict_tables.specs.Indexes.{found_index, HasIndex};
 ghost use Rattle.sqlite_value.specs.Keys.{plain};
 
+use dict_sql::transaction::OpenTransaction;
 use dict_tables::{KeyIndex, find_table};
-use sqlite::{Alter, Error, Transaction};
+use sqlite::{Alter, Error};
 use sqlite_schema::schema::{Index, Schema};
 
 fn text_of(index: KeyIndex) -> &'static str
@@ -24,15 +26,15 @@ fn text_of(index: KeyIndex) -> &'static str
 }
 
 /// Makes the index. The rows of all tables stay as they are. It answers the count that `sqlite` reports.
-pub fn create_key_index<S: Alter>(
-    tx: &mut Transaction<'_, S>,
+pub fn create_key_index<S: Alter, T: OpenTransaction<S>>(
+    tx: &mut T,
     index: KeyIndex,
 ) -> Result<usize, Error>
-    requires { WhileOpen (seen S.Store tx.old) (HasToIndex index) }
-    ensures same_reference { tx.new.conn.ghost_name ≡ tx.old.conn.ghost_name }
-    ensures made { HasCleanDisk (seen S.Store tx.new) → OnOk result (Indexes index (seen S.Store tx.old) (seen S.Store tx.new)) }
-    ensures failed { HasCleanDisk (seen S.Store tx.new) → IfErr result (FailsToIndex index (seen S.Store tx.old) (seen S.Store tx.new)) }
-    ensures survives { Survives (seen S.Store tx.old) (seen S.Store tx.new) (λ _. ⊥) }
+    requires { WhileOpen (state S.Store (T.held tx.old)) (HasToIndex index) }
+    ensures same_reference { T.reference tx.new ≡ T.reference tx.old }
+    ensures made { HasCleanDisk (state S.Store (T.held tx.new)) → OnOk result (Indexes index (state S.Store (T.held tx.old)) (state S.Store (T.held tx.new))) }
+    ensures failed { HasCleanDisk (state S.Store (T.held tx.new)) → IfErr result (FailsToIndex index (state S.Store (T.held tx.old)) (state S.Store (T.held tx.new))) }
+    ensures survives { Survives (state S.Store (T.held tx.old)) (state S.Store (T.held tx.new)) (λ _. ⊥) }
 {
     tx.execute(text_of(index), &[])
 }

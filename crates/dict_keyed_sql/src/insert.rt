@@ -2,25 +2,27 @@
 
 ghost use Rattle.std.specs.Prelude.{◌≡◌, codes, IfErr, OnOk};
 ghost use Rattle.sqlite.specs.State.{HasCleanDisk, Survives};
+ghost use Rattle.sqlite.specs.Held.{state};
 ghost use Rattle.dict_records.specs.Keyed.{lent_keyed_entry, lent_word, lent_gram};
-ghost use Rattle.dict_sql.specs.Effects.{Has, WhileOpen, seen};
+ghost use Rattle.dict_sql.specs.Effects.{Has, WhileOpen};
 ghost use Rattle.dict_sql.specs.Inserts.{Inserts, FailsToInsert};
 ghost use Rattle.dict_tables.specs.Keyed.{entry, word, gram};
 ghost use Rattle.dict_sql.specs.Keyed.{keyed_entry_row, piece_row};
 
 use dict_records::{Gram, KeyedEntry, Word};
-use sqlite::{Alter, Error, Transaction, params};
+use dict_sql::transaction::OpenTransaction;
+use sqlite::{Alter, Error, params};
 
 /// Inserts an entry of an edition with its key, read in either direction. It answers the count of written rows that `sqlite` reports.
-pub fn insert_keyed_entry<S: Alter>(
-    tx: &mut Transaction<'_, S>,
+pub fn insert_keyed_entry<S: Alter, T: OpenTransaction<S>>(
+    tx: &mut T,
     given: &KeyedEntry<&str, &[u8]>,
 ) -> Result<usize, Error>
-    requires { WhileOpen (seen S.Store tx.old) (Has entry) }
-    ensures same_reference { tx.new.conn.ghost_name ≡ tx.old.conn.ghost_name }
-    ensures added { HasCleanDisk (seen S.Store tx.new) → OnOk result (Inserts (codes "entry") (keyed_entry_row (lent_keyed_entry given.now)) (seen S.Store tx.old) (seen S.Store tx.new)) }
-    ensures failed { HasCleanDisk (seen S.Store tx.new) → IfErr result (FailsToInsert (codes "entry") (keyed_entry_row (lent_keyed_entry given.now)) (seen S.Store tx.old) (seen S.Store tx.new)) }
-    ensures survives { Survives (seen S.Store tx.old) (seen S.Store tx.new) (λ _. ⊥) }
+    requires { WhileOpen (state S.Store (T.held tx.old)) (Has entry) }
+    ensures same_reference { T.reference tx.new ≡ T.reference tx.old }
+    ensures added { HasCleanDisk (state S.Store (T.held tx.new)) → OnOk result (Inserts (codes "entry") (keyed_entry_row (lent_keyed_entry given.now)) (state S.Store (T.held tx.old)) (state S.Store (T.held tx.new))) }
+    ensures failed { HasCleanDisk (state S.Store (T.held tx.new)) → IfErr result (FailsToInsert (codes "entry") (keyed_entry_row (lent_keyed_entry given.now)) (state S.Store (T.held tx.old)) (state S.Store (T.held tx.new))) }
+    ensures survives { Survives (state S.Store (T.held tx.old)) (state S.Store (T.held tx.new)) (λ _. ⊥) }
 {
     let edition = given.edition;
     let ord = given.ord;
@@ -42,15 +44,15 @@ pub fn insert_keyed_entry<S: Alter>(
 }
 
 /// Inserts a word of an entry's key. It answers the count of written rows that `sqlite` reports.
-pub fn insert_word<S: Alter>(
-    tx: &mut Transaction<'_, S>,
+pub fn insert_word<S: Alter, T: OpenTransaction<S>>(
+    tx: &mut T,
     given: &Word<&[u8]>,
 ) -> Result<usize, Error>
-    requires { WhileOpen (seen S.Store tx.old) (Has word) }
-    ensures same_reference { tx.new.conn.ghost_name ≡ tx.old.conn.ghost_name }
-    ensures added { HasCleanDisk (seen S.Store tx.new) → OnOk result (Inserts (codes "word") (piece_row (lent_word given.now)) (seen S.Store tx.old) (seen S.Store tx.new)) }
-    ensures failed { HasCleanDisk (seen S.Store tx.new) → IfErr result (FailsToInsert (codes "word") (piece_row (lent_word given.now)) (seen S.Store tx.old) (seen S.Store tx.new)) }
-    ensures survives { Survives (seen S.Store tx.old) (seen S.Store tx.new) (λ _. ⊥) }
+    requires { WhileOpen (state S.Store (T.held tx.old)) (Has word) }
+    ensures same_reference { T.reference tx.new ≡ T.reference tx.old }
+    ensures added { HasCleanDisk (state S.Store (T.held tx.new)) → OnOk result (Inserts (codes "word") (piece_row (lent_word given.now)) (state S.Store (T.held tx.old)) (state S.Store (T.held tx.new))) }
+    ensures failed { HasCleanDisk (state S.Store (T.held tx.new)) → IfErr result (FailsToInsert (codes "word") (piece_row (lent_word given.now)) (state S.Store (T.held tx.old)) (state S.Store (T.held tx.new))) }
+    ensures survives { Survives (state S.Store (T.held tx.old)) (state S.Store (T.held tx.new)) (λ _. ⊥) }
 {
     let edition = given.edition;
     let ord = given.ord;
@@ -61,15 +63,15 @@ pub fn insert_word<S: Alter>(
 }
 
 /// Inserts a gram of an entry's key. It answers the count of written rows that `sqlite` reports.
-pub fn insert_gram<S: Alter>(
-    tx: &mut Transaction<'_, S>,
+pub fn insert_gram<S: Alter, T: OpenTransaction<S>>(
+    tx: &mut T,
     given: &Gram<&[u8]>,
 ) -> Result<usize, Error>
-    requires { WhileOpen (seen S.Store tx.old) (Has gram) }
-    ensures same_reference { tx.new.conn.ghost_name ≡ tx.old.conn.ghost_name }
-    ensures added { HasCleanDisk (seen S.Store tx.new) → OnOk result (Inserts (codes "gram") (piece_row (lent_gram given.now)) (seen S.Store tx.old) (seen S.Store tx.new)) }
-    ensures failed { HasCleanDisk (seen S.Store tx.new) → IfErr result (FailsToInsert (codes "gram") (piece_row (lent_gram given.now)) (seen S.Store tx.old) (seen S.Store tx.new)) }
-    ensures survives { Survives (seen S.Store tx.old) (seen S.Store tx.new) (λ _. ⊥) }
+    requires { WhileOpen (state S.Store (T.held tx.old)) (Has gram) }
+    ensures same_reference { T.reference tx.new ≡ T.reference tx.old }
+    ensures added { HasCleanDisk (state S.Store (T.held tx.new)) → OnOk result (Inserts (codes "gram") (piece_row (lent_gram given.now)) (state S.Store (T.held tx.old)) (state S.Store (T.held tx.new))) }
+    ensures failed { HasCleanDisk (state S.Store (T.held tx.new)) → IfErr result (FailsToInsert (codes "gram") (piece_row (lent_gram given.now)) (state S.Store (T.held tx.old)) (state S.Store (T.held tx.new))) }
+    ensures survives { Survives (state S.Store (T.held tx.old)) (state S.Store (T.held tx.new)) (λ _. ⊥) }
 {
     let edition = given.edition;
     let ord = given.ord;

@@ -7,6 +7,7 @@ mod delete;
 mod drop;
 mod found;
 mod indexes;
+mod info;
 mod insert;
 mod laws;
 mod old;
@@ -18,6 +19,7 @@ pub use delete::{delete_grams, delete_keyed_entries, delete_words};
 pub use drop::drop_keyed_table;
 pub use found::has_keyed_table;
 pub use indexes::{create_key_index, has_key_index};
+pub use info::infos_numbered;
 pub use insert::{insert_gram, insert_keyed_entry, insert_word};
 pub use laws::{
     definition_laws, index_laws, inserted_laws, listing_law, once_laws, piece_laws, rowid_law,

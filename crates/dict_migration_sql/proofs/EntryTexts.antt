@@ -1,5 +1,5 @@
 -- The texts that read and drop the entries.
-use Rattle.std.proofs.Common.{◌≡◌, ◌⊎◌, ◌≤◌, ◌-◌, ℕ, ℤ, List, [], ◌∷◌, codes, length, Some, Ok, Err, refl, lit≤, ◌∙◌}
+use Rattle.std.proofs.Common.{◌≡◌, ◌⊎◌, ◌≤◌, ℕ, ℤ, List, [], ◌∷◌, codes, length, Some, Ok, Err, refl, lit≤, ◌∙◌}
 use Rattle.sqlite.specs.Order.{Row, column}
 use Rattle.sqlite.specs.State.{State, Executes, ExecutesInside, Fails, IsUnchanged}
 use Rattle.sqlite.specs.declared.error.Error.{Error}
@@ -31,6 +31,8 @@ use Rattle.dict_tables.specs.Keyed.{old_entry, entry as shown_entry}
 use Rattle.dict_migration_sql.specs.Entries.{entry_of, drop_text, select_text}
 use Rattle.dict_migration_sql.specs.declared.entries.EntryForm.{EntryForm}
 use Rattle.dict_migration_sql.specs.declared.entries.EntryForm.TheVariants.{Plain, Keyed, Shown}
+use Rattle.dict_sql.proofs.EndLemmas.{drop_ends_none}
+use Rattle.dict_sql.specs.Transactions.{EndsNothing}
 
 -- ---- DROP
 
@@ -110,3 +112,6 @@ form_names Keyed Shown = refl
 form_names Shown Plain = refl
 form_names Shown Keyed = refl
 form_names Shown Shown = refl
+
+pub take_ends_none : EndsNothing drop_text
+take_ends_none = drop_ends_none drop_text read_drop old_entry reads_keyed

@@ -1,5 +1,5 @@
 -- The texts of the helper table: what they do, and why they are refused.
-use Rattle.std.proofs.Common.{◌≡◌, ◌⊎◌, ◌≤◌, ◌-◌, ℕ, ℤ, List, [], ◌∷◌, codes, length, Some, Ok, Err, refl, inl, inr, lit≤, ◌∙◌}
+use Rattle.std.proofs.Common.{◌≡◌, ◌⊎◌, ◌≤◌, ℕ, ℤ, List, [], ◌∷◌, codes, length, Some, Ok, Err, refl, inl, inr, lit≤, ◌∙◌}
 use Rattle.sqlite.specs.Order.{Row, column}
 use Rattle.sqlite.specs.State.{State, Executes, ExecutesInside, Fails, IsUnchanged}
 use Rattle.sqlite.specs.declared.error.Error.{Error}
@@ -43,6 +43,8 @@ use Rattle.dict_sql.proofs.ReadTexts.{ReadsTable, key_at, sort_by, of_column}
 use Rattle.dict_sql.proofs.TextLemmas.{parsed_or, ReadsInsert, insert_is, insert_command, insert_plain}
 use Rattle.dict_tables.specs.Keyed.{helper}
 use Rattle.dict_migration_sql.specs.Helper.{create_helper_text, drop_helper_text, insert_helper_text, select_helper_text}
+use Rattle.dict_sql.proofs.EndLemmas.{insert_ends_none, create_ends_none, drop_ends_none}
+use Rattle.dict_sql.specs.Transactions.{EndsNothing}
 
 -- ---- CREATE
 
@@ -153,3 +155,14 @@ takes_select = record { whole = lit≤ tt; names = λ x. refl; typed = λ schema
 
 pub helper_read : (tree : ℕ) (n : ℤ) (row : Row) → passes (Int n ∷ []) test_select row ≡ equals_number 1 n (shown (helper tree) row)
 helper_read tree n row = and_true _ ∙ equals_is (column row 1) n
+
+-- ---- each leaves a transaction open
+
+pub make_ends_none : EndsNothing create_helper_text
+make_ends_none = create_ends_none create_helper_text read_create (helper 0) reads_create
+
+pub take_ends_none : EndsNothing drop_helper_text
+take_ends_none = drop_ends_none drop_helper_text read_drop helper reads_drop
+
+pub add_ends_none : EndsNothing insert_helper_text
+add_ends_none = insert_ends_none insert_helper_text read_insert helper _ reads_insert

@@ -1,5 +1,4 @@
 pub mod HelperTexts
-pub mod InsideLemmas
 pub mod EntryTexts
 pub mod ApartLemmas
 pub mod FreedLemmas

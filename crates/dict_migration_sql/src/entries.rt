@@ -2,11 +2,13 @@
 
 ghost use Rattle.std.specs.Prelude.{◌≡◌, codes, IfErr, OnOk};
 ghost use Rattle.sqlite.specs.State.{HasCleanDisk, Survives};
+ghost use Rattle.sqlite.specs.Held.{state};
 ghost use Rattle.dict_sql.specs.Drops.{Drops, FailsToDrop};
-ghost use Rattle.dict_sql.specs.Effects.{Has, WhileOpen, seen};
+ghost use Rattle.dict_sql.specs.Effects.{Has, WhileOpen};
 ghost use Rattle.dict_migration_sql.specs.Entries.{entry_of};
 
-use sqlite::{Alter, Error, Transaction};
+use dict_sql::transaction::OpenTransaction;
+use sqlite::{Alter, Error};
 
 /// Which columns the entries have.
 #[derive(Clone, Copy, Debug, PartialEq, Eq)]
@@ -20,12 +22,15 @@ pub enum EntryForm {
 }
 
 /// Drops the entries of this form with their rows and all their indexes. It answers the count that `sqlite` reports.
-pub fn drop_entry<S: Alter>(tx: &mut Transaction<'_, S>, _form: EntryForm) -> Result<usize, Error>
-    requires { WhileOpen (seen S.Store tx.old) (Has (entry_of _form)) }
-    ensures same_reference { tx.new.conn.ghost_name ≡ tx.old.conn.ghost_name }
-    ensures dropped { HasCleanDisk (seen S.Store tx.new) → OnOk result (Drops (codes "entry") (seen S.Store tx.old) (seen S.Store tx.new)) }
-    ensures failed { HasCleanDisk (seen S.Store tx.new) → IfErr result (FailsToDrop (codes "entry") (seen S.Store tx.old) (seen S.Store tx.new)) }
-    ensures survives { Survives (seen S.Store tx.old) (seen S.Store tx.new) (λ _. ⊥) }
+pub fn drop_entry<S: Alter, T: OpenTransaction<S>>(
+    tx: &mut T,
+    _form: EntryForm,
+) -> Result<usize, Error>
+    requires { WhileOpen (state S.Store (T.held tx.old)) (Has (entry_of _form)) }
+    ensures same_reference { T.reference tx.new ≡ T.reference tx.old }
+    ensures dropped { HasCleanDisk (state S.Store (T.held tx.new)) → OnOk result (Drops (codes "entry") (state S.Store (T.held tx.old)) (state S.Store (T.held tx.new))) }
+    ensures failed { HasCleanDisk (state S.Store (T.held tx.new)) → IfErr result (FailsToDrop (codes "entry") (state S.Store (T.held tx.old)) (state S.Store (T.held tx.new))) }
+    ensures survives { Survives (state S.Store (T.held tx.old)) (state S.Store (T.held tx.new)) (λ _. ⊥) }
 {
     tx.execute("DROP TABLE entry", &[])
 }

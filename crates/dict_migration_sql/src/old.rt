@@ -2,23 +2,25 @@
 
 ghost use Rattle.std.specs.Prelude.{◌≡◌, ◌∷◌, [], filter, map, codes, IfOk, IfErr};
 ghost use Rattle.sqlite.specs.State.{HasCleanDisk, Survives};
+ghost use Rattle.sqlite.specs.Held.{state};
 ghost use Rattle.dict_tables.specs.Keyed.{old_entry};
-ghost use Rattle.dict_sql.specs.Effects.{Has, WhileOpen, seen, equals_number, rows_of};
+ghost use Rattle.dict_sql.specs.Effects.{Has, WhileOpen, equals_number, rows_of};
 ghost use Rattle.dict_sql.specs.Keyed.{old_entry_columns, stored_old_entry};
 ghost use Rattle.dict_sql.specs.Reads.{Selects, FailsToRead, FailsToList};
 
 use dict_records::{OldEntry, Stored};
 use dict_sql::read::records_of;
 use dict_sql::records::ReadError;
-use sqlite::{Alter, Error, Row, Transaction, params};
+use dict_sql::transaction::OpenTransaction;
+use sqlite::{Alter, Error, Row, params};
 use std::alloc::Global;
 
-fn old_rows<S: Alter>(tx: &mut Transaction<'_, S>, edition: i64) -> Result<Vec<Row>, Error>
-    requires { WhileOpen (seen S.Store tx.old) (Has old_entry) }
-    ensures same_reference { tx.new.conn.ghost_name ≡ tx.old.conn.ghost_name }
-    ensures selected { HasCleanDisk (seen S.Store tx.new) → IfOk result (λ rows. Selects (codes "entry") (equals_number 1 edition) (2 ∷ []) (seen S.Store tx.old) (seen S.Store tx.new) rows.items) }
-    ensures failed { HasCleanDisk (seen S.Store tx.new) → IfErr result (FailsToRead (seen S.Store tx.old) (seen S.Store tx.new)) }
-    ensures survives { Survives (seen S.Store tx.old) (seen S.Store tx.new) (λ _. ⊥) }
+fn old_rows<S: Alter, T: OpenTransaction<S>>(tx: &mut T, edition: i64) -> Result<Vec<Row>, Error>
+    requires { WhileOpen (state S.Store (T.held tx.old)) (Has old_entry) }
+    ensures same_reference { T.reference tx.new ≡ T.reference tx.old }
+    ensures selected { HasCleanDisk (state S.Store (T.held tx.new)) → IfOk result (λ rows. Selects (codes "entry") (equals_number 1 edition) (2 ∷ []) (state S.Store (T.held tx.old)) (state S.Store (T.held tx.new)) rows.items) }
+    ensures failed { HasCleanDisk (state S.Store (T.held tx.new)) → IfErr result (FailsToRead (state S.Store (T.held tx.old)) (state S.Store (T.held tx.new))) }
+    ensures survives { Survives (state S.Store (T.held tx.old)) (state S.Store (T.held tx.new)) (λ _. ⊥) }
 {
     tx.query_all(
         "SELECT rowid, * FROM entry WHERE edition = ?1 ORDER BY 3",
@@ -27,16 +29,16 @@ fn old_rows<S: Alter>(tx: &mut Transaction<'_, S>, edition: i64) -> Result<Vec<R
 }
 
 /// The entries of an edition of schemas 2 and 3, in their order. Their keys are as they were stored, and aren't looked at.
-pub fn old_entries_inside<S: Alter>(
+pub fn old_entries_inside<S: Alter, T: OpenTransaction<S>>(
     alloc: Global,
-    tx: &mut Transaction<'_, S>,
+    tx: &mut T,
     edition: i64,
 ) -> Result<Vec<Stored<OldEntry<String, Vec<u8>>>>, ReadError>
-    requires { WhileOpen (seen S.Store tx.old) (Has old_entry) }
-    ensures same_reference { tx.new.conn.ghost_name ≡ tx.old.conn.ghost_name }
-    ensures selected { HasCleanDisk (seen S.Store tx.new) → IfOk result (λ all. Selects (codes "entry") (equals_number 1 edition) (2 ∷ []) (seen S.Store tx.old) (seen S.Store tx.new) (map stored_old_entry all.items)) }
-    ensures failed { HasCleanDisk (seen S.Store tx.new) → IfErr result (FailsToList old_entry_columns (filter (equals_number 1 edition) (rows_of (codes "entry") (seen S.Store tx.old).now)) (seen S.Store tx.old) (seen S.Store tx.new)) }
-    ensures survives { Survives (seen S.Store tx.old) (seen S.Store tx.new) (λ _. ⊥) }
+    requires { WhileOpen (state S.Store (T.held tx.old)) (Has old_entry) }
+    ensures same_reference { T.reference tx.new ≡ T.reference tx.old }
+    ensures selected { HasCleanDisk (state S.Store (T.held tx.new)) → IfOk result (λ all. Selects (codes "entry") (equals_number 1 edition) (2 ∷ []) (state S.Store (T.held tx.old)) (state S.Store (T.held tx.new)) (map stored_old_entry all.items)) }
+    ensures failed { HasCleanDisk (state S.Store (T.held tx.new)) → IfErr result (FailsToList old_entry_columns (filter (equals_number 1 edition) (rows_of (codes "entry") (state S.Store (T.held tx.old)).now)) (state S.Store (T.held tx.old)) (state S.Store (T.held tx.new))) }
+    ensures survives { Survives (state S.Store (T.held tx.old)) (state S.Store (T.held tx.new)) (λ _. ⊥) }
 {
     let rows = old_rows(tx, edition)?;
     records_of(alloc, &rows)

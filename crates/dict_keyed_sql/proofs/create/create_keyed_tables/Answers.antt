@@ -1,7 +1,7 @@
 use Rattle.std.proofs.Common.{arith}
 use Rattle.sqlite.specs.State.{HasCleanDisk}
+use Rattle.sqlite.specs.Held.{state}
 use Rattle.dict_sql.specs.Creates.{FailsToMakeAll}
-use Rattle.dict_sql.specs.Effects.{seen}
 use Rattle.dict_sql.specs.Refusals.{RefusesToMake}
 use Rattle.dict_sql.proofs.CountLemmas.{made_next}
 use Rattle.dict_sql.proofs.StreamLemmas.{passed_on}
@@ -14,12 +14,12 @@ use Rattle.dict_keyed_sql.proofs.MadeLemmas.{first_free, second_room, second_fre
 use Rattle.dict_keyed_sql.proofs.create.create_keyed_tables.Goals as goal
 
 pub create_keyed_table-requires : goal.create_keyed_table-requires
-create_keyed_table-requires g c clean open' = first_free (seen g.S.Store c.args.tx.now).now (c.requires clean open')
+create_keyed_table-requires g c clean open' = first_free (state g.S.Store (g.T.OpenTransaction.held c.args.tx.now)).now (c.requires clean open')
 
 pub returns-in_err-create_keyed_table-clause-failed : goal.returns-in_err-create_keyed_table-clause-failed
 returns-in_err-create_keyed_table-clause-failed g c clean =
-    let s0 = seen g.S.Store c.args.tx.now in
-    let s1 = seen g.S.Store c.create_keyed_table.new.tx in
+    let s0 = state g.S.Store (g.T.OpenTransaction.held c.args.tx.now) in
+    let s1 = state g.S.Store (g.T.OpenTransaction.held c.create_keyed_table.new.tx) in
     let clean0 : HasCleanDisk s0 = omega (arith, c.create_keyed_table.ensures.survives.clean, clean) in
     let passed0 = passed_none s0 in
     let e = c.in_err-create_keyed_table.field-0.0 in
@@ -28,17 +28,17 @@ returns-in_err-create_keyed_table-clause-failed g c clean =
 
 pub create_keyed_table-requires-2 : goal.create_keyed_table-requires-2
 create_keyed_table-requires-2 g c clean open' =
-    let s0 = seen g.S.Store c.args.tx.now in
-    let s1 = seen g.S.Store c.create_keyed_table.new.tx in
+    let s0 = state g.S.Store (g.T.OpenTransaction.held c.args.tx.now) in
+    let s1 = state g.S.Store (g.T.OpenTransaction.held c.create_keyed_table.new.tx) in
     let clean0 : HasCleanDisk s0 = omega (arith, c.create_keyed_table.ensures.survives.clean, clean) in
     let made1 = c.in_ok-create_keyed_table.ensures.made clean in
     second_free s0.now (c.requires clean0 made1.1.was_open) s1.now made1.0
 
 pub returns-in_err-create_keyed_table-2-clause-failed : goal.returns-in_err-create_keyed_table-2-clause-failed
 returns-in_err-create_keyed_table-2-clause-failed g c clean =
-    let s0 = seen g.S.Store c.args.tx.now in
-    let s1 = seen g.S.Store c.create_keyed_table.new.tx in
-    let s2 = seen g.S.Store c.create_keyed_table-2.new.tx in
+    let s0 = state g.S.Store (g.T.OpenTransaction.held c.args.tx.now) in
+    let s1 = state g.S.Store (g.T.OpenTransaction.held c.create_keyed_table.new.tx) in
+    let s2 = state g.S.Store (g.T.OpenTransaction.held c.create_keyed_table-2.new.tx) in
     let clean1 : HasCleanDisk s1 = omega (arith, c.create_keyed_table-2.ensures.survives.clean, clean) in
     let clean0 : HasCleanDisk s0 = omega (arith, c.create_keyed_table.ensures.survives.clean, clean1) in
     let made1 = c.in_ok-create_keyed_table.ensures.made clean1 in
@@ -50,9 +50,9 @@ returns-in_err-create_keyed_table-2-clause-failed g c clean =
 
 pub create_keyed_table-requires-3 : goal.create_keyed_table-requires-3
 create_keyed_table-requires-3 g c clean open' =
-    let s0 = seen g.S.Store c.args.tx.now in
-    let s1 = seen g.S.Store c.create_keyed_table.new.tx in
-    let s2 = seen g.S.Store c.create_keyed_table-2.new.tx in
+    let s0 = state g.S.Store (g.T.OpenTransaction.held c.args.tx.now) in
+    let s1 = state g.S.Store (g.T.OpenTransaction.held c.create_keyed_table.new.tx) in
+    let s2 = state g.S.Store (g.T.OpenTransaction.held c.create_keyed_table-2.new.tx) in
     let clean1 : HasCleanDisk s1 = omega (arith, c.create_keyed_table-2.ensures.survives.clean, clean) in
     let clean0 : HasCleanDisk s0 = omega (arith, c.create_keyed_table.ensures.survives.clean, clean1) in
     let made1 = c.in_ok-create_keyed_table.ensures.made clean1 in
@@ -61,10 +61,10 @@ create_keyed_table-requires-3 g c clean open' =
 
 pub returns-in_err-create_keyed_table-3-clause-failed : goal.returns-in_err-create_keyed_table-3-clause-failed
 returns-in_err-create_keyed_table-3-clause-failed g c clean =
-    let s0 = seen g.S.Store c.args.tx.now in
-    let s1 = seen g.S.Store c.create_keyed_table.new.tx in
-    let s2 = seen g.S.Store c.create_keyed_table-2.new.tx in
-    let s3 = seen g.S.Store c.create_keyed_table-3.new.tx in
+    let s0 = state g.S.Store (g.T.OpenTransaction.held c.args.tx.now) in
+    let s1 = state g.S.Store (g.T.OpenTransaction.held c.create_keyed_table.new.tx) in
+    let s2 = state g.S.Store (g.T.OpenTransaction.held c.create_keyed_table-2.new.tx) in
+    let s3 = state g.S.Store (g.T.OpenTransaction.held c.create_keyed_table-3.new.tx) in
     let clean2 : HasCleanDisk s2 = omega (arith, c.create_keyed_table-3.ensures.survives.clean, clean) in
     let clean1 : HasCleanDisk s1 = omega (arith, c.create_keyed_table-2.ensures.survives.clean, clean2) in
     let clean0 : HasCleanDisk s0 = omega (arith, c.create_keyed_table.ensures.survives.clean, clean1) in
@@ -79,10 +79,10 @@ returns-in_err-create_keyed_table-3-clause-failed g c clean =
 
 pub create_key_index-requires : goal.create_key_index-requires
 create_key_index-requires g c clean open' =
-    let s0 = seen g.S.Store c.args.tx.now in
-    let s1 = seen g.S.Store c.create_keyed_table.new.tx in
-    let s2 = seen g.S.Store c.create_keyed_table-2.new.tx in
-    let s3 = seen g.S.Store c.create_keyed_table-3.new.tx in
+    let s0 = state g.S.Store (g.T.OpenTransaction.held c.args.tx.now) in
+    let s1 = state g.S.Store (g.T.OpenTransaction.held c.create_keyed_table.new.tx) in
+    let s2 = state g.S.Store (g.T.OpenTransaction.held c.create_keyed_table-2.new.tx) in
+    let s3 = state g.S.Store (g.T.OpenTransaction.held c.create_keyed_table-3.new.tx) in
     let clean2 : HasCleanDisk s2 = omega (arith, c.create_keyed_table-3.ensures.survives.clean, clean) in
     let clean1 : HasCleanDisk s1 = omega (arith, c.create_keyed_table-2.ensures.survives.clean, clean2) in
     let clean0 : HasCleanDisk s0 = omega (arith, c.create_keyed_table.ensures.survives.clean, clean1) in
@@ -93,11 +93,11 @@ create_key_index-requires g c clean open' =
 
 pub returns-in_err-create_key_index-clause-failed : goal.returns-in_err-create_key_index-clause-failed
 returns-in_err-create_key_index-clause-failed g c clean =
-    let s0 = seen g.S.Store c.args.tx.now in
-    let s1 = seen g.S.Store c.create_keyed_table.new.tx in
-    let s2 = seen g.S.Store c.create_keyed_table-2.new.tx in
-    let s3 = seen g.S.Store c.create_keyed_table-3.new.tx in
-    let s4 = seen g.S.Store c.create_key_index.new.tx in
+    let s0 = state g.S.Store (g.T.OpenTransaction.held c.args.tx.now) in
+    let s1 = state g.S.Store (g.T.OpenTransaction.held c.create_keyed_table.new.tx) in
+    let s2 = state g.S.Store (g.T.OpenTransaction.held c.create_keyed_table-2.new.tx) in
+    let s3 = state g.S.Store (g.T.OpenTransaction.held c.create_keyed_table-3.new.tx) in
+    let s4 = state g.S.Store (g.T.OpenTransaction.held c.create_key_index.new.tx) in
     let clean3 : HasCleanDisk s3 = omega (arith, c.create_key_index.ensures.survives.clean, clean) in
     let clean2 : HasCleanDisk s2 = omega (arith, c.create_keyed_table-3.ensures.survives.clean, clean3) in
     let clean1 : HasCleanDisk s1 = omega (arith, c.create_keyed_table-2.ensures.survives.clean, clean2) in
@@ -115,11 +115,11 @@ returns-in_err-create_key_index-clause-failed g c clean =
 
 pub create_key_index-requires-2 : goal.create_key_index-requires-2
 create_key_index-requires-2 g c clean open' =
-    let s0 = seen g.S.Store c.args.tx.now in
-    let s1 = seen g.S.Store c.create_keyed_table.new.tx in
-    let s2 = seen g.S.Store c.create_keyed_table-2.new.tx in
-    let s3 = seen g.S.Store c.create_keyed_table-3.new.tx in
-    let s4 = seen g.S.Store c.create_key_index.new.tx in
+    let s0 = state g.S.Store (g.T.OpenTransaction.held c.args.tx.now) in
+    let s1 = state g.S.Store (g.T.OpenTransaction.held c.create_keyed_table.new.tx) in
+    let s2 = state g.S.Store (g.T.OpenTransaction.held c.create_keyed_table-2.new.tx) in
+    let s3 = state g.S.Store (g.T.OpenTransaction.held c.create_keyed_table-3.new.tx) in
+    let s4 = state g.S.Store (g.T.OpenTransaction.held c.create_key_index.new.tx) in
     let clean3 : HasCleanDisk s3 = omega (arith, c.create_key_index.ensures.survives.clean, clean) in
     let clean2 : HasCleanDisk s2 = omega (arith, c.create_keyed_table-3.ensures.survives.clean, clean3) in
     let clean1 : HasCleanDisk s1 = omega (arith, c.create_keyed_table-2.ensures.survives.clean, clean2) in
@@ -132,12 +132,12 @@ create_key_index-requires-2 g c clean open' =
 
 pub returns-in_err-create_key_index-2-clause-failed : goal.returns-in_err-create_key_index-2-clause-failed
 returns-in_err-create_key_index-2-clause-failed g c clean =
-    let s0 = seen g.S.Store c.args.tx.now in
-    let s1 = seen g.S.Store c.create_keyed_table.new.tx in
-    let s2 = seen g.S.Store c.create_keyed_table-2.new.tx in
-    let s3 = seen g.S.Store c.create_keyed_table-3.new.tx in
-    let s4 = seen g.S.Store c.create_key_index.new.tx in
-    let s5 = seen g.S.Store c.create_key_index-2.new.tx in
+    let s0 = state g.S.Store (g.T.OpenTransaction.held c.args.tx.now) in
+    let s1 = state g.S.Store (g.T.OpenTransaction.held c.create_keyed_table.new.tx) in
+    let s2 = state g.S.Store (g.T.OpenTransaction.held c.create_keyed_table-2.new.tx) in
+    let s3 = state g.S.Store (g.T.OpenTransaction.held c.create_keyed_table-3.new.tx) in
+    let s4 = state g.S.Store (g.T.OpenTransaction.held c.create_key_index.new.tx) in
+    let s5 = state g.S.Store (g.T.OpenTransaction.held c.create_key_index-2.new.tx) in
     let clean4 : HasCleanDisk s4 = omega (arith, c.create_key_index-2.ensures.survives.clean, clean) in
     let clean3 : HasCleanDisk s3 = omega (arith, c.create_key_index.ensures.survives.clean, clean4) in
     let clean2 : HasCleanDisk s2 = omega (arith, c.create_keyed_table-3.ensures.survives.clean, clean3) in
@@ -158,12 +158,12 @@ returns-in_err-create_key_index-2-clause-failed g c clean =
 
 pub returns-clause-made : goal.returns-clause-made
 returns-clause-made g c clean =
-    let s0 = seen g.S.Store c.args.tx.now in
-    let s1 = seen g.S.Store c.create_keyed_table.new.tx in
-    let s2 = seen g.S.Store c.create_keyed_table-2.new.tx in
-    let s3 = seen g.S.Store c.create_keyed_table-3.new.tx in
-    let s4 = seen g.S.Store c.create_key_index.new.tx in
-    let s5 = seen g.S.Store c.create_key_index-2.new.tx in
+    let s0 = state g.S.Store (g.T.OpenTransaction.held c.args.tx.now) in
+    let s1 = state g.S.Store (g.T.OpenTransaction.held c.create_keyed_table.new.tx) in
+    let s2 = state g.S.Store (g.T.OpenTransaction.held c.create_keyed_table-2.new.tx) in
+    let s3 = state g.S.Store (g.T.OpenTransaction.held c.create_keyed_table-3.new.tx) in
+    let s4 = state g.S.Store (g.T.OpenTransaction.held c.create_key_index.new.tx) in
+    let s5 = state g.S.Store (g.T.OpenTransaction.held c.create_key_index-2.new.tx) in
     let clean4 : HasCleanDisk s4 = omega (arith, c.create_key_index-2.ensures.survives.clean, clean) in
     let clean3 : HasCleanDisk s3 = omega (arith, c.create_key_index.ensures.survives.clean, clean4) in
     let clean2 : HasCleanDisk s2 = omega (arith, c.create_keyed_table-3.ensures.survives.clean, clean3) in

@@ -3,19 +3,21 @@ use mir.Syntax.{w64}
 use mir.Val.{SFits}
 use Rattle.sqlite.specs.Held.{state}
 use Rattle.dict_records.specs.Keyed.{Piece, lent_word}
-use Rattle.dict_sql.specs.Effects.{seen}
 use Rattle.dict_sql.proofs.NumberLemmas.{bound_int}
 use Rattle.dict_sql.proofs.StateLemmas.{inside, fails_in}
 use Rattle.dict_sql.proofs.RefusalLemmas.{adds_aside}
 use Rattle.dict_sql.specs.Keyed.{piece_row}
 use Rattle.dict_keyed_sql.specs.Texts.{insert_word}
-use Rattle.dict_keyed_sql.proofs.InsertTexts.{adds_word, word_fails}
+use Rattle.dict_keyed_sql.proofs.InsertTexts.{word_ends_none, adds_word, word_fails}
 use Rattle.dict_keyed_sql.proofs.insert.insert_word.Goals as goal
+
+pub execute-requires : goal.execute-requires
+execute-requires g c = word_ends_none
 
 pub returns-clause-added : goal.returns-clause-added
 returns-clause-added g c clean =
-    let old = seen g.S.Store c.args.tx.now in
-    let new = seen g.S.Store c.execute.new.self in
+    let old = state g.S.Store (g.T.OpenTransaction.held c.args.tx.now) in
+    let new = state g.S.Store (g.T.OpenTransaction.held c.execute.new.self) in
     let given : Piece = lent_word c.args.given.now in
     let fits_edition : SFits w64 c.args.given.now.edition = search rules in
     let fits_ord : SFits w64 c.args.given.now.ord = search rules in
@@ -24,8 +26,8 @@ returns-clause-added g c clean =
 
 pub returns-clause-failed : goal.returns-clause-failed
 returns-clause-failed g c clean =
-    let old = seen g.S.Store c.args.tx.now in
-    let new = seen g.S.Store c.execute.new.self in
+    let old = state g.S.Store (g.T.OpenTransaction.held c.args.tx.now) in
+    let new = state g.S.Store (g.T.OpenTransaction.held c.execute.new.self) in
     let given : Piece = lent_word c.args.given.now in
     let fits_edition : SFits w64 c.args.given.now.edition = search rules in
     let fits_ord : SFits w64 c.args.given.now.ord = search rules in

@@ -1,4 +1,4 @@
-use Rattle.std.proofs.Common.{◌≡◌, List, map, filter, codes, subst, arith, IsPermutation}
+use Rattle.std.proofs.Common.{List, map, filter, codes, subst, arith, IsPermutation}
 use Rattle.std.proofs.lemmas.Int.{to_z-of_z}
 use Rattle.std.proofs.lemmas.List.Sorted.{IsPermutation-map, IsPermutation-sym}
 use mir.Syntax.{w64}
@@ -8,7 +8,7 @@ use Rattle.sqlite.specs.State.{HasCleanDisk}
 use Rattle.sqlite.specs.Held.{state}
 use Rattle.dict_sql.specs.Added.{AreAdded}
 use Rattle.dict_sql.specs.Keyed.{old_entry_columns}
-use Rattle.dict_sql.specs.Effects.{seen, equals_number, rows_of}
+use Rattle.dict_sql.specs.Effects.{equals_number, rows_of}
 use Rattle.dict_sql.specs.Keyed.{stored_old_entry}
 use Rattle.dict_sql.proofs.AddedLemmas.{added_as}
 use Rattle.dict_sql.specs.Reads.{FailsToList}
@@ -20,9 +20,9 @@ use Rattle.dict_migration_sql.proofs.copy.copy_old_edition.Goals as goal
 
 pub returns-clause-copied : goal.returns-clause-copied
 returns-clause-copied g c clean =
-    let s0 = seen g.S.Store c.args.tx.now in
-    let s1 = seen g.S.Store c.old_entries_inside.new.tx in
-    let s2 = seen g.S.Store c.put_old_entries.new.tx in
+    let s0 = state g.S.Store (g.T.OpenTransaction.held c.args.tx.now) in
+    let s1 = state g.S.Store (g.T.OpenTransaction.held c.old_entries_inside.new.tx) in
+    let s2 = state g.S.Store (g.T.OpenTransaction.held c.put_old_entries.new.tx) in
     let clean1 : HasCleanDisk s1 = omega (arith, c.put_old_entries.ensures.survives.clean, clean) in
     let items = c.in_ok-all.all.items in
     let it = c.in_ok-all.ensures.selected clean1 in
@@ -34,8 +34,8 @@ returns-clause-copied g c clean =
 
 pub returns-in_err-all-clause-failed : goal.returns-in_err-all-clause-failed
 returns-in_err-all-clause-failed g c clean =
-    let old = c.args.tx.now.conn.now in
-    let new = c.old_entries_inside.new.tx.conn.now in
+    let old = (g.T.OpenTransaction.held c.args.tx.now) in
+    let new = (g.T.OpenTransaction.held c.old_entries_inside.new.tx) in
     let e = c.in_err-all.field-0.0 in
     passed_on (FailsToCopy g.S.Store old_entry_columns c.args.edition old new) e c.from_residual.result c.from_residual.ensures.1
     (read_fails g.S.Store old_entry_columns c.args.edition old new e
@@ -43,9 +43,9 @@ returns-in_err-all-clause-failed g c clean =
 
 pub returns-in_err-put_old_entries-clause-failed : goal.returns-in_err-put_old_entries-clause-failed
 returns-in_err-put_old_entries-clause-failed g c clean =
-    let old = c.args.tx.now.conn.now in
-    let mid = c.old_entries_inside.new.tx.conn.now in
-    let new = c.put_old_entries.new.tx.conn.now in
+    let old = (g.T.OpenTransaction.held c.args.tx.now) in
+    let mid = (g.T.OpenTransaction.held c.old_entries_inside.new.tx) in
+    let new = (g.T.OpenTransaction.held c.put_old_entries.new.tx) in
     let e = c.in_err-put_old_entries.field-0.0 in
     let clean1 : HasCleanDisk (state g.S.Store mid) = omega (arith, c.put_old_entries.ensures.survives.clean, clean) in
     passed_on (FailsToCopy g.S.Store old_entry_columns c.args.edition old new) (Store e) c.from_residual-in_err-put_old_entries.result c.from_residual-in_err-put_old_entries.ensures.1

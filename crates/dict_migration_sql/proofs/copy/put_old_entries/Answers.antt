@@ -1,11 +1,12 @@
-use Rattle.std.proofs.Common.{◌≡◌, ◌∙◌, ◌++◌, List, [], ◌∷◌, refl, sym, ap, subst, arith, codes, map, take}
+use Rattle.std.proofs.Common.{◌∙◌, ◌++◌, List, [], ◌∷◌, refl, sym, ap, subst, arith, codes, map, take}
 use Rattle.std.proofs.lemmas.List.{take_more}
 use Rattle.sqlite.specs.State.{HasCleanDisk}
 use Rattle.sqlite.specs.Order.{Row}
+use Rattle.sqlite.specs.Held.{state}
 use Rattle.sqlite.proofs.StateLemmas.{survives_then}
 use Rattle.dict_records.specs.Records.{Entry}
 use Rattle.dict_sql.specs.Added.{AreAdded}
-use Rattle.dict_sql.specs.Effects.{IsAdded, seen}
+use Rattle.dict_sql.specs.Effects.{IsAdded}
 use Rattle.dict_sql.specs.Encodings.{entry_row}
 use Rattle.dict_sql.specs.Keyed.{stored_old_entry}
 use Rattle.dict_sql.proofs.AddedLemmas.{none_added, one_added}
@@ -17,17 +18,17 @@ use Rattle.dict_migration_sql.proofs.copy.put_old_entries.Goals as goal
 pub each-init : goal.each-init
 each-init g c = record {
   same_reference = refl;
-  added = λ clean. none_added (codes "dictcat_entry") (seen g.S.Store c.args.tx.now).now;
+  added = λ clean. none_added (codes "dictcat_entry") (state g.S.Store (g.T.OpenTransaction.held c.args.tx.now)).now;
   inside = λ clean h. h;
-  keeps = λ clean. keeps_none (seen g.S.Store c.args.tx.now);
-  survives = none_more (seen g.S.Store c.args.tx.now);
+  keeps = λ clean. keeps_none (state g.S.Store (g.T.OpenTransaction.held c.args.tx.now));
+  survives = none_more (state g.S.Store (g.T.OpenTransaction.held c.args.tx.now));
 }
 
 pub each-preserved : goal.each-preserved
 each-preserved g c =
-    let first = seen g.S.Store c.args.tx.now in
-    let mid = seen g.S.Store c.each.tx in
-    let new = seen g.S.Store c.insert_into_helper.new.tx in
+    let first = state g.S.Store (g.T.OpenTransaction.held c.args.tx.now) in
+    let mid = state g.S.Store (g.T.OpenTransaction.held c.each.tx) in
+    let new = state g.S.Store (g.T.OpenTransaction.held c.insert_into_helper.new.tx) in
     let item = c.entry-item.result in
     let all = c.args.all.now in
     let i = c.each.entry-index in
@@ -46,5 +47,5 @@ each-preserved g c =
 
 pub returns-in_err-insert_into_helper-clause-failed : goal.returns-in_err-insert_into_helper-clause-failed
 returns-in_err-insert_into_helper-clause-failed g c clean =
-    put_later g.S.Store c.args.tx.now.conn.now c.each.tx.conn.now c.insert_into_helper.new.tx.conn.now _ c.in_err-insert_into_helper.field-0.0 c.from_residual.result c.from_residual.ensures.1
+    put_later g.S.Store (g.T.OpenTransaction.held c.args.tx.now) (g.T.OpenTransaction.held c.each.tx) (g.T.OpenTransaction.held c.insert_into_helper.new.tx) _ c.in_err-insert_into_helper.field-0.0 c.from_residual.result c.from_residual.ensures.1
     c.each.invariant.survives c.insert_into_helper.ensures.survives c.each.invariant.inside clean (c.in_err-insert_into_helper.ensures.failed clean)

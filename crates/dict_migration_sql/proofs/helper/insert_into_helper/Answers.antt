@@ -5,18 +5,20 @@ use Rattle.sqlite.specs.Held.{state}
 use Rattle.dict_records.specs.Records.{Entry}
 use Rattle.dict_records.specs.Typed.{lent_entry}
 use Rattle.dict_sql.specs.Encodings.{entry_row}
-use Rattle.dict_sql.specs.Effects.{seen}
 use Rattle.dict_sql.proofs.NumberLemmas.{bound_int}
 use Rattle.dict_sql.proofs.StateLemmas.{inside, fails_in}
 use Rattle.dict_sql.proofs.RefusalLemmas.{adds_aside}
 use Rattle.dict_migration_sql.specs.Helper.{insert_helper_text}
-use Rattle.dict_migration_sql.proofs.HelperTexts.{adds_helper, helper_fails}
+use Rattle.dict_migration_sql.proofs.HelperTexts.{add_ends_none, adds_helper, helper_fails}
 use Rattle.dict_migration_sql.proofs.helper.insert_into_helper.Goals as goal
+
+pub execute-requires : goal.execute-requires
+execute-requires g c = add_ends_none
 
 pub returns-clause-added : goal.returns-clause-added
 returns-clause-added g c clean =
-    let old = seen g.S.Store c.args.tx.now in
-    let new = seen g.S.Store c.execute.new.self in
+    let old = state g.S.Store (g.T.OpenTransaction.held c.args.tx.now) in
+    let new = state g.S.Store (g.T.OpenTransaction.held c.execute.new.self) in
     let given : Entry = lent_entry c.args.given.now in
     let fits_edition : SFits w64 c.args.given.now.edition = search rules in
     let fits_ord : SFits w64 c.args.given.now.ord = search rules in
@@ -27,8 +29,8 @@ returns-clause-added g c clean =
 
 pub returns-clause-failed : goal.returns-clause-failed
 returns-clause-failed g c clean =
-    let old = seen g.S.Store c.args.tx.now in
-    let new = seen g.S.Store c.execute.new.self in
+    let old = state g.S.Store (g.T.OpenTransaction.held c.args.tx.now) in
+    let new = state g.S.Store (g.T.OpenTransaction.held c.execute.new.self) in
     let given : Entry = lent_entry c.args.given.now in
     let fits_edition : SFits w64 c.args.given.now.edition = search rules in
     let fits_ord : SFits w64 c.args.given.now.ord = search rules in

@@ -1,0 +1,26 @@
+-- What editions say of their databases, read without their texts.
+use Rattle.std.specs.Prelude.{ℕ, ℤ, List, [], ◌∷◌, codes, filter, map, IsPermutation}
+use Rattle.sqlite.specs.declared.types.Value.TheVariants.{Text as Words}
+use Rattle.sqlite.specs.Order.{Row, column}
+use Rattle.sqlite.specs.Effect.{Database}
+use Rattle.sqlite.specs.State.{State, IsUnchanged}
+use Rattle.dict_sql.specs.Columns.{Content, Name, Number}
+use Rattle.dict_sql.specs.Effects.{equals_number, rows_of}
+
+abbrev pub info_text : List ℕ
+info_text = codes "SELECT info, number FROM edition WHERE number = ?1"
+
+-- of the row of an edition, its info and its number
+abbrev pub informed : Row → Row
+informed r = column r 4 ∷ column r 1 ∷ []
+
+abbrev pub informed_columns : List Content
+informed_columns = Name ∷ Number ∷ []
+
+-- the rows of the editions with this number
+abbrev pub editions_with : ℤ → Database → List Row
+editions_with number db = filter (equals_number 1 number) (rows_of (codes "edition") db)
+
+-- these are the infos of the editions with this number, in no order that counts, and nothing has changed
+abbrev pub Informs : ℤ → State → State → List (List ℕ) → Type 0
+Informs number old new infos = IsPermutation (map (λ r. column r 4) (editions_with number old.now)) (map Words infos) × IsUnchanged old new
