@@ -10,7 +10,7 @@ use Rattle.sqlite.specs.Table.{Table}
 use Rattle.sqlite.specs.Schema.{Schema}
 use Rattle.sqlite_schema.specs.Names.{table_named}
 use Rattle.dict_tables.specs.Found.{HasOwn, HasTable}
-use Rattle.dict_tables.specs.Tables.{mark, item, member, edition, entry, kept, table_of, store_tables}
+use Rattle.dict_tables.specs.Tables.{mark, item, member, edition, entry, kept, store_tables}
 use Rattle.dict_sql.specs.Effects.{HasApartRowids, IsAdded, SameOthers, rows_of, shown, table_in}
 use Rattle.dict_sql.specs.Encodings.{mark_row, item_row, member_row, edition_row, entry_row, kept_row}
 use Rattle.dict_sql.specs.Creates.{AreMade}
@@ -19,7 +19,7 @@ use Rattle.dict_catalogue.specs.Steps.{empty_catalogue}
 use Rattle.dict_catalogue.proofs.WellFormedLemmas.{empty_well_formed}
 use Rattle.dict_rows.specs.Written.{mark_record}
 use Rattle.dict_rows.specs.Versions.{known, Plain}
-use Rattle.dict_file.specs.Holds.{Keeps, KeepsPlain, HasLayout, HasPlace, Holds}
+use Rattle.dict_file.specs.Holds.{Keeps, HasLayout, HasPlace, Holds}
 use Rattle.dict_file.proofs.ReadingLemmas.{kept_plain}
 use Rattle.dict_file.proofs.PlaceLemmas.{later_room}
 
@@ -82,7 +82,7 @@ marked before old new place made one =
     let entry_none : rows_of (codes "entry") new ≡ [] = unmoved (codes "mark") (codes "entry") mark entry old new (λ t. refl) (λ t. refl) (λ t. refl) (letter_apart 0 109 101 (codes "mark") (codes "entry") refl refl (λ e. absurd (omega arith))) own.0 own.1.1.1.1.0 one.schema one.others ∙ empty.1.1.1.1.0 in
     let kept_none : rows_of (codes "kept") new ≡ [] = unmoved (codes "mark") (codes "kept") mark kept old new (λ t. refl) (λ t. refl) (λ t. refl) (letter_apart 0 109 107 (codes "mark") (codes "kept") refl refl (λ e. absurd (omega arith))) own.0 own.1.1.1.1.1.0 one.schema one.others ∙ empty.1.1.1.1.1.0 in
     record {
-      own = subst (HasLayout Plain) (sym one.schema) (record { tables = own; indexes = tt; room = later_room store_tables before old made.in_turn place.room.counted place.later });
+      own = subst (HasLayout Plain) (sym one.schema) (record { tables = own; indexes = tt; room = later_room before old made.in_turn place.room place.later });
       tables = record { marks = mark_record known 0 ∷ []; items = []; members = []; editions = []; entries = []; kept = [] };
       keeps = kept_plain new (record { marks = mark_record known 0 ∷ []; items = []; members = []; editions = []; entries = []; kept = [] }) (record {
         marks = keeps_added (codes "mark") mark_row old new [] (mark_record known 0) one (keeps_none (codes "mark") mark_row old empty.0);

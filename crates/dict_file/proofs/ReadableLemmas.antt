@@ -1,5 +1,5 @@
 -- Each row of a database that holds a catalogue stands for a record, and no edition has more entries than the limit.
-use Rattle.std.proofs.Common.{◌≡◌, ◌⊎◌, inl, inr, ℕ, ◌+◌, ◌<◌, ◌≤◌, ℤ, pos, Bool, true, false, cond, ◌||◌, ◌&&◌, ◌==◌, List, [], ◌∷◌, length, map, filter, drop, codes, Option, Some, None, refl, sym, ap, subst, ◌∙◌, arith, eqb-true}
+use Rattle.std.proofs.Common.{◌≡◌, ◌⊎◌, inl, inr, ℕ, ◌+◌, ◌<◌, ◌≤◌, ℤ, pos, Bool, true, false, cond, ◌||◌, ◌&&◌, ◌==◌, List, [], ◌∷◌, length, map, filter, drop, take, codes, Option, Some, None, refl, sym, ap, subst, ◌∙◌, arith, eqb-true}
 use Rattle.std.specs.Prelude.{bytes_eq, nat_le, IsTrue, option_map}
 use Rattle.std.specs.List.{AllByRecursion, list_all, list_any}
 use Rattle.std.specs.Str.{IsAscii, IsUtf8}
@@ -13,7 +13,7 @@ use Rattle.sqlite.specs.declared.types.Value.TheVariants.{Null, Int}
 use Rattle.dict_text.proofs.AllLemmas.{all_map, all_flat_map}
 use Rattle.dict_name.specs.Names.{is_from, is_small_letter, is_capital_letter, is_digit, is_name_octet, is_request_octet, has_size, first_passes, is_name, is_request_id}
 use Rattle.dict_records.specs.Records as spec
-use Rattle.dict_sql.specs.Columns.{Content, Number, NumberOrNull, Name, NameOrNull, Octets, HasColumns, IsNumber}
+use Rattle.dict_sql.specs.Columns.{Content, Number, NumberOrNull, Name, NameOrNull, Octets, HasColumns, IsNumber, kept_columns}
 use Rattle.dict_sql.specs.Effects.{rows_of}
 use Rattle.dict_sql.specs.Encodings.{number_or_null, mark_row, item_row, member_row, edition_row, entry_row, kept_row}
 use Rattle.dict_index.specs.Line.{Line}
@@ -30,10 +30,14 @@ use Rattle.dict_rows.specs.Written.{numbered, item_record, member_record, entry_
 use Rattle.dict_rows.specs.Stands.{HoldsMembers, HoldsEdition, HoldsEditions, has_number, Stands}
 use Rattle.dict_rows.proofs.OrderLemmas.{IsIn, in_all, all_same, all_with, passed_in}
 use Rattle.dict_rows.proofs.TakenLemmas.{same_number_is, same_itself}
-use Rattle.dict_file.specs.Holds.{Keeps, Holds}
-use Rattle.dict_file.specs.Readings.{HasReadableRows}
-use Rattle.dict_file.proofs.ReadingLemmas.{plain_of}
-use Rattle.dict_rows.specs.Versions.{Plain, layout_of}
+use Rattle.dict_file.specs.Holds.{Holds}
+use Rattle.dict_file.specs.Readings as looks
+use Rattle.dict_file.specs.Readings.{Reading, KeepsRows, KeepsAll, IsReadable, HasReadableRows, derived_readings, filed_row}
+use Rattle.dict_rows.specs.Versions.{Layout, Plain, Keyed, Shown, layout_of}
+use Rattle.dict_records.specs.Keyed.{Piece}
+use Rattle.dict_sql.specs.Keyed.{piece_row, keyed_entry_cells}
+use Rattle.dict_derived.specs.Entries.{Filed, filed, plain}
+use Rattle.dict_derived.specs.AllTables.{AllTables, with_derived}
 
 -- ---- texts of ASCII
 
@@ -88,7 +92,7 @@ verb_utf8 Retire = word_utf8 (codes "retire") refl
 verb_utf8 Virtual = word_utf8 (codes "virtual") refl
 verb_utf8 Place = word_utf8 (codes "place") refl
 
-item_name : (item : Item Edition) → IsLawfulItem item → IsUtf8 (name_of item)
+pub item_name : (item : Item Edition) → IsLawfulItem item → IsUtf8 (name_of item)
 item_name (regular name current former) h = name_utf8 name h
 item_name (virtual name title members) h = name_utf8 name h.0
 
@@ -132,16 +136,6 @@ each_in P (x ∷ xs) h = (h x (inl refl), each_in P xs (λ y i. h y (inr i)))
 row_of : (columns : List Content) (row : Row) → HasColumns columns (drop 1 row) → (n : ℤ) × (column row 0 ≡ Int n) → HasColumns (Number ∷ columns) row
 row_of columns [] h id = absurd (let none : Null ≡ Int id.0 = id.1 in cc)
 row_of columns (value ∷ row) h id = ((id.0, id.1), h)
-
-rows_whole : (columns : List Content) (rows : List Row) → AllByRecursion (HasColumns columns) (map (drop 1) rows) → AllByRecursion (λ row. (n : ℤ) × (column row 0 ≡ Int n)) rows → AllByRecursion (HasColumns (Number ∷ columns)) rows
-rows_whole columns [] h ids = tt
-rows_whole columns (row ∷ rows) h ids = (row_of columns row h.0 ids.0, rows_whole columns rows h.1 ids.1)
-
-kept_rows : {R : Type 0} (name : List ℕ) (encode : R → Row) (columns : List Content) (db : Database) (records : List R) → Keeps name encode db records → AllByRecursion (λ r. HasColumns columns (encode r)) records → AllByRecursion (HasColumns (Number ∷ columns)) (rows_of name db)
-kept_rows name encode columns db records keeps h =
-    rows_whole columns (rows_of name db)
-    (all_same (HasColumns columns) (map encode records) (map (drop 1) (rows_of name db)) keeps.rows (all_map (λ r. HasColumns columns (encode r)) (HasColumns columns) encode (λ r g. g) records h))
-    keeps.apart.integers
 
 maybe_number : (o : Option ℤ) → (number_or_null o ≡ Null) ⊎ IsNumber (number_or_null o)
 maybe_number None = inl refl
@@ -309,25 +303,77 @@ reply_rows version tables M s = subst (AllByRecursion KeptRow) (sym s.kept) (all
 pub few_entries : (version : ℕ) (db : Database) (M : Catalogue) (h : Holds version db M) (number : ℤ) → AreFew h.tables number
 few_entries version db M h number = few_of version h.tables M h.stands number (has_number M.items number) refl
 
-pub held_rows : (version : ℕ) (db : Database) (M : Catalogue) → layout_of version ≡ Plain → Holds version db M → HasReadableRows Plain db
-held_rows version db M is h =
-    let tables = h.tables in
-    let keeps = plain_of version db M is h in (
-      kept_rows (codes "mark") mark_row mark_values db tables.marks keeps.marks (mark_rows version tables M h.stands),
+-- rows of which some columns are looked at, the rowid among them
+looked_whole : (looked : Row → Row) → ((row : Row) → column (looked row) 0 ≡ column row 0) → (columns : List Content) (rows : List Row) → AllByRecursion (HasColumns columns) (map (λ row. drop 1 (looked row)) rows) → AllByRecursion (λ row. (n : ℤ) × (column row 0 ≡ Int n)) rows
+    → AllByRecursion (λ row. HasColumns (Number ∷ columns) (looked row)) rows
+looked_whole looked first columns [] h ids = tt
+looked_whole looked first columns (row ∷ rows) h ids = (row_of columns (looked row) h.0 (ids.0.0, first row ∙ ids.0.1), looked_whole looked first columns rows h.1 ids.1)
+
+-- a table that keeps rows of these columns is readable
+kept_readable : (r : Reading) (columns : List Content) → r.columns ≡ Number ∷ columns → ((row : Row) → column (r.looked row) 0 ≡ column row 0) → (db : Database) (all : AllTables) → KeepsRows r db all → AllByRecursion (HasColumns columns) (r.rows all) → IsReadable r db
+kept_readable r columns is first db all keeps h =
+    subst (λ cs. AllByRecursion (λ row. HasColumns cs (r.looked row)) (rows_of (looks.name_of r) db)) (sym is)
+    (looked_whole r.looked first columns (rows_of (looks.name_of r) db) (all_same (HasColumns columns) (r.rows all) (map (λ row. drop 1 (r.looked row)) (rows_of (looks.name_of r) db)) keeps.rows h) keeps.apart.integers)
+
+written_all : {R : Type 0} (encode : R → Row) (columns : List Content) (records : List R) → AllByRecursion (λ r. HasColumns columns (encode r)) records → AllByRecursion (HasColumns columns) (map encode records)
+written_all encode columns records h = all_map (λ r. HasColumns columns (encode r)) (HasColumns columns) encode (λ r g. g) records h
+
+first_six : (row : Row) → column (take 6 row) 0 ≡ column row 0
+first_six [] = refl
+first_six (v ∷ row) = refl
+
+filed_cells : (e : spec.Entry) → EntryRow e → HasColumns keyed_entry_cells (filed_row (filed e))
+filed_cells e h = (h.0, (h.1.0, (h.1.1.0, (h.1.1.1.0, (h.1.1.1.1.0, (((filed e).key, refl), (((filed e).reversed, refl), (h.1.1.0, tt))))))))
+
+each_filed : (encode : Filed → Row) (columns : List Content) → ((e : spec.Entry) → EntryRow e → HasColumns columns (encode (filed e))) → (es : List spec.Entry) → AllByRecursion EntryRow es → AllByRecursion (HasColumns columns) (map encode (map filed es))
+each_filed encode columns so [] h = tt
+each_filed encode columns so (e ∷ es) h = (so e h.0, each_filed encode columns so es h.1)
+
+each_piece : (ps : List Piece) → AllByRecursion (HasColumns (Number ∷ Octets ∷ Number ∷ [])) (map piece_row ps)
+each_piece [] = tt
+each_piece (p ∷ ps) = (((p.edition, refl), ((p.piece, refl), ((p.ord, refl), tt))), each_piece ps)
+
+module _ (version : ℕ) (db : Database) (tables : Tables) (M : Catalogue) (s : Stands version tables M) where
+  entries_readable : (layout : Layout) → KeepsRows (looks.entries layout) db (with_derived tables) → IsReadable (looks.entries layout) db
+  entries_readable Plain k = kept_readable (looks.entries Plain) entry_values refl (λ row. refl) db (with_derived tables) k (each_filed (λ f. entry_row (plain f)) entry_values (λ e h. h) tables.entries (entry_rows version tables M s))
+  entries_readable Keyed k = kept_readable (looks.entries Keyed) entry_values refl first_six db (with_derived tables) k (each_filed (λ f. entry_row (plain f)) entry_values (λ e h. h) tables.entries (entry_rows version tables M s))
+  entries_readable Shown k = kept_readable (looks.entries Shown) keyed_entry_cells refl (λ row. refl) db (with_derived tables) k (each_filed filed_row keyed_entry_cells filed_cells tables.entries (entry_rows version tables M s))
+
+  derived_readable : (layout : Layout) → AllByRecursion (λ r. KeepsRows r db (with_derived tables)) (derived_readings layout) → AllByRecursion (λ r. IsReadable r db) (derived_readings layout)
+  derived_readable Plain k = tt
+  derived_readable Keyed k = tt
+  derived_readable Shown k = (
+    kept_readable looks.words (Number ∷ Octets ∷ Number ∷ []) refl (λ row. refl) db (with_derived tables) k.0 (each_piece (with_derived tables).words),
+    (kept_readable looks.grams (Number ∷ Octets ∷ Number ∷ []) refl (λ row. refl) db (with_derived tables) k.1.0 (each_piece (with_derived tables).grams), tt),
+  )
+
+  pub stands_readable : (layout : Layout) → KeepsAll layout db (with_derived tables) → HasReadableRows layout db
+  stands_readable layout k = (
+    kept_readable looks.marks mark_values refl (λ row. refl) db (with_derived tables) k.0 (written_all mark_row mark_values tables.marks (mark_rows version tables M s)),
+    (
+      kept_readable looks.items item_values refl (λ row. refl) db (with_derived tables) k.1.0 (written_all item_row item_values tables.items (item_rows version tables M s)),
       (
-        kept_rows (codes "item") item_row item_values db tables.items keeps.items (item_rows version tables M h.stands),
+        kept_readable looks.members member_values refl (λ row. refl) db (with_derived tables) k.1.1.0 (written_all member_row member_values tables.members (member_rows version tables M s)),
         (
-          kept_rows (codes "member") member_row member_values db tables.members keeps.members (member_rows version tables M h.stands),
+          kept_readable looks.editions edition_values refl (λ row. refl) db (with_derived tables) k.1.1.1.0 (written_all edition_row edition_values tables.editions (edition_rows version tables M s)),
           (
-            kept_rows (codes "edition") edition_row edition_values db tables.editions keeps.editions (edition_rows version tables M h.stands),
+            entries_readable layout k.1.1.1.1.0,
             (
-              kept_rows (codes "entry") entry_row entry_values db tables.entries keeps.entries (entry_rows version tables M h.stands),
-              (
-                kept_rows (codes "kept") kept_row kept_values db tables.kept keeps.kept (reply_rows version tables M h.stands),
-                tt,
-              ),
+              kept_readable looks.kept_replies kept_values refl (λ row. refl) db (with_derived tables) k.1.1.1.1.1.0 (written_all kept_row kept_values tables.kept (reply_rows version tables M s)),
+              derived_readable layout k.1.1.1.1.1.1,
             ),
           ),
         ),
       ),
-    )
+    ),
+  )
+
+pub held_readable : (version : ℕ) (db : Database) (M : Catalogue) → Holds version db M → HasReadableRows (layout_of version) db
+held_readable version db M h = stands_readable version db h.tables M h.stands (layout_of version) h.keeps
+
+-- those of the replies, whatever the layout
+pub held_replies : (version : ℕ) (db : Database) (M : Catalogue) → Holds version db M → AllByRecursion (HasColumns kept_columns) (rows_of (codes "kept") db)
+held_replies version db M h = (held_readable version db M h).1.1.1.1.1.0
+
+pub held_rows : (version : ℕ) (db : Database) (M : Catalogue) → layout_of version ≡ Plain → Holds version db M → HasReadableRows Plain db
+held_rows version db M is h = subst (λ (layout : Layout). HasReadableRows layout db) is (held_readable version db M h)

@@ -4,7 +4,7 @@ use Rattle.std.specs.List.Sorted.{IsPermutation}
 use Rattle.sqlite.specs.Effect.{Database}
 use Rattle.dict_records.specs.Records as spec
 use Rattle.dict_sql.specs.Effects.{rows_of}
-use Rattle.dict_sql.specs.Encodings.{mark_row, edition_row, entry_row, kept_row}
+use Rattle.dict_sql.specs.Encodings.{mark_row, item_row, member_row, edition_row, entry_row, kept_row}
 use Rattle.dict_catalogue.specs.Steps.{Catalogue}
 use Rattle.dict_rows.specs.Tables.{Tables}
 use Rattle.dict_rows.specs.Versions.{Layout, Plain, layout_of}
@@ -64,3 +64,9 @@ editions_kept layout db t k = record { rows = k.1.1.1.0.rows; apart = k.1.1.1.0.
 
 pub replies_kept : (layout : Layout) (db : Database) (t : Tables) → KeepsAll layout db (with_derived t) → Keeps (codes "kept") kept_row db t.kept
 replies_kept layout db t k = record { rows = k.1.1.1.1.1.0.rows; apart = k.1.1.1.1.1.0.apart }
+
+pub items_kept : (layout : Layout) (db : Database) (t : Tables) → KeepsAll layout db (with_derived t) → Keeps (codes "item") item_row db t.items
+items_kept layout db t k = record { rows = k.1.0.rows; apart = k.1.0.apart }
+
+pub members_kept : (layout : Layout) (db : Database) (t : Tables) → KeepsAll layout db (with_derived t) → Keeps (codes "member") member_row db t.members
+members_kept layout db t k = record { rows = k.1.1.0.rows; apart = k.1.1.0.apart }

@@ -8,5 +8,5 @@ mod room;
 
 pub use fault::fault_of;
 pub use laws::{plain_records, read_in_order};
-pub use making::create;
-pub use room::may_become_shown;
+pub use making::{create, has_place};
+pub use room::{keyed_may_become_shown, may_become_shown};

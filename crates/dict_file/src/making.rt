@@ -4,7 +4,7 @@ ghost use Rattle.sqlite.specs.Effect.{Database, IsDatabase};
 ghost use Rattle.sqlite.specs.State.{HasCleanDisk, KeepsCommit, Survives};
 ghost use Rattle.sqlite.specs.Held.{state};
 ghost use Rattle.dict_tables.specs.Tables.{mark, store_tables};
-ghost use Rattle.dict_sql.specs.Effects.{Has, WhileOpen, seen};
+ghost use Rattle.dict_sql.specs.Effects.{Has, WhileOpen};
 ghost use Rattle.dict_sql.specs.Creates.{AreMade, IsReady};
 ghost use Rattle.dict_sql.specs.Encodings.{mark_row as row_of_mark};
 ghost use Rattle.dict_sql.specs.Statements.{add, RunInTurn, FailsInTurn};
@@ -22,21 +22,22 @@ use dict_rows::{KNOWN_VERSION, mark_row};
 use dict_sql::commit::commit;
 use dict_sql::create::create_tables;
 use dict_sql::insert::insert_mark;
+use dict_sql::transaction::OpenTransaction;
 use dict_tables::{has_room, is_own_name_used};
-use sqlite::{Alter, Connection, Error, Transaction};
+use sqlite::{Alter, Connection, Error};
 use sqlite_schema::schema::Schema;
 
 /// Adds the mark of the empty catalogue to the tables that were made.
-fn add_mark<S: Alter>(tx: &mut Transaction<'_, S>) -> Result<(), Error>
-    requires { WhileOpen (seen S.Store tx.old) (Has mark) }
-    ensures same_reference { tx.new.conn.ghost_name ≡ tx.old.conn.ghost_name }
-    ensures marked { HasCleanDisk (seen S.Store tx.new) → OnOk result ((before : Database) → HasPlace before.schema → AreMade store_tables before (seen S.Store tx.old).now → Holds known (seen S.Store tx.new).now empty_catalogue) }
-    ensures sound { HasCleanDisk (seen S.Store tx.new) → OnOk result (IsDatabase (seen S.Store tx.new).now) }
-    ensures inside { HasCleanDisk (seen S.Store tx.new) → OnOk result ((seen S.Store tx.new).in_transaction ≡ true) }
-    ensures ran { HasCleanDisk (seen S.Store tx.new) → OnOk result (RunInTurn S.Store (add (codes "mark") (row_of_mark (mark_record known 0)) ∷ []) tx.old.conn.now tx.new.conn.now) }
-    ensures failed { HasCleanDisk (seen S.Store tx.new) → IfErr result (FailsInTurn S.Store (add (codes "mark") (row_of_mark (mark_record known 0)) ∷ []) tx.old.conn.now tx.new.conn.now) }
-    ensures keeps { HasCleanDisk (seen S.Store tx.new) → KeepsCommit (seen S.Store tx.old) (seen S.Store tx.new) }
-    ensures survives { Survives (seen S.Store tx.old) (seen S.Store tx.new) (λ _. ⊥) }
+fn add_mark<S: Alter, T: OpenTransaction<S>>(tx: &mut T) -> Result<(), Error>
+    requires { WhileOpen (state S.Store (T.held tx.old)) (Has mark) }
+    ensures same_reference { T.reference tx.new ≡ T.reference tx.old }
+    ensures marked { HasCleanDisk (state S.Store (T.held tx.new)) → OnOk result ((before : Database) → HasPlace before.schema → AreMade store_tables before (state S.Store (T.held tx.old)).now → Holds known (state S.Store (T.held tx.new)).now empty_catalogue) }
+    ensures sound { HasCleanDisk (state S.Store (T.held tx.new)) → OnOk result (IsDatabase (state S.Store (T.held tx.new)).now) }
+    ensures inside { HasCleanDisk (state S.Store (T.held tx.new)) → OnOk result ((state S.Store (T.held tx.new)).in_transaction ≡ true) }
+    ensures ran { HasCleanDisk (state S.Store (T.held tx.new)) → OnOk result (RunInTurn S.Store (add (codes "mark") (row_of_mark (mark_record known 0)) ∷ []) (T.held tx.old) (T.held tx.new)) }
+    ensures failed { HasCleanDisk (state S.Store (T.held tx.new)) → IfErr result (FailsInTurn S.Store (add (codes "mark") (row_of_mark (mark_record known 0)) ∷ []) (T.held tx.old) (T.held tx.new)) }
+    ensures keeps { HasCleanDisk (state S.Store (T.held tx.new)) → KeepsCommit (state S.Store (T.held tx.old)) (state S.Store (T.held tx.new)) }
+    ensures survives { Survives (state S.Store (T.held tx.old)) (state S.Store (T.held tx.new)) (λ _. ⊥) }
 {
     let mark = mark_row(KNOWN_VERSION, 0);
     insert_mark(tx, &mark)?;
@@ -44,23 +45,23 @@ fn add_mark<S: Alter>(tx: &mut Transaction<'_, S>) -> Result<(), Error>
 }
 
 /// Makes the tables, with the mark of the empty catalogue.
-fn make_all<S: Alter>(tx: &mut Transaction<'_, S>) -> Result<(), Error>
-    requires ready { WhileOpen (seen S.Store tx.old) IsReady }
-    requires place { WhileOpen (seen S.Store tx.old) (λ db. HasPlace db.schema) }
-    ensures same_reference { tx.new.conn.ghost_name ≡ tx.old.conn.ghost_name }
-    ensures made { HasCleanDisk (seen S.Store tx.new) → OnOk result (Holds known (seen S.Store tx.new).now empty_catalogue × IsDatabase (seen S.Store tx.new).now) }
-    ensures inside { HasCleanDisk (seen S.Store tx.new) → OnOk result ((seen S.Store tx.new).in_transaction ≡ true) }
-    ensures ran { HasCleanDisk (seen S.Store tx.new) → OnOk result (RunInTurn S.Store (creation known) tx.old.conn.now tx.new.conn.now) }
-    ensures failed { HasCleanDisk (seen S.Store tx.new) → IfErr result (FailsInTurn S.Store (creation known) tx.old.conn.now tx.new.conn.now) }
-    ensures keeps { HasCleanDisk (seen S.Store tx.new) → KeepsCommit (seen S.Store tx.old) (seen S.Store tx.new) }
-    ensures survives { Survives (seen S.Store tx.old) (seen S.Store tx.new) (λ _. ⊥) }
+fn make_all<S: Alter, T: OpenTransaction<S>>(tx: &mut T) -> Result<(), Error>
+    requires ready { WhileOpen (state S.Store (T.held tx.old)) IsReady }
+    requires place { WhileOpen (state S.Store (T.held tx.old)) (λ db. HasPlace db.schema) }
+    ensures same_reference { T.reference tx.new ≡ T.reference tx.old }
+    ensures made { HasCleanDisk (state S.Store (T.held tx.new)) → OnOk result (Holds known (state S.Store (T.held tx.new)).now empty_catalogue × IsDatabase (state S.Store (T.held tx.new)).now) }
+    ensures inside { HasCleanDisk (state S.Store (T.held tx.new)) → OnOk result ((state S.Store (T.held tx.new)).in_transaction ≡ true) }
+    ensures ran { HasCleanDisk (state S.Store (T.held tx.new)) → OnOk result (RunInTurn S.Store (creation known) (T.held tx.old) (T.held tx.new)) }
+    ensures failed { HasCleanDisk (state S.Store (T.held tx.new)) → IfErr result (FailsInTurn S.Store (creation known) (T.held tx.old) (T.held tx.new)) }
+    ensures keeps { HasCleanDisk (state S.Store (T.held tx.new)) → KeepsCommit (state S.Store (T.held tx.old)) (state S.Store (T.held tx.new)) }
+    ensures survives { Survives (state S.Store (T.held tx.old)) (state S.Store (T.held tx.new)) (λ _. ⊥) }
 {
     create_tables(tx)?;
     add_mark(tx)
 }
 
 /// Whether all tables can be made, now and later, and no name is in use that is kept for the product.
-fn has_place(schema: &Schema) -> bool
+pub fn has_place(schema: &Schema) -> bool
     ensures { IsTrue result ↔ HasPlace schema.now }
 {
     has_room(schema) && !is_own_name_used(schema) && has_later_room(schema)

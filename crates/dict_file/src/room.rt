@@ -1,17 +1,44 @@
-// Whether a file of a version without keys leaves room for the tables and indexes that come with them.
+// Whether a file of an older version leaves room for the tables and indexes that the last layout has.
 ghost use Rattle.std.specs.Prelude.{◌≡◌, ◌↔◌, IsTrue, false};
-ghost use Rattle.std.specs.List.{list_any};
 ghost use Rattle.sqlite.specs.Change.{is_used};
-ghost use Rattle.dict_tables.specs.Found.{found_table};
-ghost use Rattle.dict_tables.specs.Keyed.{helper, word, gram, index_of};
+ghost use Rattle.dict_tables.specs.Keyed.{helper};
 ghost use Rattle.dict_tables.specs.Room.{LeavesRoom, is_referred};
-ghost use Rattle.dict_rows.specs.Versions.{Plain};
-ghost use Rattle.dict_file.specs.Room.{is_of_found, is_used_beside, dropped, MayBecomeShown, HasLaterRoom};
+ghost use Rattle.dict_rows.specs.Versions.{Plain, Keyed};
+ghost use Rattle.dict_file.specs.Room.{dropped, AreThere, MayBecomeShown, HasLaterRoom};
 
 use dict_tables::{
-    KeyIndex, find_table, is_name_referred, is_name_used, is_own_name, waits_for_counter,
+    KeyIndex, KeyedTable, find_table, has_room_for, is_name_referred, is_name_used,
+    leaves_room_behind,
 };
 use sqlite_schema::schema::Schema;
+
+/// Whether a file without keys leaves room for the tables and indexes that come with them: for the table that entries wait in,
+/// and for all others once `entry` is dropped with its indexes.
+pub fn may_become_shown(schema: &Schema) -> bool
+    ensures { IsTrue result ↔ MayBecomeShown Plain schema.now }
+{
+    match find_table(schema, b"entry") {
+        Some(entries) => leaves_room_behind(schema, &[entries.tree]),
+        None => leaves_room_behind(schema, &[]),
+    }
+}
+
+/// Whether a file of a version with keys has tables of the names `entry`, `word` and `gram`, and leaves room for the table that
+/// entries wait in, and for all others once these three are dropped with their indexes.
+pub fn keyed_may_become_shown(schema: &Schema) -> bool
+    ensures { IsTrue result ↔ (AreThere (dropped Keyed) schema.now × MayBecomeShown Keyed schema.now) }
+{
+    let Some(entries) = find_table(schema, b"entry") else {
+        return false;
+    };
+    let Some(words) = find_table(schema, b"word") else {
+        return false;
+    };
+    let Some(grams) = find_table(schema, b"gram") else {
+        return false;
+    };
+    leaves_room_behind(schema, &[entries.tree, words.tree, grams.tree])
+}
 
 // Whether these names of a table and of the index of its key are free, and no foreign key names the table.
 fn are_free(schema: &Schema, name: &[u8], index: &[u8]) -> bool
@@ -31,56 +58,13 @@ fn has_room_for_helper(schema: &Schema) -> bool
     )
 }
 
-fn has_room_for_words(schema: &Schema) -> bool
-    ensures { IsTrue result ↔ LeavesRoom schema.now (word 0) }
-{
-    are_free(schema, b"word", b"sqlite_autoindex_word_1")
-}
-
-fn has_room_for_grams(schema: &Schema) -> bool
-    ensures { IsTrue result ↔ LeavesRoom schema.now (gram 0) }
-{
-    are_free(schema, b"gram", b"sqlite_autoindex_gram_1")
-}
-
-// Whether the name is of the table of entries, or of an index over it.
-fn is_of_entries(schema: &Schema, name: &[u8]) -> bool
-    ensures { result ≡ list_any (λ table. is_of_found schema.now (found_table schema.now table) name.now) (dropped Plain) }
-{
-    match find_table(schema, b"entry") {
-        Some(table) => is_own_name(schema, table, name),
-        None => false,
-    }
-}
-
-// Whether the name is in use, and goes not with the table of entries.
-fn is_taken(schema: &Schema, index: KeyIndex) -> bool
-    ensures { result ≡ is_used_beside schema.now (dropped Plain) (index_of index).name }
-{
-    let name = index.name().as_bytes();
-    is_name_used(schema, name) && !is_of_entries(schema, name)
-}
-
-/// Whether a file of a version without keys leaves room for the tables and indexes that come with them, beside its own: each name
-/// is free, or goes with the table of entries.
-pub fn may_become_shown(schema: &Schema) -> bool
-    ensures { IsTrue result ↔ MayBecomeShown Plain schema.now }
-{
-    has_room_for_helper(schema)
-        && has_room_for_words(schema)
-        && has_room_for_grams(schema)
-        && !is_taken(schema, KeyIndex::Key)
-        && !is_taken(schema, KeyIndex::Reversed)
-        && !waits_for_counter(schema)
-}
-
-/// Whether there is room for them where no table is made yet.
+/// Whether there is room for what comes later where no table is made yet.
 pub(crate) fn has_later_room(schema: &Schema) -> bool
     ensures { IsTrue result ↔ HasLaterRoom schema.now }
 {
     has_room_for_helper(schema)
-        && has_room_for_words(schema)
-        && has_room_for_grams(schema)
+        && has_room_for(schema, KeyedTable::Word)
+        && has_room_for(schema, KeyedTable::Gram)
         && !is_name_used(schema, KeyIndex::Key.name().as_bytes())
         && !is_name_used(schema, KeyIndex::Reversed.name().as_bytes())
 }

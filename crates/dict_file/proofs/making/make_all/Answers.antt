@@ -29,8 +29,8 @@ both_ok P Q (Err e) p q = tt
 
 pub returns-clause-made : goal.returns-clause-made
 returns-clause-made g c clean =
-    let old = state g.S.Store c.args.tx.now.conn.now in
-    let mid = state g.S.Store c.create_tables.new.tx.conn.now in
+    let old = state g.S.Store (g.T.OpenTransaction.held c.args.tx.now) in
+    let mid = state g.S.Store (g.T.OpenTransaction.held c.create_tables.new.tx) in
     let early : HasCleanDisk mid = omega (arith, c.add_mark.ensures.survives.clean) in
     let made = c.in_ok-create_tables.ensures.made early in
     let first : HasCleanDisk old = omega (arith, c.create_tables.ensures.survives.clean, early) in
@@ -39,28 +39,28 @@ returns-clause-made g c clean =
 
 pub returns-clause-survives : goal.returns-clause-survives
 returns-clause-survives g c =
-    let old = state g.S.Store c.args.tx.now.conn.now in
-    let mid = state g.S.Store c.create_tables.new.tx.conn.now in
-    let new = state g.S.Store c.add_mark.new.tx.conn.now in
+    let old = state g.S.Store (g.T.OpenTransaction.held c.args.tx.now) in
+    let mid = state g.S.Store (g.T.OpenTransaction.held c.create_tables.new.tx) in
+    let new = state g.S.Store (g.T.OpenTransaction.held c.add_mark.new.tx) in
     survives_then old mid new (λ _. ⊥) (λ _. ⊥) (λ _. ⊥) (λ _ db none. none) (λ _ db none. none) c.create_tables.ensures.survives c.add_mark.ensures.survives
 
 pub returns-clause-ran : goal.returns-clause-ran
 returns-clause-ran g c clean =
-    let old = c.args.tx.now.conn.now in
-    let mid = c.create_tables.new.tx.conn.now in
-    let new = c.add_mark.new.tx.conn.now in
+    let old = (g.T.OpenTransaction.held c.args.tx.now) in
+    let mid = (g.T.OpenTransaction.held c.create_tables.new.tx) in
+    let new = (g.T.OpenTransaction.held c.add_mark.new.tx) in
     let early : HasCleanDisk (state g.S.Store mid) = omega (arith, c.add_mark.ensures.survives.clean) in
     on_ok_weaker c.add_mark.result (λ marked. run_then g.S.Store (map make store_tables) marks old mid new (c.in_ok-create_tables.ensures.ran early) marked) (c.add_mark.ensures.ran clean)
 
 pub returns-in_err-create_tables-clause-failed : goal.returns-in_err-create_tables-clause-failed
 returns-in_err-create_tables-clause-failed g c clean =
-    err_first g.S.Store c.args.tx.now.conn.now c.create_tables.new.tx.conn.now c.in_err-create_tables.field-0.0 c.from_residual.result c.from_residual.ensures.1 (map make store_tables) marks (c.in_err-create_tables.ensures.failed_at clean)
+    err_first g.S.Store (g.T.OpenTransaction.held c.args.tx.now) (g.T.OpenTransaction.held c.create_tables.new.tx) c.in_err-create_tables.field-0.0 c.from_residual.result c.from_residual.ensures.1 (map make store_tables) marks (c.in_err-create_tables.ensures.failed_at clean)
 
 pub returns-clause-failed : goal.returns-clause-failed
 returns-clause-failed g c clean =
-    let old = c.args.tx.now.conn.now in
-    let mid = c.create_tables.new.tx.conn.now in
-    let new = c.add_mark.new.tx.conn.now in
+    let old = (g.T.OpenTransaction.held c.args.tx.now) in
+    let mid = (g.T.OpenTransaction.held c.create_tables.new.tx) in
+    let new = (g.T.OpenTransaction.held c.add_mark.new.tx) in
     let early : HasCleanDisk (state g.S.Store mid) = omega (arith, c.add_mark.ensures.survives.clean) in
     each_err c.add_mark.result (FailsInTurn g.S.Store marks mid new) (FailsInTurn g.S.Store (creation known) old new)
     (λ e h. fails_after g.S.Store (map make store_tables) marks old mid new e (c.in_ok-create_tables.ensures.ran early) h) (c.add_mark.ensures.failed clean)
