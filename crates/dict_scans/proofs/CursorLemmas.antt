@@ -1,0 +1,59 @@
+-- What the next row of a reading tells, whichever family it is of.
+use Rattle.std.proofs.Common.{List, [], ◌∷◌, ◌++◌, Option, Some, None}
+use Rattle.sqlite.specs.Order.{Row}
+use Rattle.sqlite.specs.Given as kit
+use Rattle.sqlite.specs.State.{IsUnchanged}
+use Rattle.sqlite.specs.Held.{Held, state}
+use Rattle.sqlite.specs.declared.error.Error.{Error}
+use Rattle.sqlite_trees.specs.declared.store.Store.{Ghosts}
+use Rattle.dict_sql.specs.Columns.{Content}
+use Rattle.dict_sql.specs.Reads.{FailsToRead}
+use Rattle.dict_sql.specs.Streams.{FailsToMove}
+use Rattle.dict_sql.specs.declared.records.ReadError.TheVariants.{NoRecord}
+use Rattle.dict_sql.proofs.StreamLemmas as store
+use Rattle.dict_keyed_sql.specs.Scans as scans
+use Rattle.dict_keyed_sql.specs.Scans.Scan.{Of, ByRowid, OldOf, OldByRowid}
+use Rattle.dict_keyed_sql.proofs.ScanLemmas as keyed
+use Rattle.dict_scans.specs.Cursors.{Cursor, IsFront, HasGiven, GivesOn, GivesNoRecord}
+use Rattle.dict_scans.specs.Cursors.Cursor.{InStore, KeyedOf, KeyedByRowid, OldEntriesOf, OldEntriesByRowid}
+
+module _ {S : Type 0} (g : Ghosts S) where
+  pub front_of : (what : Cursor) (h : Held S) (given : List Row) → HasGiven g what h given → IsFront what (state g h).now given
+  front_of (InStore scan) h given it = it.front
+  front_of (KeyedOf table edition) h given it = it.front
+  front_of (KeyedByRowid table) h given it = it.front
+  front_of (OldEntriesOf edition) h given it = it.front
+  front_of OldEntriesByRowid h given it = it.front
+
+  module _ (old new : Held S) (given : List Row) where
+    gives_all : (what : Cursor) → IsUnchanged (state g old) (state g new) → HasGiven g what old given → kit.Advances g old new None → GivesOn g what new given None
+    gives_all (InStore scan) same h moved = store.gives_on g scan old new given None same h moved
+    gives_all (KeyedOf table edition) same h moved = keyed.gives_on g (Of table edition) old new given None same h moved
+    gives_all (KeyedByRowid table) same h moved = keyed.gives_on g (ByRowid table) old new given None same h moved
+    gives_all (OldEntriesOf edition) same h moved = keyed.gives_on g (OldOf edition) old new given None same h moved
+    gives_all OldEntriesByRowid same h moved = keyed.gives_on g OldByRowid old new given None same h moved
+
+    gives_one : (what : Cursor) (row : Row) → IsUnchanged (state g old) (state g new) → HasGiven g what old given → kit.Advances g old new (Some row) → HasGiven g what new (given ++ row ∷ [])
+    gives_one (InStore scan) row same h moved = store.gives_on g scan old new given (Some row) same h moved
+    gives_one (KeyedOf table edition) row same h moved = keyed.gives_on g (Of table edition) old new given (Some row) same h moved
+    gives_one (KeyedByRowid table) row same h moved = keyed.gives_on g (ByRowid table) old new given (Some row) same h moved
+    gives_one (OldEntriesOf edition) row same h moved = keyed.gives_on g (OldOf edition) old new given (Some row) same h moved
+    gives_one OldEntriesByRowid row same h moved = keyed.gives_on g OldByRowid old new given (Some row) same h moved
+
+    pub gives_on : (what : Cursor) (row : Option Row) → IsUnchanged (state g old) (state g new) → HasGiven g what old given → kit.Advances g old new row → GivesOn g what new given row
+    gives_on what None same h moved = gives_all what same h moved
+    gives_on what (Some row) same h moved = gives_one what row same h moved
+
+    pub no_record : (columns : List Content) (what : Cursor) → HasGiven g what old given → FailsToMove g columns old new NoRecord → GivesNoRecord g columns what old new given
+    no_record columns what h (row, same, moved, none) = (row, same, gives_one what row same h moved, none)
+
+  -- no further row was had
+  keyed_fails : (what : scans.Scan) (old new : Held S) (given : List Row) (e : Error) → scans.HasGiven g what old given → kit.FailsToAdvance g old new e → FailsToRead (state g old) (state g new) e
+  keyed_fails what old new given e h failed = keyed.fails_to_read what (state g old) (state g new) (λ _. h.has) e (failed (scans.scan_text what) (scans.scan_values what) given h.runs)
+
+  pub fails_to_move : (what : Cursor) (old new : Held S) (given : List Row) (e : Error) → HasGiven g what old given → kit.FailsToAdvance g old new e → FailsToRead (state g old) (state g new) e
+  fails_to_move (InStore scan) old new given e h failed = store.fails_to_advance g scan old new given e h failed
+  fails_to_move (KeyedOf table edition) old new given e h failed = keyed_fails (Of table edition) old new given e h failed
+  fails_to_move (KeyedByRowid table) old new given e h failed = keyed_fails (ByRowid table) old new given e h failed
+  fails_to_move (OldEntriesOf edition) old new given e h failed = keyed_fails (OldOf edition) old new given e h failed
+  fails_to_move OldEntriesByRowid old new given e h failed = keyed_fails OldByRowid old new given e h failed

@@ -1,0 +1,15 @@
+pub mod StateLemmas
+pub mod CursorLemmas
+pub mod ScanLemmas
+pub mod CauseLemmas
+pub mod TakerLemmas
+pub mod BeginLemmas
+pub mod RowidLemmas
+pub mod NumberLemmas
+pub mod CodecLemmas
+pub mod TestLemmas
+pub mod PlaceLemmas
+pub mod TypedLemmas
+pub mod EntryLemmas
+pub mod CensusLemmas
+pub mod PieceLemmas

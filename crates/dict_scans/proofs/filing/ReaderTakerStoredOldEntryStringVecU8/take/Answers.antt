@@ -1,0 +1,17 @@
+use Rattle.std.proofs.Common.{[], ◌∷◌, subst}
+use Rattle.std.proofs.lemmas.Result.{on_ok_weaker}
+use Rattle.dict_records.specs.Typed.{owned_entry}
+use Rattle.dict_scans.specs.Entries.{AreTaken, AreNotTaken}
+use Rattle.dict_scans.specs.Filing.{old_entry_in}
+use Rattle.dict_scans.proofs.TakerLemmas.{if_err_then, on_damage, one_refused, entries_next, entries_refused}
+use Rattle.dict_scans.proofs.filing.ReaderTakerStoredOldEntryStringVecU8.take.Goals as goal
+
+pub returns-clause-taken : goal.returns-clause-taken
+returns-clause-taken c =
+    on_ok_weaker c.entry.result (λ more first given h. entries_next old_entry_in first given c.args.next c.args.self.now h c.entry.new.self
+    (subst (λ e. AreTaken c.args.self.now c.entry.new.self (e ∷ [])) c.without_old_keys.ensures more)) c.entry.ensures.taken
+
+pub returns-clause-refused : goal.returns-clause-refused
+returns-clause-refused c =
+    if_err_then _ _ c.entry.result (λ fault wrong e first given h. entries_refused old_entry_in first given c.args.next c.args.self.now h
+    (subst (λ e. AreNotTaken c.args.self.now (e ∷ [])) c.without_old_keys.ensures (one_refused c.args.self.now (owned_entry c.without_old_keys.result) (on_damage fault _ wrong e)))) c.entry.ensures.damaged

@@ -1,0 +1,54 @@
+-- What takes the entries with keys, and what was taken.
+use Rattle.std.specs.Prelude.{◌≡◌, ◌⊎◌, ℕ, List, [], ◌∷◌, ◌++◌, map, String, Vec}
+use Rattle.std.specs.List.{AllByRecursion}
+use Rattle.std.specs.declared.alloc.Global.{Global}
+use Rattle.dict_match.specs.Key.{key_of}
+use Rattle.dict_records.specs.Records.{Entry}
+use Rattle.dict_records.specs.Keyed.{owned_keyed_entry, owned_old_entry, plain_entry}
+use Rattle.dict_records.specs.declared.keyed as typed
+use Rattle.dict_records.specs.declared.records.Stored.{Stored}
+use Rattle.dict_derived.specs.Entries.{filed, plain}
+use Rattle.dict_rows.specs.declared.reader.Reader.{Reader}
+use Rattle.dict_scans.specs.Entries.{AreTaken, AreNotTaken}
+use Rattle.dict_scans.specs.declared.filing.EditionReader.{EditionReader}
+
+abbrev pub FiledRow : Type 0
+FiledRow = Stored (typed.KeyedEntry.KeyedEntry (String Global) (Vec ℕ Global))
+
+abbrev pub OldRow : Type 0
+OldRow = Stored (typed.OldEntry.OldEntry (String Global) (Vec ℕ Global))
+
+-- the entry of a row
+
+abbrev pub entry_filed : FiledRow → Entry
+entry_filed row = plain (owned_keyed_entry row.value)
+
+abbrev pub old_entry_in : OldRow → Entry
+old_entry_in row = plain_entry (owned_old_entry row.value)
+
+-- the row has what is derived of its headword
+abbrev pub IsFiled : FiledRow → Type 0
+IsFiled row = owned_keyed_entry row.value ≡ filed (entry_filed row)
+
+-- the keys of the headwords
+abbrev pub keys_of : List Entry → List (List ℕ)
+keys_of given = map (λ (e : Entry). key_of e.headword) given
+
+-- ---- as a taker tells it
+
+abbrev pub takes_old : Reader → List OldRow → Reader → Type 0
+takes_old first given last = AreTaken first last (map old_entry_in given)
+
+abbrev pub refuses_old : Reader → List OldRow → Type 0
+refuses_old first given = AreNotTaken first (map old_entry_in given)
+
+pub record TakesFiled (first : EditionReader) (given : List FiledRow) (last : EditionReader) : Type 0 where
+  pub filed : AllByRecursion IsFiled given
+  pub keys : last.keys.items ≡ first.keys.items ++ keys_of (map entry_filed given)
+  pub taken : AreTaken first.reader last.reader (map entry_filed given)
+
+-- the last of them isn't filed, or all are, and the reader doesn't take them
+abbrev pub refuses_filed : EditionReader → List FiledRow → Type 0
+refuses_filed first given =
+    ((front : List FiledRow) × (next : FiledRow) × (given ≡ front ++ next ∷ []) × (IsFiled next → ⊥))
+    ⊎ (AllByRecursion IsFiled given × AreNotTaken first.reader (map entry_filed given))

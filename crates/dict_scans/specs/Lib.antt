@@ -1,0 +1,9 @@
+pub mod Reading
+pub mod Cursors
+pub mod Scans
+pub mod Entries
+pub mod Filing
+pub mod PieceRows
+pub mod Takers
+pub mod Census
+pub mod TakerLaws

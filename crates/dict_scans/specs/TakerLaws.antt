@@ -1,0 +1,45 @@
+-- Nothing was taken: the laws of what takes records.
+use Rattle.std.proofs.Common.{List, [], refl, sym, subst, append-nil}
+use Rattle.sqlite.specs.Order.{Row}
+use Rattle.dict_rows.specs.Apart.{HasTakenIds, HasTakenRowids}
+use Rattle.dict_rows.specs.Taken.{HasTaken}
+use Rattle.dict_records.specs.Records as spec
+use Rattle.dict_rows.specs.declared.reader.Reader.{Reader}
+use Rattle.dict_rows.specs.declared.apart.Ids.{Ids}
+use Rattle.dict_rows.specs.declared.apart.Rowids.{Rowids}
+use Rattle.dict_records.specs.Keyed.{Piece}
+use Rattle.dict_derived.specs.declared.reader.PieceReader.{PieceReader}
+use Rattle.dict_scans.specs.declared.census.Census.{Census}
+use Rattle.dict_scans.specs.declared.filing.EditionReader.{EditionReader}
+use Rattle.dict_scans.specs.Takers.{takes_rowids, takes_entries, takes_replies, takes_ids}
+use Rattle.dict_scans.specs.Entries.{AreTaken}
+use Rattle.dict_scans.specs.Filing.{takes_old, TakesFiled}
+use Rattle.dict_scans.specs.PieceRows.{takes_pieces}
+use Rattle.dict_scans.specs.Census.{TakesCensus}
+
+pub no_rowids : {R : Type 0} (stored : R → Row) (rowids : Rowids) → takes_rowids stored rowids [] rowids
+no_rowids stored rowids = ([], refl, λ before h. subst (HasTakenRowids rowids) (sym (append-nil before)) h)
+
+pub no_taken : (reader : Reader) → AreTaken reader reader []
+no_taken reader version taken h = subst (λ (entries : List spec.Entry). HasTaken version reader (record taken { entries = entries })) (sym (append-nil taken.entries)) h
+
+pub no_entries : (reader : Reader) → takes_entries reader [] reader
+no_entries = no_taken
+
+pub no_old : (reader : Reader) → takes_old reader [] reader
+no_old = no_taken
+
+pub no_filed : (taker : EditionReader) → TakesFiled taker [] taker
+no_filed taker = record { filed = tt; keys = sym (append-nil taker.keys.items); taken = no_taken taker.reader }
+
+pub no_replies : (reader : Reader) → takes_replies reader [] reader
+no_replies reader version taken h = subst (λ (kept : List spec.Kept). HasTaken version reader (record taken { kept = kept })) (sym (append-nil taken.kept)) h
+
+pub no_ids : (ids : Ids) → takes_ids ids [] ids
+no_ids ids before h = subst (HasTakenIds ids) (sym (append-nil before)) h
+
+pub no_pieces : {R : Type 0} (piece : R → Piece) (reader : PieceReader) → takes_pieces piece reader [] reader
+no_pieces piece reader pieces edition keys h = h
+
+pub no_census : {R : Type 0} (stored : R → Row) (census : Census) → TakesCensus stored census [] census
+no_census stored census = record { numbers = refl; rowids = no_rowids stored census.rowids; known = tt }

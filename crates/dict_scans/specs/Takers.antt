@@ -1,0 +1,117 @@
+-- What takes the records of the tables, and what was taken.
+use Rattle.std.specs.Prelude.{◌≡◌, ◌≢◌, ℕ, ℤ, IsTrue, List, [], ◌∷◌, ◌++◌, map, String, Vec}
+use Rattle.std.specs.List.{AllByRecursion}
+use Rattle.std.specs.declared.alloc.Global.{Global}
+use Rattle.sqlite.specs.Order.{Row, column}
+use Rattle.sqlite.specs.declared.types.Value.TheVariants.{Int}
+use Rattle.sqlite.specs.Effect.{Database}
+use Rattle.dict_sql.specs.Encodings.{stored_kept}
+use Rattle.dict_scans.specs.Cursors.{Cursor, IsWhole, IsFront}
+use Rattle.dict_scans.specs.Cursors.Cursor.{InStore}
+use Rattle.dict_sql.specs.Streams.Scan.{KeptById}
+use Rattle.dict_records.specs.declared.records as typed
+use Rattle.dict_records.specs.declared.records.Stored.{Stored}
+use Rattle.dict_sql.specs.declared.records.EditionNumber.{EditionNumber}
+use Rattle.dict_catalogue.specs.Steps.{Catalogue}
+use Rattle.dict_catalogue.specs.WellFormed.{IsEachOnce}
+use Rattle.dict_rows.specs.Tables.{Tables}
+use Rattle.dict_rows.specs.Given.{entries_given, kept_given}
+use Rattle.dict_rows.specs.Stands.{Stands, has_number}
+use Rattle.dict_rows.specs.Taken.{HasTaken, StandsForNone, GoesOn, items_in}
+use Rattle.dict_rows.specs.Whole.{with_replies}
+use Rattle.dict_scans.specs.Entries.{AreTaken, AreNotTaken}
+use Rattle.dict_rows.specs.Order.{InOrder}
+use Rattle.dict_rows.specs.Apart.{HasTakenIds, HasTakenRowids, HaveApartNeighbours}
+use Rattle.dict_rows.specs.declared.reader.Reader.{Reader}
+use Rattle.dict_rows.specs.declared.apart.Ids.{Ids}
+use Rattle.dict_rows.specs.declared.apart.Rowids.{Rowids}
+use Rattle.dict_scans.specs.declared.takers.Strays.{Strays}
+
+abbrev pub EditionRow : Type 0
+EditionRow = Stored (typed.Edition.Edition (String Global) (Vec ℕ Global))
+
+-- the rowid and the number of an edition
+abbrev pub NumberRow : Type 0
+NumberRow = Stored EditionNumber
+
+abbrev pub EntryRow : Type 0
+EntryRow = Stored (typed.Entry.Entry (String Global))
+
+abbrev pub KeptRow : Type 0
+KeptRow = Stored (typed.Kept.Kept (String Global))
+
+-- ---- rowids
+
+-- the rowids of rows
+abbrev pub AreRowids : {R : Type 0} → (R → Row) → List R → List ℤ → Type 0
+AreRowids stored given ids = map (λ r. column (stored r) 0) given ≡ map Int ids
+
+abbrev pub takes_rowids : {R : Type 0} → (R → Row) → Rowids → List R → Rowids → Type 0
+takes_rowids stored first given last = (ids : List ℤ) × AreRowids stored given ids × ((before : List ℤ) → HasTakenRowids first before → HasTakenRowids last (before ++ ids))
+
+abbrev pub refuses_rowids : {R : Type 0} → (R → Row) → Rowids → List R → Type 0
+refuses_rowids stored first given = (ids : List ℤ) × AreRowids stored given ids × ((before : List ℤ) → HasTakenRowids first before → InOrder (λ a b. a ≡ b → ⊥) (before ++ ids) → ⊥)
+
+-- ---- the entries of an edition, and the kept replies
+
+abbrev pub takes_entries : Reader → List EntryRow → Reader → Type 0
+takes_entries first given last = AreTaken first last (entries_given given)
+
+abbrev pub refuses_entries : Reader → List EntryRow → Type 0
+refuses_entries first given = AreNotTaken first (entries_given given)
+
+abbrev pub takes_replies : Reader → List KeptRow → Reader → Type 0
+takes_replies first given last = (version : ℕ) (taken : Tables) → HasTaken version first taken → HasTaken version last (with_replies taken (kept_given given))
+
+abbrev pub refuses_replies : Reader → List KeptRow → Type 0
+refuses_replies first given = (version : ℕ) (taken : Tables) → HasTaken version first taken → StandsForNone version (with_replies taken (kept_given given))
+
+-- ---- ids
+
+abbrev pub ids_given : List KeptRow → List (List ℕ)
+ids_given rows = map (λ row. row.id) (kept_given rows)
+
+abbrev pub takes_ids : Ids → List KeptRow → Ids → Type 0
+takes_ids first given last = (before : List (List ℕ)) → HasTakenIds first before → HasTakenIds last (before ++ ids_given given)
+
+abbrev pub refuses_ids : Ids → List KeptRow → Type 0
+refuses_ids first given = (before : List (List ℕ)) → HasTakenIds first before → IsEachOnce (before ++ ids_given given) → ⊥
+
+-- ---- strays
+
+-- one of the items that the reader has taken has the number
+abbrev pub IsKnown : Strays → ℤ → Type 0
+IsKnown strays number = IsTrue (has_number (items_in strays.reader.now) number)
+
+-- no catalogue stands for tables that go on from what was taken and have an edition or an entry of this number
+abbrev pub IsUnknown : Reader → ℤ → Type 0
+IsUnknown reader number = (version : ℕ) (taken tables : Tables) (M : Catalogue) → HasTaken version reader taken → GoesOn taken tables → Stands version tables M →
+    AllByRecursion (λ row. row.number ≢ number) tables.editions × AllByRecursion (λ row. row.edition ≢ number) tables.entries
+
+abbrev pub IsStray : Strays → ℤ → Type 0
+IsStray strays number = IsUnknown strays.reader.now number
+
+abbrev pub takes_known : {R : Type 0} → (R → ℤ) → Strays → List R → Strays → Type 0
+takes_known number first given last = (last ≡ first) × AllByRecursion (λ r. IsKnown first (number r)) given
+
+abbrev pub refuses_stray : {R : Type 0} → (R → ℤ) → Strays → List R → Type 0
+refuses_stray {R} number first given = (front : List R) × (next : R) × (given ≡ front ++ next ∷ []) × IsStray first (number next)
+
+abbrev pub number_given : NumberRow → ℤ
+number_given row = row.value.number
+
+-- all rows of the scan were read, and their numbers are known
+abbrev pub AreKnown : {R : Type 0} → (R → Row) → (R → ℤ) → Cursor → Database → Reader → Type 0
+AreKnown {R} stored number what db reader = (given : List R) × IsWhole what db (map stored given) × AllByRecursion (λ r. IsTrue (has_number (items_in reader) (number r))) given
+
+-- one of the rows has a number that no item has
+abbrev pub HasStray : {R : Type 0} → (R → Row) → (R → ℤ) → Cursor → Database → Reader → Type 0
+HasStray {R} stored number what db reader = (given : List R) × (next : R) × IsFront what db (map stored (given ++ next ∷ [])) × IsUnknown reader (number next)
+
+-- the kept replies in the order of their ids, no two of which are the same
+abbrev pub HasIdsApart : Database → Type 0
+HasIdsApart db = (given : List KeptRow) × IsWhole (InStore KeptById) db (map stored_kept given) × HaveApartNeighbours (ids_given given)
+
+-- the kept replies begin with such of which two have one id
+abbrev pub HasIdTwice : Database → Type 0
+HasIdTwice db = (given : List KeptRow) × IsFront (InStore KeptById) db (map stored_kept given) × (IsEachOnce (ids_given given) → ⊥)

@@ -1,0 +1,239 @@
+// The rows of tables whose rows are those of editions: no two under one rowid, and none of an edition that isn't there.
+ghost use Rattle.std.specs.Prelude.{◌≡◌, ◌⊎◌, ◌++◌, ◌∷◌, [], true, false, ℤ, List, codes, IfErr, OnOk};
+ghost use Rattle.std.specs.List.{AllByRecursion};
+ghost use Rattle.sqlite.specs.State.{HasCleanDisk};
+ghost use Rattle.sqlite.specs.Held.{state};
+ghost use Rattle.sqlite.specs.Order.{column};
+ghost use Rattle.sqlite.specs.declared.types.Value.TheVariants.{Int};
+ghost use Rattle.dict_tables.specs.Tables.{entry};
+ghost use Rattle.dict_tables.specs.Keyed.{old_entry, table_of};
+ghost use Rattle.dict_sql.specs.Columns.{HasColumns};
+ghost use Rattle.dict_sql.specs.Effects.{Has, WhileOpen, rows_of};
+ghost use Rattle.dict_rows.specs.Apart.{HasTakenRowids};
+ghost use Rattle.dict_rows.specs.Order.{InOrder, is_of};
+ghost use Rattle.dict_rows.specs.Tables.{same_number};
+ghost use Rattle.dict_rows.specs.Versions.{Plain, Keyed};
+ghost use Rattle.dict_file.specs.Readings.{IsReadable, entries, name_of};
+ghost use Rattle.dict_scans.specs.Reading.{Same, OnlyReads, IsExcused};
+ghost use Rattle.dict_scans.specs.Census.{AreNumberedApart, reading_of, TakesCensus, refuses_census};
+ghost use Rattle.dict_scans.specs.TakerLaws.{no_census};
+
+use crate::entries::is_live;
+use crate::fault::{ReadingFault, fault_of_store};
+use crate::scan::{Taker, take_all};
+use dict_keyed_sql::{read_by_rowid as read_keyed_by_rowid, read_old_by_rowid};
+use dict_records::{Entry, Gram, KeyedEntry, OldEntry, Stored, Word};
+use dict_rows::{Rowids, RowsFault};
+use dict_sql::records::Record;
+use dict_sql::stream::read_by_rowid;
+use dict_tables::{KeyedTable, StoreTable};
+use sqlite::{Alter, Connection};
+use std::alloc::Global;
+
+/// A table whose rows are those of editions: the entries as schema 1 has them, as schemas 2 and 3 do, and as the fourth does;
+/// and what is derived of them.
+#[derive(Clone, Copy, Debug, PartialEq, Eq)]
+pub enum EditionTable {
+    PlainEntry,
+    OldEntry,
+    FiledEntry,
+    Word,
+    Gram,
+}
+
+/// A record of an edition, whose number its row has in the first column behind the rowid.
+pub(crate) trait OfEdition: Record {
+    /// The number.
+    fn edition(&self) -> i64
+        ensures { column (Self.stored self.now) 1 ≡ Int result };
+}
+
+impl OfEdition for Stored<Entry<String>> {
+    fn edition(&self) -> i64 {
+        self.value.edition
+    }
+}
+
+impl OfEdition for Stored<OldEntry<String, Vec<u8>>> {
+    fn edition(&self) -> i64 {
+        self.value.edition
+    }
+}
+
+impl OfEdition for Stored<KeyedEntry<String, Vec<u8>>> {
+    fn edition(&self) -> i64 {
+        self.value.edition
+    }
+}
+
+impl OfEdition for Stored<Word<Vec<u8>>> {
+    fn edition(&self) -> i64 {
+        self.value.edition
+    }
+}
+
+impl OfEdition for Stored<Gram<Vec<u8>>> {
+    fn edition(&self) -> i64 {
+        self.value.edition
+    }
+}
+
+/// What takes the rows of a table in the order of their rowids, beside the numbers of the editions that there are.
+#[derive(Drop)]
+pub(crate) struct Census<'a> {
+    pub(crate) numbers: &'a [i64],
+    pub(crate) rowids: Rowids,
+}
+
+fn is_same(one: i64, other: i64) -> bool
+    ensures { result ≡ same_number one other }
+{
+    one == other
+}
+
+fn is_one_of(numbers: &[i64], found: i64) -> bool
+    ensures { result ≡ is_of numbers.now found }
+{
+    for number in numbers {
+        if is_same(found, *number) {
+            return true;
+        }
+    }
+    false
+}
+
+impl Census<'_> {
+    /// Takes the rowid and the edition's number of the next row.
+    fn row(&mut self, rowid: i64, edition: i64) -> Result<(), RowsFault>
+        ensures numbers { self.new.numbers ≡ self.old.numbers }
+        ensures known { OnOk result (is_of self.old.numbers.now edition ≡ true) }
+        ensures taken { OnOk result ((taken : List ℤ) → HasTakenRowids self.old.rowids taken → HasTakenRowids self.new.rowids (taken ++ rowid ∷ [])) }
+        ensures damaged { IfErr result (λ fault. fault ≡ RowsFault.Damaged → ((taken : List ℤ) → HasTakenRowids self.old.rowids taken → InOrder (λ a b. a ≡ b → ⊥) (taken ++ rowid ∷ []) → ⊥) ⊎ (is_of self.old.numbers.now edition ≡ false)) }
+    {
+        if !is_one_of(self.numbers, edition) {
+            return Err(RowsFault::Damaged);
+        }
+        self.rowids.rowid(rowid)
+    }
+}
+
+impl<R: OfEdition + Drop> Taker<R> for Census<'_> {
+    ghost takes = { TakesCensus R.stored };
+
+    ghost refuses = { refuses_census R.stored };
+
+    fn take(&mut self, _: Global, next: R) -> Result<(), RowsFault> {
+        self.row(next.rowid(), next.edition())
+    }
+
+    ghost none = { no_census R.stored };
+}
+
+/// Tests the entries of schema 1.
+fn test_plain_rows<S: Alter>(
+    alloc: Global,
+    conn: &mut Connection<S>,
+    numbers: &[i64],
+) -> Result<(), ReadingFault>
+    requires { WhileOpen (state S.Store conn.old) (Has entry) }
+    ensures reads { OnlyReads (state S.Store conn.old) (state S.Store conn.new) }
+    ensures failed { HasCleanDisk (state S.Store conn.new) → IfErr result (IsExcused (state S.Store conn.old) (state S.Store conn.new)) }
+    ensures same { HasCleanDisk (state S.Store conn.new) → OnOk result (Same (state S.Store conn.old) (state S.Store conn.new)) }
+    ensures whole { HasCleanDisk (state S.Store conn.new) → OnOk result (AreNumberedApart numbers.now (codes "entry") (state S.Store conn.old).now) }
+    ensures damaged { HasCleanDisk (state S.Store conn.new) → IfErr result (λ fault. fault ≡ ReadingFault.Damaged → IsReadable (entries Plain) (state S.Store conn.old).now → AreNumberedApart numbers.now (codes "entry") (state S.Store conn.old).now → ⊥) }
+{
+    let mut rows = match read_by_rowid(conn, StoreTable::Entry) {
+        Ok(rows) => rows,
+        Err(error) => return Err(fault_of_store(error)),
+    };
+    let mut census = Census {
+        numbers,
+        rowids: Rowids::new(),
+    };
+    take_all::<S, Stored<Entry<String>>, Census<'_>>(alloc, &mut rows, &mut census)
+}
+
+/// Tests the entries of schemas 2 and 3.
+fn test_old_rows<S: Alter>(
+    alloc: Global,
+    conn: &mut Connection<S>,
+    numbers: &[i64],
+) -> Result<(), ReadingFault>
+    requires { WhileOpen (state S.Store conn.old) (Has old_entry) }
+    ensures reads { OnlyReads (state S.Store conn.old) (state S.Store conn.new) }
+    ensures failed { HasCleanDisk (state S.Store conn.new) → IfErr result (IsExcused (state S.Store conn.old) (state S.Store conn.new)) }
+    ensures same { HasCleanDisk (state S.Store conn.new) → OnOk result (Same (state S.Store conn.old) (state S.Store conn.new)) }
+    ensures whole { HasCleanDisk (state S.Store conn.new) → OnOk result (AreNumberedApart numbers.now (codes "entry") (state S.Store conn.old).now) }
+    ensures damaged { HasCleanDisk (state S.Store conn.new) → IfErr result (λ fault. fault ≡ ReadingFault.Damaged → IsReadable (entries Keyed) (state S.Store conn.old).now → AreNumberedApart numbers.now (codes "entry") (state S.Store conn.old).now → ⊥) }
+{
+    is_live(conn);
+    let mut rows = match read_old_by_rowid(conn) {
+        Ok(rows) => rows,
+        Err(error) => return Err(fault_of_store(error)),
+    };
+    let mut census = Census {
+        numbers,
+        rowids: Rowids::new(),
+    };
+    take_all::<S, Stored<OldEntry<String, Vec<u8>>>, Census<'_>>(alloc, &mut rows, &mut census)
+}
+
+/// Tests the rows of a table that has keys or what is derived of them.
+fn test_keyed_rows<S: Alter, R: OfEdition + Drop>(
+    alloc: Global,
+    conn: &mut Connection<S>,
+    table: KeyedTable,
+    numbers: &[i64],
+) -> Result<(), ReadingFault>
+    requires { WhileOpen (state S.Store conn.old) (Has (table_of table)) }
+    ensures reads { OnlyReads (state S.Store conn.old) (state S.Store conn.new) }
+    ensures failed { HasCleanDisk (state S.Store conn.new) → IfErr result (IsExcused (state S.Store conn.old) (state S.Store conn.new)) }
+    ensures same { HasCleanDisk (state S.Store conn.new) → OnOk result (Same (state S.Store conn.old) (state S.Store conn.new)) }
+    ensures whole { HasCleanDisk (state S.Store conn.new) → OnOk result (AreNumberedApart numbers.now (table_of table 0).name (state S.Store conn.old).now) }
+    ensures damaged { HasCleanDisk (state S.Store conn.new) → IfErr result (λ fault. fault ≡ ReadingFault.Damaged → AllByRecursion (HasColumns R.columns) (rows_of (table_of table 0).name (state S.Store conn.old).now) → AreNumberedApart numbers.now (table_of table 0).name (state S.Store conn.old).now → ⊥) }
+{
+    let mut rows = match read_keyed_by_rowid(conn, table) {
+        Ok(rows) => rows,
+        Err(error) => return Err(fault_of_store(error)),
+    };
+    let mut census = Census {
+        numbers,
+        rowids: Rowids::new(),
+    };
+    take_all::<S, R, Census<'_>>(alloc, &mut rows, &mut census)
+}
+
+/// Tests that no two rows of the table have one rowid, and that each is of an edition that has one of these numbers. One
+/// scan does both, and holds one row.
+///
+/// `Damaged` tells that it isn't so, or that a row is of another kind than a record.
+pub fn test_rows<S: Alter>(
+    alloc: Global,
+    conn: &mut Connection<S>,
+    table: EditionTable,
+    numbers: &[i64],
+) -> Result<(), ReadingFault>
+    requires { WhileOpen (state S.Store conn.old) (Has (reading_of table).table) }
+    ensures reads { OnlyReads (state S.Store conn.old) (state S.Store conn.new) }
+    ensures failed { HasCleanDisk (state S.Store conn.new) → IfErr result (IsExcused (state S.Store conn.old) (state S.Store conn.new)) }
+    ensures same { HasCleanDisk (state S.Store conn.new) → OnOk result (Same (state S.Store conn.old) (state S.Store conn.new)) }
+    ensures whole { HasCleanDisk (state S.Store conn.new) → OnOk result (AreNumberedApart numbers.now (name_of (reading_of table)) (state S.Store conn.old).now) }
+    ensures damaged { HasCleanDisk (state S.Store conn.new) → IfErr result (λ fault. fault ≡ ReadingFault.Damaged → IsReadable (reading_of table) (state S.Store conn.old).now → AreNumberedApart numbers.now (name_of (reading_of table)) (state S.Store conn.old).now → ⊥) }
+{
+    match table {
+        EditionTable::PlainEntry => test_plain_rows(alloc, conn, numbers),
+        EditionTable::OldEntry => test_old_rows(alloc, conn, numbers),
+        EditionTable::FiledEntry => test_keyed_rows::<S, Stored<KeyedEntry<String, Vec<u8>>>>(
+            alloc,
+            conn,
+            KeyedTable::Entry,
+            numbers,
+        ),
+        EditionTable::Word => {
+            test_keyed_rows::<S, Stored<Word<Vec<u8>>>>(alloc, conn, KeyedTable::Word, numbers)
+        }
+        EditionTable::Gram => {
+            test_keyed_rows::<S, Stored<Gram<Vec<u8>>>>(alloc, conn, KeyedTable::Gram, numbers)
+        }
+    }
+}
