@@ -3,17 +3,15 @@ use Rattle.std.proofs.Common.{◌≡◌, ℕ, ◌+◌, ℤ, pos, Bool, true, fal
 use Rattle.std.specs.Prelude.{IsTrue}
 use Rattle.std.specs.List.{AllByRecursion, list_any}
 use Rattle.std.specs.List.Sorted.{IsPermutation}
-use Rattle.std.proofs.lemmas.Bool.{false≢true}
 use Rattle.std.proofs.lemmas.List.Sorted.{IsPermutation-map, IsPermutation-sym, IsPermutation-trans}
 use Rattle.sqlite.specs.Effect.{Database}
 use Rattle.sqlite.specs.Order.{Row, column}
-use Rattle.sqlite.specs.declared.types.Value.{Value}
 use Rattle.sqlite.specs.declared.types.Value.TheVariants.{Int}
 use Rattle.dict_text.proofs.AllLemmas.{all_weaker}
 use Rattle.dict_records.specs.Records as spec
-use Rattle.dict_sql.specs.Effects.{rows_of, same_value, equals_number}
-use Rattle.dict_sql.specs.Encodings.{mark_row, item_row, member_row, edition_row, entry_row, kept_row, stored_entry, stored_kept, stored_number}
-use Rattle.dict_sql.specs.Reads.{IsListing, numbered}
+use Rattle.dict_sql.specs.Effects.{rows_of}
+use Rattle.dict_sql.specs.Encodings.{mark_row, item_row, member_row, edition_row, kept_row, stored_kept, stored_number}
+use Rattle.dict_sql.specs.Reads.{IsListing, numbered as numbered_of}
 use Rattle.dict_file.specs.Holds.{Keeps}
 use Rattle.dict_catalogue.specs.Items.{name_of, editions_of, edition_numbers, is_known}
 use Rattle.dict_catalogue.specs.Steps.{Catalogue}
@@ -27,62 +25,55 @@ use Rattle.dict_rows.specs.Whole.{with_replies}
 use Rattle.dict_rows.specs.declared.reader.Reader.{Reader}
 use Rattle.dict_rows.proofs.OrderLemmas.{Same, same_from, same_passed, all_same}
 use Rattle.dict_rows.proofs.PartLemmas.{filter_whole}
-use Rattle.dict_rows.proofs.TakenLemmas.{holds_same, same_number_is, same_itself}
-use Rattle.dict_opening.specs.Opens.{Keeping, KeepsNone, Fits, KeepsRows, HasBegun, HasNamed, AreAllKnown, HasReplies, HasAll, one_of}
-use Rattle.dict_opening.specs.Takers.{KeptRow, number_given, entry_edition}
-use Rattle.dict_opening.proofs.CodecLemmas.{Codec, edition_codec, entry_codec, kept_codec}
-use Rattle.dict_opening.proofs.FindLemmas.{same_int}
+use Rattle.dict_rows.proofs.TakenLemmas.{holds_same}
+use Rattle.dict_rows.specs.Versions.{Layout, layout_of}
+use Rattle.dict_file.proofs.ReadingLemmas.{editions_kept, replies_kept}
+use Rattle.dict_scans.specs.Census.{one_of}
+use Rattle.dict_scans.specs.Entries.{behind, entry_cells}
+use Rattle.dict_scans.specs.Takers.{KeptRow, number_given}
+use Rattle.dict_scans.proofs.CodecLemmas.{Codec, edition_codec, kept_codec}
+use Rattle.dict_scans.proofs.RowidLemmas.{all_of_map}
+use Rattle.dict_opening.specs.Opens.{Keeping, KeepsNone, Fits, HasRecords, HasBegun, HasNamed, AreAllKnown, HasReplies, HasAll, numbers_in}
+use Rattle.dict_opening.proofs.EntryLemmas.{entries_rows, entries_both}
 use Rattle.dict_opening.proofs.FitLemmas.{fits_replies}
-use Rattle.dict_opening.proofs.RowidLemmas.{all_of_map}
+use Rattle.dict_opening.proofs.PartLemmas.{numbered_row, numbers_is}
 use Rattle.dict_opening.proofs.WrongLemmas.{rows_listed}
 
 -- ---- no strays, so the editions of the items are all
 
-turn : (a b : ℤ) → same_number a b ≡ true → same_number b a ≡ true
-turn a b e = subst (λ z. same_number z a ≡ true) (same_number_is a b e) (same_itself a)
-
-second : (b : Bool) → (b || true) ≡ true
-second true = refl
-second false = refl
-
-numbered_row : (row : Row) (k : ℤ) (ns : List ℕ) → column row 1 ≡ Int k → list_any (λ one. same_number (pos one) k) ns ≡ true → one_of (map pos ns) row ≡ true
-numbered_row row k [] is h = absurd (false≢true h)
-numbered_row row k (n ∷ ns) is h = split (same_number (pos n) k) refl h (numbered_row row k ns is)
-  where
-    split : (b : Bool) → same_number (pos n) k ≡ b → (b || list_any (λ one. same_number (pos one) k) ns) ≡ true → (list_any (λ one. same_number (pos one) k) ns ≡ true → one_of (map pos ns) row ≡ true) → (equals_number 1 (pos n) row || one_of (map pos ns) row) ≡ true
-    split true p q rest = ap (λ b. b || one_of (map pos ns) row) (ap (λ (v : Value). same_value v (Int (pos n))) is ∙ same_int k (pos n) ∙ turn (pos n) k p)
-    split false p q rest = ap (λ b. equals_number 1 (pos n) row || b) (rest q) ∙ second (equals_number 1 (pos n) row)
-
 rows_known : {R : Type 0} (stored : R → Row) (number : R → ℤ) → ((r : R) → column (stored r) 1 ≡ Int (number r)) → (ns : List ℕ) (given : List R) → AllByRecursion (λ r. list_any (λ one. same_number (pos one) (number r)) ns ≡ true) given → AllByRecursion (λ row. one_of (map pos ns) row ≡ true) (map stored given)
 rows_known stored number is ns [] h = tt
-rows_known stored number is ns (r ∷ given) h = (numbered_row (stored r) (number r) ns (is r) h.0, rows_known stored number is ns given h.1)
+rows_known stored number is ns (r ∷ given) h = (numbered_row (stored r) (number r) (map pos ns) (is r) (sym (numbers_is ns (number r)) ∙ h.0), rows_known stored number is ns given h.1)
 
-module _ (version : ℕ) (db : Database) (reader : Reader) (front taken : Tables) (all : AreAllKnown db reader) (named : HasNamed version db reader front taken) where
+module _ (version : ℕ) (db : Database) (reader : Reader) (front taken : Tables) (all : AreAllKnown version db reader) (named : HasNamed version db reader front taken) where
+  abbrev layout : Layout
+  layout = layout_of version
+
+  abbrev numbers : List ℤ
+  numbers = numbers_in reader
+
   abbrev IsNamed : Row → Type 0
-  IsNamed row = one_of named.numbers row ≡ true
+  IsNamed row = one_of numbers row ≡ true
 
   all_named : {R : Type 0} (stored : R → Row) (number : R → ℤ) → ((r : R) → column (stored r) 1 ≡ Int (number r)) → (rows : List Row) (given : List R) → IsPermutation rows (map stored given) → AllByRecursion (λ r. IsTrue (has_number (items_in reader) (number r))) given → AllByRecursion IsNamed rows
-  all_named stored number is rows given same known =
-      subst (λ ns. AllByRecursion (λ row. one_of ns row ≡ true) rows) (sym named.are)
-      (all_same (λ row. one_of (map pos (edition_numbers (items_in reader))) row ≡ true) (map stored given) rows (IsPermutation-sym _ _ same) (rows_known stored number is (edition_numbers (items_in reader)) given known))
+  all_named stored number is rows given same known = all_same IsNamed (map stored given) rows (IsPermutation-sym _ _ same) (rows_known stored number is (edition_numbers (items_in reader)) given known)
 
   pub editions_all : IsPermutation (map edition_row taken.editions) (map (drop 1) (rows_of (codes "edition") db))
   editions_all =
       let rows = rows_of (codes "edition") db in
-      let each = all_of_map numbered IsNamed IsNamed (λ row p. p) rows (all_named stored_number number_given (λ r. refl) (map numbered rows) all.editions.0 all.editions.1.same all.editions.2) in
-      let same = subst (λ rows. IsPermutation rows named.read.edition_rows) (filter_whole (one_of named.numbers) rows each) named.read.editions in
-      subst (λ xs. IsPermutation xs (map (drop 1) (rows_of (codes "edition") db))) named.read.editions_are (IsPermutation-map (drop 1) _ _ (IsPermutation-sym _ _ same))
+      let each = all_of_map numbered_of IsNamed IsNamed (λ row p. p) rows (all_named stored_number number_given (λ r. refl) (map numbered_of rows) all.editions.0 all.editions.1.same all.editions.2) in
+      let same = subst (λ rows. IsPermutation rows named.edition_rows) (filter_whole (one_of numbers) rows each) named.editions in
+      subst (λ xs. IsPermutation xs (map (drop 1) (rows_of (codes "edition") db))) named.editions_are (IsPermutation-map (drop 1) _ _ (IsPermutation-sym _ _ same))
 
-  pub entries_all : IsPermutation (map entry_row taken.entries) (map (drop 1) (rows_of (codes "entry") db))
+  pub entries_all : IsPermutation (map (entry_cells layout) taken.entries) (map (behind layout) (rows_of (codes "entry") db))
   entries_all =
       let rows = rows_of (codes "entry") db in
-      let each = all_named stored_entry entry_edition (λ r. refl) rows all.entries.0 all.entries.1.same all.entries.2 in
-      let same = subst (λ rows. IsPermutation rows named.read.entry_rows) (filter_whole (one_of named.numbers) rows each) named.read.entries in
-      subst (λ xs. IsPermutation xs (map (drop 1) (rows_of (codes "entry") db))) named.read.entries_are (IsPermutation-map (drop 1) _ _ (IsPermutation-sym _ _ same))
+      let same = subst (λ rows. IsPermutation rows named.entry_rows) (filter_whole (one_of numbers) rows all.rows.0.known) named.entries in
+      subst (λ xs. IsPermutation xs (map (behind layout) (rows_of (codes "entry") db))) named.entries_are (IsPermutation-map (behind layout) _ _ (IsPermutation-sym _ _ same))
 
   module _ (begun : HasBegun version db front) (after : Tables) (replies : HasReplies db taken after) where
     none_yet : taken.kept ≡ []
-    none_yet = named.read.kept ∙ begun.no_kept
+    none_yet = named.kept ∙ begun.no_kept
 
     abbrev given : List KeptRow
     given = replies.given
@@ -90,23 +81,32 @@ module _ (version : ℕ) (db : Database) (reader : Reader) (front taken : Tables
     kept_is : taken.kept ++ kept_given given ≡ kept_given given
     kept_is = ap (λ l. l ++ kept_given given) none_yet
 
-    all_read : HasAll version db front (with_replies taken (kept_given given))
+    all_read : HasAll version db reader front (with_replies taken (kept_given given))
     all_read = record {
       keeps = record {
-        marks = subst (λ ms. IsPermutation (map mark_row ms) (map (drop 1) (rows_of (codes "mark") db))) (sym named.read.marks) begun.marks;
-        items = subst (λ is. IsPermutation (map item_row is) (map (drop 1) (rows_of (codes "item") db))) (sym named.read.items) begun.items;
-        members = subst (λ ms. IsPermutation (map member_row ms) (map (drop 1) (rows_of (codes "member") db))) (sym named.read.members) begun.members;
+        marks = subst (λ ms. IsPermutation (map mark_row ms) (map (drop 1) (rows_of (codes "mark") db))) (sym named.marks) begun.marks;
+        items = subst (λ is. IsPermutation (map item_row is) (map (drop 1) (rows_of (codes "item") db))) (sym named.items) begun.items;
+        members = subst (λ ms. IsPermutation (map member_row ms) (map (drop 1) (rows_of (codes "member") db))) (sym named.members) begun.members;
         editions = editions_all;
         entries = entries_all;
         kept = subst (λ ks. IsPermutation (map kept_row ks) (map (drop 1) (rows_of (codes "kept") db))) (sym kept_is) (rows_listed kept_codec (codes "kept") (2 ∷ []) db given replies.listing);
       };
-      members = named.read.members;
-      fits = fits_replies version db taken named.read.fits none_yet given ([], subst (λ rows. IsListing (codes "kept") (2 ∷ []) db rows) (sym (append-nil (map stored_kept given))) replies.listing);
+      goes = record {
+        marks = named.marks;
+        items = named.items;
+        members = named.members;
+        editions = (λ n. (editions_numbered n taken.editions, sym (ap (λ l. editions_numbered n l ++ editions_numbered n taken.editions) begun.no_editions)));
+        entries = (λ n. (entries_of n taken.entries, sym (ap (λ l. entries_of n l ++ entries_of n taken.entries) begun.no_entries)));
+        kept = (taken.kept ++ kept_given given, sym (ap (λ l. l ++ (taken.kept ++ kept_given given)) begun.no_kept));
+      };
+      fits = fits_replies version db taken named.fits none_yet given ([], subst (λ rows. IsListing (codes "kept") (2 ∷ []) db rows) (sym (append-nil (map stored_kept given))) replies.listing);
       ids = subst (λ ks. IsEachOnce (map (λ (row : spec.Kept). row.id) ks)) (sym kept_is) replies.ids;
+      pieces = named.pieces;
+      known = all.rows;
     }
 
-    pub has_all : HasAll version db front after
-    has_all = subst (HasAll version db front) (sym replies.after_is) all_read
+    pub has_all : HasAll version db reader front after
+    has_all = subst (HasAll version db reader front) (sym replies.after_is) all_read
 
 -- ---- tables that stand for a catalogue are those that were read
 
@@ -129,14 +129,14 @@ nothing_more xs ys b s =
     let none : b.0 ≡ [] = no_more b.0 (omega (arith, one, two)) in
     b.1 ∙ ap (λ l. ys ++ l) none ∙ append-nil ys
 
-module _ (version : ℕ) (db : Database) (after : Tables) (keeps : KeepsRows db after) (fits : Fits version db after) where
+module _ (version : ℕ) (db : Database) (after : Tables) (keeps : HasRecords (layout_of version) db after) (fits : Fits version db after) where
   stands_after : (T : Tables) (M : Catalogue) → Keeping version db after.members T M → Stands version after M
   stands_after T M K =
       let goes = fits T M K in
       let s = K.stands in
-      let editions = records_back edition_codec (codes "edition") db T.editions after.editions K.keeps.editions keeps.editions in
-      let entries = records_back entry_codec (codes "entry") db T.entries after.entries K.keeps.entries keeps.entries in
-      let kept = records_back kept_codec (codes "kept") db T.kept after.kept K.keeps.kept keeps.kept in
+      let editions = records_back edition_codec (codes "edition") db T.editions after.editions (editions_kept (layout_of version) db T K.keeps) keeps.editions in
+      let entries = entries_both (layout_of version) T.entries after.entries (map (behind (layout_of version)) (rows_of (codes "entry") db)) (entries_rows (layout_of version) db T K.keeps.1.1.1.1.0) keeps.entries in
+      let kept = records_back kept_codec (codes "kept") db T.kept after.kept (replies_kept (layout_of version) db T K.keeps) keeps.kept in
       let one : (n : ℤ) → editions_numbered n T.editions ≡ editions_numbered n after.editions = λ n. nothing_more _ _ (goes.editions n) (same_passed (λ row. same_number row.number n) T.editions after.editions (same_from T.editions after.editions editions)) in
       let each : (n : ℤ) → entries_of n T.entries ≡ entries_of n after.entries = λ n. nothing_more _ _ (goes.entries n) (same_passed (λ row. same_number row.edition n) T.entries after.entries (same_from T.entries after.entries entries)) in
       record {

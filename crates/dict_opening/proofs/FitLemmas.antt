@@ -13,15 +13,15 @@ use Rattle.sqlite.specs.declared.types.Value.TheVariants.{Int}
 use Rattle.dict_text.proofs.AllLemmas.{all_append_parts}
 use Rattle.dict_records.specs.Records as spec
 use Rattle.dict_sql.specs.Effects.{equals_number}
-use Rattle.dict_sql.specs.Encodings.{item_row, edition_row, entry_row, kept_row, stored_mark, stored_item, stored_edition, stored_entry, stored_kept}
+use Rattle.dict_sql.specs.Encodings.{item_row, edition_row, kept_row, stored_mark, stored_item, stored_edition, stored_kept}
 use Rattle.dict_sql.specs.Reads.{IsListing, IsSelection, by_columns}
 use Rattle.dict_sql.specs.Streams.{IsFront}
-use Rattle.dict_sql.specs.Streams.Scan.{EntriesOf, AllKept}
+use Rattle.dict_sql.specs.Streams.Scan.{AllKept}
 use Rattle.dict_file.proofs.ReadLemmas.{one_le}
 use Rattle.dict_catalogue.specs.Steps.{Catalogue}
 use Rattle.dict_rows.specs.Tables.{Tables, same_number, editions_numbered, entries_of}
 use Rattle.dict_rows.specs.Written.{numbered, item_record, entry_record}
-use Rattle.dict_rows.specs.Given.{marks_given, items_given, members_given, entries_given, kept_given}
+use Rattle.dict_rows.specs.Given.{marks_given, items_given, members_given, kept_given}
 use Rattle.dict_rows.specs.Stands.{has_number}
 use Rattle.dict_rows.specs.Taken.{BeginsWith, GoesOn, StandsForNone, begun, with_edition}
 use Rattle.dict_rows.specs.Whole.{with_entries, with_replies}
@@ -29,9 +29,14 @@ use Rattle.dict_rows.specs.Order.{InOrder}
 use Rattle.dict_rows.proofs.OrderLemmas.{Same, Below, same_from, all_passed, ordered_once, one_once, numbered_rise, item_placed, kept_rise}
 use Rattle.dict_rows.proofs.TakenLemmas.{same_number_is, filter_passes, filter_passes_not}
 use Rattle.dict_opening.specs.Opens.{Keeping, KeepsNone, Fits}
-use Rattle.dict_opening.specs.Takers.{EditionRow, EntryRow, KeptRow}
-use Rattle.dict_opening.proofs.CodecLemmas.{Codec, read, read_is, read_stored, rows_order, listed_records, selected_records, mark_codec, item_codec, edition_codec, entry_codec, kept_codec}
-use Rattle.dict_opening.proofs.FindLemmas.{Found, behind_column, first_number, find_edition}
+use Rattle.dict_rows.specs.Versions.{Layout, layout_of}
+use Rattle.dict_file.proofs.ReadingLemmas.{marks_kept, items_kept, editions_kept, replies_kept}
+use Rattle.dict_scans.specs.Entries.{BeginsWithEntries}
+use Rattle.dict_scans.specs.Takers.{EditionRow, KeptRow}
+use Rattle.dict_scans.proofs.CodecLemmas.{Codec, read, read_is, read_stored, rows_order, listed_records, selected_records, mark_codec, item_codec, edition_codec, kept_codec}
+use Rattle.dict_opening.proofs.EntryLemmas.{entry_in, entries_are, entries_rows, entries_order, entries_selected}
+use Rattle.dict_opening.proofs.FindLemmas.{Found, find_edition}
+use Rattle.dict_scans.proofs.NumberLemmas.{behind_column, first_number}
 
 -- ---- numbers in the order of a column
 
@@ -46,32 +51,38 @@ behind_is row s k n e f = behind_column row k ∙ ap (λ t. column t k) e ∙ f
 module _ (version : ℕ) (db : Database) (members : List spec.Member) (T : Tables) (M : Catalogue) (K : Keeping version db members T M) where
   pub marks_read : (rows : List Row) → IsListing (codes "mark") (1 ∷ []) db rows → T.marks ≡ map (read mark_codec) rows
   marks_read rows l =
-      let found = (listed_records mark_codec (codes "mark") db T.marks K.keeps.marks rows l.same).0 in
+      let found = (listed_records mark_codec (codes "mark") db T.marks (marks_kept (layout_of version) db T K.keeps) rows l.same).0 in
       K.stands.marks ∙ sym (one_once _ _ (subst (λ xs. Same xs (map (read mark_codec) rows)) K.stands.marks (same_from T.marks (map (read mark_codec) rows) found)))
 
   pub items_read : (rows : List Row) → IsListing (codes "item") (1 ∷ []) db rows → T.items ≡ map (read item_codec) rows
   items_read rows l =
-      let found = listed_records item_codec (codes "item") db T.items K.keeps.items rows l.same in
+      let found = listed_records item_codec (codes "item") db T.items (items_kept (layout_of version) db T K.keeps) rows l.same in
       let up = rows_order item_codec (1 ∷ []) (λ (a b : spec.Item). a.place ≤ℤ b.place) (λ r s w v e f h. column_le 1 r s [] [] w.place v.place (behind_is r (item_row w) 0 w.place e refl) (behind_is s (item_row v) 0 v.place f refl) h) rows found.1 l.sorted in
       ordered_once (λ (row : spec.Item). row.place) T.items (map (read item_codec) rows) (same_from T.items (map (read item_codec) rows) found.0)
       (subst (InOrder (λ (a b : spec.Item). Below a.place b.place)) (sym K.stands.items) (numbered_rise item_record (λ (row : spec.Item). row.place) item_placed 0 M.items)) up
 
   pub editions_read : (n : ℤ) (rows : List Row) → IsSelection (codes "edition") (equals_number 1 n) (1 ∷ []) db rows → Same (map (read edition_codec) rows) (editions_numbered n T.editions)
   editions_read n rows s =
-      same_from (map (read edition_codec) rows) (editions_numbered n T.editions) (IsPermutation-sym _ _ (selected_records edition_codec (codes "edition") db T.editions K.keeps.editions (equals_number 1 n) (λ row. same_number row.number n)
+      same_from (map (read edition_codec) rows) (editions_numbered n T.editions) (IsPermutation-sym _ _ (selected_records edition_codec (codes "edition") db T.editions (editions_kept (layout_of version) db T K.keeps) (equals_number 1 n) (λ row. same_number row.number n)
       (λ row w e. first_number row (edition_row w) w.number n e refl) rows s.same).0)
 
-  pub entries_read : (n : ℤ) → Found T n → (rows : List Row) → IsSelection (codes "entry") (equals_number 1 n) (2 ∷ []) db rows → entries_of n T.entries ≡ map (read entry_codec) rows
+  pub entries_read : (n : ℤ) → Found T n → (rows : List Row) → IsSelection (codes "entry") (equals_number 1 n) (2 ∷ []) db rows → entries_of n T.entries ≡ map (entry_in (layout_of version)) rows
   entries_read n found rows s =
-      let got = selected_records entry_codec (codes "entry") db T.entries K.keeps.entries (equals_number 1 n) (λ row. same_number row.edition n) (λ row w e. first_number row (entry_row w) w.edition n e refl) rows s.same in
-      let up = rows_order entry_codec (2 ∷ []) (λ (a b : spec.Entry). a.ord ≤ℤ b.ord) (λ r t w v e f h. column_le 2 r t [] [] w.ord v.ord (behind_is r (entry_row w) 1 w.ord e refl) (behind_is t (entry_row v) 1 v.ord f refl) h) rows got.1 s.sorted in
+      let layout : Layout = layout_of version in
+      let got = entries_selected layout db T.entries (entries_rows layout db T K.keeps.1.1.1.1.0) n rows s.same in
+      let up = entries_order layout rows got.1 s.sorted in
       let written : entries_of n T.entries ≡ numbered (entry_record found.edition.number) 0 found.holds.reading.lines = subst (λ m. entries_of m T.entries ≡ numbered (entry_record found.edition.number) 0 found.holds.reading.lines) found.number found.holds.entries in
-      ordered_once (λ (row : spec.Entry). row.ord) (entries_of n T.entries) (map (read entry_codec) rows) (same_from (entries_of n T.entries) (map (read entry_codec) rows) got.0)
+      ordered_once (λ (row : spec.Entry). row.ord) (entries_of n T.entries) (map (entry_in layout) rows) (same_from (entries_of n T.entries) (map (entry_in layout) rows) got.0)
       (subst (InOrder (λ (a b : spec.Entry). Below a.ord b.ord)) (sym written) (numbered_rise (entry_record found.edition.number) (λ (row : spec.Entry). row.ord) (λ n x. refl) 0 found.holds.reading.lines)) up
+
+  -- of an edition of which some entries were read
+  pub entries_begun : (n : ℤ) → Found T n → (es : List spec.Entry) (front : BeginsWithEntries (layout_of version) db n es) → entries_of n T.entries ≡ es ++ map (entry_in (layout_of version)) front.1
+  entries_begun n found es front =
+      entries_read n found (front.0 ++ front.1) front.2 ∙ map-append (entry_in (layout_of version)) front.0 front.1 ∙ ap (λ l. l ++ map (entry_in (layout_of version)) front.1) (entries_are (layout_of version) front.0 es front.3)
 
   pub replies_read : (rows : List Row) → IsListing (codes "kept") (2 ∷ []) db rows → T.kept ≡ map (read kept_codec) rows
   replies_read rows l =
-      let found = listed_records kept_codec (codes "kept") db T.kept K.keeps.kept rows l.same in
+      let found = listed_records kept_codec (codes "kept") db T.kept (replies_kept (layout_of version) db T K.keeps) rows l.same in
       let up = rows_order kept_codec (2 ∷ []) (λ (a b : spec.Kept). a.number ≤ℤ b.number) (λ r s w v e f h. column_le 2 r s [] [] w.number v.number (behind_is r (kept_row w) 1 w.number e refl) (behind_is s (kept_row v) 1 v.number f refl) h) rows found.1 l.sorted in
       ordered_once (λ (row : spec.Kept). row.number) T.kept (map (read kept_codec) rows) (same_from T.kept (map (read kept_codec) rows) found.0)
       (subst (InOrder (λ (a b : spec.Kept). Below a.number b.number)) (sym K.stands.kept) (kept_rise 1 M.kept K.stands.well_formed.numbered)) up
@@ -112,13 +123,13 @@ module _ (version : ℕ) (db : Database) (taken : Tables) (fits : Fits version d
           ([], subst (λ z. editions_numbered z T.editions ≡ e ∷ []) same only ∙ ap (λ l. l ++ []) (sym front))
 
   -- the edition's entries, as far as they were read
-  pub fits_entries : (given : List EntryRow) → IsFront (EntriesOf n) db (map stored_entry given) → entries_of n taken.entries ≡ [] → Fits version db (with_entries taken (entries_given given))
+  pub fits_entries : (given : List spec.Entry) → BeginsWithEntries (layout_of version) db n given → entries_of n taken.entries ≡ [] → Fits version db (with_entries taken given)
   fits_entries given front none T M K =
       let goes = fits T M K in
       let found = find_edition T M.items n K.stands.editions (known T M K) in
-      let more = map (read entry_codec) front.0 in
-      let whole : entries_of n T.entries ≡ entries_given given ++ more = entries_read version db taken.members T M K n found (map stored_entry given ++ front.0) front.1 ∙ front_read entry_codec given front.0 in
-      let all = (all_append_parts (λ (x : spec.Entry). same_number x.edition n ≡ true) (entries_given given) more (subst (AllByRecursion (λ (x : spec.Entry). same_number x.edition n ≡ true)) whole (all_passed (λ (x : spec.Entry). same_number x.edition n) T.entries))).0 in
+      let more = map (entry_in (layout_of version)) front.1 in
+      let whole : entries_of n T.entries ≡ given ++ more = entries_begun version db taken.members T M K n found given front in
+      let all = (all_append_parts (λ (x : spec.Entry). same_number x.edition n ≡ true) given more (subst (AllByRecursion (λ (x : spec.Entry). same_number x.edition n ≡ true)) whole (all_passed (λ (x : spec.Entry). same_number x.edition n) T.entries))).0 in
       record { marks = goes.marks; items = goes.items; members = goes.members; editions = goes.editions; entries = (λ m. step T goes more whole all m (same_number n m) refl); kept = goes.kept }
     where
       apart : (es : List spec.Entry) (m : ℤ) → same_number n m ≡ false → AllByRecursion (λ (x : spec.Entry). same_number x.edition n ≡ true) es → entries_of m es ≡ []
@@ -129,13 +140,13 @@ module _ (version : ℕ) (db : Database) (taken : Tables) (fits : Fits version d
       all_pass [] all = refl
       all_pass (e ∷ es) all = ap (λ b. cond b (e ∷ entries_of n es) (entries_of n es)) all.0 ∙ ap (λ l. e ∷ l) (all_pass es all.1)
 
-      step : (T : Tables) → GoesOn taken T → (more : List spec.Entry) → entries_of n T.entries ≡ entries_given given ++ more → AllByRecursion (λ (x : spec.Entry). same_number x.edition n ≡ true) (entries_given given) → (m : ℤ) (b : Bool) → same_number n m ≡ b →
-          BeginsWith (entries_of m T.entries) (entries_of m (taken.entries ++ entries_given given))
-      step T goes more whole all m false k = subst (BeginsWith (entries_of m T.entries)) (sym (filter-append (λ (x : spec.Entry). same_number x.edition m) taken.entries (entries_given given) ∙ ap (λ l. entries_of m taken.entries ++ l) (apart (entries_given given) m k all) ∙ append-nil (entries_of m taken.entries))) (goes.entries m)
+      step : (T : Tables) → GoesOn taken T → (more : List spec.Entry) → entries_of n T.entries ≡ given ++ more → AllByRecursion (λ (x : spec.Entry). same_number x.edition n ≡ true) given → (m : ℤ) (b : Bool) → same_number n m ≡ b →
+          BeginsWith (entries_of m T.entries) (entries_of m (taken.entries ++ given))
+      step T goes more whole all m false k = subst (BeginsWith (entries_of m T.entries)) (sym (filter-append (λ (x : spec.Entry). same_number x.edition m) taken.entries given ∙ ap (λ l. entries_of m taken.entries ++ l) (apart given m k all) ∙ append-nil (entries_of m taken.entries))) (goes.entries m)
       step T goes more whole all m true k =
           let same : n ≡ m = same_number_is n m k in
-          let now : entries_of n (taken.entries ++ entries_given given) ≡ entries_given given = filter-append (λ (x : spec.Entry). same_number x.edition n) taken.entries (entries_given given) ∙ (λ i. none i ++ all_pass (entries_given given) all i) in
-          subst (λ z. BeginsWith (entries_of z T.entries) (entries_of z (taken.entries ++ entries_given given))) same (more, whole ∙ ap (λ l. l ++ more) (sym now))
+          let now : entries_of n (taken.entries ++ given) ≡ given = filter-append (λ (x : spec.Entry). same_number x.edition n) taken.entries given ∙ (λ i. none i ++ all_pass given all i) in
+          subst (λ z. BeginsWith (entries_of z T.entries) (entries_of z (taken.entries ++ given))) same (more, whole ∙ ap (λ l. l ++ more) (sym now))
 
 -- ---- the kept replies
 

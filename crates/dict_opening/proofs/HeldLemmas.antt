@@ -32,7 +32,7 @@ use Rattle.dict_file.proofs.ReadingLemmas.{marks_kept}
 use Rattle.dict_derived.specs.Entries.{Filed, filed, plain}
 use Rattle.dict_derived.specs.AllTables.{with_derived}
 use Rattle.dict_file.specs.Holds.{Keeps, Holds, IsHeld, IsLeftAs, IsLeft}
-use Rattle.dict_opening.proofs.CodecLemmas.{decode_entry, entry_back, Codec, read, records_kept, mark_codec, item_codec, member_codec, edition_codec, entry_codec, kept_codec}
+use Rattle.dict_scans.proofs.CodecLemmas.{decode_entry, entry_back, Codec, read, records_kept, mark_codec, item_codec, member_codec, edition_codec, entry_codec, kept_codec}
 use Rattle.dict_file.proofs.ReadableLemmas.{any_holds}
 
 -- ---- lists that are in order group by group
@@ -182,10 +182,6 @@ known_is = record { counted = omega arith; within = omega arith }
 -- no other is opened yet
 pub only_known : (version : ℕ) → IsVersion version → version ≡ known
 only_known version h = let low = h.counted in let high = h.within in omega (arith, low, high)
-
--- and its tables have no keys
-pub plain_version : (version : ℕ) → IsVersion version → layout_of version ≡ Plain
-plain_version version h = ap layout_of (only_known version h)
 
 pub held_known : (db : Database) (M : Catalogue) → Holds known db M → IsHeld db M
 held_known db M h = record { version = known; known = known_is; holds = h }

@@ -1,4 +1,4 @@
--- The mark of a file, and what a whole file holds.
+-- The mark of a file.
 use Rattle.std.proofs.Common.{◌≡◌, true, nat_lt, inl, inr, ℕ, ◌≤◌, ℤ, pos, List, [], ◌∷◌, map, drop, codes, Option, Some, None, Result, Ok, Err, IfSome, IfNone, IsErrAnd, refl, sym, ap, subst, ◌∙◌, arith, String}
 use Rattle.std.specs.declared.alloc.Global.{Global}
 use Rattle.std.proofs.lemmas.List.Sorted.{IsPermutation-sym}
@@ -21,22 +21,16 @@ use Rattle.dict_sql.specs.Columns.{HasColumns, mark_columns}
 use Rattle.dict_sql.specs.Effects.{rows_of}
 use Rattle.dict_sql.specs.Encodings.{mark_row, stored_mark}
 use Rattle.dict_sql.specs.Reads.{IsListing, HasNoRecord}
-use Rattle.dict_catalogue.specs.Steps.{Catalogue, summary_of}
-use Rattle.dict_catalogue.specs.Tests.{Holdings}
-use Rattle.dict_file.specs.Holds.{Holds, HasLayout, IsHeld}
-use Rattle.dict_file.specs.Readings.{KeepsAll}
-use Rattle.dict_file.specs.Room.{MayBecomeShown}
-use Rattle.dict_file.proofs.ReadingLemmas.{kept_plain}
-use Rattle.dict_derived.specs.AllTables.{with_derived}
-use Rattle.dict_rows.specs.Versions.{Layout, Plain, layout_of}
+use Rattle.dict_catalogue.specs.Steps.{Catalogue}
+use Rattle.dict_file.specs.Holds.{Holds, IsHeld}
 use Rattle.dict_rows.specs.Given.{marks_given}
 use Rattle.dict_rows.proofs.OrderLemmas.{Same, same_from, one_once}
-use Rattle.dict_opening.specs.Opens.{HasTables, HasRowidsApart, HasSummary, HasMark, HasKnownMark, HoldsNone, HoldsNoneAs, IsMarked, marked}
+use Rattle.dict_opening.specs.Opens.{HasMark, HasKnownMark, HoldsNone, HoldsNoneAs, IsMarked, marked}
 use Rattle.dict_desk.specs.declared.fault.Fault.TheVariants as desk
-use Rattle.dict_opening.specs.declared.fault.ReadingFault.{ReadingFault}
-use Rattle.dict_opening.specs.declared.fault.ReadingFault.TheVariants.{Damaged, Memory, Disk}
-use Rattle.dict_opening.specs.Reading.{fault_told}
-use Rattle.dict_opening.proofs.CodecLemmas.{decode_mark, mark_back}
+use Rattle.dict_scans.specs.declared.fault.ReadingFault.{ReadingFault}
+use Rattle.dict_scans.specs.declared.fault.ReadingFault.TheVariants.{Damaged, Memory, Disk}
+use Rattle.dict_scans.specs.Reading.{fault_told}
+use Rattle.dict_scans.proofs.CodecLemmas.{decode_mark, mark_back}
 use Rattle.dict_opening.proofs.NoneLemmas.{all_contains}
 
 abbrev pub MarkRow : Type 0
@@ -75,30 +69,6 @@ is_marked db marks v l h =
 pub err_is : {X E : Type 0} (result : Result X E) (e f : E) → IsErrAnd result (λ g. g ≡ e) → result ≡ Err f → e ≡ f
 err_is (Ok x) e f h is = absurd (cc)
 err_is (Err g) e f h is = sym h ∙ (let same : g ≡ f = cc in same)
-
-pub holds_of : (version : ℕ) (db : Database) (shown : Holdings (List ℕ)) → layout_of version ≡ Plain → HasTables db → MayBecomeShown Plain db.schema → HasRowidsApart Plain db → HasSummary version db shown → (M : Catalogue) × Holds version db M × (summary_of M ≡ shown)
-holds_of version db shown is own room apart s = (
-  s.catalogue,
-  record {
-    own = subst (λ (layout : Layout). HasLayout layout db.schema) (sym is) (record { tables = own; indexes = tt; room = room });
-    tables = s.tables;
-    keeps = subst (λ (layout : Layout). KeepsAll layout db (with_derived s.tables)) (sym is) (kept_plain db s.tables (record {
-      marks = record { rows = s.keeps.marks; apart = apart.0 };
-      items = record { rows = s.keeps.items; apart = apart.1.0 };
-      members = record { rows = s.keeps.members; apart = apart.1.1.0 };
-      editions = record { rows = s.keeps.editions; apart = apart.1.1.1.0 };
-      entries = record { rows = s.keeps.entries; apart = apart.1.1.1.1.0 };
-      kept = record { rows = s.keeps.kept; apart = apart.1.1.1.1.1.0 };
-    }));
-    stands = s.stands;
-  },
-  s.summary,
-)
-
--- a schema without the tables, or without room for the later ones, is that of no such database
-pub none_without : (version : ℕ) (db : Database) → layout_of version ≡ Plain → (HasTables db → MayBecomeShown Plain db.schema → ⊥) → HoldsNoneAs version db
-none_without version db is none M h =
-    let own = subst (λ (layout : Layout). HasLayout layout db.schema) is h.own in none own.tables own.room
 
 ascii_text : (bs : List ℕ) → list_all (λ b. nat_lt b 128) bs ≡ true → IsAscii bs
 ascii_text [] h = IsAscii-nil

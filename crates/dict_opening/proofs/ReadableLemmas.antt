@@ -10,8 +10,8 @@ use Rattle.dict_sql.specs.Columns.{Content, HasColumns}
 use Rattle.dict_sql.specs.Reads.{FailsToList}
 use Rattle.dict_sql.specs.declared.records.ReadError.{ReadError}
 use Rattle.dict_sql.specs.declared.records.ReadError.TheVariants.{NoRecord, Store}
-use Rattle.dict_opening.specs.Reading.{fault_of_store, fault_of_read}
-use Rattle.dict_opening.specs.declared.fault.ReadingFault.TheVariants.{Damaged}
+use Rattle.dict_scans.specs.Reading.{fault_of_store, fault_of_read}
+use Rattle.dict_scans.specs.declared.fault.ReadingFault.TheVariants.{Damaged}
 use Rattle.dict_opening.proofs.NoneLemmas.{all_contains}
 
 no_damage : (e : Error) → fault_of_store e ≡ Damaged → ⊥

@@ -1,6 +1,6 @@
 -- What is found wrong with a table, and that then no catalogue is held.
 use Rattle.std.proofs.Common.{◌≡◌, ◌⊎◌, ℕ, ℤ, ◌≤◌, pos, Bool, true, false, ◌||◌, ◌&&◌, ◌==◌, List, [], ◌∷◌, ◌++◌, map, drop, codes, inl, inr, refl, sym, ap, subst, ◌∙◌, arith}
-use Rattle.std.specs.Prelude.{cond, not, nat_le, length, bytes_eq, ◌≤ℤ◌, IsTrue}
+use Rattle.std.specs.Prelude.{cond, not, nat_le, length, bytes_eq, ◌≤ℤ◌, IsTrue, flat_map}
 use Rattle.std.specs.List.{AllByRecursion, list_any, list_all}
 use Rattle.std.specs.List.Sorted.{IsPermutation}
 use Rattle.std.specs.Ordering.{is_lt, ordering_then, ordering_reverse}
@@ -15,7 +15,7 @@ use Rattle.sqlite.specs.Effect.{Database}
 use Rattle.sqlite.specs.Order.{Row, column, value_cmp}
 use Rattle.sqlite.specs.declared.types.Value.TheVariants.{Int, Text}
 use Rattle.sqlite_value.proofs.OrderLemmas.{value_cmp-Text, then-Equal}
-use Rattle.dict_text.proofs.AllLemmas.{all_append_parts, all_weaker}
+use Rattle.dict_text.proofs.AllLemmas.{all_append, all_weaker}
 use Rattle.dict_tables.specs.Tables.{table_of}
 use Rattle.dict_tables.specs.declared.tables.StoreTable.{StoreTable}
 use Rattle.dict_records.specs.Records as spec
@@ -24,13 +24,14 @@ use Rattle.dict_records.specs.declared.records as typed
 use Rattle.dict_records.specs.declared.records.Stored.{Stored as Beside}
 use Rattle.std.specs.declared.alloc.Global.{Global}
 use Rattle.std.proofs.Common.{String}
-use Rattle.dict_sql.specs.Columns.{Content, HasColumns, edition_columns, entry_columns, kept_columns, number_columns}
+use Rattle.dict_sql.specs.Columns.{Content, HasColumns, edition_columns, kept_columns, number_columns}
 use Rattle.dict_sql.specs.Effects.{HasApartRowids, rows_of}
-use Rattle.dict_sql.specs.Encodings.{stored_mark, stored_item, stored_member, stored_entry, stored_kept, stored_number, edition_row}
+use Rattle.dict_sql.specs.Encodings.{stored_mark, stored_item, stored_member, stored_kept, stored_number, member_row, edition_row}
 use Rattle.dict_sql.specs.Reads.{IsListing, by_columns, numbered}
-use Rattle.dict_sql.specs.Streams.Scan.{AllEntries, AllKept, KeptById, ByRowid, EditionNumbers}
+use Rattle.dict_sql.specs.Streams.Scan.{AllKept, KeptById, ByRowid, EditionNumbers}
 use Rattle.dict_sql.proofs.KitLemmas.{value_cmp_total}
-use Rattle.dict_file.specs.Holds.{Keeps, KeepsPlain}
+use Rattle.dict_file.specs.Holds.{Keeps}
+use Rattle.dict_file.specs.Readings.{KeepsRows, KeepsAll, entries, derived_readings}
 use Rattle.dict_file.proofs.ReadLemmas.{sorted_order, second_le, records_order}
 use Rattle.dict_catalogue.specs.Items.{Item, name_of, editions_of, edition_numbers, is_known}
 use Rattle.dict_catalogue.specs.Steps.{Catalogue}
@@ -49,21 +50,39 @@ use Rattle.dict_rows.proofs.LawfulLemmas.{once_true}
 use Rattle.dict_rows.proofs.FinishLemmas.{ids_same}
 use Rattle.dict_rows.proofs.OrderLemmas.{Same, same_from, all_same, members_same}
 use Rattle.dict_rows.proofs.TakenLemmas.{same_itself, holds_same}
-use Rattle.dict_opening.specs.Opens.{KeepsNone, Fits, HoldsNoneAs, HasBegun, CanRead}
-use Rattle.dict_opening.specs.Scans.{HasNoRecordIn, IsWrong}
-use Rattle.dict_opening.specs.Takers.{KeptRow, ids_given, HasStray, HasIdsApart, HasIdTwice, refuses_replies, number_given, entry_edition}
-use Rattle.dict_opening.proofs.CodecLemmas.{Codec, read, read_stored, stored_rows, listed_records, member_codec, entry_codec, kept_codec, mark_codec, item_codec}
+use Rattle.dict_file.proofs.ReadableLemmas.{held_readable}
+use Rattle.dict_file.proofs.ReadingLemmas.{members_kept, replies_kept}
+use Rattle.dict_match.specs.Key.{key_of}
+use Rattle.dict_records.specs.Keyed.{Piece}
+use Rattle.dict_sql.specs.Keyed.{piece_row}
+use Rattle.dict_rows.specs.Order.{is_of}
+use Rattle.dict_rows.specs.Stands.{has_number}
+use Rattle.dict_rows.specs.Versions.{Layout, Plain, Keyed, Shown, layout_of}
+use Rattle.dict_rows.proofs.StrayLemmas.{numbers_taken}
+use Rattle.dict_derived.specs.AllTables.{with_derived}
+use Rattle.dict_derived.specs.Entries.{derived, piece_at, pieces_of}
+use Rattle.dict_derived.specs.declared.reader.Pieces.{Pieces}
+use Rattle.dict_derived.specs.declared.reader.Pieces.TheVariants.{Words, Grams}
+use Rattle.dict_keyed_sql.specs.Pieces.{name_for}
+use Rattle.dict_scans.specs.Census.{one_of, AreNumberedApart}
+use Rattle.dict_scans.specs.Cursors.{InStore}
+use Rattle.dict_scans.specs.Entries.{behind, entry_cells}
+use Rattle.dict_scans.specs.Scans.{HasNoRecordIn, IsWrong}
+use Rattle.dict_scans.specs.Takers.{KeptRow, ids_given, HasStray, HasIdsApart, HasIdTwice, refuses_replies, number_given}
+use Rattle.dict_scans.proofs.CodecLemmas.{Codec, read, read_stored, stored_rows, listed_records, member_codec, kept_codec, mark_codec, item_codec}
+use Rattle.dict_scans.proofs.NumberLemmas.{behind_column}
+use Rattle.dict_scans.proofs.RowidLemmas.{all_numbered, all_of_map}
+use Rattle.dict_opening.specs.Opens.{Keeping, KeepsNone, Fits, HoldsNoneAs, HasBegun, CanRead, AreReadableEntries, AreReadablePieces, ArePiecesKnown, AreRowsKnown, numbers_in}
+use Rattle.dict_opening.proofs.EntryLemmas.{entries_rows, entries_apart, each_row, number_is}
 use Rattle.dict_opening.proofs.FitLemmas.{front_read, fits_begun, fits_replies, none_kept}
 use Rattle.dict_opening.proofs.NoneLemmas.{last_holds}
-use Rattle.dict_file.proofs.ReadableLemmas.{held_rows}
-use Rattle.dict_file.proofs.ReadingLemmas.{plain_of}
-use Rattle.dict_rows.specs.Versions.{Plain, layout_of}
-use Rattle.dict_opening.proofs.RowidLemmas.{all_numbered}
+use Rattle.dict_opening.proofs.PartLemmas.{numbered_row, numbers_is}
+use Rattle.dict_opening.proofs.PieceLemmas.{kept_pieces}
 
 -- ---- rowids
 
 pub wrong_rowids : {R : Type 0} (stored : R → Row) (columns : List Content) (table : StoreTable) (db : Database) → AllByRecursion (HasColumns columns) (rows_of (table_of table 0).name db) → HasApartRowids (rows_of (table_of table 0).name db) →
-    HasNoRecordIn stored columns (ByRowid table) db ⊎ (HasApartRowids (rows_of (table_of table 0).name db) → ⊥) → ⊥
+    HasNoRecordIn stored columns (InStore (ByRowid table)) db ⊎ (HasApartRowids (rows_of (table_of table 0).name db) → ⊥) → ⊥
 wrong_rowids stored columns table db all apart (inl w) = w.3 (last_holds (HasColumns columns) (rows_of (table_of table 0).name db) (map stored w.0) w.2.0 w.1 all w.2.1.same)
 wrong_rowids stored columns table db all apart (inr w) = w apart
 
@@ -72,12 +91,12 @@ first_two [] h = absurd h
 first_two (v ∷ []) h = absurd h.1
 first_two (v ∷ w ∷ r) h = (h.0, (h.1.0, tt))
 
-no_numbered_record : (db : Database) → AllByRecursion (HasColumns edition_columns) (rows_of (codes "edition") db) → HasNoRecordIn stored_number number_columns EditionNumbers db → ⊥
+no_numbered_record : (db : Database) → AllByRecursion (HasColumns edition_columns) (rows_of (codes "edition") db) → HasNoRecordIn stored_number number_columns (InStore EditionNumbers) db → ⊥
 no_numbered_record db all w =
     w.3 (last_holds (HasColumns number_columns) (map numbered (rows_of (codes "edition") db)) (map stored_number w.0) w.2.0 w.1 (all_numbered (HasColumns edition_columns) (HasColumns number_columns) first_two (rows_of (codes "edition") db) all) w.2.1.same)
 
 pub wrong_numbers : (db : Database) → AllByRecursion (HasColumns edition_columns) (rows_of (codes "edition") db) → HasApartRowids (rows_of (codes "edition") db) →
-    HasNoRecordIn stored_number number_columns EditionNumbers db ⊎ (HasApartRowids (rows_of (codes "edition") db) → ⊥) → ⊥
+    HasNoRecordIn stored_number number_columns (InStore EditionNumbers) db ⊎ (HasApartRowids (rows_of (codes "edition") db) → ⊥) → ⊥
 wrong_numbers db all apart (inl w) = no_numbered_record db all w
 wrong_numbers db all apart (inr w) = w apart
 
@@ -94,13 +113,43 @@ members_order db rows h =
     records_order stored_member (λ (row : MemberRow). owned_member row.value) (λ (a b : Row). is_lt (by_columns (1 ∷ 2 ∷ []) b a) ≡ false) (λ (a b : spec.Member). a.owner ≡ b.owner → a.ord ≤ℤ b.ord)
     (λ a b r same. second_le (owned_member a.value).owner (owned_member b.value).owner a.value.ord b.value.ord same r) rows (sorted_order (1 ∷ 2 ∷ []) (map stored_member rows) h.sorted)
 
-module _ (version : ℕ) (without_keys : layout_of version ≡ Plain) (db : Database) (marks : List (Beside (typed.Mark.Mark (String Global)))) (items : List (Beside (typed.Item.Item (String Global)))) (members : List MemberRow)
+-- the same tables with their members in another order
+module _ (db : Database) (T : Tables) (members : List spec.Member) (rows : IsPermutation (map member_row members) (map (drop 1) (rows_of (codes "member") db))) where
+  abbrev changed : Tables
+  changed = record T { members = members }
+
+  entries_so : (layout : Layout) → KeepsRows (entries layout) db (with_derived T) → KeepsRows (entries layout) db (with_derived changed)
+  entries_so Plain k = record { rows = k.rows; apart = k.apart }
+  entries_so Keyed k = record { rows = k.rows; apart = k.apart }
+  entries_so Shown k = record { rows = k.rows; apart = k.apart }
+
+  derived_so : (layout : Layout) → AllByRecursion (λ r. KeepsRows r db (with_derived T)) (derived_readings layout) → AllByRecursion (λ r. KeepsRows r db (with_derived changed)) (derived_readings layout)
+  derived_so Plain k = tt
+  derived_so Keyed k = tt
+  derived_so Shown k = (record { rows = k.0.rows; apart = k.0.apart }, (record { rows = k.1.0.rows; apart = k.1.0.apart }, tt))
+
+  keeps_so : (layout : Layout) → KeepsAll layout db (with_derived T) → KeepsAll layout db (with_derived changed)
+  keeps_so layout k = (
+    record { rows = k.0.rows; apart = k.0.apart },
+    (
+      record { rows = k.1.0.rows; apart = k.1.0.apart },
+      (
+        record { rows = rows; apart = k.1.1.0.apart },
+        (
+          record { rows = k.1.1.1.0.rows; apart = k.1.1.1.0.apart },
+          (entries_so layout k.1.1.1.1.0, (record { rows = k.1.1.1.1.1.0.rows; apart = k.1.1.1.1.1.0.apart }, derived_so layout k.1.1.1.1.1.1)),
+        ),
+      ),
+    ),
+  )
+
+module _ (version : ℕ) (db : Database) (marks : List (Beside (typed.Mark.Mark (String Global)))) (items : List (Beside (typed.Item.Item (String Global)))) (members : List MemberRow)
     (lm : IsListing (codes "mark") (1 ∷ []) db (map stored_mark marks)) (li : IsListing (codes "item") (1 ∷ []) db (map stored_item items)) (lo : IsListing (codes "member") (1 ∷ 2 ∷ []) db (map stored_member members)) where
-  stands_so : (T : Tables) (M : Catalogue) → KeepsPlain db T → Stands version T M → Stands version (record T { members = members_given members }) M
+  stands_so : (T : Tables) (M : Catalogue) → Keeps (codes "member") member_row db T.members → Stands version T M → Stands version (record T { members = members_given members }) M
   stands_so T M keeps s =
       let new = members_given members in
       let changed : Tables = record T { members = new } in
-      let same : IsPermutation T.members new = subst (IsPermutation T.members) (read_stored member_codec members) (listed_records member_codec (codes "member") db T.members keeps.members (map stored_member members) lo.same).0 in
+      let same : IsPermutation T.members new = subst (IsPermutation T.members) (read_stored member_codec members) (listed_records member_codec (codes "member") db T.members keeps (map stored_member members) lo.same).0 in
       record {
         well_formed = s.well_formed;
         marks = s.marks;
@@ -113,21 +162,25 @@ module _ (version : ℕ) (without_keys : layout_of version ≡ Plain) (db : Data
         kept = s.kept;
       }
 
-  keeps_so : (T : Tables) → KeepsPlain db T → KeepsPlain db (record T { members = members_given members })
-  keeps_so T k = record { marks = k.marks; items = k.items; members = record { rows = rows_listed member_codec (codes "member") (1 ∷ 2 ∷ []) db members lo; apart = k.members.apart }; editions = k.editions; entries = k.entries; kept = k.kept }
+  listed : IsPermutation (map member_row (members_given members)) (map (drop 1) (rows_of (codes "member") db))
+  listed = rows_listed member_codec (codes "member") (1 ∷ 2 ∷ []) db members lo
 
   pub has_begun : HasBegun version db (begun (marks_given marks) (items_given items) (members_given members))
   has_begun = record {
     marks = rows_listed mark_codec (codes "mark") (1 ∷ []) db marks lm;
     items = rows_listed item_codec (codes "item") (1 ∷ []) db items li;
-    members = rows_listed member_codec (codes "member") (1 ∷ 2 ∷ []) db members lo;
+    members = listed;
     no_editions = refl;
     no_entries = refl;
     no_kept = refl;
     fits = fits_begun version db marks items members lm li;
     none = (λ none M h.
-        let k = plain_of version db M without_keys h in
-        none (record h.tables { members = members_given members }) M (record { keeps = keeps_so h.tables k; same_members = refl; stands = stands_so h.tables M k h.stands; records = held_rows version db M without_keys h }));
+        none (record h.tables { members = members_given members }) M (record {
+          keeps = keeps_so db h.tables (members_given members) listed (layout_of version) h.keeps;
+          same_members = refl;
+          stands = stands_so h.tables M (members_kept (layout_of version) db h.tables h.keeps) h.stands;
+          records = held_readable version db M h;
+        }));
   }
 
   pub begin_wrong : StandsForNone version (begun (marks_given marks) (items_given items) (members_given members)) → HoldsNoneAs version db
@@ -139,7 +192,7 @@ more_true : (a b : Bool) → b ≡ true → (a || b) ≡ true
 more_true true b e = refl
 more_true false b e = e
 
-each_known : (ns : List ℕ) → AllByRecursion (λ n. list_any (λ one. same_number (pos one) n) ns ≡ true) (map pos ns)
+pub each_known : (ns : List ℕ) → AllByRecursion (λ n. list_any (λ one. same_number (pos one) n) ns ≡ true) (map pos ns)
 each_known [] = tt
 each_known (m ∷ ns) =
     (ap (λ b. b || list_any (λ one. same_number (pos one) (pos m)) ns) (same_itself (pos m)), all_weaker (λ n. list_any (λ one. same_number (pos one) n) ns ≡ true) (λ n. list_any (λ one. same_number (pos one) n) (m ∷ ns) ≡ true) (λ n h. more_true (same_number (pos m) n) _ h) (map pos ns) (each_known ns))
@@ -170,58 +223,96 @@ once_of installs items h =
     let a = and_parts (nat_le (length items) 64 && list_all is_lawful_item items && has_names_once items && list_all (has_known_members items) items) (has_lawful_numbers installs (edition_numbers items)) h in
     (and_parts (list_all (is_from_one_to installs) (edition_numbers items)) (has_numbers_once (edition_numbers items)) a.1).1
 
-pub can_read : (version : ℕ) (db : Database) (reader : Reader) (front : Tables) → HasTaken version reader front → HasBegun version db front → CanRead version db reader (map pos (edition_numbers (items_in reader))) front
+pub numbers_in_apart : (version : ℕ) (reader : Reader) (front : Tables) → HasTaken version reader front → InOrder (λ a b. a ≡ b → ⊥) (numbers_in reader)
+numbers_in_apart version reader front h = numbers_apart (edition_numbers (items_in reader)) (once_of reader.installs (items_in reader) h.lawful)
+
+pub can_read : (version : ℕ) (db : Database) (reader : Reader) (front : Tables) → HasTaken version reader front → HasBegun version db front → CanRead version db reader (numbers_in reader) front
 can_read version db reader front h b = record {
   taken = h;
   no_editions = b.no_editions;
   no_entries = b.no_entries;
   fits = b.fits;
   known = each_known (edition_numbers (items_in reader));
-  apart = numbers_apart (edition_numbers (items_in reader)) (once_of reader.installs (items_in reader) h.lawful);
+  apart = numbers_in_apart version reader front h;
 }
 
 -- ---- strays
-
-module _ {R W : Type 0} (k : Codec R W) (name columns : List ℕ) (db : Database) (ws : List W) (keeps : Keeps name k.encode db ws) where
-  -- what holds of all records holds of one that was read
-  pub last_read : (P : W → Type 0) → AllByRecursion P ws → (given : List R) (next : R) (tail : List Row) → IsListing name columns db (map k.stored (given ++ next ∷ []) ++ tail) → P (k.owned next)
-  last_read P all given next tail l =
-      let rows = map k.stored (given ++ next ∷ []) ++ tail in
-      let there = all_same P ws (map (read k) rows) (listed_records k name db ws keeps rows l.same).0 all in
-      let front = (all_append_parts P (map k.owned (given ++ next ∷ [])) (map (read k) tail) (subst (AllByRecursion P) (front_read k (given ++ next ∷ []) tail) there)).0 in
-      (all_append_parts P (map k.owned given) (k.owned next ∷ []) (subst (AllByRecursion P) (map-append k.owned given (next ∷ [])) front)).1.0
 
 -- a number that no record has stands in no row
 no_number : (n : ℤ) (ws : List spec.Edition) → AllByRecursion (λ w. w.number ≡ n → ⊥) ws → AllByRecursion (λ r. column r 0 ≡ Int n → ⊥) (map edition_row ws)
 no_number n [] h = tt
 no_number n (w ∷ ws) h = ((λ e. h.0 (let same : w.number ≡ n = cc in same)), no_number n ws h.1)
 
-behind : (r : Row) → column (drop 1 r) 0 ≡ column r 1
-behind [] = refl
-behind (v ∷ r) = refl
+number_behind : (r : Row) → column (drop 1 r) 0 ≡ column r 1
+number_behind [] = refl
+number_behind (v ∷ r) = refl
 
 none_numbered : (n : ℤ) (rows : List Row) → AllByRecursion (λ r. column r 0 ≡ Int n → ⊥) (map (drop 1) rows) → AllByRecursion (λ r. column r 1 ≡ Int n → ⊥) (map numbered rows)
 none_numbered n [] h = tt
-none_numbered n (r ∷ rows) h = ((λ e. h.0 (behind r ∙ e)), none_numbered n rows h.1)
+none_numbered n (r ∷ rows) h = ((λ e. h.0 (number_behind r ∙ e)), none_numbered n rows h.1)
 
-pub editions_stray : (version : ℕ) (db : Database) (reader : Reader) (taken : Tables) → HasTaken version reader taken → Fits version db taken → HasNoRecordIn stored_number number_columns EditionNumbers db ⊎ HasStray stored_number number_given EditionNumbers db reader → KeepsNone version db taken.members
+pub editions_stray : (version : ℕ) (db : Database) (reader : Reader) (taken : Tables) → HasTaken version reader taken → Fits version db taken → HasNoRecordIn stored_number number_columns (InStore EditionNumbers) db ⊎ HasStray stored_number number_given (InStore EditionNumbers) db reader → KeepsNone version db taken.members
 editions_stray version db reader taken h fits (inl w) T M K = no_numbered_record db K.records.1.1.1.0 w
 editions_stray version db reader taken h fits (inr w) T M K =
     let n = number_given w.1 in
     let rows = rows_of (codes "edition") db in
     let none = (w.3 version taken T M h (fits T M K) K.stands).0 in
-    let all = none_numbered n rows (all_same (λ r. column r 0 ≡ Int n → ⊥) (map edition_row T.editions) (map (drop 1) rows) K.keeps.editions.rows (no_number n T.editions none)) in
+    let all = none_numbered n rows (all_same (λ r. column r 0 ≡ Int n → ⊥) (map edition_row T.editions) (map (drop 1) rows) K.keeps.1.1.1.0.rows (no_number n T.editions none)) in
     last_holds (λ r. column r 1 ≡ Int n → ⊥) (map numbered rows) (map stored_number w.0) w.2.0 (stored_number w.1) all
     (subst (λ l. IsPermutation (map numbered rows) (l ++ w.2.0)) (map-append stored_number w.0 (w.1 ∷ [])) w.2.1.same) refl
 
-pub entries_stray : (version : ℕ) (db : Database) (reader : Reader) (taken : Tables) → HasTaken version reader taken → Fits version db taken → HasNoRecordIn stored_entry entry_columns AllEntries db ⊎ HasStray stored_entry entry_edition AllEntries db reader → KeepsNone version db taken.members
-entries_stray version db reader taken h fits (inl w) T M K = w.3 (last_holds (HasColumns entry_columns) (rows_of (codes "entry") db) (map stored_entry w.0) w.2.0 w.1 K.records.1.1.1.1.0 w.2.1.same)
-entries_stray version db reader taken h fits (inr w) T M K =
-    last_read entry_codec (codes "entry") (1 ∷ 2 ∷ []) db T.entries K.keeps.entries (λ row. row.edition ≡ entry_edition w.1 → ⊥) (w.3 version taken T M h (fits T M K) K.stands).1 w.0 w.1 w.2.0 w.2.1 refl
+-- what is read of entries, and of what is derived of them, is of editions that the items name
+module _ (version : ℕ) (db : Database) (reader : Reader) (taken : Tables) (h : HasTaken version reader taken) (fits : Fits version db taken) (T : Tables) (M : Catalogue) (K : Keeping version db taken.members T M) where
+  numbers_are : edition_numbers M.items ≡ edition_numbers (items_in reader)
+  numbers_are = numbers_taken version reader taken T M h (fits T M K) K.stands
+
+  number_named : (n : ℤ) → has_number M.items n ≡ true → is_of (numbers_in reader) n ≡ true
+  number_named n known = sym (numbers_is (edition_numbers (items_in reader)) n) ∙ sym (ap (λ ns. list_any (λ one. same_number (pos one) n) ns) numbers_are) ∙ known
+
+  entries_named : AreNumberedApart (numbers_in reader) (codes "entry") db
+  entries_named = record {
+    apart = entries_apart (layout_of version) db T K.keeps.1.1.1.1.0;
+    known = all_weaker (λ row. (e : spec.Entry) × (behind (layout_of version) row ≡ entry_cells (layout_of version) e) × IsTrue (has_number M.items e.edition)) (λ row. one_of (numbers_in reader) row ≡ true)
+        (λ row e. numbered_row row e.0.edition (numbers_in reader) (number_is (layout_of version) row e.0 e.1) (number_named e.0.edition e.2)) (rows_of (codes "entry") db)
+        (each_row (layout_of version) db T.entries (entries_rows (layout_of version) db T K.keeps.1.1.1.1.0) (λ (e : spec.Entry). IsTrue (has_number M.items e.edition)) K.stands.entries);
+  }
+
+  all_pieces : (pieces : Pieces) (es : List spec.Entry) → AllByRecursion (λ (e : spec.Entry). IsTrue (has_number M.items e.edition)) es → AllByRecursion (λ (p : Piece). is_of (numbers_in reader) p.edition ≡ true) (flat_map (derived pieces) es)
+  all_pieces pieces [] k = tt
+  all_pieces pieces (e ∷ es) k = all_append (λ (p : Piece). is_of (numbers_in reader) p.edition ≡ true) (derived pieces e) (flat_map (derived pieces) es) (each (pieces_of pieces (key_of e.headword))) (all_pieces pieces es k.1)
+    where
+      each : (xs : List (List ℕ)) → AllByRecursion (λ (p : Piece). is_of (numbers_in reader) p.edition ≡ true) (map (piece_at e.edition e.ord) xs)
+      each [] = tt
+      each (x ∷ xs) = (number_named e.edition k.0, each xs)
+
+  pieces_named : (pieces : Pieces) → Keeps (name_for pieces) piece_row db (flat_map (derived pieces) T.entries) → AreNumberedApart (numbers_in reader) (name_for pieces) db
+  pieces_named pieces keeps = record {
+    apart = keeps.apart;
+    known = all_of_map (drop 1) (λ s. (p : Piece) × (s ≡ piece_row p) × (is_of (numbers_in reader) p.edition ≡ true)) (λ row. one_of (numbers_in reader) row ≡ true)
+        (λ row p. numbered_row row p.0.edition (numbers_in reader) (behind_column row 0 ∙ ap (λ (r : Row). column r 0) p.1) p.2) (rows_of (name_for pieces) db)
+        (all_same (λ s. (p : Piece) × (s ≡ piece_row p) × (is_of (numbers_in reader) p.edition ≡ true)) (map piece_row (flat_map (derived pieces) T.entries)) (map (drop 1) (rows_of (name_for pieces) db)) keeps.rows
+        (written (flat_map (derived pieces) T.entries) (all_pieces pieces T.entries K.stands.entries)));
+  }
+    where
+      written : (ps : List Piece) → AllByRecursion (λ (p : Piece). is_of (numbers_in reader) p.edition ≡ true) ps → AllByRecursion (λ s. (p : Piece) × (s ≡ piece_row p) × (is_of (numbers_in reader) p.edition ≡ true)) (map piece_row ps)
+      written [] k = tt
+      written (p ∷ ps) k = ((p, refl, k.0), written ps k.1)
+
+  derived_named : (layout : Layout) → KeepsAll layout db (with_derived T) → ArePiecesKnown layout db (numbers_in reader)
+  derived_named Plain k = tt
+  derived_named Keyed k = tt
+  derived_named Shown k = (pieces_named Words (kept_pieces Words db T k), pieces_named Grams (kept_pieces Grams db T k))
+
+  pub rows_named : AreRowsKnown (layout_of version) db (numbers_in reader)
+  rows_named = (entries_named, derived_named (layout_of version) K.keeps)
+
+pub rows_stray : (version : ℕ) (db : Database) (reader : Reader) (taken : Tables) → HasTaken version reader taken → Fits version db taken
+    → (AreReadableEntries (layout_of version) db → AreReadablePieces (layout_of version) db → AreRowsKnown (layout_of version) db (numbers_in reader) → ⊥) → KeepsNone version db taken.members
+rows_stray version db reader taken h fits wrong T M K = wrong K.records.1.1.1.1.0 K.records.1.1.1.1.1.1 (rows_named version db reader taken h fits T M K)
 
 -- ---- the kept replies
 
-pub replies_wrong : (version : ℕ) (db : Database) (reader : Reader) (taken : Tables) → HasTaken version reader taken → Fits version db taken → taken.kept ≡ [] → IsWrong stored_kept kept_columns refuses_replies AllKept db reader → KeepsNone version db taken.members
+pub replies_wrong : (version : ℕ) (db : Database) (reader : Reader) (taken : Tables) → HasTaken version reader taken → Fits version db taken → taken.kept ≡ [] → IsWrong stored_kept kept_columns refuses_replies (InStore AllKept) db reader → KeepsNone version db taken.members
 replies_wrong version db reader taken h fits none (inl w) T M K = w.3 (last_holds (HasColumns kept_columns) (rows_of (codes "kept") db) (map stored_kept w.0) w.2.0 w.1 K.records.1.1.1.1.1.0 w.2.1.same)
 replies_wrong version db reader taken h fits none (inr w) T M K = none_kept version db (with_replies taken (kept_given w.0)) (fits_replies version db taken fits none w.0 w.1) (w.2 version taken h) T M K
 
@@ -237,11 +328,11 @@ once_front xs ys h text =
 abbrev id_of : spec.Kept → List ℕ
 id_of row = row.id
 
-pub ids_twice : (version : ℕ) (db : Database) (members : List spec.Member) → HasNoRecordIn stored_kept kept_columns KeptById db ⊎ HasIdTwice db → KeepsNone version db members
+pub ids_twice : (version : ℕ) (db : Database) (members : List spec.Member) → HasNoRecordIn stored_kept kept_columns (InStore KeptById) db ⊎ HasIdTwice db → KeepsNone version db members
 ids_twice version db members (inl w) T M K = w.3 (last_holds (HasColumns kept_columns) (rows_of (codes "kept") db) (map stored_kept w.0) w.2.0 w.1 K.records.1.1.1.1.1.0 w.2.1.same)
 ids_twice version db members (inr w) T M K =
     let rows = map stored_kept w.0 ++ w.1.0 in
-    let found = (listed_records kept_codec (codes "kept") db T.kept K.keeps.kept rows w.1.1.same).0 in
+    let found = (listed_records kept_codec (codes "kept") db T.kept (replies_kept (layout_of version) db T K.keeps) rows w.1.1.same).0 in
     let once : IsEachOnce (map id_of T.kept) = subst IsEachOnce (sym (ap (map id_of) K.stands.kept ∙ ids_same M.kept)) K.stands.well_formed.ids in
     let there = once_same (map id_of T.kept) (map id_of (map (read kept_codec) rows)) (same_from _ _ (IsPermutation-map id_of T.kept (map (read kept_codec) rows) found)) once in
     let split : map id_of (map (read kept_codec) rows) ≡ ids_given w.0 ++ map id_of (map (read kept_codec) w.1.0) = ap (map id_of) (front_read kept_codec w.0 w.1.0) ∙ map-append id_of (kept_given w.0) (map (read kept_codec) w.1.0) in

@@ -1,5 +1,3 @@
 pub mod Reading
-pub mod Scans
-pub mod Takers
-pub mod TakerLaws
+pub mod Layouts
 pub mod Opens

@@ -1,20 +1,30 @@
-// The editions that the items name, each with its entries.
-ghost use Rattle.std.specs.Prelude.{◌≡◌, ℕ, [], ◌∷◌, codes, IfOk, IfErr, OnOk};
+// The editions that the items name, each with its entries, and with what is derived of them where it is looked at.
+ghost use Rattle.std.specs.Prelude.{◌≡◌, ◌⊎◌, ℕ, List, [], ◌∷◌, codes, IfOk, IfErr, OnOk};
 ghost use Rattle.sqlite.specs.State.{HasCleanDisk};
 ghost use Rattle.sqlite.specs.Held.{state};
+ghost use Rattle.dict_tables.specs.Keyed.{word, gram};
 ghost use Rattle.dict_tables.specs.Tables.{edition as edition_table};
+ghost use Rattle.dict_records.specs.Records.{Entry as EntryRecord};
+ghost use Rattle.dict_records.specs.Typed.{owned_edition};
 ghost use Rattle.dict_sql.specs.Effects.{Has, WhileOpen, equals_number};
 ghost use Rattle.dict_sql.specs.Encodings.{stored_edition};
 ghost use Rattle.dict_sql.specs.Reads.{IsSelection};
 ghost use Rattle.dict_rows.specs.Tables.{Tables};
-ghost use Rattle.dict_rows.specs.Taken.{HasTaken};
-ghost use Rattle.dict_opening.specs.Reading.{Same, OnlyReads, IsExcused};
-ghost use Rattle.dict_opening.specs.Opens.{KeepsNone, HasTables, IsNotOne, CanReadOne, HasReadOne, CanRead, HasRead};
+ghost use Rattle.dict_rows.specs.Taken.{HasTaken, with_edition};
+ghost use Rattle.dict_rows.specs.Versions.{layout_of as layout_at};
+ghost use Rattle.dict_scans.specs.Reading.{Same, OnlyReads, IsExcused};
+ghost use Rattle.dict_scans.specs.Entries.{HasWrongEntries, TakesEntries};
+ghost use Rattle.dict_opening.specs.Layouts.{layout_in};
+ghost use Rattle.dict_opening.specs.Opens.{KeepsNone, HasTables, HasTablesOf, IsNotOne, CanReadOne, HasReadOne, CanRead, HasRead, IsWrongEdition, HasKeys, HasBoth, HasNotBoth, HasPieces, IsKeyed, IsNotKeyed};
 
-use crate::fault::{ReadingFault, fault_of_read, fault_of_rows};
-use crate::tables::read_entries;
+use crate::layout::{TableLayout, layout_of};
+use dict_derived::Pieces;
+use dict_match::Key;
 use dict_records::{Edition, Stored};
-use dict_rows::Reader;
+use dict_scans::{
+    EditionReader, ReadingFault, fault_of_read, fault_of_rows, read_filed_entries,
+    read_old_entries, read_plain_entries, test_pieces,
+};
 use dict_sql::read::editions_numbered;
 use sqlite::{Alter, Connection};
 use std::alloc::Global;
@@ -42,44 +52,130 @@ fn edition_numbered<S: Alter>(
     Ok(all.remove(0))
 }
 
+/// Takes the entries of the edition that was taken last, which has this number, and behind those that it holds the key of each
+/// where these are looked at.
+fn read_entries<S: Alter>(
+    alloc: Global,
+    conn: &mut Connection<S>,
+    layout: TableLayout,
+    number: i64,
+    reader: &mut EditionReader,
+) -> Result<(), ReadingFault>
+    requires { WhileOpen (state S.Store conn.old) (HasTablesOf (layout_in layout)) }
+    ensures reads { OnlyReads (state S.Store conn.old) (state S.Store conn.new) }
+    ensures failed { HasCleanDisk (state S.Store conn.new) → IfErr result (IsExcused (state S.Store conn.old) (state S.Store conn.new)) }
+    ensures same { HasCleanDisk (state S.Store conn.new) → OnOk result (Same (state S.Store conn.old) (state S.Store conn.new)) }
+    ensures whole { HasCleanDisk (state S.Store conn.new) → OnOk result ((es : List EntryRecord) × TakesEntries (layout_in layout) (state S.Store conn.old).now number reader.old.reader reader.new.reader es × HasKeys (layout_in layout) reader.old.keys.items es reader.new.keys.items) }
+    ensures damaged { HasCleanDisk (state S.Store conn.new) → IfErr result (λ fault. fault ≡ ReadingFault.Damaged → HasWrongEntries (layout_in layout) (state S.Store conn.old).now number reader.old.reader) }
+{
+    match layout {
+        TableLayout::Plain => read_plain_entries(alloc, conn, number, &mut reader.reader),
+        TableLayout::Keyed => read_old_entries(alloc, conn, number, &mut reader.reader),
+        TableLayout::Shown => read_filed_entries(alloc, conn, number, reader),
+    }
+}
+
+/// Tests that the words and the grams of the edition of this number are those of these keys.
+fn test_both<S: Alter>(
+    alloc: Global,
+    conn: &mut Connection<S>,
+    number: i64,
+    keys: &[Key],
+) -> Result<(), ReadingFault>
+    requires words { WhileOpen (state S.Store conn.old) (Has word) }
+    requires grams { WhileOpen (state S.Store conn.old) (Has gram) }
+    ensures reads { OnlyReads (state S.Store conn.old) (state S.Store conn.new) }
+    ensures failed { HasCleanDisk (state S.Store conn.new) → IfErr result (IsExcused (state S.Store conn.old) (state S.Store conn.new)) }
+    ensures same { HasCleanDisk (state S.Store conn.new) → OnOk result (Same (state S.Store conn.old) (state S.Store conn.new)) }
+    ensures whole { HasCleanDisk (state S.Store conn.new) → OnOk result (HasBoth (state S.Store conn.old).now number keys.now) }
+    ensures damaged { HasCleanDisk (state S.Store conn.new) → IfErr result (λ fault. fault ≡ ReadingFault.Damaged → HasNotBoth (state S.Store conn.old).now number keys.now) }
+{
+    test_pieces(alloc, conn, Pieces::Words, number, keys)?;
+    test_pieces(alloc, conn, Pieces::Grams, number, keys)
+}
+
+/// Tests them where they are looked at.
+fn test_derived<S: Alter>(
+    alloc: Global,
+    conn: &mut Connection<S>,
+    layout: TableLayout,
+    number: i64,
+    keys: &[Key],
+) -> Result<(), ReadingFault>
+    requires { WhileOpen (state S.Store conn.old) (HasTablesOf (layout_in layout)) }
+    ensures reads { OnlyReads (state S.Store conn.old) (state S.Store conn.new) }
+    ensures failed { HasCleanDisk (state S.Store conn.new) → IfErr result (IsExcused (state S.Store conn.old) (state S.Store conn.new)) }
+    ensures same { HasCleanDisk (state S.Store conn.new) → OnOk result (Same (state S.Store conn.old) (state S.Store conn.new)) }
+    ensures whole { HasCleanDisk (state S.Store conn.new) → OnOk result (IsKeyed (layout_in layout) (state S.Store conn.old).now number keys.now) }
+    ensures damaged { HasCleanDisk (state S.Store conn.new) → IfErr result (λ fault. fault ≡ ReadingFault.Damaged → IsNotKeyed (layout_in layout) (state S.Store conn.old).now number keys.now) }
+{
+    match layout {
+        TableLayout::Shown => test_both(alloc, conn, number, keys),
+        _ => Ok(()),
+    }
+}
+
+/// Takes the entries of the edition that was taken last, which has this number, and tests what is derived of them. It holds the
+/// keys of this edition alone.
+fn read_with_derived<S: Alter>(
+    alloc: Global,
+    conn: &mut Connection<S>,
+    layout: TableLayout,
+    number: i64,
+    reader: &mut EditionReader,
+) -> Result<(), ReadingFault>
+    requires { WhileOpen (state S.Store conn.old) (HasTablesOf (layout_in layout)) }
+    ensures reads { OnlyReads (state S.Store conn.old) (state S.Store conn.new) }
+    ensures failed { HasCleanDisk (state S.Store conn.new) → IfErr result (IsExcused (state S.Store conn.old) (state S.Store conn.new)) }
+    ensures same { HasCleanDisk (state S.Store conn.new) → OnOk result (Same (state S.Store conn.old) (state S.Store conn.new)) }
+    ensures whole { HasCleanDisk (state S.Store conn.new) → OnOk result ((es : List EntryRecord) × TakesEntries (layout_in layout) (state S.Store conn.old).now number reader.old.reader reader.new.reader es × HasPieces (layout_in layout) (state S.Store conn.old).now number es) }
+    ensures damaged { HasCleanDisk (state S.Store conn.new) → IfErr result (λ fault. fault ≡ ReadingFault.Damaged → IsWrongEdition (layout_in layout) (state S.Store conn.old).now number reader.old.reader) }
+{
+    reader.keys = Vec::new(alloc);
+    read_entries(alloc, conn, layout, number, reader)?;
+    test_derived(alloc, conn, layout, number, &reader.keys)
+}
+
 /// Takes the edition of this number, with its entries.
 fn read_number<S: Alter>(
     alloc: Global,
     conn: &mut Connection<S>,
+    version: u64,
     number: i64,
-    reader: &mut Reader,
+    reader: &mut EditionReader,
 ) -> Result<(), ReadingFault>
-    requires { WhileOpen (state S.Store conn.old) HasTables }
+    requires { WhileOpen (state S.Store conn.old) (HasTables version) }
     ensures reads { OnlyReads (state S.Store conn.old) (state S.Store conn.new) }
     ensures failed { HasCleanDisk (state S.Store conn.new) → IfErr result (IsExcused (state S.Store conn.old) (state S.Store conn.new)) }
     ensures same { HasCleanDisk (state S.Store conn.new) → OnOk result (Same (state S.Store conn.old) (state S.Store conn.new)) }
-    ensures whole { HasCleanDisk (state S.Store conn.new) → OnOk result ((version : ℕ) (taken : Tables) → HasTaken version reader.old taken → (after : Tables) × HasTaken version reader.new after × HasReadOne (state S.Store conn.old).now number taken after) }
-    ensures damaged { HasCleanDisk (state S.Store conn.new) → IfErr result (λ fault. fault ≡ ReadingFault.Damaged → (version : ℕ) (taken : Tables) → HasTaken version reader.old taken → CanReadOne version (state S.Store conn.old).now taken number → KeepsNone version (state S.Store conn.old).now taken.members) }
+    ensures whole { HasCleanDisk (state S.Store conn.new) → OnOk result ((taken : Tables) → HasTaken version reader.old.reader taken → (after : Tables) × HasTaken version reader.new.reader after × HasReadOne (layout_at version) (state S.Store conn.old).now number taken after) }
+    ensures damaged { HasCleanDisk (state S.Store conn.new) → IfErr result (λ fault. fault ≡ ReadingFault.Damaged → (taken : Tables) → HasTaken version reader.old.reader taken → CanReadOne version (state S.Store conn.old).now taken number → KeepsNone version (state S.Store conn.old).now taken.members) }
 {
-    reader.let_go();
+    reader.reader.let_go();
     let row = edition_numbered(alloc, conn, number)?;
-    if let Err(fault) = reader.edition(row.value) {
+    if let Err(fault) = reader.reader.edition(row.value) {
         return Err(fault_of_rows(fault));
     }
-    read_entries(alloc, conn, number, reader)
+    read_with_derived(alloc, conn, layout_of(version), number, reader)
 }
 
 /// Takes the editions of these numbers, each with its entries.
 pub(crate) fn read_numbers<S: Alter>(
     alloc: Global,
     conn: &mut Connection<S>,
+    version: u64,
     numbers: &[i64],
-    reader: &mut Reader,
+    reader: &mut EditionReader,
 ) -> Result<(), ReadingFault>
-    requires { WhileOpen (state S.Store conn.old) HasTables }
+    requires { WhileOpen (state S.Store conn.old) (HasTables version) }
     ensures reads { OnlyReads (state S.Store conn.old) (state S.Store conn.new) }
     ensures failed { HasCleanDisk (state S.Store conn.new) → IfErr result (IsExcused (state S.Store conn.old) (state S.Store conn.new)) }
     ensures same { HasCleanDisk (state S.Store conn.new) → OnOk result (Same (state S.Store conn.old) (state S.Store conn.new)) }
-    ensures whole { HasCleanDisk (state S.Store conn.new) → OnOk result ((version : ℕ) (front : Tables) → CanRead version (state S.Store conn.old).now reader.old numbers.now front → (after : Tables) × HasTaken version reader.new after × HasRead version (state S.Store conn.old).now numbers.now front after) }
-    ensures damaged { HasCleanDisk (state S.Store conn.new) → IfErr result (λ fault. fault ≡ ReadingFault.Damaged → (version : ℕ) (front : Tables) → CanRead version (state S.Store conn.old).now reader.old numbers.now front → KeepsNone version (state S.Store conn.old).now front.members) }
+    ensures whole { HasCleanDisk (state S.Store conn.new) → OnOk result ((front : Tables) → CanRead version (state S.Store conn.old).now reader.old.reader numbers.now front → (after : Tables) × HasTaken version reader.new.reader after × HasRead version (state S.Store conn.old).now numbers.now front after) }
+    ensures damaged { HasCleanDisk (state S.Store conn.new) → IfErr result (λ fault. fault ≡ ReadingFault.Damaged → (front : Tables) → CanRead version (state S.Store conn.old).now reader.old.reader numbers.now front → KeepsNone version (state S.Store conn.old).now front.members) }
 {
     for number in numbers {
-        read_number(alloc, conn, *number, reader)?;
+        read_number(alloc, conn, version, *number, reader)?;
     }
     Ok(())
 }

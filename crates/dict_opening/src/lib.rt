@@ -2,14 +2,12 @@
 #![tactic(auto)]
 
 mod editions;
-mod fault;
 mod laws;
+mod layout;
 mod opening;
 mod records;
 mod rowids;
-mod scan;
-mod tables;
-mod takers;
+mod strays;
 
 pub use laws::{held_is_marked, one_is_held};
 pub use opening::read_catalogue;

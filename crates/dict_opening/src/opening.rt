@@ -1,54 +1,31 @@
 // A file is opened.
 ghost use Rattle.std.specs.Prelude.{◌≡◌, ◌≢◌, ◌<◌, ◌≤◌, ◌↔◌, ℕ, ℤ, pos, false, IsTrue, map, codes, [], ◌∷◌, IfOk, IfErr, IfSome, IfNone, OnOk, Err};
-ghost use Rattle.std.specs.List.{AllByRecursion};
 ghost use Rattle.sqlite.specs.State.{HasCleanDisk, Survives};
 ghost use Rattle.sqlite.specs.Held.{state};
-ghost use Rattle.dict_tables.specs.Found.{HasOwn};
-ghost use Rattle.dict_tables.specs.Tables.{table_of, store_tables};
 ghost use Rattle.dict_records.specs.Typed.{owned_mark};
 ghost use Rattle.dict_sql.specs.Encodings.{stored_mark};
 ghost use Rattle.dict_sql.specs.Reads.{IsListing};
 ghost use Rattle.dict_catalogue.specs.Steps.{Catalogue, summary_of};
 ghost use Rattle.dict_catalogue.specs.Views.{summary_shown};
 ghost use Rattle.dict_file.specs.Holds.{Holds, Rests};
-ghost use Rattle.dict_file.specs.Room.{MayBecomeShown};
-ghost use Rattle.dict_opening.specs.Reading.{Same, OnlyReads, IsOfOpening, IsExcused, HasFailed, fault_told};
+ghost use Rattle.dict_scans.specs.Reading.{Same, OnlyReads, IsOfOpening, IsExcused, HasFailed, fault_told};
 ghost use Rattle.dict_opening.specs.Opens.{HoldsNone, HoldsNoneAs, HasMark, HasKnownMark, IsMarked, marked};
-ghost use Rattle.dict_rows.specs.Versions.{Plain, layout_of, known, IsVersion};
+ghost use Rattle.dict_rows.specs.Versions.{known, IsVersion};
 
-use crate::fault::ReadingFault;
+use crate::layout::has_layout;
 use crate::records::read_records;
-use crate::rowids::test_all_rowids;
+use crate::rowids::test_other_rowids;
 use dict_catalogue::Summary;
 use dict_desk::Fault;
-use dict_file::{fault_of, may_become_shown};
+use dict_file::fault_of;
 use dict_records::{Mark, Stored};
 use dict_rows::KNOWN_VERSION;
+use dict_scans::ReadingFault;
 use dict_sql::read::marks;
 use dict_sql::records::ReadError;
 use dict_tables::{StoreTable, has_table};
 use sqlite::{Alter, Connection};
-use sqlite_schema::schema::Schema;
 use std::alloc::Global;
-
-/// Whether a schema has all tables.
-fn has_tables(schema: &Schema) -> bool
-    ensures { IsTrue result ↔ AllByRecursion (λ t. HasOwn schema.now (table_of t)) store_tables }
-{
-    has_table(schema, StoreTable::Mark)
-        && has_table(schema, StoreTable::Item)
-        && has_table(schema, StoreTable::Member)
-        && has_table(schema, StoreTable::Edition)
-        && has_table(schema, StoreTable::Entry)
-        && has_table(schema, StoreTable::Kept)
-}
-
-/// Whether a schema has all tables of a version without keys, and leaves room for those that come with keys.
-fn has_layout(schema: &Schema) -> bool
-    ensures { IsTrue result ↔ (AllByRecursion (λ t. HasOwn schema.now (table_of t)) store_tables × MayBecomeShown Plain schema.now) }
-{
-    has_tables(schema) && may_become_shown(schema)
-}
 
 /// The summary of the catalogue that the tables hold, where these are the records of the mark, which is of this version. Editions are read first: what
 /// is read before them leaves less room for their texts.
@@ -58,18 +35,17 @@ fn read_tables<S: Alter>(
     version: u64,
     marks: &[Stored<Mark<String>>],
 ) -> Result<Summary, ReadingFault>
-    requires plain { layout_of version ≡ Plain }
     ensures reads { OnlyReads (state S.Store conn.old) (state S.Store conn.new) }
     ensures failed { HasCleanDisk (state S.Store conn.new) → IfErr result (IsExcused (state S.Store conn.old) (state S.Store conn.new)) }
     ensures same { HasCleanDisk (state S.Store conn.new) → OnOk result (Same (state S.Store conn.old) (state S.Store conn.new)) }
     ensures holds { HasCleanDisk (state S.Store conn.new) → IfOk result (λ summary. IsListing (codes "mark") (1 ∷ []) (state S.Store conn.old).now (map stored_mark marks.now) → (M : Catalogue) × Holds version (state S.Store conn.old).now M × (summary_of M ≡ summary_shown summary)) }
     ensures damaged { HasCleanDisk (state S.Store conn.new) → IfErr result (λ fault. fault ≡ ReadingFault.Damaged → IsListing (codes "mark") (1 ∷ []) (state S.Store conn.old).now (map stored_mark marks.now) → HoldsNoneAs version (state S.Store conn.old).now) }
 {
-    if !has_layout(conn.schema()) {
+    if !has_layout(conn.schema(), version) {
         return Err(ReadingFault::Damaged);
     }
     let summary = read_records(alloc, conn, version, marks)?;
-    test_all_rowids(alloc, conn)?;
+    test_other_rowids(alloc, conn, version)?;
     Ok(summary)
 }
 
@@ -161,16 +137,20 @@ fn told(fault: ReadingFault) -> Fault
     }
 }
 
-/// Reads a file whole, and gives the summary of the catalogue that it holds. Nothing is written. It takes memory by the
+/// Reads a file whole, and gives its version and the summary of the catalogue that it holds. Nothing is written. It takes memory by the
 /// largest edition, and not by their sum.
 ///
 /// `NotACatalogue` tells that there is no readable mark, `NewerSchema` that the mark is of a version above the known one,
-/// and `Damaged` that the mark is readable and of a known version, and the tables hold no catalogue, or the names of
-/// the tables that come with keys are in use by others: they are tested in
+/// and `Damaged` that the mark is readable and of a known version, and the tables that this version has hold no catalogue, or, in a
+/// file of an older version, the names of the tables that come with the last one are in use by others: they are tested in
 /// this order. `Memory` tells that a growth was refused, and `Disk` that the disk failed, or that the limit on steps was met.
-pub fn read_catalogue<S: Alter>(alloc: Global, conn: &mut Connection<S>) -> Result<Summary, Fault>
+pub fn read_catalogue<S: Alter>(
+    alloc: Global,
+    conn: &mut Connection<S>,
+) -> Result<(u64, Summary), Fault>
     requires { conn.old.in_transaction ≡ false }
-    ensures rests { HasCleanDisk (state S.Store conn.new) → IfOk result (λ summary. (M : Catalogue) × Rests known (state S.Store conn.new) M × (summary_of M ≡ summary_shown summary)) }
+    ensures rests { HasCleanDisk (state S.Store conn.new) → IfOk result (λ found. (M : Catalogue) × Rests found.0 (state S.Store conn.new) M × (summary_of M ≡ summary_shown found.1)) }
+    ensures known { IfOk result (λ found. IsVersion found.0) }
     ensures damaged { HasCleanDisk (state S.Store conn.new) → result ≡ Err Fault.Damaged → HasKnownMark (state S.Store conn.old).now × HoldsNone (state S.Store conn.old).now }
     ensures newer { HasCleanDisk (state S.Store conn.new) → result ≡ Err Fault.NewerSchema → (version : ℕ) × HasMark (state S.Store conn.old).now version × (known < version) }
     ensures none { HasCleanDisk (state S.Store conn.new) → result ≡ Err Fault.NotACatalogue → (version : ℕ) → HasMark (state S.Store conn.old).now version → ⊥ }
@@ -187,7 +167,7 @@ pub fn read_catalogue<S: Alter>(alloc: Global, conn: &mut Connection<S>) -> Resu
     }
     let (version, marks) = read_mark(alloc, conn)?;
     match read_tables(alloc, conn, version, &marks) {
-        Ok(summary) => Ok(summary),
+        Ok(summary) => Ok((version, summary)),
         Err(fault) => Err(told(fault)),
     }
 }

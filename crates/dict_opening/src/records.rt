@@ -1,23 +1,24 @@
 // The records of all tables, and the catalogue that they stand for.
-ghost use Rattle.std.specs.Prelude.{◌≡◌, ℕ, ◌<◌, ◌↔◌, IsTrue, map, codes, [], ◌∷◌, IfOk, IfErr, OnOk, Err};
+ghost use Rattle.std.specs.Prelude.{◌≡◌, ℕ, map, codes, [], ◌∷◌, IfOk, IfErr, OnOk};
 ghost use Rattle.sqlite.specs.State.{HasCleanDisk};
 ghost use Rattle.sqlite.specs.Held.{state};
-ghost use Rattle.dict_sql.specs.Effects.{Has, WhileOpen};
+ghost use Rattle.dict_sql.specs.Effects.{WhileOpen};
 ghost use Rattle.dict_sql.specs.Encodings.{stored_mark};
 ghost use Rattle.dict_sql.specs.Reads.{IsListing};
-ghost use Rattle.dict_rows.specs.Versions.{Plain, layout_of};
 ghost use Rattle.dict_rows.specs.Tables.{Tables};
 ghost use Rattle.dict_rows.specs.Taken.{HasTaken};
 ghost use Rattle.dict_catalogue.specs.Views.{summary_shown};
-ghost use Rattle.dict_opening.specs.Reading.{Same, OnlyReads, IsExcused};
+ghost use Rattle.dict_scans.specs.Reading.{Same, OnlyReads, IsExcused};
 ghost use Rattle.dict_opening.specs.Opens.{HasTables, KeepsNone, HoldsNoneAs, HasBegun, Fits, HasNamed, AreAllKnown, HasReplies, HasAll, HasSummary};
 
 use crate::editions::read_numbers;
-use crate::fault::{ReadingFault, fault_of_read, fault_of_rows};
-use crate::tables::{read_replies, test_editions, test_entries, test_ids};
+use crate::strays::test_strays;
 use dict_catalogue::Summary;
 use dict_records::{Mark, Stored};
 use dict_rows::Reader;
+use dict_scans::{
+    EditionReader, ReadingFault, fault_of_read, fault_of_rows, read_replies, test_ids,
+};
 use dict_sql::read::{items, members};
 use sqlite::{Alter, Connection};
 use std::alloc::Global;
@@ -29,8 +30,7 @@ fn begin<S: Alter>(
     version: u64,
     marks: &[Stored<Mark<String>>],
 ) -> Result<Reader, ReadingFault>
-    requires plain { layout_of version ≡ Plain }
-    requires tables { WhileOpen (state S.Store conn.old) HasTables }
+    requires { WhileOpen (state S.Store conn.old) (HasTables version) }
     ensures reads { OnlyReads (state S.Store conn.old) (state S.Store conn.new) }
     ensures failed { HasCleanDisk (state S.Store conn.new) → IfErr result (IsExcused (state S.Store conn.old) (state S.Store conn.new)) }
     ensures same { HasCleanDisk (state S.Store conn.new) → OnOk result (Same (state S.Store conn.old) (state S.Store conn.new)) }
@@ -55,51 +55,36 @@ fn begin<S: Alter>(
 fn read_named<S: Alter>(
     alloc: Global,
     conn: &mut Connection<S>,
-    reader: &mut Reader,
+    version: u64,
+    reader: &mut EditionReader,
 ) -> Result<(), ReadingFault>
-    requires { WhileOpen (state S.Store conn.old) HasTables }
+    requires { WhileOpen (state S.Store conn.old) (HasTables version) }
     ensures reads { OnlyReads (state S.Store conn.old) (state S.Store conn.new) }
     ensures failed { HasCleanDisk (state S.Store conn.new) → IfErr result (IsExcused (state S.Store conn.old) (state S.Store conn.new)) }
     ensures same { HasCleanDisk (state S.Store conn.new) → OnOk result (Same (state S.Store conn.old) (state S.Store conn.new)) }
-    ensures named { HasCleanDisk (state S.Store conn.new) → OnOk result ((version : ℕ) (front : Tables) → HasTaken version reader.old front → HasBegun version (state S.Store conn.old).now front → (after : Tables) × HasTaken version reader.new after × HasNamed version (state S.Store conn.old).now reader.old front after) }
-    ensures damaged { HasCleanDisk (state S.Store conn.new) → IfErr result (λ fault. fault ≡ ReadingFault.Damaged → (version : ℕ) (front : Tables) → HasTaken version reader.old front → HasBegun version (state S.Store conn.old).now front → HoldsNoneAs version (state S.Store conn.old).now) }
+    ensures named { HasCleanDisk (state S.Store conn.new) → OnOk result ((front : Tables) → HasTaken version reader.old.reader front → HasBegun version (state S.Store conn.old).now front → (after : Tables) × HasTaken version reader.new.reader after × HasNamed version (state S.Store conn.old).now reader.old.reader front after) }
+    ensures damaged { HasCleanDisk (state S.Store conn.new) → IfErr result (λ fault. fault ≡ ReadingFault.Damaged → (front : Tables) → HasTaken version reader.old.reader front → HasBegun version (state S.Store conn.old).now front → HoldsNoneAs version (state S.Store conn.old).now) }
 {
-    let numbers = match reader.numbers(alloc) {
+    let numbers = match reader.reader.numbers(alloc) {
         Ok(numbers) => numbers,
         Err(fault) => return Err(fault_of_rows(fault)),
     };
-    read_numbers(alloc, conn, &numbers, reader)
-}
-
-/// Tests that no edition is there that no item names, and no entry of such an edition.
-fn test_named<S: Alter>(
-    alloc: Global,
-    conn: &mut Connection<S>,
-    reader: &Reader,
-) -> Result<(), ReadingFault>
-    requires { WhileOpen (state S.Store conn.old) HasTables }
-    ensures reads { OnlyReads (state S.Store conn.old) (state S.Store conn.new) }
-    ensures failed { HasCleanDisk (state S.Store conn.new) → IfErr result (IsExcused (state S.Store conn.old) (state S.Store conn.new)) }
-    ensures same { HasCleanDisk (state S.Store conn.new) → OnOk result (Same (state S.Store conn.old) (state S.Store conn.new)) }
-    ensures known { HasCleanDisk (state S.Store conn.new) → OnOk result (AreAllKnown (state S.Store conn.old).now reader.now) }
-    ensures damaged { HasCleanDisk (state S.Store conn.new) → IfErr result (λ fault. fault ≡ ReadingFault.Damaged → (version : ℕ) (taken : Tables) → HasTaken version reader.now taken → Fits version (state S.Store conn.old).now taken → KeepsNone version (state S.Store conn.old).now taken.members) }
-{
-    test_editions(alloc, conn, reader)?;
-    test_entries(alloc, conn, reader)
+    read_numbers(alloc, conn, version, &numbers, reader)
 }
 
 /// Takes all kept replies, no two of which have one id.
 fn read_kept<S: Alter>(
     alloc: Global,
     conn: &mut Connection<S>,
+    version: u64,
     reader: &mut Reader,
 ) -> Result<(), ReadingFault>
-    requires { WhileOpen (state S.Store conn.old) HasTables }
+    requires { WhileOpen (state S.Store conn.old) (HasTables version) }
     ensures reads { OnlyReads (state S.Store conn.old) (state S.Store conn.new) }
     ensures failed { HasCleanDisk (state S.Store conn.new) → IfErr result (IsExcused (state S.Store conn.old) (state S.Store conn.new)) }
     ensures same { HasCleanDisk (state S.Store conn.new) → OnOk result (Same (state S.Store conn.old) (state S.Store conn.new)) }
-    ensures replies { HasCleanDisk (state S.Store conn.new) → OnOk result ((version : ℕ) (taken : Tables) → HasTaken version reader.old taken → (after : Tables) × HasTaken version reader.new after × HasReplies (state S.Store conn.old).now taken after) }
-    ensures damaged { HasCleanDisk (state S.Store conn.new) → IfErr result (λ fault. fault ≡ ReadingFault.Damaged → (version : ℕ) (taken : Tables) → HasTaken version reader.old taken → Fits version (state S.Store conn.old).now taken → taken.kept ≡ [] → KeepsNone version (state S.Store conn.old).now taken.members) }
+    ensures replies { HasCleanDisk (state S.Store conn.new) → OnOk result ((taken : Tables) → HasTaken version reader.old taken → (after : Tables) × HasTaken version reader.new after × HasReplies (state S.Store conn.old).now taken after) }
+    ensures damaged { HasCleanDisk (state S.Store conn.new) → IfErr result (λ fault. fault ≡ ReadingFault.Damaged → (taken : Tables) → HasTaken version reader.old taken → Fits version (state S.Store conn.old).now taken → taken.kept ≡ [] → KeepsNone version (state S.Store conn.old).now taken.members) }
 {
     read_replies(alloc, conn, reader)?;
     test_ids(alloc, conn)
@@ -109,18 +94,19 @@ fn read_kept<S: Alter>(
 fn read_all<S: Alter>(
     alloc: Global,
     conn: &mut Connection<S>,
-    reader: &mut Reader,
+    version: u64,
+    reader: &mut EditionReader,
 ) -> Result<(), ReadingFault>
-    requires { WhileOpen (state S.Store conn.old) HasTables }
+    requires { WhileOpen (state S.Store conn.old) (HasTables version) }
     ensures reads { OnlyReads (state S.Store conn.old) (state S.Store conn.new) }
     ensures failed { HasCleanDisk (state S.Store conn.new) → IfErr result (IsExcused (state S.Store conn.old) (state S.Store conn.new)) }
     ensures same { HasCleanDisk (state S.Store conn.new) → OnOk result (Same (state S.Store conn.old) (state S.Store conn.new)) }
-    ensures all { HasCleanDisk (state S.Store conn.new) → OnOk result ((version : ℕ) (front : Tables) → HasTaken version reader.old front → HasBegun version (state S.Store conn.old).now front → (after : Tables) × HasTaken version reader.new after × HasAll version (state S.Store conn.old).now front after) }
-    ensures damaged { HasCleanDisk (state S.Store conn.new) → IfErr result (λ fault. fault ≡ ReadingFault.Damaged → (version : ℕ) (front : Tables) → HasTaken version reader.old front → HasBegun version (state S.Store conn.old).now front → HoldsNoneAs version (state S.Store conn.old).now) }
+    ensures all { HasCleanDisk (state S.Store conn.new) → OnOk result ((front : Tables) → HasTaken version reader.old.reader front → HasBegun version (state S.Store conn.old).now front → (after : Tables) × HasTaken version reader.new.reader after × HasAll version (state S.Store conn.old).now reader.old.reader front after) }
+    ensures damaged { HasCleanDisk (state S.Store conn.new) → IfErr result (λ fault. fault ≡ ReadingFault.Damaged → (front : Tables) → HasTaken version reader.old.reader front → HasBegun version (state S.Store conn.old).now front → HoldsNoneAs version (state S.Store conn.old).now) }
 {
-    test_named(alloc, conn, reader)?;
-    read_named(alloc, conn, reader)?;
-    read_kept(alloc, conn, reader)
+    test_strays(alloc, conn, version, &reader.reader)?;
+    read_named(alloc, conn, version, reader)?;
+    read_kept(alloc, conn, version, &mut reader.reader)
 }
 
 /// The summary of the catalogue that the records of all tables stand for, where these are those of the mark, which is of this version.
@@ -130,17 +116,20 @@ pub(crate) fn read_records<S: Alter>(
     version: u64,
     marks: &[Stored<Mark<String>>],
 ) -> Result<Summary, ReadingFault>
-    requires plain { layout_of version ≡ Plain }
-    requires tables { WhileOpen (state S.Store conn.old) HasTables }
+    requires { WhileOpen (state S.Store conn.old) (HasTables version) }
     ensures reads { OnlyReads (state S.Store conn.old) (state S.Store conn.new) }
     ensures failed { HasCleanDisk (state S.Store conn.new) → IfErr result (IsExcused (state S.Store conn.old) (state S.Store conn.new)) }
     ensures same { HasCleanDisk (state S.Store conn.new) → OnOk result (Same (state S.Store conn.old) (state S.Store conn.new)) }
     ensures stands { HasCleanDisk (state S.Store conn.new) → IfOk result (λ summary. IsListing (codes "mark") (1 ∷ []) (state S.Store conn.old).now (map stored_mark marks.now) → HasSummary version (state S.Store conn.old).now (summary_shown summary)) }
     ensures damaged { HasCleanDisk (state S.Store conn.new) → IfErr result (λ fault. fault ≡ ReadingFault.Damaged → IsListing (codes "mark") (1 ∷ []) (state S.Store conn.old).now (map stored_mark marks.now) → HoldsNoneAs version (state S.Store conn.old).now) }
 {
-    let mut reader = begin(alloc, conn, version, marks)?;
-    read_all(alloc, conn, &mut reader)?;
-    match reader.finish() {
+    let reader = begin(alloc, conn, version, marks)?;
+    let mut reader = EditionReader {
+        reader,
+        keys: Vec::new(alloc),
+    };
+    read_all(alloc, conn, version, &mut reader)?;
+    match reader.reader.finish() {
         Ok(summary) => Ok(summary),
         Err(fault) => Err(fault_of_rows(fault)),
     }

@@ -1,5 +1,5 @@
 // A desk over a database that holds a catalogue.
-ghost use Rattle.std.specs.Prelude.{◌≡◌, ◌↔◌, ◌||◌, false, true, Some, None, [], ◌∷◌, IsTrue, IfOk, IfErr, Err};
+ghost use Rattle.std.specs.Prelude.{◌≡◌, ◌<◌, ◌↔◌, ◌||◌, ℕ, false, true, Some, None, [], ◌∷◌, IsTrue, IfOk, IfErr, Err};
 ghost use Rattle.sqlite.specs.State.{HasCleanDisk, IsLive, Survives};
 ghost use Rattle.sqlite.specs.Held.{state};
 ghost use Rattle.dict_catalogue.specs.Steps.{Catalogue, summary_of};
@@ -7,6 +7,7 @@ ghost use Rattle.dict_catalogue.specs.Views.{summary_shown};
 ghost use Rattle.dict_file.specs.Holds.{IsHeld, IsLeft, Rests};
 ghost use Rattle.dict_commands.specs.Changes.{IsInRange};
 ghost use Rattle.dict_desk.specs.Faults.{has_closed_by, has_failed_by};
+ghost use Rattle.dict_opening.specs.Opens.{HasMark, HasKnownMark, HoldsNone};
 ghost use Rattle.dict_opening.specs.Reading.{IsOfOpening, HasFailed};
 ghost use Rattle.dict_store.specs.Desk.{Shows, LeavesOneOf, is_closed, has_failed};
 ghost use Rattle.dict_store.specs.Opened.{IsTold, IsNotHeld, IsNotLeft, HoldsItsTrees};
@@ -39,6 +40,27 @@ pub(crate) fn is_whole<S: Alter>(conn: &Connection<S>)
     let _schema = conn.schema();
 }
 
+// Reads a database whole: the summary of the catalogue that it holds under the known version, the only one that is opened yet.
+fn read_known<S: Alter>(alloc: Global, conn: &mut Connection<S>) -> Result<Summary, Fault>
+    requires { conn.old.in_transaction ≡ false }
+    ensures rests { HasCleanDisk (state S.Store conn.new) → IfOk result (λ summary. (M : Catalogue) × Rests known (state S.Store conn.new) M × (summary_of M ≡ summary_shown summary)) }
+    ensures damaged { HasCleanDisk (state S.Store conn.new) → result ≡ Err Fault.Damaged → HasKnownMark (state S.Store conn.old).now × HoldsNone (state S.Store conn.old).now }
+    ensures newer { HasCleanDisk (state S.Store conn.new) → result ≡ Err Fault.NewerSchema → (version : ℕ) × HasMark (state S.Store conn.old).now version × (known < version) }
+    ensures none { HasCleanDisk (state S.Store conn.new) → result ≡ Err Fault.NotACatalogue → (version : ℕ) → HasMark (state S.Store conn.old).now version → ⊥ }
+    ensures lives { HasCleanDisk (state S.Store conn.new) → IsTrue (state S.Store conn.new).is_open → IsTrue (state S.Store conn.old).is_open }
+    ensures kinds { IfErr result IsOfOpening }
+    ensures failed { HasCleanDisk (state S.Store conn.new) → result ≡ Err Fault.Disk → HasFailed (state S.Store conn.old) (state S.Store conn.new) }
+    ensures now { HasCleanDisk (state S.Store conn.new) → IsTrue (state S.Store conn.new).is_open → (state S.Store conn.new).now ≡ (state S.Store conn.old).now }
+    ensures committed { HasCleanDisk (state S.Store conn.new) → IsTrue (state S.Store conn.new).is_open → (state S.Store conn.new).committed ≡ (state S.Store conn.old).committed }
+    ensures autocommit { (state S.Store conn.new).in_transaction ≡ false }
+    ensures survives { Survives (state S.Store conn.old) (state S.Store conn.new) (λ _. ⊥) }
+{
+    match read_catalogue(alloc, conn) {
+        Ok((_, summary)) => Ok(summary),
+        Err(fault) => Err(fault),
+    }
+}
+
 // Reads a database whole: the summary of the catalogue that it holds. Nothing is written.
 fn read<S: Alter>(alloc: Global, conn: &mut Connection<S>) -> Result<Summary, Fault>
     requires { conn.old.in_transaction ≡ false }
@@ -58,7 +80,7 @@ fn read<S: Alter>(alloc: Global, conn: &mut Connection<S>) -> Result<Summary, Fa
     held_is_marked();
     one_is_held();
     summaries_in_range();
-    let summary = read_catalogue(alloc, conn)?;
+    let summary = read_known(alloc, conn)?;
     let within = is_in_range(alloc, &summary)?;
     if !within {
         return Err(Fault::Disk);

@@ -6,8 +6,8 @@ use Rattle.dict_sql.specs.Effects.{equals_number}
 use Rattle.dict_sql.specs.Encodings.{stored_edition}
 use Rattle.dict_sql.specs.Reads.{IsSelection}
 use Rattle.dict_opening.proofs.NoneLemmas.{one_item}
-use Rattle.dict_opening.specs.Reading.{IsExcused}
-use Rattle.dict_opening.proofs.CauseLemmas.{list_cause}
+use Rattle.dict_scans.specs.Reading.{IsExcused}
+use Rattle.dict_scans.proofs.CauseLemmas.{list_cause}
 use Rattle.dict_sql.specs.Columns.{edition_columns}
 use Rattle.dict_opening.proofs.editions.edition_numbered.Goals as goal
 

@@ -3,7 +3,7 @@ use Rattle.sqlite.specs.State.{HasCleanDisk, Survives}
 use Rattle.sqlite.specs.Held.{state}
 use Rattle.dict_rows.specs.Tables.{Tables}
 use Rattle.dict_rows.specs.Taken.{HasTaken}
-use Rattle.dict_opening.specs.Reading.{Same}
+use Rattle.dict_scans.specs.Reading.{Same}
 use Rattle.dict_opening.specs.Opens.{CanRead, HasRead}
 use Rattle.dict_opening.proofs.editions.read_numbers.Given as goal
 
@@ -15,5 +15,5 @@ invariant-loop-number g l =
       mode : old.in_transaction ≡ false → now.in_transaction ≡ false;
       survives : Survives old now (λ _. ⊥);
       same : HasCleanDisk now → Same old now;
-      read : HasCleanDisk now → (version : ℕ) (front : Tables) → CanRead version old.now l.fn.reader l.numbers front → (after : Tables) × HasTaken version l.reader after × HasRead version old.now (take l.number-index l.numbers) front after;
+      read : HasCleanDisk now → (front : Tables) → CanRead l.version old.now l.fn.reader.reader l.numbers front → (after : Tables) × HasTaken l.version l.reader.reader after × HasRead l.version old.now (take l.number-index l.numbers) front after;
     }

@@ -8,21 +8,17 @@ use Rattle.dict_sql.specs.Reads.{IsListing}
 use Rattle.dict_file.specs.Holds.{Holds}
 use Rattle.dict_desk.specs.declared.fault.Fault.TheVariants as desk
 use Rattle.dict_opening.specs.Opens.{HoldsNoneAs}
-use Rattle.dict_opening.proofs.HeldLemmas.{only_known, plain_version}
-use Rattle.dict_opening.proofs.StateLemmas.{clean_before, reads_then}
+use Rattle.dict_scans.proofs.StateLemmas.{clean_before, reads_then}
 use Rattle.dict_opening.proofs.MarkLemmas.{err_is, told_damaged, none_held, MarkRow}
-use Rattle.dict_opening.specs.declared.fault.ReadingFault.TheVariants.{Disk}
-use Rattle.dict_opening.specs.Reading.{IsExcused}
-use Rattle.dict_opening.proofs.CauseLemmas.{cause_then, told_disk}
+use Rattle.dict_scans.specs.declared.fault.ReadingFault.TheVariants.{Disk}
+use Rattle.dict_scans.specs.Reading.{IsExcused}
+use Rattle.dict_scans.proofs.CauseLemmas.{cause_then}
+use Rattle.dict_opening.proofs.FaultLemmas.{told_disk}
 use Rattle.dict_opening.proofs.opening.read_catalogue.Goals as goal
-use Rattle.dict_rows.specs.Versions.{known}
 
 pub returns-in_err-version-clause-none : goal.returns-in_err-version-clause-none
 returns-in_err-version-clause-none g c clean is =
     c.read_mark.ensures.none clean (c.in_err-version.was ∙ ap Err (err_is c.from_residual.result c.in_err-version.field-0.0 _ c.from_residual.ensures.1 is))
-
-pub read_tables-requires : goal.read_tables-requires
-read_tables-requires g c = record { plain = plain_version c.in_ok-version.version c.in_ok-version.ensures.known }
 
 pub returns-in-Ok-clause-survives : goal.returns-in-Ok-clause-survives
 returns-in-Ok-clause-survives g c =
@@ -44,8 +40,7 @@ returns-in-Ok-clause-rests g c clean =
     let settled = c.is_autocommit.ensures.settled auto' open' in
     let one = then.now ∙ first.0.now in
     let two = then.committed ∙ first.0.committed in
-    let known' : Holds known mid.now found.0 = subst (λ v. Holds v mid.now found.0) (only_known c.in_ok-version.version c.in_ok-version.ensures.known) found.1 in
-    (found.0, record { is_open = then.is_open ∙ first.1; settled = one ∙ settled ∙ sym two; holds = subst (λ (d : Database). Holds known d found.0) (first.0.now ∙ settled ∙ sym two) known' }, found.2)
+    (found.0, record { is_open = then.is_open ∙ first.1; settled = one ∙ settled ∙ sym two; holds = subst (λ (d : Database). Holds c.in_ok-version.version d found.0) (first.0.now ∙ settled ∙ sym two) found.1 }, found.2)
 
 pub returns-clause-damaged : goal.returns-clause-damaged
 returns-clause-damaged g c clean is =

@@ -4,7 +4,7 @@ use Rattle.dict_tables.specs.Found.{HasOwn}
 use Rattle.dict_tables.specs.Tables.{mark}
 use Rattle.dict_opening.specs.Opens.{HasMark, IsMarked}
 use Rattle.dict_opening.proofs.MarkLemmas.{has_mark, is_marked, no_record, MarkRow}
-use Rattle.dict_opening.proofs.CauseLemmas.{desk_cause}
+use Rattle.dict_opening.proofs.FaultLemmas.{desk_cause}
 use Rattle.dict_desk.specs.declared.fault.Fault.TheVariants as desk
 use Rattle.dict_sql.specs.Columns.{mark_columns}
 use Rattle.dict_sql.specs.Effects.{rows_of}

@@ -2,37 +2,33 @@ use Rattle.std.proofs.Common.{◌≡◌, [], ◌∷◌, map, codes, rules, sym, 
 use Rattle.std.specs.Prelude.{IsTrue}
 use Rattle.std.specs.List.{AllByRecursion}
 use Rattle.sqlite.specs.Schema.{Schema}
-use Rattle.dict_tables.specs.Found.{HasOwn}
-use Rattle.dict_tables.specs.Tables.{table_of, store_tables}
 use Rattle.sqlite.specs.Effect.{Database}
 use Rattle.sqlite.specs.State.{HasCleanDisk}
 use Rattle.sqlite.specs.Held.{state}
-use Rattle.dict_file.specs.Holds.{Holds}
 use Rattle.dict_sql.specs.Encodings.{stored_mark}
 use Rattle.dict_sql.specs.Reads.{IsListing}
 use Rattle.dict_sql.proofs.StreamLemmas.{passed_on}
-use Rattle.dict_opening.specs.declared.fault.ReadingFault.{ReadingFault}
-use Rattle.dict_opening.specs.declared.fault.ReadingFault.TheVariants.{Damaged}
-use Rattle.dict_opening.specs.Opens.{HasTables, HasRowidsApart, HoldsNoneAs}
-use Rattle.dict_file.proofs.ReadableLemmas.{held_rows}
-use Rattle.dict_file.proofs.ReadingLemmas.{plain_of}
-use Rattle.dict_file.specs.Room.{MayBecomeShown}
-use Rattle.dict_rows.specs.Versions.{Plain}
-use Rattle.dict_opening.proofs.MarkLemmas.{none_without, holds_of}
-use Rattle.dict_opening.proofs.StateLemmas.{clean_before, reads_then, while_same}
-use Rattle.dict_opening.proofs.CauseLemmas.{cause_passed, cause_later}
+use Rattle.dict_rows.specs.Versions.{layout_of}
+use Rattle.dict_file.specs.Holds.{Holds, HasLayout}
+use Rattle.dict_file.proofs.ReadableLemmas.{held_readable}
+use Rattle.dict_scans.specs.declared.fault.ReadingFault.{ReadingFault}
+use Rattle.dict_scans.specs.declared.fault.ReadingFault.TheVariants.{Damaged}
+use Rattle.dict_scans.proofs.CauseLemmas.{cause_passed, cause_later}
+use Rattle.dict_scans.proofs.StateLemmas.{clean_before, reads_then, while_same}
+use Rattle.dict_opening.specs.Opens.{HasTables, HasOthersApart, HoldsNoneAs}
+use Rattle.dict_opening.proofs.HoldLemmas.{holds_of, none_without, others_apart}
 use Rattle.dict_opening.proofs.opening.read_tables.Goals as goal
 
-pub read_records-requires-clause-tables : goal.read_records-requires-clause-tables
-read_records-requires-clause-tables g c = λ clean o.
+pub read_records-requires : goal.read_records-requires
+read_records-requires g c = λ clean o.
     let yes : IsTrue c.has_layout.result = search rules in
-    subst (λ (s : Schema). AllByRecursion (λ t. HasOwn s (table_of t)) store_tables) c.schema.ensures.value (c.has_layout.ensures.0 yes).0
+    (subst (HasLayout (layout_of c.args.version)) c.schema.ensures.value (c.has_layout.ensures.0 yes)).tables
 
 pub returns-then-not-has_layout-clause-damaged : goal.returns-then-not-has_layout-clause-damaged
 returns-then-not-has_layout-clause-damaged g c = λ clean is listed.
     let old = state g.S.Store c.args.conn.now in
-    none_without c.args.version old.now c.requires.plain (λ own room.
-    let there = c.has_layout.ensures.1 (subst (λ (s : Schema). AllByRecursion (λ t. HasOwn s (table_of t)) store_tables × MayBecomeShown Plain s) (sym c.schema.ensures.value) (own, room)) in
+    none_without c.args.version old.now (λ own.
+    let there = c.has_layout.ensures.1 (subst (HasLayout (layout_of c.args.version)) (sym c.schema.ensures.value) own) in
     let wrong : ⊥ = cc in wrong)
 
 pub returns-in_err-summary-clause-damaged : goal.returns-in_err-summary-clause-damaged
@@ -41,49 +37,47 @@ returns-in_err-summary-clause-damaged g c clean =
     let wrong : (fault : ReadingFault) → Type 0 = λ fault. fault ≡ Damaged → IsListing (codes "mark") (1 ∷ []) old.now (map stored_mark c.args.marks.now) → HoldsNoneAs c.args.version old.now in
     passed_on wrong c.in_err-summary.field-0.0 c.from_residual.result c.from_residual.ensures.1 (c.in_err-summary.ensures.damaged clean)
 
-pub test_all_rowids-requires : goal.test_all_rowids-requires
-test_all_rowids-requires g c =
+pub test_other_rowids-requires : goal.test_other_rowids-requires
+test_other_rowids-requires g c =
     let yes : IsTrue c.has_layout.result = search rules in
-    while_same HasTables (state g.S.Store c.args.conn.now) (state g.S.Store c.read_records.new.conn) c.read_records.ensures.reads.survives c.in_ok-summary.ensures.same
-    (λ clean o. subst (λ (s : Schema). AllByRecursion (λ t. HasOwn s (table_of t)) store_tables) c.schema.ensures.value (c.has_layout.ensures.0 yes).0)
+    while_same (HasTables c.args.version) (state g.S.Store c.args.conn.now) (state g.S.Store c.read_records.new.conn) c.read_records.ensures.reads.survives c.in_ok-summary.ensures.same
+    (λ clean o. (subst (HasLayout (layout_of c.args.version)) c.schema.ensures.value (c.has_layout.ensures.0 yes)).tables)
 
-pub returns-in_err-test_all_rowids-clause-reads : goal.returns-in_err-test_all_rowids-clause-reads
-returns-in_err-test_all_rowids-clause-reads g c = reads_then (state g.S.Store c.args.conn.now) (state g.S.Store c.read_records.new.conn) (state g.S.Store c.test_all_rowids.new.conn) c.read_records.ensures.reads c.test_all_rowids.ensures.reads
+pub returns-in_err-test_other_rowids-clause-reads : goal.returns-in_err-test_other_rowids-clause-reads
+returns-in_err-test_other_rowids-clause-reads g c = reads_then (state g.S.Store c.args.conn.now) (state g.S.Store c.read_records.new.conn) (state g.S.Store c.test_other_rowids.new.conn) c.read_records.ensures.reads c.test_other_rowids.ensures.reads
 
 pub returns-clause-reads : goal.returns-clause-reads
-returns-clause-reads g c = reads_then (state g.S.Store c.args.conn.now) (state g.S.Store c.read_records.new.conn) (state g.S.Store c.test_all_rowids.new.conn) c.read_records.ensures.reads c.test_all_rowids.ensures.reads
+returns-clause-reads g c = reads_then (state g.S.Store c.args.conn.now) (state g.S.Store c.read_records.new.conn) (state g.S.Store c.test_other_rowids.new.conn) c.read_records.ensures.reads c.test_other_rowids.ensures.reads
 
-pub returns-in_err-test_all_rowids-clause-damaged : goal.returns-in_err-test_all_rowids-clause-damaged
-returns-in_err-test_all_rowids-clause-damaged g c clean =
+pub returns-in_err-test_other_rowids-clause-damaged : goal.returns-in_err-test_other_rowids-clause-damaged
+returns-in_err-test_other_rowids-clause-damaged g c clean =
     let old = state g.S.Store c.args.conn.now in
     let mid = state g.S.Store c.read_records.new.conn in
-    let new = state g.S.Store c.test_all_rowids.new.conn in
-    let early : HasCleanDisk mid = clean_before old mid new c.test_all_rowids.ensures.reads.survives clean in
+    let new = state g.S.Store c.test_other_rowids.new.conn in
+    let early : HasCleanDisk mid = clean_before old mid new c.test_other_rowids.ensures.reads.survives clean in
     let same = (c.in_ok-summary.ensures.same early).now in
     let wrong : (fault : ReadingFault) → Type 0 = λ fault. fault ≡ Damaged → IsListing (codes "mark") (1 ∷ []) old.now (map stored_mark c.args.marks.now) → HoldsNoneAs c.args.version old.now in
-    passed_on wrong c.in_err-test_all_rowids.field-0.0 c.from_residual-in_err-test_all_rowids.result c.from_residual-in_err-test_all_rowids.ensures.1
+    passed_on wrong c.in_err-test_other_rowids.field-0.0 c.from_residual-in_err-test_other_rowids.result c.from_residual-in_err-test_other_rowids.ensures.1
     (λ is lm M h.
-    let k = plain_of c.args.version old.now M c.requires.plain h in
-    c.in_err-test_all_rowids.ensures.damaged clean is (held_rows c.args.version mid.now M c.requires.plain (subst (λ (d : Database). Holds c.args.version d M) (sym same) h))
-    (subst (HasRowidsApart Plain) (sym same)
-    (k.marks.apart, (k.items.apart, (k.members.apart, (k.editions.apart, (k.entries.apart, (k.kept.apart, tt))))))))
+    c.in_err-test_other_rowids.ensures.damaged clean is (held_readable c.args.version mid.now M (subst (λ (d : Database). Holds c.args.version d M) (sym same) h))
+    (subst HasOthersApart (sym same) (others_apart c.args.version old.now M h)))
 
 pub returns-in_err-summary-clause-failed : goal.returns-in_err-summary-clause-failed
 returns-in_err-summary-clause-failed g c clean =
     cause_passed (state g.S.Store c.args.conn.now) (state g.S.Store c.read_records.new.conn) c.in_err-summary.field-0.0 c.from_residual.result c.from_residual.ensures.1 (c.in_err-summary.ensures.failed clean)
 
-pub returns-in_err-test_all_rowids-clause-failed : goal.returns-in_err-test_all_rowids-clause-failed
-returns-in_err-test_all_rowids-clause-failed g c clean =
-    cause_later (state g.S.Store c.args.conn.now) (state g.S.Store c.read_records.new.conn) (state g.S.Store c.test_all_rowids.new.conn) c.in_err-test_all_rowids.field-0.0 c.from_residual-in_err-test_all_rowids.result c.from_residual-in_err-test_all_rowids.ensures.1 c.read_records.ensures.reads.survives c.test_all_rowids.ensures.reads.survives
-    c.in_ok-summary.ensures.same clean (c.in_err-test_all_rowids.ensures.failed clean)
+pub returns-in_err-test_other_rowids-clause-failed : goal.returns-in_err-test_other_rowids-clause-failed
+returns-in_err-test_other_rowids-clause-failed g c clean =
+    cause_later (state g.S.Store c.args.conn.now) (state g.S.Store c.read_records.new.conn) (state g.S.Store c.test_other_rowids.new.conn) c.in_err-test_other_rowids.field-0.0 c.from_residual-in_err-test_other_rowids.result c.from_residual-in_err-test_other_rowids.ensures.1 c.read_records.ensures.reads.survives c.test_other_rowids.ensures.reads.survives
+    c.in_ok-summary.ensures.same clean (c.in_err-test_other_rowids.ensures.failed clean)
 
 pub returns-clause-holds : goal.returns-clause-holds
 returns-clause-holds g c clean listed =
     let old = state g.S.Store c.args.conn.now in
     let mid = state g.S.Store c.read_records.new.conn in
-    let new = state g.S.Store c.test_all_rowids.new.conn in
-    let early : HasCleanDisk mid = clean_before old mid new c.test_all_rowids.ensures.reads.survives clean in
+    let new = state g.S.Store c.test_other_rowids.new.conn in
+    let early : HasCleanDisk mid = clean_before old mid new c.test_other_rowids.ensures.reads.survives clean in
     let same = (c.in_ok-summary.ensures.same early).now in
     let yes : IsTrue c.has_layout.result = search rules in
-    let there = subst (λ (s : Schema). AllByRecursion (λ t. HasOwn s (table_of t)) store_tables × MayBecomeShown Plain s) c.schema.ensures.value (c.has_layout.ensures.0 yes) in
-    holds_of c.args.version old.now _ c.requires.plain there.0 there.1 (subst (HasRowidsApart Plain) same (c.in_ok-test_all_rowids.ensures.apart clean)) (c.in_ok-summary.ensures.stands early listed)
+    let there = subst (HasLayout (layout_of c.args.version)) c.schema.ensures.value (c.has_layout.ensures.0 yes) in
+    holds_of c.args.version old.now _ there (subst HasOthersApart same (c.in_ok-test_other_rowids.ensures.apart clean)) (c.in_ok-summary.ensures.stands early listed)

@@ -3,8 +3,8 @@ use Rattle.sqlite.specs.Effect.{Database}
 use Rattle.sqlite.specs.State.{HasCleanDisk}
 use Rattle.sqlite.specs.Held.{state}
 use Rattle.dict_rows.specs.Taken.{HasTaken}
-use Rattle.dict_opening.proofs.StateLemmas.{clean_before, same_as}
-use Rattle.dict_opening.proofs.TakerLemmas.{on_damage}
+use Rattle.dict_scans.proofs.StateLemmas.{clean_before, same_as}
+use Rattle.dict_scans.proofs.TakerLemmas.{on_damage}
 use Rattle.std.specs.declared.alloc.Global.{Global}
 use Rattle.std.proofs.Common.{String}
 use Rattle.dict_records.specs.declared.records as typed
@@ -16,12 +16,12 @@ use Rattle.dict_sql.specs.Reads.{IsListing}
 use Rattle.dict_file.specs.Holds.{Holds}
 use Rattle.dict_rows.specs.Given.{marks_given, items_given, members_given}
 use Rattle.dict_rows.specs.Taken.{StandsForNone, begun}
-use Rattle.dict_opening.proofs.ScanLemmas.{rows_damaged}
-use Rattle.dict_file.proofs.ReadableLemmas.{held_rows}
+use Rattle.dict_scans.proofs.ScanLemmas.{rows_damaged}
+use Rattle.dict_file.proofs.ReadableLemmas.{held_readable}
 use Rattle.dict_opening.proofs.ReadableLemmas.{none_listed}
 use Rattle.dict_opening.proofs.WrongLemmas.{has_begun, begin_wrong}
-use Rattle.dict_opening.specs.Reading.{IsExcused}
-use Rattle.dict_opening.proofs.CauseLemmas.{list_cause, cause_then, rows_cause}
+use Rattle.dict_scans.specs.Reading.{IsExcused}
+use Rattle.dict_scans.proofs.CauseLemmas.{list_cause, cause_then, rows_cause}
 use Rattle.dict_opening.proofs.records.begin.Goals as goal
 
 pub returns-in-Ok-begin-clause-begun : goal.returns-in-Ok-begin-clause-begun
@@ -34,12 +34,12 @@ returns-in-Ok-begin-clause-begun g c clean lm =
     let lo = subst (λ (d : Database). IsListing (codes "member") (1 ∷ 2 ∷ []) d (map stored_member c.in-Ok-members.members.items)) li.1.0.now_is (c.in-Ok-members.ensures.listed clean).0 in
     let taken = subst (λ (l : List (Stored (typed.Member.Member (String Global)))). HasTaken c.args.version c.in-Ok-begin.reader (begun (marks_given c.args.marks.now) (items_given c.in-Ok.items.items) (members_given l))) c.deref-2.ensures.value
     (subst (λ (l : List (Stored (typed.Item.Item (String Global)))). HasTaken c.args.version c.in-Ok-begin.reader (begun (marks_given c.args.marks.now) (items_given l) (members_given c.deref-2.result.now))) c.deref.ensures.value c.in-Ok-begin.ensures.taken) in
-    (begun (marks_given c.args.marks.now) (items_given c.in-Ok.items.items) (members_given c.in-Ok-members.members.items), taken, has_begun c.args.version c.requires.plain old.now c.args.marks.now c.in-Ok.items.items c.in-Ok-members.members.items lm li.0 lo)
+    (begun (marks_given c.args.marks.now) (items_given c.in-Ok.items.items) (members_given c.in-Ok-members.members.items), taken, has_begun c.args.version old.now c.args.marks.now c.in-Ok.items.items c.in-Ok-members.members.items lm li.0 lo)
 
 pub returns-in-Err-clause-damaged : goal.returns-in-Err-clause-damaged
 returns-in-Err-clause-damaged g c clean is lm M h =
     let old = state g.S.Store c.args.conn.now in
-    none_listed item_columns (rows_of (codes "item") old.now) old (state g.S.Store c.items.new.conn) c.in-Err.error (c.in-Err.ensures.failed clean) (sym c.fault_of_read.ensures ∙ is) (held_rows c.args.version old.now M c.requires.plain h).1.0
+    none_listed item_columns (rows_of (codes "item") old.now) old (state g.S.Store c.items.new.conn) c.in-Err.error (c.in-Err.ensures.failed clean) (sym c.fault_of_read.ensures ∙ is) (held_readable c.args.version old.now M h).1.0
 
 pub returns-in-Err-members-clause-damaged : goal.returns-in-Err-members-clause-damaged
 returns-in-Err-members-clause-damaged g c clean is lm M h =
@@ -49,7 +49,7 @@ returns-in-Err-members-clause-damaged g c clean is lm M h =
     let early : HasCleanDisk mid = clean_before old mid new c.members.ensures.survives clean in
     let same = (c.in-Ok.ensures.listed early).1.0.now_is in
     none_listed member_columns (rows_of (codes "member") mid.now) mid new c.in-Err-members.error (c.in-Err-members.ensures.failed clean) (sym c.fault_of_read-in-Err-members.ensures ∙ is)
-    (held_rows c.args.version mid.now M c.requires.plain (subst (λ (d : Database). Holds c.args.version d M) (sym same) h)).1.1.0
+    (held_readable c.args.version mid.now M (subst (λ (d : Database). Holds c.args.version d M) (sym same) h)).1.1.0
 
 pub returns-clause-damaged : goal.returns-clause-damaged
 returns-clause-damaged g c clean is lm =
@@ -60,7 +60,7 @@ returns-clause-damaged g c clean is lm =
     let li = c.in-Ok.ensures.listed early in
     let lo = subst (λ (d : Database). IsListing (codes "member") (1 ∷ 2 ∷ []) d (map stored_member c.in-Ok-members.members.items)) li.1.0.now_is (c.in-Ok-members.ensures.listed clean).0 in
     let none = on_damage c.in-Err-begin.fault _ c.in-Err-begin.ensures.damaged (rows_damaged c.in-Err-begin.fault (sym c.fault_of_rows.ensures ∙ is)) in
-    begin_wrong c.args.version c.requires.plain old.now c.args.marks.now c.in-Ok.items.items c.in-Ok-members.members.items lm li.0 lo
+    begin_wrong c.args.version old.now c.args.marks.now c.in-Ok.items.items c.in-Ok-members.members.items lm li.0 lo
     (subst (λ (l : List (Stored (typed.Member.Member (String Global)))). StandsForNone c.args.version (begun (marks_given c.args.marks.now) (items_given c.in-Ok.items.items) (members_given l))) c.deref-2.ensures.value
     (subst (λ (l : List (Stored (typed.Item.Item (String Global)))). StandsForNone c.args.version (begun (marks_given c.args.marks.now) (items_given l) (members_given c.deref-2.result.now))) c.deref.ensures.value none))
 

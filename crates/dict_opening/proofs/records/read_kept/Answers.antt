@@ -6,29 +6,30 @@ use Rattle.sqlite.specs.Held.{state}
 use Rattle.dict_sql.proofs.StreamLemmas.{passed_on}
 use Rattle.dict_rows.specs.Tables.{Tables}
 use Rattle.dict_rows.specs.Taken.{HasTaken}
-use Rattle.dict_opening.specs.declared.fault.ReadingFault.{ReadingFault}
-use Rattle.dict_opening.specs.declared.fault.ReadingFault.TheVariants.{Damaged}
-use Rattle.dict_opening.proofs.StateLemmas.{clean_before}
-use Rattle.dict_opening.proofs.TakerLemmas.{if_err_then}
+use Rattle.dict_scans.specs.declared.fault.ReadingFault.{ReadingFault}
+use Rattle.dict_scans.specs.declared.fault.ReadingFault.TheVariants.{Damaged}
+use Rattle.dict_scans.proofs.StateLemmas.{clean_before}
+use Rattle.dict_scans.proofs.TakerLemmas.{if_err_then}
 use Rattle.std.proofs.Common.{◌⊎◌}
 use Rattle.dict_sql.specs.Columns.{kept_columns}
 use Rattle.dict_sql.specs.Encodings.{stored_kept}
 use Rattle.dict_sql.specs.Streams.Scan.{KeptById}
+use Rattle.dict_scans.specs.Cursors.{InStore}
 use Rattle.dict_rows.specs.Given.{kept_given}
 use Rattle.dict_rows.specs.Whole.{with_replies}
 use Rattle.dict_opening.specs.Opens.{KeepsNone, Fits}
-use Rattle.dict_opening.specs.Scans.{HasNoRecordIn}
-use Rattle.dict_opening.specs.Takers.{HasIdTwice, HasIdsApart}
+use Rattle.dict_scans.specs.Scans.{HasNoRecordIn}
+use Rattle.dict_scans.specs.Takers.{HasIdTwice, HasIdsApart}
 use Rattle.dict_opening.proofs.WrongLemmas.{replies_wrong, ids_twice, ids_apart}
-use Rattle.dict_opening.proofs.CauseLemmas.{cause_passed, cause_last}
+use Rattle.dict_scans.proofs.CauseLemmas.{cause_passed, cause_last}
 use Rattle.dict_opening.proofs.records.read_kept.Goals as goal
 
 pub returns-in_err-read_replies-clause-damaged : goal.returns-in_err-read_replies-clause-damaged
 returns-in_err-read_replies-clause-damaged g c clean =
     let old = state g.S.Store c.args.conn.now in
-    let wrong : (fault : ReadingFault) → Type 0 = λ fault. fault ≡ Damaged → (version : ℕ) (taken : Tables) → HasTaken version c.args.reader.now taken → Fits version old.now taken → taken.kept ≡ [] → KeepsNone version old.now taken.members in
+    let wrong : (fault : ReadingFault) → Type 0 = λ fault. fault ≡ Damaged → (taken : Tables) → HasTaken c.args.version c.args.reader.now taken → Fits c.args.version old.now taken → taken.kept ≡ [] → KeepsNone c.args.version old.now taken.members in
     passed_on wrong c.in_err-read_replies.field-0.0 c.from_residual.result c.from_residual.ensures.1
-    (λ is version taken h fits none. replies_wrong version old.now c.args.reader.now taken h fits none (c.in_err-read_replies.ensures.damaged clean is))
+    (λ is taken h fits none. replies_wrong c.args.version old.now c.args.reader.now taken h fits none (c.in_err-read_replies.ensures.damaged clean is))
 
 pub returns-clause-replies : goal.returns-clause-replies
 returns-clause-replies g c clean =
@@ -39,9 +40,9 @@ returns-clause-replies g c clean =
     let same = (c.in_ok-read_replies.ensures.same early).now in
     let all = c.in_ok-read_replies.ensures.whole early in
     on_ok_weaker c.test_ids.result
-    (λ apart version taken h. (
+    (λ apart taken h. (
       with_replies taken (kept_given all.0),
-      all.2 version taken h,
+      all.2 c.args.version taken h,
       record { given = all.0; listing = all.1; after_is = refl; ids = ids_apart old.now all.0 all.1 (subst HasIdsApart same apart) },
     ))
     (c.test_ids.ensures.whole clean)
@@ -54,7 +55,7 @@ returns-clause-damaged g c clean =
     let early : HasCleanDisk mid = clean_before old mid new c.test_ids.ensures.reads.survives clean in
     let same = (c.in_ok-read_replies.ensures.same early).now in
     if_err_then _ _ c.test_ids.result
-    (λ fault wrong is version taken h fits none. ids_twice version old.now taken.members (subst (λ (d : Database). HasNoRecordIn stored_kept kept_columns KeptById d ⊎ HasIdTwice d) same (wrong is)))
+    (λ fault wrong is taken h fits none. ids_twice c.args.version old.now taken.members (subst (λ (d : Database). HasNoRecordIn stored_kept kept_columns (InStore KeptById) d ⊎ HasIdTwice d) same (wrong is)))
     (c.test_ids.ensures.damaged clean)
 
 pub returns-in_err-read_replies-clause-failed : goal.returns-in_err-read_replies-clause-failed

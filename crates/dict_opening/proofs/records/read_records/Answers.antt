@@ -3,16 +3,17 @@ use Rattle.sqlite.specs.Effect.{Database}
 use Rattle.sqlite.specs.State.{HasCleanDisk}
 use Rattle.sqlite.specs.Held.{state}
 use Rattle.dict_sql.proofs.StreamLemmas.{passed_on}
-use Rattle.dict_opening.specs.declared.fault.ReadingFault.{ReadingFault}
-use Rattle.dict_opening.specs.declared.fault.ReadingFault.TheVariants.{Damaged}
-use Rattle.dict_opening.proofs.StateLemmas.{clean_before}
+use Rattle.dict_scans.specs.declared.fault.ReadingFault.{ReadingFault}
+use Rattle.dict_scans.specs.declared.fault.ReadingFault.TheVariants.{Damaged}
+use Rattle.dict_scans.proofs.StateLemmas.{clean_before}
 use Rattle.dict_sql.specs.Encodings.{stored_mark}
 use Rattle.dict_sql.specs.Reads.{IsListing}
 use Rattle.dict_opening.specs.Opens.{HasTables, KeepsNone, HoldsNoneAs, HasBegun, HasAll}
-use Rattle.dict_opening.proofs.StateLemmas.{while_same}
+use Rattle.dict_scans.proofs.StateLemmas.{while_same}
 use Rattle.dict_opening.proofs.CloseLemmas.{finish_wrong}
-use Rattle.dict_opening.proofs.CauseLemmas.{cause_passed, cause_later, rows_cause}
-use Rattle.dict_opening.specs.Reading.{IsExcused}
+use Rattle.dict_opening.proofs.HoldLemmas.{has_summary}
+use Rattle.dict_scans.proofs.CauseLemmas.{cause_passed, cause_later, rows_cause}
+use Rattle.dict_scans.specs.Reading.{IsExcused}
 use Rattle.dict_opening.proofs.records.read_records.Goals as goal
 
 pub returns-in_err-reader-clause-damaged : goal.returns-in_err-reader-clause-damaged
@@ -23,7 +24,7 @@ returns-in_err-reader-clause-damaged g c clean =
 
 pub read_all-requires : goal.read_all-requires
 read_all-requires g c =
-    while_same HasTables (state g.S.Store c.args.conn.now) (state g.S.Store c.begin.new.conn) c.begin.ensures.reads.survives c.in_ok-reader.ensures.same c.requires.tables
+    while_same (HasTables c.args.version) (state g.S.Store c.args.conn.now) (state g.S.Store c.begin.new.conn) c.begin.ensures.reads.survives c.in_ok-reader.ensures.same c.requires
 
 pub returns-in_err-read_all-clause-damaged : goal.returns-in_err-read_all-clause-damaged
 returns-in_err-read_all-clause-damaged g c clean =
@@ -34,7 +35,7 @@ returns-in_err-read_all-clause-damaged g c clean =
     let same = (c.in_ok-reader.ensures.same early).now in
     let wrong : (fault : ReadingFault) → Type 0 = λ fault. fault ≡ Damaged → IsListing (codes "mark") (1 ∷ []) old.now (map stored_mark c.args.marks.now) → HoldsNoneAs c.args.version old.now in
     passed_on wrong c.in_err-read_all.field-0.0 c.from_residual-in_err-read_all.result c.from_residual-in_err-read_all.ensures.1
-    (λ is lm. let begun = c.in_ok-reader.ensures.begun early lm in subst (HoldsNoneAs c.args.version) same (c.in_err-read_all.ensures.damaged clean is c.args.version begun.0 begun.1 (subst (λ (d : Database). HasBegun c.args.version d begun.0) (sym same) begun.2)))
+    (λ is lm. let begun = c.in_ok-reader.ensures.begun early lm in subst (HoldsNoneAs c.args.version) same (c.in_err-read_all.ensures.damaged clean is begun.0 begun.1 (subst (λ (d : Database). HasBegun c.args.version d begun.0) (sym same) begun.2)))
 
 pub returns-in-Ok-clause-stands : goal.returns-in-Ok-clause-stands
 returns-in-Ok-clause-stands g c clean lm =
@@ -44,22 +45,22 @@ returns-in-Ok-clause-stands g c clean lm =
     let early : HasCleanDisk mid = clean_before old mid new c.read_all.ensures.reads.survives clean in
     let same = (c.in_ok-reader.ensures.same early).now in
     let begun = c.in_ok-reader.ensures.begun early lm in
-    let all = c.in_ok-read_all.ensures.all clean c.args.version begun.0 begun.1 (subst (λ (d : Database). HasBegun c.args.version d begun.0) (sym same) begun.2) in
-    let has = subst (λ (d : Database). HasAll c.args.version d begun.0 all.0) same all.2 in
+    let all = c.in_ok-read_all.ensures.all clean begun.0 begun.1 (subst (λ (d : Database). HasBegun c.args.version d begun.0) (sym same) begun.2) in
+    let has = subst (λ (d : Database). HasAll c.args.version d c.in_ok-reader.reader begun.0 all.0) same all.2 in
     let found = c.in-Ok.ensures.stands c.args.version all.0 all.1 has.ids in
-    record { catalogue = found.0; tables = all.0; keeps = has.keeps; stands = found.1; summary = found.2 }
+    has_summary c.args.version old.now c.in_ok-reader.reader begun.0 all.0 begun.1 has found.0 found.1 _ found.2
 
-pub returns-in-Err-clause-damaged : goal.returns-in-Err-clause-damaged
-returns-in-Err-clause-damaged g c clean is lm =
+pub returns-clause-damaged : goal.returns-clause-damaged
+returns-clause-damaged g c clean is lm =
     let old = state g.S.Store c.args.conn.now in
     let mid = state g.S.Store c.begin.new.conn in
     let new = state g.S.Store c.read_all.new.conn in
     let early : HasCleanDisk mid = clean_before old mid new c.read_all.ensures.reads.survives clean in
     let same = (c.in_ok-reader.ensures.same early).now in
     let begun = c.in_ok-reader.ensures.begun early lm in
-    let all = c.in_ok-read_all.ensures.all clean c.args.version begun.0 begun.1 (subst (λ (d : Database). HasBegun c.args.version d begun.0) (sym same) begun.2) in
-    let has = subst (λ (d : Database). HasAll c.args.version d begun.0 all.0) same all.2 in
-    begun.2.none (subst (KeepsNone c.args.version old.now) has.members (finish_wrong c.args.version old.now all.0 has.keeps has.fits (c.in-Err.ensures.damaged c.args.version all.0 all.1)))
+    let all = c.in_ok-read_all.ensures.all clean begun.0 begun.1 (subst (λ (d : Database). HasBegun c.args.version d begun.0) (sym same) begun.2) in
+    let has = subst (λ (d : Database). HasAll c.args.version d c.in_ok-reader.reader begun.0 all.0) same all.2 in
+    begun.2.none (subst (KeepsNone c.args.version old.now) has.goes.members (finish_wrong c.args.version old.now all.0 has.keeps has.fits (c.in-Err.ensures.damaged c.args.version all.0 all.1)))
 
 pub returns-in_err-reader-clause-failed : goal.returns-in_err-reader-clause-failed
 returns-in_err-reader-clause-failed g c clean =
@@ -70,6 +71,6 @@ returns-in_err-read_all-clause-failed g c clean =
     cause_later (state g.S.Store c.args.conn.now) (state g.S.Store c.begin.new.conn) (state g.S.Store c.read_all.new.conn) c.in_err-read_all.field-0.0 c.from_residual-in_err-read_all.result c.from_residual-in_err-read_all.ensures.1 c.begin.ensures.reads.survives c.read_all.ensures.reads.survives
     c.in_ok-reader.ensures.same clean (c.in_err-read_all.ensures.failed clean)
 
-pub returns-in-Err-clause-failed : goal.returns-in-Err-clause-failed
-returns-in-Err-clause-failed g c clean =
+pub returns-clause-failed : goal.returns-clause-failed
+returns-clause-failed g c clean =
     subst (IsExcused (state g.S.Store c.args.conn.now) (state g.S.Store c.read_all.new.conn)) (sym c.fault_of_rows.ensures) (rows_cause (state g.S.Store c.args.conn.now) (state g.S.Store c.read_all.new.conn) c.in-Err.fault)

@@ -1,68 +1,49 @@
-use Rattle.std.proofs.Common.{◌≡◌, subst}
+use Rattle.std.proofs.Common.{◌≡◌, ◌⊎◌, codes, subst}
 use Rattle.sqlite.specs.Effect.{Database}
 use Rattle.sqlite.specs.State.{HasCleanDisk}
 use Rattle.sqlite.specs.Held.{state}
-use Rattle.dict_sql.proofs.StreamLemmas.{passed_on}
-use Rattle.dict_opening.specs.declared.fault.ReadingFault.{ReadingFault}
-use Rattle.dict_opening.specs.declared.fault.ReadingFault.TheVariants.{Damaged}
-use Rattle.dict_opening.proofs.StateLemmas.{clean_before, reads_then, same_then}
-use Rattle.dict_opening.proofs.TakerLemmas.{if_err_then}
-use Rattle.std.proofs.Common.{◌⊎◌}
 use Rattle.dict_tables.specs.Tables.{table_of}
-use Rattle.dict_tables.specs.declared.tables.StoreTable.TheVariants.{Entry, Kept}
-use Rattle.dict_sql.specs.Columns.{entry_columns, kept_columns}
-use Rattle.dict_sql.specs.Encodings.{stored_entry, stored_kept}
+use Rattle.dict_tables.specs.declared.tables.StoreTable.TheVariants.{Kept}
+use Rattle.dict_sql.specs.Columns.{kept_columns}
 use Rattle.dict_sql.specs.Effects.{HasApartRowids, rows_of}
+use Rattle.dict_sql.specs.Encodings.{stored_kept}
 use Rattle.dict_sql.specs.Streams.Scan.{ByRowid}
-use Rattle.dict_rows.specs.Versions.{Plain}
+use Rattle.dict_sql.proofs.StreamLemmas.{passed_on}
+use Rattle.dict_rows.specs.Versions.{layout_of}
+use Rattle.dict_scans.specs.Cursors.{InStore}
+use Rattle.dict_scans.specs.Scans.{HasNoRecordIn}
+use Rattle.dict_scans.specs.declared.fault.ReadingFault.{ReadingFault}
+use Rattle.dict_scans.specs.declared.fault.ReadingFault.TheVariants.{Damaged}
+use Rattle.dict_scans.proofs.CauseLemmas.{cause_passed, cause_last}
+use Rattle.dict_scans.proofs.StateLemmas.{clean_before}
+use Rattle.dict_scans.proofs.TakerLemmas.{if_err_then}
 use Rattle.dict_opening.specs.Opens.{HasReadableRows, IsApartLast}
-use Rattle.dict_opening.specs.Scans.{HasNoRecordIn}
 use Rattle.dict_opening.proofs.WrongLemmas.{wrong_rowids, wrong_numbers}
-use Rattle.dict_opening.proofs.CauseLemmas.{cause_passed, cause_later, cause_last}
 use Rattle.dict_opening.proofs.rowids.test_large.Goals as goal
 
 pub returns-in_err-test_edition_rowids-clause-damaged : goal.returns-in_err-test_edition_rowids-clause-damaged
 returns-in_err-test_edition_rowids-clause-damaged g c clean =
     let old = state g.S.Store c.args.conn.now in
-    let wrong : (fault : ReadingFault) → Type 0 = λ fault. fault ≡ Damaged → HasReadableRows Plain old.now → IsApartLast old.now → ⊥ in
+    let wrong : (fault : ReadingFault) → Type 0 = λ fault. fault ≡ Damaged → HasReadableRows (layout_of c.args.version) old.now → IsApartLast old.now → ⊥ in
     passed_on wrong c.in_err-test_edition_rowids.field-0.0 c.from_residual.result c.from_residual.ensures.1
     (λ is records apart. wrong_numbers old.now records.1.1.1.0 apart.0 (c.in_err-test_edition_rowids.ensures.damaged clean is))
 
-pub returns-in_err-test_rowids-clause-damaged : goal.returns-in_err-test_rowids-clause-damaged
-returns-in_err-test_rowids-clause-damaged g c clean =
+pub returns-clause-damaged : goal.returns-clause-damaged
+returns-clause-damaged g c clean =
     let old = state g.S.Store c.args.conn.now in
     let mid = state g.S.Store c.test_edition_rowids.new.conn in
     let new = state g.S.Store c.test_rowids.new.conn in
     let early : HasCleanDisk mid = clean_before old mid new c.test_rowids.ensures.reads.survives clean in
     let same = (c.in_ok-test_edition_rowids.ensures.same early).now in
-    let wrong : (fault : ReadingFault) → Type 0 = λ fault. fault ≡ Damaged → HasReadableRows Plain old.now → IsApartLast old.now → ⊥ in
-    passed_on wrong c.in_err-test_rowids.field-0.0 c.from_residual-in_err-test_rowids.result c.from_residual-in_err-test_rowids.ensures.1
-    (λ is records apart. wrong_rowids stored_entry entry_columns Entry old.now records.1.1.1.1.0 apart.1
-    (subst (λ (d : Database). HasNoRecordIn stored_entry entry_columns (ByRowid Entry) d ⊎ (HasApartRowids (rows_of (table_of Entry 0).name d) → ⊥)) same (c.in_err-test_rowids.ensures.damaged clean is)))
-
-pub returns-clause-damaged : goal.returns-clause-damaged
-returns-clause-damaged g c clean =
-    let old = state g.S.Store c.args.conn.now in
-    let one = state g.S.Store c.test_edition_rowids.new.conn in
-    let two = state g.S.Store c.test_rowids.new.conn in
-    let new = state g.S.Store c.test_rowids-2.new.conn in
-    let late : HasCleanDisk two = clean_before one two new c.test_rowids-2.ensures.reads.survives clean in
-    let early : HasCleanDisk one = clean_before old one two c.test_rowids.ensures.reads.survives late in
-    let same = (same_then old one two (c.in_ok-test_edition_rowids.ensures.same early) (c.in_ok-test_rowids.ensures.same late)).now in
-    if_err_then _ _ c.test_rowids-2.result
-    (λ fault wrong is records apart. wrong_rowids stored_kept kept_columns Kept old.now records.1.1.1.1.1.0 apart.2
-    (subst (λ (d : Database). HasNoRecordIn stored_kept kept_columns (ByRowid Kept) d ⊎ (HasApartRowids (rows_of (table_of Kept 0).name d) → ⊥)) same (wrong is)))
-    (c.test_rowids-2.ensures.damaged clean)
+    if_err_then _ _ c.test_rowids.result
+    (λ fault wrong is records apart. wrong_rowids stored_kept kept_columns Kept old.now records.1.1.1.1.1.0 apart.1
+    (subst (λ (d : Database). HasNoRecordIn stored_kept kept_columns (InStore (ByRowid Kept)) d ⊎ (HasApartRowids (rows_of (table_of Kept 0).name d) → ⊥)) same (wrong is)))
+    (c.test_rowids.ensures.damaged clean)
 
 pub returns-in_err-test_edition_rowids-clause-failed : goal.returns-in_err-test_edition_rowids-clause-failed
 returns-in_err-test_edition_rowids-clause-failed g c clean =
     cause_passed (state g.S.Store c.args.conn.now) (state g.S.Store c.test_edition_rowids.new.conn) c.in_err-test_edition_rowids.field-0.0 c.from_residual.result c.from_residual.ensures.1 (c.in_err-test_edition_rowids.ensures.failed clean)
 
-pub returns-in_err-test_rowids-clause-failed : goal.returns-in_err-test_rowids-clause-failed
-returns-in_err-test_rowids-clause-failed g c clean =
-    cause_later (state g.S.Store c.args.conn.now) (state g.S.Store c.test_edition_rowids.new.conn) (state g.S.Store c.test_rowids.new.conn) c.in_err-test_rowids.field-0.0 c.from_residual-in_err-test_rowids.result c.from_residual-in_err-test_rowids.ensures.1 c.test_edition_rowids.ensures.reads.survives c.test_rowids.ensures.reads.survives
-    c.in_ok-test_edition_rowids.ensures.same clean (c.in_err-test_rowids.ensures.failed clean)
-
 pub returns-clause-failed : goal.returns-clause-failed
 returns-clause-failed g c clean =
-    cause_last (state g.S.Store c.args.conn.now) (state g.S.Store c.test_rowids.new.conn) (state g.S.Store c.test_rowids-2.new.conn) c.test_rowids-2.result (reads_then (state g.S.Store c.args.conn.now) (state g.S.Store c.test_edition_rowids.new.conn) (state g.S.Store c.test_rowids.new.conn) c.test_edition_rowids.ensures.reads c.test_rowids.ensures.reads).survives c.test_rowids-2.ensures.reads.survives (λ late. same_then (state g.S.Store c.args.conn.now) (state g.S.Store c.test_edition_rowids.new.conn) (state g.S.Store c.test_rowids.new.conn) (c.in_ok-test_edition_rowids.ensures.same (clean_before (state g.S.Store c.args.conn.now) (state g.S.Store c.test_edition_rowids.new.conn) (state g.S.Store c.test_rowids.new.conn) c.test_rowids.ensures.reads.survives late)) (c.in_ok-test_rowids.ensures.same late)) clean (c.test_rowids-2.ensures.failed clean)
+    cause_last (state g.S.Store c.args.conn.now) (state g.S.Store c.test_edition_rowids.new.conn) (state g.S.Store c.test_rowids.new.conn) c.test_rowids.result c.test_edition_rowids.ensures.reads.survives c.test_rowids.ensures.reads.survives c.in_ok-test_edition_rowids.ensures.same clean (c.test_rowids.ensures.failed clean)

@@ -49,8 +49,8 @@ returns-then-not-within-clause-failed g c = λ clean is.
 
 pub returns-clause-every : goal.returns-clause-every
 returns-clause-every g c = λ clean M held.
-    let new = state g.S.Store c.read_catalogue.new.conn in
+    let new = state g.S.Store c.read_known.new.conn in
     let found = c.in_ok-summary.ensures.rests clean in
-    let kept = c.read_catalogue.ensures.committed clean found.1.is_open in
+    let kept = c.read_known.ensures.committed clean found.1.is_open in
     let same : found.0 ≡ M = c.one_is_held.ensures.held new.committed found.0 M (held_known new.committed found.0 found.1.holds) (subst (λ (db : Database). IsHeld db M) (sym kept) held) in
     (subst (Rests known new) same found.1, ap summary_of (sym same) ∙ found.2)

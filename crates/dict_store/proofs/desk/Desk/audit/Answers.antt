@@ -1,5 +1,10 @@
 use Rattle.std.proofs.Common.{◌≡◌, false, sym, subst, rules}
+use Rattle.std.specs.Prelude.{IfErr}
+use Rattle.sqlite.specs.Held.{state}
 use Rattle.dict_catalogue.specs.Views.{summary_shown}
+use Rattle.dict_desk.specs.declared.fault.Fault.{Fault}
+use Rattle.dict_desk.specs.declared.fault.Fault.TheVariants.{Disk}
+use Rattle.dict_opening.specs.Reading.{HasFailed}
 use Rattle.dict_store.specs.Desk.{Shows, is_closed}
 use Rattle.dict_store.proofs.DeskLemmas.{rests_on, shows_on}
 use Rattle.dict_store.proofs.desk.Desk.audit.Goals as goal
@@ -29,3 +34,9 @@ returns-clause-shows g c = λ clean M shown.
     shows_on g.S.Store c.self.inside.conn c.read-outcome.new.conn (summary_shown c.self.inside.summary) c.self.inside.last c.last_by-self-inside.result before c.self.invariant c.read-outcome.ensures.survives
     (λ clean. record { was_open = c.read-outcome.ensures.lives clean; now = λ live settled. c.read-outcome.ensures.now clean live; committed = λ live. c.read-outcome.ensures.committed clean live })
     M (subst (λ desk. Shows g.S.Store desk M) (sym c.self.view_is) shown)
+
+pub returns-clause-broken : goal.returns-clause-broken
+returns-clause-broken g c = λ clean is.
+    let new = state g.S.Store c.read-outcome.new.conn in
+    let failed = subst (λ r. IfErr r (λ (fault : Fault). fault ≡ Disk → HasFailed (state g.S.Store c.self.inside.conn) new)) c.in-Err.is (c.read-outcome.ensures.failed clean) in
+    subst (λ desk. HasFailed (state g.S.Store desk.conn) new) c.self.view_is (failed is)

@@ -1,0 +1,215 @@
+-- Entries, as the tables of a layout have them.
+use Rattle.std.proofs.Common.{◌≡◌, ◌⊎◌, ℕ, ℤ, pos, Bool, true, false, List, [], ◌∷◌, ◌++◌, map, drop, take, filter, cond, codes, inl, inr, refl, sym, ap, subst, ◌∙◌}
+use Rattle.std.specs.Prelude.{◌≤ℤ◌, length}
+use Rattle.std.specs.List.{AllByRecursion, list_any, Contains}
+use Rattle.std.specs.List.Sorted.{IsPermutation, IsSorted}
+use Rattle.std.specs.Ordering.{is_lt, ordering_then}
+use Rattle.std.specs.declared.cmp.Ordering.TheVariants.{Equal}
+use Rattle.std.proofs.lemmas.List.{map-append}
+use Rattle.std.proofs.lemmas.List.Sorted.{IsPermutation-map, IsPermutation-sym, IsPermutation-trans}
+use Rattle.sqlite_trees.proofs.ListLemmas.{IsPermutation-filter}
+use Rattle.sqlite.specs.Effect.{Database}
+use Rattle.sqlite.specs.Order.{Row, column, value_cmp}
+use Rattle.sqlite.specs.declared.types.Value.TheVariants.{Int}
+use Rattle.dict_text.proofs.AllLemmas.{all_filter, all_weaker}
+use Rattle.dict_records.specs.Records as spec
+use Rattle.dict_sql.specs.Columns.{HasColumns}
+use Rattle.dict_sql.specs.Effects.{HasApartRowids, rows_of, same_value, equals_number}
+use Rattle.dict_sql.specs.Encodings.{entry_row}
+use Rattle.dict_sql.specs.Reads.{by_columns}
+use Rattle.dict_rows.specs.Order.{InOrder}
+use Rattle.dict_rows.specs.Tables.{Tables, same_number}
+use Rattle.dict_rows.specs.Versions.{Layout, Plain, Keyed, Shown}
+use Rattle.dict_rows.proofs.OrderLemmas.{order_given, all_same}
+use Rattle.dict_derived.specs.Entries.{filed, plain}
+use Rattle.dict_derived.specs.AllTables.{with_derived}
+use Rattle.dict_file.specs.Readings.{KeepsRows, KeepsAll, IsReadable, entries, filed_row}
+use Rattle.dict_file.proofs.ReadLemmas.{sorted_order, one_le}
+use Rattle.dict_file.proofs.ReadingLemmas.{map_twice}
+use Rattle.dict_scans.specs.Entries.{behind, entry_cells}
+use Rattle.dict_opening.specs.Opens.{AreReadableEntries}
+use Rattle.dict_scans.proofs.CodecLemmas.{decode_entry, entry_back}
+use Rattle.dict_scans.proofs.NumberLemmas.{same_int}
+use Rattle.dict_scans.proofs.RowidLemmas.{all_of_map}
+
+-- ---- by layout
+
+abbrev decode_cells : Layout → Row → spec.Entry
+decode_cells Plain cells = decode_entry cells
+decode_cells Keyed cells = decode_entry cells
+decode_cells Shown cells = decode_entry (take 5 cells)
+
+pub cells_back : (layout : Layout) (e : spec.Entry) → decode_cells layout (entry_cells layout e) ≡ e
+cells_back Plain e = entry_back e
+cells_back Keyed e = entry_back e
+cells_back Shown e = entry_back e
+
+number_seen : (layout : Layout) (row : Row) → column row 1 ≡ column (behind layout row) 0
+number_seen Plain [] = refl
+number_seen Plain (x ∷ row) = refl
+number_seen Keyed [] = refl
+number_seen Keyed (x ∷ []) = refl
+number_seen Keyed (x ∷ y ∷ row) = refl
+number_seen Shown [] = refl
+number_seen Shown (x ∷ row) = refl
+
+ord_seen : (layout : Layout) (row : Row) → column row 2 ≡ column (behind layout row) 1
+ord_seen Plain [] = refl
+ord_seen Plain (x ∷ row) = refl
+ord_seen Keyed [] = refl
+ord_seen Keyed (x ∷ []) = refl
+ord_seen Keyed (x ∷ y ∷ []) = refl
+ord_seen Keyed (x ∷ y ∷ z ∷ row) = refl
+ord_seen Shown [] = refl
+ord_seen Shown (x ∷ row) = refl
+
+number_in : (layout : Layout) (e : spec.Entry) → column (entry_cells layout e) 0 ≡ Int e.edition
+number_in Plain e = refl
+number_in Keyed e = refl
+number_in Shown e = refl
+
+ord_in : (layout : Layout) (e : spec.Entry) → column (entry_cells layout e) 1 ≡ Int e.ord
+ord_in Plain e = refl
+ord_in Keyed e = refl
+ord_in Shown e = refl
+
+-- the rows of what a database keeps
+pub entries_rows : (layout : Layout) (db : Database) (t : Tables) → KeepsRows (entries layout) db (with_derived t) → IsPermutation (map (entry_cells layout) t.entries) (map (behind layout) (rows_of (codes "entry") db))
+entries_rows Plain db t k = subst (λ l. IsPermutation l (map (behind Plain) (rows_of (codes "entry") db))) (map_twice filed (λ f. entry_row (plain f)) t.entries) k.rows
+entries_rows Keyed db t k = subst (λ l. IsPermutation l (map (behind Keyed) (rows_of (codes "entry") db))) (map_twice filed (λ f. entry_row (plain f)) t.entries) k.rows
+entries_rows Shown db t k = subst (λ l. IsPermutation l (map (behind Shown) (rows_of (codes "entry") db))) (map_twice filed filed_row t.entries) k.rows
+
+pub entries_apart : (layout : Layout) (db : Database) (t : Tables) → KeepsRows (entries layout) db (with_derived t) → HasApartRowids (rows_of (codes "entry") db)
+entries_apart Plain db t k = k.apart
+entries_apart Keyed db t k = k.apart
+entries_apart Shown db t k = k.apart
+
+-- and what it keeps of these rows
+pub rows_entries : (layout : Layout) (db : Database) (t : Tables) → IsPermutation (map (entry_cells layout) t.entries) (map (behind layout) (rows_of (codes "entry") db)) → HasApartRowids (rows_of (codes "entry") db) → KeepsRows (entries layout) db (with_derived t)
+rows_entries Plain db t rows apart = record { rows = subst (λ l. IsPermutation l (map (behind Plain) (rows_of (codes "entry") db))) (sym (map_twice filed (λ f. entry_row (plain f)) t.entries)) rows; apart = apart }
+rows_entries Keyed db t rows apart = record { rows = subst (λ l. IsPermutation l (map (behind Keyed) (rows_of (codes "entry") db))) (sym (map_twice filed (λ f. entry_row (plain f)) t.entries)) rows; apart = apart }
+rows_entries Shown db t rows apart = record { rows = subst (λ l. IsPermutation l (map (behind Shown) (rows_of (codes "entry") db))) (sym (map_twice filed filed_row t.entries)) rows; apart = apart }
+
+pub readable_rows : (layout : Layout) (db : Database) → AreReadableEntries layout db → AllByRecursion (λ row. HasColumns (entries layout).columns ((entries layout).looked row)) (rows_of (codes "entry") db)
+readable_rows Plain db h = h
+readable_rows Keyed db h = h
+readable_rows Shown db h = h
+
+-- ---- rows of entries
+
+module _ (layout : Layout) where
+  abbrev pub shows : Row → Row
+  shows = behind layout
+
+  abbrev cells : spec.Entry → Row
+  cells = entry_cells layout
+
+  -- the entry of a row
+  abbrev pub entry_in : Row → spec.Entry
+  entry_in row = decode_cells layout (behind layout row)
+
+  abbrev pub IsEntryRow : Row → Type 0
+  IsEntryRow row = (e : spec.Entry) × (behind layout row ≡ entry_cells layout e)
+
+  pub entry_is : (row : Row) (e : spec.Entry) → behind layout row ≡ entry_cells layout e → entry_in row ≡ e
+  entry_is row e is = ap (decode_cells layout) is ∙ cells_back layout e
+
+  pub entries_are : (rows : List Row) (es : List spec.Entry) → map (behind layout) rows ≡ map (entry_cells layout) es → map entry_in rows ≡ es
+  entries_are rows es is = sym (map_twice (behind layout) (decode_cells layout) rows) ∙ ap (map (decode_cells layout)) is ∙ map_twice (entry_cells layout) (decode_cells layout) es ∙ undone es
+    where
+      undone : (es : List spec.Entry) → map (λ e. decode_cells layout (entry_cells layout e)) es ≡ es
+      undone [] = refl
+      undone (e ∷ es) = λ i. cells_back layout e i ∷ undone es i
+
+  pub number_is : (row : Row) (e : spec.Entry) → behind layout row ≡ entry_cells layout e → column row 1 ≡ Int e.edition
+  number_is row e is = number_seen layout row ∙ ap (λ r. column r 0) is ∙ number_in layout e
+
+  pub ord_is : (row : Row) (e : spec.Entry) → behind layout row ≡ entry_cells layout e → column row 2 ≡ Int e.ord
+  ord_is row e is = ord_seen layout row ∙ ap (λ r. column r 1) is ∙ ord_in layout e
+
+  pub of_number : (n : ℤ) (row : Row) (e : spec.Entry) → behind layout row ≡ entry_cells layout e → equals_number 1 n row ≡ same_number e.edition n
+  of_number n row e is = ap (λ v. same_value v (Int n)) (number_is row e is) ∙ same_int e.edition n
+
+  pub number_of_row : (row : Row) (e : spec.Entry) (n : ℤ) → behind layout row ≡ entry_cells layout e → equals_number 1 n row ≡ true → same_value (Int e.edition) (Int n) ≡ true
+  number_of_row row e n is h = sym (ap (λ v. same_value v (Int n)) (number_is row e is)) ∙ h
+
+  filter_step : (test : Row → Bool) (pass : spec.Entry → Bool) (r : Row) (rows : List Row) (a b : Bool) → pass (entry_in r) ≡ a → test r ≡ b → a ≡ b → filter pass (map entry_in rows) ≡ map entry_in (filter test rows)
+      → cond (pass (entry_in r)) (entry_in r ∷ filter pass (map entry_in rows)) (filter pass (map entry_in rows)) ≡ map entry_in (cond (test r) (r ∷ filter test rows) (filter test rows))
+  filter_step test pass r rows true true ea eb same rest = ap (λ b. cond b (entry_in r ∷ filter pass (map entry_in rows)) (filter pass (map entry_in rows))) ea ∙ ap (λ l. entry_in r ∷ l) rest ∙ ap (λ b. map entry_in (cond b (r ∷ filter test rows) (filter test rows))) (sym eb)
+  filter_step test pass r rows false false ea eb same rest = ap (λ b. cond b (entry_in r ∷ filter pass (map entry_in rows)) (filter pass (map entry_in rows))) ea ∙ rest ∙ ap (λ b. map entry_in (cond b (r ∷ filter test rows) (filter test rows))) (sym eb)
+  filter_step test pass r rows true false ea eb same rest = absurd (cc)
+  filter_step test pass r rows false true ea eb same rest = absurd (cc)
+
+  filter_numbered : (n : ℤ) (rows : List Row) → AllByRecursion IsEntryRow rows → filter (λ e. same_number e.edition n) (map entry_in rows) ≡ map entry_in (filter (equals_number 1 n) rows)
+  filter_numbered n [] all = refl
+  filter_numbered n (r ∷ rows) all =
+      filter_step (equals_number 1 n) (λ e. same_number e.edition n) r rows (same_number (entry_in r).edition n) (equals_number 1 n r) refl refl
+      (ap (λ (e : spec.Entry). same_number e.edition n) (entry_is r all.0.0 all.0.1) ∙ sym (of_number n r all.0.0 all.0.1)) (filter_numbered n rows all.1)
+
+  all_read : (P : spec.Entry → Type 0) (rows : List Row) → AllByRecursion (λ b. P (entry_in b)) rows → AllByRecursion P (map entry_in rows)
+  all_read P [] h = tt
+  all_read P (r ∷ rows) h = (h.0, all_read P rows h.1)
+
+  order_read : (T : spec.Entry → spec.Entry → Type 0) (rows : List Row) → InOrder (λ a b. T (entry_in a) (entry_in b)) rows → InOrder T (map entry_in rows)
+  order_read T [] h = tt
+  order_read T (r ∷ rows) h = (all_read (T (entry_in r)) rows h.0, order_read T rows h.1)
+
+  abbrev Up : spec.Entry → spec.Entry → Type 0
+  Up a b = a.ord ≤ℤ b.ord
+
+  rises : (r s : Row) (w v : spec.Entry) → behind layout r ≡ entry_cells layout w → behind layout s ≡ entry_cells layout v → is_lt (by_columns (2 ∷ []) s r) ≡ false → Up w v
+  rises r s w v e f h = one_le w.ord v.ord (sym (λ i. is_lt (ordering_then (value_cmp (ord_is s v f i) (ord_is r w e i)) Equal)) ∙ h)
+
+  -- rows that come in the order of their places
+  pub entries_order : (rows : List Row) → AllByRecursion IsEntryRow rows → IsSorted (by_columns (2 ∷ [])) rows → InOrder (λ (a b : spec.Entry). a.ord ≤ℤ b.ord) (map entry_in rows)
+  entries_order rows all up =
+      order_read Up rows
+      (order_given IsEntryRow (λ a b. is_lt (by_columns (2 ∷ []) b a) ≡ false) (λ a b. Up (entry_in a) (entry_in b))
+      (λ a b qa qb r. subst (λ w. Up w (entry_in b)) (sym (entry_is a qa.0 qa.1)) (subst (Up qa.0) (sym (entry_is b qb.0 qb.1)) (rises a b qa.0 qb.0 qa.1 qb.1 r))) rows all (sorted_order (2 ∷ []) rows up))
+
+  module _ (db : Database) (es : List spec.Entry) (kept : IsPermutation (map (entry_cells layout) es) (map (behind layout) (rows_of (codes "entry") db))) where
+    all_written : (P : spec.Entry → Type 0) (ws : List spec.Entry) → AllByRecursion P ws → AllByRecursion (λ s. (e : spec.Entry) × (s ≡ entry_cells layout e) × P e) (map (entry_cells layout) ws)
+    all_written P [] h = tt
+    all_written P (w ∷ ws) h = ((w, refl, h.0), all_written P ws h.1)
+
+    -- what holds of all entries holds of that of each row
+    pub each_row : (P : spec.Entry → Type 0) → AllByRecursion P es → AllByRecursion (λ row. (e : spec.Entry) × (behind layout row ≡ entry_cells layout e) × P e) (rows_of (codes "entry") db)
+    each_row P all =
+        all_of_map (behind layout) (λ s. (e : spec.Entry) × (s ≡ entry_cells layout e) × P e) (λ row. (e : spec.Entry) × (behind layout row ≡ entry_cells layout e) × P e) (λ row h. h) (rows_of (codes "entry") db)
+        (all_same (λ s. (e : spec.Entry) × (s ≡ entry_cells layout e) × P e) (map (entry_cells layout) es) (map (behind layout) (rows_of (codes "entry") db)) kept (all_written P es all))
+
+    any : (ws : List spec.Entry) → AllByRecursion (λ e. Unit {0}) ws
+    any [] = tt
+    any (w ∷ ws) = (tt, any ws)
+
+    pub entries_written : AllByRecursion IsEntryRow (rows_of (codes "entry") db)
+    entries_written = all_weaker (λ row. (e : spec.Entry) × (behind layout row ≡ entry_cells layout e) × Unit {0}) IsEntryRow (λ row h. (h.0, h.1)) (rows_of (codes "entry") db) (each_row (λ e. Unit {0}) (any es))
+
+    pub entries_kept : IsPermutation es (map entry_in (rows_of (codes "entry") db))
+    entries_kept = subst (λ l. IsPermutation l (map entry_in (rows_of (codes "entry") db))) (back es) (subst (IsPermutation (map (decode_cells layout) (map (entry_cells layout) es))) (read (rows_of (codes "entry") db)) (IsPermutation-map (decode_cells layout) _ _ kept))
+      where
+        back : (ws : List spec.Entry) → map (decode_cells layout) (map (entry_cells layout) ws) ≡ ws
+        back [] = refl
+        back (w ∷ ws) = λ i. cells_back layout w i ∷ back ws i
+
+        read : (rows : List Row) → map (decode_cells layout) (map (behind layout) rows) ≡ map entry_in rows
+        read [] = refl
+        read (r ∷ rows) = ap (λ l. decode_cells layout (behind layout r) ∷ l) (read rows)
+
+    -- those of an edition
+    pub entries_selected : (n : ℤ) (rows : List Row) → IsPermutation (filter (equals_number 1 n) (rows_of (codes "entry") db)) rows → IsPermutation (filter (λ (e : spec.Entry). same_number e.edition n) es) (map entry_in rows) × AllByRecursion IsEntryRow rows
+    entries_selected n rows same = (
+      IsPermutation-trans (filter (λ (e : spec.Entry). same_number e.edition n) es) (map entry_in (filter (equals_number 1 n) (rows_of (codes "entry") db))) (map entry_in rows)
+          (subst (IsPermutation (filter (λ (e : spec.Entry). same_number e.edition n) es)) (filter_numbered n (rows_of (codes "entry") db) entries_written) (IsPermutation-filter (λ (e : spec.Entry). same_number e.edition n) _ _ entries_kept)) (IsPermutation-map entry_in _ _ same),
+      all_same IsEntryRow (filter (equals_number 1 n) (rows_of (codes "entry") db)) rows same (all_filter IsEntryRow (equals_number 1 n) (rows_of (codes "entry") db) entries_written),
+    )
+
+  -- entries with the same rows are the same, in whatever order
+  pub entries_both : (xs ys : List spec.Entry) (rows : List Row) → IsPermutation (map (entry_cells layout) xs) rows → IsPermutation (map (entry_cells layout) ys) rows → IsPermutation xs ys
+  entries_both xs ys rows a b =
+      let between = IsPermutation-trans (map (entry_cells layout) xs) rows (map (entry_cells layout) ys) a (IsPermutation-sym (map (entry_cells layout) ys) rows b) in
+      subst (λ l. IsPermutation l ys) (back xs) (subst (IsPermutation (map (decode_cells layout) (map (entry_cells layout) xs))) (back ys) (IsPermutation-map (decode_cells layout) _ _ between))
+    where
+      back : (ws : List spec.Entry) → map (decode_cells layout) (map (entry_cells layout) ws) ≡ ws
+      back [] = refl
+      back (w ∷ ws) = λ i. cells_back layout w i ∷ back ws i
