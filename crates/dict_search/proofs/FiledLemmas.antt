@@ -11,7 +11,7 @@ use Rattle.sqlite.specs.declared.types.Value.{Value}
 use Rattle.sqlite.specs.declared.types.Value.TheVariants.{Int, Blob}
 use Rattle.dict_text.proofs.AllLemmas.{all_filter}
 use Rattle.dict_sql.specs.Columns.{HasColumns}
-use Rattle.dict_sql.specs.Keyed.{keyed_entry_columns}
+use Rattle.dict_sql.specs.Keyed.{keyed_entry_row, keyed_entry_columns}
 use Rattle.dict_sql.specs.Effects.{rows_of, equals_number, same_value}
 use Rattle.dict_sql.specs.Reads.{by_columns}
 use Rattle.dict_index.specs.Line.{Line}
@@ -25,7 +25,7 @@ use Rattle.dict_keyed_sql.specs.Joined.{equals_octets, equal_values, is_named, r
 use Rattle.dict_keyed_sql.specs.Scans.{IsWhole, is_between}
 use Rattle.dict_keyed_sql.proofs.NamedLemmas.{named_apart}
 use Rattle.dict_keyed_sql.proofs.OnceLemmas.{filter_twice, word_once, grams_once}
-use Rattle.dict_search.specs.Searches.{HoldsLines, filed_row, filed_lines, filed_of, filed_in, keys_of, scan_for}
+use Rattle.dict_search.specs.Searches.{HoldsLines, filed_lines, filed_of, filed_in, keys_of, scan_for}
 use Rattle.dict_search.proofs.SortLemmas.{sorted_order, one_le, map_twice, map_undone, all_unmapped, filter_all, order_mapped}
 
 -- ---- the records that rows are read as
@@ -93,18 +93,18 @@ row_test db number looked r = test_by db number looked (column r 2) (column r 6)
 abbrev pub is_looked_at : Database → ℤ → Rows → Filed → Bool
 is_looked_at db number looked f = test_by db number looked (Int f.ord) (Blob f.key) (Blob f.reversed)
 
-agrees : (db : Database) (number : ℤ) (looked : Rows) (r : Row) → drop 1 r ≡ filed_row (filed_of (drop 1 r)) → row_test db number looked r ≡ is_looked_at db number looked (filed_of (drop 1 r))
+agrees : (db : Database) (number : ℤ) (looked : Rows) (r : Row) → drop 1 r ≡ keyed_entry_row (filed_of (drop 1 r)) → row_test db number looked r ≡ is_looked_at db number looked (filed_of (drop 1 r))
 agrees db number looked r read =
     let f = filed_of (drop 1 r) in
-    let two : column r 2 ≡ Int f.ord = column_behind r 1 (filed_row f) read in
-    let six : column r 6 ≡ Blob f.key = column_behind r 5 (filed_row f) read in
-    let seven : column r 7 ≡ Blob f.reversed = column_behind r 6 (filed_row f) read in
+    let two : column r 2 ≡ Int f.ord = column_behind r 1 (keyed_entry_row f) read in
+    let six : column r 6 ≡ Blob f.key = column_behind r 5 (keyed_entry_row f) read in
+    let seven : column r 7 ≡ Blob f.reversed = column_behind r 6 (keyed_entry_row f) read in
     ap (λ v. test_by db number looked v (column r 6) (column r 7)) two ∙ (ap (λ v. test_by db number looked (Int f.ord) v (column r 7)) six ∙ ap (λ v. test_by db number looked (Int f.ord) (Blob f.key) v) seven)
 
-in_order : (a b : Row) → drop 1 a ≡ filed_row (filed_of (drop 1 a)) → drop 1 b ≡ filed_row (filed_of (drop 1 b)) → is_lt (by_columns (2 ∷ []) b a) ≡ false → (filed_of (drop 1 a)).ord ≤ℤ (filed_of (drop 1 b)).ord
+in_order : (a b : Row) → drop 1 a ≡ keyed_entry_row (filed_of (drop 1 a)) → drop 1 b ≡ keyed_entry_row (filed_of (drop 1 b)) → is_lt (by_columns (2 ∷ []) b a) ≡ false → (filed_of (drop 1 a)).ord ≤ℤ (filed_of (drop 1 b)).ord
 in_order a b read_a read_b h =
-    let one : column a 2 ≡ Int (filed_of (drop 1 a)).ord = column_behind a 1 (filed_row (filed_of (drop 1 a))) read_a in
-    let two : column b 2 ≡ Int (filed_of (drop 1 b)).ord = column_behind b 1 (filed_row (filed_of (drop 1 b))) read_b in
+    let one : column a 2 ≡ Int (filed_of (drop 1 a)).ord = column_behind a 1 (keyed_entry_row (filed_of (drop 1 a))) read_a in
+    let two : column b 2 ≡ Int (filed_of (drop 1 b)).ord = column_behind b 1 (keyed_entry_row (filed_of (drop 1 b))) read_b in
     one_le (filed_of (drop 1 a)).ord (filed_of (drop 1 b)).ord
     (subst (λ v. is_lt (ordering_then (value_cmp (Int (filed_of (drop 1 b)).ord) v) Equal) ≡ false) one (subst (λ v. is_lt (ordering_then (value_cmp v (column a 2)) Equal) ≡ false) two h))
 
@@ -150,10 +150,10 @@ module _ (db : Database) (number : ℕ) (lines : List Line) (h : HoldsLines db n
       let one = picked looked rows w in
       let decoded : List Filed = map (λ r. filed_of (drop 1 r)) rows in
       let all = filter (is_looked_at db (pos number) looked) (filed_lines number lines) in
-      let same : IsPermutation all decoded = selected filed_row filed_of (λ f. refl) under (filed_lines number lines) h.entries (row_test db (pos number) looked) (is_looked_at db (pos number) looked) (agrees db (pos number) looked) rows one.0 in
-      let read = selected_read filed_row filed_of (λ f. refl) under (filed_lines number lines) h.entries (row_test db (pos number) looked) (is_looked_at db (pos number) looked) (agrees db (pos number) looked) rows one.0 in
+      let same : IsPermutation all decoded = selected keyed_entry_row filed_of (λ f. refl) under (filed_lines number lines) h.entries (row_test db (pos number) looked) (is_looked_at db (pos number) looked) (agrees db (pos number) looked) rows one.0 in
+      let read = selected_read keyed_entry_row filed_of (λ f. refl) under (filed_lines number lines) h.entries (row_test db (pos number) looked) (is_looked_at db (pos number) looked) (agrees db (pos number) looked) rows one.0 in
       let rising : InOrder (λ (a b : Filed). a.ord ≤ℤ b.ord) decoded =
-      order_mapped (λ r. drop 1 r ≡ filed_row (filed_of (drop 1 r))) (λ r. filed_of (drop 1 r)) (λ a b. is_lt (by_columns (2 ∷ []) b a) ≡ false) (λ (a b : Filed). a.ord ≤ℤ b.ord) in_order rows read (sorted_order (2 ∷ []) rows one.1) in
+      order_mapped (λ r. drop 1 r ≡ keyed_entry_row (filed_of (drop 1 r))) (λ r. filed_of (drop 1 r)) (λ a b. is_lt (by_columns (2 ∷ []) b a) ≡ false) (λ (a b : Filed). a.ord ≤ℤ b.ord) in_order rows read (sorted_order (2 ∷ []) rows one.1) in
       sym (ordered_once (λ (f : Filed). f.ord) all decoded (same_from all decoded same) (order_passed (λ (a b : Filed). Below a.ord b.ord) (is_looked_at db (pos number) looked) (filed_lines number lines) (rises number lines)) rising)
 
   -- each row that a reading gives stands for a record, where each under the number does

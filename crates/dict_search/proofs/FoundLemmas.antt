@@ -17,6 +17,7 @@ use Rattle.dict_match.specs.declared.strategy.Strategy.{Strategy}
 use Rattle.dict_match.proofs.DecideLemmas.{hit_law}
 use Rattle.dict_match.proofs.VersionLaws.{key_of-utf8, empty_alike}
 use Rattle.dict_sql.specs.Effects.{same_value}
+use Rattle.dict_sql.specs.Keyed.{keyed_entry_row}
 use Rattle.dict_sql.proofs.KitLemmas.{value_cmp-Blob}
 use Rattle.dict_index.specs.Line.{Line}
 use Rattle.dict_index.specs.Edition.{Entry, ReadEdition, entry_in, edition_of}
@@ -31,7 +32,7 @@ use Rattle.dict_keyed_sql.proofs.NamedLemmas.{named_where}
 use Rattle.dict_keyed_sql.proofs.OnceLemmas.{filter_twice}
 use Rattle.dict_desk.specs.Found.{found, is_found, distinct}
 use Rattle.dict_desk.specs.Shown.{headword_rows}
-use Rattle.dict_search.specs.Searches.{HoldsLines, filed_row, filed_lines, keys_of}
+use Rattle.dict_search.specs.Searches.{HoldsLines, filed_lines, keys_of}
 use Rattle.dict_search.specs.Handed.{is_key_found, is_entry_found, entry_cut, rows_found, headword_row, rows_listed}
 use Rattle.dict_search.proofs.FiledLemmas.{is_looked_at}
 use Rattle.dict_search.proofs.SortLemmas.{filter_same}
@@ -127,12 +128,12 @@ module _ (db : Database) (number : ℕ) (lines : List Line) (h : HoldsLines db n
       between f.reversed low high ∙ ap (λ k. is_le (octets_cmp low k) && is_le (octets_cmp k high)) at.back in
       (λ e. and_parts (is_le (octets_cmp low (reverse f.key))) (is_le (octets_cmp (reverse f.key) high)) (sym is ∙ e), λ e. is ∙ both (is_le (octets_cmp low (reverse f.key))) (is_le (octets_cmp (reverse f.key) high)) e.0 e.1)
   looks (WithGrams a b) f at =
-      let row : Row = Int f.ord ∷ filed_row f in
+      let row : Row = Int f.ord ∷ keyed_entry_row f in
       let one = named_where Grams (pos number) (keys_of lines) db h.grams a row at.place f.key (ap Int at.ord) at.there in
       let two = named_where Grams (pos number) (keys_of lines) db h.grams b row at.place f.key (ap Int at.ord) at.there in
       (λ e. let parts = and_parts _ _ e in (one.0 parts.0, two.0 parts.1), λ e. both _ _ (one.1 e.0) (two.1 e.1))
   looks (WithWord w) f at =
-      let row : Row = Int f.ord ∷ filed_row f in
+      let row : Row = Int f.ord ∷ keyed_entry_row f in
       named_where Words (pos number) (keys_of lines) db h.words w row at.place f.key (ap Int at.ord) at.there
 
   module _ (strategy : Strategy) (query : List ℕ) where

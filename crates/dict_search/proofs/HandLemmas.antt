@@ -28,7 +28,7 @@ use Rattle.dict_desk.specs.declared.lookup.End.TheVariants.{All, Stopped}
 use Rattle.dict_desk.proofs.HandingLemmas.{hands_all, hands_stopped, hands_front}
 use Rattle.dict_search.specs.Searches.{IsReading, IsToCome, FailsToLookUp}
 use Rattle.dict_search.specs.Handed.{is_entry_found, entry_cut, rows_found, shown_found, headword_row, rows_listed, rows_new, HasTexts}
-use Rattle.dict_search.proofs.FailLemmas.{as_it_was, fails_behind}
+use Rattle.dict_search.proofs.FailLemmas.{fails_behind}
 use Rattle.dict_search.proofs.SortLemmas.{few_passed}
 use Rattle.dict_search.proofs.StreamLemmas.{some_to_come}
 
@@ -277,7 +277,7 @@ module _ {S K : Type 0} (g : Ghosts S) (takes stops : K → List Entry → K →
   -- so many entries are no edition's
   pub too_many : (Knows : List Filed → Type 0) (now : Held S) (last : K) → Goes Knows now last → ((done : List Filed) → Knows done → 65536 ≤ length done) → HasCleanDisk (state g now) → (number : ℕ) → IsReading g number start → FailsToLookUp number (state g start) (state g now) Disk
   too_many Knows now last goes many clean number reading = inl (
-    as_it_was (state g start) (state g now) (goes.same clean),
+    goes.same clean,
     inr (λ readable.
         let all = some_to_come g start number reading readable in
         let known = goes.value clean all.0 all.1 in

@@ -2,6 +2,7 @@ pub mod FailLemmas
 pub mod FiledLemmas
 pub mod FoundLemmas
 pub mod HandLemmas
+pub mod HeldLemmas
 pub mod RecordLemmas
 pub mod SortLemmas
 pub mod StateLemmas

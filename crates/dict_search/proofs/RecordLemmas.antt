@@ -1,6 +1,7 @@
 -- The edition that a database holds under a number.
 use Rattle.std.proofs.Common.{◌≡◌, ℕ, ◌<◌, ◌≤◌, Bool, true, false, cond, leb, List, [], ◌∷◌, length, map, filter, drop, codes, get_or, refl, ap, sym, subst, ◌∙◌, arith}
-use Rattle.std.specs.Prelude.{ℤ, pos, Option, Some, None, String, Vec, option_map, ◌-◌}
+use Rattle.std.specs.Prelude.{ℤ, pos, Option, Some, None, String, string_bytes, Vec, option_map, ◌-◌, IsPermutation}
+use Rattle.std.specs.List.{AllByRecursion}
 use Rattle.std.specs.declared.alloc.Global.{Global}
 use Rattle.std.proofs.lemmas.List.Sorted.{IsPermutation-map, IsPermutation-trans}
 use Rattle.std.proofs.lemmas.Bool.{leb-true, le-leb}
@@ -9,18 +10,23 @@ use mir.Val.{to_z, of_z}
 use mir.Syntax.{w64}
 use Rattle.sqlite.specs.Order.{Row, column}
 use Rattle.sqlite.specs.Effect.{Database}
+use Rattle.sqlite.specs.declared.types.Value.{Value}
+use Rattle.sqlite.specs.declared.types.Value.TheVariants.{Text as Letters}
+use Rattle.dict_text.proofs.AllLemmas.{all_map}
 use Rattle.dict_records.specs.Records.{Edition}
 use Rattle.dict_records.specs.Typed.{owned_edition}
 use Rattle.dict_records.specs.declared.records.Stored.{Stored as Stored'}
 use Rattle.dict_records.specs.declared.records as typed
+use Rattle.dict_sql.specs.Columns.{HasColumns, edition_columns}
 use Rattle.dict_sql.specs.Effects.{rows_of, equals_number}
 use Rattle.dict_sql.specs.Encodings.{edition_row, stored_edition}
 use Rattle.dict_sql.specs.Reads.{IsSelection}
 use Rattle.dict_index.specs.Edition.{ReadEdition}
 use Rattle.dict_rows.specs.Written.{edition_record}
 use Rattle.dict_rows.proofs.OrderLemmas.{same_from, one_once}
+use Rattle.dict_keyed_sql.specs.Infos.{editions_with, informed, informed_columns}
 use Rattle.dict_search.specs.Searches.{HoldsOne, column_of, number_in, text_in, octets_in}
-use Rattle.dict_search.proofs.FiledLemmas.{same_records}
+use Rattle.dict_search.proofs.FiledLemmas.{column_behind, same_records}
 use Rattle.dict_search.proofs.SortLemmas.{map_twice}
 
 abbrev pub decode_edition : Row → Edition
@@ -83,3 +89,47 @@ record_there (Some e) r is apart = apart e refl
 
 pub record_told : (told : Option TypedEdition) (e : TypedEdition) (r : Edition) → option_map owned_edition told ≡ Some r → told ≡ Some e → owned_edition e ≡ r
 record_told told e r is there = let same : option_map owned_edition (Some e) ≡ Some r = sym (ap (option_map owned_edition) there) ∙ is in cc
+
+-- ---- the info
+
+infos_behind : (rows : List Row) → map (λ (r : Row). column r 4) rows ≡ map (λ (r : Row). column r 3) (map (drop 1) rows)
+infos_behind [] = refl
+infos_behind (r ∷ rows) = let first : column r 4 ≡ column (drop 1 r) 3 = column_behind r 3 (drop 1 r) refl in let rest = infos_behind rows in λ j. first j ∷ rest j
+
+one_text : (infos : List (String Global)) (info : List ℕ) → map Letters (map string_bytes infos) ≡ Letters info ∷ [] → (s : String Global) × (infos ≡ s ∷ []) × (string_bytes s ≡ info)
+one_text [] info e = absurd (cc)
+one_text (s ∷ []) info e = (s, refl, let same : Letters (string_bytes s) ∷ [] ≡ Letters info ∷ [] = e in cc)
+one_text (s ∷ t ∷ infos) info e = absurd (cc)
+
+-- the one info of an edition's number
+pub info_told : (db : Database) (number : ℕ) (reading : ReadEdition) → HoldsOne db number reading → (infos : List (String Global)) (z : ℤ) → z ≡ pos number
+    → IsPermutation (map (λ (r : Row). column r 4) (editions_with z db)) (map Letters (map string_bytes infos)) → (s : String Global) × (infos ≡ s ∷ []) × (string_bytes s ≡ reading.info)
+info_told db number reading one infos z same h =
+    let part : List Row = editions_with (pos number) db in
+    let it = edition_record one.owner number reading in
+    let rows : map (drop 1) part ≡ edition_row it ∷ [] = one_once (edition_row it) (map (drop 1) part) (same_from (edition_row it ∷ []) (map (drop 1) part) one.row) in
+    let texts : map (λ (r : Row). column r 4) part ≡ Letters reading.info ∷ [] = infos_behind part ∙ ap (map (λ (r : Row). column r 3)) rows in
+    let told : IsPermutation (Letters reading.info ∷ []) (map Letters (map string_bytes infos)) = subst (λ (l : List Value). IsPermutation l (map Letters (map string_bytes infos))) texts (subst (λ n. IsPermutation (map (λ (r : Row). column r 4) (editions_with n db)) (map Letters (map string_bytes infos))) same h) in
+    one_text infos reading.info (one_once (Letters reading.info) (map Letters (map string_bytes infos)) (same_from (Letters reading.info ∷ []) (map Letters (map string_bytes infos)) told))
+
+pub last_told : (infos : List (String Global)) (s : String Global) (told : Option (String Global)) → infos ≡ s ∷ [] → ((d : String Global) → 0 < length infos → told ≡ Some (get_or infos (length infos - 1) d)) → told ≡ Some s
+last_told infos s told is h = subst (λ (l : List (String Global)). 0 < length l → told ≡ Some (get_or l (length l - 1) s)) is (h s) (let one : 0 < 1 = omega arith in one)
+
+pub text_there : (told : Option (String Global)) (info : List ℕ) → option_map string_bytes told ≡ Some info → ((s : String Global) → told ≡ Some s → ⊥) → ⊥
+text_there None info is apart = absurd (cc)
+text_there (Some s) info is apart = apart s refl
+
+pub text_told : (told : Option (String Global)) (s : String Global) (info : List ℕ) → option_map string_bytes told ≡ Some info → told ≡ Some s → string_bytes s ≡ info
+text_told told s info is there = let same : option_map string_bytes (Some s) ≡ Some info = sym (ap (option_map string_bytes) there) ∙ is in cc
+
+-- each row that was read without its text is one of a record
+pub informed_rows : (rows : List Row) → AllByRecursion (HasColumns edition_columns) rows → AllByRecursion (HasColumns informed_columns) (map informed rows)
+informed_rows rows h = all_map (HasColumns edition_columns) (HasColumns informed_columns) informed one_row rows h
+  where
+    one_row : (r : Row) → HasColumns edition_columns r → HasColumns informed_columns (informed r)
+    one_row [] h = absurd h
+    one_row (a ∷ []) h = absurd h.1
+    one_row (a ∷ b ∷ []) h = absurd h.1.1
+    one_row (a ∷ b ∷ c ∷ []) h = absurd h.1.1.1
+    one_row (a ∷ b ∷ c ∷ d ∷ []) h = absurd h.1.1.1.1
+    one_row (a ∷ b ∷ c ∷ d ∷ e ∷ r) h = (h.1.1.1.1.0, (h.1.0, tt))

@@ -18,7 +18,7 @@ use Rattle.dict_derived.specs.Entries.{Filed, filed}
 use Rattle.dict_derived.specs.Search.{Rows}
 use Rattle.dict_keyed_sql.specs.Scans.{Scan, HasGiven, FailsToGive, IsWhole, IsFront}
 use Rattle.dict_search.specs.Searches.{HoldsLines, IsReadable, FailsToLookUp, IsReading, IsToCome, fault_of, fault_of_read, filed_in, filed_lines, scan_for, IsUnread}
-use Rattle.dict_search.proofs.FailLemmas.{as_it_was, read_fails}
+use Rattle.dict_search.proofs.FailLemmas.{read_fails}
 use Rattle.dict_search.proofs.FiledLemmas.{is_looked_at, looked_at, readable_row}
 use Rattle.dict_search.proofs.SortLemmas.{few_passed}
 
@@ -112,11 +112,11 @@ module _ {S : Type 0} (g : Ghosts S) where
     fails_next NoRecord why number h =
         let passed = why (scan_for (pos number) h.looked) h.given h.has_given in
         inl (
-          as_it_was (state g old) (state g new) passed.1.0,
+          passed.1.0,
           inr (λ readable. passed.2 (row_read (state g new).now number (subst (λ (db : Database). IsReadable db number) (sym passed.1.0.0.now_is) readable) h.looked h.given passed.0 passed.1.1.front)),
         )
     fails_next (Store e) why number h = by_cause (why (scan_for (pos number) h.looked) h.given h.has_given)
       where
         by_cause : FailsToGive g keyed_entry_columns (scan_for (pos number) h.looked) old new h.given (Store e) → FailsToLookUp number (state g old) (state g new) (fault_of_read (Store e))
         by_cause (inl fails) = read_fails number (state g old) (state g new) e fails.0
-        by_cause (inr refused) = inl (as_it_was (state g old) (state g new) refused.2.0, subst (λ e. IsUnread number (state g old) (fault_of e)) (sym refused.0) tt)
+        by_cause (inr refused) = inl (refused.2.0, subst (λ e. IsUnread number (state g old) (fault_of e)) (sym refused.0) tt)

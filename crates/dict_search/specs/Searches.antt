@@ -4,11 +4,9 @@ use Rattle.std.specs.List.{AllByRecursion}
 use Rattle.sqlite.specs.declared.types.Value.{Value}
 use Rattle.sqlite.specs.declared.types.Value.TheVariants.{Int, Text, Blob}
 use Rattle.sqlite.specs.declared.error.Error.{Error}
-use Rattle.sqlite.specs.declared.error.Error.TheVariants.{SqliteFailure}
-use Rattle.sqlite.specs.declared.error.ErrorCode.TheVariants as code
 use Rattle.sqlite.specs.Order.{Row, column}
 use Rattle.sqlite.specs.Effect.{Database}
-use Rattle.sqlite.specs.State.{State, KeepsCounts, Fails}
+use Rattle.sqlite.specs.State.{State, IsUnchanged, Fails}
 use Rattle.sqlite.specs.Held.{Held, state}
 use Rattle.sqlite_trees.specs.declared.store.Store.{Ghosts}
 use Rattle.dict_match.specs.Key.{key_of}
@@ -19,8 +17,6 @@ use Rattle.dict_sql.specs.Effects.{Has, equals_number, rows_of}
 use Rattle.dict_sql.specs.Columns.{HasColumns, edition_columns}
 use Rattle.dict_sql.specs.Encodings.{edition_row}
 use Rattle.dict_sql.specs.Keyed.{keyed_entry_row, keyed_entry_columns}
-use Rattle.dict_sql.specs.declared.records.ReadError.{ReadError}
-use Rattle.dict_sql.specs.declared.records.ReadError.TheVariants.{NoRecord, Store}
 use Rattle.dict_index.specs.Line.{Line}
 use Rattle.dict_index.specs.Edition.{ReadEdition}
 use Rattle.dict_index.specs.WellFormed.{IsEntryHeadword}
@@ -31,6 +27,7 @@ use Rattle.dict_derived.specs.declared.reader.Pieces.TheVariants.{Words, Grams}
 use Rattle.dict_keyed_sql.specs.Pieces.{HasDerived}
 use Rattle.dict_keyed_sql.specs.Scans.{Scan, HasGiven, IsWhole}
 use Rattle.dict_keyed_sql.specs.Scans.Scan.{Of, WithKey as KeyScan, Between as KeysScan, BetweenReversed as ReversedScan, WithWord as WordScan, WithGrams as GramsScan}
+pub use Rattle.dict_file.specs.Faults.{fault_of, fault_of_read}
 use Rattle.dict_desk.specs.declared.fault.Fault.{Fault}
 use Rattle.dict_desk.specs.declared.fault.Fault.TheVariants.{Refused, Memory, Disk, Closed, NotACatalogue, Damaged, NewerSchema}
 
@@ -39,10 +36,6 @@ abbrev pub HasTables : Database → Type 0
 HasTables db = Has edition db × Has entry db × Has word db × Has gram db
 
 -- ---- what the database holds under the number of an edition
-
--- the columns of a filed entry
-abbrev pub filed_row : Filed → Row
-filed_row f = keyed_entry_row (record { edition = f.edition; ord = f.ord; headword = f.headword; start = f.start; length = f.length; key = f.key; reversed = f.reversed; shown = f.shown })
 
 -- the rows of a table that have this number, without their rowids
 abbrev pub rows_under : List ℕ → ℕ → Database → List Row
@@ -60,7 +53,7 @@ keys_of lines = map (λ (line : Line). key_of line.headword) lines
 pub record HoldsLines (db : Database) (number : ℕ) (lines : List Line) : Type 0 where
   pub headwords : AllByRecursion (λ (line : Line). IsEntryHeadword line.headword) lines
   pub few : length lines ≤ 65535
-  pub entries : IsPermutation (map filed_row (filed_lines number lines)) (rows_under (codes "entry") number db)
+  pub entries : IsPermutation (map keyed_entry_row (filed_lines number lines)) (rows_under (codes "entry") number db)
   pub words : HasDerived Words (pos number) (keys_of lines) db
   pub grams : HasDerived Grams (pos number) (keys_of lines) db
 
@@ -85,16 +78,6 @@ pub record IsReadable (db : Database) (number : ℕ) : Type 0 where
 
 -- ---- why a lookup fails, and how it leaves the store
 
--- refused memory, or the store failed
-abbrev pub fault_of : Error → Fault
-fault_of (SqliteFailure code.OutOfMemory) = Memory
-fault_of _ = Disk
-
--- the fault of a read: a row that is no record is the store's failure too
-abbrev pub fault_of_read : ReadError → Fault
-fault_of_read NoRecord = Disk
-fault_of_read (Store e) = fault_of e
-
 -- the faults of a lookup over an open store
 abbrev pub IsOfStore : Fault → Type 0
 IsOfStore (Refused refusal) = ⊥
@@ -104,15 +87,6 @@ IsOfStore Closed = ⊥
 IsOfStore NotACatalogue = ⊥
 IsOfStore Damaged = ⊥
 IsOfStore NewerSchema = ⊥
-
--- nothing has changed, whether the connection is open or shut
-pub record IsAsBefore (old new : State) : Type 0 where
-  pub is_open : new.is_open ≡ old.is_open
-  pub now_is : new.now ≡ old.now
-  pub committed_is : new.committed ≡ old.committed
-  pub mode : new.in_transaction ≡ old.in_transaction
-  pub counts : KeepsCounts old new
-  pub marks : new.marks ≡ old.marks
 
 -- Why a lookup under this number fails though its store doesn't: a growth was refused; or the limit on steps was met, or
 -- what stands under the number is no edition's.
@@ -128,7 +102,7 @@ IsUnread number old NewerSchema = ⊥
 -- A lookup under this number failed: the store did, for the cause that its error names, of which this is the fault, and it
 -- shows what was committed; or nothing has changed, and the store did not fail.
 abbrev pub FailsToLookUp : ℕ → State → State → Fault → Type 0
-FailsToLookUp number old new fault = (IsAsBefore old new × IsUnread number old fault) ⊎ ((e : Error) × (fault ≡ fault_of e) × Fails old new ⊥ e)
+FailsToLookUp number old new fault = (IsUnchanged old new × IsUnread number old fault) ⊎ ((e : Error) × (fault ≡ fault_of e) × Fails old new ⊥ e)
 
 -- ---- what is read row by row
 

@@ -1,5 +1,5 @@
 // The reading of the entries that a query looks at begins.
-ghost use Rattle.std.specs.Prelude.{◌≡◌, false, [], IfOk};
+ghost use Rattle.std.specs.Prelude.{◌≡◌, false, ℕ, [], IfOk};
 ghost use Rattle.std.specs.Borrow.{sem, RestsIfErr};
 ghost use Rattle.sqlite.specs.State.{HasCleanDisk, IsUnchanged, Survives};
 ghost use Rattle.sqlite.specs.Held.{state};
@@ -8,13 +8,16 @@ ghost use Rattle.dict_sql.specs.Effects.{WhileOpen};
 ghost use Rattle.dict_sql.specs.Streams.{IsNotBegun};
 ghost use Rattle.dict_derived.specs.Search.{rows_of};
 ghost use Rattle.dict_keyed_sql.specs.Scans.{HasGiven};
-ghost use Rattle.dict_search.specs.Searches.{HasTables, scan_for};
+ghost use Rattle.dict_search.specs.Searches.{HasTables, FailsToLookUp, IsOfStore, scan_for};
 
+use crate::fault::fault_of_read;
 use dict_derived::Selection;
+use dict_desk::Fault;
 use dict_keyed_sql::{
     read_between, read_between_reversed, read_rows_of, read_with_grams, read_with_key,
     read_with_word,
 };
+use dict_sql::records::ReadError;
 use dict_tables::KeyedTable;
 use sqlite::{Alter, Connection, Error, Rows};
 
@@ -44,5 +47,19 @@ pub(crate) fn begin<'a, S: Alter>(
             read_with_grams(conn, number, first.as_slice(), last.as_slice())
         }
         Selection::Word(word) => read_with_word(conn, number, word.as_slice()),
+    }
+}
+
+// The fault where a growth was refused before anything was read: that, while the store is open; else the store's.
+pub(crate) fn refused_first<S: Alter>(conn: &mut Connection<S>) -> Fault
+    requires { WhileOpen (state S.Store conn.old) HasTables }
+    ensures failed { HasCleanDisk (state S.Store conn.new) → (number : ℕ) → FailsToLookUp number (state S.Store conn.old) (state S.Store conn.new) result }
+    ensures kind { IsOfStore result }
+    ensures mode { conn.old.in_transaction ≡ false → conn.new.in_transaction ≡ false }
+    ensures survives { Survives (state S.Store conn.old) (state S.Store conn.new) (λ _. ⊥) }
+{
+    match begin(conn, 0, &Selection::Nothing) {
+        Ok(_rows) => Fault::Memory,
+        Err(error) => fault_of_read(ReadError::Store(error)),
     }
 }

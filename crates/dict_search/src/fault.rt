@@ -1,21 +1,10 @@
 // Why a read fails.
 ghost use Rattle.std.specs.Prelude.{◌≡◌};
-ghost use Rattle.dict_search.specs.Searches.{fault_of, fault_of_read, IsOfStore};
+ghost use Rattle.dict_search.specs.Searches.{fault_of_read, IsOfStore};
 
 use dict_desk::Fault;
+use dict_file::fault_of;
 use dict_sql::records::ReadError;
-use sqlite::{Error, ErrorCode};
-
-// The fault of a statement: refused memory, or the store failed.
-pub(crate) fn fault_of(error: Error) -> Fault
-    ensures is { result ≡ fault_of error }
-    ensures kind { IsOfStore result }
-{
-    match error {
-        Error::SqliteFailure(ErrorCode::OutOfMemory) => Fault::Memory,
-        _ => Fault::Disk,
-    }
-}
 
 // The fault of a read. Where a row is no record, the store has not given what was written.
 pub(crate) fn fault_of_read(error: ReadError) -> Fault

@@ -8,8 +8,10 @@ mod counter;
 mod entries;
 mod fault;
 mod found;
+mod laws;
 mod listed;
 mod lookups;
 mod record;
 
+pub use laws::held_laws;
 pub use lookups::{count, find, heads, info};

@@ -9,15 +9,16 @@ ghost use Rattle.dict_desk.specs.Shown.{headword_rows, info_rows, count_of};
 ghost use Rattle.dict_desk.specs.Handing.{Hands};
 ghost use Rattle.dict_search.specs.Searches.{HasTables, HoldsOne, IsReadable, FailsToLookUp, IsOfStore, column_of};
 
-use crate::begin::begin;
+use crate::begin::{begin, refused_first};
 use crate::counter::Counter;
-use crate::fault::fault_of;
+use crate::fault::fault_of_read;
 use crate::found::hand_found;
 use crate::listed::hand_listed;
-use crate::record::{column_number, edition_of_number};
+use crate::record::{column_number, edition_of_number, info_of_number};
 use dict_derived::select;
 use dict_desk::{End, Fault, RowSink, Turn, What};
 use dict_match::{Key, Strategy};
+use dict_sql::records::ReadError;
 use sqlite::{Alter, Connection};
 use std::alloc::Global;
 
@@ -43,10 +44,12 @@ fn find_in<S: Alter, T: RowSink>(
     ensures mode { conn.old.in_transaction ≡ false → conn.new.in_transaction ≡ false }
     ensures survives { Survives (state S.Store conn.old) (state S.Store conn.new) (λ _. ⊥) }
 {
-    let selection = select(alloc, strategy, query.as_bytes())?;
+    let Ok(selection) = select(alloc, strategy, query.as_bytes()) else {
+        return Err(refused_first(conn));
+    };
     match begin(conn, column_number(number), &selection) {
         Ok(mut rows) => hand_found(&mut rows, text, strategy, query, sink, rows_taken),
-        Err(error) => Err(fault_of(error)),
+        Err(error) => Err(fault_of_read(ReadError::Store(error))),
     }
 }
 
@@ -71,15 +74,17 @@ fn heads_in<S: Alter, T: RowSink>(
     ensures mode { conn.old.in_transaction ≡ false → conn.new.in_transaction ≡ false }
     ensures survives { Survives (state S.Store conn.old) (state S.Store conn.new) (λ _. ⊥) }
 {
-    let selection = select(alloc, strategy, query.as_bytes())?;
+    let Ok(selection) = select(alloc, strategy, query.as_bytes()) else {
+        return Err(refused_first(conn));
+    };
     match begin(conn, column_number(number), &selection) {
         Ok(mut rows) => hand_listed(alloc, &mut rows, strategy, query, sink, rows_taken),
-        Err(error) => Err(fault_of(error)),
+        Err(error) => Err(fault_of_read(ReadError::Store(error))),
     }
 }
 
-/// Hands one row to the sink: the empty headword, and what the edition's database says of itself. Of a number that no
-/// edition has nothing is told. It reads the edition's whole record, its text too.
+/// Hands one row to the sink: the empty headword, and what the edition's database says of itself, and counts the rows that
+/// its statement hands over. Of a number that no edition has nothing is told. The edition's text isn't read.
 ///
 /// `Memory` tells that a growth was refused, `Disk` that the store failed, or that the limit on steps was met. The database
 /// stays as it is.
@@ -88,6 +93,7 @@ pub fn info<S: Alter, T: RowSink>(
     conn: &mut Connection<S>,
     number: u64,
     sink: &mut T,
+    rows_taken: &mut u64,
 ) -> Result<End, Fault>
     requires { WhileOpen (state S.Store conn.old) HasTables }
     ensures value { HasCleanDisk (state S.Store conn.new) → (reading : ReadEdition) → HoldsOne (state S.Store conn.old).now number reading → Hands T.takes T.stops sink.old sink.new (info_rows (edition_of reading)) result }
@@ -99,11 +105,10 @@ pub fn info<S: Alter, T: RowSink>(
     ensures mode { conn.old.in_transaction ≡ false → conn.new.in_transaction ≡ false }
     ensures survives { Survives (state S.Store conn.old) (state S.Store conn.new) (λ _. ⊥) }
 {
-    let mut rows_taken = 0;
-    let Some(edition) = edition_of_number(alloc, conn, number, &mut rows_taken)? else {
+    let Some(info) = info_of_number(alloc, conn, number, rows_taken)? else {
         return Ok(End::All);
     };
-    match sink.take("", edition.info.as_bytes()) {
+    match sink.take("", info.as_bytes()) {
         Turn::More => Ok(End::All),
         Turn::Stop => Ok(End::Stopped),
     }

@@ -1,16 +1,14 @@
 use Rattle.std.proofs.Common.{◌≡◌, ◌≤◌, inl, inr, arith, [], ◌+◌, length, sym, subst, ap, ◌∙◌, zero-add}
 use Rattle.std.specs.Prelude.{Ok}
 use Rattle.std.proofs.lemmas.List.{length-map}
-use Rattle.sqlite.specs.State.{HasCleanDisk}
+use Rattle.sqlite.specs.State.{HasCleanDisk, IsUnchanged}
 use Rattle.sqlite.specs.Held.{state}
 use Rattle.dict_index.specs.Edition.{edition_of}
 use Rattle.dict_desk.specs.Found.{found, headwords}
 use Rattle.dict_desk.specs.Shown.{count_of, headword_rows}
 use Rattle.dict_desk.specs.declared.lookup.What.{What}
-use Rattle.dict_search.specs.Searches.{IsAsBefore}
 use Rattle.dict_search.specs.Handed.{headword_row}
 use Rattle.dict_search.specs.declared.counter.Counter.{Counter}
-use Rattle.dict_search.proofs.FailLemmas.{as_it_was}
 use Rattle.dict_search.proofs.FoundLemmas.{counts_same}
 use Rattle.dict_search.proofs.lookups.count.Goals as goal
 use Rattle.dict_search.proofs.lookups.count.Goals.{in-Entries+in_ok-end-in-Entries, in-Headwords+in_ok-end-in-Headwords}
@@ -38,7 +36,7 @@ returns-in-Stopped-clause-failed g c clean =
       | in-Entries+in_ok-end-in-Entries w ↦
           let early = subst (λ h. HasCleanDisk (state g.S.Store h)) w.conn-is clean in
           inl (
-            subst (λ h. IsAsBefore (state g.S.Store c.args.conn.now) (state g.S.Store h)) (sym w.conn-is) (as_it_was (state g.S.Store c.args.conn.now) (state g.S.Store w.find_in.new.conn) (w.in_ok-end-in-Entries.ensures.same early)),
+            subst (λ h. IsUnchanged (state g.S.Store c.args.conn.now) (state g.S.Store h)) (sym w.conn-is) (w.in_ok-end-in-Entries.ensures.same early),
             inr (λ readable.
                 let few = w.find_in.ensures.few early readable in
                 let limit = few.1 in
@@ -48,7 +46,7 @@ returns-in-Stopped-clause-failed g c clean =
       | in-Headwords+in_ok-end-in-Headwords w ↦
           let early = subst (λ h. HasCleanDisk (state g.S.Store h)) w.conn-is clean in
           inl (
-            subst (λ h. IsAsBefore (state g.S.Store c.args.conn.now) (state g.S.Store h)) (sym w.conn-is) (as_it_was (state g.S.Store c.args.conn.now) (state g.S.Store w.heads_in.new.conn) (w.in_ok-end-in-Headwords.ensures.same early)),
+            subst (λ h. IsUnchanged (state g.S.Store c.args.conn.now) (state g.S.Store h)) (sym w.conn-is) (w.in_ok-end-in-Headwords.ensures.same early),
             inr (λ readable.
                 let few = w.heads_in.ensures.few early readable in
                 let limit = few.1 in
