@@ -1,0 +1,16 @@
+use Rattle.std.proofs.Common.{inl, refl}
+use Rattle.sqlite.specs.Held.{state}
+use Rattle.dict_sql.proofs.StreamLemmas.{passed_on}
+use Rattle.dict_desk.specs.declared.fault.Fault.TheVariants.{Memory}
+use Rattle.dict_rows.specs.Versions.{next}
+use Rattle.dict_derived.specs.AllTables.{all_after}
+use Rattle.dict_keyed_commands.specs.Kept.{Turns}
+use Rattle.dict_keyed_commands.specs.Changes.{change_by}
+use Rattle.dict_keyed_commands.specs.Committed.{FailsToCommit}
+use Rattle.dict_keyed_commands.proofs.committing.commit_change.Goals as goal
+
+pub returns-in_err-keys-clause-failed : goal.returns-in_err-keys-clause-failed
+returns-in_err-keys-clause-failed g c clean =
+    let old = c.args.conn.now in
+    let change = change_by c.args.id.now c.args.command.now c.args.change.now in
+    passed_on (FailsToCommit g.S.Store change (Turns (all_after next change) (state g.S.Store old).now) old old) Memory c.from_residual.result c.from_residual.ensures.1 (inl (refl, refl))

@@ -1,0 +1,20 @@
+-- what was written so far
+use Rattle.std.proofs.Common.{◌≡◌, take}
+use Rattle.std.specs.Prelude.{flat_map}
+use Rattle.sqlite.specs.Held.{state}
+use Rattle.dict_sql.specs.Effects.{WhileOpen}
+use Rattle.dict_derived.specs.AllTables.{without_editions}
+use Rattle.dict_keyed_commands.specs.Kept.{IsUsable}
+use Rattle.dict_keyed_commands.specs.Statements.{taking}
+use Rattle.dict_keyed_commands.specs.Writes.{Wrote, Spares}
+use Rattle.dict_keyed_commands.proofs.editions.take_editions.Given as goal
+
+abbrev pub invariant-each : goal.invariant-each
+invariant-each g l =
+    let some = take l.number-index l.gone in
+    record {
+      same_reference : g.T.OpenTransaction.reference l.tx ≡ g.T.OpenTransaction.reference l.fn.tx;
+      wrote : Wrote g.S.Store (flat_map taking some) (without_editions some) (g.T.OpenTransaction.held l.fn.tx) (g.T.OpenTransaction.held l.tx);
+      usable : WhileOpen (state g.S.Store (g.T.OpenTransaction.held l.tx)) IsUsable;
+      spares : Spares g.S.Store (g.T.OpenTransaction.held l.fn.tx) (g.T.OpenTransaction.held l.tx);
+    }

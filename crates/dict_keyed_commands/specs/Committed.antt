@@ -1,0 +1,42 @@
+-- What a transaction leaves of a store.
+use Rattle.std.specs.Prelude.{◌≡◌, ◌⊎◌, IsTrue}
+use Rattle.sqlite.specs.Effect.{Database, IsDatabase}
+use Rattle.sqlite.specs.Tree.{Trees}
+use Rattle.sqlite.specs.State.{State}
+use Rattle.dict_desk.specs.declared.fault.Fault.{Fault}
+pub use Rattle.dict_file.specs.Writing.{Stays}
+use Rattle.dict_file.specs.Writing.{FailsToEnd}
+use Rattle.sqlite.specs.Held.{Held}
+use Rattle.sqlite_trees.specs.declared.store.Store.{Ghosts}
+use Rattle.dict_rows.specs.After.{Change}
+use Rattle.dict_rows.specs.Versions.{next}
+use Rattle.dict_keyed_commands.specs.Listed.{Listed, AreListed}
+use Rattle.dict_keyed_commands.specs.Statements.{statements_of}
+use Rattle.dict_desk.specs.declared.fault.Fault.TheVariants.{Refused, Memory, Disk, Closed, NotACatalogue, Damaged, NewerSchema}
+
+-- trees that a stop may leave: those of a database of this kind
+abbrev pub IsTreesOf : (Database → Type 0) → Trees → Type 0
+IsTreesOf P trees = (db : Database) × (trees ≡ db.trees) × IsDatabase db × P db
+
+-- the store is open and shows what is committed, which is of this kind, and a stop leaves such a database alone
+pub record IsCommitted (P : Database → Type 0) (s : State) : Type 0 where
+  pub is_open : IsTrue s.is_open
+  pub settled : s.now ≡ s.committed
+  pub holds : P s.committed
+  pub only : (trees : Trees) → s.may_leave trees → IsTreesOf P trees
+
+-- a growth was refused, or the store failed
+abbrev pub IsOfStore : Fault → Type 0
+IsOfStore (Refused refusal) = ⊥
+IsOfStore Memory = Unit {0}
+IsOfStore Disk = Unit {0}
+IsOfStore Closed = ⊥
+IsOfStore NotACatalogue = ⊥
+IsOfStore Damaged = ⊥
+IsOfStore NewerSchema = ⊥
+
+-- A planned command is not committed: a growth was refused before anything was written, and all is as it was; or one of its
+-- statements failed behind those before it, or its commit did.
+abbrev pub FailsToCommit : {S : Type 0} → Ghosts S → Change → (Database → Type 0) → Held S → Held S → Fault → Type 0
+FailsToCommit {S} g change P old new fault =
+    ((fault ≡ Memory) × (new ≡ old)) ⊎ ((listed : Listed) × AreListed change.edition listed × FailsToEnd g (statements_of next change listed) P old new fault)

@@ -1,0 +1,11 @@
+// What a command is answered.
+use dict_catalogue::{Kept, Summary};
+
+/// What a command is answered that was not refused.
+#[derive(Debug, Drop)]
+pub enum Applied {
+    /// The id was kept: the reply that is kept under it. Nothing has changed.
+    Before(Kept),
+    /// The command has done its effect, and its reply is kept: the reply, and the summary after it.
+    Now(Kept, Summary),
+}

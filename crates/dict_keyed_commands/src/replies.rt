@@ -1,0 +1,131 @@
+// The reply that is kept under an id.
+ghost use Rattle.std.specs.Prelude.{◌≡◌, ◌≢◌, ℕ, Option, false, pos, IfErr, IfOk, IfSome, IfNone, OnErr, OnOk, option_map, string_bytes};
+ghost use Rattle.sqlite.specs.State.{HasCleanDisk, IsUnchanged, Survives};
+ghost use Rattle.sqlite.specs.Held.{state};
+ghost use Rattle.dict_tables.specs.Tables.{kept as kept_table};
+ghost use Rattle.dict_sql.specs.Effects.{Has, WhileOpen};
+ghost use Rattle.dict_records.specs.Typed.{owned_kept};
+ghost use Rattle.dict_catalogue.specs.Steps.{Catalogue, KeptFor, kept_under};
+ghost use Rattle.dict_catalogue.specs.Views.{kept_shown};
+ghost use Rattle.dict_catalogue.specs.declared.reply.Verb.{Verb as AVerb};
+ghost use Rattle.dict_rows.specs.Written.{kept_record, verb_name};
+ghost use Rattle.dict_file.specs.Faults.{fault_of_read};
+ghost use Rattle.dict_keyed_commands.specs.Unread.{FailsToLookUp};
+ghost use Rattle.dict_file.specs.Holds.{Holds};
+ghost use Rattle.dict_keyed_commands.specs.Committed.{IsOfStore, Stays};
+
+use dict_catalogue::{Kept, Verb};
+use dict_desk::Fault;
+use dict_file::fault_of;
+use dict_records::Kept as KeptRow;
+use dict_sql::read::kept_replies_of;
+use dict_sql::records::ReadError;
+use sqlite::{Alter, Connection};
+use std::alloc::{AllocError, Global};
+
+// The fault of a reading: refused memory, or the store failed.
+fn read_fault(error: ReadError) -> Fault
+    ensures is { result ≡ fault_of_read error }
+    ensures kind { IsOfStore result }
+{
+    match error {
+        ReadError::NoRecord => Fault::Disk,
+        ReadError::Store(error) => fault_of(error),
+    }
+}
+
+// What a command did, by the word for it.
+fn verb_of(word: &str) -> Option<Verb>
+    ensures told { IfSome result (λ verb. word.now ≡ verb_name verb) }
+    ensures none { IfNone result ((verb : AVerb) → word.now ≢ verb_name verb) }
+{
+    match word {
+        "install" => Some(Verb::Install),
+        "rollback" => Some(Verb::Rollback),
+        "retire" => Some(Verb::Retire),
+        "virtual" => Some(Verb::Virtual),
+        "place" => Some(Verb::Place),
+        _ => None,
+    }
+}
+
+// The number that stands in a column, which is never below 0.
+fn number_of(found: &i64) -> Option<u64>
+    ensures told { IfSome result (λ number. found.now ≡ pos number) }
+    ensures none { IfNone result ((number : ℕ) → found.now ≢ pos number) }
+{
+    if *found < 0 {
+        return None;
+    }
+    Some(*found as u64)
+}
+
+// The number that stands in a column, if one does.
+fn number_if(found: &Option<i64>) -> Option<Option<u64>>
+    ensures told { IfSome result (λ number. found.now ≡ option_map pos number) }
+    ensures none { IfNone result ((number : Option ℕ) → found.now ≢ option_map pos number) }
+{
+    match found {
+        Some(found) => Some(Some(number_of(found)?)),
+        None => Some(None),
+    }
+}
+
+// The parts of a reply but its name, if the record is one of a reply.
+fn parts_of(row: &KeptRow<String>) -> Option<(u64, Verb, Option<u64>)>
+    ensures told { IfSome result (λ parts. (row.now.number ≡ pos parts.0) × (string_bytes row.now.verb ≡ verb_name parts.1) × (row.now.edition ≡ option_map pos parts.2)) }
+    ensures none { IfNone result ((number : ℕ) (verb : AVerb) (edition : Option ℕ) → row.now.number ≡ pos number → string_bytes row.now.verb ≡ verb_name verb → row.now.edition ≡ option_map pos edition → ⊥) }
+{
+    let verb = verb_of(row.verb.as_str())?;
+    let number = number_of(&row.number)?;
+    let edition = number_if(&row.edition)?;
+    Some((number, verb, edition))
+}
+
+// The reply that the record keeps, if it is one of a reply.
+fn reply_of(alloc: Global, row: &KeptRow<String>) -> Result<Option<Kept>, AllocError>
+    ensures told { IfOk result (λ found. IfSome found (λ reply. owned_kept row.now ≡ kept_record (record { id = string_bytes row.now.id; reply = kept_shown reply }))) }
+    ensures none { IfOk result (λ found. IfNone found ((one : KeptFor) → owned_kept row.now ≢ kept_record one)) }
+{
+    let Some((number, verb, edition)) = parts_of(row) else {
+        return Ok(None);
+    };
+    let name = String::from_str(alloc, row.name.as_str())?;
+    Ok(Some(Kept {
+        number,
+        verb,
+        name,
+        edition,
+    }))
+}
+
+/// The reply that is kept under the id, if there is one. Nothing is written.
+///
+/// `Memory` tells that a growth was refused. `Disk` tells that the store failed, or that the limit on steps was met; or that
+/// a record is none of a reply, which it never is in a database that holds a catalogue.
+pub fn kept_reply<S: Alter>(
+    alloc: Global,
+    conn: &mut Connection<S>,
+    id: &str,
+) -> Result<Option<Kept>, Fault>
+    requires { WhileOpen (state S.Store conn.old) (Has kept_table) }
+    ensures value { HasCleanDisk (state S.Store conn.new) → IfOk result (λ reply. (version : _) (M : Catalogue) → Holds version (state S.Store conn.old).now M → option_map kept_shown reply ≡ kept_under M.kept id.now) }
+    ensures same { HasCleanDisk (state S.Store conn.new) → OnOk result (IsUnchanged (state S.Store conn.old) (state S.Store conn.new)) }
+    ensures failed { HasCleanDisk (state S.Store conn.new) → IfErr result (FailsToLookUp (state S.Store conn.old) (state S.Store conn.new)) }
+    ensures stays { HasCleanDisk (state S.Store conn.new) → OnErr result (Stays (state S.Store conn.old) (state S.Store conn.new)) }
+    ensures kinds { IfErr result IsOfStore }
+    ensures mode { conn.old.in_transaction ≡ false → conn.new.in_transaction ≡ false }
+    ensures survives { Survives (state S.Store conn.old) (state S.Store conn.new) (λ _. ⊥) }
+{
+    let rows = match kept_replies_of(alloc, conn, id) {
+        Ok(rows) => rows,
+        Err(error) => return Err(read_fault(error)),
+    };
+    let Some(row) = rows.first() else {
+        return Ok(None);
+    };
+    match reply_of(alloc, &row.value)? {
+        Some(reply) => Ok(Some(reply)),
+        None => Err(Fault::Disk),
+    }
+}
