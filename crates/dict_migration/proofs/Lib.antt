@@ -1,0 +1,14 @@
+pub mod OneLemmas
+pub mod StopLemmas
+pub mod NumberLemmas
+pub mod RowLemmas
+pub mod PutLemmas
+pub mod SpareLemmas
+pub mod AsideLemmas
+pub mod FiledLemmas
+pub mod FlowLemmas
+pub mod RoomLemmas
+pub mod MovedLemmas
+pub mod EndLemmas
+pub mod MakingLemmas
+pub mod FailLemmas

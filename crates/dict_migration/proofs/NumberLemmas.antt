@@ -1,0 +1,89 @@
+-- The numbers of a catalogue's editions, and the entries that have them.
+use Rattle.std.proofs.Common.{◌≡◌, ◌⊎◌, ◌+◌, ◌≤◌, ◌||◌, ◌==◌, ℕ, ℤ, pos, negsuc, Bool, true, false, cond, List, [], ◌∷◌, ◌++◌, map, inl, inr, refl, sym, ap, subst, ◌∙◌, arith, append_assoc}
+use Rattle.std.specs.Prelude.{IsTrue, filter}
+use Rattle.std.specs.List.{AllByRecursion, list_any}
+use Rattle.std.proofs.lemmas.Bool.{false≢true}
+use Rattle.std.proofs.lemmas.List.{map-append}
+use Rattle.dict_text.proofs.AllLemmas.{all_weaker, all_map, all_flat_map}
+use Rattle.dict_records.specs.Records.{Entry}
+use Rattle.dict_index.specs.Line.{Line}
+use Rattle.dict_index.specs.Edition.{Edition}
+use Rattle.dict_catalogue.specs.Items.{Stored, Item, name_of, editions_of, numbers_of, edition_numbers}
+use Rattle.dict_catalogue.specs.Steps.{Catalogue}
+use Rattle.dict_catalogue.specs.WellFormed.{how_many, IsEachNumberOnce}
+use Rattle.dict_rows.specs.Tables.{Tables, same_number, entries_of}
+use Rattle.dict_rows.specs.Written.{numbered, entry_record}
+use Rattle.dict_rows.specs.Stands.{HoldsEdition, HoldsEditions, has_number, Stands}
+use Rattle.dict_rows.specs.Order.{is_of}
+
+-- the entries of this number are those of an edition, in their order
+pub record AreNumbered (tables : Tables) (n : ℤ) : Type 0 where
+  pub number : ℕ
+  pub is : n ≡ pos number
+  pub lines : List Line
+  pub entries : entries_of n tables.entries ≡ numbered (entry_record number) 0 lines
+
+one_numbered : (tables : Tables) (owner : List ℕ) (stored : Stored Edition) → HoldsEdition tables owner stored → AreNumbered tables (pos stored.number)
+one_numbered tables owner stored h = record { number = stored.number; is = refl; lines = h.reading.lines; entries = h.entries }
+
+item_numbered : (tables : Tables) (item : Item Edition) → HoldsEditions tables item → AllByRecursion (λ number. AreNumbered tables (pos number)) (numbers_of item)
+item_numbered tables item h =
+    all_map (HoldsEdition tables (name_of item)) (λ number. AreNumbered tables (pos number)) (λ (stored : Stored Edition). stored.number) (one_numbered tables (name_of item)) (editions_of item) h
+
+pub all_numbered : (version : ℕ) (tables : Tables) (M : Catalogue) → Stands version tables M → AllByRecursion (AreNumbered tables) (map pos (edition_numbers M.items))
+all_numbered version tables M s =
+    all_map (λ number. AreNumbered tables (pos number)) (AreNumbered tables) pos (λ n h. h) (edition_numbers M.items)
+    (all_flat_map (λ number. AreNumbered tables (pos number)) numbers_of M.items
+    (all_weaker (HoldsEditions tables) (λ item. AllByRecursion (λ number. AreNumbered tables (pos number)) (numbers_of item)) (item_numbered tables) M.items s.editions))
+
+-- ---- each entry has one of them
+
+eq_swapped : (m n : ℕ) → (m == n) ≡ (n == m)
+eq_swapped m n = search arith
+
+same_swapped : (a b : ℤ) → same_number a b ≡ same_number b a
+same_swapped (pos m) (pos n) = eq_swapped m n
+same_swapped (pos m) (negsuc n) = refl
+same_swapped (negsuc m) (pos n) = refl
+same_swapped (negsuc m) (negsuc n) = eq_swapped m n
+
+one_of : (n : ℤ) (ns : List ℕ) → is_of (map pos ns) n ≡ list_any (λ one. same_number (pos one) n) ns
+one_of n [] = refl
+one_of n (m ∷ ns) = λ i. same_swapped n (pos m) i || one_of n ns i
+
+pub all_known : (version : ℕ) (tables : Tables) (M : Catalogue) → Stands version tables M → AllByRecursion (λ (e : Entry). IsTrue (is_of (map pos (edition_numbers M.items)) e.edition)) tables.entries
+all_known version tables M s =
+    all_weaker (λ (e : Entry). IsTrue (has_number M.items e.edition)) (λ (e : Entry). IsTrue (is_of (map pos (edition_numbers M.items)) e.edition)) (λ e h. one_of e.edition (edition_numbers M.items) ∙ h) tables.entries s.entries
+
+-- ---- no number comes twice
+
+-- each of these is none of those before it
+abbrev pub AreFresh : List ℤ → List ℤ → Type 0
+AreFresh done [] = Unit {0}
+AreFresh done (n ∷ ns) = (is_of done n ≡ false) × AreFresh (done ++ n ∷ []) ns
+
+at_least : (ds ns : List ℕ) (n : ℕ) → 1 ≤ how_many (λ one. one == n) (ds ++ n ∷ ns)
+at_least [] ns n = let here : (n == n) ≡ true = search arith in rw here (omega arith)
+at_least (d ∷ ds) ns n = let rest = at_least ds ns n in more (d == n) rest
+  where
+    more : (b : Bool) → 1 ≤ how_many (λ one. one == n) (ds ++ n ∷ ns) → 1 ≤ cond b 1 0 + how_many (λ one. one == n) (ds ++ n ∷ ns)
+    more true le = omega arith
+    more false le = omega arith
+
+not_before : (ds ns : List ℕ) (n : ℕ) → how_many (λ one. one == n) (ds ++ n ∷ ns) ≤ 1 → is_of (map pos ds) (pos n) ≡ false
+not_before [] ns n few = refl
+not_before (d ∷ ds) ns n few = step (d == n) refl few (not_before ds ns n)
+  where
+    step : (b : Bool) → (d == n) ≡ b → cond b 1 0 + how_many (λ one. one == n) (ds ++ n ∷ ns) ≤ 1 → (how_many (λ one. one == n) (ds ++ n ∷ ns) ≤ 1 → is_of (map pos ds) (pos n) ≡ false) → is_of (map pos (d ∷ ds)) (pos n) ≡ false
+    step true e le next = let rest = at_least ds ns n in absurd (omega (arith, rest, le))
+    step false e le next = let rest : is_of (map pos ds) (pos n) ≡ false = next (omega (arith, le)) in rw (eq_swapped n d ∙ e) rest
+
+fresh_from : (ds ns : List ℕ) → IsEachNumberOnce (ds ++ ns) → AreFresh (map pos ds) (map pos ns)
+fresh_from ds [] h = tt
+fresh_from ds (n ∷ ns) h = (
+  not_before ds ns n (h n),
+  subst (λ l. AreFresh l (map pos ns)) (map-append pos ds (n ∷ [])) (fresh_from (ds ++ n ∷ []) ns (subst IsEachNumberOnce (sym (append_assoc ds (n ∷ []) ns)) h)),
+)
+
+pub all_fresh : (version : ℕ) (tables : Tables) (M : Catalogue) → Stands version tables M → AreFresh [] (map pos (edition_numbers M.items))
+all_fresh version tables M s = fresh_from [] (edition_numbers M.items) s.well_formed.edition_once

@@ -1,0 +1,51 @@
+use Rattle.std.proofs.Common.{arith, codes, subst}
+use Rattle.sqlite.specs.State.{HasCleanDisk}
+use Rattle.dict_records.specs.Records.{Mark}
+use Rattle.dict_tables.specs.Tables.{mark}
+use Rattle.dict_sql.specs.Effects.{IsAdded, seen}
+use Rattle.dict_sql.specs.Encodings.{mark_row}
+use Rattle.dict_sql.proofs.Callers.{still_has}
+use Rattle.sqlite.specs.Held.{state}
+use Rattle.dict_sql.proofs.StreamLemmas.{passed_on}
+use Rattle.dict_sql.specs.declared.records.ReadError.TheVariants.{Store}
+use Rattle.dict_migration.specs.Failing.{FailsInside}
+use Rattle.dict_migration.proofs.FailLemmas.{fails_here}
+use Rattle.dict_migration.proofs.FailLemmas.{fails_later}
+use Rattle.dict_migration.specs.Failing.{clearing_marks, putting}
+use Rattle.dict_migration.proofs.marking.renew_mark.Goals as goal
+
+pub insert_mark-requires : goal.insert_mark-requires
+insert_mark-requires g c clean open' =
+    let s0 = seen g.S.Store c.args.tx.now in
+    let s1 = seen g.S.Store c.clear_table.new.tx in
+    let clean0 : HasCleanDisk s0 = omega (arith, c.clear_table.ensures.survives.clean, clean) in
+    let gone = c.in_ok-clear_table.ensures.removed clean in
+    still_has mark s0.now s1.now gone.0.schema (c.requires.mark clean0 gone.1.was_open).has
+
+pub returns-clause-marked : goal.returns-clause-marked
+returns-clause-marked g c clean =
+    let s1 = seen g.S.Store c.clear_table.new.tx in
+    let s2 = seen g.S.Store c.insert_mark.new.tx in
+    let clean1 : HasCleanDisk s1 = omega (arith, c.insert_mark.ensures.survives.clean, clean) in
+    record {
+      cleared = s1.now;
+      taken = (c.in_ok-clear_table.ensures.removed clean1).0;
+      put = subst (λ (m : Mark). IsAdded (codes "mark") (mark_row m) s1.now s2.now) c.mark_row-row.ensures (c.in_ok-insert_mark.ensures.added clean).0;
+    }
+
+pub returns-in_err-clear_table-clause-failed : goal.returns-in_err-clear_table-clause-failed
+returns-in_err-clear_table-clause-failed g c clean =
+    let old = c.args.tx.now.conn.now in
+    let new = c.clear_table.new.tx.conn.now in
+    let e = c.in_err-clear_table.field-0.0 in
+    passed_on (λ e. FailsInside g.S.Store old new (Store e)) e c.from_residual.result c.from_residual.ensures.1 (fails_here g.S.Store clearing_marks old new (Store e) (c.in_err-clear_table.ensures.failed clean))
+
+pub returns-in_err-insert_mark-clause-failed : goal.returns-in_err-insert_mark-clause-failed
+returns-in_err-insert_mark-clause-failed g c clean =
+    let old = c.args.tx.now.conn.now in
+    let mid = c.clear_table.new.tx.conn.now in
+    let new = c.insert_mark.new.tx.conn.now in
+    let early : HasCleanDisk (state g.S.Store mid) = omega (arith, c.insert_mark.ensures.survives.clean, clean) in
+    let e = c.in_err-insert_mark.field-0.0 in
+    passed_on (λ e. FailsInside g.S.Store old new (Store e)) e c.from_residual-in_err-insert_mark.result c.from_residual-in_err-insert_mark.ensures.1
+    (fails_later g.S.Store old mid new (Store e) c.clear_table.ensures.survives (λ begun. (c.in_ok-clear_table.ensures.removed early).1.mode) (fails_here g.S.Store (putting (codes "mark") _) mid new (Store e) (c.in_err-insert_mark.ensures.failed clean)))

@@ -1,0 +1,80 @@
+-- The statements by which the empty tables of the next version are made, and why nothing comes of them.
+use Rattle.std.specs.Prelude.{◌≡◌, ◌⊎◌, ◌++◌, ℕ, true, List, [], ◌∷◌, codes, map}
+use Rattle.sqlite.specs.Effect.{Database}
+use Rattle.sqlite.specs.State.{State, Survives, Fails, IsRolledBack}
+use Rattle.sqlite.specs.Held.{Held, state}
+use Rattle.sqlite.specs.declared.error.Error.{Error}
+use Rattle.sqlite_trees.specs.declared.store.Store.{Ghosts}
+use Rattle.dict_tables.specs.declared.tables.StoreTable.{StoreTable}
+use Rattle.dict_tables.specs.declared.tables.StoreTable.TheVariants.{Mark, Item, Member, Edition, Kept}
+use Rattle.dict_sql.specs.Creates.{FailsToMakeAll}
+use Rattle.dict_sql.specs.Effects.{GoesOn}
+use Rattle.dict_sql.specs.Encodings.{mark_row}
+use Rattle.dict_sql.specs.Statements as sql
+use Rattle.dict_sql.specs.Statements.{Statement, make, add}
+use Rattle.dict_keyed_sql.specs.Made.{AreKeyedMade, keyed_trees}
+use Rattle.dict_rows.specs.Written.{mark_record}
+use Rattle.dict_desk.specs.declared.fault.Fault.{Fault}
+use Rattle.dict_desk.specs.declared.fault.Fault.TheVariants.{Disk}
+use Rattle.dict_file.specs.Faults.{fault_of}
+
+-- the tables of which no version has another form
+abbrev pub lasting_tables : List StoreTable
+lasting_tables = Mark ∷ Item ∷ Member ∷ Edition ∷ Kept ∷ []
+
+-- a statement over those, or all that make the tables of what is derived, with their indexes
+pub data Step : Type 0 where
+  one : Statement → Step
+  derived_tables : Step
+
+-- it has done what it says
+abbrev pub Succeeds : Step → State → State → Type 0
+Succeeds (one statement) old new = sql.Succeeds statement old new
+Succeeds derived_tables old new = AreKeyedMade old.now new.now × GoesOn old new
+
+-- it failed, for the cause that the error names
+abbrev pub FailsTo : Step → State → State → Error → Type 0
+FailsTo (one statement) old new e = sql.FailsTo statement old new e
+FailsTo derived_tables old new e = FailsToMakeAll keyed_trees old new e
+
+-- the steps of a creation: each table is made, and then the mark of the empty catalogue is added
+abbrev pub creation : ℕ → List Step
+creation version = map one (map make lasting_tables) ++ derived_tables ∷ one (add (codes "mark") (mark_row (mark_record version 0))) ∷ []
+
+module _ {S : Type 0} (g : Ghosts S) where
+  -- Each has done what it says, one after the other, and a stop leaves what it left before.
+  abbrev pub RunInTurn : List Step → Held S → Held S → Type 0
+  RunInTurn [] old new = new ≡ old
+  RunInTurn (step ∷ rest) old new = (mid : Held S) × (Succeeds step (state g old) (state g mid) × Survives (state g old) (state g mid) (λ _. ⊥)) × RunInTurn rest mid new
+
+  -- One of them failed, where those before it had done what they say.
+  abbrev pub FailsInTurn : List Step → Held S → Held S → Error → Type 0
+  FailsInTurn [] old new e = ⊥
+  FailsInTurn (step ∷ rest) old new e =
+      (FailsTo step (state g old) (state g new) e × Survives (state g old) (state g new) (λ _. ⊥))
+      ⊎ ((mid : Held S) × (Succeeds step (state g old) (state g mid) × Survives (state g old) (state g mid) (λ _. ⊥)) × FailsInTurn rest mid new e)
+
+  -- A transaction was begun, and one of these steps failed, where those before it had done what they say; then it was rolled
+  -- back. The fault is that of the error.
+  pub record FailsBefore (steps : List Step) (old new : Held S) (fault : Fault) : Type 0 where
+    pub error : Error
+    pub told : fault ≡ fault_of error
+    pub last : Held S
+    pub within : FailsInTurn steps (record old { in_transaction = true }) last error
+    pub after : Survives (state g last) (state g new) (λ _. ⊥)
+    pub undone : IsRolledBack (state g last) (state g new)
+
+  -- A transaction was begun, and these steps all did what they say, so that P holds of the database; then its commit failed,
+  -- for whatever cause. The fault is `Disk`.
+  pub record FailsAtLast (steps : List Step) (P : Database → Type 0) (old new : Held S) (fault : Fault) : Type 0 where
+    pub told : fault ≡ Disk
+    pub last : Held S
+    pub ran : RunInTurn steps (record old { in_transaction = true }) last
+    pub before : Survives (state g old) (state g last) (λ _. ⊥)
+    pub written : P (state g last).now
+    pub error : Error
+    pub fails : Fails (state g last) (state g new) ⊥ error
+
+  -- either
+  abbrev pub FailsToEnd : List Step → (Database → Type 0) → Held S → Held S → Fault → Type 0
+  FailsToEnd steps P old new fault = FailsBefore steps old new fault ⊎ FailsAtLast steps P old new fault

@@ -1,0 +1,38 @@
+// The end of a migration: the helper goes, and the mark is that of the next version.
+ghost use Rattle.std.specs.Prelude.{◌≡◌, ◌≤◌, true, IfErr, OnOk};
+ghost use Rattle.sqlite.specs.State.{HasCleanDisk, KeepsCommit, Survives};
+ghost use Rattle.dict_tables.specs.Keyed.{helper};
+ghost use Rattle.dict_tables.specs.Tables.{mark};
+ghost use Rattle.dict_sql.specs.Deletes.{HasToRemove};
+ghost use Rattle.dict_sql.specs.Drops.{IsDropped};
+ghost use Rattle.dict_sql.specs.Effects.{WhileOpen, seen};
+ghost use Rattle.dict_migration.specs.Moved.{IsMarked};
+ghost use Rattle.dict_sql.specs.declared.records.ReadError.TheVariants.{Store};
+ghost use Rattle.dict_migration.specs.Failing.{FailsInside};
+
+use dict_migration_sql::drop_helper;
+use dict_rows::mark_row;
+use dict_sql::delete::clear_table;
+use dict_sql::insert::insert_mark;
+use dict_tables::StoreTable;
+use sqlite::{Alter, Error, Transaction};
+
+/// The version that a migration leads to.
+pub(crate) const NEXT_VERSION: u64 = 4;
+
+/// Takes the mark out, and puts that of the next version in, with this count of installs.
+pub(crate) fn renew_mark<S: Alter>(tx: &mut Transaction<'_, S>, installs: u64) -> Result<(), Error>
+    requires installs { installs ≤ 9223372036854775807 }
+    requires mark { WhileOpen (seen S.Store tx.old) (HasToRemove mark) }
+    ensures same_reference { tx.new.conn.ghost_name ≡ tx.old.conn.ghost_name }
+    ensures marked { HasCleanDisk (seen S.Store tx.new) → OnOk result (IsMarked installs (seen S.Store tx.old).now (seen S.Store tx.new).now) }
+    ensures inside { HasCleanDisk (seen S.Store tx.new) → OnOk result ((seen S.Store tx.new).in_transaction ≡ true) }
+    ensures failed { HasCleanDisk (seen S.Store tx.new) → IfErr result (λ e. FailsInside S.Store tx.old.conn.now tx.new.conn.now (Store e)) }
+    ensures keeps { HasCleanDisk (seen S.Store tx.new) → KeepsCommit (seen S.Store tx.old) (seen S.Store tx.new) }
+    ensures survives { Survives (seen S.Store tx.old) (seen S.Store tx.new) (λ _. ⊥) }
+{
+    clear_table(tx, StoreTable::Mark)?;
+    let row = mark_row(NEXT_VERSION, installs);
+    insert_mark(tx, &row)?;
+    Ok(())
+}
