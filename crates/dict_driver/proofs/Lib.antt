@@ -1,5 +1,4 @@
-pub mod OutletLemmas
-pub mod CallLemmas
+pub mod BoolLemmas
 pub mod EventLemmas
 pub mod LeadLemmas
 pub mod OrderLemmas
@@ -9,3 +8,5 @@ pub mod ListLemmas
 pub mod RoundLemmas
 pub mod SettleLemmas
 pub mod LookLemmas
+pub mod AcceptLemmas
+pub mod LoopLemmas

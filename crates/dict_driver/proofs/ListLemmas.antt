@@ -1,5 +1,6 @@
 -- Lists of connections.
-use Rattle.std.proofs.Common.{◌≡◌, ◌≢◌, ◌<◌, ◌≤◌, ◌+◌, ◌⊎◌, ℕ, zero, suc, Bool, true, false, cond, List, [], ◌∷◌, ◌++◌, All, length, get_or, set, length-set, take, drop, refl, sym, ap, ◌∙◌, subst, inl, inr, arith}
+use Rattle.std.specs.Prelude.{◌||◌}
+use Rattle.std.proofs.Common.{◌≡◌, ◌≢◌, length-append, ◌<◌, ◌≤◌, ◌+◌, ◌⊎◌, ℕ, zero, suc, Bool, true, false, cond, List, [], ◌∷◌, ◌++◌, All, length, get_or, set, length-set, take, drop, refl, sym, ap, ◌∙◌, subst, inl, inr, arith}
 use Rattle.std.specs.List.{AllPairs, remove, filter}
 use Rattle.std.proofs.lemmas.Bool.Decides.{leb_tells, eqb_tells}
 use Rattle.std.proofs.lemmas.List.{get_or-set_other}
@@ -7,9 +8,10 @@ use Rattle.std.proofs.lemmas.Grind.{get_or-set_at}
 use Rattle.std.proofs.lemmas.List.Elements.{All-push}
 use Rattle.std.proofs.lemmas.List.Quantifiers.{all_pairs_push}
 use Rattle.std.proofs.lemmas.List.Edits.{get_or-remove_below, get_or-remove_above, length-remove}
-use Rattle.dict_driver.specs.Queues.{waiting}
+use Rattle.dict_outlet.specs.Queues.{waiting}
 use Rattle.dict_driver.specs.Rounds.{WaitsAmong}
-use Rattle.dict_driver.specs.Turning.{MarkAll}
+use Rattle.dict_driver.specs.Turning.{MarkAll, any}
+use Rattle.dict_driver.proofs.BoolLemmas.{any_more, front_move, last_move}
 use Rattle.dict_driver.specs.declared.connection.Connection.{Connection}
 
 -- what stands at a place, whatever stands in for none
@@ -209,6 +211,51 @@ change_more {X} Changes old now i one after in_now is changed all =
 pub change_whole : {X : Type 0} (Changes : X → X → Type 0) (old now : List X) (i : ℕ) → length old ≤ i → ChangeUpTo Changes old now i
     → (k : ℕ) (d : X) → k < length old → Changes (get_or old k d) (get_or now k d)
 change_whole Changes old now i whole all k d within = all.changes k d (omega (arith, whole, within)) within
+
+-- the same, by changes in which something happened or didn't
+pub record MoveUpTo {X : Type 0} (Changes : X → X → Bool → Type 0) (old now : List X) (i : ℕ) (moved : Bool) : Type 0 where
+  pub len : length now ≡ length old
+  pub moves : List Bool
+  pub count : length moves ≡ i
+  pub within : i ≤ length old
+  pub has_moved : moved ≡ any moves
+  pub changes : (k : ℕ) (d : X) → k < i → k < length old → Changes (get_or old k d) (get_or now k d) (get_or moves k false)
+  pub rest : (k : ℕ) (d : X) → i ≤ k → k < length old → get_or now k d ≡ get_or old k d
+
+pub move_none : {X : Type 0} (Changes : X → X → Bool → Type 0) (all : List X) → MoveUpTo Changes all all 0 false
+move_none Changes all = record {
+  len = refl;
+  moves = [];
+  count = refl;
+  within = omega arith;
+  has_moved = refl;
+  changes = λ k d before within. absurd (omega (arith, before));
+  rest = λ k d from within. refl;
+}
+
+pub move_more : {X : Type 0} (Changes : X → X → Bool → Type 0) (old now : List X) (i : ℕ) (one after : X) (before here both : Bool) → i < length now → get_or now i one ≡ one → both ≡ before || here
+    → Changes one after here → MoveUpTo Changes old now i before → MoveUpTo Changes old (set now i after) (i + 1) both
+move_more {X} Changes old now i one after before here both in_now is moved changed all =
+    let len = all.len in
+    let count = all.count in
+    let within : i < length old = omega (arith, in_now) in
+    let was : (d : X) → get_or old i d ≡ one = λ d. sym (all.rest i d (omega arith) within) ∙ default_free now i d one in_now ∙ is in
+    record {
+      len = length-set now i after ∙ len;
+      moves = all.moves ++ here ∷ [];
+      count = length-append all.moves (here ∷ []) ∙ ap (λ n. n + 1) count;
+      within = omega (arith, within);
+      has_moved = moved ∙ ap (λ b. b || here) all.has_moved ∙ sym (any_more all.moves here);
+      changes = λ k d under below. elim (eqb_tells k i) [
+        | inl same ↦
+            let at : get_or old k d ≡ one = ap (λ (j : ℕ). get_or old j d) same.1 ∙ was d in
+            rw (get_or-set_at now i k after d same.1 in_now, at, last_move all.moves k here (same.1 ∙ sym count)) changed
+        | inr other ↦
+            let earlier : k < i = omega (arith, under, other.1) in
+            rw (get_or-set_other now i k after d other.1, front_move all.moves here k (omega (arith, earlier, count))) (all.changes k d earlier below)
+      ];
+      rest = λ k d from below. rw (get_or-set_other now i k after d (λ same. absurd (omega (arith, from, same)))) (all.rest k d (omega (arith, from)) below);
+    }
 
 -- one more has nothing to read
 pub idle_more : {T : Type 0} (now : List (Connection T)) (i : ℕ) (after : Connection T) → i < length now → ((k : ℕ) (d : Connection T) → k < i → k < length now → (get_or now k d).may_receive ≡ false)

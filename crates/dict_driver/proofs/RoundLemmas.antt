@@ -1,5 +1,5 @@
 -- What a round does with the octets that wait.
-use Rattle.std.proofs.Common.{◌≡◌, ◌≢◌, ◌<◌, ◌≤◌, ◌+◌, ℕ, Bool, false, ◌-◌, All, List, [], ◌∷◌, ◌++◌, length, length-set, get_or, set, refl, sym, ap, ◌∙◌, subst, inl, inr, arith, append_assoc, append-nil}
+use Rattle.std.proofs.Common.{◌≡◌, ◌≢◌, ◌<◌, ◌≤◌, ◌+◌, ℕ, Bool, false, ◌-◌, All, List, [], ◌∷◌, ◌++◌, length, length-set, length-append, get_or, set, ◌||◌, refl, sym, ap, ◌∙◌, subst, inl, inr, arith, append_assoc, append-nil}
 use Rattle.std.specs.Prelude.{Option}
 use Rattle.std.specs.List.{AllPairs, filter}
 use Rattle.std.proofs.lemmas.Bool.{ne_eqb}
@@ -8,19 +8,21 @@ use Rattle.std.proofs.lemmas.List.{get_or-set_other}
 use Rattle.std.proofs.lemmas.Grind.{get_or-set_at}
 use Rattle.dict_hub.specs.Events.{id_of}
 use Rattle.dict_hub.specs.Runs.{Accepted, events_of}
-use Rattle.dict_driver.specs.Queues.{waiting}
+use Rattle.dict_hub.specs.declared.hub.Hub.{Hub}
+use Rattle.dict_outlet.specs.Queues.{waiting}
 use Rattle.dict_driver.specs.Stages.{is_departing, is_held, is_open}
 use Rattle.dict_driver.specs.Events.{AreOf}
-use Rattle.dict_driver.specs.Calls.{Call}
+use Rattle.dict_outlet.specs.Calls.{Call}
 use Rattle.dict_driver.specs.Ordering.{AreOfTurns, ComeById, IsOpeningOf}
 use Rattle.dict_hub.specs.declared.kind.Kind.{Kind}
 use Rattle.dict_driver.specs.Turns.{Departs, IsOpened, Turns}
-use Rattle.dict_driver.specs.Turning.{DepartAll, MarkAll, TurnAll}
+use Rattle.dict_driver.specs.Turning.{DepartAll, MarkAll, TurnAll, any}
 use Rattle.dict_driver.specs.Rounds.{WaitsAmong, Waits, Flows, HasWaited, Moves, TurnEach}
 use Rattle.dict_driver.specs.declared.connection.Connection.{Connection}
 use Rattle.dict_driver.specs.declared.connections.Connections.{Connections}
-use Rattle.dict_driver.specs.declared.transport.Transport.{Ghosts}
+use Rattle.dict_outlet.specs.declared.transport.Transport.{Ghosts}
 use Rattle.dict_driver.proofs.EventLemmas.{put_joined, events_joined, own_all, own_none}
+use Rattle.dict_driver.proofs.BoolLemmas.{any_more, front_move, last_move}
 use Rattle.dict_driver.proofs.OrderLemmas.{AreBelow, below_joined, turns_of_joined, by_id_joined}
 use Rattle.dict_driver.proofs.ListLemmas.{default_free, among_at, place_among, among_append, among_drop, among_filter, HaveSameIds, all_among, marked_among}
 
@@ -36,11 +38,11 @@ flows_joined before es between fs after first then = record {
       ∙ ap (λ (l : List ℕ). l ++ then.put) first.order ∙ append_assoc before first.put then.put;
 }
 
-pub flows_turn : {T : Type 0} (taken coming : T → Option (List ℕ)) (made : T → Option (List Call)) (a b : Connection T) (events : List Accepted) → Turns taken coming made a b events
+pub flows_turn : {T : Type 0} {hub : Hub} {moved : Bool} (taken coming : T → Option (List ℕ)) (made : T → Option (List Call)) (a b : Connection T) (events : List Accepted) → Turns taken coming made hub a b moved events
     → Flows (waiting a.queue) events (waiting b.queue)
 flows_turn taken coming made a b events turns = record { sent = turns.sent; put = turns.put; are_put = turns.are_put; order = turns.order }
 
-flows_depart : {T : Type 0} (taken coming : T → Option (List ℕ)) (made : T → Option (List Call)) (a b : Connection T) → Departs taken coming made a b → Flows (waiting a.queue) [] (waiting b.queue)
+flows_depart : {T : Type 0} {moved : Bool} (taken coming : T → Option (List ℕ)) (made : T → Option (List Call)) (a b : Connection T) → Departs taken coming made a b moved → Flows (waiting a.queue) [] (waiting b.queue)
 flows_depart taken coming made a b departs = record { sent = departs.sent; put = []; are_put = refl; order = departs.order ∙ sym (append-nil (waiting a.queue)) }
 
 -- where the events are the same and the octets are
@@ -66,18 +68,27 @@ below_none id (one ∷ events) (under, below) =
     rw differs (below_none id events below)
 
 -- the connections before this place had their turns, and the others are as they were
-pub record TurnUpTo {T : Type 0} (taken coming : T → Option (List ℕ)) (made : T → Option (List Call)) (old now : List (Connection T)) (i : ℕ) (events : List Accepted) : Type 0 where
+pub record TurnUpTo {T : Type 0} (taken coming : T → Option (List ℕ)) (made : T → Option (List Call)) (old now : List (Connection T)) (i : ℕ) (moved : Bool) (events : List Accepted) : Type 0 where
   pub len : length now ≡ length old
-  pub turns : (k : ℕ) (d : Connection T) → k < i → k < length old → Turns taken coming made (get_or old k d) (get_or now k d) (events_of (get_or old k d).id events)
+  pub moves : List Bool
+  pub count : length moves ≡ i
+  pub within : i ≤ length old
+  pub has_moved : moved ≡ any moves
+  pub turns : (k : ℕ) (d : Connection T) → k < i → k < length old
+      → (hub : Hub) × Turns taken coming made hub (get_or old k d) (get_or now k d) (get_or moves k false) (events_of (get_or old k d).id events)
   pub rest : (k : ℕ) (d : Connection T) → i ≤ k → k < length old → get_or now k d ≡ get_or old k d
   pub below : AreBelowFrom old i events
   pub no_other : (id : ℕ) → ((k : ℕ) (d : Connection T) → k < length old → (get_or old k d).id ≢ id) → events_of id events ≡ []
   pub are_turns : AreOfTurns events
   pub by_id : ComeById events
 
-pub turn_none : {T : Type 0} (taken coming : T → Option (List ℕ)) (made : T → Option (List Call)) (all : List (Connection T)) → TurnUpTo taken coming made all all 0 []
+pub turn_none : {T : Type 0} (taken coming : T → Option (List ℕ)) (made : T → Option (List Call)) (all : List (Connection T)) → TurnUpTo taken coming made all all 0 false []
 turn_none taken coming made all = record {
   len = refl;
+  moves = [];
+  count = refl;
+  within = omega arith;
+  has_moved = refl;
   turns = λ k d before within. absurd (omega (arith, before));
   rest = λ k d from within. refl;
   below = λ k d from within. tt;
@@ -87,29 +98,36 @@ turn_none taken coming made all = record {
 }
 
 -- one more connection had its turn
-pub turn_more : {T : Type 0} (taken coming : T → Option (List ℕ)) (made : T → Option (List Call)) (old now : List (Connection T)) (i : ℕ) (one after : Connection T) (es fs : List Accepted)
-    → AllPairs (λ a b. a.id < b.id) old → i < length old → get_or now i one ≡ one → Turns taken coming made one after fs → TurnUpTo taken coming made old now i es
-    → TurnUpTo taken coming made old (set now i after) (i + 1) (es ++ fs)
-turn_more {T} taken coming made old now i one after es fs rising within is turns all =
+pub turn_more : {T : Type 0} (taken coming : T → Option (List ℕ)) (made : T → Option (List Call)) (old now : List (Connection T)) (i : ℕ) (one after : Connection T) (before here both : Bool) (es fs : List Accepted)
+    → AllPairs (λ a b. a.id < b.id) old → i < length old → get_or now i one ≡ one → both ≡ before || here → (hub : Hub) × Turns taken coming made hub one after here fs → TurnUpTo taken coming made old now i before es
+    → TurnUpTo taken coming made old (set now i after) (i + 1) both (es ++ fs)
+turn_more {T} taken coming made old now i one after before here both es fs rising within is moved (hub, turns) all =
     let len = all.len in
+    let count = all.count in
     let in_now : i < length now = omega arith in
     let was : (d : Connection T) → get_or old i d ≡ one = λ d. sym (all.rest i d (omega arith) within) ∙ default_free now i d one in_now ∙ is in
     let own_id : (d : Connection T) → (get_or old i d).id ≡ one.id = λ d. ap (λ it. it.id) (was d) in
     record {
       len = length-set now i after ∙ len;
-      turns = λ k d before below. elim (eqb_tells k i) [
+      moves = all.moves ++ here ∷ [];
+      count = length-append all.moves (here ∷ []) ∙ ap (λ n. n + 1) count;
+      within = omega (arith, within);
+      has_moved = moved ∙ ap (λ b. b || here) all.has_moved ∙ sym (any_more all.moves here);
+      turns = λ k d under below. elim (eqb_tells k i) [
         | inl same ↦
             let at : get_or old k d ≡ one = ap (λ (j : ℕ). get_or old j d) same.1 ∙ was d in
-            let under : AreBelow one.id es = subst (λ it. AreBelow it.id es) (was d) (all.below i d (omega arith) within) in
+            let less : AreBelow one.id es = subst (λ it. AreBelow it.id es) (was d) (all.below i d (omega arith) within) in
             let events : events_of one.id (es ++ fs) ≡ fs
-            = events_joined one.id es fs ∙ ap (λ l. l ++ events_of one.id fs) (below_none one.id es under) ∙ own_all one.id fs turns.own in
-            rw (get_or-set_at now i k after d same.1 in_now, at, events) turns
+            = events_joined one.id es fs ∙ ap (λ l. l ++ events_of one.id fs) (below_none one.id es less) ∙ own_all one.id fs turns.own in
+            let last : get_or (all.moves ++ here ∷ []) k false ≡ here = last_move all.moves k here (same.1 ∙ sym count) in
+            rw (get_or-set_at now i k after d same.1 in_now, at, events, last) (hub, turns)
         | inr other ↦
-            let earlier : k < i = omega (arith, before, other.1) in
+            let earlier : k < i = omega (arith, under, other.1) in
+            let front : get_or (all.moves ++ here ∷ []) k false ≡ get_or all.moves k false = front_move all.moves here k (omega (arith, earlier, count)) in
             let apart : one.id ≢ (get_or old k d).id = λ same. (let lt = rising k i d earlier within in let e = own_id d in absurd (omega (arith, lt, e, same))) in
             let events : events_of (get_or old k d).id (es ++ fs) ≡ events_of (get_or old k d).id es
             = events_joined (get_or old k d).id es fs ∙ ap (λ l. events_of (get_or old k d).id es ++ l) (own_none one.id (get_or old k d).id fs turns.own apart) ∙ append-nil (events_of (get_or old k d).id es) in
-            rw (get_or-set_other now i k after d other.1, events) (all.turns k d earlier below)
+            rw (get_or-set_other now i k after d other.1, events, front) (all.turns k d earlier below)
       ];
       rest = λ k d from below. rw (get_or-set_other now i k after d (λ same. absurd (omega (arith, from, same)))) (all.rest k d (omega (arith, from)) below);
       below = below_from_more old i one.id es fs rising within own_id all.below turns.own;
@@ -121,20 +139,23 @@ turn_more {T} taken coming made old now i one after es fs rising within is turns
     }
 
 -- each had its turn
-pub turn_whole : {T : Type 0} (taken coming : T → Option (List ℕ)) (made : T → Option (List Call)) (old now : List (Connection T)) (i : ℕ) (events : List Accepted) → length old ≤ i
-    → TurnUpTo taken coming made old now i events → TurnAll taken coming made old now events
-turn_whole taken coming made old now i events whole all = record {
+pub turn_whole : {T : Type 0} (taken coming : T → Option (List ℕ)) (made : T → Option (List Call)) (old now : List (Connection T)) (i : ℕ) (moved : Bool) (events : List Accepted) → length old ≤ i
+    → TurnUpTo taken coming made old now i moved events → TurnAll taken coming made old now moved events
+turn_whole taken coming made old now i moved events whole all = record {
   len = all.len;
+  moves = all.moves;
+  count = let in_all = all.within in let count = all.count in omega (arith, whole, in_all, count);
+  has_moved = all.has_moved;
   turns = λ k d within. all.turns k d (omega (arith, within)) within;
   no_other = all.no_other;
   are_turns = all.are_turns;
   by_id = all.by_id;
 }
 
-pub turn_ids : {T : Type 0} {taken coming : T → Option (List ℕ)} {made : T → Option (List Call)} (old new : List (Connection T)) (events : List Accepted) → TurnAll taken coming made old new events → HaveSameIds old new
-turn_ids old new events all = record { len = all.len; same = λ k d within. (all.turns k d within).id }
+pub turn_ids : {T : Type 0} {moved : Bool} {taken coming : T → Option (List ℕ)} {made : T → Option (List Call)} (old new : List (Connection T)) (events : List Accepted) → TurnAll taken coming made old new moved events → HaveSameIds old new
+turn_ids old new events all = record { len = all.len; same = λ k d within. (all.turns k d within).1.id }
 
-pub depart_ids : {T : Type 0} {taken coming : T → Option (List ℕ)} {made : T → Option (List Call)} (old new : List (Connection T)) → DepartAll taken coming made old new → HaveSameIds old new
+pub depart_ids : {T : Type 0} {moved : Bool} {taken coming : T → Option (List ℕ)} {made : T → Option (List Call)} (old new : List (Connection T)) → DepartAll taken coming made old new moved → HaveSameIds old new
 depart_ids old new all = record { len = all.len; same = λ k d within. (all.departs k d within).id }
 
 -- what waits is what waited
@@ -206,8 +227,8 @@ moves_opened a b one events opened departing last above own flows =
     }
 
 -- each had its turn
-pub moves_turned : {T : Type 0} {G : Ghosts T} {taken coming : T → Option (List ℕ)} {made : T → Option (List Call)} (a b : Connections T G) (events : List Accepted) → TurnEach taken coming made a b events → Moves a b events
-moves_turned {T} {G} {taken} {coming} {made} a b events each =
+pub moves_turned : {T : Type 0} {G : Ghosts T} {taken coming : T → Option (List ℕ)} {made : T → Option (List Call)} (a b : Connections T G) (moved : Bool) (events : List Accepted) → TurnEach taken coming made a b moved events → Moves a b events
+moves_turned {T} {G} {taken} {coming} {made} a b moved events each =
     let last = each.last in
     let ids = turn_ids a.opened.items each.turned events each.turns in
     let same_len = ids.len in
@@ -222,7 +243,7 @@ moves_turned {T} {G} {taken} {coming} {made} a b events each =
       before = waiting old.queue;
       was = inl (inl (subst (λ (i : ℕ). WaitsAmong a.opened.items i (waiting old.queue)) same (place_among a.opened.items s.place s.one below)));
       flows = flows_as (waiting old.queue) (waiting old.queue) (events_of old.id events) (events_of id events) (waiting (get_or each.turned s.place s.one).queue) octets
-          refl (ap (λ (i : ℕ). events_of i events) same) (ap (λ it. waiting it.queue) (s.at s.one) ∙ s.waits) (flows_turn taken coming made _ _ _ (each.turns.turns s.place s.one below));
+          refl (ap (λ (i : ℕ). events_of i events) same) (ap (λ it. waiting it.queue) (s.at s.one) ∙ s.waits) (flows_turn taken coming made _ _ _ (each.turns.turns s.place s.one below).1);
     } in
     let has_departed : (id : ℕ) (octets : List ℕ) → WaitsAmong each.departed id octets → HasWaited a events id octets
     = λ id octets is.
@@ -272,7 +293,7 @@ pub opened_flows : {T : Type 0} (id : ℕ) (kind : Kind) (one : Connection T) (e
 opened_flows id kind one events (accepted, are, is, stage, put) = record { sent = []; put = waiting one.queue; are_put = put; order = refl }
 
 -- those that are no longer open stay so
-pub departed_closed : {T : Type 0} {taken coming : T → Option (List ℕ)} {made : T → Option (List Call)} (old new : List (Connection T)) → DepartAll taken coming made old new
+pub departed_closed : {T : Type 0} {moved : Bool} {taken coming : T → Option (List ℕ)} {made : T → Option (List Call)} (old new : List (Connection T)) → DepartAll taken coming made old new moved
     → All (λ (one : Connection T). is_open one.stage ≡ false) old → All (λ (one : Connection T). is_open one.stage ≡ false) new
 departed_closed old new all closed k d within =
     let len = all.len in

@@ -2,14 +2,17 @@
 use Rattle.std.proofs.Common.{◌≡◌, ◌+◌, ◌<◌, ℕ, true, List, [], ◌∷◌, ◌++◌, refl, sym, ap, ◌∙◌, subst, append-nil, length, length-append, take, inl, inr, arith}
 use Rattle.std.proofs.Math.Dec.{ltb}
 use Rattle.std.proofs.lemmas.Bool.{ltb-true, lt-ltb}
-use Rattle.std.specs.Prelude.{Option, Some, None}
+use Rattle.std.specs.Prelude.{Option, Some, None, Ok}
 use Rattle.std.specs.Io.KnownBytes.{Appends}
 use Rattle.std.proofs.KnownBytes.{Appends-nil}
 use Rattle.dict_io.specs.Streams.{Change, Stream, AppendsFront}
 use Rattle.dict_catalogue.specs.Steps.{Catalogue}
 use Rattle.dict_hub.specs.Holding.{Holding}
 use Rattle.dict_hub.specs.Given.{Greets, Replies, Gets}
-use Rattle.dict_hub.specs.Events.{Happening, opened, came, ended, id_of, Serves}
+use Rattle.dict_hub.specs.Events.{Happening, opened, came, ended, id_of, admitted, takes_memory, Serves}
+use Rattle.dict_hub.specs.Hubs.{Has, count_of, greatest_of}
+use Rattle.dict_hub.specs.declared.fault.HubFault.{HubFault}
+use Rattle.dict_hub.specs.declared.fault.HubFault.TheVariants.{Memory}
 use Rattle.dict_hub.specs.Runs.{State, Standing, Accepted, IsAt, IsStep, Leads, LeadsOn, state_after}
 use Rattle.dict_hub.specs.declared.kind.Kind.{Kind}
 use Rattle.dict_hub.specs.declared.kind.Kind.TheVariants.{Dict, Http}
@@ -20,16 +23,16 @@ use Rattle.dict_line.specs.Meaning.{Meaning}
 use Rattle.dict_session.specs.Answers.{answer_to}
 use Rattle.dict_session.specs.Desks.{Condition}
 use Rattle.dict_session.specs.Lines.{cut}
-use Rattle.dict_driver.specs.Queues.{waiting, stream_of}
+use Rattle.dict_outlet.specs.Queues.{waiting, stream_of}
 use Rattle.dict_driver.specs.Events.{AreOf, piece_of, pieces_of}
 use Rattle.dict_driver.specs.Ordering.{IsOnly}
 use Rattle.dict_driver.specs.Leading.{HasLedOn}
-use Rattle.dict_driver.specs.Telling.{IsAnswered, IsTold, IsToldThrough}
-use Rattle.dict_driver.specs.Calls.{Call}
-use Rattle.dict_driver.specs.Outlets.{HasTaken, MakesSendings, Passes, carried, stream_through}
-use Rattle.dict_driver.specs.declared.trail.Trail.{Trail}
-use Rattle.dict_driver.proofs.OutletLemmas.{kept_as, passes_none, sendings_of, taken_as}
-use Rattle.dict_driver.specs.declared.queue.Queue.{Queue}
+use Rattle.dict_driver.specs.Telling.{IsAnswered, IsTold, IsToldThrough, MayRefuse}
+use Rattle.dict_outlet.specs.Calls.{Call}
+use Rattle.dict_outlet.specs.Outlets.{HasTaken, MakesSendings, Passes, carried, stream_through}
+use Rattle.dict_outlet.specs.declared.trail.Trail.{Trail}
+use Rattle.dict_outlet.proofs.OutletLemmas.{kept_as, passes_none, sendings_of, taken_as}
+use Rattle.dict_outlet.specs.declared.queue.Queue.{Queue}
 
 -- known octets have grown at their end
 abbrev Grows : Option (List ℕ) → Option (List ℕ) → Type 0
@@ -154,6 +157,15 @@ told_through_none taken coming made what old new from to same still = record {
   are_put = refl;
   passes = passes_none taken coming made from to (waiting old) (waiting new) still (ap waiting same);
 }
+
+-- octets that the hub refused: where it held a reader's of this id, it would have taken them
+pub refuses_piece : (hub : Hub) (what : Happening) (fault : HubFault)
+    → ((held : Option Holding) → Has hub (id_of what) held → admitted held (greatest_of hub) (count_of hub) what ≡ Ok tt → (fault ≡ Memory) × (takes_memory held what ≡ true))
+    → (id : ℕ) (piece : List ℕ) → what ≡ came id piece → MayRefuse hub id
+refuses_piece hub what fault memory id piece is held has =
+    subst (λ (w : Happening). takes_memory (Some held) w ≡ true) is
+    (memory (Some held) (subst (λ (w : Happening). Has hub (id_of w) (Some held)) (sym is) has)
+    (subst (λ (w : Happening). admitted (Some held) (greatest_of hub) (count_of hub) w ≡ Ok tt) (sym is) refl)).1
 
 pub told_none : (what : Happening) (old new : Queue) → new ≡ old → IsTold what None old new []
 told_none what old new same = record {

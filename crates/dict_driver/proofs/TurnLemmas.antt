@@ -1,7 +1,7 @@
 -- Turns of one connection, one call after the other.
 use Rattle.std.proofs.Common.{◌≡◌, ◌≢◌, ◌≤◌, ℕ, Bool, true, false, List, [], ◌∷◌, ◌++◌, refl, sym, ap, ◌∙◌, subst, append_assoc, append-nil, take, length, length-append, take-append-drop, inl, inr, arith, ◌+◌, ◌<◌}
 use Rattle.std.proofs.lemmas.List.Elements.{All-nil}
-use Rattle.std.specs.Prelude.{Option, Some, None, Result, Ok, Err, ◌-◌, nat_le, if◌then◌else◌}
+use Rattle.std.specs.Prelude.{Option, Some, None, Result, Ok, Err, ◌-◌, ◌&&◌, nat_le, if◌then◌else◌}
 use Rattle.std.specs.Io.{ReadsAtMost}
 use Rattle.std.specs.Io.KnownBytes.{Appends, Consumes, Keeps, ReadConsumes}
 use Rattle.std.specs.declared.io.Error.{Error}
@@ -14,24 +14,26 @@ use Rattle.dict_hub.specs.Events.{Happening, came, ended, id_of}
 use Rattle.dict_hub.specs.Runs.{Accepted}
 use Rattle.dict_hub.specs.declared.asking.Out.{Out}
 use Rattle.dict_hub.specs.declared.asking.Out.TheVariants as outs
-use Rattle.dict_driver.specs.Queues.{waiting, is_clear, Sends}
-use Rattle.dict_driver.specs.Stages.{is_open, count_received, answered, parted}
-use Rattle.dict_driver.specs.Calls.{Call, Makes, sends, receives, sendings, readings, endings, is_dropped, calls_of_turn, sent_by, received_by, received_by_kind, has_failed, has_moved}
+use Rattle.dict_outlet.specs.Queues.{waiting, is_clear, Sends}
+use Rattle.dict_driver.specs.Stages.{is_open, is_finishing, answered, parted}
+use Rattle.dict_outlet.specs.Calls.{Call, Makes, sends, receives, sent_by, received_by, received_by_kind, has_come, has_failed, has_moved, count_received}
+use Rattle.dict_driver.specs.Calls.{sendings, readings, endings, is_dropped, calls_of_turn, has_departed}
 use Rattle.dict_driver.specs.Events.{ArePut, AreOf, piece_of, pieces_of}
-use Rattle.dict_driver.specs.Outlets.{Passes, is_sending}
-use Rattle.dict_driver.specs.Telling.{IsAnswered, IsTold, IsToldThrough}
+use Rattle.dict_outlet.specs.Outlets.{Passes, is_sending}
+use Rattle.dict_driver.specs.Telling.{IsAnswered, IsTold, IsToldThrough, MayRefuse}
+use Rattle.dict_hub.specs.declared.hub.Hub.{Hub}
 use Rattle.dict_driver.specs.Turns.{BringAllOrNone, Hands, HandsOver, LeadsByAnswer, LeadsByEnd, LeadsByReading, LeadsByTurn, SendsOnce, ReadsOnce, Turns, Finishes, Drains, LeadsOut, LeadsAway, Departs, stage_between, stage_drained, dropped_after, marked_after}
 use Rattle.dict_driver.specs.declared.connection.Connection.{Connection}
-use Rattle.dict_driver.specs.declared.stage.Sent.{Sent}
-use Rattle.dict_driver.specs.declared.stage.Sent.TheVariants as sents
-use Rattle.dict_driver.specs.declared.stage.Received.{Received}
-use Rattle.dict_driver.specs.declared.stage.Received.TheVariants as receiveds
+use Rattle.dict_outlet.specs.declared.calls.Sent.{Sent}
+use Rattle.dict_outlet.specs.declared.calls.Sent.TheVariants as sents
+use Rattle.dict_outlet.specs.declared.calls.Received.{Received}
+use Rattle.dict_outlet.specs.declared.calls.Received.TheVariants as receiveds
 use Rattle.dict_driver.specs.declared.stage.Stage.{Stage}
 use Rattle.dict_driver.specs.declared.stage.Stage.TheVariants as stages
 use Rattle.dict_driver.specs.Ordering.{IsOfTurn, IsOnly}
-use Rattle.dict_driver.proofs.CallLemmas.{makes_none, makes_joined}
+use Rattle.dict_outlet.proofs.CallLemmas.{makes_none, makes_joined}
 use Rattle.dict_driver.proofs.EventLemmas.{put_joined}
-use Rattle.dict_driver.proofs.OutletLemmas.{passes_none}
+use Rattle.dict_outlet.proofs.OutletLemmas.{passes_none}
 use Rattle.dict_driver.proofs.OrderLemmas.{only_turn}
 use Rattle.dict_driver.proofs.TellLemmas.{answered_own, answered_only, answered_pieces}
 
@@ -171,10 +173,10 @@ hands_over taken coming made octets a b events hands = record {
 }
 
 -- an event that was refused, and then the end
-pub hands_refused : {T : Type 0} (taken coming : T → Option (List ℕ)) (made : T → Option (List Call)) (a b c : Connection T) (octets : List ℕ) (what : Happening) (es fs : List Accepted) → b.id ≡ a.id → b.may_receive ≡ a.may_receive
+pub hands_refused : {T : Type 0} (hub : Hub) (taken coming : T → Option (List ℕ)) (made : T → Option (List Call)) (a b c : Connection T) (octets : List ℕ) (what : Happening) (es fs : List Accepted) → b.id ≡ a.id → b.may_receive ≡ a.may_receive
     → c.stage ≡ stages.Over → IsToldThrough taken coming made what None a.queue b.queue a.transport b.transport es → Hands [] b c fs × IsOnly (ended b.id) fs
-    → HandsOver taken coming made octets a c (es ++ fs) × LeadsByAnswer octets a c (es ++ fs)
-hands_refused taken coming made a b c octets what es fs id marks over told (later, only) =
+    → MayRefuse hub a.id → HandsOver taken coming made octets a c (es ++ fs) × LeadsByAnswer hub octets a c (es ++ fs)
+hands_refused hub taken coming made a b c octets what es fs id marks over told (later, only) refuses =
     let closed : is_open c.stage ≡ false = ap is_open over in
     let whole : es ++ fs ≡ fs = ap (λ (l : List Accepted). l ++ fs) told.answered in
     rw whole (
@@ -190,13 +192,13 @@ hands_refused taken coming made a b c octets what es fs id marks over told (late
         pieces = inr (no_pieces fs later.pieces);
         handed = λ still. absurd (let never : true ≡ false = sym still ∙ closed in cc);
       },
-      inr (subst (λ (i : ℕ). IsOnly (ended i) fs) id only, over),
+      inr (refuses, subst (λ (i : ℕ). IsOnly (ended i) fs) id only, over),
     )
 
 -- octets that the hub answered
-pub leads_answered : {T : Type 0} (a b : Connection T) (octets : List ℕ) (out : Out) (events : List Accepted) → b.stage ≡ answered out a.stage
-    → IsAnswered (came a.id octets) (Some out) events → LeadsByAnswer octets a b events
-leads_answered a b octets out events stage (one, is, same, told) =
+pub leads_answered : {T : Type 0} (hub : Hub) (a b : Connection T) (octets : List ℕ) (out : Out) (events : List Accepted) → b.stage ≡ answered out a.stage
+    → IsAnswered (came a.id octets) (Some out) events → LeadsByAnswer hub octets a b events
+leads_answered hub a b octets out events stage (one, is, same, told) =
     inl (one, is, same, stage ∙ ap (λ (o : Out). answered o a.stage) (sym told))
 
 -- only an open connection goes on
@@ -270,11 +272,11 @@ sends_none taken coming made a clear = record {
 }
 
 -- where a reading leads is told of what was before it
-leads_from : {T : Type 0} (a b c : Connection T) (reading : Received) (octets : List ℕ) (events : List Accepted) → b.id ≡ a.id → b.stage ≡ a.stage → b.may_receive ≡ a.may_receive
-    → LeadsByReading reading octets b c events → LeadsByReading reading octets a c events
-leads_from a b c receiveds.Nothing octets events id stage marks leads = ((leads.0.0, leads.0.1 ∙ stage), leads.1)
-leads_from a b c receiveds.Interrupted octets events id stage marks leads = ((leads.0.0, leads.0.1 ∙ stage), leads.1 ∙ marks)
-leads_from a b c (receiveds.Octets count) octets events id stage marks (inl (one, is, same, led), marked) = (
+leads_from : {T : Type 0} (hub : Hub) (a b c : Connection T) (reading : Received) (octets : List ℕ) (events : List Accepted) → b.id ≡ a.id → b.stage ≡ a.stage → b.may_receive ≡ a.may_receive
+    → LeadsByReading hub reading octets b c events → LeadsByReading hub reading octets a c events
+leads_from hub a b c receiveds.Nothing octets events id stage marks leads = ((leads.0.0, leads.0.1 ∙ stage), leads.1)
+leads_from hub a b c receiveds.Interrupted octets events id stage marks leads = ((leads.0.0, leads.0.1 ∙ stage), leads.1 ∙ marks)
+leads_from hub a b c (receiveds.Octets count) octets events id stage marks (inl (one, is, same, led), marked) = (
   inl (
     one,
     is,
@@ -283,15 +285,15 @@ leads_from a b c (receiveds.Octets count) octets events id stage marks (inl (one
   ),
   marked ∙ marks,
 )
-leads_from a b c (receiveds.Octets count) octets events id stage marks (inr (only, over), marked) = (inr (subst (λ (i : ℕ). IsOnly (ended i) events) id only, over), marked ∙ marks)
-leads_from a b c receiveds.End octets events id stage marks leads = (subst (λ (i : ℕ). IsOnly (ended i) events) id leads.0, leads.1)
-leads_from a b c receiveds.Failed octets events id stage marks leads = (subst (λ (i : ℕ). IsOnly (ended i) events) id leads.0, leads.1)
+leads_from hub a b c (receiveds.Octets count) octets events id stage marks (inr (refuses, only, over), marked) = (inr (subst (λ (i : ℕ). MayRefuse hub i) id refuses, subst (λ (i : ℕ). IsOnly (ended i) events) id only, over), marked ∙ marks)
+leads_from hub a b c receiveds.End octets events id stage marks leads = (subst (λ (i : ℕ). IsOnly (ended i) events) id leads.0, leads.1)
+leads_from hub a b c receiveds.Failed octets events id stage marks leads = (subst (λ (i : ℕ). IsOnly (ended i) events) id leads.0, leads.1)
 
 -- octets came, or an end, and the hub was told
-pub reads_handed : {T : Type 0} (taken coming : T → Option (List ℕ)) (made : T → Option (List Call)) (a b c : Connection T) (reading : Received) (octets : List ℕ) (events : List Accepted)
+pub reads_handed : {T : Type 0} {hub : Hub} (taken coming : T → Option (List ℕ)) (made : T → Option (List Call)) (a b c : Connection T) (reading : Received) (octets : List ℕ) (events : List Accepted)
     → b ≡ record a { transport = b.transport } → a.may_receive ≡ true → Keeps (taken a.transport) (taken b.transport) → Consumes (coming a.transport) (coming b.transport) octets
-    → Makes (made a.transport) (made b.transport) (receives reading ∷ []) → HandsOver taken coming made octets b c events → LeadsByReading reading octets b c events → ReadsOnce taken coming made a c reading events
-reads_handed taken coming made a b c reading octets events same marked took comes calls hands leads =
+    → Makes (made a.transport) (made b.transport) (receives 4096 reading ∷ []) → HandsOver taken coming made octets b c events → LeadsByReading hub reading octets b c events → ReadsOnce taken coming made hub a c reading events
+reads_handed {hub = hub} taken coming made a b c reading octets events same marked took comes calls hands leads =
     let id : b.id ≡ a.id = ap (λ it. it.id) same in
     let stage : b.stage ≡ a.stage = ap (λ it. it.stage) same in
     let marks : b.may_receive ≡ a.may_receive = ap (λ it. it.may_receive) same in
@@ -312,23 +314,23 @@ reads_handed taken coming made a b c reading octets events same marked took come
       handed = hands.handed;
       within = hands.passes.within;
       sendings = hands.passes.sendings;
-      calls = rw marked (makes_joined _ _ _ (receives reading ∷ []) hands.passes.within calls hands.passes.calls);
+      calls = rw marked (makes_joined _ _ _ (receives 4096 reading ∷ []) hands.passes.within calls hands.passes.calls);
       lazy = λ few. hands.passes.lazy (subst (λ q. length (waiting q) + length hands.put < 1048576) (sym queue) few);
       unmarked = λ isnt. absurd (let never : true ≡ false = sym marked ∙ isnt in cc);
-      leads = leads_from a b c reading octets events id stage marks leads;
+      leads = leads_from hub a b c reading octets events id stage marks leads;
     }
 
 -- the same, where the transport was asked nothing then
-pub reads_still : {T : Type 0} (taken coming : T → Option (List ℕ)) (made : T → Option (List Call)) (a b c : Connection T) (reading : Received) (octets : List ℕ) (events : List Accepted)
+pub reads_still : {T : Type 0} {hub : Hub} (taken coming : T → Option (List ℕ)) (made : T → Option (List Call)) (a b c : Connection T) (reading : Received) (octets : List ℕ) (events : List Accepted)
     → b ≡ record a { transport = b.transport } → a.may_receive ≡ true → Keeps (taken a.transport) (taken b.transport) → Consumes (coming a.transport) (coming b.transport) octets
-    → Makes (made a.transport) (made b.transport) (receives reading ∷ []) → Hands octets b c events → LeadsByReading reading octets b c events → ReadsOnce taken coming made a c reading events
+    → Makes (made a.transport) (made b.transport) (receives 4096 reading ∷ []) → Hands octets b c events → LeadsByReading hub reading octets b c events → ReadsOnce taken coming made hub a c reading events
 reads_still taken coming made a b c reading octets events same marked took comes calls hands leads =
     reads_handed taken coming made a b c reading octets events same marked took comes calls (hands_over taken coming made octets b c events hands) leads
 
 -- nothing came
-pub reads_none : {T : Type 0} (taken coming : T → Option (List ℕ)) (made : T → Option (List Call)) (a b : Connection T) (reading : Received) → b.id ≡ a.id → b.stage ≡ a.stage → b.queue ≡ a.queue
+pub reads_none : {T : Type 0} {hub : Hub} (taken coming : T → Option (List ℕ)) (made : T → Option (List Call)) (a b : Connection T) (reading : Received) → b.id ≡ a.id → b.stage ≡ a.stage → b.queue ≡ a.queue
     → Keeps (taken a.transport) (taken b.transport) → Consumes (coming a.transport) (coming b.transport) [] → Makes (made a.transport) (made b.transport) (readings a.may_receive reading)
-    → (a.may_receive ≡ false → reading ≡ receiveds.Nothing) → LeadsByReading reading [] a b [] → ReadsOnce taken coming made a b reading []
+    → (a.may_receive ≡ false → reading ≡ receiveds.Nothing) → LeadsByReading hub reading [] a b [] → ReadsOnce taken coming made hub a b reading []
 reads_none taken coming made a b reading id stage queue took comes calls unmarked leads = record {
   id = id;
   was_open = λ still. ap is_open (sym stage) ∙ still;
@@ -351,11 +353,11 @@ reads_none taken coming made a b reading id stage queue took comes calls unmarke
   leads = leads;
 }
 
-leads_by_turn : {T : Type 0} (a c : Connection T) (sending : Sent) (reading : Received) (octets : List ℕ) (events : List Accepted) → sending ≢ sents.Failed
-    → LeadsByReading reading octets a c events → LeadsByTurn sending reading octets a c events
-leads_by_turn a c sents.Nothing reading octets events well leads = leads
-leads_by_turn a c sents.Some reading octets events well leads = leads
-leads_by_turn a c sents.Failed reading octets events well leads = absurd (well refl)
+leads_by_turn : {T : Type 0} (hub : Hub) (a c : Connection T) (sending : Sent) (reading : Received) (octets : List ℕ) (events : List Accepted) → sending ≢ sents.Failed
+    → LeadsByReading hub reading octets a c events → LeadsByTurn hub sending reading octets a c events
+leads_by_turn hub a c sents.Nothing reading octets events well leads = leads
+leads_by_turn hub a c sents.Some reading octets events well leads = leads
+leads_by_turn hub a c sents.Failed reading octets events well leads = absurd (well refl)
 
 calls_of_both : (a b c : Option (List Call)) (clear may : Bool) (sending : Sent) (reading : Received) (within : List Call) → sending ≢ sents.Failed → Makes a b (sendings clear sending) → Makes b c (readings may reading ++ within)
     → Makes a c (calls_of_turn clear may sending reading ++ within)
@@ -366,9 +368,10 @@ calls_of_both a b c clear may sents.Some reading within well first later =
 calls_of_both a b c clear may sents.Failed reading within well first later = absurd (well refl)
 
 -- a sending, and then a reading
-pub turns_read : {T : Type 0} (taken coming : T → Option (List ℕ)) (made : T → Option (List Call)) (a b c : Connection T) (sending : Sent) (reading : Received) (events : List Accepted) → sending ≢ sents.Failed
-    → SendsOnce taken coming made a b sending → ReadsOnce taken coming made b c reading events → Turns taken coming made a c events
-turns_read taken coming made a b c sending reading events well first later = record {
+pub turns_read : {T : Type 0} {hub : Hub} (taken coming : T → Option (List ℕ)) (made : T → Option (List Call)) (a b c : Connection T) (sending : Sent) (reading : Received) (events : List Accepted) → sending ≢ sents.Failed
+    → SendsOnce taken coming made a b sending → ReadsOnce taken coming made hub b c reading events → (moved : Bool) → moved ≡ has_moved sending reading → Turns taken coming made hub a c moved events
+turns_read {hub = hub} taken coming made a b c sending reading events well first later moved is = record {
+  has_moved = is;
   id = later.id ∙ first.id;
   was_open = λ still. ap is_open (sym first.stage) ∙ later.was_open still;
   own = subst (λ (i : ℕ). AreOf i events) first.id later.own;
@@ -392,13 +395,14 @@ turns_read taken coming made a b c sending reading events well first later = rec
   lazy = λ few. (later.lazy (omega (arith, few, ap length first.order, length-append first.sent (waiting b.queue)))).1;
   idle = first.idle;
   unmarked = λ isnt. later.unmarked (first.may_receive ∙ isnt);
-  leads = leads_by_turn a c sending reading later.received events well (leads_from a b c reading later.received events first.id first.stage first.may_receive later.leads);
+  leads = leads_by_turn hub a c sending reading later.received events well (leads_from hub a b c reading later.received events first.id first.stage first.may_receive later.leads);
 }
 
 -- a sending that failed, and then the hub was told the end
-pub turns_failed : {T : Type 0} (taken coming : T → Option (List ℕ)) (made : T → Option (List Call)) (a b c : Connection T) (sending : Sent) (events : List Accepted) → sending ≡ sents.Failed
-    → SendsOnce taken coming made a b sending → c.stage ≡ stages.Over → Hands [] b c events × IsOnly (ended b.id) events → Turns taken coming made a c events
+pub turns_failed : {T : Type 0} {hub : Hub} (taken coming : T → Option (List ℕ)) (made : T → Option (List Call)) (a b c : Connection T) (sending : Sent) (events : List Accepted) → sending ≡ sents.Failed
+    → SendsOnce taken coming made a b sending → c.stage ≡ stages.Over → Hands [] b c events × IsOnly (ended b.id) events → Turns taken coming made hub a c true events
 turns_failed taken coming made a b c sending events failed first over (hands, only) = record {
+  has_moved = refl;
   id = hands.id ∙ first.id;
   was_open = λ still. ap is_open (sym first.stage) ∙ hands.was_open still;
   own = subst (λ (i : ℕ). AreOf i events) first.id hands.own;
@@ -448,8 +452,9 @@ closed_drained true most receiveds.Failed before closed = refl
 
 -- nothing is told, and the connection is as before but for how far it has come
 pub finishes_still : {T : Type 0} (taken coming : T → Option (List ℕ)) (made : T → Option (List Call)) (a : Connection T) (stage : Stage) (is_told : Bool) → endings (is_clear a.queue) a.stage is_told ≡ []
-    → stage ≡ stage_between (is_clear a.queue) a.stage is_told → Finishes taken coming made a (record a { stage = stage })
-finishes_still taken coming made a stage is_told none is = record {
+    → stage ≡ stage_between (is_clear a.queue) a.stage is_told → (moved : Bool) → moved ≡ (is_clear a.queue && is_finishing a.stage) → Finishes taken coming made a (record a { stage = stage }) moved
+finishes_still taken coming made a stage is_told none is moved so = record {
+  has_moved = so;
   id = refl;
   queue = refl;
   may_receive = refl;
@@ -462,8 +467,9 @@ finishes_still taken coming made a stage is_told none is = record {
 }
 
 -- nothing is read
-pub drains_none : {T : Type 0} (taken coming : T → Option (List ℕ)) (made : T → Option (List Call)) (a : Connection T) → is_dropped a.stage a.may_receive ≡ false → Drains taken coming made a a
+pub drains_none : {T : Type 0} (taken coming : T → Option (List ℕ)) (made : T → Option (List Call)) (a : Connection T) → is_dropped a.stage a.may_receive ≡ false → Drains taken coming made a a false
 drains_none taken coming made a isnt = record {
+  has_moved = rw isnt refl;
   id = refl;
   queue = refl;
   takes = Keeps-refl (taken a.transport);
@@ -496,9 +502,9 @@ only_failed made a b sending failed first =
     subst (λ (e : Bool). Makes (made a.transport) (made b.transport) (sendings e sents.Failed)) waits calls
 
 -- a sending that didn't fail, and what comes after it
-pub departs_whole : {T : Type 0} (taken coming : T → Option (List ℕ)) (made : T → Option (List Call)) (a b c d : Connection T) (sending : Sent) → sending ≢ sents.Failed
-    → SendsOnce taken coming made a b sending → Finishes taken coming made b c → Drains taken coming made c d → Departs taken coming made a d
-departs_whole taken coming made a b c d sending well first between last =
+pub departs_whole : {T : Type 0} (taken coming : T → Option (List ℕ)) (made : T → Option (List Call)) (a b c d : Connection T) (sending : Sent) (finishing dropping moved : Bool) → sending ≢ sents.Failed
+    → SendsOnce taken coming made a b sending → Finishes taken coming made b c finishing → Drains taken coming made c d dropping → moved ≡ has_departed sending finishing dropping → Departs taken coming made a d moved
+departs_whole taken coming made a b c d sending finishing dropping moved well first between last is =
     let queue : d.queue ≡ b.queue = last.queue ∙ between.queue in
     let clear : is_clear b.queue ≡ is_clear d.queue = ap is_clear (sym queue) in
     let stage : c.stage ≡ stage_between (is_clear d.queue) a.stage between.is_told
@@ -513,6 +519,8 @@ departs_whole taken coming made a b c d sending well first between last =
     let read : Makes (made c.transport) (made d.transport) (readings (is_dropped (stage_between (is_clear d.queue) a.stage between.is_told) a.may_receive) last.reading)
     = subst (λ (e : Bool). Makes (made c.transport) (made d.transport) (readings e last.reading)) is_read last.calls in
     record {
+      has_moved = is ∙ ap (λ (e : Bool). has_departed sending e dropping) (between.has_moved ∙ ap (λ (e : Bool). e && is_finishing b.stage) clear ∙ ap (λ (s : Stage). is_clear d.queue && is_finishing s) first.stage)
+          ∙ ap (λ (e : Bool). has_departed sending (is_clear d.queue && is_finishing a.stage) e) (last.has_moved ∙ ap (λ (e : Bool). e && has_come last.reading) is_read);
       id = last.id ∙ between.id ∙ first.id;
       closed = λ was. ap is_open last.stage ∙ closed_drained (is_dropped c.stage c.may_receive) (26_214_400 - c.dropped) last.reading c.stage (ap is_open stage ∙ closed_between (is_clear d.queue) a.stage between.is_told was);
       sent = first.sent;
@@ -538,8 +546,9 @@ departs_whole taken coming made a b c d sending well first between last =
 
 -- a sending that failed
 pub departs_failed : {T : Type 0} (taken coming : T → Option (List ℕ)) (made : T → Option (List Call)) (a b : Connection T) (sending : Sent) → sending ≡ sents.Failed
-    → SendsOnce taken coming made a b sending → Departs taken coming made a (record b { stage = stages.Over })
+    → SendsOnce taken coming made a b sending → Departs taken coming made a (record b { stage = stages.Over }) true
 departs_failed taken coming made a b sending failed first = record {
+  has_moved = refl;
   id = first.id;
   closed = λ was. refl;
   sent = first.sent;

@@ -1,7 +1,5 @@
 pub mod Binding
-pub mod Queues
 pub mod Calls
-pub mod Outlets
 pub mod Stages
 pub mod Events
 pub mod Leading
@@ -11,5 +9,8 @@ pub mod Turns
 pub mod Turning
 pub mod Rounds
 pub mod Listening
+pub mod Asking
 pub mod Looking
+pub mod Accepting
+pub mod EventLoops
 pub mod Serving

@@ -11,6 +11,12 @@ may_accept Ready = true
 may_accept Quiet = false
 may_accept Failed = true
 
+-- a connection may wait there, which is to be taken before sockets are waited for
+abbrev pub is_ready : Listening → Bool
+is_ready Ready = true
+is_ready Quiet = false
+is_ready Failed = false
+
 -- what a call tells that failed by an error of this kind: none waits where it would wait; one that was interrupted, or whose connection
 -- was given up, is to be made again; and with each other it failed
 abbrev pub listening_by : ErrorKind → Listening

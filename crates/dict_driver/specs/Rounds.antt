@@ -1,8 +1,8 @@
 -- What a round does with the octets that wait for each connection.
-use Rattle.std.specs.Prelude.{◌≡◌, ◌⊎◌, ◌<◌, ◌≤◌, ◌-◌, ◌+◌, ℕ, true, List, [], ◌∷◌, ◌++◌, drop, filter, length, Option}
+use Rattle.std.specs.Prelude.{◌≡◌, ◌⊎◌, ◌||◌, Bool, ◌<◌, ◌≤◌, ◌-◌, ◌+◌, ℕ, true, List, [], ◌∷◌, ◌++◌, drop, filter, length, Option}
 use Rattle.dict_hub.specs.Runs.{Accepted, events_of}
-use Rattle.dict_driver.specs.Queues.{waiting}
-use Rattle.dict_driver.specs.Calls.{Call}
+use Rattle.dict_outlet.specs.Queues.{waiting}
+use Rattle.dict_outlet.specs.Calls.{Call}
 use Rattle.dict_driver.specs.Stages.{is_open, is_held, is_departing}
 use Rattle.dict_driver.specs.Events.{ArePut}
 use Rattle.dict_driver.specs.Turns.{IsOpened}
@@ -10,7 +10,7 @@ use Rattle.dict_driver.specs.Turning.{DepartAll, TurnAll}
 use Rattle.dict_hub.specs.declared.kind.Kind.{Kind}
 use Rattle.dict_driver.specs.declared.connection.Connection.{Connection}
 use Rattle.dict_driver.specs.declared.connections.Connections.{Connections}
-use Rattle.dict_driver.specs.declared.transport.Transport.{Ghosts}
+use Rattle.dict_outlet.specs.declared.transport.Transport.{Ghosts}
 
 -- one of these connections has this id, and these octets wait for it
 abbrev pub WaitsAmong : {T : Type 0} → List (Connection T) → ℕ → List ℕ → Type 0
@@ -50,15 +50,19 @@ abbrev pub latest : {A : Type 0} → ℕ → List A → List A
 latest most all = drop (length all - most) all
 
 -- Each connection that is no longer open had its turn as such, and then each open one by its own events. Those that are open then are
--- the open ones; those that are held and no longer open, of which 128 are kept, stand behind those that were so before; and no other is held
-pub record TurnEach {T : Type 0} {G : Ghosts T} (taken coming : T → Option (List ℕ)) (made : T → Option (List Call)) (old new : Connections T G) (events : List Accepted) : Type 0 where
+-- the open ones; those that are held and no longer open, of which 128 are kept, stand behind those that were so before; and no other is
+-- held. Something happened where it did in a turn of the one sort or the other
+pub record TurnEach {T : Type 0} {G : Ghosts T} (taken coming : T → Option (List ℕ)) (made : T → Option (List Call)) (old new : Connections T G) (moved : Bool) (events : List Accepted) : Type 0 where
   pub departed : List (Connection T)
-  pub departs : DepartAll taken coming made old.departing.items departed
+  pub by_departing : Bool
+  pub departs : DepartAll taken coming made old.departing.items departed by_departing
   pub turned : List (Connection T)
-  pub turns : TurnAll taken coming made old.opened.items turned events
+  pub by_open : Bool
+  pub turns : TurnAll taken coming made old.opened.items turned by_open events
   pub opened : new.opened.items ≡ filter (λ one. is_open one.stage) turned
   pub departing : new.departing.items ≡ latest 128 (filter (λ one. is_held one.stage) departed ++ filter (λ one. is_departing one.stage) turned)
   pub last : new.last ≡ old.last
+  pub has_moved : moved ≡ (by_departing || by_open)
 
 -- no connection was opened, and all is as before; or one was, of this transport and with the next id, behind those that are open
 abbrev pub Admits : {T : Type 0} {G : Ghosts T} → T → Kind → Connections T G → Connections T G → List Accepted → Type 0

@@ -4,8 +4,8 @@ use Rattle.dict_hub.specs.declared.asking.Out.{Out}
 use Rattle.dict_hub.specs.declared.asking.Out.TheVariants as outs
 use Rattle.dict_driver.specs.declared.stage.Stage.{Stage}
 use Rattle.dict_driver.specs.declared.stage.Stage.TheVariants.{Open, Closing, Parting, Draining, Over}
-use Rattle.dict_driver.specs.declared.stage.Received.{Received}
-use Rattle.dict_driver.specs.declared.stage.Received.TheVariants.{Nothing, Interrupted, Octets, End, Failed}
+use Rattle.dict_outlet.specs.declared.calls.Received.{Received}
+use Rattle.dict_outlet.specs.declared.calls.Received.TheVariants.{Nothing, Interrupted, Octets, End, Failed}
 
 -- what comes on it goes to the hub
 abbrev pub is_open : Stage → Bool
@@ -31,14 +31,6 @@ is_departing Parting = true
 is_departing Draining = true
 is_departing Over = false
 
--- how many octets came
-abbrev pub count_received : Received → ℕ
-count_received Nothing = 0
-count_received Interrupted = 0
-count_received (Octets n) = n
-count_received End = 0
-count_received Failed = 0
-
 -- the stage of a new connection, by the hub's answer to its opening: one that is closed got no whole greeting
 abbrev pub stage_of_new : Out → Stage
 stage_of_new outs.More = Open
@@ -61,6 +53,14 @@ finished Closing is_told = if is_told then Draining else Over
 finished Parting is_told = Over
 finished Draining is_told = Draining
 finished Over is_told = Over
+
+-- once nothing waits for it, its stage is another
+abbrev pub is_finishing : Stage → Bool
+is_finishing Open = false
+is_finishing Closing = true
+is_finishing Parting = true
+is_finishing Draining = false
+is_finishing Over = false
 
 -- the stage after a reading of what is dropped, of which this many octets may still come
 abbrev pub drained : ℕ → Received → Stage

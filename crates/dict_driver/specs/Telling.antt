@@ -1,13 +1,20 @@
 -- What one event leaves of its connection's queue.
-use Rattle.std.specs.Prelude.{◌≡◌, ℕ, List, [], ◌∷◌, ◌++◌, Option, None, Some}
-use Rattle.dict_hub.specs.Events.{Happening}
+use Rattle.std.specs.Prelude.{true, ◌≡◌, ℕ, List, [], ◌∷◌, ◌++◌, Option, None, Some}
+use Rattle.dict_hub.specs.Events.{Happening, is_of_editor}
+use Rattle.dict_hub.specs.Holding.{Holding}
+use Rattle.dict_hub.specs.Hubs.{Has}
+use Rattle.dict_hub.specs.declared.hub.Hub.{Hub}
 use Rattle.dict_hub.specs.Runs.{Accepted}
 use Rattle.dict_hub.specs.declared.asking.Out.{Out}
-use Rattle.dict_driver.specs.Calls.{Call}
-use Rattle.dict_driver.specs.Outlets.{Passes}
-use Rattle.dict_driver.specs.Queues.{waiting}
+use Rattle.dict_outlet.specs.Calls.{Call}
+use Rattle.dict_outlet.specs.Outlets.{Passes}
+use Rattle.dict_outlet.specs.Queues.{waiting}
 use Rattle.dict_driver.specs.Events.{ArePut}
-use Rattle.dict_driver.specs.declared.queue.Queue.{Queue}
+use Rattle.dict_outlet.specs.declared.queue.Queue.{Queue}
+
+-- the hub may refuse octets of this connection: it holds none of its id, or an editor's, whose octets take memory
+abbrev pub MayRefuse : Hub → ℕ → Type 0
+MayRefuse hub id = (held : Holding) → Has hub id (Some held) → is_of_editor held.kind ≡ true
 
 -- it is this event alone, which the hub answered so; or the hub refused it, and there is none
 abbrev pub IsAnswered : Happening → Option Out → List Accepted → Type 0

@@ -1,7 +1,8 @@
 -- What is done to each connection of a list, place by place.
-use Rattle.std.specs.Prelude.{◌≡◌, ◌≢◌, ◌<◌, ◌||◌, ℕ, Bool, List, [], Option, length, slice_index_or}
+use Rattle.std.specs.Prelude.{◌≡◌, ◌≢◌, ◌<◌, ◌||◌, ℕ, Bool, false, List, [], ◌∷◌, Option, length, slice_index_or}
 use Rattle.dict_hub.specs.Runs.{Accepted, events_of}
-use Rattle.dict_driver.specs.Calls.{Call}
+use Rattle.dict_hub.specs.declared.hub.Hub.{Hub}
+use Rattle.dict_outlet.specs.Calls.{Call}
 use Rattle.dict_driver.specs.Ordering.{AreOfTurns, ComeById}
 use Rattle.dict_driver.specs.Turns.{Departs, Turns}
 use Rattle.dict_driver.specs.declared.connection.Connection.{Connection}
@@ -15,16 +16,28 @@ pub record MarkAll {T : Type 0} (is_told : ℕ → Bool) (old new : List (Connec
   pub len : length new ≡ length old
   pub marks : (k : ℕ) (d : Connection T) → k < length old → slice_index_or new k d ≡ marked (is_told (slice_index_or old k d).id) (slice_index_or old k d)
 
--- each connection had its turn as one that is no longer open
-pub record DepartAll {T : Type 0} (taken coming : T → Option (List ℕ)) (made : T → Option (List Call)) (old new : List (Connection T)) : Type 0 where
-  pub len : length new ≡ length old
-  pub departs : (k : ℕ) (d : Connection T) → k < length old → Departs taken coming made (slice_index_or old k d) (slice_index_or new k d)
+-- one of these is so
+abbrev pub any : List Bool → Bool
+any [] = false
+any (one ∷ others) = one || any others
 
--- each connection had its turn, by its own events; and each event is of one of these connections, in the order of their ids
-pub record TurnAll {T : Type 0} (taken coming : T → Option (List ℕ)) (made : T → Option (List Call)) (old new : List (Connection T)) (events : List Accepted) : Type 0 where
+-- Each connection had its turn as one that is no longer open. Something happened where it did in one of them
+pub record DepartAll {T : Type 0} (taken coming : T → Option (List ℕ)) (made : T → Option (List Call)) (old new : List (Connection T)) (moved : Bool) : Type 0 where
   pub len : length new ≡ length old
+  pub moves : List Bool
+  pub count : length moves ≡ length old
+  pub departs : (k : ℕ) (d : Connection T) → k < length old → Departs taken coming made (slice_index_or old k d) (slice_index_or new k d) (slice_index_or moves k false)
+  pub has_moved : moved ≡ any moves
+
+-- Each connection had its turn, by its own events; and each event is of one of these connections, in the order of their ids. Something
+-- happened where it did in one of the turns
+pub record TurnAll {T : Type 0} (taken coming : T → Option (List ℕ)) (made : T → Option (List Call)) (old new : List (Connection T)) (moved : Bool) (events : List Accepted) : Type 0 where
+  pub len : length new ≡ length old
+  pub moves : List Bool
+  pub count : length moves ≡ length old
   pub turns : (k : ℕ) (d : Connection T) → k < length old
-      → Turns taken coming made (slice_index_or old k d) (slice_index_or new k d) (events_of (slice_index_or old k d).id events)
+      → (hub : Hub) × Turns taken coming made hub (slice_index_or old k d) (slice_index_or new k d) (slice_index_or moves k false) (events_of (slice_index_or old k d).id events)
+  pub has_moved : moved ≡ any moves
   pub no_other : (id : ℕ) → ((k : ℕ) (d : Connection T) → k < length old → (slice_index_or old k d).id ≢ id) → events_of id events ≡ []
   pub are_turns : AreOfTurns events
   pub by_id : ComeById events

@@ -1,22 +1,25 @@
 -- What a turn of one connection does. Of a transport in memory the octets that it took and that it gives, and the calls that were
 -- made of it, are known. Of a socket they aren't (`None`), so nothing is claimed of them: that a socket carries what it took, and
 -- gives what its peer sent, is shown by tests alone.
-use Rattle.std.specs.Prelude.{◌≡◌, ◌⊎◌, ◌<◌, ◌+◌, ◌-◌, ◌^◌, ℕ, min, Bool, true, false, All, length, List, [], ◌∷◌, ◌++◌, Option, if◌then◌else◌}
+use Rattle.std.specs.Prelude.{◌≡◌, ◌⊎◌, ◌&&◌, ◌<◌, ◌+◌, ◌-◌, ◌^◌, ℕ, min, Bool, true, false, All, length, List, [], ◌∷◌, ◌++◌, Option, if◌then◌else◌}
 use Rattle.std.specs.Io.KnownBytes.{Appends, Consumes, Keeps}
 use Rattle.dict_hub.specs.Events.{opened, came, ended}
 use Rattle.dict_hub.specs.Runs.{Accepted}
 use Rattle.dict_hub.specs.declared.kind.Kind.{Kind}
-use Rattle.dict_driver.specs.Outlets.{Passes, is_sending}
-use Rattle.dict_driver.specs.Queues.{waiting, is_clear}
-use Rattle.dict_driver.specs.Stages.{is_open, count_received, stage_of_new, answered, parted, finished, drained}
-use Rattle.dict_driver.specs.Calls.{Call, sends, Makes, sendings, endings, readings, is_dropped, calls_of_turn}
+use Rattle.dict_outlet.specs.Outlets.{Passes, is_sending}
+use Rattle.dict_outlet.specs.Queues.{waiting, is_clear}
+use Rattle.dict_driver.specs.Stages.{is_open, is_finishing, stage_of_new, answered, parted, finished, drained}
+use Rattle.dict_outlet.specs.Calls.{Call, sends, Makes, count_received, has_come, has_moved}
+use Rattle.dict_driver.specs.Calls.{sendings, endings, readings, is_dropped, calls_of_turn, has_departed}
 use Rattle.dict_driver.specs.Events.{ArePut, AreOf, pieces_of}
 use Rattle.dict_driver.specs.Ordering.{AreOfTurns, IsOnly}
+use Rattle.dict_driver.specs.Telling.{MayRefuse}
+use Rattle.dict_hub.specs.declared.hub.Hub.{Hub}
 use Rattle.dict_driver.specs.declared.connection.Connection.{Connection}
-use Rattle.dict_driver.specs.declared.stage.Sent.{Sent}
-use Rattle.dict_driver.specs.declared.stage.Sent.TheVariants as sents
-use Rattle.dict_driver.specs.declared.stage.Received.{Received}
-use Rattle.dict_driver.specs.declared.stage.Received.TheVariants as receiveds
+use Rattle.dict_outlet.specs.declared.calls.Sent.{Sent}
+use Rattle.dict_outlet.specs.declared.calls.Sent.TheVariants as sents
+use Rattle.dict_outlet.specs.declared.calls.Received.{Received}
+use Rattle.dict_outlet.specs.declared.calls.Received.TheVariants as receiveds
 use Rattle.dict_driver.specs.declared.stage.Stage.{Stage}
 use Rattle.dict_driver.specs.declared.stage.Stage.TheVariants as stages
 
@@ -52,11 +55,12 @@ pub record HandsOver {T : Type 0} (taken coming : T → Option (List ℕ)) (made
   pub pieces : BringAllOrNone octets events
   pub handed : is_open new.stage ≡ true → pieces_of events ≡ octets
 
--- the hub was told these octets, and the stage is that of its answer; or it refused them, was told the end, and the connection is over
-abbrev pub LeadsByAnswer : {T : Type 0} → List ℕ → Connection T → Connection T → List Accepted → Type 0
-LeadsByAnswer octets old new events =
+-- the hub, as it was, was told these octets, and the stage is that of its answer; or it refused them, as it may, was told the end, and the
+-- connection is over
+abbrev pub LeadsByAnswer : {T : Type 0} → Hub → List ℕ → Connection T → Connection T → List Accepted → Type 0
+LeadsByAnswer hub octets old new events =
     ((one : Accepted) × (events ≡ one ∷ []) × (one.what ≡ came old.id octets) × (new.stage ≡ answered one.out old.stage))
-    ⊎ (IsOnly (ended old.id) events × (new.stage ≡ stages.Over))
+    ⊎ (MayRefuse hub old.id × IsOnly (ended old.id) events × (new.stage ≡ stages.Over))
 
 -- the hub was told the end and nothing else, and this is the stage
 abbrev pub LeadsByEnd : {T : Type 0} → Stage → Connection T → Connection T → List Accepted → Type 0
@@ -68,18 +72,18 @@ LeadsNowhere old new events = (events ≡ []) × (new.stage ≡ old.stage)
 
 -- Where a reading leads, by which these octets came: an answer leads on, or to a close; the end of the peer's side to one that is
 -- over, once all is sent; a failure to one that is over
-abbrev pub LeadsByReading : {T : Type 0} → Received → List ℕ → Connection T → Connection T → List Accepted → Type 0
-LeadsByReading receiveds.Nothing octets old new events = LeadsNowhere old new events × (new.may_receive ≡ false)
-LeadsByReading receiveds.Interrupted octets old new events = LeadsNowhere old new events × (new.may_receive ≡ old.may_receive)
-LeadsByReading (receiveds.Octets count) octets old new events = LeadsByAnswer octets old new events × (new.may_receive ≡ old.may_receive)
-LeadsByReading receiveds.End octets old new events = LeadsByEnd (parted (is_clear new.queue)) old new events
-LeadsByReading receiveds.Failed octets old new events = LeadsByEnd stages.Over old new events
+abbrev pub LeadsByReading : {T : Type 0} → Hub → Received → List ℕ → Connection T → Connection T → List Accepted → Type 0
+LeadsByReading hub receiveds.Nothing octets old new events = LeadsNowhere old new events × (new.may_receive ≡ false)
+LeadsByReading hub receiveds.Interrupted octets old new events = LeadsNowhere old new events × (new.may_receive ≡ old.may_receive)
+LeadsByReading hub (receiveds.Octets count) octets old new events = LeadsByAnswer hub octets old new events × (new.may_receive ≡ old.may_receive)
+LeadsByReading hub receiveds.End octets old new events = LeadsByEnd (parted (is_clear new.queue)) old new events
+LeadsByReading hub receiveds.Failed octets old new events = LeadsByEnd stages.Over old new events
 
 -- where a turn leads: a sending that failed to a connection that is over, and each other where the reading does
-abbrev pub LeadsByTurn : {T : Type 0} → Sent → Received → List ℕ → Connection T → Connection T → List Accepted → Type 0
-LeadsByTurn sents.Failed received octets old new events = LeadsByEnd stages.Over old new events
-LeadsByTurn sents.Nothing received octets old new events = LeadsByReading received octets old new events
-LeadsByTurn sents.Some received octets old new events = LeadsByReading received octets old new events
+abbrev pub LeadsByTurn : {T : Type 0} → Hub → Sent → Received → List ℕ → Connection T → Connection T → List Accepted → Type 0
+LeadsByTurn hub sents.Failed received octets old new events = LeadsByEnd stages.Over old new events
+LeadsByTurn hub sents.Nothing received octets old new events = LeadsByReading hub received octets old new events
+LeadsByTurn hub sents.Some received octets old new events = LeadsByReading hub received octets old new events
 
 -- A front of what waits was sent, which the transport took, by one call where something waits; nothing was read
 pub record SendsOnce {T : Type 0} (taken coming : T → Option (List ℕ)) (made : T → Option (List Call)) (old new : Connection T) (sending : Sent) : Type 0 where
@@ -97,7 +101,7 @@ pub record SendsOnce {T : Type 0} (taken coming : T → Option (List ℕ)) (made
 
 -- What came was handed to the hub, or none of it, by one call where a reading may give something; and then the transport was asked no
 -- more than to take octets, and not even that while fewer than 1,048,576 of them were there
-pub record ReadsOnce {T : Type 0} (taken coming : T → Option (List ℕ)) (made : T → Option (List Call)) (old new : Connection T) (reading : Received) (events : List Accepted) : Type 0 where
+pub record ReadsOnce {T : Type 0} (taken coming : T → Option (List ℕ)) (made : T → Option (List Call)) (hub : Hub) (old new : Connection T) (reading : Received) (events : List Accepted) : Type 0 where
   pub id : new.id ≡ old.id
   pub was_open : is_open new.stage ≡ true → is_open old.stage ≡ true
   pub own : AreOf old.id events
@@ -116,13 +120,14 @@ pub record ReadsOnce {T : Type 0} (taken coming : T → Option (List ℕ)) (made
   pub calls : Makes (made old.transport) (made new.transport) (readings old.may_receive reading ++ within)
   pub lazy : length (waiting old.queue) + length put < 1048576 → (sent ≡ []) × (within ≡ [])
   pub unmarked : old.may_receive ≡ false → reading ≡ receiveds.Nothing
-  pub leads : LeadsByReading reading received old new events
+  pub leads : LeadsByReading hub reading received old new events
 
 -- A turn of an open connection. The events are of this connection alone. What waited and what they put: a front of it is sent, which
 -- the transport took, and the rest waits. What came was handed to the hub, all of it while the connection is open, and else all or
 -- none. The calls are a sending, where something waits, then a reading, where one may give something, and within the event sendings
--- again, once 1,048,576 octets are there; and what the first two came to, and the hub's answer, tells the stage
-pub record Turns {T : Type 0} (taken coming : T → Option (List ℕ)) (made : T → Option (List Call)) (old new : Connection T) (events : List Accepted) : Type 0 where
+-- again, once 1,048,576 octets are there; and what the first two came to, and the hub's answer, tells the stage. Whether anything
+-- happened, or a call is to be made again at once, is told by what the two came to
+pub record Turns {T : Type 0} (taken coming : T → Option (List ℕ)) (made : T → Option (List Call)) (hub : Hub) (old new : Connection T) (moved : Bool) (events : List Accepted) : Type 0 where
   pub id : new.id ≡ old.id
   pub was_open : is_open new.stage ≡ true → is_open old.stage ≡ true
   pub own : AreOf old.id events
@@ -144,7 +149,8 @@ pub record Turns {T : Type 0} (taken coming : T → Option (List ℕ)) (made : T
   pub lazy : length (waiting old.queue) + length put < 1048576 → within ≡ []
   pub idle : is_clear old.queue ≡ true → sending ≡ sents.Nothing
   pub unmarked : old.may_receive ≡ false → reading ≡ receiveds.Nothing
-  pub leads : LeadsByTurn sending reading received old new events
+  pub leads : LeadsByTurn hub sending reading received old new events
+  pub has_moved : moved ≡ has_moved sending reading
 
 -- A connection was opened under this id: its stage is that of the hub's answer, and what the event put waits
 abbrev pub IsOpened : {T : Type 0} → ℕ → Kind → Connection T → List Accepted → Type 0
@@ -173,7 +179,7 @@ marked_after true receiveds.End before = true
 marked_after true receiveds.Failed before = true
 
 -- once nothing waits, the peer of one that the hub closed is told so
-pub record Finishes {T : Type 0} (taken coming : T → Option (List ℕ)) (made : T → Option (List Call)) (old new : Connection T) : Type 0 where
+pub record Finishes {T : Type 0} (taken coming : T → Option (List ℕ)) (made : T → Option (List Call)) (old new : Connection T) (moved : Bool) : Type 0 where
   pub id : new.id ≡ old.id
   pub queue : new.queue ≡ old.queue
   pub may_receive : new.may_receive ≡ old.may_receive
@@ -183,9 +189,10 @@ pub record Finishes {T : Type 0} (taken coming : T → Option (List ℕ)) (made 
   pub is_told : Bool
   pub calls : Makes (made old.transport) (made new.transport) (endings (is_clear old.queue) old.stage is_told)
   pub stage : new.stage ≡ stage_between (is_clear old.queue) old.stage is_told
+  pub has_moved : moved ≡ (is_clear old.queue && is_finishing old.stage)
 
 -- once the peer is told so, what comes is read and dropped
-pub record Drains {T : Type 0} (taken coming : T → Option (List ℕ)) (made : T → Option (List Call)) (old new : Connection T) : Type 0 where
+pub record Drains {T : Type 0} (taken coming : T → Option (List ℕ)) (made : T → Option (List Call)) (old new : Connection T) (moved : Bool) : Type 0 where
   pub id : new.id ≡ old.id
   pub queue : new.queue ≡ old.queue
   pub takes : Keeps (taken old.transport) (taken new.transport)
@@ -196,6 +203,7 @@ pub record Drains {T : Type 0} (taken coming : T → Option (List ℕ)) (made : 
   pub stage : new.stage ≡ stage_drained (is_dropped old.stage old.may_receive) (26_214_400 - old.dropped) reading old.stage
   pub dropped : new.dropped ≡ dropped_after (is_dropped old.stage old.may_receive) reading old.dropped
   pub may_receive : new.may_receive ≡ marked_after (is_dropped old.stage old.may_receive) reading old.may_receive
+  pub has_moved : moved ≡ (is_dropped old.stage old.may_receive && has_come reading)
 
 -- where a turn leads that is no longer open
 abbrev pub LeadsOut : {T : Type 0} → (T → Option (List Call)) → Sent → Bool → Received → Connection T → Connection T → Type 0
@@ -215,7 +223,7 @@ LeadsAway made sents.Some is_told reading old new = LeadsOut made sents.Some is_
 -- A turn of a connection that is no longer open, of which the hub is told nothing: a front of what waited is sent; once nothing waits,
 -- the peer of one that the hub closed is told so, and then what comes is read and dropped, up to 26,214,400 octets and its end. A
 -- sending that failed, or an end that can't be told, leads to one that is over
-pub record Departs {T : Type 0} (taken coming : T → Option (List ℕ)) (made : T → Option (List Call)) (old new : Connection T) : Type 0 where
+pub record Departs {T : Type 0} (taken coming : T → Option (List ℕ)) (made : T → Option (List Call)) (old new : Connection T) (moved : Bool) : Type 0 where
   pub id : new.id ≡ old.id
   pub closed : is_open old.stage ≡ false → is_open new.stage ≡ false
   pub sent : List ℕ
@@ -228,3 +236,5 @@ pub record Departs {T : Type 0} (taken coming : T → Option (List ℕ)) (made :
   pub reading : Received
   pub idle : is_clear old.queue ≡ true → sending ≡ sents.Nothing
   pub leads : LeadsAway made sending is_told reading old new
+  pub has_moved : moved ≡ has_departed sending (is_clear new.queue && is_finishing old.stage)
+      (is_dropped (stage_between (is_clear new.queue) old.stage is_told) old.may_receive && has_come reading)

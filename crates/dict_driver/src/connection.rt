@@ -4,19 +4,18 @@ ghost use Rattle.std.specs.Io.KnownBytes.{Consumes, Keeps};
 ghost use Rattle.dict_driver.specs.Leading.{HasLedOn};
 ghost use Rattle.dict_hub.specs.Events.{opened, ended};
 ghost use Rattle.dict_hub.specs.Runs.{Accepted};
-ghost use Rattle.dict_driver.specs.Calls.{Makes, receives};
-ghost use Rattle.dict_driver.specs.Stages.{is_open, count_received, parted, stage_of_new};
+ghost use Rattle.dict_outlet.specs.Calls.{Makes, receives, count_received};
+ghost use Rattle.dict_driver.specs.Stages.{is_open, parted, stage_of_new};
 
-use crate::queue::Queue;
-use crate::stage::{
-    Received, Sent, Stage, answered, drained, has_any, has_moved, parted, received_by, sent_by,
-    stage_of_new, told,
-};
+use crate::stage::{Stage, answered, drained, has_departed, parted, stage_of_new, told};
 use crate::telling::{tell, tell_through};
-use crate::transport::Transport;
 use dict_desk::Keeper;
 use dict_hub::{Event, Hub, Kind};
+use dict_outlet::{Queue, Received, Sent, Transport, has_moved, received_by, sent_by};
 use std::alloc::Global;
+
+/// The most octets that one reading takes.
+pub const PIECE: usize = 4_096;
 
 // The most octets that are dropped of a connection once all is sent: the largest body of a request and 1 MiB.
 const MOST_DROPPED: usize = 26_214_400;
@@ -35,7 +34,7 @@ pub struct Connection<T: Transport> {
 }
 
 impl<T: Transport> Connection<T> {
-    ghost use Rattle.dict_driver.specs.Queues.{waiting, is_clear};
+    ghost use Rattle.dict_outlet.specs.Queues.{waiting, is_clear};
     ghost use Rattle.dict_driver.specs.Turns.{Departs, Drains, Finishes, Hands, HandsOver, IsOpened, LeadsByAnswer, LeadsByEnd, ReadsOnce, SendsOnce, Turns};
     ghost use Rattle.dict_driver.specs.Turning.{marked};
     ghost use Rattle.dict_driver.specs.Ordering.{IsOnly};
@@ -110,9 +109,9 @@ impl<T: Transport> Connection<T> {
 
     /// A turn of an open connection: sends what waits, reads once into the room, and hands what came to the hub, or that
     /// nothing more comes. Whether anything happened.
-    pub fn turn<K: Keeper>(&mut self, hub: &mut Hub, desk: &mut K, room: &mut [u8]) -> bool
+    pub fn turn<K: Keeper>(&mut self, hub: &mut Hub, desk: &mut K, room: &mut [u8; PIECE]) -> bool
         ensures led { HasLedOn (K.is_trusted desk.new) (K.shows desk.old) (K.leaves_one_of desk.old) (K.shows desk.new) (K.leaves_one_of desk.new) hub.old hub.new
-            (λ events. Turns T.taken T.coming T.made self.old self.new events) }
+            (λ events. Turns T.taken T.coming T.made hub.old self.old self.new result events) }
         ensures trust { K.is_trusted desk.new → K.is_trusted desk.old }
         ensures id { self.new.id ≡ self.old.id }
         ensures idle { result ≡ false → self.new.may_receive ≡ false }
@@ -129,8 +128,8 @@ impl<T: Transport> Connection<T> {
     /// A turn of a connection that is no longer open: sends what waits; once nothing does, it is over where the peer
     /// ended its side, and else the peer is told so, and what comes is read into the room and dropped. Whether anything
     /// happened.
-    pub fn depart(&mut self, room: &mut [u8]) -> bool
-        ensures { Departs T.taken T.coming T.made self.old self.new }
+    pub fn depart(&mut self, room: &mut [u8; PIECE]) -> bool
+        ensures { Departs T.taken T.coming T.made self.old self.new result }
     {
         let sent = self.send();
         if sent.has_failed() {
@@ -139,7 +138,7 @@ impl<T: Transport> Connection<T> {
         }
         let has_finished = self.finish();
         let has_dropped = self.drop_received(room);
-        has_any(sent == Sent::Some, has_finished, has_dropped)
+        has_departed(sent, has_finished, has_dropped)
     }
 
     // Sends what waits, by one call of the transport.
@@ -153,20 +152,20 @@ impl<T: Transport> Connection<T> {
     }
 
     // Reads once.
-    fn receive(&mut self, room: &mut [u8]) -> Received
+    fn receive(&mut self, room: &mut [u8; PIECE]) -> Received
         ensures count { count_received result ≤ length room.new }
         ensures gives { Consumes (T.coming self.old.transport) (T.coming self.new.transport) (take (count_received result) room.new) }
         ensures taken { Keeps (T.taken self.old.transport) (T.taken self.new.transport) }
         ensures same { self.new ≡ record self.old { transport = self.new.transport } }
-        ensures made { Makes (T.made self.old.transport) (T.made self.new.transport) (receives result ∷ []) }
+        ensures made { Makes (T.made self.old.transport) (T.made self.new.transport) (receives 4096 result ∷ []) }
     {
         received_by(&self.transport.receive(room))
     }
 
     // Reads once where that may give something, and hands what came to the hub, or that nothing more comes.
-    fn read<K: Keeper>(&mut self, hub: &mut Hub, desk: &mut K, room: &mut [u8]) -> Received
+    fn read<K: Keeper>(&mut self, hub: &mut Hub, desk: &mut K, room: &mut [u8; PIECE]) -> Received
         ensures led { HasLedOn (K.is_trusted desk.new) (K.shows desk.old) (K.leaves_one_of desk.old) (K.shows desk.new) (K.leaves_one_of desk.new) hub.old hub.new
-            (λ events. ReadsOnce T.taken T.coming T.made self.old self.new result events) }
+            (λ events. ReadsOnce T.taken T.coming T.made hub.old self.old self.new result events) }
         ensures trust { K.is_trusted desk.new → K.is_trusted desk.old }
         ensures id { self.new.id ≡ self.old.id }
         ensures idle { result ≡ Received.Nothing → self.new.may_receive ≡ false }
@@ -199,7 +198,7 @@ impl<T: Transport> Connection<T> {
     // Hands octets to the hub. Where the hub closes it, what waits is still sent; and where it refuses the octets, nothing is.
     fn take<K: Keeper>(&mut self, hub: &mut Hub, desk: &mut K, piece: &[u8])
         ensures led { HasLedOn (K.is_trusted desk.new) (K.shows desk.old) (K.leaves_one_of desk.old) (K.shows desk.new) (K.leaves_one_of desk.new) hub.old hub.new
-            (λ events. HandsOver T.taken T.coming T.made piece.now self.old self.new events × LeadsByAnswer piece.now self.old self.new events) }
+            (λ events. HandsOver T.taken T.coming T.made piece.now self.old self.new events × LeadsByAnswer hub.old piece.now self.old self.new events) }
         ensures trust { K.is_trusted desk.new → K.is_trusted desk.old }
         ensures id { self.new.id ≡ self.old.id }
     {
@@ -235,7 +234,7 @@ impl<T: Transport> Connection<T> {
 
     // Once nothing waits: it is over where the peer ended its side, and else the peer is told that nothing more is sent.
     fn finish(&mut self) -> bool
-        ensures { Finishes T.taken T.coming T.made self.old self.new }
+        ensures { Finishes T.taken T.coming T.made self.old self.new result }
     {
         if !self.queue.is_empty() {
             return false;
@@ -255,8 +254,8 @@ impl<T: Transport> Connection<T> {
     }
 
     // Once the peer was told that nothing more is sent, reads once and drops what came.
-    fn drop_received(&mut self, room: &mut [u8]) -> bool
-        ensures { Drains T.taken T.coming T.made self.old self.new }
+    fn drop_received(&mut self, room: &mut [u8; PIECE]) -> bool
+        ensures { Drains T.taken T.coming T.made self.old self.new result }
     {
         if !self.stage.is_dropped(self.may_receive) {
             return false;

@@ -4,10 +4,10 @@ ghost use Rattle.std.specs.List.{AllPairs};
 ghost use Rattle.dict_driver.specs.Stages.{is_open};
 
 use crate::connection::Connection;
-use crate::transport::Transport;
 use crate::turning::{depart_all, mark_one, turn_all};
 use dict_desk::Keeper;
 use dict_hub::{Hub, Kind};
+use dict_outlet::Transport;
 use std::alloc::{AllocError, Global};
 
 /// The most connections that are open at once.
@@ -105,7 +105,7 @@ impl<T: Transport> Connections<T> {
     /// that are over are dropped. Whether anything happened.
     pub fn turn<K: Keeper>(&mut self, hub: &mut Hub, desk: &mut K) -> bool
         ensures led { HasLedOn (K.is_trusted desk.new) (K.shows desk.old) (K.leaves_one_of desk.old) (K.shows desk.new) (K.leaves_one_of desk.new) hub.old hub.new
-            (λ events. Moves self.old self.new events × AreOfTurns events × ComeById events × TurnEach T.taken T.coming T.made self.old self.new events) }
+            (λ events. Moves self.old self.new events × AreOfTurns events × ComeById events × TurnEach T.taken T.coming T.made self.old self.new result events) }
         ensures trust { K.is_trusted desk.new → K.is_trusted desk.old }
         ensures idle { result ≡ false → All (λ one. one.may_receive ≡ false) self.new.opened.items }
     {

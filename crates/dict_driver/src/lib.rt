@@ -2,26 +2,24 @@
 //! sent.
 #![tactic(auto)]
 
+mod binding;
 mod connection;
 mod connections;
 mod driver;
+mod event_loop;
 mod fault;
 mod listening;
-mod outlet;
-mod queue;
 mod serving;
+mod sockets;
 mod stage;
 mod telling;
-mod trail;
-mod transport;
 mod turning;
 
+pub use binding::{Network, System, bind_both};
 pub use connection::Connection;
 pub use driver::Driver;
+pub use event_loop::EventLoop;
 pub use fault::{AddressFault, BindFault};
-pub use outlet::{Beginning, Outlet};
-pub use queue::{MOST_WAITING, Queue};
 pub use serving::{Served, pace, serve};
+pub use sockets::{Sockets, SystemSockets};
 pub use stage::Stage;
-pub use trail::Trail;
-pub use transport::{Socket, Transport};

@@ -6,8 +6,10 @@ ghost use Rattle.dict_driver.specs.Rounds.{Waits, Moves};
 ghost use Rattle.dict_driver.specs.Serving.{AreCounted, IsClosedBy, longest_wait, rounds_of};
 ghost use Rattle.std.specs.Duration.{as_nanos};
 
-use crate::driver::Driver;
+use crate::event_loop::EventLoop;
+use crate::sockets::Sockets;
 use dict_desk::Keeper;
+use dict_outlet::Transport;
 use std::io;
 use std::time::Duration;
 
@@ -38,42 +40,46 @@ pub fn pace(rounds: Option<u32>) -> (u64, Duration)
 }
 
 /// So many rounds over a desk, fewer where it is closed. After a round in which nothing happened, and that isn't the
-/// last, the sockets are waited for, at most as long as `wait`. An error is one of waiting for sockets; the driver and
+/// last, the sockets are waited for, at most as long as `wait`. An error is one of waiting for sockets; the loop and
 /// the desk may be used again.
-pub fn serve<K: Keeper>(
-    driver: &mut Driver,
+pub fn serve<T: Transport, S: Sockets<T>, K: Keeper>(
+    event_loop: &mut EventLoop<T, S>,
     desk: &mut K,
     rounds: u64,
     wait: Duration,
 ) -> io::Result<Served>
-    ensures led { HasLedOn (K.is_trusted desk.new) (K.shows desk.old) (K.leaves_one_of desk.old) (K.shows desk.new) (K.leaves_one_of desk.new) driver.old.hub driver.new.hub
-        (λ events. Moves driver.old.connections driver.new.connections events) }
+    ensures led { HasLedOn (K.is_trusted desk.new) (K.shows desk.old) (K.leaves_one_of desk.old) (K.shows desk.new) (K.leaves_one_of desk.new) event_loop.old.hub event_loop.new.hub
+        (λ events. Moves event_loop.old.connections event_loop.new.connections events) }
     ensures trust { K.is_trusted desk.new → K.is_trusted desk.old }
     ensures closed { IsClosedBy (K.is_closed desk.new) rounds result }
-    ensures counted { AreCounted rounds result driver.old.rounds driver.new.rounds }
-    ensures grown { driver.old.rounds ≤ driver.new.rounds }
-    ensures failure { IfErr result (λ error. driver.new.failure ≡ Some (error_kind error)) }
+    ensures counted { AreCounted rounds result event_loop.old.rounds event_loop.new.rounds }
+    ensures grown { event_loop.old.rounds ≤ event_loop.new.rounds }
+    ensures failure { IfErr result (λ error. event_loop.new.failure ≡ Some (error_kind error)) }
 {
     for made in 0..rounds {
-        let has_moved = driver.round(desk)?;
+        let has_moved = event_loop.round(desk)?;
         if desk.summary().is_err() {
             return Ok(Served::Closed(rounds - made - 1));
         }
-        wait_if(driver, !has_moved && made + 1 < rounds, wait)?;
+        wait_if(event_loop, !has_moved && made + 1 < rounds, wait)?;
     }
     Ok(Served::Whole)
 }
 
 // Waits for the sockets, where it is asked to.
-fn wait_if(driver: &mut Driver, is_asked: bool, most: Duration) -> io::Result<()>
-    ensures hub { driver.new.hub ≡ driver.old.hub }
-    ensures waits { (id : ℕ) (octets : List ℕ) → Waits driver.new.connections id octets → Waits driver.old.connections id octets }
-    ensures last { driver.new.connections.last ≡ driver.old.connections.last }
-    ensures rounds { driver.new.rounds ≡ driver.old.rounds }
-    ensures failure { IfErr result (λ error. driver.new.failure ≡ Some (error_kind error)) }
+fn wait_if<T: Transport, S: Sockets<T>>(
+    event_loop: &mut EventLoop<T, S>,
+    is_asked: bool,
+    most: Duration,
+) -> io::Result<()>
+    ensures hub { event_loop.new.hub ≡ event_loop.old.hub }
+    ensures waits { (id : ℕ) (octets : List ℕ) → Waits event_loop.new.connections id octets → Waits event_loop.old.connections id octets }
+    ensures last { event_loop.new.connections.last ≡ event_loop.old.connections.last }
+    ensures rounds { event_loop.new.rounds ≡ event_loop.old.rounds }
+    ensures failure { IfErr result (λ error. event_loop.new.failure ≡ Some (error_kind error)) }
 {
     if is_asked {
-        return driver.wait(most);
+        return event_loop.wait(most);
     }
     Ok(())
 }

@@ -1,10 +1,10 @@
-// How far a connection has come, and what a call of its transport came to.
-ghost use Rattle.std.specs.Prelude.{◌≡◌, false};
-ghost use Rattle.dict_driver.specs.Calls.{sent_by_kind, received_by_kind, sent_by, received_by, has_moved};
+// How far a connection has come.
+ghost use Rattle.std.specs.Prelude.{◌≡◌, ◌||◌};
+ghost use Rattle.dict_driver.specs.Calls.{has_departed};
 ghost use Rattle.dict_driver.specs.Stages.{answered, drained, finished, parted, stage_of_new};
 
 use dict_hub::Out;
-use std::io::{ErrorKind, Result};
+use dict_outlet::{Received, Sent};
 
 /// How far a connection has come.
 #[derive(Clone, Copy, Debug, PartialEq, Eq)]
@@ -66,115 +66,6 @@ impl Stage {
     }
 }
 
-/// What one sending came to.
-#[derive(Clone, Copy, Debug, PartialEq, Eq)]
-pub enum Sent {
-    /// No octet was taken, and the transport tells when to ask again.
-    Nothing,
-    /// Octets were taken, or the call was interrupted: it may be asked again at once.
-    Some,
-    /// The transport failed.
-    Failed,
-}
-
-/// What one reading came to.
-#[derive(Clone, Copy, Debug, PartialEq, Eq)]
-pub enum Received {
-    /// No octet came, and the transport tells when to ask again.
-    Nothing,
-    /// The call was interrupted: it may be asked again at once.
-    Interrupted,
-    /// So many octets came.
-    Octets(usize),
-    /// The peer ended its side.
-    End,
-    /// The transport failed.
-    Failed,
-}
-
-impl Sent {
-    ghost use Rattle.dict_driver.specs.Calls.{has_failed};
-
-    /// Whether the transport failed.
-    pub fn has_failed(self) -> bool
-        ensures { result ≡ has_failed self }
-    {
-        match self {
-            Sent::Nothing | Sent::Some => false,
-            Sent::Failed => true,
-        }
-    }
-}
-
-impl Received {
-    ghost use Rattle.dict_driver.specs.Calls.{has_come};
-    ghost use Rattle.dict_driver.specs.Stages.{count_received};
-
-    /// Whether the reading did something, or is to be made again at once.
-    pub fn has_come(self) -> bool
-        ensures { result ≡ has_come self }
-    {
-        match self {
-            Received::Nothing => false,
-            Received::Interrupted | Received::Octets(_) | Received::End | Received::Failed => true,
-        }
-    }
-
-    /// How many octets came.
-    pub fn count(self) -> usize
-        ensures { result ≡ count_received self }
-    {
-        match self {
-            Received::Octets(count) => count,
-            Received::Nothing | Received::Interrupted | Received::End | Received::Failed => 0,
-        }
-    }
-}
-
-/// What a sending came to.
-pub fn sent_by(outcome: &Result<usize>) -> Sent
-    ensures { result ≡ sent_by outcome.now }
-{
-    match outcome {
-        Ok(0) => Sent::Nothing,
-        Ok(_) => Sent::Some,
-        Err(error) => sent_by_kind(error.kind()),
-    }
-}
-
-/// What a reading came to.
-pub fn received_by(outcome: &Result<usize>) -> Received
-    ensures { result ≡ received_by outcome.now }
-{
-    match outcome {
-        Ok(0) => Received::End,
-        Ok(count) => Received::Octets(*count),
-        Err(error) => received_by_kind(error.kind()),
-    }
-}
-
-// What a sending with an error of this kind came to.
-fn sent_by_kind(kind: ErrorKind) -> Sent
-    ensures { result ≡ sent_by_kind kind }
-{
-    match kind {
-        ErrorKind::WouldBlock => Sent::Nothing,
-        ErrorKind::Interrupted => Sent::Some,
-        _ => Sent::Failed,
-    }
-}
-
-// What a reading with an error of this kind came to.
-fn received_by_kind(kind: ErrorKind) -> Received
-    ensures { result ≡ received_by_kind kind }
-{
-    match kind {
-        ErrorKind::WouldBlock => Received::Nothing,
-        ErrorKind::Interrupted => Received::Interrupted,
-        _ => Received::Failed,
-    }
-}
-
 /// The stage of a new connection. One that the hub closed as it was opened got no whole greeting.
 pub fn stage_of_new(out: Out) -> Stage
     ensures { result ≡ stage_of_new out }
@@ -228,19 +119,19 @@ pub fn drained(most: usize, received: Received) -> Stage
     }
 }
 
-/// Whether a sending or a reading did something, or is to be made again at once.
-pub fn has_moved(sent: Sent, received: Received) -> bool
-    ensures { result ≡ has_moved sent received }
+/// Whether a turn of one that is no longer open did something, or is to be had again at once.
+pub fn has_departed(sent: Sent, has_finished: bool, has_dropped: bool) -> bool
+    ensures { result ≡ has_departed sent has_finished has_dropped }
 {
     match sent {
-        Sent::Nothing => received.has_come(),
+        Sent::Nothing => has_finished || has_dropped,
         Sent::Some | Sent::Failed => true,
     }
 }
 
 /// Whether one of these is so.
 pub fn has_any(first: bool, second: bool, third: bool) -> bool
-    ensures { result ≡ false → (first ≡ false) × (second ≡ false) × (third ≡ false) }
+    ensures { result ≡ (first || (second || third)) }
 {
     first || second || third
 }

@@ -1,14 +1,12 @@
 // One event for the hub.
-ghost use Rattle.std.specs.Prelude.{◌≡◌};
-ghost use Rattle.dict_hub.specs.Events.{happening};
+ghost use Rattle.std.specs.Prelude.{◌≡◌, ℕ, List, None};
+ghost use Rattle.dict_hub.specs.Events.{came, happening};
 ghost use Rattle.dict_driver.specs.Leading.{HasLedOn};
-ghost use Rattle.dict_driver.specs.Telling.{IsTold, IsToldThrough};
+ghost use Rattle.dict_driver.specs.Telling.{IsTold, IsToldThrough, MayRefuse};
 
-use crate::outlet::{Beginning, Outlet};
-use crate::queue::Queue;
-use crate::transport::Transport;
 use dict_desk::Keeper;
 use dict_hub::{Event, Hub, Out};
+use dict_outlet::{Beginning, Outlet, Queue, Transport};
 use std::marker::Brand;
 use std::mem;
 
@@ -35,6 +33,7 @@ pub fn tell_through<T: Transport, K: Keeper>(
     ensures led { HasLedOn (K.is_trusted desk.new) (K.shows desk.old) (K.leaves_one_of desk.old) (K.shows desk.new) (K.leaves_one_of desk.new) hub.old hub.new
         (λ events. IsToldThrough T.taken T.coming T.made (happening event.entry) result queue.old queue.new transport.old transport.new events) }
     ensures trust { K.is_trusted desk.new → K.is_trusted desk.old }
+    ensures refused { (id : ℕ) (piece : List ℕ) → happening event.entry ≡ came id piece → result ≡ None → MayRefuse hub.old id }
 {
     let absent = transport.absent();
     let lent = mem::replace(transport, absent);
@@ -64,6 +63,7 @@ fn tell_from<T: Transport, K: Keeper, B: Beginning>(
     ensures led { HasLedOn (K.is_trusted desk.new) (K.shows desk.old) (K.leaves_one_of desk.old) (K.shows desk.new) (K.leaves_one_of desk.new) hub.old hub.new
         (λ events. IsToldThrough T.taken T.coming T.made (happening event.entry) result.0 queue result.1 transport result.2 events) }
     ensures trust { K.is_trusted desk.new → K.is_trusted desk.old }
+    ensures refused { (id : ℕ) (piece : List ℕ) → happening event.entry ≡ came id piece → result.0 ≡ None → MayRefuse hub.old id }
 {
     let mut outlet = Outlet::<T, B>::new(queue, transport);
     match hub.event(desk, event, &mut outlet) {

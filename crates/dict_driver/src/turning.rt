@@ -4,13 +4,10 @@ ghost use Rattle.std.specs.List.{AllPairs};
 ghost use Rattle.dict_driver.specs.Leading.{HasLedOn};
 ghost use Rattle.dict_driver.specs.Turning.{DepartAll, MarkAll, TurnAll};
 
-use crate::connection::Connection;
-use crate::transport::Transport;
+use crate::connection::{Connection, PIECE};
 use dict_desk::Keeper;
 use dict_hub::Hub;
-
-/// The most octets that one reading takes.
-const PIECE: usize = 4096;
+use dict_outlet::Transport;
 
 /// A turn of each open connection, in order. Whether anything happened.
 pub fn turn_all<T: Transport, K: Keeper>(
@@ -20,7 +17,7 @@ pub fn turn_all<T: Transport, K: Keeper>(
 ) -> bool
     requires { AllPairs (λ a b. a.id < b.id) all.old.items }
     ensures led { HasLedOn (K.is_trusted desk.new) (K.shows desk.old) (K.leaves_one_of desk.old) (K.shows desk.new) (K.leaves_one_of desk.new) hub.old hub.new
-        (λ events. TurnAll T.taken T.coming T.made all.old.items all.new.items events) }
+        (λ events. TurnAll T.taken T.coming T.made all.old.items all.new.items result events) }
     ensures trust { K.is_trusted desk.new → K.is_trusted desk.old }
     ensures idle { result ≡ false → All (λ one. one.may_receive ≡ false) all.new.items }
     ensures ids { (k : ℕ) (d : _) → k < vec_len all.old → (slice_index_or all.new.items k d).id ≡ (slice_index_or all.old.items k d).id }
@@ -39,7 +36,7 @@ pub fn turn_all<T: Transport, K: Keeper>(
 
 /// A turn of each connection that is no longer open, in order. Whether anything happened.
 pub fn depart_all<T: Transport>(all: &mut Vec<Connection<T>>) -> bool
-    ensures departs { DepartAll T.taken T.coming T.made all.old.items all.new.items }
+    ensures departs { DepartAll T.taken T.coming T.made all.old.items all.new.items result }
     ensures len { vec_len all.new ≡ vec_len all.old }
     ensures capacity { vec_capacity all.new ≡ vec_capacity all.old }
 {

@@ -14,7 +14,7 @@ const ANSWERS: usize = 16 * 165;
 // Client 1 asks and reads nothing until its connection is lost. How often it asked.
 fn drown(net: &impl Net<Stream = TcpStream>, play: &mut Play) -> Result<usize, Fail> {
     for asked in 0..10_000usize {
-        if play.driver.open_count() < 2 {
+        if play.driver.event_loop.open_count() < 2 {
             return Ok(asked);
         }
         play.run(net, &[Step::Send(1, HELPS)])?;

@@ -1,23 +1,10 @@
-// A catalogue in memory, and what a hub puts over it.
-use crate::checks::same_text;
-use dict_desk::{Keeper, PlainDesk};
+// A catalogue in memory.
+use dict_desk::PlainDesk;
 use dict_http::Service;
-use dict_hub::{Event, Hub, take_piece};
+use dict_hub::take_piece;
 use dict_io::LimitedSink;
 use std::alloc::Global;
-use std::process::Abort;
 use std::test::Fail;
-
-pub(crate) const HOST: &str = "gems.test";
-
-pub(crate) const PUT: &[u8] =
-    b"PUT /databases/gem HTTP/1.1\r\nRequest-Id: r1\r\nContent-Length: 101\r\n\r\n53\n00-database-short\tA\tZ\nopal\tZ\tP\nFire Opal\tZ\tP\ndot\to\tF\n00-database-short\n  Gems\nopal\n  a stone\n.dot\n";
-
-pub(crate) const DELETE: &[u8] = b"DELETE /databases/gem HTTP/1.1\r\nRequest-Id: r2\r\n\r\n";
-
-/// The end of a connection, and the answer to that.
-pub(crate) const DELETED_TOLD: &str =
-    "Ok(Close) HTTP/1.1 200 OK\r\nContent-Type: application/json\r\nContent-Length: 56\r\nConnection: close\r\n\r\n{\"edition\":null,\"name\":\"gem\",\"number\":2,\"verb\":\"retire\"}";
 
 // Does what a request asks.
 fn install(alloc: Global, desk: &mut PlainDesk, request: &[u8]) -> Result<(), Fail> {
@@ -26,13 +13,6 @@ fn install(alloc: Global, desk: &mut PlainDesk, request: &[u8]) -> Result<(), Fa
     let mut held = Vec::new(alloc);
     take_piece(&service, alloc, &mut held, request, desk, &mut sink)?;
     Ok(())
-}
-
-/// A desk over which `gem` was installed.
-pub(crate) fn gem_desk(alloc: Global) -> Result<PlainDesk, Fail> {
-    let mut desk = PlainDesk::new(alloc);
-    install(alloc, &mut desk, PUT)?;
-    Ok(desk)
 }
 
 const LONG_HEAD: &[u8] =
@@ -51,45 +31,4 @@ pub(crate) fn long_desk(alloc: Global) -> Result<PlainDesk, Fail> {
     let mut desk = PlainDesk::new(alloc);
     install(alloc, &mut desk, request.as_slice())?;
     Ok(desk)
-}
-
-/// What becomes of a connection after an event, and what is put for it.
-pub(crate) fn told<K: Keeper>(
-    alloc: Global,
-    hub: &mut Hub,
-    desk: &mut K,
-    event: Event,
-) -> Result<String, Fail> {
-    let mut sink = LimitedSink::new(alloc, 10_000)?;
-    let out = hub.event(desk, event, &mut sink);
-    let text = str::from_utf8(sink.taken()).unwrap_or("not UTF-8");
-    Ok(format!(in alloc; "{out:?} {text}")?)
-}
-
-/// An event, and what is told of it.
-pub(crate) type Row = (Event<'static>, &'static str);
-
-/// These events, one after the other.
-pub(crate) fn play<K: Keeper>(
-    rt: &impl Abort,
-    alloc: Global,
-    hub: &mut Hub,
-    desk: &mut K,
-    rows: &[Row],
-) -> Result<(), Fail> {
-    for (event, wanted) in rows {
-        same_text(rt, told(alloc, hub, desk, *event)?.as_str(), *wanted);
-    }
-    Ok(())
-}
-
-/// The same in a new hub.
-pub(crate) fn play_anew<K: Keeper>(
-    rt: &impl Abort,
-    alloc: Global,
-    desk: &mut K,
-    rows: &[Row],
-) -> Result<(), Fail> {
-    let mut hub = Hub::new(alloc, HOST)?;
-    play(rt, alloc, &mut hub, desk, rows)
 }

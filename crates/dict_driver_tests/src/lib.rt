@@ -1,23 +1,19 @@
-//! Runs of the hub: many connections at once, catalogues that change between two lines, and desks that fail. And runs of a
-//! driver over loopback, both ends in one thread, and of one connection over octets in memory. A library with tests alone.
+//! Runs of a driver over loopback, both ends in one thread, and of one connection over octets in memory. A library with tests
+//! alone.
 #![tactic(auto)]
 
 #[cfg(test)]
 mod addresses;
 #[cfg(test)]
-mod changes;
-#[cfg(test)]
 mod checks;
 #[cfg(test)]
 mod client;
 #[cfg(test)]
+mod descriptors;
+#[cfg(test)]
 mod ends;
 #[cfg(test)]
-mod failing;
-#[cfg(test)]
 mod files;
-#[cfg(test)]
-mod hub;
 #[cfg(test)]
 mod limits;
 #[cfg(test)]
@@ -30,5 +26,3 @@ mod rounds;
 mod serving;
 #[cfg(test)]
 mod talks;
-#[cfg(test)]
-mod together;

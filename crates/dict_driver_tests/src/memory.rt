@@ -3,14 +3,15 @@ ghost use Rattle.std.specs.Prelude.{Some, None};
 
 use crate::checks::same;
 use dict_desk::PlainDesk;
-use dict_driver::{Connection, MOST_WAITING, Queue, Stage, Transport};
+use dict_driver::{Connection, Stage};
 use dict_hub::{Hub, Kind};
 use dict_io::Sink;
+use dict_outlet::{MOST_WAITING, Queue, Transport};
 use std::alloc::Global;
 use std::io::{Error, ErrorKind, Result as IoResult};
 use std::test::Fail;
 
-// Gives these octets, a few a call, and then the end; takes a few octets a call.
+// Gives these octets, at most 8 a call, and then the end; takes a few octets a call.
 #[derive(Drop)]
 struct InMemory {
     coming: &'static [u8],
@@ -45,7 +46,7 @@ impl Transport for InMemory {
     }
 
     fn receive(&mut self, room: &mut [u8]) -> IoResult<usize> {
-        let count = self.coming.len().min(room.len());
+        let count = self.coming.len().min(room.len()).min(8);
         let (front, rest) = self.coming.split_at(count);
         room[..count].copy_from_slice(front);
         self.coming = rest;
@@ -83,7 +84,7 @@ impl Run {
 
     // A turn with room for eight octets, and then this stage.
     fn turn(&mut self, want: Stage) -> Result<(), Fail> {
-        let mut room = [0u8; 8];
+        let mut room = [0u8; 4_096];
         if self.one.stage().is_open() {
             self.one.turn(&mut self.hub, &mut self.desk, &mut room);
         } else {

@@ -9,10 +9,10 @@ use std::test::Fail;
 fn count_three(net: &impl Net<Stream = TcpStream>, play: &mut Play) -> Result<u64, Fail> {
     play.run(net, &[Step::Reader])?;
     play.client(0)?.send(b"STATUS\r\n")?;
-    let before = play.driver.rounds();
+    let before = play.driver.event_loop.rounds();
     let (rounds, wait) = pace(Some(3));
     let end = play.serve(rounds, wait)?;
-    let made = play.driver.rounds().saturating_sub(before);
+    let made = play.driver.event_loop.rounds().saturating_sub(before);
     play.run(
         net,
         &[Step::Got(

@@ -78,7 +78,7 @@ impl Play {
     /// Rounds until nothing happens.
     pub(crate) fn settle(&mut self) -> Result<(), Fail> {
         for _ in 0..100_000u32 {
-            if !self.driver.round(&mut self.desk)? {
+            if !self.driver.event_loop.round(&mut self.desk)? {
                 return Ok(());
             }
         }
@@ -87,7 +87,7 @@ impl Play {
 
     /// So many rounds.
     pub(crate) fn serve(&mut self, rounds: u64, wait: Duration) -> IoResult<Served> {
-        serve(&mut self.driver, &mut self.desk, rounds, wait)
+        serve(&mut self.driver.event_loop, &mut self.desk, rounds, wait)
     }
 
     /// These steps, one after the other.
@@ -165,7 +165,9 @@ impl Play {
     }
 
     fn held(&self, open: usize, departing: usize) -> Result<(), Fail> {
-        if self.driver.open_count() == open && self.driver.departing_count() == departing {
+        if self.driver.event_loop.open_count() == open
+            && self.driver.event_loop.departing_count() == departing
+        {
             Ok(())
         } else {
             Err(Fail::new("other connections are held"))

@@ -159,10 +159,10 @@ fn an_install_in_pieces(rt: HostRuntime) -> Result<(), Fail> {
 // Where nothing comes, nothing happens in a round, and a wait ends.
 fn be_idle(net: &impl Net<Stream = TcpStream>, play: &mut Play) -> Result<(), Fail> {
     play.settle()?;
-    play.driver.wait(Duration::from_millis(10))?;
+    play.driver.event_loop.wait(Duration::from_millis(10))?;
     play.run(net, &[Step::Reader, Step::Got(0, FIRST)])?;
     play.client(0)?.send(b"STATUS\r\n")?;
-    play.driver.wait(Duration::from_millis(10_000))?;
+    play.driver.event_loop.wait(Duration::from_millis(10_000))?;
     play.run(
         net,
         &[Step::Got(0, ""), Step::Got(0, "210 0 databases\r\n")],

@@ -64,7 +64,7 @@ Follows Shows LeavesOneOf IsTrusted old new = IsTrusted new → (ms : List (Opti
 
 -- the driver couldn't wait for its sockets
 abbrev pub CannotWait : Driver → Fault → Type 0
-CannotWait driver fault = (kind : ErrorKind) × (driver.failure ≡ Some kind) × TellsKind kind fault
+CannotWait driver fault = (kind : ErrorKind) × (driver.event_loop.failure ≡ Some kind) × TellsKind kind fault
 
 -- the last of these stretches, and there is one, ended since the store of its desk had failed, and the fault tells why the file isn't
 -- opened again after that desk
@@ -87,10 +87,10 @@ module _ {K : Type 0} (Shows : K → Catalogue → Type 0) (LeavesOneOf : K → 
   -- waited and what its own events put, without a front that was sent. So many rounds were made more than before
   pub record IsOver (one : Stretch K) (old new : Driver) : Type 0 where
     pub opened : IsNew Shows LeavesOneOf IsTrusted IsOpened one.opened
-    pub led : HasLedOn (IsTrusted one.left) (Shows one.opened) (LeavesOneOf one.opened) (Shows one.left) (LeavesOneOf one.left) old.hub new.hub
-        (λ events. Moves old.connections new.connections events)
+    pub led : HasLedOn (IsTrusted one.left) (Shows one.opened) (LeavesOneOf one.opened) (Shows one.left) (LeavesOneOf one.left) old.event_loop.hub new.event_loop.hub
+        (λ events. Moves old.event_loop.connections new.event_loop.connections events)
     pub trust : IsTrusted one.left → IsTrusted one.opened
-    pub made : new.rounds ≡ old.rounds + one.rounds
+    pub made : new.event_loop.rounds ≡ old.event_loop.rounds + one.rounds
 
   -- where others follow a stretch, its store had failed, and the desk of the next shows one of the catalogues that a stop could have left of its desk
   abbrev pub GaveWay : Stretch K → List (Stretch K) → Type 0
@@ -113,11 +113,11 @@ module _ {K : Type 0} (Shows : K → Catalogue → Type 0) (LeavesOneOf : K → 
     pub editors : IsAddress http
     pub bound : AreTold dict http first.addresses
     pub told : PutsAll writer.old writer.new (lines_of first.addresses.0 first.addresses.1)
-    pub begins : IsAt first.hub (beginning (codes "localhost"))
-    pub no_id : first.connections.last ≡ 0
-    pub no_round : first.rounds ≡ 0
+    pub begins : IsAt first.event_loop.hub (beginning (codes "localhost"))
+    pub no_id : first.event_loop.connections.last ≡ 0
+    pub no_round : first.event_loop.rounds ≡ 0
     pub stretches : List (Stretch K)
     pub over : IsFirst desk stretches
     pub served : AreServed stretches first last
-    pub made : MakesAll (rounds_of rounds) result last.rounds
+    pub made : MakesAll (rounds_of rounds) result last.event_loop.rounds
     pub ends : Ends is_closed Unreopened stretches last result

@@ -33,10 +33,10 @@ pub(crate) fn listen<'w, W: Sink>(
     writer: &mut W,
 ) -> Result<Driver<'static>, Fault<'w>>
     ensures begins { Begins wanted.now.dict.now wanted.now.http.now result (change W.stream writer.old writer.new) }
-    ensures beginning { IfOk result (λ driver. IsAt driver.hub (beginning (codes "localhost"))) }
-    ensures last { IfOk result (λ driver. driver.connections.last ≡ 0) }
+    ensures beginning { IfOk result (λ driver. IsAt driver.event_loop.hub (beginning (codes "localhost"))) }
+    ensures last { IfOk result (λ driver. driver.event_loop.connections.last ≡ 0) }
     ensures bound { IfOk result (λ driver. AreTold wanted.now.dict.now wanted.now.http.now driver.addresses) }
-    ensures rounds { IfOk result (λ driver. driver.rounds ≡ 0) }
+    ensures rounds { IfOk result (λ driver. driver.event_loop.rounds ≡ 0) }
 {
     let driver = match Driver::bind(net, alloc, wanted.dict, wanted.http, HOST) {
         Ok(driver) => driver,

@@ -68,7 +68,7 @@ pub fn serve_rounds<'w, K: Keeper + Drop, D: Desks<K>>(
     ensures served { (stretches : List (Stretch K)) × AreServed K.shows K.leaves_one_of K.is_trusted D.is_opened K.is_closed stretches driver.old driver.new × IsFirst desk stretches
         × Ends K.is_closed (D.is_unreopened path.entry.now) stretches driver.new result
         × HasDone path.entry.now desk stretches (got result) (D.history desks.old) (D.history desks.new) }
-    ensures made { AreMade rounds result driver.old.rounds driver.new.rounds }
+    ensures made { AreMade rounds result driver.old.event_loop.rounds driver.new.event_loop.rounds }
 {
     let mut pending = Pending { desk, left: rounds };
     while pending.left > 0 {
@@ -96,20 +96,20 @@ fn serve_stretch<'w, K: Keeper + Drop, D: Desks<K>>(
     requires opened { IsNew K.shows K.leaves_one_of K.is_trusted D.is_opened pending.desk }
     requires some { 0 < pending.left }
     ensures served { (left : K) × IsOver K.shows K.leaves_one_of K.is_trusted D.is_opened K.is_closed
-        (record { opened = pending.desk; left = left; rounds = driver.new.rounds - driver.old.rounds }) driver.old driver.new
-        × Ends K.is_closed (D.is_unreopened path.entry.now) (record { opened = pending.desk; left = left; rounds = driver.new.rounds - driver.old.rounds } ∷ []) driver.new result
+        (record { opened = pending.desk; left = left; rounds = driver.new.event_loop.rounds - driver.old.event_loop.rounds }) driver.old driver.new
+        × Ends K.is_closed (D.is_unreopened path.entry.now) (record { opened = pending.desk; left = left; rounds = driver.new.event_loop.rounds - driver.old.event_loop.rounds } ∷ []) driver.new result
         × IfOk result (λ next. 0 < next.left → (K.is_closed left ≡ true) × Follows K.shows K.leaves_one_of K.is_trusted left next.desk × HasReopened path.entry.now left next.desk (D.history desks.old) (D.history desks.new))
         × MatchResult result (λ next. HasTurned path.entry.now left (Some next.desk) (D.history desks.old) (D.history desks.new)) (λ _. HasTurned path.entry.now left None (D.history desks.old) (D.history desks.new)) }
     ensures opened { IfOk result (λ next. 0 < next.left → IsNew K.shows K.leaves_one_of K.is_trusted D.is_opened next.desk) }
     ensures stands { IfOk result (λ next. IsOpen K.is_closed (IsNew K.shows K.leaves_one_of K.is_trusted D.is_opened) next.desk) }
     ensures fewer { IfOk result (λ next. next.left < pending.left) }
-    ensures made { AreMadeTo pending.left (λ next. next.left) result driver.old.rounds driver.new.rounds }
+    ensures made { AreMadeTo pending.left (λ next. next.left) result driver.old.event_loop.rounds driver.new.event_loop.rounds }
 {
     let Pending {
         mut desk,
         left: rounds,
     } = pending;
-    match serve(driver, &mut desk, rounds, wait) {
+    match serve(&mut driver.event_loop, &mut desk, rounds, wait) {
         Ok(Served::Whole) => Ok(Pending { desk, left: 0 }),
         Ok(Served::Closed(left)) => {
             let desk = desks.reopen(path, desk)?;

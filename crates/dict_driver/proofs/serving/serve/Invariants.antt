@@ -5,10 +5,10 @@ use Rattle.dict_driver.proofs.serving.serve.Given as goal
 
 abbrev pub invariant-loop-made : goal.invariant-loop-made
 invariant-loop-made g l = record {
-  grown : l.fn.driver.rounds ≤ l.driver.rounds;
-  counted : l.fn.driver.rounds + l.fn.rounds < 2 ^ 64 → l.driver.rounds ≡ l.fn.driver.rounds + l.made;
+  grown : l.fn.event_loop.rounds ≤ l.event_loop.rounds;
+  counted : l.fn.event_loop.rounds + l.fn.rounds < 2 ^ 64 → l.event_loop.rounds ≡ l.fn.event_loop.rounds + l.made;
   is_open : 0 < l.made → g.K.Lookup.is_closed l.desk ≡ false;
   trust : g.K.Lookup.is_trusted l.desk → g.K.Lookup.is_trusted l.fn.desk;
-  led : HasLedOn (g.K.Lookup.is_trusted l.desk) (g.K.Lookup.shows l.fn.desk) (g.K.Lookup.leaves_one_of l.fn.desk) (g.K.Lookup.shows l.desk) (g.K.Lookup.leaves_one_of l.desk) l.fn.driver.hub l.driver.hub
-      (λ events. Moves l.fn.driver.connections l.driver.connections events);
+  led : HasLedOn (g.K.Lookup.is_trusted l.desk) (g.K.Lookup.shows l.fn.desk) (g.K.Lookup.leaves_one_of l.fn.desk) (g.K.Lookup.shows l.desk) (g.K.Lookup.leaves_one_of l.desk) l.fn.event_loop.hub l.event_loop.hub
+      (λ events. Moves l.fn.event_loop.connections l.event_loop.connections events);
 }

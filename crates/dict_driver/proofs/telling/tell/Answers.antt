@@ -1,6 +1,6 @@
 use Rattle.dict_hub.specs.Events.{happening}
 use Rattle.dict_session.specs.Desks.{condition}
-use Rattle.dict_driver.specs.Queues.{stream_of}
+use Rattle.dict_outlet.specs.Queues.{stream_of}
 use Rattle.dict_driver.proofs.LeadLemmas.{led_none}
 use Rattle.dict_driver.proofs.TellLemmas.{led_accepted, told_none, told_one}
 use Rattle.dict_driver.proofs.telling.tell.Goals as goal

@@ -1,11 +1,11 @@
-use Rattle.std.proofs.Common.{◌++◌, ◌∙◌, ap}
-use Rattle.std.specs.Prelude.{Some}
+use Rattle.std.proofs.Common.{◌≡◌, ◌++◌, ◌∙◌, ap, sym}
+use Rattle.std.specs.Prelude.{None, Some}
 use Rattle.dict_hub.specs.Events.{happening}
 use Rattle.dict_session.specs.Desks.{condition}
-use Rattle.dict_driver.specs.Outlets.{stream_through}
-use Rattle.dict_driver.specs.Queues.{waiting}
+use Rattle.dict_outlet.specs.Outlets.{stream_through}
+use Rattle.dict_outlet.specs.Queues.{waiting}
 use Rattle.dict_driver.proofs.LeadLemmas.{led_none}
-use Rattle.dict_driver.proofs.TellLemmas.{led_accepted, told_through, told_through_none}
+use Rattle.dict_driver.proofs.TellLemmas.{led_accepted, refuses_piece, told_through, told_through_none}
 use Rattle.dict_driver.proofs.telling.tell_from.Goals as goal
 
 pub returns-in-Ok-clause-led : goal.returns-in-Ok-clause-led
@@ -27,3 +27,9 @@ returns-in-Err-clause-led g c =
     (rw c.over-in-Err.ensures.answer (rw c.over-in-Err.ensures.queue (rw c.over-in-Err.ensures.transport
     (told_through_none g.T.Transport.taken g.T.Transport.coming g.T.Transport.made (happening c.args.event) c.args.queue s.queue c.args.transport s.transport
     (ap (λ o. o.queue) c.in-Err.ensures.sink ∙ c.new-outlet.ensures.queue) (ap (λ o. o.transport) c.in-Err.ensures.sink ∙ c.new-outlet.ensures.transport))))))
+
+pub returns-in-Ok-clause-refused : goal.returns-in-Ok-clause-refused
+returns-in-Ok-clause-refused g c = λ id piece is none. absurd (let never : Some c.in-Ok.out ≡ None = sym c.over.ensures.answer ∙ none in cc)
+
+pub returns-in-Err-clause-refused : goal.returns-in-Err-clause-refused
+returns-in-Err-clause-refused g c = λ id piece is none. refuses_piece c.args.hub.now (happening c.args.event) c.in-Err.field-0 c.in-Err.ensures.memory id piece is

@@ -1,4 +1,5 @@
 use Rattle.std.proofs.Common.{◌≡◌, ◌<◌, ◌≤◌, true, false, rules, length, get_or, arith, sym, ap, ◌∙◌}
+use Rattle.dict_driver.proofs.BoolLemmas.{so_still, so_then}
 use Rattle.dict_driver.proofs.LeadLemmas.{led_as, led_joined, led_still}
 use Rattle.dict_driver.proofs.ListLemmas.{default_free, idle_more, ids_more, ids_same, taken_whole}
 use Rattle.dict_driver.proofs.RoundLemmas.{turn_none, turn_more, turn_whole}
@@ -31,8 +32,13 @@ loop-one-preserved g c =
       ];
       trust = λ trusted. c.loop-one.invariant.trust (c.turn.ensures.trust trusted);
       led = led_joined c.loop-one.invariant.led c.turn.ensures.led c.turn.ensures.trust
-          (λ es fs all turns. turn_more g.T.Transport.taken g.T.Transport.coming g.T.Transport.made c.args.all.now.items now i one c.turn.new.self es fs c.requires within
-          (default_free now i one c.one-item.result in_now) turns all);
+          (λ es fs all turns. turn_more g.T.Transport.taken g.T.Transport.coming g.T.Transport.made c.args.all.now.items now i one c.turn.new.self c.loop-one.has_moved c.turn.result _ es fs c.requires within
+          (default_free now i one c.one-item.result in_now)
+          (elim c.if-turn.branch [
+            | then-turn w ↦ so_then _ c.loop-one.has_moved c.turn.result w.has_moved-is w.if-turn.true
+            | else-turn w ↦ so_still _ c.loop-one.has_moved c.turn.result w.has_moved-is w.if-turn.false
+          ])
+          (_, turns) all);
     }
 
 pub returns-clause-led : goal.returns-clause-led
@@ -42,7 +48,7 @@ returns-clause-led g c =
     let done : length c.args.all.now.items ≤ c.loop-one.one-index = omega (arith, all, c.loop-one-test.false) in
     rw taken_whole
     (led_as c.loop-one.invariant.led
-    (λ events up_to. turn_whole g.T.Transport.taken g.T.Transport.coming g.T.Transport.made c.args.all.now.items c.loop-one.one-items c.loop-one.one-index events done up_to))
+    (λ events up_to. turn_whole g.T.Transport.taken g.T.Transport.coming g.T.Transport.made c.args.all.now.items c.loop-one.one-items c.loop-one.one-index c.loop-one.has_moved events done up_to))
 
 pub returns-clause-idle : goal.returns-clause-idle
 returns-clause-idle g c =

@@ -10,5 +10,5 @@ invariant-loop-one g l = record {
   idle : l.has_moved ≡ false → (k : ℕ) (d : _) → k < l.one-index → k < length l.one-items → (get_or l.one-items k d).may_receive ≡ false;
   trust : g.K.Lookup.is_trusted l.desk → g.K.Lookup.is_trusted l.fn.desk;
   led : HasLedOn (g.K.Lookup.is_trusted l.desk) (g.K.Lookup.shows l.fn.desk) (g.K.Lookup.leaves_one_of l.fn.desk) (g.K.Lookup.shows l.desk) (g.K.Lookup.leaves_one_of l.desk) l.fn.hub l.hub
-      (λ events. TurnUpTo g.T.Transport.taken g.T.Transport.coming g.T.Transport.made l.fn.all.items l.one-items l.one-index events);
+      (λ events. TurnUpTo g.T.Transport.taken g.T.Transport.coming g.T.Transport.made l.fn.all.items l.one-items l.one-index l.has_moved events);
 }

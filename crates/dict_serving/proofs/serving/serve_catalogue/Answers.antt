@@ -28,9 +28,9 @@ returns-in_err-desk-2 g c =
     let error = err_from_is_err_and c.from_residual-in_err-desk-2.result c.from_residual-in_err-desk-2.ensures.1 in
     let served = c.in_err-desk-2.ensures.served in
     let told = c.in-Ok.ensures.begins in
-    let none : c.in-Ok.driver.rounds ≡ 0 = c.in-Ok.ensures.rounds in
+    let none : c.in-Ok.driver.event_loop.rounds ≡ 0 = c.in-Ok.ensures.rounds in
     let asked : c.pace-rounds.result.0 ≡ rounds_of c.args.wanted.now.rounds = c.pace-rounds.ensures.count in
-    let made : c.serve_rounds-served.new.driver.rounds ≤ rounds_of c.args.wanted.now.rounds =
+    let made : c.serve_rounds-served.new.driver.event_loop.rounds ≤ rounds_of c.args.wanted.now.rounds =
     let some = c.in_err-desk-2.ensures.made (omega (arith, none)) in
     omega (arith, none, asked, some) in
     rw (error.1, error.2) (inr (
@@ -63,9 +63,9 @@ pub returns : goal.returns
 returns g c =
     let served = c.in_ok-desk-2.ensures.served in
     let told = c.in-Ok.ensures.begins in
-    let none : c.in-Ok.driver.rounds ≡ 0 = c.in-Ok.ensures.rounds in
+    let none : c.in-Ok.driver.event_loop.rounds ≡ 0 = c.in-Ok.ensures.rounds in
     let asked : c.pace-rounds.result.0 ≡ rounds_of c.args.wanted.now.rounds = c.pace-rounds.ensures.count in
-    let made : c.serve_rounds-served.new.driver.rounds ≡ rounds_of c.args.wanted.now.rounds =
+    let made : c.serve_rounds-served.new.driver.event_loop.rounds ≡ rounds_of c.args.wanted.now.rounds =
     let all = c.in_ok-desk-2.ensures.made (omega (arith, none)) in
     omega (arith, none, asked, all) in
     inr (

@@ -14,7 +14,7 @@ returns-in_err-pending-clause-served g c =
     let held = c.loop-pending.invariant.served in
     let goes = held.3 c.loop-pending-test.true in
     let over = c.in_err-pending.ensures.served in
-    let one : Stretch _ = record { opened = c.loop-pending.pending.desk; left = over.0; rounds = c.serve_stretch.new.driver.rounds - c.loop-pending.driver.rounds } in
+    let one : Stretch _ = record { opened = c.loop-pending.pending.desk; left = over.0; rounds = c.serve_stretch.new.driver.event_loop.rounds - c.loop-pending.driver.event_loop.rounds } in
     let error = err_from_is_err_and c.from_residual.result c.from_residual.ensures.1 in (
       held.0 ++ one ∷ [],
       served_more g.K.Lookup.shows g.K.Lookup.leaves_one_of g.K.Lookup.is_trusted g.D.Desks.is_opened g.K.Lookup.is_closed c.args.desk held.0 one c.args.driver.now c.loop-pending.driver
@@ -31,7 +31,7 @@ loop-pending-preserved g c =
     let held = c.loop-pending.invariant.served in
     let goes = held.3 c.loop-pending-test.true in
     let over = c.in_ok-pending.ensures.served in
-    let one : Stretch _ = record { opened = c.loop-pending.pending.desk; left = over.0; rounds = c.serve_stretch.new.driver.rounds - c.loop-pending.driver.rounds } in
+    let one : Stretch _ = record { opened = c.loop-pending.pending.desk; left = over.0; rounds = c.serve_stretch.new.driver.event_loop.rounds - c.loop-pending.driver.event_loop.rounds } in
     record {
       served = (
         held.0 ++ one ∷ [],

@@ -12,7 +12,7 @@ invariant-loop-pending g l = record {
       × GoneOn l.fn.path l.fn.desk stretches l.pending.desk l.pending.left (g.D.Desks.history l.fn.desks) (g.D.Desks.history l.desks);
   opened : 0 < l.pending.left → IsNew g.K.Lookup.shows g.K.Lookup.leaves_one_of g.K.Lookup.is_trusted g.D.Desks.is_opened l.pending.desk;
   stands : IsOpen g.K.Lookup.is_closed (IsNew g.K.Lookup.shows g.K.Lookup.leaves_one_of g.K.Lookup.is_trusted g.D.Desks.is_opened) l.pending.desk;
-  made : l.fn.driver.rounds + l.fn.rounds < 2 ^ 64 → l.driver.rounds + l.pending.left ≡ l.fn.driver.rounds + l.fn.rounds;
+  made : l.fn.driver.event_loop.rounds + l.fn.rounds < 2 ^ 64 → l.driver.event_loop.rounds + l.pending.left ≡ l.fn.driver.event_loop.rounds + l.fn.rounds;
 }
 
 abbrev pub decreases-loop-pending : goal.decreases-loop-pending

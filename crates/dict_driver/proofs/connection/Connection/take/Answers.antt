@@ -15,12 +15,12 @@ returns-in-Some-clause-led g c =
     let answer = subst (λ a. IsToldThrough g.T.Transport.taken g.T.Transport.coming g.T.Transport.made what a old.queue c.tell_through.new.queue old.transport c.tell_through.new.transport events) c.in-Some.is told in (
       hands_told g.T.Transport.taken g.T.Transport.coming g.T.Transport.made old new what c.in-Some.out events refl refl refl tt
           (λ still. answered_open c.in-Some.out old.stage (ap is_open (sym c.answered-self.ensures) ∙ still)) answer,
-      leads_answered old new c.args.piece.now c.in-Some.out events c.answered-self.ensures answer.answered,
+      leads_answered c.args.hub.now old new c.args.piece.now c.in-Some.out events c.answered-self.ensures answer.answered,
     ))
 
 pub returns-in-None-clause-led : goal.returns-in-None-clause-led
 returns-in-None-clause-led g c =
     led_joined c.tell_through.ensures.led c.end.ensures.led c.end.ensures.trust
-    (λ es fs told ended. hands_refused g.T.Transport.taken g.T.Transport.coming g.T.Transport.made c.args.self.now _ _ c.args.piece.now (came c.args.self.now.id c.args.piece.now) es fs refl refl c.end.ensures.over
+    (λ es fs told ended. hands_refused c.args.hub.now g.T.Transport.taken g.T.Transport.coming g.T.Transport.made c.args.self.now _ _ c.args.piece.now (came c.args.self.now.id c.args.piece.now) es fs refl refl c.end.ensures.over
     (subst (λ a. IsToldThrough g.T.Transport.taken g.T.Transport.coming g.T.Transport.made (came c.args.self.now.id c.args.piece.now) a c.args.self.now.queue c.tell_through.new.queue c.args.self.now.transport
-    c.tell_through.new.transport es) c.in-None.is told) ended)
+    c.tell_through.new.transport es) c.in-None.is told) ended (c.tell_through.ensures.refused c.args.self.now.id c.args.piece.now refl c.in-None.is))

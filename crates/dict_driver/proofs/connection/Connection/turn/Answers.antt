@@ -13,7 +13,7 @@ pub returns-clause-led : goal.returns-clause-led
 returns-clause-led g c =
     led_as c.read-received.ensures.led
     (λ events reads. turns_read g.T.Transport.taken g.T.Transport.coming g.T.Transport.made c.args.self.now c.send-sent.new.self _ c.send-sent.result c.read-received.result events
-    (well_isnt c.send-sent.result (sym c.has_failed.ensures ∙ c.if-has_failed.false)) c.send-sent.ensures reads)
+    (well_isnt c.send-sent.result (sym c.has_failed.ensures ∙ c.if-has_failed.false)) c.send-sent.ensures reads c.has_moved.result c.has_moved.ensures)
 
 pub returns-clause-idle : goal.returns-clause-idle
 returns-clause-idle g c = λ still. c.read-received.ensures.idle (nothing_came c.send-sent.result c.read-received.result (sym c.has_moved.ensures ∙ still))

@@ -1,4 +1,4 @@
-use Rattle.std.proofs.Common.{◌≡◌, ◌≢◌, ◌≤◌, ◌∙◌, All, ap, ◌++◌, length, rules, false}
+use Rattle.std.proofs.Common.{◌≡◌, ◌≢◌, ◌≤◌, ◌∙◌, All, ap, ◌++◌, length, rules, refl, false}
 use Rattle.std.proofs.lemmas.List.Elements.{All-filter, filter_from_retain}
 use Rattle.std.specs.List.{filter}
 use Rattle.dict_driver.specs.Stages.{is_departing, is_held, is_open}
@@ -11,32 +11,38 @@ use Rattle.dict_driver.proofs.connections.Connections.turn.Goals as goal
 pub returns-then-departed-clause-led : goal.returns-then-departed-clause-led
 returns-then-departed-clause-led g c =
     led_as c.turn_all-turned.ensures.led (λ events turned.
-    let each : TurnEach g.T.Transport.taken g.T.Transport.coming g.T.Transport.made c.args.self.now c.settle.new.self events = record {
+    let each : TurnEach g.T.Transport.taken g.T.Transport.coming g.T.Transport.made c.args.self.now c.settle.new.self c.depart_all-departed.result events = record {
       departed = c.depart_all-departed.new.all.items;
+      by_departing = c.depart_all-departed.result;
       departs = c.depart_all-departed.ensures.departs;
       turned = c.turn_all-turned.new.all.items;
+      by_open = c.turn_all-turned.result;
       turns = turned;
       opened = c.settle.ensures.opened;
       departing = c.settle.ensures.departing ∙ ap (λ l. latest 128 (l ++ filter (λ one. is_departing one.stage) c.turn_all-turned.new.all.items))
           (filter_from_retain _ (λ one. is_held one.stage) (λ p x b q t. search rules) _ _ _ c.retain.ensures.filtered);
       last = c.settle.ensures.last;
+      has_moved = rw c.if-departed.true refl;
     } in
-    (moves_turned c.args.self.now c.settle.new.self events each, turned.are_turns, turned.by_id, each))
+    (moves_turned c.args.self.now c.settle.new.self c.depart_all-departed.result events each, turned.are_turns, turned.by_id, each))
 
 pub returns-else-departed-clause-led : goal.returns-else-departed-clause-led
 returns-else-departed-clause-led g c =
     led_as c.turn_all-turned.ensures.led (λ events turned.
-    let each : TurnEach g.T.Transport.taken g.T.Transport.coming g.T.Transport.made c.args.self.now c.settle.new.self events = record {
+    let each : TurnEach g.T.Transport.taken g.T.Transport.coming g.T.Transport.made c.args.self.now c.settle.new.self c.turn_all-turned.result events = record {
       departed = c.depart_all-departed.new.all.items;
+      by_departing = c.depart_all-departed.result;
       departs = c.depart_all-departed.ensures.departs;
       turned = c.turn_all-turned.new.all.items;
+      by_open = c.turn_all-turned.result;
       turns = turned;
       opened = c.settle.ensures.opened;
       departing = c.settle.ensures.departing ∙ ap (λ l. latest 128 (l ++ filter (λ one. is_departing one.stage) c.turn_all-turned.new.all.items))
           (filter_from_retain _ (λ one. is_held one.stage) (λ p x b q t. search rules) _ _ _ c.retain.ensures.filtered);
       last = c.settle.ensures.last;
+      has_moved = rw c.if-departed.false refl;
     } in
-    (moves_turned c.args.self.now c.settle.new.self events each, turned.are_turns, turned.by_id, each))
+    (moves_turned c.args.self.now c.settle.new.self c.turn_all-turned.result events each, turned.are_turns, turned.by_id, each))
 
 pub returns-else-departed-clause-idle : goal.returns-else-departed-clause-idle
 returns-else-departed-clause-idle g c = λ still. rw c.settle.ensures.opened (All-filter (λ one. is_open one.stage) (λ one. one.may_receive ≡ false) c.turn_all-turned.new.all.items (c.turn_all-turned.ensures.idle still))

@@ -1,0 +1,102 @@
+-- What comes of a listening socket.
+use Rattle.std.proofs.Common.{◌≡◌, ◌<◌, ◌+◌, ℕ, Bool, true, false, List, [], ◌∷◌, ◌++◌, refl, sym, ap, ◌∙◌, subst, inl, inr, append_assoc, append-nil}
+use Rattle.std.specs.Prelude.{Option, Some, None, Ok, Err, option_map, vec_len}
+use Rattle.std.specs.IoError.{error_kind}
+use Rattle.std.specs.declared.io.Error.{Error}
+use Rattle.dict_hub.specs.Runs.{Accepted}
+use Rattle.dict_hub.specs.declared.kind.Kind.{Kind}
+use Rattle.dict_hub.specs.declared.kind.Kind.TheVariants.{Dict, Http}
+use Rattle.dict_outlet.specs.declared.transport.Transport as transport
+use Rattle.dict_driver.specs.Accepting.{Accepts, AcceptsOne, IsFull, Takes}
+use Rattle.dict_driver.specs.Asking.{Asking, Asks, accepts, watches}
+use Rattle.dict_driver.specs.Listening.{is_ready, listening_by, may_accept}
+use Rattle.dict_driver.specs.Looking.{listening_of}
+use Rattle.dict_driver.specs.Rounds.{Admits}
+use Rattle.dict_driver.specs.declared.connections.Connections.{Connections}
+use Rattle.dict_driver.specs.declared.event_loop.EventLoop.{EventLoop}
+use Rattle.dict_driver.specs.declared.listening.Listening.{Listening}
+use Rattle.dict_driver.specs.declared.listening.Listening.TheVariants.{Ready, Quiet, Failed}
+
+-- nothing was asked
+pub asks_none : {T : Type 0} (a : Option (List (Asking T))) → Asks a a []
+asks_none None = refl
+asks_none (Some before) = ap Some (sym (append-nil before))
+
+pub asks_joined : {T : Type 0} (a b c : Option (List (Asking T))) (first then : List (Asking T)) → Asks a b first → Asks b c then → Asks a c (first ++ then)
+asks_joined {T} None b c first then one two = two ∙ ap (λ (o : Option (List (Asking T))). option_map (λ before. before ++ then) o) one
+asks_joined {T} (Some before) b c first then one two =
+    two ∙ ap (λ (o : Option (List (Asking T))). option_map (λ l. l ++ then) o) one ∙ ap Some (append_assoc before first then)
+
+pub not_ready : (before : Listening) → may_accept before ≡ false → is_ready before ≡ false
+not_ready Ready isnt = absurd (let never : true ≡ false = isnt in cc)
+not_ready Quiet isnt = refl
+not_ready Failed isnt = refl
+
+-- a failed call is to be made again at once where the socket is ready still
+pub ready_by : (listening : Listening) (again : Bool) → (again ≡ true → listening ≡ Ready) → (listening ≡ Ready → again ≡ true) → again ≡ is_ready listening
+ready_by Ready again is so = so refl
+ready_by Quiet true is so = let never : Quiet ≡ Ready = is refl in cc
+ready_by Quiet false is so = refl
+ready_by Failed true is so = let never : Failed ≡ Ready = is refl in cc
+ready_by Failed false is so = refl
+
+module _ {T : Type 0} {G : transport.Ghosts T} where
+  -- a socket that isn't asked
+  pub accepts_not : (kind : Kind) (before : Listening) (all : Connections T G) → may_accept before ≡ false → Accepts kind before before all all [] []
+  accepts_not kind Ready all isnt = absurd (let never : true ≡ false = isnt in cc)
+  accepts_not kind Quiet all isnt = (refl, refl, refl, refl)
+  accepts_not kind Failed all isnt = absurd (let never : true ≡ false = isnt in cc)
+
+  accepts_one : (kind : Kind) (before after : Listening) (old new : Connections T G) (calls : List (Asking T)) (events : List Accepted) → may_accept before ≡ true
+      → AcceptsOne kind after old new calls events → Accepts kind before after old new calls events
+  accepts_one kind Ready after old new calls events may one = one
+  accepts_one kind Quiet after old new calls events may one = absurd (let never : true ≡ false = sym may in cc)
+  accepts_one kind Failed after old new calls events may one = one
+
+  -- one that was asked, and gave a connection
+  pub accepted_one : (kind : Kind) (before after : Listening) (transport : T) (a b c : Option (List (Asking T))) (old between new : Connections T G) (events : List Accepted) → may_accept before ≡ true → after ≡ Ready
+      → between ≡ old → Asks a b (accepts kind (Ok transport) ∷ []) → (calls : List (Asking T)) × Asks b c calls × Takes transport kind between new calls events
+      → (calls : List (Asking T)) × Asks a c calls × Accepts kind before after old new calls events
+  accepted_one kind before after transport a b c old between new events may ready same asked (calls, more, takes) = (
+    accepts kind (Ok transport) ∷ calls,
+    asks_joined a b c (accepts kind (Ok transport) ∷ []) calls asked more,
+    accepts_one kind before after old new (accepts kind (Ok transport) ∷ calls) events may
+        (Ok transport, calls, refl, (ready, subst (λ (all : Connections T G). Takes transport kind all new calls events) same takes)),
+  )
+
+  -- and that gave an error
+  pub accepted_none : (kind : Kind) (before after : Listening) (error : Error) (a b : Option (List (Asking T))) (old new : Connections T G) → may_accept before ≡ true
+      → after ≡ listening_by (error_kind error) → new ≡ old → Asks a b (accepts kind (Err error) ∷ []) → (calls : List (Asking T)) × Asks a b calls × Accepts kind before after old new calls []
+  accepted_none kind before after error a b old new may after_is same asked = (
+    accepts kind (Err error) ∷ [],
+    asked,
+    accepts_one kind before after old new (accepts kind (Err error) ∷ []) [] may (Err error, [], refl, (after_is, refl, same, refl)),
+  )
+
+  -- there was no place for a connection
+  pub taken_not : (transport : T) (kind : Kind) (a : Option (List (Asking T))) (all : Connections T G) → IsFull all → (calls : List (Asking T)) × Asks a a calls × Takes transport kind all all calls []
+  taken_not transport kind a all full = ([], asks_none a, inl (full, refl, refl, refl))
+
+  -- looks can't tell of it
+  pub taken_unwatched : (transport : T) (kind : Kind) (a b : Option (List (Asking T))) (all : Connections T G) (id : ℕ) (watched : Bool) → id ≡ all.last + 1 → vec_len all.opened < 64 → watched ≡ false
+      → Asks a b (watches id watched ∷ []) → (calls : List (Asking T)) × Asks a b calls × Takes transport kind all all calls []
+  taken_unwatched transport kind a b all id watched next room isnt asked = (
+    watches id watched ∷ [],
+    asked,
+    inr (room, inl (ap (λ (w : Bool). watches id w ∷ []) isnt ∙ ap (λ (i : ℕ). watches i false ∷ []) next, refl, refl)),
+  )
+
+  -- they do
+  pub taken_watched : (transport watched_one : T) (kind : Kind) (a b : Option (List (Asking T))) (old new : Connections T G) (id : ℕ) (watched : Bool) (events : List Accepted) → id ≡ old.last + 1 → vec_len old.opened < 64 → watched ≡ true
+      → watched_one ≡ transport → Asks a b (watches id watched ∷ []) → Admits watched_one kind old new events → (calls : List (Asking T)) × Asks a b calls × Takes transport kind old new calls events
+  taken_watched transport watched_one kind a b old new id watched events next room is same asked admits = (
+    watches id watched ∷ [],
+    asked,
+    inr (room, inr (ap (λ (w : Bool). watches id w ∷ []) is ∙ ap (λ (i : ℕ). watches i true ∷ []) next, subst (λ (t : T). Admits t kind old new events) same admits)),
+  )
+
+module _ {T S : Type 0} {G : transport.Ghosts T} where
+  -- what is known of the socket for a kind
+  pub same_listening : (kind : Kind) (a b : EventLoop T S G) → b.dict_listening ≡ a.dict_listening → b.http_listening ≡ a.http_listening → listening_of kind b ≡ listening_of kind a
+  same_listening Dict a b dict http = dict
+  same_listening Http a b dict http = http

@@ -1,0 +1,63 @@
+use Rattle.std.proofs.Common.{◌≡◌, ◌∙◌, List, [], ◌++◌, true, false, is_ok, sym, ap, subst, refl}
+use Rattle.std.specs.Prelude.{◌||◌}
+use Rattle.dict_hub.specs.Runs.{Accepted, IsAt}
+use Rattle.dict_hub.specs.declared.kind.Kind.TheVariants.{Dict}
+use Rattle.dict_driver.specs.Accepting.{HasAccepted}
+use Rattle.dict_driver.specs.Listening.{is_ready}
+use Rattle.dict_driver.specs.Looking.{Looks}
+use Rattle.dict_driver.specs.Ordering.{AreOfRound, IsOpeningOf}
+use Rattle.dict_driver.specs.Rounds.{Moves}
+use Rattle.dict_driver.proofs.BoolLemmas.{none_of}
+use Rattle.dict_driver.proofs.LeadLemmas.{led_joined, led_none}
+use Rattle.dict_driver.proofs.LookLemmas.{moves_looked}
+use Rattle.dict_driver.proofs.OrderLemmas.{round_none, round_whole}
+use Rattle.dict_driver.proofs.LoopLemmas.{AreTaken, round_made}
+use Rattle.dict_driver.proofs.RoundLemmas.{moves_joined}
+use Rattle.dict_driver.proofs.event_loop.EventLoop.round.Goals as goal
+
+pub returns-in-Err-clause-led : goal.returns-in-Err-clause-led
+returns-in-Err-clause-led g c =
+    led_none (λ state at. subst (λ h. IsAt h state) (sym c.look.ensures.hub) at) (
+      moves_looked (g.S.Sockets.told c.look.new.self.sockets) c.look.result c.args.self.now c.look.new.self c.look.ensures,
+      round_none,
+      (refl, subst (λ r. Looks g.S.Sockets.asked (g.S.Sockets.told c.look.new.self.sockets) r c.args.self.now c.look.new.self) c.in-Err.is c.look.ensures),
+    )
+
+pub returns-clause-led : goal.returns-clause-led
+returns-clause-led g c =
+    let self = c.args.self.now in
+    let asked = g.S.Sockets.asked in
+    led_joined
+    (led_joined {R = λ events. Moves self.connections c.accept-by_http.new.self.connections events × AreTaken asked c.look.new.self c.accept-by_dict.new.self c.accept-by_http.new.self events}
+    (led_joined {R = λ events. Moves self.connections c.accept-by_dict.new.self.connections events × IsOpeningOf Dict events × HasAccepted asked Dict c.look.new.self c.accept-by_dict.new.self events}
+    (led_none {P = λ events. events ≡ []} (λ state at. subst (λ h. IsAt h state) (sym c.look.ensures.hub) at) refl)
+    c.accept-by_dict.ensures.led c.accept-by_dict.ensures.trust
+    (λ es fs before then.
+    subst (λ (l : List Accepted). Moves self.connections c.accept-by_dict.new.self.connections (l ++ fs) × IsOpeningOf Dict (l ++ fs) × HasAccepted asked Dict c.look.new.self c.accept-by_dict.new.self (l ++ fs)) (sym before) (
+      moves_joined self.connections c.look.new.self.connections c.accept-by_dict.new.self.connections [] fs (moves_looked _ c.look.result self c.look.new.self c.look.ensures) then.0,
+      then.1,
+      then.2,
+    )))
+    c.accept-by_http.ensures.led c.accept-by_http.ensures.trust
+    (λ es fs before then. (
+      moves_joined self.connections c.accept-by_dict.new.self.connections c.accept-by_http.new.self.connections es fs before.0 then.0,
+      record { readers = es; editors = fs; whole = refl; dict = before.1; http = then.1; by_dict = before.2; by_http = then.2 },
+    )))
+    c.turn-turned.ensures.led c.turn-turned.ensures.trust
+    (λ es fs before then. (
+      moves_joined self.connections c.accept-by_http.new.self.connections c.turn-turned.new.self es fs before.0 then.0,
+      subst (λ (l : List Accepted). AreOfRound (l ++ fs)) (sym before.1.whole) (round_whole before.1.readers before.1.editors fs before.1.dict before.1.http then.1 then.2),
+      round_made asked g.T.Transport.taken g.T.Transport.coming g.T.Transport.made (g.S.Sockets.told c.look.new.self.sockets) c.look.result self c.look.new.self c.accept-by_dict.new.self c.accept-by_http.new.self _
+          c.has_any.result c.turn-turned.result es fs (ap is_ok c.in-Ok.is) c.look.ensures before.1 then.3 refl c.accept-by_http.ensures.other refl c.accept-by_dict.ensures.other
+          (c.has_any.ensures ∙ ap (λ b. b || (c.accept-by_http.result || c.turn-turned.result)) c.accept-by_dict.ensures.asked
+          ∙ ap (λ b. is_ready c.accept-by_dict.new.self.dict_listening || (b || c.turn-turned.result)) c.accept-by_http.ensures.asked),
+    ))
+
+pub returns-clause-idle : goal.returns-clause-idle
+returns-clause-idle g c = λ still. (
+    let none = none_of c.accept-by_dict.result c.accept-by_http.result c.turn-turned.result (sym c.has_any.ensures ∙ still) in
+    record {
+      dict = λ ready. absurd (let never : true ≡ false = sym (ap is_ready (sym c.accept-by_http.ensures.other ∙ ready)) ∙ sym c.accept-by_dict.ensures.asked ∙ none.0 in cc);
+      http = λ ready. absurd (let never : true ≡ false = sym (ap is_ready ready) ∙ sym c.accept-by_http.ensures.asked ∙ none.1 in cc);
+      read = c.turn-turned.ensures.idle none.2;
+    })

@@ -1,0 +1,233 @@
+// Rounds over sockets.
+ghost use Rattle.std.specs.Prelude.{◌≡◌, ◌≢◌, ◌==◌, ◌≤◌, ◌<◌, ℕ, IfOk, List, MatchResult, [], false, length};
+ghost use Rattle.std.specs.IoError.{error_kind};
+ghost use Rattle.dict_driver.specs.Looking.{tells};
+ghost use Rattle.dict_driver.specs.Turning.{MarkAll};
+
+use crate::connections::Connections;
+use crate::listening::{Listening, listening_by};
+use crate::sockets::Sockets;
+use crate::stage::has_any;
+use dict_desk::Keeper;
+use dict_hub::{Hub, Kind};
+use dict_outlet::Transport;
+use std::alloc::{AllocError, Global};
+use std::io::{self, ErrorKind};
+use std::time::Duration;
+
+/// Sockets, the connections that came by them, and the hub that they are told to.
+#[derive(Drop)]
+pub struct EventLoop<'h, T: Transport, S: Sockets<T>> {
+    sockets: S,
+    dict_listening: Listening,
+    http_listening: Listening,
+    connections: Connections<T>,
+    hub: Hub<'h>,
+    // How many rounds were made, those that failed left out.
+    rounds: u64,
+    // The kind of the error by which the sockets couldn't be looked at, where the last look failed.
+    failure: Option<ErrorKind>,
+}
+
+impl<'h, T: Transport, S: Sockets<T>> EventLoop<'h, T, S> {
+    ghost use Rattle.dict_hub.specs.Runs.{IsAt, beginning};
+    ghost use Rattle.dict_driver.specs.Leading.{HasLedOn};
+    ghost use Rattle.dict_driver.specs.Rounds.{Moves};
+    ghost use Rattle.dict_driver.specs.Ordering.{AreOfRound, IsOpeningOf};
+    ghost use Rattle.dict_driver.specs.Serving.{IsCounted};
+    ghost use Rattle.dict_driver.specs.Listening.{is_ready};
+    ghost use Rattle.dict_driver.specs.Looking.{IsIdle, IsKept, Looks, listening_of, other_kind};
+    ghost use Rattle.dict_driver.specs.Accepting.{HasAccepted, HasTaken};
+    ghost use Rattle.dict_driver.specs.EventLoops.{GoesRound};
+
+    /// No connection came by these sockets yet, the first one's id is 1, and no round was made. Replies name the server by
+    /// `host`, of 1 to 253 of `A-Z a-z 0-9 . -`.
+    pub fn new(alloc: Global, sockets: S, host: &'h str) -> Result<Self, AllocError>
+        ensures sockets { IfOk result (λ event_loop. event_loop.sockets ≡ sockets) }
+        ensures opened { IfOk result (λ event_loop. event_loop.connections.opened.items ≡ []) }
+        ensures departing { IfOk result (λ event_loop. event_loop.connections.departing.items ≡ []) }
+        ensures last { IfOk result (λ event_loop. event_loop.connections.last ≡ 0) }
+        ensures beginning { IfOk result (λ event_loop. IsAt event_loop.hub (beginning host.now)) }
+        ensures rounds { IfOk result (λ event_loop. event_loop.rounds ≡ 0) }
+    {
+        Ok(EventLoop {
+            sockets,
+            dict_listening: Listening::Ready,
+            http_listening: Listening::Ready,
+            connections: Connections::new(alloc)?,
+            hub: Hub::new(alloc, host)?,
+            rounds: 0,
+            failure: None,
+        })
+    }
+
+    /// How many connections are open.
+    pub fn open_count(&self) -> usize
+        ensures { result ≤ 64 }
+    {
+        self.connections.open_count()
+    }
+
+    /// How many connections are held that are no longer open.
+    pub fn departing_count(&self) -> usize
+        ensures { result ≤ 128 }
+    {
+        self.connections.departing_count()
+    }
+
+    /// How many rounds were made, those that failed left out. After 18,446,744,073,709,551,615 it stays there.
+    pub fn rounds(&self) -> u64
+        ensures { result ≡ self.now.rounds }
+    {
+        self.rounds
+    }
+
+    /// One round: the sockets are looked at, at most one connection is taken from that for readers, then at most one from that
+    /// for editors, and then each connection has a turn, the open ones in the order of their ids: what waits is sent, one read of
+    /// at most 4,096 octets is made, and what came goes to the hub. Whether anything happened; where nothing did, `wait` may
+    /// come before the next round.
+    pub fn round<K: Keeper>(&mut self, desk: &mut K) -> io::Result<bool>
+        ensures led { HasLedOn (K.is_trusted desk.new) (K.shows desk.old) (K.leaves_one_of desk.old) (K.shows desk.new) (K.leaves_one_of desk.new) self.old.hub self.new.hub
+            (λ events. Moves self.old.connections self.new.connections events × AreOfRound events × GoesRound T.taken T.coming T.made S.asked S.told result self.old self.new events) }
+        ensures trust { K.is_trusted desk.new → K.is_trusted desk.old }
+        ensures rounds { IsCounted result self.old.rounds self.new.rounds }
+        ensures grown { self.old.rounds ≤ self.new.rounds }
+        ensures idle { IfOk result (λ has_moved. has_moved ≡ false → IsIdle self.new) }
+        ensures failure { MatchResult result (λ _. self.new.failure ≡ None) (λ error. self.new.failure ≡ Some (error_kind error)) }
+    {
+        match self.look(Duration::ZERO) {
+            Ok(()) => {}
+            Err(error) => return Err(error),
+        }
+        let by_dict = self.accept(Kind::Dict, desk);
+        let by_http = self.accept(Kind::Http, desk);
+        let turned = self.connections.turn(&mut self.hub, desk);
+        self.rounds = self.rounds.saturating_add(1);
+        Ok(has_any(by_dict, by_http, turned))
+    }
+
+    /// Waits until a socket is ready, or as long as this.
+    pub fn wait(&mut self, most: Duration) -> io::Result<()>
+        ensures { Looks S.asked (S.told self.new.sockets) result self.old self.new }
+    {
+        self.look(most)
+    }
+
+    // Notes which sockets are ready, and waits for one as long as this.
+    fn look(&mut self, most: Duration) -> io::Result<()>
+        ensures { Looks S.asked (S.told self.new.sockets) result self.old self.new }
+    {
+        let looked = self.sockets.look(most);
+        mark_told(&self.sockets, &mut self.connections);
+        if tells_listening::<T, S>(&self.sockets) {
+            self.dict_listening = Listening::Ready;
+            self.http_listening = Listening::Ready;
+        }
+        self.failure = failure_of(&looked);
+        looked
+    }
+
+    // Takes a connection that waits at a listening socket. Whether one did, or the call is to be made again.
+    fn accept<K: Keeper>(&mut self, kind: Kind, desk: &mut K) -> bool
+        ensures led { HasLedOn (K.is_trusted desk.new) (K.shows desk.old) (K.leaves_one_of desk.old) (K.shows desk.new) (K.leaves_one_of desk.new) self.old.hub self.new.hub
+            (λ events. Moves self.old.connections self.new.connections events × IsOpeningOf kind events × HasAccepted S.asked kind self.old self.new events) }
+        ensures trust { K.is_trusted desk.new → K.is_trusted desk.old }
+        ensures kept { IsKept self.old self.new }
+        ensures asked { result ≡ is_ready (listening_of kind self.new) }
+        ensures other { listening_of (other_kind kind) self.new ≡ listening_of (other_kind kind) self.old }
+    {
+        if !self.listening(kind).may_accept() {
+            return false;
+        }
+        match self.sockets.accept(kind) {
+            Ok(transport) => {
+                self.note(kind, Listening::Ready);
+                self.admit(transport, kind, desk);
+                true
+            }
+            Err(error) => {
+                let listening = listening_by(error.kind());
+                self.note(kind, listening);
+                listening == Listening::Ready
+            }
+        }
+    }
+
+    // Whether a connection waits at a listening socket.
+    fn listening(&self, kind: Kind) -> Listening
+        ensures { result ≡ listening_of kind self.now }
+    {
+        match kind {
+            Kind::Dict => self.dict_listening,
+            Kind::Http => self.http_listening,
+        }
+    }
+
+    // Notes whether a connection waits at a listening socket.
+    fn note(&mut self, kind: Kind, listening: Listening)
+        ensures kept { IsKept self.old self.new }
+        ensures noted { listening_of kind self.new ≡ listening }
+        ensures other { listening_of (other_kind kind) self.new ≡ listening_of (other_kind kind) self.old }
+        ensures connections { self.new.connections ≡ self.old.connections }
+        ensures hub { self.new.hub ≡ self.old.hub }
+        ensures sockets { self.new.sockets ≡ self.old.sockets }
+    {
+        match kind {
+            Kind::Dict => self.dict_listening = listening,
+            Kind::Http => self.http_listening = listening,
+        }
+    }
+
+    // Opens the connection, or closes its socket where there is no place for it.
+    fn admit<K: Keeper>(&mut self, transport: T, kind: Kind, desk: &mut K)
+        ensures led { HasLedOn (K.is_trusted desk.new) (K.shows desk.old) (K.leaves_one_of desk.old) (K.shows desk.new) (K.leaves_one_of desk.new) self.old.hub self.new.hub
+            (λ events. Moves self.old.connections self.new.connections events × IsOpeningOf kind events × HasTaken S.asked transport kind self.old self.new events) }
+        ensures trust { K.is_trusted desk.new → K.is_trusted desk.old }
+        ensures kept { IsKept self.old self.new }
+        ensures dict { self.new.dict_listening ≡ self.old.dict_listening }
+        ensures http { self.new.http_listening ≡ self.old.http_listening }
+    {
+        match self.connections.next_id() {
+            Some(id) => {
+                let mut transport = transport;
+                if self.sockets.watch(&mut transport, id).is_ok() {
+                    self.connections.admit(transport, kind, &mut self.hub, desk);
+                }
+            }
+            None => {}
+        }
+    }
+}
+
+// The kind of the error by which a look failed.
+fn failure_of(looked: &io::Result<()>) -> Option<ErrorKind>
+    ensures { MatchResult looked.now (λ _. result ≡ None) (λ error. result ≡ Some (error_kind error)) }
+{
+    match looked {
+        Ok(()) => None,
+        Err(error) => Some(error.kind()),
+    }
+}
+
+// Marks the connections of which the last look told.
+fn mark_told<T: Transport, S: Sockets<T>>(sockets: &S, connections: &mut Connections<T>)
+    ensures opened { MarkAll (tells (S.told sockets.now)) connections.old.opened.items connections.new.opened.items }
+    ensures departing { MarkAll (tells (S.told sockets.now)) connections.old.departing.items connections.new.departing.items }
+    ensures last { connections.new.last ≡ connections.old.last }
+{
+    for place in 0..sockets.told_count() {
+        connections.mark(sockets.told_at(place));
+    }
+}
+
+// Whether the last look told of a listening socket.
+fn tells_listening<T: Transport, S: Sockets<T>>(sockets: &S) -> bool
+    ensures { result ≡ tells (S.told sockets.now) 0 }
+{
+    for place in 0..sockets.told_count() {
+        if sockets.told_at(place) == 0 {
+            return true;
+        }
+    }
+    false
+}

@@ -1,0 +1,115 @@
+// Descriptors that run out while one reader is busy, and come back.
+ghost use Rattle.std.specs.Prelude.{None};
+
+use crate::checks::same;
+use dict_desk::PlainDesk;
+use dict_driver::{EventLoop, Sockets};
+use dict_hub::Kind;
+use dict_outlet::Transport;
+use std::alloc::Global;
+use std::io::{Error, ErrorKind, Result as IoResult};
+use std::test::Fail;
+use std::time::Duration;
+
+// Asks for the status by each reading, and takes what it is sent.
+#[derive(Drop)]
+struct Busy;
+
+impl Transport for Busy {
+    ghost taken = { λ _. None };
+
+    ghost coming = { λ _. None };
+
+    ghost made = { λ _. None };
+
+    fn absent(&self) -> Self {
+        Busy
+    }
+
+    fn send(&mut self, octets: &[u8]) -> IoResult<usize> {
+        Ok(octets.len())
+    }
+
+    fn receive(&mut self, room: &mut [u8]) -> IoResult<usize> {
+        let asked: &[u8] = b"STATUS\r\n";
+        let count = asked.len().min(room.len());
+        room[..count].copy_from_slice(&asked[..count]);
+        Ok(count)
+    }
+
+    fn end_sending(&mut self) -> IoResult<()> {
+        Ok(())
+    }
+}
+
+// Readers wait at their listening socket, of which no look tells. So many calls more find a descriptor, so many after these
+// find none, and then all do.
+#[derive(Drop)]
+struct Few {
+    told: Vec<u64>,
+    found: u32,
+    missed: u32,
+}
+
+impl Sockets<Busy> for Few {
+    ghost asked = { λ _. None };
+
+    ghost told = { λ few. few.told.items };
+
+    fn look(&mut self, _most: Duration) -> IoResult<()> {
+        Ok(())
+    }
+
+    fn told_count(&self) -> usize {
+        self.told.len()
+    }
+
+    fn told_at(&self, place: usize) -> u64 {
+        self.told[place]
+    }
+
+    fn accept(&mut self, kind: Kind) -> IoResult<Busy> {
+        if kind == Kind::Http {
+            return Err(Error::from(ErrorKind::WouldBlock));
+        }
+        if self.found > 0 {
+            self.found -= 1;
+            return Ok(Busy);
+        }
+        if self.missed > 0 {
+            self.missed -= 1;
+            return Err(Error::from(ErrorKind::Other));
+        }
+        Ok(Busy)
+    }
+
+    fn watch(&mut self, _transport: &mut Busy, _id: u64) -> IoResult<()> {
+        Ok(())
+    }
+}
+
+// How many are open after this many rounds, in each of which something happened.
+fn open_after(alloc: Global, rounds: u32) -> Result<usize, Fail> {
+    let few = Few {
+        told: Vec::new(alloc),
+        found: 1,
+        missed: 5,
+    };
+    let mut desk = PlainDesk::new(alloc);
+    let mut event_loop = EventLoop::new(alloc, few, "localhost")?;
+    for _ in 0..rounds {
+        if !event_loop.round(&mut desk)? {
+            return Err(Fail::new("idle"));
+        }
+    }
+    Ok(event_loop.open_count())
+}
+
+#[test]
+fn descriptors_come_back(rt: HostRuntime) -> Result<(), Fail> {
+    same(&rt, &open_after(rt.alloc(), 1)?, &1);
+    same(&rt, &open_after(rt.alloc(), 6)?, &1);
+    same(&rt, &open_after(rt.alloc(), 7)?, &2);
+    same(&rt, &open_after(rt.alloc(), 8)?, &3);
+    Ok(())
+}

@@ -1,0 +1,13 @@
+//! Assertions, each a function of its own, so that the proof of a test has one step for it.
+use std::fmt::Debug;
+use std::process::Abort;
+
+/// The text is the one that is wanted.
+pub(crate) fn same_text(test: &impl Abort, found: &str, wanted: &str) {
+    assert_eq!(test; found, wanted);
+}
+
+/// The value is the one that is wanted.
+pub(crate) fn same<T: PartialEq + Debug>(test: &impl Abort, found: &T, wanted: &T) {
+    assert_eq!(test; *found, *wanted);
+}

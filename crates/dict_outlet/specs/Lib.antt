@@ -1,0 +1,3 @@
+pub mod Calls
+pub mod Queues
+pub mod Outlets

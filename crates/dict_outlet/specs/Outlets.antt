@@ -1,0 +1,47 @@
+-- What an event puts, and what is taken of it at once.
+use Rattle.std.specs.Prelude.{◌≡◌, ◌≢◌, ◌≤◌, ◌<◌, ◌+◌, ◌⊎◌, ℕ, Bool, true, false, All, List, [], ◌++◌, take, drop, length, Option, None, Some, vec_capacity}
+use Rattle.std.specs.Io.KnownBytes.{Appends, Keeps}
+use Rattle.dict_io.specs.Streams.{Stream}
+use Rattle.dict_outlet.specs.Calls.{Call, Makes, sends, receives, ends}
+use Rattle.dict_outlet.specs.Queues.{waiting}
+use Rattle.dict_outlet.specs.declared.queue.Queue.{Queue}
+use Rattle.dict_outlet.specs.declared.trail.Trail.{Trail}
+
+-- what waited as the event began and what it put since: what the transport took of it, and what waits
+abbrev pub carried : Trail → Queue → List ℕ
+carried taken queue = taken.octets ++ waiting queue
+
+-- these as a sink's octets: they are known, though those of a socket aren't
+abbrev pub stream_through : Trail → Queue → Stream
+stream_through taken queue = record { octets = Some (carried taken queue); failures = queue.failures }
+
+abbrev pub is_sending : Call → Bool
+is_sending (sends sent) = true
+is_sending (receives room received) = false
+is_sending (ends is_told) = false
+
+-- these octets came behind those before, where they are known
+abbrev pub HasTaken : Option (List ℕ) → Option (List ℕ) → List ℕ → Type 0
+HasTaken old new octets = (before : List ℕ) → old ≡ Some before → new ≡ Some (before ++ octets)
+
+-- sendings were made after the calls before, and no other calls, where the calls are known
+abbrev pub MakesSendings : Option (List Call) → Option (List Call) → Type 0
+MakesSendings old new = (before : List Call) → old ≡ Some before
+    → (new ≢ None) × ((after : List Call) → new ≡ Some after → (take (length before) after ≡ before) × All (λ call. is_sending call ≡ true) (drop (length before) after))
+
+-- a front of the octets was put, and no more may wait, or memory is short
+abbrev pub PutsSome : List ℕ → Trail → Queue → Trail → Queue → Type 0
+PutsSome octets taken queue now_taken now = (k : ℕ) × (k ≤ length octets) × (carried now_taken now ≡ carried taken queue ++ take k octets)
+    × ((length (waiting now) ≡ 1048576) ⊎ (vec_capacity now.octets < 1048576))
+
+-- What waited before and what was put: a front of it is sent, which the transport took, and the rest waits. Of the transport no more
+-- was asked than to take octets, and not even that while fewer than 1,048,576 of them were there
+pub record Passes {T : Type 0} (taken coming : T → Option (List ℕ)) (made : T → Option (List Call)) (old new : T) (before after put : List ℕ) : Type 0 where
+  pub sent : List ℕ
+  pub takes : Appends (taken old) (taken new) sent
+  pub order : sent ++ after ≡ before ++ put
+  pub comes : Keeps (coming old) (coming new)
+  pub within : List Call
+  pub sendings : All (λ call. is_sending call ≡ true) within
+  pub calls : Makes (made old) (made new) within
+  pub lazy : length before + length put < 1048576 → (sent ≡ []) × (within ≡ [])

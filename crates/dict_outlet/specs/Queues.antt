@@ -1,0 +1,29 @@
+-- What waits for a peer.
+use Rattle.std.specs.Prelude.{◌≡◌, ℕ, ◌≤◌, ◌<◌, ◌+◌, ◌^◌, ◌-◌, ◌==◌, Bool, List, ◌++◌, take, drop, length, Result, MatchResult, Option, Some}
+use Rattle.std.specs.Io.KnownBytes.{Appends, Keeps}
+use Rattle.dict_io.specs.Streams.{Stream}
+use Rattle.dict_outlet.specs.declared.queue.Queue.{Queue}
+
+-- the octets that were put and that the transport has not taken, in order
+abbrev pub waiting : Queue → List ℕ
+waiting queue = drop queue.sent queue.octets.items
+
+-- nothing waits
+abbrev pub is_clear : Queue → Bool
+is_clear queue = length (waiting queue) == 0
+
+-- a queue as a sink of octets: these are known, though those of a socket aren't
+abbrev pub stream_of : Queue → Stream
+stream_of queue = record { octets = Some (waiting queue); failures = queue.failures }
+
+-- all of the octets wait behind what waited; or none, and what waits is the same, and one more call has failed
+abbrev pub TakesAll : {E : Type 0} → Result (Unit {0}) E → Queue → Queue → List ℕ → Type 0
+TakesAll result old new octets = MatchResult result
+    (λ _. (waiting new ≡ waiting old ++ octets) × (new.failures ≡ old.failures))
+    (λ _. (waiting new ≡ waiting old) × (old.failures < 2 ^ 64 - 1 → new.failures ≡ old.failures + 1))
+
+-- the transport took a front of what waited, and the rest waits; where it failed, all of it
+abbrev pub Sends : {E : Type 0} → Result ℕ E → Queue → Queue → Option (List ℕ) → Option (List ℕ) → Type 0
+Sends result old new from to = MatchResult result
+    (λ n. (n ≤ length (waiting old)) × Appends from to (take n (waiting old)) × (waiting new ≡ drop n (waiting old)))
+    (λ error. Keeps from to × (waiting new ≡ waiting old))

@@ -1,0 +1,148 @@
+// What an event puts, and what its connection's transport takes of it at once.
+ghost use Rattle.std.specs.Prelude.{◌≡◌, ◌+◌, ◌<◌, ◌≤◌, ℕ, List, Option, [], None, length};
+ghost use Rattle.dict_outlet.specs.Calls.{Call};
+ghost use Rattle.dict_outlet.specs.Outlets.{HasTaken, MakesSendings};
+ghost use Rattle.dict_outlet.specs.Queues.{waiting};
+
+use crate::queue::Queue;
+use crate::trail::Trail;
+use crate::transport::Transport;
+use dict_io::{Sink, SinkFault};
+use std::marker::{Brand, PhantomData};
+
+/// What is known of a transport as an event begins.
+pub trait Beginning {
+    /// The octets that it took for the peer so far.
+    ghost taken: { Option (List ℕ) };
+
+    /// The octets of the peer that it will give.
+    ghost coming: { Option (List ℕ) };
+
+    /// The calls that were made of it.
+    ghost made: { Option (List Call) };
+}
+
+impl Beginning for Brand {
+    ghost taken = { None };
+
+    ghost coming = { None };
+
+    ghost made = { None };
+}
+
+/// Where one event puts its octets: they wait in a queue, and where it is full the transport is asked to take them.
+#[derive(Drop)]
+pub struct Outlet<T: Transport, B: Beginning> {
+    queue: Queue,
+    transport: T,
+    // What the transport took since the event began.
+    taken: Trail,
+    of: PhantomData<B>,
+    ghost takes: { HasTaken B.taken (T.taken transport) taken.octets },
+    ghost keeps: { HasTaken B.coming (T.coming transport) [] },
+    ghost makes: { MakesSendings B.made (T.made transport) },
+    ghost lazy: { length taken.octets + length (waiting queue) < 1048576 → (taken.octets ≡ []) × (T.made transport ≡ B.made) },
+}
+
+impl<T: Transport, B: Beginning> Outlet<T, B> {
+    ghost use Rattle.std.specs.Prelude.{◌++◌, ◌⊎◌, ◌^◌, ◌-◌, OnOk, OnErr, vec_len, vec_capacity, true, false};
+    ghost use Rattle.dict_outlet.specs.Outlets.{carried, PutsSome};
+
+    /// An event begins.
+    pub fn new(queue: Queue, transport: T) -> Self
+        requires taken { B.taken ≡ T.taken transport }
+        requires coming { B.coming ≡ T.coming transport }
+        requires made { B.made ≡ T.made transport }
+        ensures queue { result.queue ≡ queue }
+        ensures transport { result.transport ≡ transport }
+        ensures taken { result.taken.octets ≡ [] }
+    {
+        Outlet {
+            queue,
+            transport,
+            taken: Trail::new(),
+            of: PhantomData,
+        }
+    }
+
+    /// The event is over, and was answered so: the answer, and what is given back.
+    pub fn over<A>(self, answer: A) -> (A, Queue, T)
+        ensures answer { result.0 ≡ answer }
+        ensures queue { result.1 ≡ self.queue }
+        ensures transport { result.2 ≡ self.transport }
+    {
+        let Outlet {
+            queue,
+            transport,
+            taken: _,
+            of: _,
+        } = self;
+        (answer, queue, transport)
+    }
+
+    // Has all of the octets wait, or be taken at once, or where no more may wait a front of them.
+    fn put_all(&mut self, bytes: &[u8]) -> Result<(), SinkFault>
+        ensures all { OnOk result (carried self.new.taken self.new.queue ≡ carried self.old.taken self.old.queue ++ bytes.now) }
+        ensures some { OnErr result (PutsSome bytes.now self.old.taken self.old.queue self.new.taken self.new.queue) }
+        ensures failures { self.new.queue.failures ≡ self.old.queue.failures }
+    {
+        let mut rest = bytes;
+        while rest.len() > self.queue.room() {
+            let (now, later) = rest.split_at(self.queue.room());
+            self.queue.append(now)?;
+            rest = later;
+            if !self.send() {
+                return Err(SinkFault);
+            }
+        }
+        self.queue.append(rest)
+    }
+
+    // Asks the transport to take what waits. Whether it took any.
+    fn send(&mut self) -> bool
+        requires { length (waiting self.old.queue) ≡ 1048576 }
+        ensures carried { carried self.new.taken self.new.queue ≡ carried self.old.taken self.old.queue }
+        ensures took { result ≡ true → length (waiting self.new.queue) < 1048576 }
+        ensures none { result ≡ false → waiting self.new.queue ≡ waiting self.old.queue }
+        ensures failures { self.new.queue.failures ≡ self.old.queue.failures }
+    {
+        let octets = self.queue.as_slice();
+        match self.transport.send(octets) {
+            Ok(count) => {
+                self.taken.note(octets.split_at(count).0);
+                self.queue.pass(count);
+                count > 0
+            }
+            Err(_) => false,
+        }
+    }
+}
+
+impl<T: Transport, B: Beginning> Sink for Outlet<T, B> {
+    ghost use Rattle.std.specs.Prelude.{◌^◌, ◌-◌, ◌⊎◌, IsErr, OnErr};
+    ghost use Rattle.std.specs.Io.KnownBytes.{Appends};
+    ghost use Rattle.dict_io.specs.Streams.{Puts};
+    ghost use Rattle.dict_outlet.specs.Outlets.{PutsSome, stream_through};
+
+    ghost stream = { λ outlet. stream_through outlet.taken outlet.queue };
+
+    /// All of the octets wait then, or were taken at once. Where it fails a front of them was put: no more may wait, memory is
+    /// short, or it failed too often before.
+    fn put(&mut self, bytes: &[u8]) -> Result<(), SinkFault>
+        ensures put { Puts result (stream_through self.old.taken self.old.queue) (stream_through self.new.taken self.new.queue) bytes.now }
+        ensures worn_out { self.old.queue.failures ≡ 2 ^ 64 - 1
+            → IsErr result × Appends (stream_through self.old.taken self.old.queue).octets (stream_through self.new.taken self.new.queue).octets [] }
+        ensures some { OnErr result ((self.old.queue.failures ≡ 2 ^ 64 - 1) ⊎ PutsSome bytes.now self.old.taken self.old.queue self.new.taken self.new.queue) }
+    {
+        if self.queue.failures() == u64::MAX {
+            return Err(SinkFault);
+        }
+        match self.put_all(bytes) {
+            Ok(()) => Ok(()),
+            Err(fault) => {
+                self.queue.note_failure();
+                Err(fault)
+            }
+        }
+    }
+}
