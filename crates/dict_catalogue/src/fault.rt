@@ -2,7 +2,7 @@
 ghost use Rattle.std.specs.Prelude.{◌≡◌};
 ghost use Rattle.dict_catalogue.specs.Refusals.{refusal_number, refusal_name, text_of};
 
-use std::alloc::{AllocError, AllocFailed};
+use std::alloc::AllocError;
 use thiserror::Error;
 
 /// The test of a command that failed.
@@ -92,25 +92,5 @@ impl From<AllocError> for PlanFault {
 
     fn from(_: AllocError) -> Self {
         PlanFault::Memory
-    }
-}
-
-impl<T: Drop> From<AllocFailed<T>> for PlanFault {
-    ghost use Rattle.dict_catalogue.specs.declared.fault.PlanFault.TheVariants.{Memory};
-
-    ghost from_gives = { λ _ fault. fault ≡ Memory };
-
-    fn from(_: AllocFailed<T>) -> Self {
-        PlanFault::Memory
-    }
-}
-
-impl From<Refusal> for PlanFault {
-    ghost use Rattle.dict_catalogue.specs.declared.fault.PlanFault.TheVariants.{Refused};
-
-    ghost from_gives = { λ refusal fault. fault ≡ Refused refusal };
-
-    fn from(refusal: Refusal) -> Self {
-        PlanFault::Refused(refusal)
     }
 }

@@ -3,6 +3,7 @@ use Rattle.std.proofs.Common.{◌≡◌, ℕ, zero, suc, ◌+◌, ◌<◌, ◌�
 use Rattle.std.specs.Prelude.{Option, Some, None, slice_index_or}
 use Rattle.std.specs.List.{AllZip}
 use Rattle.dict_text.specs.Lines.{text_lines}
+use Rattle.dict_index.specs.Limits.{most_lines, most_octets}
 use Rattle.dict_index.specs.Line.{Line, IsLine}
 use Rattle.dict_index.specs.Edition.{ReadEdition}
 use Rattle.dict_index.specs.Reserved.{title_in, info_in}
@@ -45,7 +46,7 @@ module _ (index text : List ℕ) where
 
   -- the first test of the whole files that fails, if one does
   try_wholes : ((f : Refusal) × FailsWhole f index text) ⊎ PassWholes index text
-  try_wholes = try_each (λ f. PassesWhole f index text) whole_tests (at_most (length text) 16777216, (utf8 index, (ends index, (at_most (length (text_lines index)) 65536, tt))))
+  try_wholes = try_each (λ f. PassesWhole f index text) whole_tests (at_most (length text) most_octets, (utf8 index, (ends index, (at_most (length (text_lines index)) most_lines, tt))))
 
 -- what lines say that each say something
 all_say : (lines : List (List ℕ)) → ((k : ℕ) → k < length lines → (said : Line) × IsLine (slice_index_or lines k []) said) → (all_said : List Line) × AllZip IsLine lines all_said

@@ -1,14 +1,15 @@
 -- Lists of octets cut at an octet.
-use Rattle.std.proofs.Common.{◌≡◌, ◌≢◌, ℕ, zero, suc, ◌+◌, ◌-◌, ◌<◌, List, [], ◌∷◌, ◌++◌, length, take, drop, get_or, refl, ap, sym, ◌∙◌, subst, arith, cond, true, false, eq-eqb, eqb-true, append_assoc, add-one}
+use Rattle.std.proofs.Common.{◌≡◌, ◌≢◌, ℕ, zero, suc, ◌+◌, ◌-◌, ◌<◌, List, [], ◌∷◌, ◌++◌, length, take, drop, get_or, refl, ap, sym, ◌∙◌, subst, arith, cond, true, false, eq-eqb, eqb-true, append-nil, add-one, ◌⊎◌, inl, inr}
 use Rattle.std.proofs.lemmas.Bool.Decides.{nat_tests}
 use Rattle.std.proofs.lemmas.List.{take_rest, take-append-drop, length-take-le}
 use Rattle.std.proofs.lemmas.List.Sums.{sum_by-append, sum_by-cons}
 use Rattle.std.proofs.lemmas.Str.{IsUtf8-take, IsUtf8-drop, IsCharBoundary-before_ascii, IsCharBoundary-after_ascii}
 use Rattle.std.proofs.Math.Seq.{drop-cons, take-append_seam}
-use Rattle.std.specs.Prelude.{◌==◌, count_by}
+use Rattle.std.specs.Prelude.{◌==◌, count_by, Option, Some, None}
 use Rattle.std.specs.Str.{IsUtf8}
 use Rattle.memchr.specs.Find.{NoneBefore, Nowhere, Passes, is_byte}
-use Rattle.dict_index.specs.Cuts.{HasNo, IsCutAt, AreColumns}
+use Rattle.dict_index.specs.Line.{behind_tab}
+use Rattle.dict_index.specs.Cuts.{HasNo, IsCutAt, AreLast, AreColumns}
 
 -- what holds of each place is said by recursion
 pub has_no_from : (b : ℕ) (xs : List ℕ) → ((k : ℕ) → k < length xs → get_or xs k 0 ≢ b) → HasNo b xs
@@ -49,12 +50,33 @@ count_cut b xs ys zs h =
     let back : count_by (λ x. x == b) (b ∷ zs) ≡ 1 + count_by (λ x. x == b) zs = sum_by-cons (λ x. cond (x == b) 1 0) b zs ∙ ap (λ t. cond t 1 0 + count_by (λ x. x == b) zs) test in
     ap (count_by (λ x. x == b)) h.whole ∙ (sum_by-append (λ x. cond (x == b) 1 0) ys (b ∷ zs) ∙ omega (arith, front, back))
 
--- three columns have two tabs between them
-pub count_columns : (line h o t : List ℕ) → AreColumns line h o t → count_by (λ x. x == 9) line ≡ 2
-count_columns line h o t c =
-    let first = count_cut 9 line h (o ++ 9 ∷ t) (record { whole = c.whole ∙ append_assoc h (9 ∷ o) (9 ∷ t); none = c.first_none }) in
-    let second = count_cut 9 (o ++ 9 ∷ t) o t (record { whole = refl; none = c.second_none }) in
-    omega (arith, first, second, count_none 9 t c.third_none)
+-- the last columns have one tab at most, and all columns have two or three
+pub count_last : (rest t : List ℕ) (f : Option (List ℕ)) → AreLast rest t f → (count_by (λ x. x == 9) rest ≡ 0) ⊎ (count_by (λ x. x == 9) rest ≡ 1)
+count_last rest t None c = inl (ap (count_by (λ x. x == 9)) (c.whole ∙ append-nil t) ∙ count_none 9 t c.third_none)
+count_last rest t (Some column) c = inr (let more = count_cut 9 rest t column (record { whole = c.whole; none = c.third_none }) in omega (arith, more, count_none 9 column c.fourth_none))
+
+pub last_of : (line h o t : List ℕ) (f : Option (List ℕ)) → AreColumns line h o t f → AreLast (t ++ behind_tab f) t f
+last_of line h o t f c = record { whole = refl; third_none = c.third_none; fourth_none = c.fourth_none }
+
+pub count_columns : (line h o t : List ℕ) (f : Option (List ℕ)) → AreColumns line h o t f → (count_by (λ x. x == 9) line ≡ 2) ⊎ (count_by (λ x. x == 9) line ≡ 3)
+count_columns line h o t f c = by_last (count_last (t ++ behind_tab f) t f (last_of line h o t f c))
+  where
+    first : count_by (λ x. x == 9) line ≡ 1 + count_by (λ x. x == 9) (o ++ (9 ∷ t ++ behind_tab f))
+    first = count_cut 9 line h (o ++ (9 ∷ t ++ behind_tab f)) (record { whole = c.whole; none = c.first_none })
+
+    second : count_by (λ x. x == 9) (o ++ (9 ∷ t ++ behind_tab f)) ≡ 1 + count_by (λ x. x == 9) (t ++ behind_tab f)
+    second = count_cut 9 (o ++ (9 ∷ t ++ behind_tab f)) o (t ++ behind_tab f) (record { whole = refl; none = c.second_none })
+
+    by_last : (count_by (λ x. x == 9) (t ++ behind_tab f) ≡ 0) ⊎ (count_by (λ x. x == 9) (t ++ behind_tab f) ≡ 1) → (count_by (λ x. x == 9) line ≡ 2) ⊎ (count_by (λ x. x == 9) line ≡ 3)
+    by_last (inl none) = inl (omega (arith, first, second, none))
+    by_last (inr one) = inr (omega (arith, first, second, one))
+
+pub count_fourth : (line h o t column : List ℕ) → AreColumns line h o t (Some column) → count_by (λ x. x == 9) line ≡ 3
+count_fourth line h o t column c =
+    let first = count_cut 9 line h (o ++ (9 ∷ t ++ 9 ∷ column)) (record { whole = c.whole; none = c.first_none }) in
+    let second = count_cut 9 (o ++ (9 ∷ t ++ 9 ∷ column)) o (t ++ 9 ∷ column) (record { whole = refl; none = c.second_none }) in
+    let third = count_cut 9 (t ++ 9 ∷ column) t column (record { whole = refl; none = c.third_none }) in
+    omega (arith, first, second, third, count_none 9 column c.fourth_none)
 
 -- one list is cut at an octet in one way
 pub one_cut : (b : ℕ) (xs us ys vs : List ℕ) → HasNo b xs → HasNo b ys → xs ++ b ∷ us ≡ ys ++ b ∷ vs → (xs ≡ ys) × (us ≡ vs)
@@ -66,6 +88,17 @@ one_cut b (x ∷ xs) us (y ∷ ys) vs h k e =
     let tails : xs ++ b ∷ us ≡ ys ++ b ∷ vs = cc in
     let rest = one_cut b xs us ys vs h.1 k.1 tails in
     (ap (λ z. z ∷ xs) heads ∙ ap (λ l. y ∷ l) rest.0, rest.1)
+
+-- so is what stands behind two columns: the third, and the fourth where there is one
+no_seam : (b : ℕ) (xs ys : List ℕ) → HasNo b (xs ++ b ∷ ys) → ⊥
+no_seam b [] ys h = h.0 refl
+no_seam b (x ∷ xs) ys h = no_seam b xs ys h.1
+
+pub one_last : (s t : List ℕ) (f g : Option (List ℕ)) → HasNo 9 s → HasNo 9 t → s ++ behind_tab f ≡ t ++ behind_tab g → (s ≡ t) × (f ≡ g)
+one_last s t None None h k e = (sym (append-nil s) ∙ (e ∙ append-nil t), refl)
+one_last s t None (Some column) h k e = absurd (no_seam 9 t column (subst (HasNo 9) (sym (append-nil s) ∙ e) h))
+one_last s t (Some column) None h k e = absurd (no_seam 9 s column (subst (HasNo 9) (sym (append-nil t) ∙ sym e) k))
+one_last s t (Some column) (Some other) h k e = let parts = one_cut 9 s column t other h k e in (parts.0, ap Some parts.1)
 
 at_seam_lt : (xs : List ℕ) (b : ℕ) (ys : List ℕ) → length xs < length (xs ++ b ∷ ys)
 at_seam_lt [] b ys = omega arith

@@ -1,9 +1,9 @@
 -- Each test passes or fails.
-use Rattle.std.proofs.Common.{◌≡◌, ◌≢◌, ℕ, zero, suc, ◌+◌, ◌<◌, ◌≤◌, ◌⊎◌, inl, inr, Bool, true, false, List, [], ◌∷◌, ◌++◌, length, refl, sym, ap, ◌∙◌, arith, append_assoc}
+use Rattle.std.proofs.Common.{◌≡◌, ◌≢◌, ℕ, zero, suc, ◌+◌, ◌<◌, ◌≤◌, ◌⊎◌, inl, inr, Bool, true, false, List, [], ◌∷◌, ◌++◌, length, refl, sym, ap, ◌∙◌, arith, append-nil}
 use Rattle.std.proofs.lemmas.Bool.{cases_lt, cases_eq}
 use Rattle.std.proofs.lemmas.Slice.Eq.{bytes_eq-Decides}
 use Rattle.std.proofs.lemmas.Str.{IsUtf8-from_is_utf8, is_utf8-from_IsUtf8}
-use Rattle.std.specs.Prelude.{◌==◌, count_by, slice_index, IsTrue}
+use Rattle.std.specs.Prelude.{◌==◌, count_by, slice_index, IsTrue, Option, Some, None, IfSome, unwrap_or}
 use Rattle.std.specs.List.{AllByRecursion, AllZip}
 use Rattle.std.specs.Str.{IsUtf8, is_utf8, bytes_eq}
 use Rattle.dict_b64.specs.Number.{Spells, IsDigit, alphabet, number_of}
@@ -11,15 +11,15 @@ use Rattle.dict_b64.specs.Faults.{IsSomeDigit}
 use Rattle.dict_text.specs.Characters.{is_control, has_control}
 use Rattle.dict_text.specs.Lines.{text_lines}
 use Rattle.dict_match.specs.Key.{reserved_key_of}
-use Rattle.dict_index.specs.Cuts.{AreColumns}
+use Rattle.dict_index.specs.Cuts.{AreLast, AreColumns}
 use Rattle.dict_index.specs.Line.{Line, IsLine, body_in}
 use Rattle.dict_index.specs.Reserved.{is_reserved, is_known}
-use Rattle.dict_index.specs.Tests.{PassesLine, IfSays, IsHeadword, IsTextOctet, IsText, HasShortLines, NoneHasKey, IsTitle, EndsByLineFeed}
+use Rattle.dict_index.specs.Tests.{PassesLine, IfSays, IfFourth, IsHeadword, IsShown, IsTextOctet, IsText, HasShortLines, NoneHasKey, IsTitle, EndsByLineFeed}
 use Rattle.dict_index.specs.declared.fault.Refusal.{Refusal}
-use Rattle.dict_index.specs.declared.fault.Refusal.TheVariants.{Columns, Number, Interval, Headword, BodyText, BodyLine, Reserved, ReservedTwice}
+use Rattle.dict_index.specs.declared.fault.Refusal.TheVariants.{Columns, Number, Interval, Headword, Shown, BodyText, BodyLine, Reserved, ReservedTwice}
 use Rattle.dict_index.proofs.CutLemmas.{count_none, count_cut, count_columns}
 use Rattle.dict_index.proofs.TextLemmas.{cut_or_none}
-use Rattle.dict_index.proofs.LineLemmas.{spelled_no_tab, columns_of_line, if_says}
+use Rattle.dict_index.proofs.LineLemmas.{columns_of_line, columns_from_line, if_says, if_fourth}
 
 -- it holds or it doesn't
 abbrev pub Decided : Type 0 → Type 0
@@ -129,50 +129,79 @@ spelled s = same_as (Digits s × IsShort s) ((n : ℕ) × Spells s n)
     (λ h. ((h.1.values, h.1.digits), (h.1.some, (h.1.short, h.1.shortest))))
     (both (Digits s) (IsShort s) (digits s) (is_short s))
 
--- the columns of a line, or it hasn't two tabs
-HasColumns : List ℕ → Type 0
-HasColumns line = (h : List ℕ) × (o : List ℕ) × (s : List ℕ) × AreColumns line h o s
+-- the last columns, or there are two tabs or more
+HasLast : List ℕ → Type 0
+HasLast rest = (s : List ℕ) × (f : Option (List ℕ)) × AreLast rest s f
 
-columns : (line : List ℕ) → HasColumns line ⊎ (count_by (λ x. x == 9) line ≢ 2)
-unfolding HasColumns
-columns line = elim (cut_or_none 9 line) [
-  | inl none ↦ inr (λ e. omega (arith, e, count_none 9 line none))
+last_columns : (rest : List ℕ) → HasLast rest ⊎ (2 ≤ count_by (λ x. x == 9) rest)
+unfolding HasLast
+last_columns rest = elim (cut_or_none 9 rest) [
+  | inl none ↦ inl (rest, None, record { whole = sym (append-nil rest); third_none = none; fourth_none = tt })
   | inr c ↦ (elim (cut_or_none 9 c.1) [
-    | inl none ↦ inr (λ e. omega (arith, e, count_cut 9 line c.0 c.1 c.2, count_none 9 c.1 none))
-    | inr d ↦ (elim (cut_or_none 9 d.1) [
-      | inl none ↦ inl (
+    | inl none ↦ inl (c.0, Some c.1, record { whole = c.2.whole; third_none = c.2.none; fourth_none = none })
+    | inr d ↦ inr (omega (arith, count_cut 9 rest c.0 c.1 c.2, count_cut 9 c.1 d.0 d.1 d.2))
+  ])
+]
+
+-- the columns of a line, or it hasn't two tabs or three
+HasColumns : List ℕ → Type 0
+HasColumns line = (h : List ℕ) × (o : List ℕ) × (s : List ℕ) × (f : Option (List ℕ)) × AreColumns line h o s f
+
+HasOtherTabs : List ℕ → Type 0
+HasOtherTabs line = (count_by (λ x. x == 9) line ≢ 2) × (count_by (λ x. x == 9) line ≢ 3)
+
+columns : (line : List ℕ) → HasColumns line ⊎ HasOtherTabs line
+unfolding HasColumns HasLast HasOtherTabs
+columns line = elim (cut_or_none 9 line) [
+  | inl none ↦ inr ((λ e. omega (arith, e, count_none 9 line none)), (λ e. omega (arith, e, count_none 9 line none)))
+  | inr c ↦ (elim (cut_or_none 9 c.1) [
+    | inl none ↦ inr ((λ e. omega (arith, e, count_cut 9 line c.0 c.1 c.2, count_none 9 c.1 none)), (λ e. omega (arith, e, count_cut 9 line c.0 c.1 c.2, count_none 9 c.1 none)))
+    | inr d ↦ (elim (last_columns d.1) [
+      | inl last ↦ inl (
         c.0,
         d.0,
-        d.1,
+        last.0,
+        last.1,
         record {
-          whole = c.2.whole ∙ (ap (λ l. c.0 ++ 9 ∷ l) d.2.whole ∙ sym (append_assoc c.0 (9 ∷ d.0) (9 ∷ d.1)));
+          whole = c.2.whole ∙ ap (λ l. c.0 ++ 9 ∷ l) (d.2.whole ∙ ap (λ l. d.0 ++ 9 ∷ l) last.2.whole);
           first_none = c.2.none;
           second_none = d.2.none;
-          third_none = none;
+          third_none = last.2.third_none;
+          fourth_none = last.2.fourth_none;
         },
       )
-      | inr f ↦ inr (λ e. omega (arith, e, count_cut 9 line c.0 c.1 c.2, count_cut 9 c.1 d.0 d.1 d.2, count_cut 9 d.1 f.0 f.1 f.2))
+      | inr more ↦ inr ((λ e. omega (arith, e, count_cut 9 line c.0 c.1 c.2, count_cut 9 c.1 d.0 d.1 d.2)), (λ e. omega (arith, e, count_cut 9 line c.0 c.1 c.2, count_cut 9 c.1 d.0 d.1 d.2)))
     ])
   ])
 ]
 
-columns_in : (line : List ℕ) (said : Line) (l : IsLine line said) → AreColumns line said.headword l.offset_text l.size_text
-columns_in line said l = record { whole = l.whole; first_none = l.no_tab; second_none = spelled_no_tab l.offset_text said.offset l.offset; third_none = spelled_no_tab l.size_text said.size l.size }
-
 -- what a line says, or it says nothing
 pub says : (line : List ℕ) → Decided ((said : Line) × IsLine line said)
-unfolding HasColumns
+unfolding HasColumns HasOtherTabs
 says line = elim (columns line) [
-  | inr other ↦ inr (λ h. other (count_columns line h.0.headword h.1.offset_text h.1.size_text (columns_in line h.0 h.1)))
+  | inr other ↦ inr (λ h. elim (count_columns line h.0.headword h.1.offset_text h.1.size_text h.1.fourth (columns_from_line line h.0 h.1)) [ inl two ↦ other.0 two | inr three ↦ other.1 three ])
   | inl c ↦ same_as (((m : ℕ) × Spells c.1 m) × ((n : ℕ) × Spells c.2 n)) ((said : Line) × IsLine line said)
-      (λ h. (record { headword = c.0; offset = h.0.0; size = h.1.0 }, record { offset_text = c.1; size_text = c.2; whole = c.3.whole; no_tab = c.3.first_none; offset = h.0.1; size = h.1.1 }))
-      (λ h. let parts = columns_of_line line c.0 c.1 c.2 h.0 c.3 h.1 in ((h.0.offset, parts.1), (h.0.size, parts.2)))
+      (λ h. (
+        record { headword = c.0; offset = h.0.0; size = h.1.0; shown = unwrap_or c.3 c.0 },
+        record { offset_text = c.1; size_text = c.2; fourth = c.3; whole = c.4.whole; no_tab = c.4.first_none; fourth_no_tab = c.4.fourth_none; offset = h.0.1; size = h.1.1; shown = refl },
+      ))
+      (λ h. let parts = columns_of_line line c.0 c.1 c.2 c.3 h.0 c.4 h.1 in ((h.0.offset, parts.1), (h.0.size, parts.2)))
       (both ((m : ℕ) × Spells c.1 m) ((n : ℕ) × Spells c.2 n) (spelled c.1) (spelled c.2))
 ]
 
 if_it_says : (line : List ℕ) (P : Line → Type 0) → ((said : Line) → Decided (P said)) → Decided (IfSays line P)
 if_it_says line P d = elim (says line) [
   | inl s ↦ same_as (P s.0) (IfSays line P) (λ p. if_says line s.0 P s.1 p) (λ f. f s.0 s.1) (d s.0)
+  | inr silent ↦ inl (λ said l. absurd (silent (said, l)))
+]
+
+if_some : (o : Option (List ℕ)) (P : List ℕ → Type 0) → ((octets : List ℕ) → Decided (P octets)) → Decided (IfSome o P)
+if_some None P d = inl tt
+if_some (Some octets) P d = d octets
+
+if_it_has_fourth : (line : List ℕ) (P : List ℕ → Type 0) → ((octets : List ℕ) → Decided (P octets)) → Decided (IfFourth line P)
+if_it_has_fourth line P d = elim (says line) [
+  | inl s ↦ same_as (IfSome s.1.fourth P) (IfFourth line P) (λ p. if_fourth line s.0 P s.1 p) (λ f. f s.0 s.1) (if_some s.1.fourth P d)
   | inr silent ↦ inl (λ said l. absurd (silent (said, l)))
 ]
 
@@ -185,6 +214,11 @@ is_headword h = same_as ((1 ≤ length h) × ((length h ≤ 255) × ((has_contro
     (both (1 ≤ length h) ((length h ≤ 255) × ((has_control h ≡ false) × (reserved_key_of h ≢ []))) (at_most 1 (length h))
     (both (length h ≤ 255) ((has_control h ≡ false) × (reserved_key_of h ≢ [])) (at_most (length h) 255)
     (both ((has_control h ≡ false)) (reserved_key_of h ≢ []) (no_control h) (opposite (reserved_key_of h ≡ []) (same_list (reserved_key_of h) [])))))
+
+is_shown : (h : List ℕ) → Decided (IsShown h)
+is_shown h = same_as ((1 ≤ length h) × ((length h ≤ 255) × (has_control h ≡ false))) (IsShown h)
+    (λ p. (p.0, p.1.0, p.1.1)) (λ p. (p.0, (p.1, p.2)))
+    (both (1 ≤ length h) ((length h ≤ 255) × (has_control h ≡ false)) (at_most 1 (length h)) (both (length h ≤ 255) ((has_control h ≡ false)) (at_most (length h) 255) (no_control h)))
 
 pub is_title : (t : List ℕ) → Decided (IsTitle t)
 is_title t = same_as ((1 ≤ length t) × ((length t ≤ 200) × (has_control t ≡ false))) (IsTitle t)
@@ -204,10 +238,11 @@ none_has_key lines key = all (λ line. IfSays line (λ said. reserved_key_of sai
 
 -- a test of a line
 pub line_test : (f : Refusal) (text : List ℕ) (before : List (List ℕ)) (line : List ℕ) → Decided (PassesLine f text before line)
-line_test Columns text before line = cases_eq (count_by (λ octet. octet == 9) line) 2
+line_test Columns text before line = either (count_by (λ octet. octet == 9) line ≡ 2) (count_by (λ octet. octet == 9) line ≡ 3) (cases_eq (count_by (λ octet. octet == 9) line) 2) (cases_eq (count_by (λ octet. octet == 9) line) 3)
 line_test Number text before line = says line
 line_test Interval text before line = if_it_says line (λ said. said.offset + said.size ≤ length text) (λ said. at_most (said.offset + said.size) (length text))
 line_test Headword text before line = if_it_says line (λ said. IsHeadword said.headword) (λ said. is_headword said.headword)
+line_test Shown text before line = if_it_has_fourth line IsShown is_shown
 line_test BodyText text before line = if_it_says line (λ said. IsText (body_in text said)) (λ said. is_text (body_in text said))
 line_test BodyLine text before line = if_it_says line (λ said. HasShortLines (body_in text said)) (λ said. all (λ l. length l ≤ 1021) (λ l. at_most (length l) 1021) (text_lines (body_in text said)))
 line_test Reserved text before line = if_it_says line (λ said. IsTrue (is_reserved (reserved_key_of said.headword)) → IsTrue (is_known (reserved_key_of said.headword)))

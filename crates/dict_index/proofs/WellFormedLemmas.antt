@@ -1,11 +1,11 @@
 -- An edition that was read keeps the limits of editions.
-use Rattle.std.proofs.Common.{◌≡◌, ℕ, suc, ◌+◌, ◌<◌, ◌≤◌, ◌⊎◌, inl, inr, Bool, true, false, List, [], ◌∷◌, ◌++◌, length, map, refl, sym, ap, ◌∙◌, subst, arith, cond, append_assoc}
+use Rattle.std.proofs.Common.{◌≡◌, ℕ, suc, ◌+◌, ◌<◌, ◌≤◌, ◌⊎◌, inl, inr, Bool, true, false, List, [], ◌∷◌, length, map, refl, sym, ap, ◌∙◌, subst, arith, cond}
 use Rattle.std.proofs.lemmas.Bool.{and_from}
 use Rattle.std.proofs.lemmas.Bool.Decides.{nat_tests}
 use Rattle.std.proofs.lemmas.List.{length-map}
 use Rattle.std.proofs.lemmas.Slice.Eq.{bytes_eq-Decides}
 use Rattle.std.proofs.lemmas.Str.{IsUtf8-nil}
-use Rattle.std.specs.Prelude.{not, nat_le, Option, Some, None, IfSome, find, slice_get, slice_index_or}
+use Rattle.std.specs.Prelude.{not, nat_le, count_by, ◌==◌, Option, Some, None, IfSome, unwrap_or, find, slice_get, slice_index_or}
 use Rattle.std.specs.List.{AllByRecursion, AllZip}
 use Rattle.std.specs.Option.{option_map}
 use Rattle.std.specs.Str.{IsUtf8, bytes_eq}
@@ -14,19 +14,22 @@ use Rattle.dict_text.specs.Blanks.{without_blanks_at_ends}
 use Rattle.dict_text.specs.Lines.{text_lines}
 use Rattle.dict_name.specs.Names.{first_passes, last_passes, is_title}
 use Rattle.dict_match.specs.Key.{reserved_key_of}
-use Rattle.dict_index.specs.Cuts.{HasNo, IsCutAt}
+use Rattle.dict_index.specs.Cuts.{HasNo, IsCutAt, AreColumns}
+use Rattle.dict_index.specs.Limits.{most_lines, most_octets, most_entries}
 use Rattle.dict_index.specs.Line.{Line, IsLine, body_in}
 use Rattle.dict_index.specs.Reserved.{is_reserved, without_key_line, title_from, info_from, text_under, short_key, info_key}
-use Rattle.dict_index.specs.Edition.{Edition, ReadEdition, entry_in, edition_of}
-use Rattle.dict_index.specs.Tests.{IfSays, IsHeadword, IsTextOctet, IsTitle, line_at}
+use Rattle.dict_index.specs.Edition.{Edition, ReadEdition, ShowsHeadwords, entry_in, edition_of}
+use Rattle.dict_index.specs.Tests.{IfSays, IsHeadword, IsShown, IsTextOctet, IsTitle, line_at}
 use Rattle.dict_index.specs.Order.{rank, IsOfLine}
-use Rattle.dict_index.specs.Meaning.{IsReadEdition, IsEdition, entry_lines}
+use Rattle.dict_index.specs.Meaning.{IsReadEdition, IsEdition, HaveThreeColumns, entry_lines}
 use Rattle.dict_index.specs.Views.{line_of, LiesIn}
 use Rattle.dict_index.specs.declared.entry.Entry.{Entry as ReadEntry}
-use Rattle.dict_index.specs.WellFormed.{IsEditionTitle, IsEditionText, IsWellFormedEntry, IsWellFormedEdition}
-use Rattle.dict_index.specs.declared.fault.Refusal.TheVariants.{IndexNotUtf8, Headword, BodyText, BodyLine, BadTitle, TooManyEntries, TextTooLong, Interval}
+use Rattle.dict_index.specs.WellFormed.{IsEditionTitle, IsEditionText, IsEntryShown, IsWellFormedEntry, IsWellFormedEdition}
+use Rattle.dict_index.specs.declared.fault.Refusal.TheVariants.{IndexNotUtf8, Headword, Shown, BodyText, BodyLine, BadTitle, TooManyEntries, TextTooLong, Interval}
 use Rattle.dict_text.proofs.AllLemmas.{all_at, all_weaker, all_filter, all_append_parts}
-use Rattle.dict_index.proofs.CutLemmas.{utf8_parts}
+use Rattle.dict_index.proofs.CutLemmas.{utf8_parts, count_fourth}
+use Rattle.dict_index.proofs.LineLemmas.{columns_from_line}
+use Rattle.dict_index.proofs.ReadLemmas.{headword_utf8, fourth_utf8}
 use Rattle.dict_index.proofs.TextLemmas.{first_line_cut, key_line_cut, other_line_cut, key_line_whole, other_line_whole, cut_or_none, lines_utf8}
 use Rattle.dict_index.proofs.TrimLemmas.{trimmed_utf8, trimmed_first, trimmed_last}
 
@@ -116,7 +119,12 @@ info_keeps (Some octets) h = rest_keeps info_key octets (h octets refl)
 
 -- what a line says of an entry, its key aside
 abbrev IsGoodLine : List ℕ → Line → Type 0
-IsGoodLine text said = IsUtf8 said.headword × IsHeadword said.headword × IsEditionText (body_in text said)
+IsGoodLine text said = IsUtf8 said.headword × IsHeadword said.headword × IsEditionText (body_in text said) × IsEntryShown said.shown
+
+-- what is shown is a good fourth column, or a good headword
+shown_good : (headword : List ℕ) (fourth : Option (List ℕ)) → IsUtf8 headword → IsHeadword headword → IfSome fourth IsUtf8 → IfSome fourth IsShown → IsEntryShown (unwrap_or fourth headword)
+shown_good headword None u h v k = (u, (h.0, h.1, h.2))
+shown_good headword (Some column) u h v k = (v, k)
 
 -- the lines that make entries make well formed ones
 entries_good : (text : List ℕ) (said : List Line) → AllByRecursion (IsGoodLine text) said → AllByRecursion IsWellFormedEntry (map (entry_in text) (entry_lines said))
@@ -125,7 +133,7 @@ entries_good text (s ∷ said) h = by_key (is_reserved (reserved_key_of s.headwo
   where
     by_key : (b : Bool) → is_reserved (reserved_key_of s.headword) ≡ b → AllByRecursion IsWellFormedEntry (map (entry_in text) (entry_lines said)) → AllByRecursion IsWellFormedEntry (map (entry_in text) (cond (not b) (s ∷ entry_lines said) (entry_lines said)))
     by_key true e later = later
-    by_key false e later = (record { headword = (h.0.0, h.0.1, e); body = h.0.2 }, later)
+    by_key false e later = (record { headword = (h.0.0, h.0.1, e); shown = h.0.3; body = h.0.2 }, later)
 
 -- a reserved line makes no entry, so there are fewer entries than lines
 entries_few : (said : List Line) → length (entry_lines said) ≤ length said
@@ -176,13 +184,21 @@ unfolding rank
 text_no_line o = let low = o.0 in omega arith
 
 module _ (index text : List ℕ) (reading : ReadEdition) (h : IsReadEdition index text reading) where
+  line_utf8 : (k : ℕ) → k < length (text_lines index) → IsUtf8 (line_at index k)
+  line_utf8 k lt = all_at IsUtf8 (text_lines index) k [] (lines_utf8 index (h.passes IndexNotUtf8 k (λ o. lt)).0) lt
+
   good_lines : AllByRecursion (IsGoodLine text) h.lines
-  good_lines = said_all (IsGoodLine text) (text_lines index) h.lines h.said (λ k lt said l. (
-    (utf8_parts (line_at index k) said.headword (l.offset_text ++ 9 ∷ l.size_text) 9 (l.whole ∙ append_assoc said.headword (9 ∷ l.offset_text) (9 ∷ l.size_text)) (omega arith)
-        (all_at IsUtf8 (text_lines index) k [] (lines_utf8 index (h.passes IndexNotUtf8 k (λ o. lt)).0) lt)).0,
-    (h.passes Headword k (λ o. lt)).1 said l,
-    ((h.passes BodyText k (λ o. lt)).1 said l, (h.passes BodyLine k (λ o. lt)).1 said l),
-  ))
+  good_lines = said_all (IsGoodLine text) (text_lines index) h.lines h.said (λ k lt said l.
+      let utf8 = line_utf8 k lt in
+      let columns = columns_from_line (line_at index k) said l in
+      let headword = headword_utf8 (line_at index k) said.headword l.offset_text l.size_text l.fourth utf8 columns in
+      let lawful = (h.passes Headword k (λ o. lt)).1 said l in (
+        headword,
+        lawful,
+        ((h.passes BodyText k (λ o. lt)).1 said l, (h.passes BodyLine k (λ o. lt)).1 said l),
+        subst IsEntryShown (sym l.shown)
+            (shown_good said.headword l.fourth headword lawful (fourth_utf8 (line_at index k) said.headword l.offset_text l.size_text l.fourth utf8 columns) ((h.passes Shown k (λ o. lt)).1 said l)),
+      ))
 
   good_bodies : AllByRecursion (λ said. IsEditionText (body_in text said)) h.lines
   good_bodies = all_weaker (IsGoodLine text) (λ said. IsEditionText (body_in text said)) (λ said good. good.2) h.lines good_lines
@@ -205,10 +221,10 @@ module _ (index text : List ℕ) (reading : ReadEdition) (h : IsReadEdition inde
       subst (λ (t : List ℕ). AllByRecursion IsWellFormedEntry (map (entry_in t) reading.lines)) (sym h.whole)
       (subst (λ (ls : List Line). AllByRecursion IsWellFormedEntry (map (entry_in text) ls)) (sym h.entries) (entries_good text h.lines good_lines))
 
-  few_entries : length (map (entry_in reading.text) reading.lines) ≤ 65535
+  few_entries : length (map (entry_in reading.text) reading.lines) ≤ most_entries
   few_entries =
       let fewer = under_fewer short_key text h.lines short.0 refl short.1 in
-      let lines : length (text_lines index) ≤ 65536 = (h.passes TooManyEntries 0 (λ o. absurd (entries_no_line o))).0 in
+      let lines : length (text_lines index) ≤ most_lines = (h.passes TooManyEntries 0 (λ o. absurd (entries_no_line o))).0 in
       let same = as_many (text_lines index) h.lines h.said in
       omega (arith, length-map reading.lines (entry_in reading.text), ap length h.entries)
 
@@ -228,8 +244,36 @@ intervals_within index reading h entries e = each entries (subst (AllByRecursion
     each [] all = tt
     each (x ∷ es) all = (all.0, each es all.1)
 
-pub text_few : (index : List ℕ) (reading : ReadEdition) → IsReadEdition index reading.text reading → length reading.text ≤ 16777216
+pub text_few : (index : List ℕ) (reading : ReadEdition) → IsReadEdition index reading.text reading → length reading.text ≤ most_octets
 text_few index reading h = (h.passes TextTooLong 0 (λ o. absurd (text_no_line o))).0
 
 pub said_well_formed : (index text : List ℕ) (edition : Edition) → IsEdition index text edition → IsWellFormedEdition edition
 said_well_formed index text edition h = subst IsWellFormedEdition (sym h.2) (well_formed index text h.0 h.1)
+
+-- lines without a fourth column show their headwords
+unfourth : (line : List ℕ) (said : Line) → IsLine line said → count_by (λ octet. octet == 9) line ≡ 2 → said.shown ≡ said.headword
+unfourth line said l two = by_fourth l.fourth refl
+  where
+    by_fourth : (f : Option (List ℕ)) → l.fourth ≡ f → said.shown ≡ said.headword
+    by_fourth None e = l.shown ∙ ap (λ f. unwrap_or f said.headword) e
+    by_fourth (Some column) e = absurd (
+        let c = subst (AreColumns line said.headword l.offset_text l.size_text) e (columns_from_line line said l) in
+        omega (arith, two, count_fourth line said.headword l.offset_text l.size_text column c)
+        )
+
+said_unfourth : (lines : List (List ℕ)) (said : List Line) → AllZip IsLine lines said → AllByRecursion (λ line. count_by (λ octet. octet == 9) line ≡ 2) lines → AllByRecursion (λ line. line.shown ≡ line.headword) said
+said_unfourth [] [] are h = tt
+said_unfourth [] (s ∷ said) are h = absurd are
+said_unfourth (line ∷ lines) [] are h = absurd are
+said_unfourth (line ∷ lines) (s ∷ said) are h = (unfourth line s are.0 h.0, said_unfourth lines said are.1 h.1)
+
+entries_unfourth : (text : List ℕ) (lines : List Line) → AllByRecursion (λ line. line.shown ≡ line.headword) lines → AllByRecursion (λ entry. entry.shown ≡ entry.headword) (map (entry_in text) lines)
+entries_unfourth text [] h = tt
+entries_unfourth text (line ∷ lines) h = (h.0, entries_unfourth text lines h.1)
+
+pub headwords_shown : (index text : List ℕ) (edition : Edition) → IsEdition index text edition → HaveThreeColumns index → ShowsHeadwords edition
+headwords_shown index text edition h three =
+    let reading = h.0 in
+    let said = said_unfourth (text_lines index) h.1.lines h.1.said three in
+    let lines = subst (AllByRecursion (λ line. line.shown ≡ line.headword)) (sym h.1.entries) (all_filter (λ line. line.shown ≡ line.headword) (λ line. not (is_reserved (reserved_key_of line.headword))) h.1.lines said) in
+    subst ShowsHeadwords (sym h.2) (entries_unfourth reading.text reading.lines lines)

@@ -2,7 +2,7 @@
 use Rattle.std.proofs.Common.{◌≡◌, ◌≢◌, ℕ, zero, suc, ◌+◌, ◌<◌, ◌≤◌, inl, inr, Bool, true, false, List, [], ◌∷◌, ◌++◌, length, take, refl, sym, ◌∙◌, subst, arith, eqb-true}
 use Rattle.std.proofs.lemmas.Bool.{and_parts, or_cases, leb-true, eqb-false, not-true}
 use Rattle.std.proofs.lemmas.Str.{IsUtf8-from_is_utf8}
-use Rattle.std.specs.Prelude.{◌==◌, ◌&&◌, ◌||◌, not, nat_le, count_by, codes, slice_index, slice_index_or, IsTrue, Some}
+use Rattle.std.specs.Prelude.{◌==◌, ◌&&◌, ◌||◌, not, nat_le, count_by, codes, slice_index, slice_index_or, IsTrue, Some, None, IfSome}
 use Rattle.std.specs.List.{AllByRecursion, AllZip, list_all}
 use Rattle.std.specs.Str.{is_utf8, chars}
 use lib.Utf8.{encode}
@@ -12,18 +12,19 @@ use Rattle.dict_text.specs.Lines.{text_lines}
 use Rattle.dict_match.specs.Key.{reserved_key_of}
 use Rattle.dict_match.proofs.Computing.{keys}
 use Rattle.dict_index.specs.Cuts.{HasNo}
+use Rattle.dict_index.specs.Limits.{most_lines, most_octets}
 use Rattle.dict_index.specs.Line.{Line, IsLine, body_in}
 use Rattle.dict_index.specs.Reserved.{is_reserved, is_known, title_in}
-use Rattle.dict_index.specs.Tests.{PassesLine, IsHeadword, IsText, IsTextOctet, HasShortLines, IsTitle, NoneHasKey}
+use Rattle.dict_index.specs.Tests.{PassesLine, IsHeadword, IsShown, IsText, IsTextOctet, HasShortLines, IsTitle, NoneHasKey}
 use Rattle.dict_index.specs.Meaning.{IsReadEdition}
 use Rattle.dict_index.specs.Refused.{PassesEach, PassLines, PassWholes}
 use Rattle.dict_index.specs.Refusals.{line_tests}
 use Rattle.dict_index.specs.Worked.{worked_index, worked_text, worked_reading, opal, fire_opal, dot}
 use Rattle.dict_index.specs.declared.fault.Refusal.{Refusal}
-use Rattle.dict_index.specs.declared.fault.Refusal.TheVariants.{Columns, Number, Interval, Headword, BodyText, BodyLine, Reserved, ReservedTwice}
+use Rattle.dict_index.specs.declared.fault.Refusal.TheVariants.{Columns, Number, Interval, Headword, Shown, BodyText, BodyLine, Reserved, ReservedTwice}
 use Rattle.dict_text.proofs.AllLemmas.{all_of}
 use Rattle.dict_index.proofs.GatherLemmas.{known_is_reserved}
-use Rattle.dict_index.proofs.LineLemmas.{if_says}
+use Rattle.dict_index.proofs.LineLemmas.{if_says, if_fourth}
 use Rattle.dict_index.proofs.MeaningLemmas.{all_pass}
 
 -- what a test computes of each element
@@ -79,23 +80,24 @@ good headword body text e =
     }
 
 -- a line that passes
-passes_by : (text : List ℕ) (before : List (List ℕ)) (line : List ℕ) (said : Line) → IsLine line said → count_by (λ octet. octet == 9) line ≡ 2 → nat_le (said.offset + said.size) (length text) ≡ true
+passes_by : (text : List ℕ) (before : List (List ℕ)) (line : List ℕ) (said : Line) (l : IsLine line said) → l.fourth ≡ None → count_by (λ octet. octet == 9) line ≡ 2 → nat_le (said.offset + said.size) (length text) ≡ true
     → Good said.headword (body_in text said) → reserved_key_of said.headword ≢ [] → PassesLine Reserved text before line → PassesLine ReservedTwice text before line → (f : Refusal) → PassesLine f text before line
-passes_by text before line said l tabs within g key reserved twice Columns = tabs
-passes_by text before line said l tabs within g key reserved twice Number = (said, l)
-passes_by text before line said l tabs within g key reserved twice Interval = if_says line said (λ said. said.offset + said.size ≤ length text) l (leb-true _ _ within)
-passes_by text before line said l tabs within g key reserved twice Headword = if_says line said (λ said. IsHeadword said.headword) l (g.some, g.few, g.plain, key)
-passes_by text before line said l tabs within g key reserved twice BodyText = if_says line said (λ said. IsText (body_in text said)) l g.is_text
-passes_by text before line said l tabs within g key reserved twice BodyLine = if_says line said (λ said. HasShortLines (body_in text said)) l g.short
-passes_by text before line said l tabs within g key reserved twice Reserved = reserved
-passes_by text before line said l tabs within g key reserved twice ReservedTwice = twice
-passes_by text before line said l tabs within g key reserved twice _ = tt
+passes_by text before line said l three tabs within g key reserved twice Columns = inl tabs
+passes_by text before line said l three tabs within g key reserved twice Number = (said, l)
+passes_by text before line said l three tabs within g key reserved twice Interval = if_says line said (λ said. said.offset + said.size ≤ length text) l (leb-true _ _ within)
+passes_by text before line said l three tabs within g key reserved twice Headword = if_says line said (λ said. IsHeadword said.headword) l (g.some, g.few, g.plain, key)
+passes_by text before line said l three tabs within g key reserved twice Shown = if_fourth line said IsShown l (subst (λ f. IfSome f IsShown) (sym three) tt)
+passes_by text before line said l three tabs within g key reserved twice BodyText = if_says line said (λ said. IsText (body_in text said)) l g.is_text
+passes_by text before line said l three tabs within g key reserved twice BodyLine = if_says line said (λ said. HasShortLines (body_in text said)) l g.short
+passes_by text before line said l three tabs within g key reserved twice Reserved = reserved
+passes_by text before line said l three tabs within g key reserved twice ReservedTwice = twice
+passes_by text before line said l three tabs within g key reserved twice _ = tt
 
 -- a line whose key isn't reserved
-entry_passes : (text : List ℕ) (before : List (List ℕ)) (line : List ℕ) (said : Line) → IsLine line said → count_by (λ octet. octet == 9) line ≡ 2 → nat_le (said.offset + said.size) (length text) ≡ true
+entry_passes : (text : List ℕ) (before : List (List ℕ)) (line : List ℕ) (said : Line) (l : IsLine line said) → l.fourth ≡ None → count_by (λ octet. octet == 9) line ≡ 2 → nat_le (said.offset + said.size) (length text) ≡ true
     → is_good said.headword (body_in text said) text ≡ true → reserved_key_of said.headword ≢ [] → is_reserved (reserved_key_of said.headword) ≡ false → (f : Refusal) → PassesLine f text before line
-entry_passes text before line said l tabs within g key free f =
-    passes_by text before line said l tabs within (good _ _ text g) key
+entry_passes text before line said l three tabs within g key free f =
+    passes_by text before line said l three tabs within (good _ _ text g) key
     (if_says line said (λ said. IsTrue (is_reserved (reserved_key_of said.headword)) → IsTrue (is_known (reserved_key_of said.headword))) l (λ e. absurd (reserved e)))
     (if_says line said (λ said. IsTrue (is_known (reserved_key_of said.headword)) → NoneHasKey before (reserved_key_of said.headword)) l (λ e. absurd (reserved (known_is_reserved (reserved_key_of said.headword) e)))) f
   where
@@ -103,10 +105,10 @@ entry_passes text before line said l tabs within g key free f =
     reserved e = let bad : false ≡ true = sym free ∙ e in cc
 
 -- the first line, whose key is known
-first_passes : (text line : List ℕ) (said : Line) → IsLine line said → count_by (λ octet. octet == 9) line ≡ 2 → nat_le (said.offset + said.size) (length text) ≡ true
+first_passes : (text line : List ℕ) (said : Line) (l : IsLine line said) → l.fourth ≡ None → count_by (λ octet. octet == 9) line ≡ 2 → nat_le (said.offset + said.size) (length text) ≡ true
     → is_good said.headword (body_in text said) text ≡ true → reserved_key_of said.headword ≢ [] → is_known (reserved_key_of said.headword) ≡ true → (f : Refusal) → PassesLine f text [] line
-first_passes text line said l tabs within g key known f =
-    passes_by text [] line said l tabs within (good _ _ text g) key
+first_passes text line said l three tabs within g key known f =
+    passes_by text [] line said l three tabs within (good _ _ text g) key
     (if_says line said (λ said. IsTrue (is_reserved (reserved_key_of said.headword)) → IsTrue (is_known (reserved_key_of said.headword))) l (λ e. known))
     (λ other k e. tt) f
 
@@ -117,11 +119,11 @@ one_digit byte value small e = record { values = value ∷ []; digits = ((small,
 no_tab : (h : List ℕ) → list_all (λ x. not (x == 9)) h ≡ true → HasNo 9 h
 no_tab h e = all_from (λ x. x ≢ 9) (λ x. not (x == 9)) (λ x t. eqb-false x 9 (not-true (x == 9) t)) h e
 
-says_digits : (line h : List ℕ) (o s m n : ℕ) → line ≡ h ++ 9 ∷ (o ∷ []) ++ 9 ∷ (s ∷ []) → list_all (λ x. not (x == 9)) h ≡ true → m < 64 → o ≡ slice_index alphabet m → n < 64 → s ≡ slice_index alphabet n → IsLine line (record { headword = h; offset = m; size = n })
-says_digits line h o s m n whole none m_small o_is n_small s_is = record { offset_text = o ∷ []; size_text = s ∷ []; whole = whole; no_tab = no_tab h none; offset = one_digit o m m_small o_is; size = one_digit s n n_small s_is }
+says_digits : (line h : List ℕ) (o s m n : ℕ) → line ≡ h ++ (9 ∷ o ∷ 9 ∷ s ∷ []) → list_all (λ x. not (x == 9)) h ≡ true → m < 64 → o ≡ slice_index alphabet m → n < 64 → s ≡ slice_index alphabet n → IsLine line (record { headword = h; offset = m; size = n; shown = h })
+says_digits line h o s m n whole none m_small o_is n_small s_is = record { offset_text = o ∷ []; size_text = s ∷ []; fourth = None; whole = whole; no_tab = no_tab h none; fourth_no_tab = tt; offset = one_digit o m m_small o_is; size = one_digit s n n_small s_is; shown = refl }
 
 short : Line
-short = record { headword = codes "00-database-short"; offset = 0; size = 25 }
+short = record { headword = codes "00-database-short"; offset = 0; size = 25; shown = codes "00-database-short" }
 
 short_line : IsLine (codes "00-database-short\tA\tZ") short
 unfolding short
@@ -144,20 +146,20 @@ unfolding worked_lines
 lines_are = refl
 
 pass_short : (f : Refusal) → PassesLine f worked_text [] (codes "00-database-short\tA\tZ")
-unfolding keys chars encode is_utf8 short is_good is_plain is_text_octet
-pass_short = first_passes worked_text (codes "00-database-short\tA\tZ") short short_line refl refl refl (λ e. cc) refl
+unfolding keys chars encode is_utf8 short short_line says_digits is_good is_plain is_text_octet
+pass_short = first_passes worked_text (codes "00-database-short\tA\tZ") short short_line refl refl refl refl (λ e. cc) refl
 
 pass_opal : (before : List (List ℕ)) (f : Refusal) → PassesLine f worked_text before (codes "opal\tZ\tP")
-unfolding keys chars encode is_utf8 is_good is_plain is_text_octet
-pass_opal before = entry_passes worked_text before (codes "opal\tZ\tP") opal opal_line refl refl refl (λ e. cc) refl
+unfolding keys chars encode is_utf8 opal_line says_digits is_good is_plain is_text_octet
+pass_opal before = entry_passes worked_text before (codes "opal\tZ\tP") opal opal_line refl refl refl refl (λ e. cc) refl
 
 pass_fire : (before : List (List ℕ)) (f : Refusal) → PassesLine f worked_text before (codes "Fire Opal\tZ\tP")
-unfolding keys chars encode is_utf8 is_good is_plain is_text_octet
-pass_fire before = entry_passes worked_text before (codes "Fire Opal\tZ\tP") fire_opal fire_line refl refl refl (λ e. cc) refl
+unfolding keys chars encode is_utf8 fire_line says_digits is_good is_plain is_text_octet
+pass_fire before = entry_passes worked_text before (codes "Fire Opal\tZ\tP") fire_opal fire_line refl refl refl refl (λ e. cc) refl
 
 pass_dot : (before : List (List ℕ)) (f : Refusal) → PassesLine f worked_text before (codes "dot\to\tF")
-unfolding keys chars encode is_utf8 is_good is_plain is_text_octet
-pass_dot before = entry_passes worked_text before (codes "dot\to\tF") dot dot_line refl refl refl (λ e. cc) refl
+unfolding keys chars encode is_utf8 dot_line says_digits is_good is_plain is_text_octet
+pass_dot before = entry_passes worked_text before (codes "dot\to\tF") dot dot_line refl refl refl refl (λ e. cc) refl
 
 pass_each : (k : ℕ) → k < length worked_lines → (f : Refusal) → PassesLine f worked_text (take k worked_lines) (slice_index_or worked_lines k [])
 unfolding worked_lines
@@ -175,8 +177,8 @@ pass_lines index text lines e h =
 wholes : PassWholes worked_index worked_text
 unfolding is_utf8 chars encode
 wholes = (
-  leb-true (length worked_text) 16777216 refl,
-  (IsUtf8-from_is_utf8 worked_index refl, (inr (take 52 worked_index, refl), (leb-true (length (text_lines worked_index)) 65536 refl, tt))),
+  leb-true (length worked_text) most_octets refl,
+  (IsUtf8-from_is_utf8 worked_index refl, (inr (take 52 worked_index, refl), (leb-true (length (text_lines worked_index)) most_lines refl, tt))),
 )
 
 worked_said : List Line

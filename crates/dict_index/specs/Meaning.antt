@@ -1,9 +1,9 @@
 -- What a pair of files in dictd's form means: an edition, or the first test that it doesn't pass.
-use Rattle.std.specs.Prelude.{◌≡◌, ℕ, ◌+◌, ◌<◌, ◌⊎◌, not, List, length, filter, Option, Some, None}
-use Rattle.std.specs.List.{AllZip}
+use Rattle.std.specs.Prelude.{◌≡◌, ℕ, ◌+◌, ◌<◌, ◌⊎◌, not, List, length, filter, count_by, ◌==◌, Option, Some, None}
+use Rattle.std.specs.List.{AllByRecursion, AllZip}
 use Rattle.dict_text.specs.Lines.{text_lines}
 use Rattle.dict_match.specs.Key.{reserved_key_of}
-use Rattle.dict_index.specs.Line.{Line, IsLine}
+use Rattle.dict_index.specs.Line.{Line, IsLine, tab}
 use Rattle.dict_index.specs.Reserved.{is_reserved, title_in, info_in}
 use Rattle.dict_index.specs.Edition.{Edition, ReadEdition, edition_of}
 use Rattle.dict_index.specs.Tests.{Passes}
@@ -32,6 +32,10 @@ pub record IsReadEdition (index text : List ℕ) (reading : ReadEdition) : Type 
   pub title : title_in text lines ≡ Some reading.title
   pub info : reading.info ≡ info_in text lines
   pub whole : reading.text ≡ text
+
+-- no line of the index has a fourth column
+abbrev pub HaveThreeColumns : List ℕ → Type 0
+HaveThreeColumns index = AllByRecursion (λ line. count_by (λ octet. octet == tab) line ≡ 2) (text_lines index)
 
 -- the edition that the index and the text say
 abbrev pub IsEdition : List ℕ → List ℕ → Edition → Type 0

@@ -1,7 +1,7 @@
 -- The refusals of an edition: the number and the name of each, as users see them, and the order of their tests.
 use Rattle.std.specs.Prelude.{ℕ, List, [], ◌∷◌, ◌++◌, codes}
 use Rattle.dict_index.specs.declared.fault.Refusal.{Refusal}
-use Rattle.dict_index.specs.declared.fault.Refusal.TheVariants.{IndexNotUtf8, Columns, Number, Interval, Headword, BodyText, BodyLine, Reserved, ReservedTwice, NoTitle, BadTitle, TooManyEntries, TextTooLong, LastLine}
+use Rattle.dict_index.specs.declared.fault.Refusal.TheVariants.{IndexNotUtf8, Columns, Number, Interval, Headword, BodyText, BodyLine, Reserved, ReservedTwice, NoTitle, BadTitle, TooManyEntries, TextTooLong, LastLine, Shown}
 
 pub record RefusalText : Type 0 where
   pub number : ℕ
@@ -22,6 +22,7 @@ text_of BadTitle = record { number = 11; name = codes "BadTitle" }
 text_of TooManyEntries = record { number = 12; name = codes "TooManyEntries" }
 text_of TextTooLong = record { number = 13; name = codes "TextTooLong" }
 text_of LastLine = record { number = 14; name = codes "LastLine" }
+text_of Shown = record { number = 15; name = codes "Shown" }
 
 abbrev pub refusal_number : Refusal → ℕ
 refusal_number refusal = (text_of refusal).number
@@ -35,7 +36,7 @@ whole_tests = TextTooLong ∷ IndexNotUtf8 ∷ LastLine ∷ TooManyEntries ∷ [
 
 -- then for each line those of what it says, and of its reserved key
 abbrev pub said_tests : List Refusal
-said_tests = Columns ∷ Number ∷ Interval ∷ Headword ∷ BodyText ∷ BodyLine ∷ []
+said_tests = Columns ∷ Number ∷ Interval ∷ Headword ∷ Shown ∷ BodyText ∷ BodyLine ∷ []
 
 abbrev pub reserved_tests : List Refusal
 reserved_tests = Reserved ∷ ReservedTwice ∷ []

@@ -8,7 +8,7 @@ use Rattle.dict_index.specs.declared.entry.Entry.{Entry as ReadEntry}
 
 -- the line that an entry was read from
 abbrev pub line_of : ReadEntry → Line
-line_of entry = record { headword = entry.headword.now; offset = entry.offset; size = entry.size }
+line_of entry = record { headword = entry.headword.now; offset = entry.offset; size = entry.size; shown = entry.shown.now }
 
 -- the entry's body is what its interval cuts out of the text
 abbrev pub HasBodyIn : List ℕ → ReadEntry → Type 0

@@ -4,9 +4,10 @@ use Rattle.std.specs.List.{AllByRecursion}
 use Rattle.std.specs.Str.{IsUtf8}
 use Rattle.dict_name.specs.Names.{is_title}
 use Rattle.dict_match.specs.Key.{reserved_key_of}
+use Rattle.dict_index.specs.Limits.{most_entries}
 use Rattle.dict_index.specs.Edition.{Entry, Edition}
 use Rattle.dict_index.specs.Reserved.{is_reserved}
-use Rattle.dict_index.specs.Tests.{IsHeadword, IsText, HasShortLines}
+use Rattle.dict_index.specs.Tests.{IsHeadword, IsShown, IsText, HasShortLines}
 
 -- UTF-8, 1 to 200 octets, no control character, and no blank at an end
 abbrev pub IsEditionTitle : List ℕ → Type 0
@@ -20,12 +21,17 @@ IsEditionText octets = IsText octets × HasShortLines octets
 abbrev pub IsEntryHeadword : List ℕ → Type 0
 IsEntryHeadword headword = IsUtf8 headword × IsHeadword headword × (is_reserved (reserved_key_of headword) ≡ false)
 
+-- UTF-8, 1 to 255 octets, no control character
+abbrev pub IsEntryShown : List ℕ → Type 0
+IsEntryShown shown = IsUtf8 shown × IsShown shown
+
 pub record IsWellFormedEntry (entry : Entry) : Type 0 where
   pub headword : IsEntryHeadword entry.headword
+  pub shown : IsEntryShown entry.shown
   pub body : IsEditionText entry.body
 
 pub record IsWellFormedEdition (edition : Edition) : Type 0 where
   pub title : IsEditionTitle edition.title
   pub info : IsEditionText edition.info
   pub entries : AllByRecursion IsWellFormedEntry edition.entries
-  pub few : length edition.entries ≤ 65535
+  pub few : length edition.entries ≤ most_entries

@@ -1,6 +1,7 @@
 // The columns of a line of an index.
-ghost use Rattle.std.specs.Prelude.{◌≡◌, ◌≢◌, ℕ, List, MatchOption, count_by, ◌==◌};
-ghost use Rattle.dict_index.specs.Cuts.{HasNo, IsCutAt, AreColumns};
+ghost use Rattle.std.specs.Prelude.{◌≢◌, ◌≤◌, MatchOption, count_by, ◌==◌};
+ghost use Rattle.dict_index.specs.Cuts.{HasNo, IsCutAt, AreLast, AreColumns};
+ghost use Rattle.dict_index.specs.Views.{octets_of};
 
 use memchr::memchr;
 
@@ -12,31 +13,46 @@ pub(crate) fn cut_at(octet: u8, octets: &[u8]) -> Option<(&[u8], &[u8])>
     Some((&octets[..place], &octets[place + 1..]))
 }
 
-/// The three columns of a line.
+/// The three columns of a line, and the fourth where it has one.
 #[derive(Clone, Copy)]
 pub(crate) struct Columns<'a> {
     pub headword: &'a [u8],
     pub offset: &'a [u8],
     pub size: &'a [u8],
+    pub shown: Option<&'a [u8]>,
 }
 
-// The columns of a line, if it has exactly two tabs.
+// The third column, and the fourth where there is one, of what stands behind two columns, if it has one tab at most.
+fn last_columns(rest: &[u8]) -> Option<(&[u8], Option<&[u8]>)>
+    ensures { MatchOption result (2 ≤ count_by (λ octet. octet == 9) rest.now) (λ parts. AreLast rest.now parts.0.now (octets_of parts.1)) }
+{
+    let Some((size, shown)) = cut_at(b'\t', rest) else {
+        return Some((rest, None));
+    };
+    if cut_at(b'\t', shown).is_some() {
+        return None;
+    }
+    Some((size, Some(shown)))
+}
+
+// The columns of a line, if it has two tabs or three.
 pub(crate) fn columns_of(line: &[u8]) -> Option<Columns<'_>>
-    ensures { MatchOption result (count_by (λ octet. octet == 9) line.now ≢ 2)
-        (λ c. AreColumns line.now c.headword.now c.offset.now c.size.now) }
+    ensures { MatchOption result ((count_by (λ octet. octet == 9) line.now ≢ 2) × (count_by (λ octet. octet == 9) line.now ≢ 3))
+        (λ c. AreColumns line.now c.headword.now c.offset.now c.size.now (octets_of c.shown)) }
 {
     let Some((headword, rest)) = cut_at(b'\t', line) else {
         return None;
     };
-    let Some((offset, size)) = cut_at(b'\t', rest) else {
+    let Some((offset, rest)) = cut_at(b'\t', rest) else {
         return None;
     };
-    if cut_at(b'\t', size).is_some() {
+    let Some((size, shown)) = last_columns(rest) else {
         return None;
-    }
+    };
     Some(Columns {
         headword,
         offset,
         size,
+        shown,
     })
 }

@@ -1,6 +1,7 @@
 // An edition as it was read.
 ghost use Rattle.std.specs.Prelude.{◌≡◌, ◌≤◌, length, map};
 ghost use Rattle.std.specs.List.{AllByRecursion};
+ghost use Rattle.dict_index.specs.Limits.{most_octets};
 ghost use Rattle.dict_index.specs.Edition.{edition_of};
 ghost use Rattle.dict_index.specs.WellFormed.{IsWellFormedEdition};
 ghost use Rattle.dict_index.specs.Views.{line_of, HasBodyIn, HasItsKey, LiesIn};
@@ -48,10 +49,10 @@ impl<'a> Edition<'a> {
         self.info
     }
 
-    /// The whole file that the texts were cut out of, of at most 16,777,216 octets.
+    /// The whole file that the texts were cut out of, of at most 67,108,864 octets.
     pub fn text(&self) -> &'a [u8]
         ensures value { result.now ≡ self.now.text }
-        ensures few { length result.now ≤ 16777216 }
+        ensures few { length result.now ≤ most_octets }
     {
         self.text
     }

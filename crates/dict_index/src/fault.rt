@@ -10,7 +10,7 @@ use thiserror::Error;
 pub enum Refusal {
     /// The index is not UTF-8.
     IndexNotUtf8,
-    /// A line hasn't exactly two tabs.
+    /// A line hasn't two or three tabs.
     Columns,
     /// An offset or a length is no number of dictd's.
     Number,
@@ -30,16 +30,18 @@ pub enum Refusal {
     NoTitle,
     /// The title isn't 1 to 200 octets, or has a control character.
     BadTitle,
-    /// There are more than 65,536 lines.
+    /// There are more than 262,144 lines.
     TooManyEntries,
-    /// The text is longer than 16,777,216 octets.
+    /// The text is longer than 67,108,864 octets.
     TextTooLong,
     /// An index that isn't empty doesn't end by LF.
     LastLine,
+    /// The fourth column is there, and isn't 1 to 255 octets, or has a control character.
+    Shown,
 }
 
 impl Refusal {
-    // What users see of the refusal: its number, 1 to 14, and its name.
+    // What users see of the refusal: its number, 1 to 15, and its name.
     fn text(self) -> (u8, &'static str)
         ensures number { result.0 ≡ (text_of self).number }
         ensures name { result.1.now ≡ (text_of self).name }
@@ -59,10 +61,11 @@ impl Refusal {
             Refusal::TooManyEntries => (12, "TooManyEntries"),
             Refusal::TextTooLong => (13, "TextTooLong"),
             Refusal::LastLine => (14, "LastLine"),
+            Refusal::Shown => (15, "Shown"),
         }
     }
 
-    /// The refusal's number, as users see it: 1 to 14.
+    /// The refusal's number, as users see it: 1 to 15.
     pub fn number(self) -> u8
         ensures { result ≡ refusal_number self }
     {

@@ -50,6 +50,7 @@ fn with_its_key<'a>(alloc: Global, read: Entry<'a>) -> Result<Entry<'a>, AllocEr
     Ok(Entry {
         headword: read.headword,
         key,
+        shown: read.shown,
         body: read.body,
         offset: read.offset,
         size: read.size,

@@ -2,8 +2,8 @@
 ghost use Rattle.std.specs.Prelude.{◌≡◌, ◌≢◌, ◌↔◌, ◌≤◌, ◌⊎◌, ℕ, false, List, [], length, Option};
 ghost use Rattle.dict_text.specs.Characters.{has_control};
 ghost use Rattle.dict_match.specs.Key.{key_of};
-ghost use Rattle.dict_index.specs.Edition.{Edition, ReadEdition};
-ghost use Rattle.dict_index.specs.Meaning.{IsReadEdition, IsEdition, IsFault};
+ghost use Rattle.dict_index.specs.Edition.{Edition, ReadEdition, ShowsHeadwords};
+ghost use Rattle.dict_index.specs.Meaning.{IsReadEdition, IsEdition, IsFault, HaveThreeColumns};
 ghost use Rattle.dict_index.specs.Tests.{IsHeadword};
 ghost use Rattle.dict_index.specs.WellFormed.{IsWellFormedEdition};
 ghost use Rattle.dict_index.specs.Worked.{worked_index, worked_text, worked_reading};
@@ -37,6 +37,13 @@ pub fn well_formed_editions()
 pub fn lawful_headwords()
     ensures { (headword : List ℕ) → IsHeadword headword
         ↔ ((1 ≤ length headword) × (length headword ≤ 255) × (has_control headword ≡ false) × (key_of headword ≢ [])) }
+{}
+
+/// An edition of an index without a fourth column shows each entry by its headword.
+///
+/// It does nothing. Its clause is the law.
+pub fn three_columns()
+    ensures { (index text : List ℕ) (edition : Edition) → IsEdition index text edition → HaveThreeColumns index → ShowsHeadwords edition }
 {}
 
 /// What a small database says that was worked by hand: the title `Gems`, no info, and three entries.

@@ -17,6 +17,8 @@ mod whole;
 pub use edition::Edition;
 pub use entry::Entry;
 pub use fault::{IndexFault, Refusal};
-pub use laws::{lawful_headwords, one_meaning, well_formed_editions, worked_edition};
-pub use limits::{entry_key, is_edition_text};
+pub use laws::{
+    lawful_headwords, one_meaning, three_columns, well_formed_editions, worked_edition,
+};
+pub use limits::{MAX_LINES, MAX_TEXT, entry_key, is_edition_text, is_shown};
 pub use reading::read_edition;

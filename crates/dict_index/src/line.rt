@@ -1,14 +1,14 @@
 // What one line of an index says, over a text.
-ghost use Rattle.std.specs.Prelude.{◌≡◌, ℕ, ◌+◌, ◌<◌, ◌≤◌, ◌^◌, length, take, drop, MatchOption, MatchBool, IfOk, IfErr, OnOk, List};
+ghost use Rattle.std.specs.Prelude.{◌≡◌, ℕ, ◌+◌, ◌<◌, ◌≤◌, ◌^◌, length, take, drop, MatchOption, MatchBool, IfSome, unwrap_or, IfOk, IfErr, OnOk, List};
 ghost use Rattle.std.specs.Str.{IsUtf8};
 ghost use Rattle.dict_b64.specs.Number.{Spells};
 ghost use Rattle.dict_match.specs.Key.{key_of, reserved_key_of};
 ghost use Rattle.dict_index.specs.Cuts.{AreColumns};
 ghost use Rattle.dict_index.specs.Line.{IsLine};
-ghost use Rattle.dict_index.specs.Views.{line_of, HasBodyIn, HasReservedKey};
+ghost use Rattle.dict_index.specs.Views.{line_of, HasBodyIn, HasReservedKey, octets_of};
 ghost use Rattle.dict_index.specs.Refusals.{said_tests};
 ghost use Rattle.dict_index.specs.Refused.{PassesEach, IsLineFault};
-ghost use Rattle.dict_index.specs.Tests.{IsHeadword, IsText, IsTextOctet, HasShortLines};
+ghost use Rattle.dict_index.specs.Tests.{IsHeadword, IsShown, IsText, IsTextOctet, HasShortLines};
 
 use crate::columns::{Columns, columns_of};
 use crate::entry::Entry;
@@ -20,6 +20,8 @@ use dict_text::{has_control, is_control_octet, text_lines};
 use std::alloc::{AllocError, Global};
 
 const MAX_HEADWORD: usize = 255;
+
+const MAX_SHOWN: usize = 255;
 
 const MAX_TEXT_LINE: usize = 1021;
 
@@ -75,6 +77,28 @@ pub(crate) fn searched_key(alloc: Global, headword: &str, reserved: Key) -> Resu
         return Ok(reserved);
     }
     key_of(alloc, headword)
+}
+
+// Whether octets may be shown as a headword.
+pub(crate) fn is_showable(octets: &[u8]) -> bool
+    ensures { MatchBool result (IsShown octets.now) (¬ IsShown octets.now) }
+{
+    !octets.is_empty() && octets.len() <= MAX_SHOWN && !has_control(octets)
+}
+
+// What is shown: the fourth column where there is one, if it may be, and else the headword.
+fn shown_of<'a>(headword: &'a str, fourth: Option<&'a [u8]>) -> Option<&'a str>
+    requires { IfSome (octets_of fourth) IsUtf8 }
+    ensures { MatchOption result (¬ IfSome (octets_of fourth.entry) IsShown)
+        (λ shown. IfSome (octets_of fourth.entry) IsShown × (shown.now ≡ unwrap_or (octets_of fourth.entry) headword.now)) }
+{
+    let Some(column) = fourth else {
+        return Some(headword);
+    };
+    if !is_showable(column) {
+        return None;
+    }
+    Some(as_text(column))
 }
 
 // Whether an octet is none of a control character, or LF, or tab.
@@ -159,6 +183,9 @@ pub(crate) fn read_line<'a>(
         Ok(None) => return Err(LineFault::Refused(Refusal::Headword)),
         Err(_) => return Err(LineFault::Memory),
     };
+    let Some(shown) = shown_of(headword, columns.shown) else {
+        return Err(LineFault::Refused(Refusal::Shown));
+    };
     let Some(body) = text_of(body) else {
         return Err(LineFault::Refused(Refusal::BodyText));
     };
@@ -168,6 +195,7 @@ pub(crate) fn read_line<'a>(
     Ok(Entry {
         headword,
         key,
+        shown,
         body,
         offset: offset as usize,
         size: size as usize,

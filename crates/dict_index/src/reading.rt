@@ -2,6 +2,7 @@
 ghost use Rattle.std.specs.Prelude.{◌≡◌, ℕ, ◌≤◌, ◌++◌, ◌∷◌, [], List, IfOk, IfErr, OnOk, length};
 ghost use Rattle.std.specs.Str.{IsUtf8};
 ghost use Rattle.dict_text.specs.Lines.{text_lines};
+ghost use Rattle.dict_index.specs.Limits.{most_lines};
 ghost use Rattle.dict_index.specs.Refusals.{line_tests};
 ghost use Rattle.dict_index.specs.Gathered.{HasGathered};
 ghost use Rattle.dict_index.specs.Meaning.{IsReadEdition};
@@ -54,7 +55,7 @@ fn gather_lines<'a>(
     text: &'a [u8],
 ) -> Result<Gathered<'a>, IndexFault>
     requires text { IsUtf8 index.now }
-    requires few { length (text_lines index.now) ≤ 65536 }
+    requires few { length (text_lines index.now) ≤ most_lines }
     ensures gathered { IfOk result (HasGathered text.now (text_lines index.now)) }
     ensures passes { OnOk result (PassLines index.now text.now (length (text_lines index.now))) }
     ensures refused { IfErr result (λ fault. IsLinesFault fault index.now text.now) }
@@ -74,9 +75,9 @@ fn gather_lines<'a>(
 
 /// Reads an edition from dictd's two files, an index and a text, both whole. The edition borrows from them.
 ///
-/// The index is UTF-8 text whose lines, each ended by LF, are headword, tab, offset, tab and length. The first
-/// test that fails is told, and its line where it is a test of a line: `Memory` comes only where a growth was
-/// refused.
+/// The index is UTF-8 text whose lines, each ended by LF, are headword, tab, offset, tab and length. A line may go
+/// on with a tab and a fourth column, the headword that is shown. The first test that fails is told, and its line
+/// where it is a test of a line: `Memory` comes only where a growth was refused.
 pub fn read_edition<'a>(
     alloc: Global,
     index: &'a [u8],

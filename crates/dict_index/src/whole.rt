@@ -1,16 +1,14 @@
 // The tests of the files as a whole, which are made before those of the lines.
 ghost use Rattle.std.specs.Prelude.{◌≡◌, ◌≤◌, MatchOption, MatchBool, length};
 ghost use Rattle.dict_text.specs.Lines.{text_lines};
+ghost use Rattle.dict_index.specs.Limits.{most_lines};
 ghost use Rattle.dict_index.specs.Tests.{EndsByLineFeed};
 ghost use Rattle.dict_index.specs.Refused.{FailsWhole, PassWholes};
 
 use crate::fault::Refusal;
+use crate::limits::{MAX_LINES, MAX_TEXT};
 use bstr::ByteSlice;
 use dict_text::text_lines;
-
-const MAX_TEXT: usize = 16_777_216;
-
-const MAX_LINES: usize = 65_536;
 
 // The first test of the whole files that fails.
 pub(crate) fn whole_refusal(index: &[u8], text: &[u8]) -> Option<Refusal>
@@ -43,7 +41,7 @@ fn ends_by_line_feed(index: &[u8]) -> bool
 
 // Whether an index has no more lines than it may.
 fn has_few_lines(index: &[u8]) -> bool
-    ensures { MatchBool result (length (text_lines index.now) ≤ 65536) (¬ (length (text_lines index.now) ≤ 65536)) }
+    ensures { MatchBool result (length (text_lines index.now) ≤ most_lines) (¬ (length (text_lines index.now) ≤ most_lines)) }
 {
     let mut lines = text_lines(index);
     let mut number = 0usize;

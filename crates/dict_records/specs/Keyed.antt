@@ -9,7 +9,8 @@ use Rattle.dict_records.specs.declared.keyed.OldEntry.{OldEntry as TypedOld}
 use Rattle.dict_records.specs.declared.keyed.Word.{Word as TypedWord}
 use Rattle.dict_records.specs.declared.keyed.Gram.{Gram as TypedGram}
 
--- a headword of an edition, where its body stands in the edition's text, its key, and the key's octets in reverse order
+-- a headword of an edition, where its body stands in the edition's text, its key, the key's octets in reverse order, and the
+-- headword that is shown
 pub record KeyedEntry : Type 0 where
   pub edition : ℤ
   pub ord : ℤ
@@ -36,9 +37,9 @@ pub record Piece : Type 0 where
   pub piece : List ℕ
   pub ord : ℤ
 
--- an entry without what was derived of it
+-- an entry without what was derived of it: its headword is shown
 abbrev pub plain_entry : OldEntry → Entry
-plain_entry e = record { edition = e.edition; ord = e.ord; headword = e.headword; start = e.start; length = e.length }
+plain_entry e = record { edition = e.edition; ord = e.ord; headword = e.headword; start = e.start; length = e.length; shown = e.headword }
 
 -- Each takes what the octets of a text and of a blob are.
 

@@ -1,5 +1,5 @@
--- The records of the tables of schema 1: numbers, and texts and blobs as their octets.
-use Rattle.std.specs.Prelude.{ℕ, ℤ, List, Option}
+-- The records of the tables: numbers, and texts and blobs as their octets.
+use Rattle.std.specs.Prelude.{◌≡◌, ℕ, ℤ, List, Option}
 
 -- what the file is, and how many installs it has seen; its id is 1 where the product wrote it
 pub record Mark : Type 0 where
@@ -31,13 +31,22 @@ pub record Edition : Type 0 where
   pub info : List ℕ
   pub body : List ℕ
 
--- a headword of an edition, and where its body stands in the edition's text
+-- a headword of an edition, where its body stands in the edition's text, and the headword that is shown
 pub record Entry : Type 0 where
   pub edition : ℤ
   pub ord : ℤ
   pub headword : List ℕ
   pub start : ℤ
   pub length : ℤ
+  pub shown : List ℕ
+
+-- it is shown by its headword, as each is in a table that has no column for what is shown
+abbrev pub ShowsHeadword : Entry → Type 0
+ShowsHeadword e = e.shown ≡ e.headword
+
+-- the same with what is shown
+abbrev pub shown_as : Entry → List ℕ → Entry
+shown_as e shown = record e { shown = shown }
 
 -- a reply that is kept for the id of its request
 pub record Kept : Type 0 where

@@ -25,8 +25,9 @@ member_of text r = record { owner = text r.owner; ord = r.ord; name = text r.nam
 abbrev pub edition_of : {T : Type 0} → {B : Type 0} → (T → List ℕ) → (B → List ℕ) → Edition T B → spec.Edition
 edition_of text octets r = record { number = r.number; owner = text r.owner; title = text r.title; info = text r.info; body = octets r.body }
 
+-- what is shown is the headword, since the record has no other
 abbrev pub entry_of : {T : Type 0} → (T → List ℕ) → Entry T → spec.Entry
-entry_of text r = record { edition = r.edition; ord = r.ord; headword = text r.headword; start = r.start; length = r.length }
+entry_of text r = record { edition = r.edition; ord = r.ord; headword = text r.headword; start = r.start; length = r.length; shown = text r.headword }
 
 abbrev pub kept_of : {T : Type 0} → (T → List ℕ) → Kept T → spec.Kept
 kept_of text r = record { id = text r.id; number = r.number; verb = text r.verb; name = text r.name; edition = r.edition }
