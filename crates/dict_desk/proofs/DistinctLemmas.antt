@@ -22,3 +22,10 @@ behind x t kept more false false e is =
 pub distinct_more : (texts : List (List ℕ)) (text : List ℕ) → distinct (texts ++ text ∷ []) ≡ cond (list_any (bytes_eq text) texts) (distinct texts) (distinct texts ++ text ∷ [])
 distinct_more [] text = refl
 distinct_more (x ∷ texts) text = behind x text (distinct texts) (distinct (texts ++ text ∷ [])) (bytes_eq text x) (list_any (bytes_eq text) texts) refl (distinct_more texts text)
+
+-- the texts of a front, each once, are a front of those of all
+pub distinct_front : (xs ys : List (List ℕ)) → (rest : List (List ℕ)) × (distinct (xs ++ ys) ≡ distinct xs ++ rest)
+distinct_front [] ys = (distinct ys, refl)
+distinct_front (x ∷ xs) ys =
+    let (rest, e) = distinct_front xs ys in
+    (without x rest, ap (λ ws. x ∷ without x ws) e ∙ ap (λ ws. x ∷ ws) (filter-append (λ other. not (bytes_eq other x)) (distinct xs) rest))

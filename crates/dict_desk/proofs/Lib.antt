@@ -1,10 +1,12 @@
 pub mod LeavesLemmas
 pub mod HandingLemmas
-mod HeadwordLemmas
-mod SeenLemmas
 mod DistinctLemmas
 mod RowLemmas
 mod SpanLemmas
+mod LinkLemmas
+mod PlaceLemmas
+mod ListedLemmas
+mod HitLemmas
 mod PlainLemmas
 mod DeskLemmas
 mod ReplyLemmas

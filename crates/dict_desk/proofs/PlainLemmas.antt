@@ -6,49 +6,41 @@ use Rattle.dict_match.specs.declared.strategy.Strategy.{Strategy}
 use Rattle.dict_index.specs.Edition.{Edition, Entry, ReadEdition, entry_in, edition_of}
 use Rattle.dict_index.specs.Line.{Line}
 use Rattle.dict_catalogue.specs.Items.{Stored}
-use Rattle.dict_desk.specs.Found.{is_found, found, headwords}
-use Rattle.dict_desk.specs.Shown.{row, headword_rows}
-use Rattle.dict_desk.specs.PlainEntries.{line_of, entry_of, headword_of, AreMarked, is_hit_of, is_listed, rows_found, rows_listed, LieWithin}
+use Rattle.dict_desk.specs.Found.{is_found, found, distinct, shown_of, headwords}
+use Rattle.dict_desk.specs.Shown.{row, row_of, found_rows, headword_rows}
+use Rattle.dict_desk.specs.PlainEntries.{line_of, entry_of, is_hit_of, texts_listed, rows_found, rows_listed, LieWithin}
 use Rattle.dict_desk.specs.declared.entries.OwnedEntry.{OwnedEntry}
-use Rattle.dict_desk.proofs.HeadwordLemmas.{headwords_listed}
 use Rattle.dict_desk.proofs.RowLemmas.{chosen_after, mapped_twice}
-use Rattle.dict_desk.proofs.SpanLemmas.{within_all, span_before, chosen_twice}
+use Rattle.dict_desk.proofs.SpanLemmas.{within_all, span_before}
 
 module _ (title info text : List ℕ) (strategy : Strategy) (query : List ℕ) (entries : List OwnedEntry) where
   abbrev whole : Edition
   whole = record { title = title; info = info; entries = map (entry_of text) entries }
 
-  pub rows_are_found : rows_found text strategy query entries ≡ found strategy query whole
-  rows_are_found = sym (chosen_after (entry_of text) (is_found strategy query) entries)
+  pub rows_are_found : rows_found text strategy query entries ≡ found_rows strategy query whole
+  rows_are_found =
+      sym (mapped_twice (entry_of text) row_of (filter (is_hit_of strategy query) entries)) ∙ ap (map row_of) (sym (chosen_after (entry_of text) (is_found strategy query) entries))
 
   pub count_is_found : length (filter (is_hit_of strategy query) entries) ≡ length (found strategy query whole)
-  count_is_found = sym (length-map (filter (is_hit_of strategy query) entries) (entry_of text)) ∙ ap length rows_are_found
+  count_is_found = sym (length-map (filter (is_hit_of strategy query) entries) (entry_of text)) ∙ ap length (sym (chosen_after (entry_of text) (is_found strategy query) entries))
 
-  pub rows_are_listed : AreMarked [] entries → rows_listed strategy query entries ≡ headword_rows strategy query whole
-  rows_are_listed marks =
-      sym (mapped_twice headword_of (λ (headword : List ℕ). row headword []) (filter (is_listed strategy query) entries))
-      ∙ ap (map (λ (headword : List ℕ). row headword [])) (sym (headwords_listed text strategy query entries marks))
+  texts_are_headwords : texts_listed strategy query entries ≡ headwords (found strategy query whole)
+  texts_are_headwords =
+      ap distinct (sym (mapped_twice (entry_of text) shown_of (filter (is_hit_of strategy query) entries)) ∙ ap (map shown_of) (sym (chosen_after (entry_of text) (is_found strategy query) entries)))
 
-  pub count_is_listed : AreMarked [] entries → length (filter (is_listed strategy query) entries) ≡ length (headwords (found strategy query whole))
-  count_is_listed marks = sym (length-map (filter (is_listed strategy query) entries) headword_of) ∙ ap length (sym (headwords_listed text strategy query entries marks))
+  pub rows_are_listed : rows_listed strategy query entries ≡ headword_rows strategy query whole
+  rows_are_listed = ap (map (λ (shown : List ℕ). row shown [])) texts_are_headwords
+
+  pub count_is_listed : length (texts_listed strategy query entries) ≡ length (headwords (found strategy query whole))
+  count_is_listed = ap length texts_are_headwords
 
   -- of a span in which all that is found lies
   module _ (first end : ℕ) (within : LieWithin (is_found strategy query) whole.entries first end) where
-    abbrev part : List OwnedEntry
-    part = take (end - first) (drop first entries)
+    pub hits_within : LieWithin (is_hit_of strategy query) entries first end
+    hits_within = span_before (entry_of text) (is_found strategy query) entries first end within
 
-    hits : filter (is_hit_of strategy query) part ≡ filter (is_hit_of strategy query) entries
-    hits = within_all (is_hit_of strategy query) entries first end (span_before (entry_of text) (is_found strategy query) entries first end within)
-
-    pub part_is_found : rows_found text strategy query part ≡ found strategy query whole
-    part_is_found = ap (map (entry_of text)) hits ∙ rows_are_found
-
-    pub part_is_listed : AreMarked [] entries → rows_listed strategy query part ≡ headword_rows strategy query whole
-    part_is_listed marks =
-        ap (map (λ entry. row (headword_of entry) [])) (chosen_twice (λ entry. entry.is_first) (is_hit_of strategy query) part
-        ∙ (ap (filter (λ (entry : OwnedEntry). entry.is_first)) hits
-        ∙ sym (chosen_twice (λ entry. entry.is_first) (is_hit_of strategy query) entries)))
-        ∙ rows_are_listed marks
+    pub part_is_found : rows_found text strategy query (take (end - first) (drop first entries)) ≡ found_rows strategy query whole
+    part_is_found = ap (map (λ entry. row_of (entry_of text entry))) (within_all (is_hit_of strategy query) entries first end hits_within) ∙ rows_are_found
 
 abbrev stored : ℕ → Edition → Stored Edition
 stored number edition = record { number = number; content = edition }

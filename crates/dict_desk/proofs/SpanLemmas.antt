@@ -1,5 +1,5 @@
 -- Between which places the elements of a kind lie.
-use Rattle.std.proofs.Common.{◌≡◌, ℕ, zero, suc, ◌+◌, ◌-◌, ◌<◌, ◌≤◌, Bool, true, false, ◌&&◌, List, [], ◌∷◌, ◌++◌, length, map, take, drop, get_or, refl, ap, sym, subst, ◌∙◌, cond, arith}
+use Rattle.std.proofs.Common.{◌≡◌, ℕ, zero, suc, ◌+◌, ◌-◌, ◌<◌, ◌≤◌, Bool, false, List, [], ◌∷◌, ◌++◌, length, map, take, drop, get_or, refl, ap, sym, subst, ◌∙◌, cond, arith}
 use Rattle.std.specs.Prelude.{filter}
 use Rattle.std.proofs.Math.Seq.{take-add}
 use Rattle.std.proofs.lemmas.List.{take-append-drop, length-map}
@@ -26,6 +26,11 @@ module _ {X : Type 0} (p : X → Bool) where
       ∙ (sym (append_none (filter p (take end xs)) (filter p (drop end xs)) w.behind)
       ∙ (sym (filter-append p (take end xs) (drop end xs))
       ∙ ap (filter p) (take-append-drop end xs)))))
+
+  -- what lies before its end is all
+  pub front_all : (xs : List X) (first end : ℕ) → LieWithin p xs first end → filter p (take end xs) ≡ filter p xs
+  front_all xs first end w =
+      sym (append_none (filter p (take end xs)) (filter p (drop end xs)) w.behind) ∙ (sym (filter-append p (take end xs) (drop end xs)) ∙ ap (filter p) (take-append-drop end xs))
 
   -- the whole is such a span
   pub whole_span : (xs : List X) → LieWithin p xs 0 (length xs)
@@ -83,14 +88,3 @@ module _ {X Y : Type 0} (f : X → Y) (p : Y → Bool) where
     ordered = w.ordered;
     fits = subst (λ n. end ≤ n) (length-map xs f) w.fits;
   }
-
--- those of a second kind are chosen among those of the first
-pub chosen_twice : {X : Type 0} (q p : X → Bool) (xs : List X) → filter (λ x. q x && p x) xs ≡ filter q (filter p xs)
-chosen_twice q p [] = refl
-chosen_twice q p (x ∷ xs) = by_both (q x) (p x) refl (chosen_twice q p xs)
-  where
-    by_both : (a b : Bool) → q x ≡ a → filter (λ y. q y && p y) xs ≡ filter q (filter p xs) → cond (a && b) (x ∷ filter (λ y. q y && p y) xs) (filter (λ y. q y && p y) xs) ≡ filter q (cond b (x ∷ filter p xs) (filter p xs))
-    by_both true true e h = ap (λ ys. x ∷ ys) h ∙ sym (ap (λ c. cond c (x ∷ filter q (filter p xs)) (filter q (filter p xs))) e)
-    by_both true false e h = h
-    by_both false true e h = h ∙ sym (ap (λ c. cond c (x ∷ filter q (filter p xs)) (filter q (filter p xs))) e)
-    by_both false false e h = h

@@ -8,7 +8,7 @@ use Rattle.dict_match.specs.declared.strategy.Strategy.TheVariants.{Exact, Prefi
 use Rattle.dict_index.specs.Edition.{Edition, Entry}
 use Rattle.dict_catalogue.specs.Items.{Item, regular, virtual, is_named}
 use Rattle.dict_catalogue.specs.Steps.{Catalogue}
-use Rattle.dict_desk.specs.Found.{found, headwords}
+use Rattle.dict_desk.specs.Found.{found, shown_of, headwords}
 
 -- a regular item as it is asked: its name, and its current edition
 pub record Database : Type 0 where
@@ -44,16 +44,16 @@ searched catalogue word strategy query =
     else if bytes_eq word (codes "!") then Some (first_finding strategy query (databases catalogue.items))
     else option_map (asked_by catalogue.items) (find (is_named word) catalogue.items)
 
--- an entry that is found, with the name and the title of the database in which it stands
+-- what is shown of an entry that is found, and its text, with the name and the title of the database in which it stands
 pub record Definition : Type 0 where
   pub name : List ℕ
   pub title : List ℕ
-  pub headword : List ℕ
+  pub shown : List ℕ
   pub body : List ℕ
 
 abbrev pub definitions_in : List ℕ → Database → List Definition
 definitions_in query database =
-    map (λ (entry : Entry). record { name = database.name; title = database.edition.title; headword = entry.headword; body = entry.body })
+    map (λ (entry : Entry). record { name = database.name; title = database.edition.title; shown = shown_of entry; body = entry.body })
     (found Exact query database.edition)
 
 -- what DEFINE gives: the entries found by `exact`, database by database, in each in the order of its index
@@ -61,16 +61,16 @@ abbrev pub definitions : Catalogue → List ℕ → List ℕ → Option (List De
 definitions catalogue word text =
     option_map (flat_map (definitions_in (key_of text))) (searched catalogue word Exact (key_of text))
 
--- a headword that is found, with the name of its database
+-- what is shown of an entry that is found, with the name of its database
 pub record Match : Type 0 where
   pub name : List ℕ
-  pub headword : List ℕ
+  pub shown : List ℕ
 
 abbrev pub matches_in : Strategy → List ℕ → Database → List Match
 matches_in strategy query database =
-    map (λ headword. record { name = database.name; headword = headword }) (headwords (found strategy query database.edition))
+    map (λ shown. record { name = database.name; shown = shown }) (headwords (found strategy query database.edition))
 
--- what MATCH gives: database by database each headword found, once, at the place of its first entry found
+-- what MATCH gives: database by database each headword shown of an entry found, once, at the place of the first of these
 abbrev pub matches : Catalogue → List ℕ → Strategy → List ℕ → Option (List Match)
 matches catalogue word strategy text =
     option_map (flat_map (matches_in strategy (key_of text))) (searched catalogue word strategy (key_of text))

@@ -22,6 +22,10 @@ abbrev pub distinct : List (List ℕ) → List (List ℕ)
 distinct [] = []
 distinct (text ∷ texts) = text ∷ filter (λ other. not (bytes_eq other text)) (distinct texts)
 
--- the headwords of these entries, each once, where it stands first
+-- what replies show of an entry
+abbrev pub shown_of : Entry → List ℕ
+shown_of entry = entry.shown
+
+-- the headwords that replies show of these entries, each once, where it stands first
 abbrev pub headwords : List Entry → List (List ℕ)
-headwords entries = distinct (map (λ entry. entry.headword) entries)
+headwords entries = distinct (map shown_of entries)

@@ -4,9 +4,10 @@ use Rattle.dict_match.specs.declared.strategy.Strategy.{Strategy}
 use Rattle.dict_index.specs.Edition.{Edition, Entry}
 use Rattle.dict_catalogue.specs.Items.{Item, editions_of}
 use Rattle.dict_catalogue.specs.Steps.{Catalogue}
-use Rattle.dict_desk.specs.Found.{found, headwords}
+use Rattle.dict_desk.specs.Found.{found, shown_of, headwords}
 use Rattle.dict_desk.specs.declared.lookup.What.{What}
 use Rattle.dict_desk.specs.declared.lookup.What.TheVariants.{Entries, Headwords}
+use Rattle.dict_desk.specs.declared.sink.Row.{Row as HandedRow}
 
 -- the edition stands in the catalogue under this number, as an item's current or former one
 pub record HasEdition (catalogue : Catalogue) (number : ℕ) (edition : Edition) : Type 0 where
@@ -14,19 +15,35 @@ pub record HasEdition (catalogue : Catalogue) (number : ℕ) (edition : Edition)
   pub stands : Contains catalogue.items item
   pub stored : Contains (editions_of item) (record { number = number; content = edition })
 
--- a row is a headword and a text, as an entry is
-abbrev pub row : List ℕ → List ℕ → Entry
-row headword body = record { headword = headword; body = body }
+-- a row that a desk hands out: what is shown, and a text
+pub record Row : Type 0 where
+  pub shown : List ℕ
+  pub text : List ℕ
 
--- the headwords found, each once, with the empty text
-abbrev pub headword_rows : Strategy → List ℕ → Edition → List Entry
-headword_rows strategy query edition = map (λ headword. row headword []) (headwords (found strategy query edition))
+abbrev pub row : List ℕ → List ℕ → Row
+row shown text = record { shown = shown; text = text }
 
--- what the edition's database says of itself, with the empty headword
-abbrev pub info_rows : Edition → List Entry
+-- the row that a sink is handed
+abbrev pub row_handed : HandedRow → Row
+row_handed handed = row handed.shown.now handed.text.now
+
+-- the row of an entry: what is shown of it, and its text
+abbrev pub row_of : Entry → Row
+row_of entry = row (shown_of entry) entry.body
+
+-- the entries found, each as its row, in the order of the index
+abbrev pub found_rows : Strategy → List ℕ → Edition → List Row
+found_rows strategy query edition = map row_of (found strategy query edition)
+
+-- the headwords shown of the entries found, each once, with the empty text
+abbrev pub headword_rows : Strategy → List ℕ → Edition → List Row
+headword_rows strategy query edition = map (λ shown. row shown []) (headwords (found strategy query edition))
+
+-- what the edition's database says of itself, where nothing is shown
+abbrev pub info_rows : Edition → List Row
 info_rows edition = row [] edition.info ∷ []
 
--- how many entries are found, or how many headwords they have
+-- how many entries are found, or how many headwords are shown of them
 abbrev pub count_of : What → Strategy → List ℕ → Edition → ℕ
 count_of Entries strategy query edition = length (found strategy query edition)
 count_of Headwords strategy query edition = length (headwords (found strategy query edition))

@@ -3,22 +3,23 @@ use Rattle.std.specs.Prelude.{ℕ, List, [], ◌∷◌, codes, Some, None}
 use Rattle.dict_index.specs.Edition.{Edition, Entry}
 use Rattle.dict_catalogue.specs.Items.{regular, virtual}
 use Rattle.dict_catalogue.specs.Steps.{Catalogue}
+use Rattle.dict_desk.specs.Found.{shown_of}
 use Rattle.dict_desk.specs.Asked.{Definition, Match}
 
 abbrev pub iron : Entry
-iron = record { headword = codes "iron"; body = codes "iron\n  ore\n" }
+iron = record { headword = codes "iron"; shown = codes "iron"; body = codes "iron\n  ore\n" }
 
 abbrev pub opal : Entry
-opal = record { headword = codes "opal"; body = codes "opal\n  a stone\n" }
+opal = record { headword = codes "opal"; shown = codes "opal"; body = codes "opal\n  a stone\n" }
 
 abbrev pub fire_opal : Entry
-fire_opal = record { headword = codes "Fire Opal"; body = codes "opal\n  a stone\n" }
+fire_opal = record { headword = codes "Fire Opal"; shown = codes "Fire Opal"; body = codes "opal\n  a stone\n" }
 
 abbrev pub dot : Entry
-dot = record { headword = codes "dot"; body = codes ".dot\n" }
+dot = record { headword = codes "dot"; shown = codes "dot"; body = codes ".dot\n" }
 
 abbrev pub dot_again : Entry
-dot_again = record { headword = codes "dot"; body = codes "a dot\n" }
+dot_again = record { headword = codes "dot"; shown = codes "dot"; body = codes "a dot\n" }
 
 abbrev pub ores : Edition
 ores = record { title = codes "Ores"; info = []; entries = iron ∷ [] }
@@ -40,10 +41,10 @@ worked_catalogue = record {
 }
 
 abbrev pub of_gem : Entry → Definition
-of_gem entry = record { name = codes "gem"; title = codes "Gems"; headword = entry.headword; body = entry.body }
+of_gem entry = record { name = codes "gem"; title = codes "Gems"; shown = shown_of entry; body = entry.body }
 
 abbrev pub in_gem : List ℕ → Match
-in_gem headword = record { name = codes "gem"; headword = headword }
+in_gem shown = record { name = codes "gem"; shown = shown }
 
 abbrev pub in_ore : List ℕ → Match
-in_ore headword = record { name = codes "ore"; headword = headword }
+in_ore shown = record { name = codes "ore"; shown = shown }

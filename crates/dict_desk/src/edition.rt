@@ -3,21 +3,21 @@ ghost use Rattle.std.specs.Prelude.{◌≡◌, ◌≤◌, ◌==◌, not, filter,
 ghost use Rattle.std.specs.List.{list_any};
 ghost use Rattle.dict_desk.specs.Plain.{numbered};
 ghost use Rattle.dict_index.specs.Edition.{edition_of};
-ghost use Rattle.dict_desk.specs.Found.{is_found, found};
+ghost use Rattle.dict_desk.specs.Found.{is_found};
 ghost use Rattle.dict_desk.specs.PlainEntries.{LieWithin};
 ghost use Rattle.dict_desk.specs.declared.lookup.What.TheVariants.{Entries, Headwords};
-ghost use Rattle.dict_desk.specs.Shown.{headword_rows, info_rows, count_of};
+ghost use Rattle.dict_desk.specs.Shown.{found_rows, headword_rows, info_rows, count_of};
 
 use crate::entries::{Hits, OwnedEntry, Span, hand_found, hand_listed, hits_among, owned_entries};
 use crate::lookup::End;
-use crate::sink::{RowSink, Turn};
+use crate::sink::{Row, RowSink, Turn};
 use dict_index::Edition;
 use dict_match::Strategy;
 use std::alloc::{AllocError, Global};
 use std::marker::Model;
 
-/// An edition with its number: one text, and the entries with their keys and with marks of which of them are the first
-/// of their headwords.
+/// An edition with its number: one text, and the entries with their keys, each linked to the last one before it that
+/// shows the same text.
 #[derive(Drop)]
 pub(crate) struct PlainEdition {
     number: u64,
@@ -32,13 +32,13 @@ impl Model for PlainEdition {
     ghost use Rattle.std.specs.List.{AllByRecursion};
     ghost use Rattle.dict_index.specs.Edition.{Edition};
     ghost use Rattle.dict_catalogue.specs.Items.{Stored};
-    ghost use Rattle.dict_desk.specs.PlainEntries.{entry_of, HasItsKey, AreMarked};
+    ghost use Rattle.dict_desk.specs.PlainEntries.{entry_of, HasItsKey, AreLinked};
 
     ghost Value = { Stored Edition };
 
     ghost view = { λ e. record { number = e.number; content = record { title = string_bytes e.title; info = string_bytes e.info; entries = map (entry_of e.text.items) e.entries.items } } };
 
-    ghost invariant = { λ e. AllByRecursion HasItsKey e.entries.items × AreMarked [] e.entries.items };
+    ghost invariant = { λ e. AllByRecursion HasItsKey e.entries.items × AreLinked e.entries.items };
 }
 
 // The edition of this number.
@@ -95,8 +95,8 @@ impl PlainEdition {
         sink: &mut T,
     ) -> End
         requires { LieWithin (is_found strategy query.now) self.now.content.entries span.first span.end }
-        ensures all { result ≡ End.All → T.takes sink.old (found strategy query.now self.now.content) sink.new }
-        ensures stopped { result ≡ End.Stopped → T.stops sink.old (found strategy query.now self.now.content) sink.new }
+        ensures all { result ≡ End.All → T.takes sink.old (found_rows strategy query.now self.now.content) sink.new }
+        ensures stopped { result ≡ End.Stopped → T.stops sink.old (found_rows strategy query.now self.now.content) sink.new }
     {
         hand_found(
             &self.text,
@@ -107,7 +107,7 @@ impl PlainEdition {
         )
     }
 
-    // Hands out the headwords of the entries that a query finds, all of which lie in the span.
+    // Hands out the headwords shown of the entries that a query finds, all of which lie in the span.
     pub(crate) fn heads<T: RowSink>(
         &self,
         span: Span,
@@ -119,7 +119,7 @@ impl PlainEdition {
         ensures all { result ≡ End.All → T.takes sink.old (headword_rows strategy query.now self.now.content) sink.new }
         ensures stopped { result ≡ End.Stopped → T.stops sink.old (headword_rows strategy query.now self.now.content) sink.new }
     {
-        hand_listed(&self.entries[span.first..span.end], strategy, query, sink)
+        hand_listed(&self.entries, span, strategy, query, sink)
     }
 
     // The span of all entries.
@@ -138,7 +138,11 @@ impl PlainEdition {
         ensures all { result ≡ End.All → T.takes sink.old (info_rows self.now.content) sink.new }
         ensures stopped { result ≡ End.Stopped → T.stops sink.old (info_rows self.now.content) sink.new }
     {
-        match sink.take("", self.info.as_bytes()) {
+        let row = Row {
+            shown: "",
+            text: self.info.as_bytes(),
+        };
+        match sink.take(row) {
             Turn::More => End::All,
             Turn::Stop => End::Stopped,
         }

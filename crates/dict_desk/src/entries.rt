@@ -1,67 +1,75 @@
 // The entries of an edition that is kept in memory.
-ghost use Rattle.std.specs.Prelude.{◌≡◌, ◌≤◌, ◌<◌, ◌==◌, ◌+◌, ℕ, [], ◌∷◌, List, IfOk, length, map, filter, take, drop, if◌then◌else◌};
+ghost use Rattle.std.specs.Prelude.{◌≡◌, ◌≤◌, ◌<◌, ◌==◌, ◌+◌, ◌&&◌, not, ℕ, [], ◌∷◌, List, Some, IfOk, length, map, filter, take, drop, slice_get, string_bytes, if◌then◌else◌};
 ghost use Rattle.std.specs.List.{AllByRecursion};
 ghost use Rattle.dict_index.specs.Views.{line_of as line_read, HasBodyIn, HasItsKey as HasKeyRead};
-ghost use Rattle.dict_desk.specs.Shown.{row};
-ghost use Rattle.dict_desk.specs.PlainEntries.{line_of, entry_of, headword_of, HasItsKey, AreMarked, is_hit_of, is_listed, rows_found, rows_listed, LieWithin};
+ghost use Rattle.dict_desk.specs.Shown.{row, row_of};
+ghost use Rattle.dict_desk.specs.PlainEntries.{line_of, entry_of, shown_by, HasItsKey, AreLinked, is_hit_of, is_shown, texts_listed, rows_found, rows_listed, LieWithin};
 
 use crate::lookup::End;
-use crate::sink::{RowSink, Turn};
+use crate::sink::{Row, RowSink, Turn};
 use dict_index::Entry;
 use dict_match::{Key, Strategy, matches};
 use std::alloc::{AllocError, Global};
-use std::collections::BTreeSet;
+use std::collections::BTreeMap;
 
-/// What a line of the index says: a headword, and where its text stands in that of its edition.
+/// What a line of the index says: a headword, what replies show of it, and where its text stands in that of its edition;
+/// and the place of the last entry before this one that shows the same text, if there is one.
 #[derive(Drop)]
 pub(crate) struct Said {
     pub headword: String,
+    pub shown: String,
     pub offset: usize,
     pub size: usize,
+    pub earlier: Option<usize>,
 }
 
-/// An entry: the key of its headword, whether it is the first entry with this headword, and what its line says. The
-/// last is apart, so that keys, which are gone through for each query, lie near one another.
+/// An entry: the key of its headword, and what its line says. The last is apart, so that keys, which are gone through
+/// for each query, lie near one another.
 #[derive(Drop)]
 pub(crate) struct OwnedEntry {
     pub key: Key,
-    pub is_first: bool,
     pub said: Box<Said>,
 }
 
-// The entries, with memory of their own. Earlier headwords are looked up in a set in order.
+// The entries, with memory of their own. The last place of each text that was shown is looked up in a map in order.
 pub(crate) fn owned_entries(alloc: Global, entries: &[Entry]) -> Result<Vec<OwnedEntry>, AllocError>
     requires { AllByRecursion HasKeyRead entries.now }
     ensures lines { IfOk result (λ owned. map line_of owned.items ≡ map line_read entries.now) }
     ensures keys { IfOk result (λ owned. AllByRecursion HasItsKey owned.items) }
-    ensures marks { IfOk result (λ owned. AreMarked [] owned.items) }
+    ensures links { IfOk result (λ owned. AreLinked owned.items) }
 {
     let mut owned = Vec::with_capacity(alloc, entries.len())?;
-    let mut seen = BTreeSet::new(alloc);
+    let mut places = BTreeMap::new(alloc);
     for entry in entries {
-        let is_first = seen.insert(entry.headword)?;
-        let kept = owned_entry(alloc, entry, is_first)?;
+        let earlier = places.insert(entry.shown, owned.len())?;
+        let kept = owned_entry(alloc, entry, earlier)?;
         owned.push(kept)?;
     }
     Ok(owned)
 }
 
 // The entry, with memory of its own.
-fn owned_entry(alloc: Global, entry: &Entry, is_first: bool) -> Result<OwnedEntry, AllocError>
+fn owned_entry(
+    alloc: Global,
+    entry: &Entry,
+    earlier: Option<usize>,
+) -> Result<OwnedEntry, AllocError>
     requires { HasKeyRead entry.now }
     ensures line { IfOk result (λ owned. line_of owned ≡ line_read entry.now) }
     ensures key { IfOk result HasItsKey }
-    ensures mark { IfOk result (λ owned. owned.is_first ≡ is_first) }
+    ensures link { IfOk result (λ owned. owned.said.value.earlier ≡ earlier) }
 {
     let headword = String::from_str(alloc, entry.headword)?;
+    let shown = String::from_str(alloc, entry.shown)?;
     let said = Said {
         headword,
+        shown,
         offset: entry.offset,
         size: entry.size,
+        earlier,
     };
     Ok(OwnedEntry {
         key: entry.key.clone()?,
-        is_first,
         said: Box::new(alloc, said)?,
     })
 }
@@ -80,12 +88,39 @@ fn finds(strategy: Strategy, query: &[u8], entry: &OwnedEntry) -> bool
     }
 }
 
-// Whether the entry is the first of its headword, and a query finds it.
-fn lists(strategy: Strategy, query: &[u8], entry: &OwnedEntry) -> bool
-    requires { HasItsKey entry.now }
-    ensures { result ≡ is_listed strategy query.now entry.now }
+// Whether a query finds one of the entries before this one, which stands at this place, that shows the same text.
+fn is_repeated(
+    entries: &[OwnedEntry],
+    place: usize,
+    entry: &OwnedEntry,
+    strategy: Strategy,
+    query: &[u8],
+) -> bool
+    requires keys { AllByRecursion HasItsKey entries.now }
+    requires links { AreLinked entries.now }
+    requires here { slice_get entries.now place ≡ Some entry.now }
+    ensures { result ≡ is_shown strategy query.now (shown_by entry.now) (take place entries.now) }
 {
-    entry.is_first && finds(strategy, query, entry)
+    let mut last = entry.said.earlier;
+    while let Some(earlier) = last {
+        let before = &entries[earlier];
+        if finds(strategy, query, before) {
+            return true;
+        }
+        last = before.said.earlier;
+    }
+    false
+}
+
+// Whether a query finds the entry at this place, and none before it that shows the same text.
+fn lists(entries: &[OwnedEntry], place: usize, strategy: Strategy, query: &[u8]) -> bool
+    requires keys { AllByRecursion HasItsKey entries.now }
+    requires links { AreLinked entries.now }
+    requires place { place < length entries.now }
+    ensures { (entry : OwnedEntry) → slice_get entries.now place ≡ Some entry → result ≡ (is_hit_of strategy query.now entry && not (is_shown strategy query.now (shown_by entry) (take place entries.now))) }
+{
+    let entry = &entries[place];
+    finds(strategy, query, entry) && !is_repeated(entries, place, entry, strategy, query)
 }
 
 /// The places from the first one up to the end.
@@ -95,7 +130,8 @@ pub(crate) struct Span {
     pub end: usize,
 }
 
-/// What a query finds: how many entries, how many headwords, and a span in which all these entries lie.
+/// What a query finds: how many entries, how many headwords are shown of them, and a span in which all these entries
+/// lie.
 #[derive(Clone, Copy)]
 pub(crate) struct Hits {
     pub entries: u64,
@@ -104,12 +140,12 @@ pub(crate) struct Hits {
 }
 
 // One entry more, which lies behind those before it.
-fn with(hits: Hits, place: usize, entry: &OwnedEntry) -> Hits
+fn with(hits: Hits, place: usize, is_repeated: bool) -> Hits
     requires entries { hits.entries ≤ place }
     requires headwords { hits.headwords ≤ place }
     requires place { place < 9223372036854775808 }
     ensures entries { result.entries ≡ hits.entries + 1 }
-    ensures headwords { result.headwords ≡ (if entry.now.is_first then hits.headwords + 1 else hits.headwords) }
+    ensures headwords { result.headwords ≡ (if is_repeated then hits.headwords else hits.headwords + 1) }
     ensures first { result.span.first ≡ (if hits.span.end == 0 then place else hits.span.first) }
     ensures end { result.span.end ≡ place + 1 }
 {
@@ -118,7 +154,7 @@ fn with(hits: Hits, place: usize, entry: &OwnedEntry) -> Hits
     } else {
         hits.span.first
     };
-    let firsts = if entry.is_first { 1 } else { 0 };
+    let firsts = if is_repeated { 0 } else { 1 };
     Hits {
         entries: hits.entries + 1,
         headwords: hits.headwords + firsts,
@@ -131,9 +167,10 @@ fn with(hits: Hits, place: usize, entry: &OwnedEntry) -> Hits
 
 // What a query finds among the entries.
 pub(crate) fn hits_among(entries: &[OwnedEntry], strategy: Strategy, query: &[u8]) -> Hits
-    requires { AllByRecursion HasItsKey entries.now }
+    requires keys { AllByRecursion HasItsKey entries.now }
+    requires links { AreLinked entries.now }
     ensures entries { result.entries ≡ length (filter (is_hit_of strategy query.now) entries.now) }
-    ensures headwords { result.headwords ≡ length (filter (is_listed strategy query.now) entries.now) }
+    ensures headwords { result.headwords ≡ length (texts_listed strategy query.now entries.now) }
     ensures within { LieWithin (is_hit_of strategy query.now) entries.now result.span.first result.span.end }
 {
     let mut hits = Hits {
@@ -143,7 +180,8 @@ pub(crate) fn hits_among(entries: &[OwnedEntry], strategy: Strategy, query: &[u8
     };
     for (place, entry) in entries.iter().enumerate() {
         if finds(strategy, query, entry) {
-            hits = with(hits, place, entry);
+            let is_repeated = is_repeated(entries, place, entry, strategy, query);
+            hits = with(hits, place, is_repeated);
         }
     }
     hits
@@ -173,11 +211,12 @@ pub(crate) fn hand_found<T: RowSink>(
 
 // Hands out the entry.
 fn hand_entry<T: RowSink>(text: &[u8], entry: &OwnedEntry, sink: &mut T) -> Turn
-    ensures more { result ≡ Turn.More → T.takes sink.old (entry_of text.now entry.now ∷ []) sink.new }
-    ensures stop { result ≡ Turn.Stop → T.stops sink.old (entry_of text.now entry.now ∷ []) sink.new }
+    ensures more { result ≡ Turn.More → T.takes sink.old (row_of (entry_of text.now entry.now) ∷ []) sink.new }
+    ensures stop { result ≡ Turn.Stop → T.stops sink.old (row_of (entry_of text.now entry.now) ∷ []) sink.new }
 {
-    let body = cut(text, entry.said.offset, entry.said.size);
-    sink.take(entry.said.headword.as_str(), body)
+    let shown = entry.said.shown.as_str();
+    let text = cut(text, entry.said.offset, entry.said.size);
+    sink.take(Row { shown, text })
 }
 
 // What an interval cuts out of a text, as far as the text goes.
@@ -188,20 +227,23 @@ fn cut(text: &[u8], offset: usize, size: usize) -> &[u8]
     &rest[..size.min(rest.len())]
 }
 
-// Hands out the headwords of the entries that a query finds, each once.
+// Hands out what is shown of the entries that a query finds, all of which lie in the span, each text once.
 pub(crate) fn hand_listed<T: RowSink>(
     entries: &[OwnedEntry],
+    span: Span,
     strategy: Strategy,
     query: &[u8],
     sink: &mut T,
 ) -> End
-    requires { AllByRecursion HasItsKey entries.now }
+    requires keys { AllByRecursion HasItsKey entries.now }
+    requires links { AreLinked entries.now }
+    requires within { LieWithin (is_hit_of strategy query.now) entries.now span.first span.end }
     ensures all { result ≡ End.All → T.takes sink.old (rows_listed strategy query.now entries.now) sink.new }
     ensures stopped { result ≡ End.Stopped → T.stops sink.old (rows_listed strategy query.now entries.now) sink.new }
 {
-    for entry in entries {
-        if lists(strategy, query, entry) {
-            if let Turn::Stop = hand_headword(entry, sink) {
+    for place in span.first..span.end {
+        if lists(entries, place, strategy, query) {
+            if let Turn::Stop = hand_shown(&entries[place], sink) {
                 return End::Stopped;
             }
         }
@@ -209,10 +251,11 @@ pub(crate) fn hand_listed<T: RowSink>(
     End::All
 }
 
-// Hands out the entry's headword.
-fn hand_headword<T: RowSink>(entry: &OwnedEntry, sink: &mut T) -> Turn
-    ensures more { result ≡ Turn.More → T.takes sink.old (row (headword_of entry.now) [] ∷ []) sink.new }
-    ensures stop { result ≡ Turn.Stop → T.stops sink.old (row (headword_of entry.now) [] ∷ []) sink.new }
+// Hands out what is shown of the entry.
+fn hand_shown<T: RowSink>(entry: &OwnedEntry, sink: &mut T) -> Turn
+    ensures more { result ≡ Turn.More → T.takes sink.old (row (shown_by entry.now) [] ∷ []) sink.new }
+    ensures stop { result ≡ Turn.Stop → T.stops sink.old (row (shown_by entry.now) [] ∷ []) sink.new }
 {
-    sink.take(entry.said.headword.as_str(), b"")
+    let shown = entry.said.shown.as_str();
+    sink.take(Row { shown, text: b"" })
 }

@@ -1,11 +1,10 @@
 // What finds entries in a catalogue.
 ghost use Rattle.std.specs.Prelude.{◌≡◌, ◌↔◌, Bool, true, false, ◌||◌, List, Option, Contains, IsOk, IfOk, IfErr, Ok, Err};
-ghost use Rattle.dict_index.specs.Edition.{Edition, Entry};
+ghost use Rattle.dict_index.specs.Edition.{Edition};
 ghost use Rattle.dict_catalogue.specs.Steps.{Catalogue, summary_of};
 ghost use Rattle.dict_catalogue.specs.Views.{summary_shown};
 ghost use Rattle.dict_catalogue.specs.WellFormed.{IsWellFormed};
-ghost use Rattle.dict_desk.specs.Found.{found};
-ghost use Rattle.dict_desk.specs.Shown.{HasEdition, headword_rows, info_rows, count_of};
+ghost use Rattle.dict_desk.specs.Shown.{Row, HasEdition, found_rows, headword_rows, info_rows, count_of};
 ghost use Rattle.dict_desk.specs.Handing.{Hands};
 ghost use Rattle.dict_desk.specs.Faults.{IsOfLookup, has_failed_by, has_closed_by};
 ghost use Rattle.dict_desk.specs.declared.fault.Fault.{Fault as Failure};
@@ -29,7 +28,7 @@ pub enum End {
 pub enum What {
     /// The entries.
     Entries,
-    /// Their headwords, each once.
+    /// The headwords shown of them, each once.
     Headwords,
 }
 
@@ -62,10 +61,10 @@ pub trait Lookup {
         ensures open { is_closed self.now ≡ false → IsOk result }
         ensures closed { is_closed self.now ≡ true → result ≡ Err Fault.Closed };
 
-    /// Hands one row to the sink: the empty headword, and what the edition's database says of itself.
+    /// Hands one row to the sink, which shows nothing: what the edition's database says of itself.
     fn info<T: RowSink>(&mut self, number: u64, sink: &mut T) -> Result<End, Fault>
         ensures value { is_trusted self.new → (M : Catalogue) (edition : Edition) → shows self.old M → HasEdition M number edition → Hands T.takes T.stops sink.old sink.new (info_rows edition) result }
-        ensures handed { (rows : List Entry) × Hands T.takes T.stops sink.old sink.new rows result }
+        ensures handed { (rows : List Row) × Hands T.takes T.stops sink.old sink.new rows result }
         ensures trust { is_trusted self.new → is_trusted self.old }
         ensures shows { is_trusted self.new → (M : Catalogue) → shows self.old M → shows self.new M }
         ensures leaves { (ms : List (Option Catalogue)) → leaves_one_of self.old ms → leaves_one_of self.new ms }
@@ -75,7 +74,7 @@ pub trait Lookup {
         ensures closes { is_closed self.new ≡ (is_closed self.old || has_closed_by result) }
         ensures closed { (result ≡ Err Fault.Closed) ↔ (is_closed self.old ≡ true) };
 
-    /// How many entries of the edition the query finds by the strategy, or how many headwords they have.
+    /// How many entries of the edition the query finds by the strategy, or how many headwords are shown of them.
     fn count(
         &mut self,
         number: u64,
@@ -94,7 +93,7 @@ pub trait Lookup {
         ensures closed { (result ≡ Err Fault.Closed) ↔ (is_closed self.old ≡ true) };
 
     /// Hands the entries of the edition that the query finds by the strategy to the sink, in the order of the index,
-    /// each as a row of its headword and its text.
+    /// each as a row of what is shown of it and its text.
     fn find<T: RowSink>(
         &mut self,
         number: u64,
@@ -102,8 +101,8 @@ pub trait Lookup {
         query: &Key,
         sink: &mut T,
     ) -> Result<End, Fault>
-        ensures value { is_trusted self.new → (M : Catalogue) (edition : Edition) → shows self.old M → HasEdition M number edition → Hands T.takes T.stops sink.old sink.new (found strategy query.now edition) result }
-        ensures handed { (rows : List Entry) × Hands T.takes T.stops sink.old sink.new rows result }
+        ensures value { is_trusted self.new → (M : Catalogue) (edition : Edition) → shows self.old M → HasEdition M number edition → Hands T.takes T.stops sink.old sink.new (found_rows strategy query.now edition) result }
+        ensures handed { (rows : List Row) × Hands T.takes T.stops sink.old sink.new rows result }
         ensures trust { is_trusted self.new → is_trusted self.old }
         ensures shows { is_trusted self.new → (M : Catalogue) → shows self.old M → shows self.new M }
         ensures leaves { (ms : List (Option Catalogue)) → leaves_one_of self.old ms → leaves_one_of self.new ms }
@@ -113,8 +112,8 @@ pub trait Lookup {
         ensures closes { is_closed self.new ≡ (is_closed self.old || has_closed_by result) }
         ensures closed { (result ≡ Err Fault.Closed) ↔ (is_closed self.old ≡ true) };
 
-    /// Hands the headwords of the entries that the query finds by the strategy to the sink, each once, in the order in
-    /// which they first stand among these, as rows with the empty text.
+    /// Hands the headwords shown of the entries that the query finds by the strategy to the sink, each once, in the order
+    /// in which they first stand among these, as rows with the empty text.
     fn heads<T: RowSink>(
         &mut self,
         number: u64,
@@ -123,7 +122,7 @@ pub trait Lookup {
         sink: &mut T,
     ) -> Result<End, Fault>
         ensures value { is_trusted self.new → (M : Catalogue) (edition : Edition) → shows self.old M → HasEdition M number edition → Hands T.takes T.stops sink.old sink.new (headword_rows strategy query.now edition) result }
-        ensures handed { (rows : List Entry) × Hands T.takes T.stops sink.old sink.new rows result }
+        ensures handed { (rows : List Row) × Hands T.takes T.stops sink.old sink.new rows result }
         ensures trust { is_trusted self.new → is_trusted self.old }
         ensures shows { is_trusted self.new → (M : Catalogue) → shows self.old M → shows self.new M }
         ensures leaves { (ms : List (Option Catalogue)) → leaves_one_of self.old ms → leaves_one_of self.new ms }

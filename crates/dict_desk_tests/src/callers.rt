@@ -4,8 +4,7 @@ ghost use Rattle.dict_name.specs.Names.{is_request_id};
 ghost use Rattle.dict_index.specs.Edition.{Edition};
 ghost use Rattle.dict_catalogue.specs.Steps.{Catalogue, kept_under, step};
 ghost use Rattle.dict_catalogue.specs.Views.{command_meant};
-ghost use Rattle.dict_desk.specs.Found.{found};
-ghost use Rattle.dict_desk.specs.Shown.{HasEdition};
+ghost use Rattle.dict_desk.specs.Shown.{HasEdition, found_rows};
 ghost use Rattle.dict_desk.specs.Handing.{Hands};
 ghost use Rattle.dict_desk.specs.Applying.{Applies, Leaves};
 
@@ -21,7 +20,7 @@ pub(crate) fn count_and_find<L: Lookup, T: RowSink>(
     query: &Key,
     sink: &mut T,
 ) -> Result<End, Fault>
-    ensures value { L.is_trusted desk.new → (M : Catalogue) (edition : Edition) → L.shows desk.old M → HasEdition M number edition → Hands T.takes T.stops sink.old sink.new (found strategy query.now edition) result }
+    ensures value { L.is_trusted desk.new → (M : Catalogue) (edition : Edition) → L.shows desk.old M → HasEdition M number edition → Hands T.takes T.stops sink.old sink.new (found_rows strategy query.now edition) result }
     ensures shows { L.is_trusted desk.new → (M : Catalogue) → L.shows desk.old M → L.shows desk.new M }
     ensures leaves { (ms : List (Option Catalogue)) → L.leaves_one_of desk.old ms → L.leaves_one_of desk.new ms }
 {

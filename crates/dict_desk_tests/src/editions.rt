@@ -2,7 +2,9 @@
 use super::files::GEM;
 use crate::checks::{holds, same, same_text, same_text_of};
 use bstr::ByteSlice;
-use dict_index::{Edition, Entry, IndexFault, Refusal, entry_key, is_edition_text, read_edition};
+use dict_index::{
+    Edition, Entry, IndexFault, Refusal, entry_key, is_edition_text, is_shown, read_edition,
+};
 use std::alloc::{AllocError, Global};
 use std::process::Abort;
 use std::test::Fail;
@@ -58,9 +60,13 @@ fn as_text(octets: &[u8]) -> &str {
     octets.to_str().unwrap_or("")
 }
 
-// Puts an entry as its headword, key, offset, size and text.
+// Puts an entry as its headword, what is shown where that is another text, its key, offset, size and text.
 fn push_entry(alloc: Global, text: &mut String, entry: &Entry<'_>) -> Result<(), AllocError> {
     text.push_str(entry.headword)?;
+    if entry.shown != entry.headword {
+        text.push_str(" as ")?;
+        text.push_str(entry.shown)?;
+    }
     text.push_str("=")?;
     text.push_str(as_text(entry.key.as_bytes()))?;
     let span = format!(in alloc; " {} {} ", entry.offset, entry.size)?;
@@ -86,7 +92,7 @@ struct Case(
     &'static str,
 );
 
-static CASES: [Case; 8] = [
+static CASES: [Case; 11] = [
     Case(
         b"00-database-short\tA\tZ\nopal\tZ\tP\nFire Opal\tZ\tP\ndot\to\tF\n",
         b"00-database-short\n  Gems\nopal\n  a stone\n.dot\n",
@@ -138,6 +144,29 @@ static CASES: [Case; 8] = [
         "",
     ),
     Case(b"00databaseshort\tA\tI\n", b" \tGems\t \nx", "Gems", "", ""),
+    // A fourth column is what is shown, and the key is the headword's.
+    Case(
+        b"00-database-short\tA\tZ\nopal\tZ\tP\nFire Opal\tZ\tP\tOpal, fire\ndot\to\tF\n",
+        b"00-database-short\n  Gems\nopal\n  a stone\n.dot\n",
+        "Gems",
+        "",
+        "opal=opal 25 15 opal\n  a stone\nFire Opal as Opal, fire=fire opal 25 15 opal\n  a stone\ndot=dot 40 5 .dot\n",
+    ),
+    Case(
+        b"00-database-short\tA\tZ\nopal\tZ\tP\tOpal\nfire opal\tZ\tP\tOpal\ndot\to\tF\t00-database-short\n",
+        b"00-database-short\n  Gems\nopal\n  a stone\n.dot\n",
+        "Gems",
+        "",
+        "opal as Opal=opal 25 15 opal\n  a stone\nfire opal as Opal=fire opal 25 15 opal\n  a stone\ndot as 00-database-short=dot 40 5 .dot\n",
+    ),
+    // Of a reserved line it is nothing.
+    Case(
+        b"00-database-short\tA\tX\tMetals\n00-database-info\tX\tX\t00-database-short\n00-database-url\tA\tA\topal\n",
+        b"00-database-short\nGems\n00-database-info\n.a\n\nb\n",
+        "Gems",
+        ".a\n\nb\n",
+        "",
+    ),
 ];
 
 fn check_edition(
@@ -169,7 +198,7 @@ fn reads_editions(rt: HostRuntime) -> Result<(), Fail> {
     Ok(())
 }
 
-static REFUSALS: [(Refusal, u8, &str); 14] = [
+static REFUSALS: [(Refusal, u8, &str); 15] = [
     (Refusal::IndexNotUtf8, 1, "IndexNotUtf8"),
     (Refusal::Columns, 2, "Columns"),
     (Refusal::Number, 3, "Number"),
@@ -184,6 +213,7 @@ static REFUSALS: [(Refusal, u8, &str); 14] = [
     (Refusal::TooManyEntries, 12, "TooManyEntries"),
     (Refusal::TextTooLong, 13, "TextTooLong"),
     (Refusal::LastLine, 14, "LastLine"),
+    (Refusal::Shown, 15, "Shown"),
 ];
 
 #[test]
@@ -234,6 +264,33 @@ fn headwords_keep_their_limits(rt: HostRuntime) -> Result<(), Fail> {
     }
     assert!(rt; has_key(rt.alloc(), 255)?);
     assert!(rt; !has_key(rt.alloc(), 256)?);
+    Ok(())
+}
+
+static SHOWN: [(&str, bool); 8] = [
+    ("Opal, fire", true),
+    ("", false),
+    (" ", true),
+    ("a\tb", false),
+    ("a\nb", false),
+    ("a\u{7f}", false),
+    ("\u{80}\u{10ffff}", true),
+    ("00-database-short", true),
+];
+
+// Whether so many letters may be shown.
+fn may_be_shown(alloc: Global, count: usize) -> Result<bool, AllocError> {
+    let text = repeated(alloc, b"", b"a", count, b"")?;
+    Ok(is_shown(as_text(&text)))
+}
+
+#[test]
+fn what_is_shown_keeps_its_limits(rt: HostRuntime) -> Result<(), Fail> {
+    for (text, is_lawful) in &SHOWN {
+        same(&rt, &is_shown(text), is_lawful);
+    }
+    assert!(rt; may_be_shown(rt.alloc(), 255)?);
+    assert!(rt; !may_be_shown(rt.alloc(), 256)?);
     Ok(())
 }
 
@@ -294,9 +351,19 @@ fn with_bad_end(alloc: Global, line: &[u8]) -> Result<Vec<u8>, AllocError> {
 }
 
 // Where two faults are in a line, that of the earlier test is told.
-static LINES: [(&[u8], &str); 16] = [
+static LINES: [(&[u8], &str); 26] = [
     (b"opal\tZ\n", "Columns"),
-    (b"opal\tZ\tP\tP\n", "Columns"),
+    (b"opal\tZ\tP\ta\tb\n", "Columns"),
+    (b"\tAA\t//////\t\t\n", "Columns"),
+    (b"opal\tZ\tP\t\n", "Shown"),
+    (b"opal\tZ\tP\ta\x7f\n", "Shown"),
+    (b"opal\tZ\tP\ta\r\n", "Shown"),
+    (b"opal\tt\tB\t\n", "Shown"),
+    (b"00-database-flags\tA\tZ\t\n", "Shown"),
+    (b"00-database-short\tA\tZ\t\n", "Shown"),
+    (b"opal\tZ\tAP\t\n", "Number"),
+    (b"opal\tZ\t//\t\n", "Interval"),
+    (b" \tZ\tP\t\n", "Headword"),
     (b"\n", "Columns"),
     (b"opal\tZ\tAP\n", "Number"),
     (b"opal\tZ\tP\r\n", "Number"),
@@ -354,11 +421,16 @@ fn refuses_a_line_wherever_it_stands(rt: HostRuntime) -> Result<(), Fail> {
 }
 
 // Lines behind that of the title, and what is told of them.
-static FIRST: [(&[u8], Told); 16] = [
+static FIRST: [(&[u8], Told); 21] = [
     (
         b"opal\tZ\tP\nFire Opal\tZ\tP\ndot\to\t//\n",
         Told("Interval", 4),
     ),
+    (b"Fire Opal\tZ\tP\tOpal, fire\n", READ),
+    (b"opal\tZ\tP\t\n", Told("Shown", 2)),
+    (b"opal\tZ\tP\ta\tb\n", Told("Columns", 2)),
+    (b"00-database-alphabet\tA\tZ\ta\n", READ),
+    (b"00-database-alphabet\tA\tZ\t\n", Told("Shown", 2)),
     (b"\tZ\tQQQQQQQ\n", Told("Number", 2)),
     (b"\tZ\t//\n", Told("Interval", 2)),
     (b"\tt\tB\n", Told("Headword", 2)),
@@ -394,6 +466,34 @@ fn tells_the_first_fault(rt: HostRuntime) -> Result<(), Fail> {
     for (lines, told) in &FIRST {
         let index = repeated(rt.alloc(), GOOD[0], lines, 1, b"")?;
         check(&rt, rt.alloc(), &index, &text, *told)?;
+    }
+    Ok(())
+}
+
+// Indexes over the text of `gem`, with a fourth column in the second or the third line.
+static FOURTH: [(&[u8], Told); 4] = [
+    (
+        b"00-database-short\tA\tZ\nopal\tZ\tP\nFire Opal\tZ\tP\tOpal, fire\ndot\to\tF\n",
+        READ,
+    ),
+    (
+        b"00-database-short\tA\tZ\nopal\tZ\tP\t\nFire Opal\tZ\tP\ndot\to\tF\n",
+        Told("Shown", 2),
+    ),
+    (
+        b"00-database-short\tA\tZ\nopal\tZ\tP\ta\tb\nFire Opal\tZ\tP\ndot\to\tF\n",
+        Told("Columns", 2),
+    ),
+    (
+        b"00-database-short\tA\tZ\nopal\tZ\tZ\t\nFire Opal\tZ\tP\ndot\to\tF\n",
+        Told("Interval", 2),
+    ),
+];
+
+#[test]
+fn takes_a_fourth_column(rt: HostRuntime) -> Result<(), Fail> {
+    for (index, told) in &FOURTH {
+        check(&rt, rt.alloc(), index, GEM.2, *told)?;
     }
     Ok(())
 }
@@ -437,16 +537,14 @@ fn refuses_files_that_are_cut_short(rt: HostRuntime) -> Result<(), Fail> {
 
 const SHORT: &[u8] = b"00-database-short\tA\tZ\n";
 
+const OPAL: &[u8] = b"00-database-short\tA\tZ\nopal\tZ\tP\t";
+
 // The front, so many pieces and the end of an index over the text of `gem`, and what is told.
-static LIMITS: [(&[u8], &[u8], usize, &[u8], Told); 8] = [
+static LIMITS: [(&[u8], &[u8], usize, &[u8], Told); 4] = [
     (SHORT, b"h", 255, b"\tZ\tP\n", READ),
     (SHORT, b"h", 256, b"\tZ\tP\n", Told("Headword", 2)),
-    (SHORT, b"a\tA\tA\n", 65_535, b"", READ),
-    (SHORT, b"a\tA\tA\n", 65_536, b"", Told("TooManyEntries", 0)),
-    (b"", b"a\tA\tA\n", 65_536, b"", Told("NoTitle", 0)),
-    (b"", b"a\tA\tA\n", 65_537, b"", Told("TooManyEntries", 0)),
-    (b"", b"\n", 65_537, b"", Told("TooManyEntries", 0)),
-    (b"", b"a\tA\tA\n", 65_537, b"a", Told("LastLine", 0)),
+    (OPAL, b"h", 255, b"\n", READ),
+    (OPAL, b"h", 256, b"\n", Told("Shown", 2)),
 ];
 
 #[test]
@@ -466,10 +564,29 @@ fn keeps_to_the_limits(rt: HostRuntime) -> Result<(), Fail> {
     )
 }
 
+const LINE: &[u8] = b"a\tA\tA\n";
+
+// The title, and 262,143 lines more.
+fn most_lines(alloc: Global) -> Result<Vec<u8>, AllocError> {
+    let block = repeated(alloc, b"", LINE, 512, b"")?;
+    let others = repeated(alloc, b"", LINE, 511, b"")?;
+    repeated(alloc, SHORT, &block, 511, &others)
+}
+
+#[test]
+fn keeps_to_the_limit_of_lines(rt: HostRuntime) -> Result<(), Fail> {
+    let mut index = most_lines(rt.alloc())?;
+    check(&rt, rt.alloc(), &index, GEM.2, READ)?;
+    index.extend_from_slice(LINE)?;
+    check(&rt, rt.alloc(), &index, GEM.2, Told("TooManyEntries", 0))?;
+    index.extend_from_slice(b"a")?;
+    check(&rt, rt.alloc(), &index, GEM.2, Told("LastLine", 0))
+}
+
 #[test]
 fn keeps_to_the_limit_of_a_text(rt: HostRuntime) -> Result<(), Fail> {
     let mut text: Vec<u8> = Vec::new(rt.alloc());
-    text.resize(16_777_216, b'x')?;
+    text.resize(67_108_864, b'x')?;
     check(&rt, rt.alloc(), b"", &text, Told("NoTitle", 0))?;
     text.push(b'x')?;
     check(&rt, rt.alloc(), b"", &text, Told("TextTooLong", 0))?;

@@ -1,5 +1,5 @@
 // What is handed out, as text.
-use dict_desk::{End, Fault, Lookup, PlainDesk, RowSink, Turn, What};
+use dict_desk::{End, Fault, Lookup, PlainDesk, Row, RowSink, Turn, What};
 use dict_match::{Key, Strategy, key_of};
 use std::alloc::{AllocError, Global};
 
@@ -15,9 +15,9 @@ impl RowSink for Rows {
 
     ghost stops = { λ _ _ _. Unit {0} };
 
-    fn take(&mut self, headword: &str, body: &[u8]) -> Turn {
+    fn take(&mut self, row: Row) -> Turn {
         self.left = self.left.saturating_sub(1);
-        if push_row(&mut self.text, headword, body).is_err() || self.left == 0 {
+        if push_row(&mut self.text, row).is_err() || self.left == 0 {
             Turn::Stop
         } else {
             Turn::More
@@ -31,10 +31,10 @@ impl RowSink for Rows {
     ghost stopped = { λ a b c rows more rest h k. tt };
 }
 
-fn push_row(text: &mut String, headword: &str, body: &[u8]) -> Result<(), AllocError> {
-    text.push_str(headword)?;
+fn push_row(text: &mut String, row: Row) -> Result<(), AllocError> {
+    text.push_str(row.shown)?;
     text.push('=')?;
-    text.push_str(str::from_utf8(body).unwrap_or("not UTF-8"))?;
+    text.push_str(str::from_utf8(row.text).unwrap_or("not UTF-8"))?;
     text.push(';')
 }
 

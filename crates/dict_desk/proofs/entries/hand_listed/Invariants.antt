@@ -2,5 +2,5 @@ use Rattle.std.proofs.Common.{take}
 use Rattle.dict_desk.specs.PlainEntries.{rows_listed}
 use Rattle.dict_desk.proofs.entries.hand_listed.Given as goal
 
-abbrev pub invariant-loop-entry : goal.invariant-loop-entry
-invariant-loop-entry g l = g.T.RowSink.takes l.initial.sink (rows_listed l.strategy l.query (take l.entry-index l.entries)) l.sink
+abbrev pub invariant-loop-place : goal.invariant-loop-place
+invariant-loop-place g l = g.T.RowSink.takes l.initial.sink (rows_listed l.strategy l.query (take l.place l.entries)) l.sink

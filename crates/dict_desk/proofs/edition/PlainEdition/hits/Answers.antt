@@ -4,7 +4,7 @@ use Rattle.dict_index.specs.Edition.{Edition}
 use Rattle.dict_catalogue.specs.Items.{Stored}
 use Rattle.dict_desk.specs.Found.{is_found}
 use Rattle.dict_desk.specs.Shown.{count_of}
-use Rattle.dict_desk.specs.PlainEntries.{entry_of, is_hit_of, is_listed, LieWithin}
+use Rattle.dict_desk.specs.PlainEntries.{entry_of, is_hit_of, texts_listed, LieWithin}
 use Rattle.dict_desk.specs.declared.entries.OwnedEntry.{OwnedEntry}
 use Rattle.dict_desk.specs.declared.lookup.What.TheVariants.{Entries, Headwords}
 use Rattle.dict_desk.proofs.PlainLemmas.{count_is_found, count_is_listed}
@@ -21,8 +21,8 @@ returns-clause-entries c =
 pub returns-clause-headwords : goal.returns-clause-headwords
 returns-clause-headwords c =
     let inside = c.self.inside in
-    c.hits_among.ensures.headwords ∙ (ap (λ (entries : List OwnedEntry). length (filter (is_listed c.args.strategy c.args.query.now) entries)) c.deref.ensures.value
-    ∙ (count_is_listed inside.title.bytes.items inside.info.bytes.items inside.text.items c.args.strategy c.args.query.now inside.entries.items c.self.invariant.1
+    c.hits_among.ensures.headwords ∙ (ap (λ (entries : List OwnedEntry). length (texts_listed c.args.strategy c.args.query.now entries)) c.deref.ensures.value
+    ∙ (count_is_listed inside.title.bytes.items inside.info.bytes.items inside.text.items c.args.strategy c.args.query.now inside.entries.items
     ∙ ap (λ (stored : Stored Edition). count_of Headwords c.args.strategy c.args.query.now stored.content) c.self.view_is))
 
 pub returns-clause-within : goal.returns-clause-within

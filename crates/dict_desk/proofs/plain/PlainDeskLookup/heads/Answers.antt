@@ -1,7 +1,7 @@
 use Rattle.std.proofs.Common.{◌≡◌, ℕ, List, ap, subst, ◌∙◌}
-use Rattle.dict_index.specs.Edition.{Edition, Entry}
+use Rattle.dict_index.specs.Edition.{Edition}
 use Rattle.dict_catalogue.specs.Items.{Stored}
-use Rattle.dict_desk.specs.Shown.{headword_rows}
+use Rattle.dict_desk.specs.Shown.{Row, headword_rows}
 use Rattle.dict_desk.proofs.HandingLemmas.{hands_end}
 use Rattle.dict_desk.proofs.DeskLemmas.{same_some, none_some, has_here}
 use Rattle.dict_desk.proofs.plain.PlainDeskLookup.heads.Goals as goal
@@ -13,8 +13,8 @@ returns-in-Some-clause-value g c = λ trusted M edition shown has.
     ap (λ (query : List ℕ). headword_rows c.args.strategy query c.in-Some.edition.now.content) c.as_bytes.ensures
     ∙ ap (λ (stored : Stored Edition). headword_rows c.args.strategy c.args.query.now stored.content) same in
     hands_end g.T.RowSink.takes g.T.RowSink.stops c.args.sink.now c.heads.new.sink c.heads.result (headword_rows c.args.strategy c.args.query.now edition)
-    (λ e. subst (λ (handed : List Entry). g.T.RowSink.takes c.args.sink.now handed c.heads.new.sink) rows (c.heads.ensures.all e))
-    (λ e. subst (λ (handed : List Entry). g.T.RowSink.stops c.args.sink.now handed c.heads.new.sink) rows (c.heads.ensures.stopped e))
+    (λ e. subst (λ (handed : List Row). g.T.RowSink.takes c.args.sink.now handed c.heads.new.sink) rows (c.heads.ensures.all e))
+    (λ e. subst (λ (handed : List Row). g.T.RowSink.stops c.args.sink.now handed c.heads.new.sink) rows (c.heads.ensures.stopped e))
 
 pub returns-in-None-clause-value : goal.returns-in-None-clause-value
 returns-in-None-clause-value g c = λ trusted M edition shown has.
