@@ -3,29 +3,31 @@ use Rattle.std.proofs.Common.{◌≡◌, ◌≢◌, ℕ, zero, suc, ◌+◌, ◌
 use Rattle.std.specs.Prelude.{Option, None, Some, Result, Ok, Err, IfOk, Contains, option_map, slice_get, filter, ◌==◌, ◌&&◌, not, if◌then◌else◌}
 use Rattle.std.specs.List.{flat_map, AllByRecursion}
 use Rattle.std.specs.Str.{bytes_eq}
-use Rattle.std.proofs.lemmas.Bool.{leb-true}
+use Rattle.std.proofs.lemmas.Bool.{leb-true, eqb-true}
 use Rattle.std.proofs.lemmas.Bool.Decides.{nat_tests}
 use Rattle.std.proofs.lemmas.List.{length-map, take_more}
 use Rattle.std.proofs.lemmas.List.Concat.{flat_map-append}
+use Rattle.std.proofs.lemmas.List.Elements.{filter-append}
 use Rattle.std.proofs.lemmas.Option.{slice_get-map}
 use Rattle.dict_match.specs.declared.strategy.Strategy.{Strategy}
 use Rattle.dict_match.specs.declared.strategy.Strategy.TheVariants.{Exact}
 use Rattle.dict_name.specs.Names.{is_name, is_title, has_size}
+use Rattle.dict_index.specs.Limits.{most_entries}
 use Rattle.dict_index.specs.Edition.{Edition, Entry}
 use Rattle.dict_index.specs.WellFormed.{IsWellFormedEdition}
 use Rattle.dict_catalogue.specs.Items.{Item, Stored, regular, virtual, editions_of, item_as}
 use Rattle.dict_catalogue.specs.Steps.{Catalogue, summary_of}
 use Rattle.dict_catalogue.specs.WellFormed.{IsWellFormed, IsLawfulItem, HasWellFormedEditions, total}
 use Rattle.dict_catalogue.proofs.ListLemmas.{sum_flat_map, sum_append}
-use Rattle.dict_desk.specs.Found.{found, is_found, distinct, headwords}
-use Rattle.dict_desk.specs.Shown.{HasEdition, count_of, row}
+use Rattle.dict_desk.specs.Found.{found, is_found, distinct, shown_of, headwords}
+use Rattle.dict_desk.specs.Shown.{Row, HasEdition, count_of, row, row_of}
 use Rattle.dict_desk.specs.Asked.{Database, first_finding, definitions_in, matches_in}
 use Rattle.dict_desk.specs.declared.lookup.What.{What}
 use Rattle.dict_desk.specs.declared.lookup.What.TheVariants.{Entries, Headwords}
 use Rattle.dict_proto.specs.Replies.{no_match_octets, definition_count_octets, match_count_octets, list_end_octets, done_octets}
 use Rattle.dict_session.specs.Answers.{definition_of, definitions_answer, match_line, matches_answer}
 use Rattle.dict_session.specs.Places.{IsHeading}
-use Rattle.dict_session.specs.Rows.{rows_by, row_octets, octets_in, count_in, regular_as, at_place, octets_at, count_at, first_counted, count_octets, end_octets, counted_octets, found_octets, IsCounted}
+use Rattle.dict_session.specs.Rows.{rows_by, row_octets, octets_in, count_in, regular_as, at_place, octets_at, count_at, first_counted, count_octets, end_octets, counted_octets, found_octets, giving, IsCounted}
 use Rattle.dict_session.specs.declared.found.Counted.{Counted}
 use Rattle.dict_session.specs.declared.query.Query.{Query}
 use Rattle.dict_session.specs.declared.asked.Heading.{Heading}
@@ -110,7 +112,7 @@ module _ (key : List ℕ) where
   for_definitions = record { what = Entries; strategy = Exact; key = key }
 
   definitions_same : (db : Database) → flat_map definition_of (definitions_in key db) ≡ octets_in for_definitions db
-  definitions_same db = flat_map-map definition_of _ (found Exact key db.edition)
+  definitions_same db = flat_map-map definition_of _ (found Exact key db.edition) ∙ sym (flat_map-map (row_octets Entries db.name db.edition.title) row_of (found Exact key db.edition))
 
   definitions_count : (db : Database) → length (definitions_in key db) ≡ count_in for_definitions db
   definitions_count db = length-map (found Exact key db.edition) _
@@ -126,7 +128,7 @@ module _ (strategy : Strategy) (key : List ℕ) where
   for_matches = record { what = Headwords; strategy = strategy; key = key }
 
   matches_same : (db : Database) → flat_map match_line (matches_in strategy key db) ≡ octets_in for_matches db
-  matches_same db = flat_map-map match_line _ (headwords (found strategy key db.edition)) ∙ sym (flat_map-map (row_octets Headwords db.name db.edition.title) (λ headword. row headword []) (headwords (found strategy key db.edition)))
+  matches_same db = flat_map-map match_line _ (headwords (found strategy key db.edition)) ∙ sym (flat_map-map (row_octets Headwords db.name db.edition.title) (λ shown. row shown []) (headwords (found strategy key db.edition)))
 
   matches_count : (db : Database) → length (matches_in strategy key db) ≡ count_in for_matches db
   matches_count db = length-map (headwords (found strategy key db.edition)) _
@@ -139,7 +141,7 @@ module _ (strategy : Strategy) (key : List ℕ) where
 
 -- ---- how many rows a place gives
 
-filter_few : {X : Type 0} (p : X → Bool) (xs : List X) → length (filter p xs) ≤ length xs
+pub filter_few : {X : Type 0} (p : X → Bool) (xs : List X) → length (filter p xs) ≤ length xs
 filter_few p [] = omega arith
 filter_few p (x ∷ xs) = by_test (p x) (filter_few p xs)
   where
@@ -151,10 +153,10 @@ pub distinct_few : (texts : List (List ℕ)) → length (distinct texts) ≤ len
 distinct_few [] = omega arith
 distinct_few (text ∷ texts) = omega (arith, filter_few (λ other. not (bytes_eq other text)) (distinct texts), distinct_few texts)
 
-pub few_rows : (what : What) (strategy : Strategy) (key : List ℕ) (edition : Edition) → IsWellFormedEdition edition → count_of what strategy key edition ≤ 65535
+pub few_rows : (what : What) (strategy : Strategy) (key : List ℕ) (edition : Edition) → IsWellFormedEdition edition → count_of what strategy key edition ≤ most_entries
 few_rows Entries strategy key edition w = omega (arith, filter_few (is_found strategy key) edition.entries, w.few)
 few_rows Headwords strategy key edition w =
-    omega (arith, distinct_few (map (λ (entry : Entry). entry.headword) (found strategy key edition)), length-map (found strategy key edition) (λ (entry : Entry). entry.headword), filter_few (is_found strategy key) edition.entries, w.few)
+    omega (arith, distinct_few (map shown_of (found strategy key edition)), length-map (found strategy key edition) shown_of, filter_few (is_found strategy key) edition.entries, w.few)
 
 -- an item of a well-formed catalogue
 pub item_at : {X : Type 0} (P : X → Type 0) (xs : List X) (k : ℕ) (x : X) → AllByRecursion P xs → slice_get xs k ≡ Some x → P x
@@ -166,16 +168,16 @@ pub current_well : (name : List ℕ) (current : Stored Edition) (former : Option
 current_well name current None h = h.0
 current_well name current (Some other) h = h.0
 
-count_few : (query : Query) (M : Catalogue) (place : ℕ) → IsWellFormed M → count_at query M.items place ≤ 65535
+count_few : (query : Query) (M : Catalogue) (place : ℕ) → IsWellFormed M → count_at query M.items place ≤ most_entries
 count_few query M place w = by_item (slice_get M.items place) refl
   where
-    by_item : (o : Option (Item Edition)) → slice_get M.items place ≡ o → total (count_in query) (regular_as o) ≤ 65535
+    by_item : (o : Option (Item Edition)) → slice_get M.items place ≡ o → total (count_in query) (regular_as o) ≤ most_entries
     by_item None e = omega arith
     by_item (Some (virtual name title members)) e = omega arith
     by_item (Some (regular name current former)) e =
         omega (arith, few_rows query.what query.strategy query.key current.content (current_well name current former (item_at HasWellFormedEditions M.items place (regular name current former) w.editions e)))
 
-pub counts_few : (query : Query) (M : Catalogue) (places : List ℕ) → IsWellFormed M → total (count_at query M.items) places ≤ 65535 * length places
+pub counts_few : (query : Query) (M : Catalogue) (places : List ℕ) → IsWellFormed M → total (count_at query M.items) places ≤ most_entries * length places
 counts_few query M [] w = omega arith
 counts_few query M (place ∷ places) w = omega (arith, count_few query M place w, counts_few query M places w)
 
@@ -278,6 +280,58 @@ first_later count xs place rest target e none h =
     let test : (count place == 0) ≡ true = grind (arith, nat_tests, none) in
     sym (ap (λ b. if b then first_counted count rest else place ∷ []) test) ∙ (sym (ap (first_counted count) e) ∙ h)
 
+-- ---- the places that give rows
+
+no_elements : {X : Type 0} (xs : List X) → length xs ≡ 0 → xs ≡ []
+no_elements [] e = refl
+no_elements (x ∷ xs) e = cc
+
+-- a database of which nothing is counted gives no rows
+none_by : (what : What) (strategy : Strategy) (key : List ℕ) (edition : Edition) → count_of what strategy key edition ≡ 0 → rows_by what strategy key edition ≡ []
+none_by Entries strategy key edition e = no_elements (map row_of (found strategy key edition)) (length-map (found strategy key edition) row_of ∙ e)
+none_by Headwords strategy key edition e =
+    let shown = headwords (found strategy key edition) in
+    no_elements (map (λ (text : List ℕ). row text []) shown) (length-map shown (λ (text : List ℕ). row text []) ∙ e)
+
+none_at : (query : Query) (items : List (Item Edition)) (place : ℕ) → count_at query items place ≡ 0 → octets_at query items place ≡ []
+none_at query items place e = by_item (slice_get items place) e
+  where
+    by_item : (o : Option (Item Edition)) → total (count_in query) (regular_as o) ≡ 0 → flat_map (octets_in query) (regular_as o) ≡ []
+    by_item None f = refl
+    by_item (Some (virtual name title members)) f = refl
+    by_item (Some (regular name current former)) f =
+        ap (λ (rows : List Row). flat_map (row_octets query.what name current.content.title) rows ++ []) (none_by query.what query.strategy query.key current.content (omega (arith, f)))
+
+-- the places that give rows give all of them
+pub giving_all : (query : Query) (items : List (Item Edition)) (places : List ℕ) → flat_map (octets_at query items) (giving query items places) ≡ flat_map (octets_at query items) places
+giving_all query items [] = refl
+giving_all query items (place ∷ places) = by_test (count_at query items place == 0) refl (giving_all query items places)
+  where
+    by_test : (b : Bool) → (count_at query items place == 0) ≡ b → flat_map (octets_at query items) (giving query items places) ≡ flat_map (octets_at query items) places
+        → flat_map (octets_at query items) (if not b then place ∷ giving query items places else giving query items places) ≡ octets_at query items place ++ flat_map (octets_at query items) places
+    by_test true e h = h ∙ ap (λ (octets : List ℕ). octets ++ flat_map (octets_at query items) places) (sym (none_at query items place (eqb-true (count_at query items place) 0 e)))
+    by_test false e h = ap (λ (octets : List ℕ). octets_at query items place ++ octets) h
+
+-- the places that give rows, with one place more
+pub giving_more : (query : Query) (items : List (Item Edition)) (places : List ℕ) (i count : ℕ) → i < length places → count ≡ count_at query items (get_or places i 0)
+    → giving query items (take (i + 1) places) ≡ giving query items (take i places) ++ (if count == 0 then [] else get_or places i 0 ∷ [])
+giving_more query items places i count lt is =
+    ap (giving query items) (take_more places i 0 lt)
+    ∙ (filter-append (λ place. not (count_at query items place == 0)) (take i places) (get_or places i 0 ∷ []) ∙ ap (λ l. giving query items (take i places) ++ l) (by_test (count == 0) refl))
+  where
+    by_test : (b : Bool) → (count == 0) ≡ b → (if not (count_at query items (get_or places i 0) == 0) then get_or places i 0 ∷ [] else []) ≡ (if b then [] else get_or places i 0 ∷ [])
+    by_test b e = ap (λ n. if not (n == 0) then get_or places i 0 ∷ [] else []) (sym is) ∙ (ap (λ t. if not t then get_or places i 0 ∷ [] else []) e ∙ turned b)
+      where
+        turned : (t : Bool) → (if not t then get_or places i 0 ∷ [] else []) ≡ (if t then [] else get_or places i 0 ∷ [])
+        turned true = refl
+        turned false = refl
+
+-- the first place that gives rows is one that does
+pub giving_first : (query : Query) (items : List (Item Edition)) (place : ℕ) → count_at query items place ≢ 0 → place ∷ [] ≡ giving query items (place ∷ [])
+giving_first query items place some =
+    let test : (count_at query items place == 0) ≡ false = grind (arith, nat_tests, some) in
+    sym (ap (λ b. if not b then place ∷ [] else []) test)
+
 -- ---- an answer by its count
 
 module _ (query : Query) (items : List (Item Edition)) (all : List ℕ) (counted : Counted) (is : IsCounted query items all counted) where
@@ -289,7 +343,7 @@ module _ (query : Query) (items : List (Item Edition)) (all : List ℕ) (counted
   pub found_some : counted.count ≢ 0 → counted_octets query items counted.places.items counted.count ≡ found_octets query items all
   found_some some =
       let test : (total (count_at query items) all == 0) ≡ false = grind (arith, nat_tests, some, is.count) in
-      ap (λ (places : List ℕ). counted_octets query items places counted.count) is.places
+      ap (λ (octets : List ℕ). count_octets query.what counted.count ++ (octets ++ end_octets query.what)) (ap (flat_map (octets_at query items)) is.places ∙ giving_all query items all)
       ∙ (ap (counted_octets query items all) is.count ∙ sym (ap (λ b. if b then no_match_octets else counted_octets query items all (total (count_at query items) all)) test))
 
 -- ---- the lines before and after the rows

@@ -7,11 +7,11 @@ use Rattle.std.proofs.lemmas.Bool.{leb-true}
 use Rattle.std.proofs.lemmas.List.Concat.{flat_map-append}
 use Rattle.dict_text.specs.Characters.{is_control, has_control}
 use Rattle.dict_text.specs.Lines.{text_lines, onto_first_line}
-use Rattle.dict_text.proofs.AllLemmas.{all_append, all_filter, all_map, all_weaker, all_of}
+use Rattle.dict_text.proofs.AllLemmas.{all_append, all_filter, all_map, all_of}
 use Rattle.dict_name.specs.Names.{has_size, is_name_octet, is_name, is_title}
 use Rattle.dict_index.specs.Edition.{Edition, Entry}
 use Rattle.dict_index.specs.Tests.{IsTextOctet}
-use Rattle.dict_index.specs.WellFormed.{IsEditionText, IsEntryHeadword, IsWellFormedEntry, IsWellFormedEdition}
+use Rattle.dict_index.specs.WellFormed.{IsEditionText, IsWellFormedEntry, IsWellFormedEdition}
 use Rattle.dict_match.specs.Key.{key_of}
 use Rattle.dict_match.specs.StrategyText.{name_of, title_of, strategies}
 use Rattle.dict_match.specs.declared.strategy.Strategy.{Strategy}
@@ -25,8 +25,8 @@ use Rattle.dict_proto.proofs.ReplyLinesLemmas.{reply_octets-short}
 use Rattle.dict_catalogue.specs.Items.{Item, Stored, regular, virtual, is_named}
 use Rattle.dict_catalogue.specs.Steps.{Catalogue}
 use Rattle.dict_catalogue.specs.WellFormed.{IsWellFormed, IsLawfulItem, HasWellFormedEditions, total}
-use Rattle.dict_desk.specs.Found.{found, is_found, distinct}
-use Rattle.dict_desk.specs.Shown.{row}
+use Rattle.dict_desk.specs.Found.{found, is_found, distinct, shown_of}
+use Rattle.dict_desk.specs.Shown.{Row, row, row_of}
 use Rattle.dict_desk.specs.Asked.{Database, databases_named, strategy_of}
 use Rattle.dict_desk.specs.declared.lookup.What.{What}
 use Rattle.dict_desk.specs.declared.lookup.What.TheVariants.{Entries, Headwords}
@@ -128,9 +128,6 @@ host-short : (host : List ℕ) → IsTrue (is_host host) → IsShort 253 host
 unfolding is_host
 host-short host e = let parts = both_true _ _ e in (sized 253 host parts.0, passing is_host_octet refl host parts.1)
 
-headword-short : (headword : List ℕ) → IsEntryHeadword headword → IsShort 255 headword
-headword-short headword h = (h.1.1, none_control headword h.1.2)
-
 -- ---- counts
 
 distinct_all : (P : List ℕ → Type 0) (texts : List (List ℕ)) → AllByRecursion P texts → AllByRecursion P (distinct texts)
@@ -167,22 +164,27 @@ record IsLawful (db : Database) : Type 0 where
   pub name : IsTrue (is_name db.name)
   pub edition : IsWellFormedEdition db.edition
 
-entry-short : (db : Database) → IsLawful db → (entry : Entry) → IsWellFormedEntry entry → AreShortLines (row_octets Entries db.name db.edition.title entry)
-entry-short db w entry h = reply_octets-short (Definition (lent entry.headword) (lent db.name) (lent db.edition.title) (lent entry.body))
-    (headword-short entry.headword h.headword, name-short db.name w.name, title-short db.edition.title w.edition.title.1, text-short entry.body h.body)
+shown-short : (entry : Entry) → IsWellFormedEntry entry → IsShort 255 (shown_of entry)
+shown-short entry h = (h.shown.1.1, none_control entry.shown h.shown.1.2)
+
+entry-short : (db : Database) → IsLawful db → (entry : Entry) → IsWellFormedEntry entry → AreShortLines (row_octets Entries db.name db.edition.title (row_of entry))
+entry-short db w entry h = reply_octets-short (Definition (lent (shown_of entry)) (lent db.name) (lent db.edition.title) (lent entry.body))
+    (shown-short entry h, name-short db.name w.name, title-short db.edition.title w.edition.title.1, text-short entry.body h.body)
 
 found_all : (s : Strategy) (q : List ℕ) (edition : Edition) → IsWellFormedEdition edition → AllByRecursion IsWellFormedEntry (found s q edition)
 found_all s q edition w = all_filter IsWellFormedEntry (is_found s q) edition.entries w.entries
 
 rows-short : (query : Query) (what : What) (db : Database) → IsLawful db → AreShortLines (flat_map (row_octets what db.name db.edition.title) (rows_by what query.strategy query.key db.edition))
-rows-short query Entries db w = short_all (row_octets Entries db.name db.edition.title) (found query.strategy query.key db.edition)
-    (all_weaker IsWellFormedEntry (λ entry. AreShortLines (row_octets Entries db.name db.edition.title entry)) (entry-short db w) (found query.strategy query.key db.edition) (found_all query.strategy query.key db.edition w.edition))
+rows-short query Entries db w =
+    let entries = found query.strategy query.key db.edition in
+    short_all (row_octets Entries db.name db.edition.title) (map row_of entries)
+    (all_map IsWellFormedEntry (λ (r : Row). AreShortLines (row_octets Entries db.name db.edition.title r)) row_of (entry-short db w) entries (found_all query.strategy query.key db.edition w.edition))
 rows-short query Headwords db w =
     let entries = found query.strategy query.key db.edition in
-    let words : List (List ℕ) = map (λ (entry : Entry). entry.headword) entries in
-    let all : AllByRecursion (IsShort 255) words = all_map IsWellFormedEntry (IsShort 255) (λ (entry : Entry). entry.headword) (λ entry h. headword-short entry.headword h.headword) entries (found_all query.strategy query.key db.edition w.edition) in
-    short_all (row_octets Headwords db.name db.edition.title) (map (λ (headword : List ℕ). row headword []) (distinct words))
-    (all_map (IsShort 255) (λ (r : Entry). AreShortLines (row_octets Headwords db.name db.edition.title r)) (λ (headword : List ℕ). row headword []) (λ headword h. line-short db.name headword w.name h) (distinct words) (distinct_all (IsShort 255) words all))
+    let words : List (List ℕ) = map shown_of entries in
+    let all : AllByRecursion (IsShort 255) words = all_map IsWellFormedEntry (IsShort 255) shown_of shown-short entries (found_all query.strategy query.key db.edition w.edition) in
+    short_all (row_octets Headwords db.name db.edition.title) (map (λ (shown : List ℕ). row shown []) (distinct words))
+    (all_map (IsShort 255) (λ (r : Row). AreShortLines (row_octets Headwords db.name db.edition.title r)) (λ (shown : List ℕ). row shown []) (λ shown h. line-short db.name shown w.name h) (distinct words) (distinct_all (IsShort 255) words all))
 
 at-short : (M : Catalogue) → IsWellFormed M → (query : Query) (place : ℕ) → AreShortLines (octets_at query M.items place)
 at-short M w query place = by_item (slice_get M.items place) refl

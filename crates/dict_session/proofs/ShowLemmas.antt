@@ -9,11 +9,11 @@ use Rattle.dict_session.proofs.PlaceLemmas.{read_at}
 use Rattle.std.proofs.lemmas.List.Concat.{flat_map-append}
 use Rattle.dict_io.specs.Streams.{Stream, PutsAll, PutsFront}
 use Rattle.dict_io.proofs.PutLemmas.{all_after, front_after, front_longer}
-use Rattle.dict_index.specs.Edition.{Edition, Entry}
+use Rattle.dict_index.specs.Edition.{Edition}
 use Rattle.dict_catalogue.specs.Items.{Item, Stored, regular, virtual, is_named, item_as, editions_of}
 use Rattle.dict_catalogue.specs.Steps.{Catalogue, summary_of}
 use Rattle.dict_desk.specs.Asked.{Database, databases_named}
-use Rattle.dict_desk.specs.Shown.{HasEdition, info_rows, row}
+use Rattle.dict_desk.specs.Shown.{Row, HasEdition, info_rows, row}
 use Rattle.dict_proto.specs.declared.reply.Reply.TheVariants.{ListEnd, Help, ServerInformation, Done}
 use Rattle.dict_proto.specs.Replies.{reply_octets, list_end_octets, done_octets, invalid_database_octets, info_heading_octets, info_text_octets, no_databases_octets, database_count_octets, unavailable_octets, status_octets}
 use Rattle.dict_session.specs.Answers.{Need, no_rows, one_row}
@@ -169,12 +169,12 @@ pub row_is : (edition : Edition) → flat_map info_row (info_rows edition) ++ do
 row_is edition =
     ap (λ (l : List ℕ). l ++ done_octets) (append-nil (info_heading_octets ++ info_text_octets edition.info)) ∙ append_assoc info_heading_octets (info_text_octets edition.info) done_octets
 
-no_more_rows : (one first : Entry) (front rest : List Entry) → one ∷ [] ≡ (first ∷ front) ++ rest → rest ≡ []
+no_more_rows : (one first : Row) (front rest : List Row) → one ∷ [] ≡ (first ∷ front) ++ rest → rest ≡ []
 no_more_rows one first [] rest e = cc
 no_more_rows one first (row ∷ front) rest e = cc
 
 -- a beginning of the row that was begun
-pub part_of_row : (a b : Stream) (edition : Edition) (front rest : List Entry) → true ≡ has_some front → info_rows edition ≡ front ++ rest → PutsAll a b (flat_map info_row front)
+pub part_of_row : (a b : Stream) (edition : Edition) (front rest : List Row) → true ≡ has_some front → info_rows edition ≡ front ++ rest → PutsAll a b (flat_map info_row front)
     → PutsBeginning one_row a b (info_heading_octets ++ (info_text_octets edition.info ++ done_octets))
 unfolding done_octets info_heading_octets
 part_of_row a b edition [] rest some e h = cc
@@ -186,11 +186,11 @@ part_of_row a b edition (first ∷ front) rest some e h = (
     some = λ none. cc none;
     more = λ none. omega (arith, ap length none, length-append (flat_map info_row rest) done_octets);
   },
-  ap (λ (rows : List Entry). flat_map info_row rows ++ done_octets) (no_more_rows (row [] edition.info) first front rest e),
+  ap (λ (rows : List Row). flat_map info_row rows ++ done_octets) (no_more_rows (row [] edition.info) first front rest e),
   h,
 )
 
-pub none_begun : (a b : Stream) (front : List Entry) → false ≡ has_some front → PutsAll a b (flat_map info_row front) → PutsAll a b []
+pub none_begun : (a b : Stream) (front : List Row) → false ≡ has_some front → PutsAll a b (flat_map info_row front) → PutsAll a b []
 none_begun a b [] e h = h
 none_begun a b (row ∷ front) e h = cc
 

@@ -14,7 +14,7 @@ use Rattle.dict_session.specs.Shows.{databases_answer, strategies_answer, server
 
 -- a definition, with its text
 abbrev pub definition_of : Definition → List ℕ
-definition_of definition = definition_octets definition.headword definition.name definition.title definition.body
+definition_of definition = definition_octets definition.shown definition.name definition.title definition.body
 
 -- the answer to DEFINE where these were found
 abbrev pub definitions_answer : List Definition → List ℕ
@@ -33,7 +33,7 @@ define_answer catalogue name word = defined (definitions catalogue name word)
 
 -- a line of a list of matches
 abbrev pub match_line : Match → List ℕ
-match_line one = list_line_octets one.name one.headword
+match_line one = list_line_octets one.name one.shown
 
 -- the answer to MATCH where these were found
 abbrev pub matches_answer : List Match → List ℕ

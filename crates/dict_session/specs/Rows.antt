@@ -1,13 +1,12 @@
 -- What a query gives, place by place, as the code goes through them.
-use Rattle.std.specs.Prelude.{◌≡◌, ℕ, Bool, true, false, ◌==◌, length, List, [], ◌∷◌, ◌++◌, if◌then◌else◌, Option, Some, None, slice_get}
+use Rattle.std.specs.Prelude.{◌≡◌, ℕ, Bool, true, false, not, ◌==◌, filter, length, List, [], ◌∷◌, ◌++◌, if◌then◌else◌, Option, Some, None, slice_get}
 use Rattle.std.specs.List.{flat_map}
 use Rattle.dict_match.specs.declared.strategy.Strategy.{Strategy}
-use Rattle.dict_index.specs.Edition.{Edition, Entry}
+use Rattle.dict_index.specs.Edition.{Edition}
 use Rattle.dict_catalogue.specs.Items.{Item, regular, virtual, name_of}
 use Rattle.dict_catalogue.specs.Views.{title_of}
 use Rattle.dict_catalogue.specs.WellFormed.{total}
-use Rattle.dict_desk.specs.Found.{found}
-use Rattle.dict_desk.specs.Shown.{headword_rows, count_of}
+use Rattle.dict_desk.specs.Shown.{Row, found_rows, headword_rows, count_of}
 use Rattle.dict_desk.specs.Asked.{Database}
 use Rattle.dict_desk.specs.declared.lookup.What.{What}
 use Rattle.dict_desk.specs.declared.lookup.What.TheVariants.{Entries, Headwords}
@@ -17,15 +16,15 @@ use Rattle.dict_session.specs.Places.{is_regular_named}
 use Rattle.dict_session.specs.declared.query.Query.{Query}
 use Rattle.dict_session.specs.declared.found.Counted.{Counted}
 
--- the rows that a query gives of an edition: the entries found, or their headwords
-abbrev pub rows_by : What → Strategy → List ℕ → Edition → List Entry
-rows_by Entries strategy key edition = found strategy key edition
+-- the rows that a query gives of an edition: those of the entries found, or of the headwords shown of them
+abbrev pub rows_by : What → Strategy → List ℕ → Edition → List Row
+rows_by Entries strategy key edition = found_rows strategy key edition
 rows_by Headwords strategy key edition = headword_rows strategy key edition
 
 -- a row of the database with this name and title: a definition, or a line of a list
-abbrev pub row_octets : What → List ℕ → List ℕ → Entry → List ℕ
-row_octets Entries name title row = definition_octets row.headword name title row.body
-row_octets Headwords name title row = list_line_octets name row.headword
+abbrev pub row_octets : What → List ℕ → List ℕ → Row → List ℕ
+row_octets Entries name title row = definition_octets row.shown name title row.text
+row_octets Headwords name title row = list_line_octets name row.shown
 
 -- what a query gives of a database, and how many rows these are
 abbrev pub octets_in : Query → Database → List ℕ
@@ -73,11 +72,11 @@ found_octets query items places =
     else counted_octets query items places (total (count_at query items) places)
 
 -- what a database says of itself, with the line before it
-abbrev pub info_row : Entry → List ℕ
-info_row row = info_heading_octets ++ info_text_octets row.body
+abbrev pub info_row : Row → List ℕ
+info_row row = info_heading_octets ++ info_text_octets row.text
 
 -- some rows were begun
-abbrev pub has_some : List Entry → Bool
+abbrev pub has_some : List Row → Bool
 has_some [] = false
 has_some (row ∷ rows) = true
 
@@ -89,9 +88,13 @@ shown_line item = list_line_octets (name_of item) (title_of item)
 abbrev pub line_if_named : List ℕ → Item (List ℕ) → List ℕ
 line_if_named name item = if is_regular_named name item then shown_line item else []
 
--- the places are these, and their rows are counted
+-- those of the places that give rows
+abbrev pub giving : Query → List (Item Edition) → List ℕ → List ℕ
+giving query items places = filter (λ place. not (count_at query items place == 0)) places
+
+-- the places are those of these that give rows, and the rows are counted
 pub record IsCounted (query : Query) (items : List (Item Edition)) (all : List ℕ) (counted : Counted) : Type 0 where
-  pub places : counted.places.items ≡ all
+  pub places : counted.places.items ≡ giving query items all
   pub count : counted.count ≡ total (count_at query items) all
 
 -- the answer to SHOW DB, over the items of a summary

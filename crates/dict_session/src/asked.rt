@@ -58,7 +58,7 @@ pub(crate) fn asked_by(items: &[Item], word: &str) -> Option<Asked>
 }
 
 // Adds a place, if there is room for it.
-fn add_place(places: &mut ArrayVec<usize, MAX_PLACES>, place: usize)
+pub(crate) fn add_place(places: &mut ArrayVec<usize, MAX_PLACES>, place: usize)
     ensures { length places.old.items < 64 → places.new.items ≡ places.old.items ++ place ∷ [] }
 {
     let _ = places.try_push(place);

@@ -1,10 +1,10 @@
 // What a query finds in the databases that are asked.
-ghost use Rattle.std.specs.Prelude.{◌≡◌, ◌≤◌, List, true, false, length, slice_get, IsOk, IfOk, OnOk, OnErr};
+ghost use Rattle.std.specs.Prelude.{◌≡◌, ◌≤◌, ◌<◌, ◌==◌, ◌+◌, ◌^◌, List, [], ◌∷◌, ◌++◌, true, false, length, slice_get, if◌then◌else◌, IsOk, IfOk, OnOk, OnErr};
 ghost use Rattle.std.specs.List.{flat_map};
-ghost use Rattle.dict_index.specs.Edition.{Edition, Entry};
+ghost use Rattle.dict_index.specs.Edition.{Edition};
 ghost use Rattle.dict_catalogue.specs.Steps.{Catalogue, summary_of};
 ghost use Rattle.dict_catalogue.specs.WellFormed.{total};
-ghost use Rattle.dict_desk.specs.Shown.{HasEdition};
+ghost use Rattle.dict_desk.specs.Shown.{Row, HasEdition};
 ghost use Rattle.dict_desk.specs.Handing.{Hands};
 ghost use Rattle.dict_io.specs.Streams.{Puts};
 ghost use Rattle.dict_session.specs.Answers.{counted_rows};
@@ -14,7 +14,7 @@ ghost use Rattle.dict_session.specs.Places.{IsHeading};
 ghost use Rattle.dict_session.specs.Rows.{rows_by, row_octets, count_octets, end_octets, count_at, octets_at, first_counted, answering, counted_octets, found_octets, IsCounted};
 
 use crate::answer::{put_unavailable, put_whole, whole};
-use crate::asked::{Asked, Heading, heading_at, one_place};
+use crate::asked::{Asked, Heading, add_place, heading_at, one_place};
 use crate::query::Query;
 use crate::rows::FoundRows;
 use crate::show::put_list_end;
@@ -24,11 +24,35 @@ use dict_desk::{End, Fault, Lookup, RowSink, What};
 use dict_io::{Sink, SinkFault};
 use dict_proto::{Reply, write_reply};
 
-/// The places that an answer's rows come from, and how many rows there are.
+/// The places of the databases that give an answer's rows, each at least one, and how many rows there are.
 #[derive(Drop)]
 pub(crate) struct Counted {
     pub places: ArrayVec<usize, 64>,
     pub count: u64,
+}
+
+// No rows, of no place.
+fn nothing() -> Counted
+    ensures places { result.places.items ≡ [] }
+    ensures count { result.count ≡ 0 }
+{
+    Counted {
+        places: ArrayVec::new(),
+        count: 0,
+    }
+}
+
+impl Counted {
+    // Adds so many rows that the database at a place gives. One that gives none is not asked again.
+    fn add(&mut self, place: usize, count: u64)
+        ensures places { length self.old.places.items < 64 → self.new.places.items ≡ self.old.places.items ++ (if count == 0 then [] else place ∷ []) }
+        ensures count { self.old.count + count < 2 ^ 64 → self.new.count ≡ self.old.count + count }
+    {
+        if count > 0 {
+            add_place(&mut self.places, place);
+            self.count = self.count.saturating_add(count);
+        }
+    }
 }
 
 // The heading of the database at a place.
@@ -55,20 +79,20 @@ fn count_at<L: Lookup>(desk: &mut L, place: usize, query: &Query) -> Result<u64,
     }
 }
 
-// How many rows it gives of those at all the places.
-fn count_all<L: Lookup>(desk: &mut L, places: &[usize], query: &Query) -> Result<u64, Fault>
-    ensures value { L.is_trusted desk.new → (M : Catalogue) → L.shows desk.old M → length places.now ≤ 64 → IfOk result (λ count. count ≡ total (count_at query.now M.items) places.now) }
+// Those of the places that give rows, and how many they give.
+fn count_all<L: Lookup>(desk: &mut L, places: &[usize], query: &Query) -> Result<Counted, Fault>
+    ensures value { L.is_trusted desk.new → (M : Catalogue) → L.shows desk.old M → length places.now ≤ 64 → IfOk result (IsCounted query.now M.items places.now) }
     ensures desk { Stays L.shows L.leaves_one_of L.is_trusted L.is_closed desk.old desk.new }
     ensures open { L.is_closed desk.old ≡ false → OnOk result (L.is_closed desk.new ≡ false) }
 {
-    let mut sum = 0u64;
+    let mut counted = nothing();
     for place in places {
         match count_at(desk, *place, query) {
-            Ok(count) => sum = sum.saturating_add(count),
+            Ok(count) => counted.add(*place, count),
             Err(fault) => return Err(fault),
         }
     }
-    Ok(sum)
+    Ok(counted)
 }
 
 // The first place of whose database a query gives rows, and how many.
@@ -89,10 +113,7 @@ fn count_first<L: Lookup>(desk: &mut L, places: &[usize], query: &Query) -> Resu
             Err(fault) => return Err(fault),
         }
     }
-    Ok(Counted {
-        places: ArrayVec::new(),
-        count: 0,
-    })
+    Ok(nothing())
 }
 
 // Which of the databases asked give rows, and how many.
@@ -105,10 +126,7 @@ fn count_asked<L: Lookup>(desk: &mut L, asked: Asked, query: &Query) -> Result<C
     if is_first {
         return count_first(desk, places.as_slice(), query);
     }
-    match count_all(desk, places.as_slice(), query) {
-        Ok(count) => Ok(Counted { places, count }),
-        Err(fault) => Err(fault),
-    }
+    count_all(desk, places.as_slice(), query)
 }
 
 // Hands the rows that a query gives of the edition of this number to a sink.
@@ -120,7 +138,7 @@ fn hand_out<L: Lookup, T: RowSink>(
 ) -> Result<End, Fault>
     ensures value { L.is_trusted desk.new → (M : Catalogue) (edition : Edition) → L.shows desk.old M → HasEdition M number edition
         → Hands T.takes T.stops sink.old sink.new (rows_by query.now.what query.now.strategy query.now.key edition) result }
-    ensures handed { (rows : List Entry) × Hands T.takes T.stops sink.old sink.new rows result }
+    ensures handed { (rows : List Row) × Hands T.takes T.stops sink.old sink.new rows result }
     ensures desk { Stays L.shows L.leaves_one_of L.is_trusted L.is_closed desk.old desk.new }
     ensures open { OnOk result (L.is_closed desk.new ≡ false) }
     ensures failed { OnErr result (L.has_failed desk.new ≡ true) }

@@ -3,38 +3,32 @@ ghost use Rattle.std.specs.Prelude.{◌≡◌, ◌||◌, []};
 ghost use Rattle.std.specs.List.{flat_map};
 ghost use Rattle.dict_io.specs.Streams.{Puts, PutsAll, PutsFront};
 ghost use Rattle.dict_session.specs.Rows.{row_octets, info_row, has_some};
-ghost use Rattle.dict_desk.specs.Shown.{row};
+ghost use Rattle.dict_desk.specs.Shown.{row, row_handed};
 
 use crate::asked::Heading;
-use dict_desk::{RowSink, Turn, What};
+use dict_desk::{Row, RowSink, Turn, What};
 use dict_io::{Sink, SinkFault};
 use dict_proto::{Reply, write_reply};
 
 // Puts a row: as a definition of the database with this heading, or as a line of a list.
-fn put_row<K: Sink>(
-    sink: &mut K,
-    what: What,
-    heading: &Heading,
-    headword: &str,
-    body: &[u8],
-) -> Result<(), SinkFault>
+fn put_row<K: Sink>(sink: &mut K, what: What, heading: &Heading, row: Row) -> Result<(), SinkFault>
     ensures { Puts result (K.stream sink.old) (K.stream sink.new)
-        (row_octets what heading.now.name.bytes heading.now.title.bytes (row headword.now body.now)) }
+        (row_octets what heading.now.name.bytes heading.now.title.bytes (row_handed row.entry)) }
 {
     let name = heading.name.as_str();
     match what {
         What::Entries => {
             let title = heading.title.as_str();
             let reply = Reply::Definition {
-                headword,
+                headword: row.shown,
                 name,
                 title,
-                body,
+                body: row.text,
             };
             write_reply(sink, &reply)
         }
         What::Headwords => {
-            let text = headword;
+            let text = row.shown;
             write_reply(sink, &Reply::ListLine { name, text })
         }
     }
@@ -60,8 +54,8 @@ impl<'a, K: Sink> RowSink for FoundRows<'a, K> {
     ghost stops = { λ a rows b. PutsFront (K.stream a.sink.now) (K.stream b.sink.now) (flat_map (row_octets a.what a.heading.now.name.bytes a.heading.now.title.bytes) rows)
         × (b.sink.ghost_name ≡ a.sink.ghost_name) };
 
-    fn take(&mut self, headword: &str, body: &[u8]) -> Turn {
-        match put_row(self.sink, self.what, self.heading, headword, body) {
+    fn take(&mut self, row: Row) -> Turn {
+        match put_row(self.sink, self.what, self.heading, row) {
             Ok(()) => Turn::More,
             Err(_) => Turn::Stop,
         }
@@ -82,11 +76,11 @@ pub(crate) struct InfoRow<'a, K: Sink> {
 }
 
 // Puts the line before what a database says of itself, and that text.
-fn put_info_row<K: Sink>(sink: &mut K, body: &[u8]) -> Result<(), SinkFault>
-    ensures { Puts result (K.stream sink.old) (K.stream sink.new) (info_row (row [] body.now)) }
+fn put_info_row<K: Sink>(sink: &mut K, text: &[u8]) -> Result<(), SinkFault>
+    ensures { Puts result (K.stream sink.old) (K.stream sink.new) (info_row (row [] text.now)) }
 {
     write_reply(sink, &Reply::InfoHeading)?;
-    write_reply(sink, &Reply::InfoText(body))
+    write_reply(sink, &Reply::InfoText(text))
 }
 
 impl<'a, K: Sink> RowSink for InfoRow<'a, K> {
@@ -101,9 +95,9 @@ impl<'a, K: Sink> RowSink for InfoRow<'a, K> {
     ghost stops = { λ a rows b. PutsFront (K.stream a.sink.now) (K.stream b.sink.now) (flat_map info_row rows)
         × (b.sink.ghost_name ≡ a.sink.ghost_name) };
 
-    fn take(&mut self, _headword: &str, body: &[u8]) -> Turn {
+    fn take(&mut self, row: Row) -> Turn {
         self.has_begun = true;
-        match put_info_row(self.sink, body) {
+        match put_info_row(self.sink, row.text) {
             Ok(()) => Turn::More,
             Err(_) => Turn::Stop,
         }

@@ -11,10 +11,11 @@ use std::alloc::Global;
 use std::io::{Error, ErrorKind, Read, Result as IoResult};
 use std::test::Fail;
 
-// A line, after how many of its calls the desk fails, and what the session comes to and is answered.
+// A line, after how many of its calls the desk fails, and what the session comes to and is answered. Each database asked is
+// counted, and only those of which something was counted are asked again.
 type Row = (&'static str, u64, &'static str);
 
-static ROWS: [Row; 13] = [
+static ROWS: [Row; 15] = [
     (
         "DEFINE * opal\r\n",
         0,
@@ -39,6 +40,16 @@ static ROWS: [Row; 13] = [
         "DEFINE * opal\r\n",
         4,
         "More 150 2 definitions retrieved\r\n151 \"opal\" stones \"Stones\"\r\nx\r\n.\r\n151 \"opal\" gem \"Gems\"\r\nopal\r\n  a stone\r\n.\r\n250 ok\r\n210 2 databases\r\n",
+    ),
+    (
+        "DEFINE * fire\\ opal\r\n",
+        2,
+        "Broken 150 1 definitions retrieved\r\n",
+    ),
+    (
+        "DEFINE * fire\\ opal\r\n",
+        3,
+        "More 150 1 definitions retrieved\r\n151 \"Fire Opal\" gem \"Gems\"\r\nopal\r\n  a stone\r\n.\r\n250 ok\r\n210 2 databases\r\n",
     ),
     (
         "MATCH * exact opal\r\n",

@@ -1,9 +1,9 @@
 use Rattle.std.proofs.Common.{◌≡◌, ◌+◌, [], ◌∷◌, ap, ◌∙◌, sym, refl, arith, drop, get_or}
 use Rattle.std.proofs.lemmas.List.{drop_more, drop_all}
 use Rattle.dict_catalogue.specs.WellFormed.{total}
-use Rattle.dict_session.specs.Rows.{count_at, first_counted}
+use Rattle.dict_session.specs.Rows.{count_at, first_counted, giving}
 use Rattle.dict_session.proofs.PartLemmas.{stays_same, stays_after}
-use Rattle.dict_session.proofs.FoundLemmas.{first_here, first_later}
+use Rattle.dict_session.proofs.FoundLemmas.{first_here, first_later, giving_first}
 use Rattle.dict_session.proofs.found.count_first.Goals as goal
 
 pub loop-place-init : goal.loop-place-init
@@ -37,7 +37,10 @@ returns-in-Ok-clause-value g c = λ trusted M shown.
     let here : place ∷ [] ≡ first_counted count places = first_here count (drop i places) place (drop (i + 1) places) (first_counted count places) (drop_more places i 0 (omega arith))
     (λ e. c.in-Ok.count-test.1 (counted ∙ e)) (c.loop-place.invariant.left earlier M shown) in
     let alone : count place ≡ total count (place ∷ []) = omega arith in
-    record { places = c.one_place.ensures ∙ here; count = counted ∙ (alone ∙ ap (total count) here) }
+    record {
+      places = c.one_place.ensures ∙ (giving_first c.args.query.now M.items place (λ e. c.in-Ok.count-test.1 (counted ∙ e)) ∙ ap (giving c.args.query.now M.items) here);
+      count = counted ∙ (alone ∙ ap (total count) here);
+    }
 
 pub returns-in-Ok-clause-desk : goal.returns-in-Ok-clause-desk
 returns-in-Ok-clause-desk g c = stays_after g.L.Lookup.shows g.L.Lookup.leaves_one_of g.L.Lookup.is_trusted g.L.Lookup.is_closed _ _ _ c.loop-place.invariant.desk c.in-Ok.ensures.desk
@@ -50,4 +53,4 @@ returns-clause-value g c = λ trusted M shown.
     let count = count_at c.args.query.now M.items in
     let none : [] ≡ first_counted count c.args.places.now =
     sym (ap (first_counted count) (drop_all c.loop-place.place-index c.args.places.now c.loop-place-test.false)) ∙ c.loop-place.invariant.left trusted M shown in
-    record { places = c.new.ensures ∙ none; count = ap (total count) none }
+    record { places = c.nothing.ensures.places ∙ ap (giving c.args.query.now M.items) none; count = c.nothing.ensures.count ∙ ap (total count) none }
