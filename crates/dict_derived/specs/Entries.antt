@@ -34,10 +34,9 @@ derived_from pieces edition place (key ∷ keys) = map (piece_at edition (pos pl
 abbrev pub Filed : Type 0
 Filed = KeyedEntry
 
--- what is shown is the headword until an index has a column for it
 abbrev pub filed : Entry → Filed
-filed e = record { edition = e.edition; ord = e.ord; headword = e.headword; start = e.start; length = e.length; key = key_of e.headword; reversed = reverse (key_of e.headword); shown = e.headword }
+filed e = record { edition = e.edition; ord = e.ord; headword = e.headword; start = e.start; length = e.length; key = key_of e.headword; reversed = reverse (key_of e.headword); shown = e.shown }
 
 -- the entry alone
 abbrev pub plain : Filed → Entry
-plain f = record { edition = f.edition; ord = f.ord; headword = f.headword; start = f.start; length = f.length }
+plain f = record { edition = f.edition; ord = f.ord; headword = f.headword; start = f.start; length = f.length; shown = f.shown }

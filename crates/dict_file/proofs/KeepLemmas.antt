@@ -1,5 +1,5 @@
 -- What a statement makes of the records that the tables keep.
-use Rattle.std.proofs.Common.{◌≡◌, ◌≢◌, ℕ, zero, suc, List, [], ◌∷◌, ◌++◌, map, drop, find, ◌==◌, codes, slice_get, option_and_then, unwrap_or, Some, refl, sym, ap, subst, ◌∙◌, arith}
+use Rattle.std.proofs.Common.{◌≡◌, ◌≢◌, ℕ, zero, suc, List, [], ◌∷◌, ◌++◌, map, drop, find, ◌==◌, slice_get, option_and_then, Some, refl, sym, ap, subst, ◌∙◌}
 use Rattle.std.specs.List.{AllByRecursion}
 use Rattle.std.specs.List.Sorted.{IsPermutation}
 use Rattle.std.proofs.lemmas.List.Sorted.{IsPermutation-map, IsPermutation-push_more, IsPermutation-refl}
@@ -10,18 +10,9 @@ use Rattle.sqlite.specs.Table.{Table}
 use Rattle.sqlite.specs.Schema.{Schema}
 use Rattle.sqlite_schema.specs.Names.{table_named}
 use Rattle.dict_tables.specs.Found.{HasOwn, HasTable}
-use Rattle.dict_tables.specs.Tables.{mark, item, member, edition, entry, kept, store_tables}
 use Rattle.dict_sql.specs.Effects.{HasApartRowids, IsAdded, SameOthers, rows_of, shown, table_in}
-use Rattle.dict_sql.specs.Encodings.{mark_row, item_row, member_row, edition_row, entry_row, kept_row}
-use Rattle.dict_sql.specs.Creates.{AreMade}
 use Rattle.dict_sql.proofs.Callers.{apart_added, apart_none}
-use Rattle.dict_catalogue.specs.Steps.{empty_catalogue}
-use Rattle.dict_catalogue.proofs.WellFormedLemmas.{empty_well_formed}
-use Rattle.dict_rows.specs.Written.{mark_record}
-use Rattle.dict_rows.specs.Versions.{known, Plain}
-use Rattle.dict_file.specs.Holds.{Keeps, HasLayout, HasPlace, Holds}
-use Rattle.dict_file.proofs.ReadingLemmas.{kept_plain}
-use Rattle.dict_file.proofs.PlaceLemmas.{later_room}
+use Rattle.dict_file.specs.Holds.{Keeps}
 
 at_place : {X : Type 0} (P : X → Type 0) (xs : List X) (at : ℕ) (x : X) → AllByRecursion P xs → slice_get xs at ≡ Some x → P x
 at_place P [] at x h e = absurd (cc)
@@ -66,31 +57,3 @@ keeps_added name encode old new records r one k = record {
   rows = subst (λ l. IsPermutation l (map (drop 1) (rows_of name new))) (sym (map-append encode records (r ∷ []))) (IsPermutation-push_more (map encode records) _ _ (encode r) k.rows (IsPermutation-map (drop 1) _ _ one.rows));
   apart = apart_added name (encode r) old new one k.apart;
 }
-
--- ---- the mark alone
-
-letter_apart : (at m n : ℕ) (a b : List ℕ) → unwrap_or (slice_get a at) 0 ≡ m → unwrap_or (slice_get b at) 0 ≡ n → (m ≡ n → ⊥) → a ≢ b
-letter_apart at m n a b is has apart e = apart (sym is ∙ ap (λ l. unwrap_or (slice_get l at) 0) e ∙ has)
-
-pub marked : (before old new : Database) → HasPlace before.schema → AreMade store_tables before old → IsAdded (codes "mark") (mark_row (mark_record known 0)) old new → Holds known new empty_catalogue
-marked before old new place made one =
-    let own = made.own in
-    let empty = made.empty in
-    let item_none : rows_of (codes "item") new ≡ [] = unmoved (codes "mark") (codes "item") mark item old new (λ t. refl) (λ t. refl) (λ t. refl) (letter_apart 0 109 105 (codes "mark") (codes "item") refl refl (λ e. absurd (omega arith))) own.0 own.1.0 one.schema one.others ∙ empty.1.0 in
-    let member_none : rows_of (codes "member") new ≡ [] = unmoved (codes "mark") (codes "member") mark member old new (λ t. refl) (λ t. refl) (λ t. refl) (letter_apart 1 97 101 (codes "mark") (codes "member") refl refl (λ e. absurd (omega arith))) own.0 own.1.1.0 one.schema one.others ∙ empty.1.1.0 in
-    let edition_none : rows_of (codes "edition") new ≡ [] = unmoved (codes "mark") (codes "edition") mark edition old new (λ t. refl) (λ t. refl) (λ t. refl) (letter_apart 0 109 101 (codes "mark") (codes "edition") refl refl (λ e. absurd (omega arith))) own.0 own.1.1.1.0 one.schema one.others ∙ empty.1.1.1.0 in
-    let entry_none : rows_of (codes "entry") new ≡ [] = unmoved (codes "mark") (codes "entry") mark entry old new (λ t. refl) (λ t. refl) (λ t. refl) (letter_apart 0 109 101 (codes "mark") (codes "entry") refl refl (λ e. absurd (omega arith))) own.0 own.1.1.1.1.0 one.schema one.others ∙ empty.1.1.1.1.0 in
-    let kept_none : rows_of (codes "kept") new ≡ [] = unmoved (codes "mark") (codes "kept") mark kept old new (λ t. refl) (λ t. refl) (λ t. refl) (letter_apart 0 109 107 (codes "mark") (codes "kept") refl refl (λ e. absurd (omega arith))) own.0 own.1.1.1.1.1.0 one.schema one.others ∙ empty.1.1.1.1.1.0 in
-    record {
-      own = subst (HasLayout Plain) (sym one.schema) (record { tables = own; indexes = tt; room = later_room before old made.in_turn place.room place.later });
-      tables = record { marks = mark_record known 0 ∷ []; items = []; members = []; editions = []; entries = []; kept = [] };
-      keeps = kept_plain new (record { marks = mark_record known 0 ∷ []; items = []; members = []; editions = []; entries = []; kept = [] }) (record {
-        marks = keeps_added (codes "mark") mark_row old new [] (mark_record known 0) one (keeps_none (codes "mark") mark_row old empty.0);
-        items = keeps_none (codes "item") item_row new item_none;
-        members = keeps_none (codes "member") member_row new member_none;
-        editions = keeps_none (codes "edition") edition_row new edition_none;
-        entries = keeps_none (codes "entry") entry_row new entry_none;
-        kept = keeps_none (codes "kept") kept_row new kept_none;
-      });
-      stands = record { well_formed = empty_well_formed; marks = refl; items = refl; members = tt; owners = tt; editions = tt; numbers = tt; entries = tt; kept = refl };
-    }

@@ -5,4 +5,4 @@ pub mod CommitLemmas
 pub mod ReadLemmas
 pub mod ReadableLemmas
 pub mod FailLemmas
-pub mod WithinLemmas
+pub mod OneLemmas

@@ -16,6 +16,7 @@ use Rattle.dict_records.specs.Records as spec
 use Rattle.dict_sql.specs.Columns.{Content, Number, NumberOrNull, Name, NameOrNull, Octets, HasColumns, IsNumber, kept_columns}
 use Rattle.dict_sql.specs.Effects.{rows_of}
 use Rattle.dict_sql.specs.Encodings.{number_or_null, mark_row, item_row, member_row, edition_row, entry_row, kept_row}
+use Rattle.dict_index.specs.Limits.{most_entries}
 use Rattle.dict_index.specs.Line.{Line}
 use Rattle.dict_index.specs.Edition.{Edition, entry_in}
 use Rattle.dict_index.specs.WellFormed.{IsWellFormedEntry, IsWellFormedEdition}
@@ -175,7 +176,7 @@ abbrev EditionRow : spec.Edition → Type 0
 EditionRow e = HasColumns edition_values (edition_row e)
 
 abbrev EntryRow : spec.Entry → Type 0
-EntryRow e = HasColumns entry_values (entry_row e)
+EntryRow e = HasColumns entry_values (entry_row e) × IsUtf8 e.shown
 
 abbrev KeptRow : spec.Kept → Type 0
 KeptRow k = HasColumns kept_values (kept_row k)
@@ -226,7 +227,7 @@ pub record AreFew (tables : Tables) (number : ℤ) : Type 0 where
   pub edition : ℕ
   pub lines : List Line
   pub are : entries_of number tables.entries ≡ numbered (entry_record edition) 0 lines
-  pub few : length lines ≤ 65535
+  pub few : length lines ≤ most_entries
 
 -- the records that have the number
 record AreRows (tables : Tables) (number : ℤ) : Type 0 where
@@ -242,9 +243,9 @@ stored_rows tables owner named stored well h =
       editions = subst (AllByRecursion EditionRow) (sym h.row)
           (((pos stored.number, refl), ((owner, refl, named), ((reading.title, refl, content.title.0), ((reading.info, refl, content.info.0.0), ((reading.text, refl), tt))))), tt);
       entries = subst (AllByRecursion EntryRow) (sym h.entries)
-          (all_numbered (entry_record stored.number) (λ (line : Line). IsUtf8 line.headword) EntryRow
-          (λ n line utf8. ((pos stored.number, refl), ((pos n, refl), ((line.headword, refl, utf8), ((pos line.offset, refl), ((pos line.size, refl), tt)))))) 0 reading.lines
-          (all_of_map (entry_in reading.text) IsWellFormedEntry (λ (line : Line). IsUtf8 line.headword) (λ line good. good.headword.0) reading.lines content.entries));
+          (all_numbered (entry_record stored.number) (λ (line : Line). IsUtf8 line.headword × IsUtf8 line.shown) EntryRow
+          (λ n line utf8. (((pos stored.number, refl), ((pos n, refl), ((line.headword, refl, utf8.0), ((pos line.offset, refl), ((pos line.size, refl), tt))))), utf8.1)) 0 reading.lines
+          (all_of_map (entry_in reading.text) IsWellFormedEntry (λ (line : Line). IsUtf8 line.headword × IsUtf8 line.shown) (λ line good. (good.headword.0, good.shown.0)) reading.lines content.entries));
       few = record {
         edition = stored.number;
         lines = reading.lines;
@@ -323,7 +324,7 @@ first_six [] = refl
 first_six (v ∷ row) = refl
 
 filed_cells : (e : spec.Entry) → EntryRow e → HasColumns keyed_entry_cells (filed_row (filed e))
-filed_cells e h = (h.0, (h.1.0, (h.1.1.0, (h.1.1.1.0, (h.1.1.1.1.0, (((filed e).key, refl), (((filed e).reversed, refl), (h.1.1.0, tt))))))))
+filed_cells e h = (h.0.0, (h.0.1.0, (h.0.1.1.0, (h.0.1.1.1.0, (h.0.1.1.1.1.0, (((filed e).key, refl), (((filed e).reversed, refl), ((e.shown, refl, h.1), tt))))))))
 
 each_filed : (encode : Filed → Row) (columns : List Content) → ((e : spec.Entry) → EntryRow e → HasColumns columns (encode (filed e))) → (es : List spec.Entry) → AllByRecursion EntryRow es → AllByRecursion (HasColumns columns) (map encode (map filed es))
 each_filed encode columns so [] h = tt
@@ -335,8 +336,8 @@ each_piece (p ∷ ps) = (((p.edition, refl), ((p.piece, refl), ((p.ord, refl), t
 
 module _ (version : ℕ) (db : Database) (tables : Tables) (M : Catalogue) (s : Stands version tables M) where
   entries_readable : (layout : Layout) → KeepsRows (looks.entries layout) db (with_derived tables) → IsReadable (looks.entries layout) db
-  entries_readable Plain k = kept_readable (looks.entries Plain) entry_values refl (λ row. refl) db (with_derived tables) k (each_filed (λ f. entry_row (plain f)) entry_values (λ e h. h) tables.entries (entry_rows version tables M s))
-  entries_readable Keyed k = kept_readable (looks.entries Keyed) entry_values refl first_six db (with_derived tables) k (each_filed (λ f. entry_row (plain f)) entry_values (λ e h. h) tables.entries (entry_rows version tables M s))
+  entries_readable Plain k = kept_readable (looks.entries Plain) entry_values refl (λ row. refl) db (with_derived tables) k (each_filed (λ f. entry_row (plain f)) entry_values (λ e h. h.0) tables.entries (entry_rows version tables M s))
+  entries_readable Keyed k = kept_readable (looks.entries Keyed) entry_values refl first_six db (with_derived tables) k (each_filed (λ f. entry_row (plain f)) entry_values (λ e h. h.0) tables.entries (entry_rows version tables M s))
   entries_readable Shown k = kept_readable (looks.entries Shown) keyed_entry_cells refl (λ row. refl) db (with_derived tables) k (each_filed filed_row keyed_entry_cells filed_cells tables.entries (entry_rows version tables M s))
 
   derived_readable : (layout : Layout) → AllByRecursion (λ r. KeepsRows r db (with_derived tables)) (derived_readings layout) → AllByRecursion (λ r. IsReadable r db) (derived_readings layout)
@@ -374,6 +375,3 @@ held_readable version db M h = stands_readable version db h.tables M h.stands (l
 -- those of the replies, whatever the layout
 pub held_replies : (version : ℕ) (db : Database) (M : Catalogue) → Holds version db M → AllByRecursion (HasColumns kept_columns) (rows_of (codes "kept") db)
 held_replies version db M h = (held_readable version db M h).1.1.1.1.1.0
-
-pub held_rows : (version : ℕ) (db : Database) (M : Catalogue) → layout_of version ≡ Plain → Holds version db M → HasReadableRows Plain db
-held_rows version db M is h = subst (λ (layout : Layout). HasReadableRows layout db) is (held_readable version db M h)

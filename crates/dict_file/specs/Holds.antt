@@ -1,5 +1,5 @@
 -- Which catalogue a database stands for, under which version.
-use Rattle.std.specs.Prelude.{◌≡◌, ℕ, false, IsTrue, List, map, drop, codes, IsPermutation}
+use Rattle.std.specs.Prelude.{◌≡◌, ℕ, false, IsTrue, List, map, drop, IsPermutation}
 use Rattle.std.specs.List.{AllByRecursion}
 use Rattle.sqlite.specs.Effect.{Database, IsDatabase}
 use Rattle.sqlite.specs.Order.{Row}
@@ -11,28 +11,18 @@ use Rattle.dict_tables.specs.Indexes.{HasIndex}
 use Rattle.dict_tables.specs.Names.{has_prefixed}
 use Rattle.dict_tables.specs.Room.{HasRoom}
 use Rattle.dict_sql.specs.Effects.{HasApartRowids, rows_of}
-use Rattle.dict_sql.specs.Encodings.{mark_row, item_row, member_row, edition_row, entry_row, kept_row}
 use Rattle.dict_catalogue.specs.Steps.{Catalogue}
 use Rattle.dict_rows.specs.Versions.{Layout, layout_of, IsVersion}
 use Rattle.dict_rows.specs.Tables.{Tables}
 use Rattle.dict_rows.specs.Stands.{Stands}
 use Rattle.dict_derived.specs.AllTables.{with_derived}
-use Rattle.dict_file.specs.Readings.{KeepsAll, tables_of, indexes_of}
+use Rattle.dict_file.specs.Readings.{KeepsAll, AreShownIn, tables_of, indexes_of}
 use Rattle.dict_file.specs.Room.{MayBecomeShown, HasLaterRoom}
 
 -- a table has a row for each of these records and no others, in no order that counts, and no two under one rowid
 pub record Keeps {R : Type 0} (name : List ℕ) (encode : R → Row) (db : Database) (records : List R) : Type 0 where
   pub rows : IsPermutation (map encode records) (map (drop 1) (rows_of name db))
   pub apart : HasApartRowids (rows_of name db)
-
--- the tables of a version without keys, each with the rows of its records
-pub record KeepsPlain (db : Database) (tables : Tables) : Type 0 where
-  pub marks : Keeps (codes "mark") mark_row db tables.marks
-  pub items : Keeps (codes "item") item_row db tables.items
-  pub members : Keeps (codes "member") member_row db tables.members
-  pub editions : Keeps (codes "edition") edition_row db tables.editions
-  pub entries : Keeps (codes "entry") entry_row db tables.entries
-  pub kept : Keeps (codes "kept") kept_row db tables.kept
 
 -- the tables and indexes of a layout are there, and beside an older one there is room for those of the last
 pub record HasLayout (layout : Layout) (schema : Schema) : Type 0 where
@@ -41,11 +31,12 @@ pub record HasLayout (layout : Layout) (schema : Schema) : Type 0 where
   pub room : MayBecomeShown layout schema
 
 -- The database has the product's tables, as this version lays them out; and the records that they keep, with what is derived
--- of them where it is looked at, stand for the catalogue.
+-- of them where it is looked at, stand for the catalogue. Where a table has no column for what is shown, it is the headword.
 pub record Holds (version : ℕ) (db : Database) (M : Catalogue) : Type 0 where
   pub own : HasLayout (layout_of version) db.schema
   pub tables : Tables
   pub keeps : KeepsAll (layout_of version) db (with_derived tables)
+  pub shown : AreShownIn (layout_of version) tables.entries
   pub stands : Stands version tables M
 
 -- the database holds the catalogue under a version that is known

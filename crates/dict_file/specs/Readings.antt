@@ -5,6 +5,7 @@ use Rattle.sqlite.specs.declared.types.Value.TheVariants.{Int, Text as Letters, 
 use Rattle.sqlite.specs.Order.{Row}
 use Rattle.sqlite.specs.Effect.{Database}
 use Rattle.sqlite.specs.Table.{Table}
+use Rattle.dict_records.specs.Records.{Entry, ShowsHeadword}
 use Rattle.dict_tables.specs.Tables.{mark, item, member, edition, entry, kept}
 use Rattle.dict_tables.specs.Keyed as keyed
 use Rattle.dict_tables.specs.declared.keyed.KeyIndex.{KeyIndex}
@@ -53,6 +54,12 @@ abbrev pub entries : Layout → Reading
 entries Plain = record { table = entry; columns = entry_columns; looked = whole; rows = λ t. map (λ f. entry_row (plain f)) t.entries }
 entries Keyed = record { table = keyed.old_entry; columns = entry_columns; looked = take 6; rows = λ t. map (λ f. entry_row (plain f)) t.entries }
 entries Shown = record { table = keyed.entry; columns = keyed_entry_columns; looked = whole; rows = λ t. map filed_row t.entries }
+
+-- in the layouts that have no column for it, what is shown is the headword
+abbrev pub AreShownIn : Layout → List Entry → Type 0
+AreShownIn Plain es = AllByRecursion ShowsHeadword es
+AreShownIn Keyed es = AllByRecursion ShowsHeadword es
+AreShownIn Shown es = Unit {0}
 
 abbrev pub words : Reading
 words = record { table = keyed.word; columns = piece_columns; looked = whole; rows = λ t. map piece_row t.words }

@@ -1,21 +1,14 @@
 -- Why nothing comes of a transaction.
-use Rattle.std.specs.Prelude.{◌≡◌, ◌⊎◌, ◌++◌, true, IsTrue, ℕ, List, [], ◌∷◌, codes, map}
+use Rattle.std.specs.Prelude.{◌≡◌, ◌⊎◌, true, IsTrue, List}
 use Rattle.sqlite.specs.Effect.{Database}
 use Rattle.sqlite.specs.State.{State, Survives, Fails, IsRolledBack}
 use Rattle.sqlite.specs.Held.{Held, state}
 use Rattle.sqlite.specs.declared.error.Error.{Error}
 use Rattle.sqlite_trees.specs.declared.store.Store.{Ghosts}
-use Rattle.dict_tables.specs.Tables.{store_tables}
-use Rattle.dict_sql.specs.Encodings.{mark_row}
-use Rattle.dict_sql.specs.Statements.{Statement, make, add, RunInTurn, FailsInTurn}
-use Rattle.dict_rows.specs.Written.{mark_record}
+use Rattle.dict_sql.specs.Statements.{Statement, RunInTurn, FailsInTurn}
 use Rattle.dict_desk.specs.declared.fault.Fault.{Fault}
 use Rattle.dict_desk.specs.declared.fault.Fault.TheVariants.{Refused, Memory, Disk, Closed, NotACatalogue, Damaged, NewerSchema}
 use Rattle.dict_file.specs.Faults.{fault_of}
-
--- the statements of a creation: each table is made, and then the mark of the empty catalogue is added
-abbrev pub creation : ℕ → List Statement
-creation version = map make store_tables ++ add (codes "mark") (mark_row (mark_record version 0)) ∷ []
 
 -- what was committed is so still, and shown if it was before, while the store is open
 pub record Stays (old new : State) : Type 0 where

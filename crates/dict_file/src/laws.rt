@@ -1,5 +1,5 @@
-// What holds of records that are read in the order of a key, and of those of a version without keys.
-ghost use Rattle.std.specs.Prelude.{◌≡◌, ◌↔◌, ◌≤ℤ◌, [], ◌∷◌, ℤ, List, codes, map, String};
+// What holds of records that are read in the order of a key.
+ghost use Rattle.std.specs.Prelude.{◌≡◌, ◌≤ℤ◌, [], ◌∷◌, ℤ, List, codes, map, String};
 ghost use Rattle.std.specs.declared.alloc.Global.{Global};
 ghost use Rattle.sqlite.specs.Effect.{Database};
 ghost use Rattle.dict_records.specs.declared.records.Stored.{Stored};
@@ -12,11 +12,6 @@ ghost use Rattle.dict_sql.specs.Encodings.{stored_item, stored_member, stored_en
 ghost use Rattle.dict_sql.specs.Reads.{IsListing, IsSelection};
 ghost use Rattle.dict_rows.specs.Given.{items_given, members_given, entries_given, kept_given};
 ghost use Rattle.dict_rows.specs.Order.{InOrder};
-ghost use Rattle.dict_rows.specs.Tables.{Tables};
-ghost use Rattle.dict_rows.specs.Versions.{Plain};
-ghost use Rattle.dict_derived.specs.AllTables.{with_derived};
-ghost use Rattle.dict_file.specs.Readings.{KeepsAll};
-ghost use Rattle.dict_file.specs.Holds.{KeepsPlain};
 
 /// The records of rows that were read in the order of their key are in the order that the meaning of the tables asks for.
 ///
@@ -26,11 +21,4 @@ pub fn read_in_order()
     ensures members { (db : Database) (rows : List (Stored (Member (String Global)))) → IsListing (codes "member") (1 ∷ 2 ∷ []) db (map stored_member rows) → InOrder (λ a b. a.owner ≡ b.owner → a.ord ≤ℤ b.ord) (members_given rows) }
     ensures entries { (db : Database) (number : ℤ) (rows : List (Stored (Entry (String Global)))) → IsSelection (codes "entry") (equals_number 1 number) (2 ∷ []) db (map stored_entry rows) → InOrder (λ a b. a.ord ≤ℤ b.ord) (entries_given rows) }
     ensures kept { (db : Database) (rows : List (Stored (Kept (String Global)))) → IsListing (codes "kept") (2 ∷ []) db (map stored_kept rows) → InOrder (λ a b. a.number ≤ℤ b.number) (kept_given rows) }
-{}
-
-/// What a database keeps by the readings of a version without keys is what its six tables keep of their records, each by itself.
-///
-/// It does nothing. Its clause is the law.
-pub fn plain_records()
-    ensures { (db : Database) (tables : Tables) → KeepsAll Plain db (with_derived tables) ↔ KeepsPlain db tables }
 {}

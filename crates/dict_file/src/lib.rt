@@ -1,12 +1,10 @@
-//! The catalogue that one file holds, in the tables of its database: which it is, and making the empty one.
+//! The catalogue that one file holds, in the tables of its database: which it is, and whether there is room for them.
 #![tactic(auto)]
 
 mod fault;
 mod laws;
-mod making;
 mod room;
 
 pub use fault::fault_of;
-pub use laws::{plain_records, read_in_order};
-pub use making::{create, has_place};
-pub use room::{keyed_may_become_shown, may_become_shown};
+pub use laws::read_in_order;
+pub use room::{has_place, keyed_may_become_shown, may_become_shown};

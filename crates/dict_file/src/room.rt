@@ -1,14 +1,15 @@
-// Whether a file of an older version leaves room for the tables and indexes that the last layout has.
+// Whether a database leaves room for the tables and indexes that the last layout has.
 ghost use Rattle.std.specs.Prelude.{◌≡◌, ◌↔◌, IsTrue, false};
 ghost use Rattle.sqlite.specs.Change.{is_used};
 ghost use Rattle.dict_tables.specs.Keyed.{helper};
 ghost use Rattle.dict_tables.specs.Room.{LeavesRoom, is_referred};
 ghost use Rattle.dict_rows.specs.Versions.{Plain, Keyed};
+ghost use Rattle.dict_file.specs.Holds.{HasPlace};
 ghost use Rattle.dict_file.specs.Room.{dropped, AreThere, MayBecomeShown, HasLaterRoom};
 
 use dict_tables::{
-    KeyIndex, KeyedTable, find_table, has_room_for, is_name_referred, is_name_used,
-    leaves_room_behind,
+    KeyIndex, KeyedTable, find_table, has_room, has_room_for, is_name_referred, is_name_used,
+    is_own_name_used, leaves_room_behind,
 };
 use sqlite_schema::schema::Schema;
 
@@ -58,8 +59,8 @@ fn has_room_for_helper(schema: &Schema) -> bool
     )
 }
 
-/// Whether there is room for what comes later where no table is made yet.
-pub(crate) fn has_later_room(schema: &Schema) -> bool
+// Whether there is room for the tables and indexes that the first version didn't have, where no table is made yet.
+fn has_later_room(schema: &Schema) -> bool
     ensures { IsTrue result ↔ HasLaterRoom schema.now }
 {
     has_room_for_helper(schema)
@@ -67,4 +68,11 @@ pub(crate) fn has_later_room(schema: &Schema) -> bool
         && has_room_for(schema, KeyedTable::Gram)
         && !is_name_used(schema, KeyIndex::Key.name().as_bytes())
         && !is_name_used(schema, KeyIndex::Reversed.name().as_bytes())
+}
+
+/// Whether the tables of a catalogue can be made, and no name is in use that is kept for the product.
+pub fn has_place(schema: &Schema) -> bool
+    ensures { IsTrue result ↔ HasPlace schema.now }
+{
+    has_room(schema) && !is_own_name_used(schema) && has_later_room(schema)
 }

@@ -5,6 +5,7 @@ use Rattle.std.specs.List.{AllByRecursion}
 use Rattle.std.proofs.lemmas.Bool.{false≢true}
 use Rattle.std.proofs.lemmas.List.{length-append, length-map, map-append}
 use Rattle.dict_records.specs.Records as spec
+use Rattle.dict_index.specs.Limits.{most_entries}
 use Rattle.dict_index.specs.Line.{Line}
 use Rattle.dict_index.specs.Edition.{Edition, ReadEdition, edition_of, entry_in}
 use Rattle.dict_index.specs.WellFormed.{IsWellFormedEntry, IsWellFormedEdition}
@@ -26,7 +27,7 @@ use Rattle.dict_rows.proofs.FoundLemmas.{row_found}
 
 -- ---- an entry of the edition in hand
 
-module _ (taken : Tables) (row : spec.Entry) (hand : InHand) (is : IsEntry hand.number hand.entries hand.text.items row) (few : hand.entries < 65535) (last : IsLast hand taken) where
+module _ (taken : Tables) (row : spec.Entry) (hand : InHand) (is : IsEntry hand.number hand.entries hand.text.items row) (few : hand.entries < most_entries) (last : IsLast hand taken) where
   of_hand : row.edition ≡ pos hand.number
   of_hand = ap (λ (r : spec.Entry). r.edition) is.is
 
@@ -104,7 +105,7 @@ module _ (taken : Tables) (row : spec.Entry) (hand : InHand) (is : IsEntry hand.
 
 pub entry_taken : (version : ℕ) (old new : Reader) (taken : Tables) (row : spec.Entry) (hand hand' : InHand) → IsInHand (Some hand) taken → new.edition ≡ Some hand' →
     items_in new ≡ items_in old → new.installs ≡ old.installs → new.accepted ≡ old.accepted → new.installed ≡ old.installed →
-    hand'.number ≡ hand.number → hand'.text.items ≡ hand.text.items → hand'.entries ≡ hand.entries + 1 → IsEntry hand.number hand.entries hand.text.items row → hand.entries < 65535 →
+    hand'.number ≡ hand.number → hand'.text.items ≡ hand.text.items → hand'.entries ≡ hand.entries + 1 → IsEntry hand.number hand.entries hand.text.items row → hand.entries < most_entries →
     HasTaken version old taken → HasTaken version new (with_entry taken row)
 entry_taken version old new taken row hand hand' last held items installs accepted installed hn ht he is few h =
     let known : has_number (items_in old) last.row.number ≡ true = (all_append_parts (λ (r : spec.Edition). IsTrue (has_number (items_in old) r.number)) last.front (last.row ∷ []) (subst (AllByRecursion (λ (r : spec.Edition). IsTrue (has_number (items_in old) r.number))) last.last h.numbers)).1.0 in
@@ -151,7 +152,7 @@ as_long : {X : Type 0} (xs ys : List X) (x : X) → length ((xs ++ x ∷ []) ++ 
 as_long xs ys x = length-append (xs ++ x ∷ []) ys ∙ ap (λ n. n + length ys) (length-append xs (x ∷ []))
 
 pub entry_refused : (version : ℕ) (reader : Reader) (taken : Tables) (row : spec.Entry) (hand : InHand) → IsInHand (Some hand) taken → HasTaken version reader taken → IsOfLast taken row →
-    (IsNoEntry hand.number hand.entries hand.text.items row) ⊎ (65535 ≤ hand.entries) → StandsForNone version (with_entry taken row)
+    (IsNoEntry hand.number hand.entries hand.text.items row) ⊎ (most_entries ≤ hand.entries) → StandsForNone version (with_entry taken row)
 entry_refused version reader taken row hand last h of why tables M goes stands =
     let same : of.1 ≡ last.row = ends_same of.0 last.front of.1 last.row (sym of.2 ∙ last.last) in
     let edition : row.edition ≡ pos hand.number = of.3 ∙ ap (λ (r : spec.Edition). r.number) same ∙ last.number in
@@ -176,7 +177,7 @@ entry_refused version reader taken row hand last h of why tables M goes stands =
     let each = lines_lawful reading.text reading.lines f.found.holds.within lawful.entries in
     let next = next_of_all (entry_record hand.number) (λ (line : Line). IsWithin reading.text line × IsWellFormedEntry (entry_in reading.text line)) reading.lines (entries_of (pos hand.number) taken.entries) begins.0 row each (sym (append_assoc (entries_of (pos hand.number) taken.entries) (row ∷ []) begins.0) ∙ whole) in
     let many : length reading.lines ≡ (hand.entries + 1) + length begins.0 = sym (numbered_length (entry_record hand.number) 0 reading.lines) ∙ ap length (sym whole) ∙ as_long (entries_of (pos hand.number) taken.entries) begins.0 row ∙ ap (λ k. (k + 1) + length begins.0) last.entries in
-    let few : length reading.lines ≤ 65535 = subst (λ (k : ℕ). k ≤ 65535) (length-map reading.lines (entry_in reading.text)) lawful.few in
+    let few : length reading.lines ≤ most_entries = subst (λ (k : ℕ). k ≤ most_entries) (length-map reading.lines (entry_in reading.text)) lawful.few in
     decide why (λ no. no next.0 (next.1 ∙ ap (λ k. entry_record hand.number k next.0) last.entries) (subst (λ (t : List ℕ). IsWithin t next.0) text next.2.0) (subst (λ (t : List ℕ). IsWellFormedEntry (entry_in t next.0)) text next.2.1))
     (λ full. omega arith)
   where

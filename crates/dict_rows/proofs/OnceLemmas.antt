@@ -53,6 +53,7 @@ line_same number n x y e = λ i. record {
   headword = ap (λ (r : EntryRecord). r.headword) e i;
   offset = pos_same x.offset y.offset (ap (λ (r : EntryRecord). r.start) e) i;
   size = pos_same x.size y.size (ap (λ (r : EntryRecord). r.length) e) i;
+  shown = ap (λ (r : EntryRecord). r.shown) e i;
 }
 
 pub reading_same : (owner : List ℕ) (number : ℕ) (x y : ReadEdition) → edition_record owner number x ≡ edition_record owner number y → x.lines ≡ y.lines → x ≡ y

@@ -46,9 +46,9 @@ good_text : (text : List ℕ) → is_utf8 text ≡ true → list_all is_text_oct
 good_text text utf8 octets lines =
     ((IsUtf8-from_is_utf8 text utf8, all_from IsTextOctet is_text_octet text_octet text octets), all_from (λ line. length line ≤ 1021) (λ line. nat_le (length line) 1021) (λ line. leb-true (length line) 1021) (text_lines text) lines)
 
-iron : IsWellFormedEntry (record { headword = codes "iron"; body = codes "iron\n  ore\n" })
+iron : IsWellFormedEntry (record { headword = codes "iron"; shown = codes "iron"; body = codes "iron\n  ore\n" })
 unfolding keys chars encode is_utf8 is_text_octet
-iron = record { headword = (IsUtf8-from_is_utf8 (codes "iron") refl, (omega arith, omega arith, refl, λ e. cc), refl); body = good_text (codes "iron\n  ore\n") refl refl refl }
+iron = record { headword = (IsUtf8-from_is_utf8 (codes "iron") refl, (omega arith, omega arith, refl, λ e. cc), refl); shown = (IsUtf8-from_is_utf8 (codes "iron") refl, (omega arith, omega arith, refl)); body = good_text (codes "iron\n  ore\n") refl refl refl }
 
 ores : IsWellFormedEdition (edition_of ore_reading)
 unfolding chars encode is_utf8 is_text_octet is_title

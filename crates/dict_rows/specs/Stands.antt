@@ -19,8 +19,8 @@ abbrev pub IsWithin : List ℕ → Line → Type 0
 IsWithin text line = line.offset + line.size ≤ length text
 
 -- One record has the edition's number, and it has this owner, the edition's title and info, and a text. The entries
--- that have the number are the edition's, in their order: each has its headword and an interval of that text, which
--- cuts out its body.
+-- that have the number are the edition's, in their order: each has its headword, what is shown of it, and an interval of
+-- that text, which cuts out its body.
 pub record HoldsEdition (tables : Tables) (owner : List ℕ) (stored : Stored Edition) : Type 0 where
   pub reading : ReadEdition
   pub says : stored.content ≡ edition_of reading

@@ -3,11 +3,7 @@ use Rattle.std.specs.Prelude.{ℕ, ◌≤◌, ◌==◌, if◌then◌else◌}
 
 -- the version that is written, and the greatest that is opened
 abbrev pub known : ℕ
-known = 1
-
--- the version that is to be known next
-abbrev pub next : ℕ
-next = 4
+known = 4
 
 -- files of this version are opened
 pub record IsVersion (version : ℕ) : Type 0 where

@@ -8,7 +8,7 @@ use Rattle.dict_catalogue.specs.declared.reply.Verb.TheVariants.{Install, Virtua
 use Rattle.dict_rows.specs.Tables.{Tables}
 
 abbrev pub ore_reading : ReadEdition
-ore_reading = record { title = codes "Ores"; info = []; text = codes "00-database-short\nOres\niron\n  ore\n"; lines = record { headword = codes "iron"; offset = 23; size = 11 } ∷ [] }
+ore_reading = record { title = codes "Ores"; info = []; text = codes "00-database-short\nOres\niron\n  ore\n"; lines = record { headword = codes "iron"; offset = 23; size = 11; shown = codes "iron" } ∷ [] }
 
 -- the first command installed `ore`, the second `gem`, and the third put `all`
 abbrev pub worked_catalogue : Catalogue
@@ -31,10 +31,10 @@ worked_tables = record {
   members = record { owner = codes "all"; ord = pos 0; name = codes "ore" } ∷ record { owner = codes "all"; ord = pos 1; name = codes "gem" } ∷ [];
   editions = record { number = pos 1; owner = codes "ore"; title = codes "Ores"; info = []; body = codes "00-database-short\nOres\niron\n  ore\n" }
       ∷ record { number = pos 2; owner = codes "gem"; title = codes "Gems"; info = []; body = codes "00-database-short\n  Gems\nopal\n  a stone\n.dot\n" } ∷ [];
-  entries = record { edition = pos 1; ord = pos 0; headword = codes "iron"; start = pos 23; length = pos 11 }
-      ∷ record { edition = pos 2; ord = pos 0; headword = codes "opal"; start = pos 25; length = pos 15 }
-      ∷ record { edition = pos 2; ord = pos 1; headword = codes "Fire Opal"; start = pos 25; length = pos 15 }
-      ∷ record { edition = pos 2; ord = pos 2; headword = codes "dot"; start = pos 40; length = pos 5 } ∷ [];
+  entries = record { edition = pos 1; ord = pos 0; headword = codes "iron"; start = pos 23; length = pos 11; shown = codes "iron" }
+      ∷ record { edition = pos 2; ord = pos 0; headword = codes "opal"; start = pos 25; length = pos 15; shown = codes "opal" }
+      ∷ record { edition = pos 2; ord = pos 1; headword = codes "Fire Opal"; start = pos 25; length = pos 15; shown = codes "Fire Opal" }
+      ∷ record { edition = pos 2; ord = pos 2; headword = codes "dot"; start = pos 40; length = pos 5; shown = codes "dot" } ∷ [];
   kept = record { id = codes "r1"; number = pos 1; verb = codes "install"; name = codes "ore"; edition = Some (pos 1) }
       ∷ record { id = codes "r2"; number = pos 2; verb = codes "install"; name = codes "gem"; edition = Some (pos 2) }
       ∷ record { id = codes "r3"; number = pos 3; verb = codes "virtual"; name = codes "all"; edition = None } ∷ [];

@@ -32,9 +32,9 @@ member_record owner ord name = record { owner = owner; ord = pos ord; name = nam
 abbrev pub edition_record : List ℕ → ℕ → ReadEdition → EditionRecord
 edition_record owner number reading = record { number = pos number; owner = owner; title = reading.title; info = reading.info; body = reading.text }
 
--- an entry of this edition at its place, with the interval of the text that is its body
+-- an entry of this edition at its place, with the interval of the text that is its body, and with what is shown
 abbrev pub entry_record : ℕ → ℕ → Line → EntryRecord
-entry_record number ord line = record { edition = pos number; ord = pos ord; headword = line.headword; start = pos line.offset; length = pos line.size }
+entry_record number ord line = record { edition = pos number; ord = pos ord; headword = line.headword; start = pos line.offset; length = pos line.size; shown = line.shown }
 
 -- the word for what a command did
 abbrev pub verb_name : Verb → List ℕ

@@ -1,11 +1,12 @@
 // The record of an entry.
 ghost use Rattle.std.specs.Prelude.{◌≡◌, ◌+◌, ◌<◌, ◌≤◌, length, take, drop, MatchOption, OnOk, IfErr};
+ghost use Rattle.dict_records.specs.Records.{shown_as};
 ghost use Rattle.dict_records.specs.Typed.{owned_entry};
 ghost use Rattle.dict_rows.specs.Given.{OnDamage, IsEntry, IsNoEntry};
 
 use crate::fault::RowsFault;
 use crate::items::{is_number, number_of};
-use dict_index::{entry_key, is_edition_text};
+use dict_index::{entry_key, is_edition_text, is_shown};
 use dict_records::Entry;
 use std::alloc::Global;
 
@@ -20,17 +21,18 @@ fn cut_out(text: &[u8], start: u64, size: u64) -> Option<&[u8]>
     Some(&text[start as usize..(start + size) as usize])
 }
 
-/// Whether a record is that of an entry at this place of this edition: its interval lies within the text, and its
-/// headword and its body are lawful. Else it is `Damaged`.
+/// Whether a record is that of an entry at this place of this edition, of which this is shown: its interval lies within the
+/// text, and its headword, what is shown and its body are lawful. Else it is `Damaged`.
 pub(crate) fn test_entry(
     alloc: Global,
     number: u64,
     ord: u64,
     text: &[u8],
     row: &Entry<String>,
+    shown: &str,
 ) -> Result<(), RowsFault>
-    ensures is { OnOk result (IsEntry number ord text.now (owned_entry row.now)) }
-    ensures damaged { IfErr result (λ fault. OnDamage fault (IsNoEntry number ord text.now (owned_entry row.now))) }
+    ensures is { OnOk result (IsEntry number ord text.now (shown_as (owned_entry row.now) shown.now)) }
+    ensures damaged { IfErr result (λ fault. OnDamage fault (IsNoEntry number ord text.now (shown_as (owned_entry row.now) shown.now))) }
 {
     if !is_number(number, &row.edition) || !is_number(ord, &row.ord) {
         return Err(RowsFault::Damaged);
@@ -41,6 +43,9 @@ pub(crate) fn test_entry(
         return Err(RowsFault::Damaged);
     };
     if !is_edition_text(body) {
+        return Err(RowsFault::Damaged);
+    }
+    if !is_shown(shown) {
         return Err(RowsFault::Damaged);
     }
     let Some(_) = entry_key(alloc, row.headword.as_str())? else {

@@ -22,6 +22,4 @@ pub use laws::{
 };
 pub use reader::Reader;
 pub use summary::{EditionRows, Tables, summary_of};
-pub use written::{
-    KNOWN_VERSION, edition_row, entry_row, item_row, kept_row, mark_row, member_row,
-};
+pub use written::{KNOWN_VERSION, edition_row, item_row, kept_row, mark_row, member_row};

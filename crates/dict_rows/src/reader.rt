@@ -1,5 +1,7 @@
 // A reader of the records of the tables, one after another.
 ghost use Rattle.std.specs.Prelude.{◌≡◌, ◌≢◌, ◌≤◌, ◌<◌, ◌+◌, ◌⊎◌, ℕ, pos, false, IfOk, IfErr, OnOk, OnErr, IfSome, IsSome, map};
+ghost use Rattle.dict_index.specs.Limits.{most_entries};
+ghost use Rattle.dict_records.specs.Records.{shown_as};
 ghost use Rattle.dict_records.specs.Typed.{owned_edition, owned_entry, owned_kept};
 ghost use Rattle.dict_rows.specs.Tables.{Tables, same_number};
 ghost use Rattle.std.specs.List.{AllByRecursion, list_any};
@@ -16,13 +18,13 @@ use crate::marks::{are_owned, installs_of};
 use crate::replies::{is_install, reply_of};
 use crate::titles::{are_titled, place_of, title_at};
 use dict_catalogue::{Item, Summary, edition_numbers};
-use dict_index::is_edition_text;
+use dict_index::{MAX_LINES, is_edition_text};
 use dict_name::is_title;
 use dict_records::{Edition, Entry, Item as ItemRow, Kept, Mark, Member, Stored};
 use std::alloc::{AllocError, Global};
 
-/// The most entries of an edition.
-const MAX_ENTRIES: u64 = 65_535;
+/// The most entries of an edition: one line of an index at least is that of its title.
+const MAX_ENTRIES: u64 = MAX_LINES as u64 - 1;
 
 /// The most commands that a catalogue accepts.
 const MAX_ACCEPTED: u64 = 9_223_372_036_854_775_807;
@@ -33,7 +35,7 @@ pub(crate) struct InHand {
     pub number: u64,
     pub text: Vec<u8>,
     pub entries: u64,
-    ghost few: { entries ≤ 65535 },
+    ghost few: { entries ≤ most_entries },
 }
 
 /// Goes on with an edition of this number and this text.
@@ -48,17 +50,22 @@ fn take_in_hand(edition: &mut Option<InHand>, number: u64, text: Vec<u8>)
 }
 
 /// Adds an entry to the edition.
-fn add_entry(alloc: Global, hand: &mut InHand, row: &Entry<String>) -> Result<(), RowsFault>
-    ensures is { OnOk result (IsEntry hand.old.number hand.old.entries hand.old.text.items (owned_entry row.now) × (hand.old.entries < 65535)) }
+fn add_entry(
+    alloc: Global,
+    hand: &mut InHand,
+    row: &Entry<String>,
+    shown: &str,
+) -> Result<(), RowsFault>
+    ensures is { OnOk result (IsEntry hand.old.number hand.old.entries hand.old.text.items (shown_as (owned_entry row.now) shown.now) × (hand.old.entries < most_entries)) }
     ensures added { OnOk result (hand.new.entries ≡ hand.old.entries + 1) }
-    ensures damaged { IfErr result (λ fault. OnDamage fault (IsNoEntry hand.old.number hand.old.entries hand.old.text.items (owned_entry row.now) ⊎ (65535 ≤ hand.old.entries))) }
+    ensures damaged { IfErr result (λ fault. OnDamage fault (IsNoEntry hand.old.number hand.old.entries hand.old.text.items (shown_as (owned_entry row.now) shown.now) ⊎ (most_entries ≤ hand.old.entries))) }
     ensures same { (hand.new.number ≡ hand.old.number) × (hand.new.text.items ≡ hand.old.text.items) }
     ensures unchanged { OnErr result (hand.new.entries ≡ hand.old.entries) }
 {
     if hand.entries >= MAX_ENTRIES {
         return Err(RowsFault::Damaged);
     }
-    test_entry(alloc, hand.number, hand.entries, &hand.text, row)?;
+    test_entry(alloc, hand.number, hand.entries, &hand.text, row, shown)?;
     hand.entries += 1;
     Ok(())
 }
@@ -194,17 +201,22 @@ impl Reader {
         Ok(())
     }
 
-    /// Takes the record of an entry of the edition that was taken last, in the order of their places.
+    /// Takes the record of an entry of the edition that was taken last, of which this is shown, in the order of their places.
     ///
     /// `Damaged` tells that no catalogue stands for tables that go on so, where it is an entry of that edition.
-    pub fn entry(&mut self, alloc: Global, row: &Entry<String>) -> Result<(), RowsFault>
-        ensures taken { OnOk result ((version : ℕ) (taken : Tables) → HasTaken version self.old taken → HasTaken version self.new (with_entry taken (owned_entry row.now))) }
-        ensures damaged { IfErr result (λ fault. OnDamage fault ((version : ℕ) (taken : Tables) → HasTaken version self.old taken → IsOfLast taken (owned_entry row.now) → StandsForNone version (with_entry taken (owned_entry row.now)))) }
+    pub fn entry(
+        &mut self,
+        alloc: Global,
+        row: &Entry<String>,
+        shown: &str,
+    ) -> Result<(), RowsFault>
+        ensures taken { OnOk result ((version : ℕ) (taken : Tables) → HasTaken version self.old taken → HasTaken version self.new (with_entry taken (shown_as (owned_entry row.now) shown.now))) }
+        ensures damaged { IfErr result (λ fault. OnDamage fault ((version : ℕ) (taken : Tables) → HasTaken version self.old taken → IsOfLast taken (shown_as (owned_entry row.now) shown.now) → StandsForNone version (with_entry taken (shown_as (owned_entry row.now) shown.now)))) }
     {
         let Some(hand) = &mut self.edition else {
             return Err(RowsFault::Damaged);
         };
-        add_entry(alloc, hand, row)
+        add_entry(alloc, hand, row, shown)
     }
 
     /// Takes the record of a kept reply, in the order of their numbers, behind all editions.

@@ -60,7 +60,7 @@ fn read_entries(
     ensures damaged { IfErr result (λ fault. OnDamage fault ((version : ℕ) (taken : AllTables) → HasTaken version reader.old taken → AreOf taken (entries_given rows.now) → StandsForNone version (with_entries taken (entries_given rows.now)))) }
 {
     for row in rows {
-        reader.entry(alloc, &row.value)?;
+        reader.entry(alloc, &row.value, row.value.headword.as_str())?;
     }
     Ok(())
 }

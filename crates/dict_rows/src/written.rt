@@ -1,18 +1,17 @@
 // The records that the parts of a catalogue are written as.
 ghost use Rattle.std.specs.Prelude.{◌≡◌, ◌≤◌, IfSome};
 ghost use Rattle.std.specs.List.{AllByRecursion};
-ghost use Rattle.dict_records.specs.Typed.{lent_mark, lent_item, lent_member, lent_edition, lent_entry, lent_kept};
-ghost use Rattle.dict_index.specs.Views.{line_of};
+ghost use Rattle.dict_records.specs.Typed.{lent_mark, lent_item, lent_member, lent_edition, lent_kept};
 ghost use Rattle.dict_catalogue.specs.Items.{numbers_of};
 ghost use Rattle.dict_catalogue.specs.Views.{item_shown, kept_shown};
-ghost use Rattle.dict_rows.specs.Written.{mark_record, item_record, member_record, edition_record, entry_record, kept_record, verb_name};
+ghost use Rattle.dict_rows.specs.Written.{mark_record, item_record, member_record, edition_record, kept_record, verb_name};
 
 use dict_catalogue::{Item, Kept as Reply, Verb};
-use dict_index::{Edition, Entry};
-use dict_records::{Edition as EditionRow, Entry as EntryRow, Item as ItemRow, Kept, Mark, Member};
+use dict_index::Edition;
+use dict_records::{Edition as EditionRow, Item as ItemRow, Kept, Mark, Member};
 
 /// The version of the tables that is written, and the greatest that is opened.
-pub const KNOWN_VERSION: u64 = 1;
+pub const KNOWN_VERSION: u64 = 4;
 
 /// The mark of a file of this version, with the count of installs.
 pub fn mark_row(version: u64, installs: u64) -> Mark<&'static str>
@@ -99,23 +98,6 @@ pub fn edition_row<'a>(
         title: edition.title(),
         info: edition.info(),
         body: edition.text(),
-    }
-}
-
-/// The record of an entry of this edition at its place.
-pub fn entry_row<'a>(number: u64, ord: u64, entry: &Entry<'a>) -> EntryRow<&'a str>
-    requires number { number ≤ 9223372036854775807 }
-    requires ord { ord ≤ 9223372036854775807 }
-    requires within { entry.now.offset ≤ 16777216 }
-    requires size { entry.now.size ≤ 16777216 }
-    ensures { lent_entry result ≡ entry_record number ord (line_of entry.now) }
-{
-    EntryRow {
-        edition: number as i64,
-        ord: ord as i64,
-        headword: entry.headword,
-        start: entry.offset as i64,
-        length: entry.size as i64,
     }
 }
 

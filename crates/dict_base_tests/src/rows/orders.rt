@@ -3,10 +3,11 @@
 use super::records::{EditionRow, GEM, ORE, Rows, edition, empty, put_whole};
 use dict_catalogue::{Item, Kept, StoredTitle, Verb};
 use dict_index::read_edition;
+use dict_records::Entry;
 use dict_rows::{
-    EditionRows, Ids, Reader, Rowids, RowsFault, edition_row, empty_records, entry_row, item_row,
-    kept_row, mark_row, member_row, one_catalogue, ordered_records, records_after,
-    records_by_number, taken_in_order, worked_records,
+    EditionRows, Ids, Reader, Rowids, RowsFault, edition_row, empty_records, item_row, kept_row,
+    mark_row, member_row, one_catalogue, ordered_records, records_after, records_by_number,
+    taken_in_order, worked_records,
 };
 use std::alloc::Global;
 use std::process::Abort;
@@ -49,7 +50,7 @@ fn read_group(alloc: Global, reader: &mut Reader, row: EditionRow<'_>) -> Result
     let group = edition(alloc, row)?;
     reader.edition(group.edition.value)?;
     for entry in &group.entries {
-        reader.entry(alloc, &entry.value)?;
+        reader.entry(alloc, &entry.value, &entry.value.headword)?;
     }
     Ok(())
 }
@@ -115,7 +116,14 @@ fn look_at_the_edition(rt: &impl Abort, alloc: Global, group: &EditionRows) -> R
     assert_eq!(rt; group.entries.len(), 3);
     for entry in read.entries() {
         if entry.headword == "dot" && entry.offset <= 16_777_216 && entry.size <= 16_777_216 {
-            assert!(rt; entry_row(2, 2, entry) == group.entries[2].value.lend());
+            let written = Entry {
+                edition: 2,
+                ord: 2,
+                headword: entry.headword,
+                start: entry.offset as i64,
+                length: entry.size as i64,
+            };
+            assert!(rt; written == group.entries[2].value.lend());
         }
     }
     Ok(())

@@ -1,6 +1,7 @@
 use Rattle.std.proofs.Common.{refl, subst, Some}
 use Rattle.std.specs.Prelude.{OnOk}
 use Rattle.std.proofs.lemmas.Result.{IfErr-weaker}
+use Rattle.dict_records.specs.Records.{shown_as}
 use Rattle.dict_records.specs.Typed.{owned_entry}
 use Rattle.dict_rows.specs.Given.{OnDamage}
 use Rattle.dict_rows.specs.Taken.{IsInHand}
@@ -21,9 +22,9 @@ on_damage Memory f h = tt
 pub returns-clause-taken : goal.returns-clause-taken
 returns-clause-taken c = both_ok c.add_entry.result c.add_entry.ensures.is c.add_entry.ensures.added (λ is added version taken h.
     let last : IsInHand (Some c.in-Some.hand) taken = subst (λ x. IsInHand x taken) c.in-Some.is h.hand in
-    entry_taken version c.args.self.now _ taken (owned_entry c.args.row.now) c.in-Some.hand c.add_entry.new.hand last refl refl refl refl refl c.add_entry.ensures.same.0 c.add_entry.ensures.same.1 added is.0 is.1 h)
+    entry_taken version c.args.self.now _ taken (shown_as (owned_entry c.args.row.now) c.args.shown.now) c.in-Some.hand c.add_entry.new.hand last refl refl refl refl refl c.add_entry.ensures.same.0 c.add_entry.ensures.same.1 added is.0 is.1 h)
 
 pub returns-clause-damaged : goal.returns-clause-damaged
 returns-clause-damaged c = IfErr-weaker c.add_entry.result _ _ (λ fault why. on_damage fault (λ no version taken h of.
     let last : IsInHand (Some c.in-Some.hand) taken = subst (λ x. IsInHand x taken) c.in-Some.is h.hand in
-    entry_refused version c.args.self.now taken (owned_entry c.args.row.now) c.in-Some.hand last h of no) why) c.add_entry.ensures.damaged
+    entry_refused version c.args.self.now taken (shown_as (owned_entry c.args.row.now) c.args.shown.now) c.in-Some.hand last h of no) why) c.add_entry.ensures.damaged
