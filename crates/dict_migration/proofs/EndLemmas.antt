@@ -14,7 +14,7 @@ use Rattle.dict_catalogue.specs.Steps.{Catalogue, summary_of}
 use Rattle.dict_catalogue.specs.Tests.{Holdings}
 use Rattle.dict_tables.proofs.MadeLemmas.{differ}
 use Rattle.dict_sql.specs.Effects.{HasApartRowids, rows_of}
-use Rattle.dict_rows.specs.Versions.{Layout, Plain, Keyed, layout_of, next}
+use Rattle.dict_rows.specs.Versions.{Layout, Plain, Keyed, layout_of, known}
 use Rattle.dict_file.specs.Holds.{HasLayout, Holds, IsLeftAs, Rests}
 use Rattle.dict_migration.specs.Migrated.{HoldsOlder, IsMigrated, MayMigrate}
 use Rattle.dict_migration.specs.Moved.{AreTreesOf, IsOutcome}
@@ -72,12 +72,12 @@ module _ (version : ℕ) (older : Older) (is : layout_of version ≡ layout_as o
       let second = subst (λ n. IsOutcome older (map pos (edition_numbers N.items)) n s new) installs_are first in
       subst (λ (d : Database). IsMigrated version d new) rests.settled (moved older version is N s.now new (is_old version older is s N rests sound) held second.moved)
 
-  pub outcome_holds : (new : Database) → IsOutcome older numbers installs s new → (M : Catalogue) → Holds version s.committed M → Holds next new M
+  pub outcome_holds : (new : Database) → IsOutcome older numbers installs s new → (M : Catalogue) → Holds version s.committed M → Holds known new M
   outcome_holds new it M held = migrated version s.committed new M (outcome_migrated new it) held
 
-  pub outcome_left : (trees : Trees) → AreTreesOf (IsOutcome older numbers installs s) trees → (M : Catalogue) → Holds version s.committed M → IsLeftAs next M trees
+  pub outcome_left : (trees : Trees) → AreTreesOf (IsOutcome older numbers installs s) trees → (M : Catalogue) → Holds version s.committed M → IsLeftAs known M trees
   outcome_left trees left M held = (left.0, left.1, left.2, outcome_holds left.0 left.3 M held)
 
-  pub outcome_may : 1 ≤ version → version < next → (trees : Trees) → AreTreesOf (IsOutcome older numbers installs s) trees → MayMigrate s trees
+  pub outcome_may : 1 ≤ version → version < known → (trees : Trees) → AreTreesOf (IsOutcome older numbers installs s) trees → MayMigrate s trees
   outcome_may counted before trees left =
       (left.3.was_open, (N, record { version = version; counted = counted; before = before; holds = rests.holds }, outcome_left trees left N rests.holds))

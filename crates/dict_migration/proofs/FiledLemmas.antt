@@ -6,7 +6,7 @@ use Rattle.std.proofs.lemmas.List.Sorted.{IsPermutation-refl}
 use Rattle.std.proofs.lemmas.List.Folds.{list_any-append}
 use Rattle.sqlite.specs.Effect.{Database, IsDatabase}
 use Rattle.sqlite.specs.Order.{Row}
-use Rattle.dict_records.specs.Records.{Entry}
+use Rattle.dict_records.specs.Records.{Entry, ShowsHeadword}
 use Rattle.dict_tables.specs.Found.{HasOwn}
 use Rattle.dict_tables.specs.Keyed.{helper, word, gram, entry}
 use Rattle.dict_sql.specs.Effects.{HasApartRowids, rows_of}
@@ -76,9 +76,9 @@ module _ (n : ℤ) (old new : Database) (o : Owns old) (one : IsFiledOne n old n
       (spares_then old one.with_entries one.with_words (spares_added entry (form_defined form.Shown) (away_entry form.Shown) _ old one.with_entries one.filed o.entries) (spares_added word word_defined away_word _ one.with_entries one.with_words one.words first.words))
       (spares_added gram gram_defined away_gram _ one.with_words new one.grams second.grams)
 
-  pub one_filed : (numbers done : List ℤ) (t : Tables) → is_of done n ≡ false → is_of numbers n ≡ true → AreNumbered t n → IsPutAside numbers t old → IsFiled done t old → IsFiled (done ++ n ∷ []) t new
-  one_filed numbers done t fresh known are aside k =
-      filed_more numbers done n t old new fresh known are aside one
+  pub one_filed : (numbers done : List ℤ) (t : Tables) → is_of done n ≡ false → is_of numbers n ≡ true → AreNumbered t n → AllByRecursion ShowsHeadword t.entries → IsPutAside numbers t old → IsFiled done t old → IsFiled (done ++ n ∷ []) t new
+  one_filed numbers done t fresh known are shown aside k =
+      filed_more numbers done n t old new fresh known are shown aside one
       (added_rows entry (form_defined form.Shown) word word_defined word_entry _ old one.with_entries one.filed o.entries o.words)
       (added_rows word word_defined gram gram_defined gram_word _ one.with_entries one.with_words one.words first.words first.grams ∙ added_rows entry (form_defined form.Shown) gram gram_defined gram_entry _ old one.with_entries one.filed o.entries o.grams)
       (added_rows gram gram_defined entry (form_defined form.Shown) entry_gram _ one.with_words new one.grams second.grams second.entries ∙ added_rows word word_defined entry (form_defined form.Shown) entry_word _ one.with_entries one.with_words one.words first.words first.entries)
@@ -93,13 +93,13 @@ filed_spares (n ∷ ns) old new o h = spares_then old h.0 new (one_spares n old 
 abbrev AreAll : List ℤ → List ℤ → Type 0
 AreAll numbers ns = AllByRecursion (λ n. is_of numbers n ≡ true) ns
 
-pub all_filed : (numbers ns done : List ℤ) (t : Tables) (old new : Database) → AreFresh done ns → AreAll numbers ns → AllByRecursion (AreNumbered t) ns → Owns old → AreFiled ns old new → IsPutAside numbers t old → IsFiled done t old → IsFiled (done ++ ns) t new
-all_filed numbers [] done t old new fresh known are o h aside k = subst (λ l. IsFiled l t new) (sym (append-nil done)) (subst (IsFiled done t) (sym h) k)
-all_filed numbers (n ∷ ns) done t old new fresh known are o h aside k =
+pub all_filed : (numbers ns done : List ℤ) (t : Tables) (old new : Database) → AreFresh done ns → AreAll numbers ns → AllByRecursion (AreNumbered t) ns → AllByRecursion ShowsHeadword t.entries → Owns old → AreFiled ns old new → IsPutAside numbers t old → IsFiled done t old → IsFiled (done ++ ns) t new
+all_filed numbers [] done t old new fresh known are shown o h aside k = subst (λ l. IsFiled l t new) (sym (append-nil done)) (subst (IsFiled done t) (sym h) k)
+all_filed numbers (n ∷ ns) done t old new fresh known are shown o h aside k =
     let later = owns_still old h.0 (one_schema n old h.0 h.1) o in
     let aside' : IsPutAside numbers t h.0 = subst (λ l. IsPermutation (map entry_row (only_of numbers t).entries) (map (drop 1) l)) (sym (one_helper n old h.0 o h.1)) aside in
     subst (λ l. IsFiled l t new) (append_assoc done (n ∷ []) ns)
-    (all_filed numbers ns (done ++ n ∷ []) t h.0 new fresh.1 known.1 are.1 later h.2 aside' (one_filed n old h.0 o h.1 numbers done t fresh.0 known.0 are.0 aside k))
+    (all_filed numbers ns (done ++ n ∷ []) t h.0 new fresh.1 known.1 are.1 shown later h.2 aside' (one_filed n old h.0 o h.1 numbers done t fresh.0 known.0 are.0 shown aside k))
 
 -- a list has each of its numbers
 or_true : (a : Bool) → (a || true) ≡ true

@@ -10,6 +10,7 @@ use Rattle.sqlite.specs.Effect.{Database}
 use Rattle.sqlite.specs.Order.{Row}
 use Rattle.sqlite.specs.State.{State, Survives}
 use Rattle.sqlite.proofs.StateLemmas.{survives_then}
+use Rattle.std.specs.List.{AllByRecursion}
 use Rattle.dict_records.specs.Records as spec
 use Rattle.dict_records.specs.declared.records.Entry.{Entry}
 use Rattle.dict_records.specs.declared.records.Stored.{Stored}
@@ -77,6 +78,10 @@ given_rows : (all : List (Stored (Entry (String Global)))) → map (drop 1) (map
 given_rows [] = refl
 given_rows (e ∷ all) = ap (λ l. drop 1 (stored_entry e) ∷ l) (given_rows all)
 
+given_shown : (all : List (Stored (Entry (String Global)))) → AllByRecursion spec.ShowsHeadword (entries_given all)
+given_shown [] = tt
+given_shown (e ∷ all) = (refl, given_shown all)
+
 in_order : (all : List (Stored (Entry (String Global)))) → IsSorted (by_columns (2 ∷ [])) (map stored_entry all) → InOrder (λ (a b : spec.Entry). a.ord ≤ℤ b.ord) (entries_given all)
 in_order all sorted =
     records_order stored_entry (λ (row : Stored (Entry (String Global))). owned_entry row.value) (λ (a b : Row). is_lt (by_columns (2 ∷ []) b a) ≡ false) (λ (a b : spec.Entry). a.ord ≤ℤ b.ord)
@@ -86,6 +91,7 @@ pub waits : (number : ℤ) (db : Database) (all : List (Stored (Entry (String Gl
 waits number db all it = record {
   rows = IsPermutation-sym _ _ (subst (IsPermutation (map (drop 1) (filter (equals_number 1 number) (rows_of (codes "dictcat_entry") db)))) (given_rows all) (IsPermutation-map (drop 1) _ _ it.same));
   order = in_order all it.sorted;
+  shown = given_shown all;
 }
 
 -- ---- what the old tables give

@@ -1,4 +1,3 @@
-pub mod OneLemmas
 pub mod StopLemmas
 pub mod NumberLemmas
 pub mod RowLemmas

@@ -1,4 +1,4 @@
--- The empty tables of the next version, made one after the other.
+-- The empty tables of the known version, made one after the other.
 use Rattle.std.proofs.Common.{◌≡◌, ◌++◌, ◌∙◌, ℕ, false, true, List, [], ◌∷◌, map, drop, codes, inl, inr, refl, sym, ap, subst, rules}
 use Rattle.std.specs.List.{AllByRecursion, list_any}
 use Rattle.std.specs.Fmt.{digits}
@@ -38,7 +38,7 @@ use Rattle.dict_keyed_sql.specs.Made.{AreKeyedMade, IsKeyedReady}
 use Rattle.dict_migration_sql.specs.declared.entries.EntryForm.TheVariants as form
 use Rattle.dict_migration_sql.proofs.DefinitionLemmas.{form_defined, word_defined, gram_defined}
 use Rattle.dict_rows.specs.Tables.{Tables}
-use Rattle.dict_rows.specs.Versions.{Shown, next}
+use Rattle.dict_rows.specs.Versions.{Shown, known}
 use Rattle.dict_rows.specs.Written.{mark_record}
 use Rattle.dict_derived.specs.AllTables.{with_derived}
 use Rattle.dict_file.specs.Readings.{Reading, KeepsRows, name_of, marks, items, members, editions, entries, kept_replies, words, grams}
@@ -161,9 +161,9 @@ module _ (old mid : Database) (place : HasPlace old.schema) (sound : IsDatabase 
     late_none : (t : StoreTable) → HasOwn mid.schema (table_of t) → rows_of (table_of t 0).name mid ≡ [] → rows_of (table_of t 0).name late ≡ []
     late_none t own none = keyed.rows (table_of t 0).name (table_of t own.tree) (own_in (table_of t) (store_defined t) mid own) ∙ none
 
-    module _ (new : Database) (put : IsAdded (codes "mark") (mark_row (mark_record next 0)) late new) where
+    module _ (new : Database) (put : IsAdded (codes "mark") (mark_row (mark_record known 0)) late new) where
       abbrev empty_tables : Tables
-      empty_tables = record { marks = mark_record next 0 ∷ []; items = []; members = []; editions = []; entries = []; kept = [] }
+      empty_tables = record { marks = mark_record known 0 ∷ []; items = []; members = []; editions = []; entries = []; kept = [] }
 
       own_new : (table : ℕ → Table) → HasOwn late.schema table → HasOwn new.schema table
       own_new table own = own_still table late new put.schema own
@@ -178,10 +178,10 @@ module _ (old mid : Database) (place : HasPlace old.schema) (sound : IsDatabase 
 
       marks_new : KeepsRows marks new (with_derived empty_tables)
       marks_new =
-          let k = keeps_added (codes "mark") mark_row late new [] (mark_record next 0) put (keeps_none (codes "mark") mark_row late (late_none Mark all_there.own.0 all_there.empty.0)) in
+          let k = keeps_added (codes "mark") mark_row late new [] (mark_record known 0) put (keeps_none (codes "mark") mark_row late (late_none Mark all_there.own.0 all_there.empty.0)) in
           record { rows = k.rows; apart = k.apart }
 
-      pub empty_held : Holds next new empty_catalogue
+      pub empty_held : Holds known new empty_catalogue
       empty_held =
           let own = all_there.own in
           let none = all_there.empty in
@@ -221,5 +221,6 @@ module _ (old mid : Database) (place : HasPlace old.schema) (sound : IsDatabase 
                 ),
               ),
             );
+            shown = tt;
             stands = record { well_formed = empty_well_formed; marks = refl; items = refl; members = tt; owners = tt; editions = tt; numbers = tt; entries = tt; kept = refl };
           }

@@ -35,12 +35,12 @@ use Rattle.dict_migration_sql.proofs.FreedLemmas.{index_still}
 use Rattle.dict_migration_sql.proofs.GoneLemmas.{still_in}
 use Rattle.dict_rows.specs.Tables.{Tables}
 use Rattle.dict_rows.specs.Stands.{Stands}
-use Rattle.dict_rows.specs.Versions.{Layout, Plain as PlainLayout, Keyed as KeyedLayout, Shown, layout_of, next}
+use Rattle.dict_rows.specs.Versions.{Layout, Plain as PlainLayout, Keyed as KeyedLayout, Shown, layout_of, known}
 use Rattle.dict_rows.specs.Written.{mark_record}
 use Rattle.dict_rows.proofs.PartLemmas.{filter_whole}
 use Rattle.dict_rows.specs.Order.{is_of, entries_of_numbers}
 use Rattle.dict_derived.specs.AllTables.{AllTables, with_derived, as_version}
-use Rattle.dict_file.specs.Readings.{Reading, KeepsAll, KeepsRows, name_of, marks, items, members, editions, entries, kept_replies, words, grams}
+use Rattle.dict_file.specs.Readings.{Reading, KeepsAll, KeepsRows, name_of, marks, items, members, editions, entries, kept_replies, words, grams, AreShownIn}
 use Rattle.dict_file.specs.Holds.{HasLayout, Holds}
 use Rattle.dict_file.proofs.KeepLemmas.{keeps_added, keeps_none}
 use Rattle.dict_migration.specs.Migrated.{IsMigrated}
@@ -54,7 +54,7 @@ use Rattle.dict_migration.proofs.AsideLemmas.{copied_aside, none_aside, same_ent
 use Rattle.dict_migration.proofs.FiledLemmas.{Owns, all_filed, all_of_them, filed_schema, filed_sound, filed_spares, none_filed, owns_still}
 use Rattle.dict_migration.proofs.FlowLemmas.{aside_spares, copied_helper, keyed_owns, left_behind, made_entries, made_helper}
 use Rattle.dict_migration.proofs.NumberLemmas.{all_fresh, all_known, all_numbered}
-use Rattle.dict_migration.proofs.OneLemmas.{same_version}
+use Rattle.dict_file.proofs.OneLemmas.{same_version}
 use Rattle.dict_migration.proofs.RowLemmas.{old_rows}
 use Rattle.dict_migration.proofs.SpareLemmas.{apart_mark, apart_names, away_helper, entry_helper, gram_helper, others_rows, own_still, spares_dropped, spares_keyed, spares_then, word_helper}
 
@@ -152,12 +152,12 @@ module _ (installs : ℕ) (last new : Database) (own : HasOwn last.schema mark) 
       others_rows mark (store_defined store.Mark) other also apart h.cleared new h.put.schema h.put.others (own_still mark last h.cleared h.taken.schema own) (own_still other last h.cleared h.taken.schema its)
       ∙ others_rows mark (store_defined store.Mark) other also apart last h.cleared h.taken.schema h.taken.others own its
 
-  pub marked_marks : (version : ℕ) (t : Tables) → t.marks ≡ mark_record version installs ∷ [] → KeepsRows marks new (with_derived (as_version next t))
+  pub marked_marks : (version : ℕ) (t : Tables) → t.marks ≡ mark_record version installs ∷ [] → KeepsRows marks new (with_derived (as_version known t))
   marked_marks version t is =
-      let k = keeps_added (codes "mark") mark_row h.cleared new [] (mark_record next installs) h.put (keeps_none (codes "mark") mark_row h.cleared (h.taken.rows ∙ none_left (rows_of (codes "mark") last))) in
+      let k = keeps_added (codes "mark") mark_row h.cleared new [] (mark_record known installs) h.put (keeps_none (codes "mark") mark_row h.cleared (h.taken.rows ∙ none_left (rows_of (codes "mark") last))) in
       let rows = map (drop 1) (rows_of (codes "mark") new) in
       record {
-        rows = subst (λ (ms : List spec.Mark). IsPermutation (map mark_row (map (λ (m : spec.Mark). record m { version = pos next }) ms)) rows) (sym is) k.rows;
+        rows = subst (λ (ms : List spec.Mark). IsPermutation (map mark_row (map (λ (m : spec.Mark). record m { version = pos known }) ms)) rows) (sym is) k.rows;
         apart = k.apart;
       }
 
@@ -168,6 +168,10 @@ again r A B old new same still k = record {
   rows = subst (λ l. IsPermutation (r.rows B) (map (λ row. drop 1 (r.looked row)) l)) (sym still) (subst (λ l. IsPermutation l (map (λ row. drop 1 (r.looked row)) (rows_of (name_of r) old))) same k.rows);
   apart = subst HasApartRowids (sym still) k.apart;
 }
+
+headwords_shown : (o : Older) (es : List spec.Entry) → AreShownIn (layout_as o) es → AllByRecursion spec.ShowsHeadword es
+headwords_shown Plain es shown = shown
+headwords_shown Keyed es shown = shown
 
 entries_old : (o : Older) (schema : Schema) → HasLayout (layout_as o) schema → HasOwn schema (entry_of (form_of o))
 entries_old Plain schema own = own.tables.1.1.1.1.0
@@ -198,7 +202,7 @@ module _ (older : Older) (version : ℕ) (is : layout_of version ≡ layout_as o
   other_new : (table : ℕ → Table) → IsDefinition table → IsBeside (table 0).name → HasOwn old.schema table → HasOwn new.schema table
   other_new table defined beside own = own_new table (stays table defined beside own).0
 
-  moved_own : HasLayout (layout_of next) new.schema
+  moved_own : HasLayout (layout_of known) new.schema
   moved_own =
       let own = its.own.tables in
       record {
@@ -225,7 +229,7 @@ module _ (older : Older) (version : ℕ) (is : layout_of version ≡ layout_as o
         room = tt;
       }
 
-  module _ (t : Tables) (s : Stands version t N) (k : KeepsAll (layout_as older) old (with_derived t)) where
+  module _ (t : Tables) (s : Stands version t N) (shown : AllByRecursion spec.ShowsHeadword t.entries) (k : KeepsAll (layout_as older) old (with_derived t)) where
     had_helped : IsPermutation (map entry_row t.entries) (map plain_row (rows_of (codes "entry") aside.with_helper))
     had_helped =
         let own = entries_old older old.schema its.own in
@@ -246,7 +250,7 @@ module _ (older : Older) (version : ℕ) (is : layout_of version ≡ layout_as o
 
     all_done : IsFiled numbers t m.refilled
     all_done =
-        all_filed numbers numbers [] t m.fills.with_tables m.refilled (all_fresh version t N s) (all_of_them numbers) (all_numbered version t N s)
+        all_filed numbers numbers [] t m.fills.with_tables m.refilled (all_fresh version t N s) (all_of_them numbers) (all_numbered version t N s) shown
         (keyed_owns older numbers old m.fills.put_aside its aside m.fills.with_tables m.fills.made) m.fills.filed put_tables
         (none_filed t m.fills.with_tables (m.fills.made.empty keyed.Entry) (m.fills.made.empty keyed.Word) (m.fills.made.empty keyed.Gram))
 
@@ -257,21 +261,21 @@ module _ (older : Older) (version : ℕ) (is : layout_of version ≡ layout_as o
     rows_new = marked_rows N.installs last new mark_last m.marked
 
     -- a table that stays has what it had
-    other_kept : (r : Reading) → IsDefinition r.table → IsBeside (name_of r) → same_name (name_of r) (mark 0).name ≡ false → HasOwn old.schema r.table → r.rows (with_derived t) ≡ r.rows (with_derived (as_version next t)) → KeepsRows r old (with_derived t) → KeepsRows r new (with_derived (as_version next t))
+    other_kept : (r : Reading) → IsDefinition r.table → IsBeside (name_of r) → same_name (name_of r) (mark 0).name ≡ false → HasOwn old.schema r.table → r.rows (with_derived t) ≡ r.rows (with_derived (as_version known t)) → KeepsRows r old (with_derived t) → KeepsRows r new (with_derived (as_version known t))
     other_kept r defined beside apart own same kept =
         let stay = stays r.table defined beside own in
-        again r (with_derived t) (with_derived (as_version next t)) old new same (rows_new r.table defined apart stay.0 ∙ stay.1) kept
+        again r (with_derived t) (with_derived (as_version known t)) old new same (rows_new r.table defined apart stay.0 ∙ stay.1) kept
 
     -- and a new one what was filed
-    new_kept : (r : Reading) → IsDefinition r.table → same_name (name_of r) (mark 0).name ≡ false → HasOwn last.schema r.table × (rows_of (name_of r) last ≡ rows_of (name_of r) m.refilled) → r.rows (with_derived (only_of numbers t)) ≡ r.rows (with_derived (as_version next t))
-        → KeepsRows r m.refilled (with_derived (only_of numbers t)) → KeepsRows r new (with_derived (as_version next t))
+    new_kept : (r : Reading) → IsDefinition r.table → same_name (name_of r) (mark 0).name ≡ false → HasOwn last.schema r.table × (rows_of (name_of r) last ≡ rows_of (name_of r) m.refilled) → r.rows (with_derived (only_of numbers t)) ≡ r.rows (with_derived (as_version known t))
+        → KeepsRows r m.refilled (with_derived (only_of numbers t)) → KeepsRows r new (with_derived (as_version known t))
     new_kept r defined apart stay same kept =
-        again r (with_derived (only_of numbers t)) (with_derived (as_version next t)) m.refilled new same (rows_new r.table defined apart stay.0 ∙ stay.1) kept
+        again r (with_derived (only_of numbers t)) (with_derived (as_version known t)) m.refilled new same (rows_new r.table defined apart stay.0 ∙ stay.1) kept
 
     abbrev as_if : List spec.Entry → AllTables
     as_if es = with_derived (record t { entries = es })
 
-    moved_keeps : KeepsAll (layout_of next) new (with_derived (as_version next t))
+    moved_keeps : KeepsAll (layout_of known) new (with_derived (as_version known t))
     moved_keeps =
         let own = its.own.tables in
         let away = apart_mark in (
@@ -300,7 +304,7 @@ module _ (older : Older) (version : ℕ) (is : layout_of version ≡ layout_as o
   pub moved : IsMigrated version old new
   moved = record {
     own = moved_own;
-    keeps = λ t M k s.
-        let same : M ≡ N = same_version version old M N (record { own = held.own; tables = t; keeps = k; stands = s }) held in
-        moved_keeps t (subst (Stands version t) same s) (subst (λ layout. KeepsAll layout old (with_derived t)) is k);
+    keeps = λ t M k shown s.
+        let same : M ≡ N = same_version version old M N (record { own = held.own; tables = t; keeps = k; shown = shown; stands = s }) held in
+        moved_keeps t (subst (Stands version t) same s) (headwords_shown older t.entries (subst (λ layout. AreShownIn layout t.entries) is shown)) (subst (λ layout. KeepsAll layout old (with_derived t)) is k);
   }

@@ -2,6 +2,7 @@
 use Rattle.std.proofs.Common.{◌≡◌, ◌⊎◌, ◌+◌, ◌&&◌, ℕ, ℤ, pos, Bool, true, false, cond, List, [], ◌∷◌, ◌++◌, map, drop, take, filter, codes, inl, inr, refl, sym, ap, subst, ◌∙◌, append-nil}
 use Rattle.std.specs.Prelude.{IsTrue, flat_map, ◌≤ℤ◌}
 use Rattle.std.specs.List.{AllByRecursion}
+use Rattle.dict_text.proofs.AllLemmas.{all_filter}
 use Rattle.std.specs.List.Sorted.{IsPermutation}
 use Rattle.std.proofs.lemmas.Bool.{false≢true, cases_Bool}
 use Rattle.std.proofs.lemmas.List.{map-append}
@@ -10,7 +11,7 @@ use Rattle.sqlite.specs.Effect.{Database}
 use Rattle.sqlite.specs.Order.{Row, column}
 use Rattle.sqlite.specs.declared.types.Value.TheVariants.{Int}
 use Rattle.sqlite_trees.proofs.ListLemmas.{IsPermutation-filter}
-use Rattle.dict_records.specs.Records.{Entry}
+use Rattle.dict_records.specs.Records.{Entry, ShowsHeadword}
 use Rattle.dict_records.specs.Keyed.{Piece}
 use Rattle.dict_match.specs.Key.{key_of}
 use Rattle.dict_index.specs.Line.{Line}
@@ -40,7 +41,7 @@ use Rattle.dict_migration.specs.declared.aside.Older.{Older}
 use Rattle.dict_migration.specs.declared.aside.Older.TheVariants.{Plain, Keyed}
 use Rattle.dict_migration.specs.UnderWay.{only_of, IsPutAside, IsFiled}
 use Rattle.dict_migration.proofs.NumberLemmas.{AreNumbered}
-use Rattle.dict_migration.proofs.OneLemmas.{both, decode_entry, entry_back}
+use Rattle.dict_file.proofs.OneLemmas.{both_where, decode_entry, entry_back}
 
 -- ---- rows of an edition
 
@@ -134,14 +135,15 @@ of_known numbers n es known =
     by e (inl hit) = rw hit (ap (λ b. b && true) (ap (is_of numbers) (same_number_is e.edition n hit) ∙ known))
     by e (inr miss) = rw miss (and_no (is_of numbers e.edition))
 
-pub wait_are : (numbers : List ℤ) (n : ℤ) (t : Tables) (db : Database) (waiting : List Entry) → is_of numbers n ≡ true → AreNumbered t n → IsPutAside numbers t db → Wait n db waiting → waiting ≡ entries_of n t.entries
-wait_are numbers n t db waiting known are aside wait =
+pub wait_are : (numbers : List ℤ) (n : ℤ) (t : Tables) (db : Database) (waiting : List Entry) → is_of numbers n ≡ true → AreNumbered t n → AllByRecursion ShowsHeadword t.entries → IsPutAside numbers t db → Wait n db waiting → waiting ≡ entries_of n t.entries
+wait_are numbers n t db waiting known are shown aside wait =
     let rows = rows_of (codes "dictcat_entry") db in
     let all = entries_of_numbers numbers t.entries in
     let found = IsPermutation-filter (equals_number 0 n) (map entry_row all) (map (drop 1) rows) aside in
     let part : IsPermutation (map entry_row (entries_of n all)) (map (drop 1) (filter (equals_number 1 n) rows)) =
     subst (λ l. IsPermutation l (map (drop 1) (filter (equals_number 1 n) rows))) (sym (entries_part n all)) (subst (IsPermutation (filter (equals_number 0 n) (map entry_row all))) (sym (behind_part n rows)) found) in
-    let same : IsPermutation (entries_of n all) waiting = both entry_row decode_entry entry_back (entries_of n all) waiting (map (drop 1) (filter (equals_number 1 n) rows)) part wait.rows in
+    let same : IsPermutation (entries_of n all) waiting = both_where ShowsHeadword entry_row decode_entry entry_back (entries_of n all) waiting (map (drop 1) (filter (equals_number 1 n) rows))
+    (all_filter ShowsHeadword (λ (e : Entry). same_number e.edition n) all (all_filter ShowsHeadword (λ (e : Entry). is_of numbers e.edition) t.entries shown)) wait.shown part wait.rows in
     let those : IsPermutation (entries_of n t.entries) waiting = subst (λ l. IsPermutation l waiting) (of_known numbers n t.entries known) same in
     let strict = subst (InOrder (λ (a b : Entry). Below a.ord b.ord)) (sym are.entries) (numbered_rise (entry_record are.number) (λ (e : Entry). e.ord) (λ m line. refl) 0 are.lines) in
     sym (ordered_once (λ (e : Entry). e.ord) (entries_of n t.entries) waiting (same_from (entries_of n t.entries) waiting those) strict wait.order)
@@ -190,11 +192,11 @@ grown name before added after old new more had same =
     IsPermutation-trans after (before ++ added) (map (drop 1) (rows_of name new)) (IsPermutation-sym (before ++ added) after same)
     (IsPermutation-trans (before ++ added) (map (drop 1) (rows_of name old) ++ added) (map (drop 1) (rows_of name new)) (IsPermutation-append_left added before (map (drop 1) (rows_of name old)) had) more.rows)
 
-module _ (numbers done : List ℤ) (n : ℤ) (t : Tables) (old new : Database) (fresh : is_of done n ≡ false) (known : is_of numbers n ≡ true) (are : AreNumbered t n) (aside : IsPutAside numbers t old) (one : IsFiledOne n old new)
+module _ (numbers done : List ℤ) (n : ℤ) (t : Tables) (old new : Database) (fresh : is_of done n ≡ false) (known : is_of numbers n ≡ true) (are : AreNumbered t n) (shown : AllByRecursion ShowsHeadword t.entries) (aside : IsPutAside numbers t old) (one : IsFiledOne n old new)
     (words_still : rows_of (codes "word") one.with_entries ≡ rows_of (codes "word") old) (grams_still : rows_of (codes "gram") one.with_words ≡ rows_of (codes "gram") old)
     (entries_kept : rows_of (codes "entry") new ≡ rows_of (codes "entry") one.with_entries) (words_kept : rows_of (codes "word") new ≡ rows_of (codes "word") one.with_words) where
   those : one.entries ≡ entries_of n t.entries
-  those = wait_are numbers n t old one.entries known are aside one.wait
+  those = wait_are numbers n t old one.entries known are shown aside one.wait
 
   entries_filed : KeepsRows (entries Shown) old (with_derived (only_of done t)) → KeepsRows (entries Shown) new (with_derived (only_of (done ++ n ∷ []) t))
   entries_filed k =

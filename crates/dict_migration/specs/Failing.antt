@@ -25,7 +25,7 @@ use Rattle.dict_desk.specs.declared.fault.Fault.TheVariants.{Memory, Disk}
 use Rattle.dict_catalogue.specs.Items.{edition_numbers}
 use Rattle.dict_catalogue.specs.Steps.{Catalogue}
 use Rattle.dict_catalogue.specs.Tests.{Holdings}
-use Rattle.dict_rows.specs.Versions.{next}
+use Rattle.dict_rows.specs.Versions.{known}
 use Rattle.dict_file.specs.Faults.{fault_of_read}
 use Rattle.dict_file.specs.Holds.{Holds}
 
@@ -100,6 +100,6 @@ module _ {S : Type 0} (g : Ghosts S) where
     pub why : (fault ≡ Memory) ⊎ ((fault ≡ Disk) × ((summary.installs ≤ 9223372036854775807) × AllByRecursion (λ number. number ≤ 9223372036854775807) (edition_numbers summary.items) → ⊥))
 
   -- Either; or a part of the migration failed, or its commit did, behind which a catalogue that was held under this version is
-  -- held under the next one.
+  -- held under the known one.
   abbrev pub FailsToMigrate : ℕ → Holdings (List ℕ) → Held S → Held S → Fault → Type 0
-  FailsToMigrate version summary old new fault = IsNotBegun summary old new fault ⊎ FailsToEnd (λ db. (M : Catalogue) → Holds version (state g old).committed M → Holds next db M) old new fault
+  FailsToMigrate version summary old new fault = IsNotBegun summary old new fault ⊎ FailsToEnd (λ db. (M : Catalogue) → Holds version (state g old).committed M → Holds known db M) old new fault

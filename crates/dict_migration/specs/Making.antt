@@ -1,4 +1,4 @@
--- The statements by which the empty tables of the next version are made, and why nothing comes of them.
+-- The statements by which the empty tables of the known version are made, and why nothing comes of them.
 use Rattle.std.specs.Prelude.{◌≡◌, ◌⊎◌, ◌++◌, ℕ, true, List, [], ◌∷◌, codes, map}
 use Rattle.sqlite.specs.Effect.{Database}
 use Rattle.sqlite.specs.State.{State, Survives, Fails, IsRolledBack}

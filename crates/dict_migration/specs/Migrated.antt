@@ -6,25 +6,25 @@ use Rattle.sqlite.specs.State.{State}
 use Rattle.dict_catalogue.specs.Steps.{Catalogue}
 use Rattle.dict_rows.specs.Tables.{Tables}
 use Rattle.dict_rows.specs.Stands.{Stands}
-use Rattle.dict_rows.specs.Versions.{next, layout_of}
+use Rattle.dict_rows.specs.Versions.{known, layout_of}
 use Rattle.dict_derived.specs.AllTables.{with_derived, as_version}
-use Rattle.dict_file.specs.Readings.{KeepsAll}
+use Rattle.dict_file.specs.Readings.{KeepsAll, AreShownIn}
 use Rattle.dict_file.specs.Holds.{Holds, HasLayout, IsLeftAs}
 
--- Whatever records the tables of an older version keep that stand for a catalogue, those of the next one keep them, with what
+-- Whatever records the tables of an older version keep that stand for a catalogue, those of the known one keep them, with what
 -- is derived of them. (Of records that stand for none nothing is said: entries of no edition aren't carried over.)
 pub record IsMigrated (version : ℕ) (old new : Database) : Type 0 where
-  pub own : HasLayout (layout_of next) new.schema
-  pub keeps : (tables : Tables) (M : Catalogue) → KeepsAll (layout_of version) old (with_derived tables) → Stands version tables M → KeepsAll (layout_of next) new (with_derived (as_version next tables))
+  pub own : HasLayout (layout_of known) new.schema
+  pub keeps : (tables : Tables) (M : Catalogue) → KeepsAll (layout_of version) old (with_derived tables) → AreShownIn (layout_of version) tables.entries → Stands version tables M → KeepsAll (layout_of known) new (with_derived (as_version known tables))
 
--- the database holds the catalogue under a version before the next one
+-- the database holds the catalogue under a version before the known one
 pub record HoldsOlder (db : Database) (M : Catalogue) : Type 0 where
   pub version : ℕ
   pub counted : 1 ≤ version
-  pub before : version < next
+  pub before : version < known
   pub holds : Holds version db M
 
 -- What a migration may commit: the store was open, and what it had committed held a catalogue under an older version, which
--- these trees hold under the next one.
+-- these trees hold under the known one.
 abbrev pub MayMigrate : State → Trees → Type 0
-MayMigrate s trees = IsTrue s.is_open × ((M : Catalogue) × HoldsOlder s.committed M × IsLeftAs next M trees)
+MayMigrate s trees = IsTrue s.is_open × ((M : Catalogue) × HoldsOlder s.committed M × IsLeftAs known M trees)

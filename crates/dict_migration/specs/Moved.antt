@@ -10,17 +10,17 @@ use Rattle.dict_sql.specs.Drops.{IsDropped}
 use Rattle.dict_sql.specs.Effects.{IsAdded, IsRemoved}
 use Rattle.dict_sql.specs.Encodings.{mark_row}
 use Rattle.dict_keyed_sql.specs.Made.{AreKeyedMade}
-use Rattle.dict_rows.specs.Versions.{next}
+use Rattle.dict_rows.specs.Versions.{known}
 use Rattle.dict_rows.specs.Written.{mark_record}
 use Rattle.dict_migration.specs.declared.aside.Older.{Older}
 use Rattle.dict_migration.specs.Older.{IsAside}
 use Rattle.dict_migration.specs.Steps.{AreFiled}
 
--- the mark was taken out, and that of the next version was put in, with this count of installs
+-- the mark was taken out, and that of the known version was put in, with this count of installs
 pub record IsMarked (installs : ℕ) (old new : Database) : Type 0 where
   pub cleared : Database
   pub taken : IsRemoved (codes "mark") (λ _. true) old cleared
-  pub put : IsAdded (codes "mark") (mark_row (mark_record next installs)) cleared new
+  pub put : IsAdded (codes "mark") (mark_row (mark_record known installs)) cleared new
 
 -- the old tables were put aside, the new ones were made, and the editions were filed
 pub record IsRefilled (older : Older) (numbers : List ℤ) (old new : Database) : Type 0 where

@@ -4,7 +4,7 @@ use Rattle.std.specs.List.{AllByRecursion}
 use Rattle.sqlite.specs.Effect.{Database}
 use Rattle.sqlite.specs.Table.{Table}
 use Rattle.sqlite_schema.specs.Names.{same_name}
-use Rattle.dict_records.specs.Records.{Entry}
+use Rattle.dict_records.specs.Records.{Entry, ShowsHeadword}
 use Rattle.dict_match.specs.Key.{key_of}
 use Rattle.dict_tables.specs.Definitions.{IsDefinition}
 use Rattle.dict_tables.specs.Found.{HasOwn}
@@ -27,6 +27,7 @@ AreCopied (number ∷ numbers) old new = (mid : Database) × IsCopied number old
 pub record Wait (number : ℤ) (db : Database) (entries : List Entry) : Type 0 where
   pub rows : IsPermutation (map entry_row entries) (map (drop 1) (filter (equals_number 1 number) (rows_of (codes "dictcat_entry") db)))
   pub order : InOrder (λ a b. a.ord ≤ℤ b.ord) entries
+  pub shown : AllByRecursion ShowsHeadword entries
 
 abbrev pub keys_of : List Entry → List (List ℕ)
 keys_of entries = map (λ (e : Entry). key_of e.headword) entries

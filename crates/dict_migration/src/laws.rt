@@ -1,30 +1,23 @@
 // What a migration makes, and what a stop in it leaves.
-ghost use Rattle.std.specs.Prelude.{◌≡◌, ◌↔◌, ℕ, List, Option, IsTrue};
+ghost use Rattle.std.specs.Prelude.{◌≡◌, ◌↔◌, ℕ, List, Option};
 ghost use Rattle.sqlite.specs.Effect.{Database};
 ghost use Rattle.sqlite.specs.Held.{Held, state};
 ghost use Rattle.sqlite.specs.State.{IsLive, Survives};
 ghost use Rattle.dict_catalogue.specs.Steps.{Catalogue};
-ghost use Rattle.dict_rows.specs.Versions.{next};
-ghost use Rattle.dict_file.specs.Holds.{Holds};
+ghost use Rattle.dict_rows.specs.Versions.{known};
+ghost use Rattle.dict_file.specs.Holds.{Holds, IsHeld};
 ghost use Rattle.dict_migration.specs.Migrated.{IsMigrated, HoldsOlder, MayMigrate};
-ghost use Rattle.dict_migration.specs.Leaves.{IsHeldByNext, LeavesOneOf};
+ghost use Rattle.dict_migration.specs.Leaves.{LeavesOneOf};
 
-use sqlite::{Alter, Connection};
+use sqlite::Alter;
 
-/// What a migration makes holds the same catalogue under the next version; and where the database before holds a catalogue that
+/// What a migration makes holds the same catalogue under the known version; and where the database before holds a catalogue that
 /// the one after holds, each holds what the other does.
 ///
 /// It does nothing. Its clauses are the law.
 pub fn migrated_holds()
-    ensures holds { (version : ℕ) (old new : Database) (M : Catalogue) → IsMigrated version old new → Holds version old M → Holds next new M }
-    ensures same { (old new : Database) (N : Catalogue) → HoldsOlder old N → Holds next new N → (M : Catalogue) → IsHeldByNext old M ↔ Holds next new M }
-{}
-
-/// What an open store has committed is among what a stop may leave.
-///
-/// It does nothing. Its clause is the law.
-pub fn committed_may_stay<S: Alter>(conn: &Connection<S>)
-    ensures { IsTrue (state S.Store conn.now).is_open → (state S.Store conn.now).may_leave (state S.Store conn.now).committed.trees }
+    ensures holds { (version : ℕ) (old new : Database) (M : Catalogue) → IsMigrated version old new → Holds version old M → Holds known new M }
+    ensures same { (old new : Database) (N : Catalogue) → HoldsOlder old N → Holds known new N → (M : Catalogue) → IsHeld old M ↔ Holds known new M }
 {}
 
 /// Wherever a migration is stopped, what is left stands for one of the catalogues that could be left before it: so no law of

@@ -1,4 +1,4 @@
-//! From the tables of an older version to those of the next one, in one transaction, and the empty ones made.
+//! From the tables of an older version to those of the known one, in one transaction, and the empty ones made.
 #![tactic(auto)]
 
 mod aside;
@@ -9,6 +9,6 @@ mod marking;
 mod migrating;
 mod pieces;
 
-pub use laws::{committed_may_stay, migrated_holds, stopped_migration};
+pub use laws::{migrated_holds, stopped_migration};
 pub use making::create;
 pub use migrating::migrate;

@@ -1,4 +1,4 @@
-// A store of the next version is made in a database.
+// The empty catalogue is made in a database.
 ghost use Rattle.std.specs.Prelude.{◌≡◌, ◌≢◌, ◌↔◌, map, true, false, IsTrue, IfErr, OnOk, OnErr, Err};
 ghost use Rattle.sqlite.specs.Effect.{IsDatabase};
 ghost use Rattle.sqlite.specs.State.{HasCleanDisk, KeepsCommit, Survives};
@@ -7,18 +7,17 @@ ghost use Rattle.dict_sql.specs.Creates.{AreApart, IsReady, MadeInTurn};
 ghost use Rattle.dict_sql.specs.Effects.{WhileOpen, seen};
 ghost use Rattle.dict_sql.specs.Statements as sql;
 ghost use Rattle.dict_sql.specs.Statements.{make};
-ghost use Rattle.dict_rows.specs.Versions.{next};
+ghost use Rattle.dict_rows.specs.Versions.{known};
 ghost use Rattle.dict_catalogue.specs.Steps.{empty_catalogue};
 ghost use Rattle.dict_desk.specs.Faults.{is_disk};
 ghost use Rattle.dict_file.specs.Holds.{Holds, Rests, IsLeftAs, HasPlace};
 ghost use Rattle.dict_file.specs.Writing.{Stays, IsOfCreation};
 ghost use Rattle.dict_migration.specs.Making.{creation, FailsToEnd, RunInTurn, FailsInTurn};
 
-use crate::marking::NEXT_VERSION;
 use dict_desk::Fault;
 use dict_file::{fault_of, has_place};
 use dict_keyed_sql::create_keyed_tables;
-use dict_rows::mark_row;
+use dict_rows::{KNOWN_VERSION, mark_row};
 use dict_sql::commit::commit;
 use dict_sql::create::create_table;
 use dict_sql::insert::insert_mark;
@@ -47,10 +46,10 @@ fn make_all<S: Alter>(tx: &mut Transaction<'_, S>) -> Result<(), Error>
     requires ready { WhileOpen (seen S.Store tx.old) IsReady }
     requires place { WhileOpen (seen S.Store tx.old) (λ db. HasPlace db.schema) }
     ensures same_reference { tx.new.conn.ghost_name ≡ tx.old.conn.ghost_name }
-    ensures made { HasCleanDisk (seen S.Store tx.new) → OnOk result (Holds next (seen S.Store tx.new).now empty_catalogue × IsDatabase (seen S.Store tx.new).now) }
+    ensures made { HasCleanDisk (seen S.Store tx.new) → OnOk result (Holds known (seen S.Store tx.new).now empty_catalogue × IsDatabase (seen S.Store tx.new).now) }
     ensures inside { HasCleanDisk (seen S.Store tx.new) → OnOk result ((seen S.Store tx.new).in_transaction ≡ true) }
-    ensures ran { HasCleanDisk (seen S.Store tx.new) → OnOk result (RunInTurn S.Store (creation next) tx.old.conn.now tx.new.conn.now) }
-    ensures failed { HasCleanDisk (seen S.Store tx.new) → IfErr result (FailsInTurn S.Store (creation next) tx.old.conn.now tx.new.conn.now) }
+    ensures ran { HasCleanDisk (seen S.Store tx.new) → OnOk result (RunInTurn S.Store (creation known) tx.old.conn.now tx.new.conn.now) }
+    ensures failed { HasCleanDisk (seen S.Store tx.new) → IfErr result (FailsInTurn S.Store (creation known) tx.old.conn.now tx.new.conn.now) }
     ensures keeps { HasCleanDisk (seen S.Store tx.new) → KeepsCommit (seen S.Store tx.old) (seen S.Store tx.new) }
     ensures survives { Survives (seen S.Store tx.old) (seen S.Store tx.new) (λ _. ⊥) }
 {
@@ -65,12 +64,12 @@ fn make_all<S: Alter>(tx: &mut Transaction<'_, S>) -> Result<(), Error>
         ],
     )?;
     create_keyed_tables(tx)?;
-    let mark = mark_row(NEXT_VERSION, 0);
+    let mark = mark_row(KNOWN_VERSION, 0);
     insert_mark(tx, &mark)?;
     Ok(())
 }
 
-/// Makes the tables and the indexes of the next version, of the empty catalogue, in a database that has none of them, by one
+/// Makes the tables and the indexes of the known version, of the empty catalogue, in a database that has none of them, by one
 /// commit.
 ///
 /// `NotACatalogue` tells that there is no place for them: one of their names is in use, or a name that is kept for the product,
@@ -79,18 +78,18 @@ fn make_all<S: Alter>(tx: &mut Transaction<'_, S>) -> Result<(), Error>
 /// tables are there whole or not at all. These are all faults of it.
 pub fn create<S: Alter>(conn: &mut Connection<S>) -> Result<(), Fault>
     requires { conn.old.in_transaction ≡ false }
-    ensures rests { HasCleanDisk (state S.Store conn.new) → OnOk result (Rests next (state S.Store conn.new) empty_catalogue) }
-    ensures only { HasCleanDisk (state S.Store conn.new) → OnOk result ((trees : _) → (state S.Store conn.new).may_leave trees → IsLeftAs next empty_catalogue trees) }
+    ensures rests { HasCleanDisk (state S.Store conn.new) → OnOk result (Rests known (state S.Store conn.new) empty_catalogue) }
+    ensures only { HasCleanDisk (state S.Store conn.new) → OnOk result ((trees : _) → (state S.Store conn.new).may_leave trees → IsLeftAs known empty_catalogue trees) }
     ensures place { OnOk result (HasPlace (state S.Store conn.old).now.schema) }
     ensures no_place { (result ≡ Err Fault.NotACatalogue) ↔ (HasPlace (state S.Store conn.old).now.schema → ⊥) }
     ensures unchanged { result ≡ Err Fault.NotACatalogue → conn.new ≡ conn.old }
     ensures adds_none { IfErr result (λ fault. is_disk fault ≡ false → Survives (state S.Store conn.old) (state S.Store conn.new) (λ _. ⊥)) }
     ensures undone { HasCleanDisk (state S.Store conn.new) → IfErr result (λ fault. is_disk fault ≡ false → IsTrue (state S.Store conn.new).is_open → (state S.Store conn.new).committed ≡ (state S.Store conn.old).committed) }
     ensures stays { HasCleanDisk (state S.Store conn.new) → OnErr result (Stays (state S.Store conn.old) (state S.Store conn.new)) }
-    ensures failed { HasCleanDisk (state S.Store conn.new) → IfErr result (λ fault. fault ≢ Fault.NotACatalogue → FailsToEnd S.Store (creation next) (λ db. Holds next db empty_catalogue) conn.old conn.new fault) }
+    ensures failed { HasCleanDisk (state S.Store conn.new) → IfErr result (λ fault. fault ≢ Fault.NotACatalogue → FailsToEnd S.Store (creation known) (λ db. Holds known db empty_catalogue) conn.old conn.new fault) }
     ensures kinds { IfErr result IsOfCreation }
     ensures autocommit { (state S.Store conn.new).in_transaction ≡ false }
-    ensures crash { Survives (state S.Store conn.old) (state S.Store conn.new) (IsLeftAs next empty_catalogue) }
+    ensures crash { Survives (state S.Store conn.old) (state S.Store conn.new) (IsLeftAs known empty_catalogue) }
 {
     if !has_place(conn.schema()) {
         return Err(Fault::NotACatalogue);

@@ -1,4 +1,4 @@
-// The end of a migration: the helper goes, and the mark is that of the next version.
+// The end of a migration: the helper goes, and the mark is that of the known version.
 ghost use Rattle.std.specs.Prelude.{◌≡◌, ◌≤◌, true, IfErr, OnOk};
 ghost use Rattle.sqlite.specs.State.{HasCleanDisk, KeepsCommit, Survives};
 ghost use Rattle.dict_tables.specs.Keyed.{helper};
@@ -11,16 +11,13 @@ ghost use Rattle.dict_sql.specs.declared.records.ReadError.TheVariants.{Store};
 ghost use Rattle.dict_migration.specs.Failing.{FailsInside};
 
 use dict_migration_sql::drop_helper;
-use dict_rows::mark_row;
+use dict_rows::{KNOWN_VERSION, mark_row};
 use dict_sql::delete::clear_table;
 use dict_sql::insert::insert_mark;
 use dict_tables::StoreTable;
 use sqlite::{Alter, Error, Transaction};
 
-/// The version that a migration leads to.
-pub(crate) const NEXT_VERSION: u64 = 4;
-
-/// Takes the mark out, and puts that of the next version in, with this count of installs.
+/// Takes the mark out, and puts that of the known version in, with this count of installs.
 pub(crate) fn renew_mark<S: Alter>(tx: &mut Transaction<'_, S>, installs: u64) -> Result<(), Error>
     requires installs { installs ≤ 9223372036854775807 }
     requires mark { WhileOpen (seen S.Store tx.old) (HasToRemove mark) }
@@ -32,7 +29,7 @@ pub(crate) fn renew_mark<S: Alter>(tx: &mut Transaction<'_, S>, installs: u64) -
     ensures survives { Survives (seen S.Store tx.old) (seen S.Store tx.new) (λ _. ⊥) }
 {
     clear_table(tx, StoreTable::Mark)?;
-    let row = mark_row(NEXT_VERSION, installs);
+    let row = mark_row(KNOWN_VERSION, installs);
     insert_mark(tx, &row)?;
     Ok(())
 }

@@ -8,7 +8,7 @@ ghost use Rattle.dict_catalogue.specs.Items.{edition_numbers as numbers_in};
 ghost use Rattle.dict_catalogue.specs.Steps.{Catalogue, summary_of};
 ghost use Rattle.dict_catalogue.specs.Views.{summary_shown};
 ghost use Rattle.dict_desk.specs.Faults.{is_disk};
-ghost use Rattle.dict_rows.specs.Versions.{layout_of, next};
+ghost use Rattle.dict_rows.specs.Versions.{layout_of, known};
 ghost use Rattle.dict_sql.specs.Effects.{WhileOpen, seen};
 ghost use Rattle.dict_file.specs.Faults.{fault_of_read};
 ghost use Rattle.dict_file.specs.Holds.{Holds, IsLeftAs, Rests};
@@ -150,7 +150,7 @@ fn numbers_of(alloc: Global, summary: &Summary) -> Result<Vec<i64>, ReadError>
 
 // How the tables of an older version are laid out.
 fn older_layout(version: u64) -> Older
-    requires older { (1 ≤ version) × (version < next) }
+    requires older { (1 ≤ version) × (version < known) }
     ensures { layout_of version ≡ layout_as result }
 {
     if version == 1 {
@@ -160,12 +160,12 @@ fn older_layout(version: u64) -> Older
     }
 }
 
-/// Makes of the tables of an older version those of the next one, by one commit: of the same catalogue, each entry with its key,
+/// Makes of the tables of an older version those of the known one, by one commit: of the same catalogue, each entry with its key,
 /// and the words and the grams of all keys. It holds one edition at a time.
 ///
 /// `Memory` tells that a growth was refused before the commit: all is as it was. `Disk` tells that a statement failed for
 /// another cause, or the commit did, for whatever cause: the next opening finds the catalogue under the older version or under
-/// the next one. While the store is open, it shows what it did before.
+/// the known one. While the store is open, it shows what it did before.
 pub fn migrate<S: Alter>(
     alloc: Global,
     conn: &mut Connection<S>,
@@ -173,10 +173,10 @@ pub fn migrate<S: Alter>(
     summary: &Summary,
 ) -> Result<(), Fault>
     requires autocommit { conn.old.in_transaction ≡ false }
-    requires older { (1 ≤ version) × (version < next) }
+    requires older { (1 ≤ version) × (version < known) }
     requires holds { HasCleanDisk (state S.Store conn.old) → IsTrue (state S.Store conn.old).is_open → (M : Catalogue) × Rests version (state S.Store conn.old) M × (summary_of M ≡ summary_shown summary.now) }
-    ensures rests { HasCleanDisk (state S.Store conn.new) → OnOk result ((M : Catalogue) → Holds version (state S.Store conn.old).committed M → Rests next (state S.Store conn.new) M) }
-    ensures only { HasCleanDisk (state S.Store conn.new) → OnOk result ((M : Catalogue) → Holds version (state S.Store conn.old).committed M → (trees : Trees) → (state S.Store conn.new).may_leave trees → IsLeftAs next M trees) }
+    ensures rests { HasCleanDisk (state S.Store conn.new) → OnOk result ((M : Catalogue) → Holds version (state S.Store conn.old).committed M → Rests known (state S.Store conn.new) M) }
+    ensures only { HasCleanDisk (state S.Store conn.new) → OnOk result ((M : Catalogue) → Holds version (state S.Store conn.old).committed M → (trees : Trees) → (state S.Store conn.new).may_leave trees → IsLeftAs known M trees) }
     ensures lives { HasCleanDisk (state S.Store conn.new) → IsTrue (state S.Store conn.new).is_open → IsTrue (state S.Store conn.old).is_open }
     ensures stays { HasCleanDisk (state S.Store conn.new) → OnErr result (Stays (state S.Store conn.old) (state S.Store conn.new)) }
     ensures adds_none { IfErr result (λ fault. is_disk fault ≡ false → Survives (state S.Store conn.old) (state S.Store conn.new) (λ _. ⊥)) }

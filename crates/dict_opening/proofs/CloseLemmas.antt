@@ -1,5 +1,5 @@
 -- All records were read.
-use Rattle.std.proofs.Common.{◌≡◌, ℕ, ◌+◌, ℤ, pos, Bool, true, false, ◌||◌, List, [], ◌∷◌, ◌++◌, map, drop, codes, refl, sym, ap, subst, ◌∙◌, arith, append-nil}
+use Rattle.std.proofs.Common.{◌≡◌, ℕ, ◌+◌, ℤ, pos, true, List, [], ◌∷◌, ◌++◌, map, drop, codes, refl, sym, ap, subst, ◌∙◌, arith, append-nil}
 use Rattle.std.specs.Prelude.{IsTrue}
 use Rattle.std.specs.List.{AllByRecursion, list_any}
 use Rattle.std.specs.List.Sorted.{IsPermutation}
@@ -89,6 +89,7 @@ module _ (version : ℕ) (db : Database) (reader : Reader) (front taken : Tables
         members = subst (λ ms. IsPermutation (map member_row ms) (map (drop 1) (rows_of (codes "member") db))) (sym named.members) begun.members;
         editions = editions_all;
         entries = entries_all;
+        shown = named.shown;
         kept = subst (λ ks. IsPermutation (map kept_row ks) (map (drop 1) (rows_of (codes "kept") db))) (sym kept_is) (rows_listed kept_codec (codes "kept") (2 ∷ []) db given replies.listing);
       };
       goes = record {
@@ -135,7 +136,7 @@ module _ (version : ℕ) (db : Database) (after : Tables) (keeps : HasRecords (l
       let goes = fits T M K in
       let s = K.stands in
       let editions = records_back edition_codec (codes "edition") db T.editions after.editions (editions_kept (layout_of version) db T K.keeps) keeps.editions in
-      let entries = entries_both (layout_of version) T.entries after.entries (map (behind (layout_of version)) (rows_of (codes "entry") db)) (entries_rows (layout_of version) db T K.keeps.1.1.1.1.0) keeps.entries in
+      let entries = entries_both (layout_of version) T.entries after.entries (map (behind (layout_of version)) (rows_of (codes "entry") db)) K.shown keeps.shown (entries_rows (layout_of version) db T K.keeps.1.1.1.1.0) keeps.entries in
       let kept = records_back kept_codec (codes "kept") db T.kept after.kept (replies_kept (layout_of version) db T K.keeps) keeps.kept in
       let one : (n : ℤ) → editions_numbered n T.editions ≡ editions_numbered n after.editions = λ n. nothing_more _ _ (goes.editions n) (same_passed (λ row. same_number row.number n) T.editions after.editions (same_from T.editions after.editions editions)) in
       let each : (n : ℤ) → entries_of n T.entries ≡ entries_of n after.entries = λ n. nothing_more _ _ (goes.entries n) (same_passed (λ row. same_number row.edition n) T.entries after.entries (same_from T.entries after.entries entries)) in

@@ -1,17 +1,16 @@
 -- Entries, as the tables of a layout have them.
-use Rattle.std.proofs.Common.{◌≡◌, ◌⊎◌, ℕ, ℤ, pos, Bool, true, false, List, [], ◌∷◌, ◌++◌, map, drop, take, filter, cond, codes, inl, inr, refl, sym, ap, subst, ◌∙◌}
-use Rattle.std.specs.Prelude.{◌≤ℤ◌, length}
-use Rattle.std.specs.List.{AllByRecursion, list_any, Contains}
+use Rattle.std.proofs.Common.{◌≡◌, ℤ, Bool, true, false, List, [], ◌∷◌, ◌++◌, map, filter, cond, codes, refl, sym, ap, subst, ◌∙◌}
+use Rattle.std.specs.Prelude.{◌≤ℤ◌}
+use Rattle.std.specs.List.{AllByRecursion}
 use Rattle.std.specs.List.Sorted.{IsPermutation, IsSorted}
 use Rattle.std.specs.Ordering.{is_lt, ordering_then}
 use Rattle.std.specs.declared.cmp.Ordering.TheVariants.{Equal}
-use Rattle.std.proofs.lemmas.List.{map-append}
-use Rattle.std.proofs.lemmas.List.Sorted.{IsPermutation-map, IsPermutation-sym, IsPermutation-trans}
+use Rattle.std.proofs.lemmas.List.Sorted.{IsPermutation-map, IsPermutation-trans}
 use Rattle.sqlite_trees.proofs.ListLemmas.{IsPermutation-filter}
 use Rattle.sqlite.specs.Effect.{Database}
 use Rattle.sqlite.specs.Order.{Row, column, value_cmp}
 use Rattle.sqlite.specs.declared.types.Value.TheVariants.{Int}
-use Rattle.dict_text.proofs.AllLemmas.{all_filter, all_weaker}
+use Rattle.dict_text.proofs.AllLemmas.{all_append, all_filter}
 use Rattle.dict_records.specs.Records as spec
 use Rattle.dict_sql.specs.Columns.{HasColumns}
 use Rattle.dict_sql.specs.Effects.{HasApartRowids, rows_of, same_value, equals_number}
@@ -23,12 +22,12 @@ use Rattle.dict_rows.specs.Versions.{Layout, Plain, Keyed, Shown}
 use Rattle.dict_rows.proofs.OrderLemmas.{order_given, all_same}
 use Rattle.dict_derived.specs.Entries.{filed, plain}
 use Rattle.dict_derived.specs.AllTables.{with_derived}
-use Rattle.dict_file.specs.Readings.{KeepsRows, KeepsAll, IsReadable, entries, filed_row}
+use Rattle.dict_file.specs.Readings.{KeepsRows, AreShownIn, entries, filed_row}
 use Rattle.dict_file.proofs.ReadLemmas.{sorted_order, one_le}
 use Rattle.dict_file.proofs.ReadingLemmas.{map_twice}
 use Rattle.dict_scans.specs.Entries.{behind, entry_cells}
 use Rattle.dict_opening.specs.Opens.{AreReadableEntries}
-use Rattle.dict_scans.proofs.CodecLemmas.{decode_entry, entry_back}
+use Rattle.dict_file.proofs.OneLemmas.{decode_entry, decode_filed, entry_back, filed_back, both_where}
 use Rattle.dict_scans.proofs.NumberLemmas.{same_int}
 use Rattle.dict_scans.proofs.RowidLemmas.{all_of_map}
 
@@ -37,12 +36,37 @@ use Rattle.dict_scans.proofs.RowidLemmas.{all_of_map}
 abbrev decode_cells : Layout → Row → spec.Entry
 decode_cells Plain cells = decode_entry cells
 decode_cells Keyed cells = decode_entry cells
-decode_cells Shown cells = decode_entry (take 5 cells)
+decode_cells Shown cells = decode_filed cells
 
-pub cells_back : (layout : Layout) (e : spec.Entry) → decode_cells layout (entry_cells layout e) ≡ e
-cells_back Plain e = entry_back e
-cells_back Keyed e = entry_back e
-cells_back Shown e = entry_back e
+-- the entry is shown as one of the layout may be
+abbrev pub IsShownIn : Layout → spec.Entry → Type 0
+IsShownIn Plain e = spec.ShowsHeadword e
+IsShownIn Keyed e = spec.ShowsHeadword e
+IsShownIn Shown e = Unit {0}
+
+all_units : (es : List spec.Entry) → AllByRecursion (IsShownIn Shown) es
+all_units [] = tt
+all_units (e ∷ es) = (tt, all_units es)
+
+pub each_shown : (layout : Layout) (es : List spec.Entry) → AreShownIn layout es → AllByRecursion (IsShownIn layout) es
+each_shown Plain es h = h
+each_shown Keyed es h = h
+each_shown Shown es h = all_units es
+
+pub none_shown : (layout : Layout) → AreShownIn layout []
+none_shown Plain = tt
+none_shown Keyed = tt
+none_shown Shown = tt
+
+pub more_shown : (layout : Layout) (xs ys : List spec.Entry) → AreShownIn layout xs → AreShownIn layout ys → AreShownIn layout (xs ++ ys)
+more_shown Plain xs ys h k = all_append spec.ShowsHeadword xs ys h k
+more_shown Keyed xs ys h k = all_append spec.ShowsHeadword xs ys h k
+more_shown Shown xs ys h k = tt
+
+pub cells_back : (layout : Layout) (e : spec.Entry) → IsShownIn layout e → decode_cells layout (entry_cells layout e) ≡ e
+cells_back Plain e h = entry_back e h
+cells_back Keyed e h = entry_back e h
+cells_back Shown e h = filed_back e
 
 number_seen : (layout : Layout) (row : Row) → column row 1 ≡ column (behind layout row) 0
 number_seen Plain [] = refl
@@ -109,17 +133,17 @@ module _ (layout : Layout) where
   entry_in row = decode_cells layout (behind layout row)
 
   abbrev pub IsEntryRow : Row → Type 0
-  IsEntryRow row = (e : spec.Entry) × (behind layout row ≡ entry_cells layout e)
+  IsEntryRow row = (e : spec.Entry) × (behind layout row ≡ entry_cells layout e) × IsShownIn layout e
 
-  pub entry_is : (row : Row) (e : spec.Entry) → behind layout row ≡ entry_cells layout e → entry_in row ≡ e
-  entry_is row e is = ap (decode_cells layout) is ∙ cells_back layout e
+  pub entry_is : (row : Row) (e : spec.Entry) → IsShownIn layout e → behind layout row ≡ entry_cells layout e → entry_in row ≡ e
+  entry_is row e shown is = ap (decode_cells layout) is ∙ cells_back layout e shown
 
-  pub entries_are : (rows : List Row) (es : List spec.Entry) → map (behind layout) rows ≡ map (entry_cells layout) es → map entry_in rows ≡ es
-  entries_are rows es is = sym (map_twice (behind layout) (decode_cells layout) rows) ∙ ap (map (decode_cells layout)) is ∙ map_twice (entry_cells layout) (decode_cells layout) es ∙ undone es
-    where
-      undone : (es : List spec.Entry) → map (λ e. decode_cells layout (entry_cells layout e)) es ≡ es
-      undone [] = refl
-      undone (e ∷ es) = λ i. cells_back layout e i ∷ undone es i
+  undone : (es : List spec.Entry) → AllByRecursion (IsShownIn layout) es → map (decode_cells layout) (map (entry_cells layout) es) ≡ es
+  undone [] h = refl
+  undone (e ∷ es) h = λ i. cells_back layout e h.0 i ∷ undone es h.1 i
+
+  pub entries_are : (rows : List Row) (es : List spec.Entry) → AreShownIn layout es → map (behind layout) rows ≡ map (entry_cells layout) es → map entry_in rows ≡ es
+  entries_are rows es shown is = sym (map_twice (behind layout) (decode_cells layout) rows) ∙ ap (map (decode_cells layout)) is ∙ undone es (each_shown layout es shown)
 
   pub number_is : (row : Row) (e : spec.Entry) → behind layout row ≡ entry_cells layout e → column row 1 ≡ Int e.edition
   number_is row e is = number_seen layout row ∙ ap (λ r. column r 0) is ∙ number_in layout e
@@ -144,7 +168,7 @@ module _ (layout : Layout) where
   filter_numbered n [] all = refl
   filter_numbered n (r ∷ rows) all =
       filter_step (equals_number 1 n) (λ e. same_number e.edition n) r rows (same_number (entry_in r).edition n) (equals_number 1 n r) refl refl
-      (ap (λ (e : spec.Entry). same_number e.edition n) (entry_is r all.0.0 all.0.1) ∙ sym (of_number n r all.0.0 all.0.1)) (filter_numbered n rows all.1)
+      (ap (λ (e : spec.Entry). same_number e.edition n) (entry_is r all.0.0 all.0.2 all.0.1) ∙ sym (of_number n r all.0.0 all.0.1)) (filter_numbered n rows all.1)
 
   all_read : (P : spec.Entry → Type 0) (rows : List Row) → AllByRecursion (λ b. P (entry_in b)) rows → AllByRecursion P (map entry_in rows)
   all_read P [] h = tt
@@ -165,7 +189,7 @@ module _ (layout : Layout) where
   entries_order rows all up =
       order_read Up rows
       (order_given IsEntryRow (λ a b. is_lt (by_columns (2 ∷ []) b a) ≡ false) (λ a b. Up (entry_in a) (entry_in b))
-      (λ a b qa qb r. subst (λ w. Up w (entry_in b)) (sym (entry_is a qa.0 qa.1)) (subst (Up qa.0) (sym (entry_is b qb.0 qb.1)) (rises a b qa.0 qb.0 qa.1 qb.1 r))) rows all (sorted_order (2 ∷ []) rows up))
+      (λ a b qa qb r. subst (λ w. Up w (entry_in b)) (sym (entry_is a qa.0 qa.2 qa.1)) (subst (Up qa.0) (sym (entry_is b qb.0 qb.2 qb.1)) (rises a b qa.0 qb.0 qa.1 qb.1 r))) rows all (sorted_order (2 ∷ []) rows up))
 
   module _ (db : Database) (es : List spec.Entry) (kept : IsPermutation (map (entry_cells layout) es) (map (behind layout) (rows_of (codes "entry") db))) where
     all_written : (P : spec.Entry → Type 0) (ws : List spec.Entry) → AllByRecursion P ws → AllByRecursion (λ s. (e : spec.Entry) × (s ≡ entry_cells layout e) × P e) (map (entry_cells layout) ws)
@@ -178,38 +202,24 @@ module _ (layout : Layout) where
         all_of_map (behind layout) (λ s. (e : spec.Entry) × (s ≡ entry_cells layout e) × P e) (λ row. (e : spec.Entry) × (behind layout row ≡ entry_cells layout e) × P e) (λ row h. h) (rows_of (codes "entry") db)
         (all_same (λ s. (e : spec.Entry) × (s ≡ entry_cells layout e) × P e) (map (entry_cells layout) es) (map (behind layout) (rows_of (codes "entry") db)) kept (all_written P es all))
 
-    any : (ws : List spec.Entry) → AllByRecursion (λ e. Unit {0}) ws
-    any [] = tt
-    any (w ∷ ws) = (tt, any ws)
+    pub entries_written : AreShownIn layout es → AllByRecursion IsEntryRow (rows_of (codes "entry") db)
+    entries_written shown = each_row (IsShownIn layout) (each_shown layout es shown)
 
-    pub entries_written : AllByRecursion IsEntryRow (rows_of (codes "entry") db)
-    entries_written = all_weaker (λ row. (e : spec.Entry) × (behind layout row ≡ entry_cells layout e) × Unit {0}) IsEntryRow (λ row h. (h.0, h.1)) (rows_of (codes "entry") db) (each_row (λ e. Unit {0}) (any es))
-
-    pub entries_kept : IsPermutation es (map entry_in (rows_of (codes "entry") db))
-    entries_kept = subst (λ l. IsPermutation l (map entry_in (rows_of (codes "entry") db))) (back es) (subst (IsPermutation (map (decode_cells layout) (map (entry_cells layout) es))) (read (rows_of (codes "entry") db)) (IsPermutation-map (decode_cells layout) _ _ kept))
+    pub entries_kept : AreShownIn layout es → IsPermutation es (map entry_in (rows_of (codes "entry") db))
+    entries_kept shown = subst (λ l. IsPermutation l (map entry_in (rows_of (codes "entry") db))) (undone es (each_shown layout es shown)) (subst (IsPermutation (map (decode_cells layout) (map (entry_cells layout) es))) (read (rows_of (codes "entry") db)) (IsPermutation-map (decode_cells layout) _ _ kept))
       where
-        back : (ws : List spec.Entry) → map (decode_cells layout) (map (entry_cells layout) ws) ≡ ws
-        back [] = refl
-        back (w ∷ ws) = λ i. cells_back layout w i ∷ back ws i
-
         read : (rows : List Row) → map (decode_cells layout) (map (behind layout) rows) ≡ map entry_in rows
         read [] = refl
         read (r ∷ rows) = ap (λ l. decode_cells layout (behind layout r) ∷ l) (read rows)
 
     -- those of an edition
-    pub entries_selected : (n : ℤ) (rows : List Row) → IsPermutation (filter (equals_number 1 n) (rows_of (codes "entry") db)) rows → IsPermutation (filter (λ (e : spec.Entry). same_number e.edition n) es) (map entry_in rows) × AllByRecursion IsEntryRow rows
-    entries_selected n rows same = (
+    pub entries_selected : AreShownIn layout es → (n : ℤ) (rows : List Row) → IsPermutation (filter (equals_number 1 n) (rows_of (codes "entry") db)) rows → IsPermutation (filter (λ (e : spec.Entry). same_number e.edition n) es) (map entry_in rows) × AllByRecursion IsEntryRow rows
+    entries_selected shown n rows same = (
       IsPermutation-trans (filter (λ (e : spec.Entry). same_number e.edition n) es) (map entry_in (filter (equals_number 1 n) (rows_of (codes "entry") db))) (map entry_in rows)
-          (subst (IsPermutation (filter (λ (e : spec.Entry). same_number e.edition n) es)) (filter_numbered n (rows_of (codes "entry") db) entries_written) (IsPermutation-filter (λ (e : spec.Entry). same_number e.edition n) _ _ entries_kept)) (IsPermutation-map entry_in _ _ same),
-      all_same IsEntryRow (filter (equals_number 1 n) (rows_of (codes "entry") db)) rows same (all_filter IsEntryRow (equals_number 1 n) (rows_of (codes "entry") db) entries_written),
+          (subst (IsPermutation (filter (λ (e : spec.Entry). same_number e.edition n) es)) (filter_numbered n (rows_of (codes "entry") db) (entries_written shown)) (IsPermutation-filter (λ (e : spec.Entry). same_number e.edition n) _ _ (entries_kept shown))) (IsPermutation-map entry_in _ _ same),
+      all_same IsEntryRow (filter (equals_number 1 n) (rows_of (codes "entry") db)) rows same (all_filter IsEntryRow (equals_number 1 n) (rows_of (codes "entry") db) (entries_written shown)),
     )
 
   -- entries with the same rows are the same, in whatever order
-  pub entries_both : (xs ys : List spec.Entry) (rows : List Row) → IsPermutation (map (entry_cells layout) xs) rows → IsPermutation (map (entry_cells layout) ys) rows → IsPermutation xs ys
-  entries_both xs ys rows a b =
-      let between = IsPermutation-trans (map (entry_cells layout) xs) rows (map (entry_cells layout) ys) a (IsPermutation-sym (map (entry_cells layout) ys) rows b) in
-      subst (λ l. IsPermutation l ys) (back xs) (subst (IsPermutation (map (decode_cells layout) (map (entry_cells layout) xs))) (back ys) (IsPermutation-map (decode_cells layout) _ _ between))
-    where
-      back : (ws : List spec.Entry) → map (decode_cells layout) (map (entry_cells layout) ws) ≡ ws
-      back [] = refl
-      back (w ∷ ws) = λ i. cells_back layout w i ∷ back ws i
+  pub entries_both : (xs ys : List spec.Entry) (rows : List Row) → AreShownIn layout xs → AreShownIn layout ys → IsPermutation (map (entry_cells layout) xs) rows → IsPermutation (map (entry_cells layout) ys) rows → IsPermutation xs ys
+  entries_both xs ys rows h k a b = both_where (IsShownIn layout) (entry_cells layout) (decode_cells layout) (cells_back layout) xs ys rows (each_shown layout xs h) (each_shown layout ys k) a b

@@ -69,7 +69,7 @@ module _ (version : ℕ) (db : Database) (members : List spec.Member) (T : Table
   pub entries_read : (n : ℤ) → Found T n → (rows : List Row) → IsSelection (codes "entry") (equals_number 1 n) (2 ∷ []) db rows → entries_of n T.entries ≡ map (entry_in (layout_of version)) rows
   entries_read n found rows s =
       let layout : Layout = layout_of version in
-      let got = entries_selected layout db T.entries (entries_rows layout db T K.keeps.1.1.1.1.0) n rows s.same in
+      let got = entries_selected layout db T.entries (entries_rows layout db T K.keeps.1.1.1.1.0) K.shown n rows s.same in
       let up = entries_order layout rows got.1 s.sorted in
       let written : entries_of n T.entries ≡ numbered (entry_record found.edition.number) 0 found.holds.reading.lines = subst (λ m. entries_of m T.entries ≡ numbered (entry_record found.edition.number) 0 found.holds.reading.lines) found.number found.holds.entries in
       ordered_once (λ (row : spec.Entry). row.ord) (entries_of n T.entries) (map (entry_in layout) rows) (same_from (entries_of n T.entries) (map (entry_in layout) rows) got.0)
@@ -78,7 +78,7 @@ module _ (version : ℕ) (db : Database) (members : List spec.Member) (T : Table
   -- of an edition of which some entries were read
   pub entries_begun : (n : ℤ) → Found T n → (es : List spec.Entry) (front : BeginsWithEntries (layout_of version) db n es) → entries_of n T.entries ≡ es ++ map (entry_in (layout_of version)) front.1
   entries_begun n found es front =
-      entries_read n found (front.0 ++ front.1) front.2 ∙ map-append (entry_in (layout_of version)) front.0 front.1 ∙ ap (λ l. l ++ map (entry_in (layout_of version)) front.1) (entries_are (layout_of version) front.0 es front.3)
+      entries_read n found (front.0 ++ front.1) front.2 ∙ map-append (entry_in (layout_of version)) front.0 front.1 ∙ ap (λ l. l ++ map (entry_in (layout_of version)) front.1) (entries_are (layout_of version) front.0 es front.4 front.3)
 
   pub replies_read : (rows : List Row) → IsListing (codes "kept") (2 ∷ []) db rows → T.kept ≡ map (read kept_codec) rows
   replies_read rows l =

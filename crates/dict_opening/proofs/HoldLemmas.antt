@@ -1,5 +1,5 @@
 -- What a file holds of which all rows were read.
-use Rattle.std.proofs.Common.{◌≡◌, ℕ, ℤ, pos, true, List, [], ◌∷◌, map, drop, codes, refl, sym, ap, subst}
+use Rattle.std.proofs.Common.{◌≡◌, ℕ, ℤ, pos, true, List, map, codes, sym, ap, subst}
 use Rattle.std.specs.List.{AllByRecursion}
 use Rattle.sqlite.specs.Effect.{Database}
 use Rattle.dict_text.proofs.AllLemmas.{all_weaker}
@@ -9,7 +9,7 @@ use Rattle.dict_catalogue.specs.Steps.{Catalogue, summary_of}
 use Rattle.dict_catalogue.specs.Tests.{Holdings}
 use Rattle.dict_rows.specs.Stands.{Stands, has_number}
 use Rattle.dict_rows.specs.Tables.{Tables, entries_of}
-use Rattle.dict_rows.specs.Taken.{HasTaken, items_in}
+use Rattle.dict_rows.specs.Taken.{HasTaken}
 use Rattle.dict_rows.specs.Versions.{Layout, Plain, Keyed, Shown, layout_of}
 use Rattle.dict_rows.specs.declared.reader.Reader.{Reader}
 use Rattle.dict_rows.proofs.StrayLemmas.{numbers_taken}
@@ -17,9 +17,9 @@ use Rattle.dict_derived.specs.AllTables.{with_derived}
 use Rattle.dict_derived.specs.declared.reader.Pieces.TheVariants.{Words, Grams}
 use Rattle.dict_keyed_sql.specs.Pieces.{HasDerived}
 use Rattle.dict_file.specs.Holds.{Holds, HasLayout, HoldsNoneAs}
-use Rattle.dict_file.specs.Readings.{KeepsRows, KeepsAll, entries, derived_readings, name_of}
+use Rattle.dict_file.specs.Readings.{KeepsRows, entries, derived_readings, name_of}
 use Rattle.dict_scans.specs.Filing.{keys_of}
-use Rattle.dict_opening.specs.Opens.{HasRows, HasAllRows, HasAll, HasSummary, HasOthersApart, HasPieces, ArePiecesKnown, AreApartEntries, numbers_in}
+use Rattle.dict_opening.specs.Opens.{HasRows, HasAll, HasSummary, HasOthersApart, HasPieces, ArePiecesKnown, numbers_in}
 use Rattle.dict_opening.proofs.EntryLemmas.{rows_entries}
 use Rattle.dict_opening.proofs.PieceLemmas.{pieces_all}
 use Rattle.dict_opening.proofs.WrongLemmas.{each_known, numbers_in_apart}
@@ -50,8 +50,8 @@ module _ (version : ℕ) (db : Database) (reader : Reader) (front after : Tables
   derived_apart Keyed known = tt
   derived_apart Shown known = (known.0.apart, (known.1.apart, tt))
 
-  pub has_summary : (shown : Holdings (List ℕ)) → summary_of M ≡ shown → HasSummary version db shown
-  has_summary shown is = record {
+  pub has_summary : (holdings : Holdings (List ℕ)) → summary_of M ≡ holdings → HasSummary version db holdings
+  has_summary holdings is = record {
     catalogue = M;
     tables = after;
     keeps = (
@@ -68,6 +68,7 @@ module _ (version : ℕ) (db : Database) (reader : Reader) (front after : Tables
       ),
     );
     apart = (a.known.0.apart, derived_apart (layout_of version) a.known.1);
+    shown = a.keeps.shown;
     stands = s;
     summary = is;
   }
@@ -84,8 +85,8 @@ keeps_derived Plain db t rows apart = tt
 keeps_derived Keyed db t rows apart = tt
 keeps_derived Shown db t rows apart = (record { rows = rows.0; apart = apart.0 }, (record { rows = rows.1.0; apart = apart.1.0 }, tt))
 
-pub holds_of : (version : ℕ) (db : Database) (shown : Holdings (List ℕ)) → HasLayout (layout_of version) db.schema → HasOthersApart db → HasSummary version db shown → (M : Catalogue) × Holds version db M × (summary_of M ≡ shown)
-holds_of version db shown own apart s = (
+pub holds_of : (version : ℕ) (db : Database) (holdings : Holdings (List ℕ)) → HasLayout (layout_of version) db.schema → HasOthersApart db → HasSummary version db holdings → (M : Catalogue) × Holds version db M × (summary_of M ≡ holdings)
+holds_of version db holdings own apart s = (
   s.catalogue,
   record {
     own = own;
@@ -106,6 +107,7 @@ holds_of version db shown own apart s = (
         ),
       ),
     );
+    shown = s.shown;
     stands = s.stands;
   },
   s.summary,

@@ -1,9 +1,7 @@
 -- The tables of a layout of an older version with keys, and the keys that are kept of a layout.
-use Rattle.std.proofs.Common.{◌≡◌, ℕ, ℤ, List, [], ◌∷◌, ◌++◌, Some, refl, ap, subst, ◌∙◌}
+use Rattle.std.proofs.Common.{◌≡◌, ℕ, ℤ, List, [], ◌++◌, refl, ap, subst, ◌∙◌}
 use Rattle.sqlite.specs.Effect.{Database}
 use Rattle.sqlite.specs.Schema.{Schema}
-use Rattle.sqlite.specs.Table.{Table}
-use Rattle.dict_tables.specs.Found.{found_table}
 use Rattle.dict_tables.specs.Keyed.{old_entry, word, gram}
 use Rattle.dict_records.specs.Records.{Entry}
 use Rattle.dict_rows.specs.Versions.{Layout, Plain, Keyed, Shown}

@@ -12,4 +12,3 @@ pub mod WrongLemmas
 pub mod CloseLemmas
 pub mod HoldLemmas
 pub mod MarkLemmas
-pub mod HeldLemmas

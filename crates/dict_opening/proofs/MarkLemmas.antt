@@ -1,5 +1,5 @@
 -- The mark of a file.
-use Rattle.std.proofs.Common.{◌≡◌, true, nat_lt, inl, inr, ℕ, ◌≤◌, ℤ, pos, List, [], ◌∷◌, map, drop, codes, Option, Some, None, Result, Ok, Err, IfSome, IfNone, IsErrAnd, refl, sym, ap, subst, ◌∙◌, arith, String}
+use Rattle.std.proofs.Common.{◌≡◌, true, nat_lt, inl, inr, ℕ, ◌≤◌, ℤ, pos, List, [], ◌∷◌, map, drop, codes, Option, Some, None, Result, Ok, Err, IfSome, IfNone, IsErrAnd, refl, sym, ap, subst, ◌∙◌, String}
 use Rattle.std.specs.declared.alloc.Global.{Global}
 use Rattle.std.proofs.lemmas.List.Sorted.{IsPermutation-sym}
 use Rattle.std.specs.List.{AllByRecursion, list_all}
@@ -30,7 +30,7 @@ use Rattle.dict_desk.specs.declared.fault.Fault.TheVariants as desk
 use Rattle.dict_scans.specs.declared.fault.ReadingFault.{ReadingFault}
 use Rattle.dict_scans.specs.declared.fault.ReadingFault.TheVariants.{Damaged, Memory, Disk}
 use Rattle.dict_scans.specs.Reading.{fault_told}
-use Rattle.dict_scans.proofs.CodecLemmas.{decode_mark, mark_back}
+use Rattle.dict_file.proofs.OneLemmas.{decode_mark, mark_back}
 use Rattle.dict_opening.proofs.NoneLemmas.{all_contains}
 
 abbrev pub MarkRow : Type 0

@@ -22,7 +22,7 @@ use Rattle.dict_rows.specs.declared.reader.Reader.{Reader}
 use Rattle.dict_rows.proofs.OrderLemmas.{Same, all_same, all_passed, one_once}
 use Rattle.dict_rows.proofs.TakenLemmas.{same_number_is}
 use Rattle.dict_file.specs.Readings.{entries}
-use Rattle.dict_scans.specs.Entries.{HasEntries, BeginsWithEntries, HasWrongEntries}
+use Rattle.dict_scans.specs.Entries.{BeginsWithEntries, HasWrongEntries}
 use Rattle.dict_opening.specs.Opens.{Keeping, KeepsNone, Fits, CanReadOne, IsNotOne, IsWrongEdition}
 use Rattle.dict_scans.specs.Takers.{EditionRow}
 use Rattle.dict_scans.proofs.CodecLemmas.{read, read_is, read_stored, edition_codec}
@@ -90,7 +90,7 @@ module _ (version : ℕ) (db : Database) (taken : Tables) (n : ℤ) (can : CanRe
         let layout : Layout = layout_of version in
         let test = equals_number 1 n in
         let columns = all_contains (λ row. HasColumns (entries layout).columns ((entries layout).looked row)) (filter test (rows_of (codes "entry") db)) w.0 (all_filter (λ row. HasColumns (entries layout).columns ((entries layout).looked row)) test (rows_of (codes "entry") db) (readable_rows layout db K.records.1.1.1.1.0)) w.1 in
-        let written = all_contains (IsEntryRow layout) (filter test (rows_of (codes "entry") db)) w.0 (all_filter (IsEntryRow layout) test (rows_of (codes "entry") db) (entries_written layout db T.entries (entries_rows layout db T K.keeps.1.1.1.1.0))) w.1 in
+        let written = all_contains (IsEntryRow layout) (filter test (rows_of (codes "entry") db)) w.0 (all_filter (IsEntryRow layout) test (rows_of (codes "entry") db) (entries_written layout db T.entries (entries_rows layout db T K.keeps.1.1.1.1.0) K.shown)) w.1 in
         w.2 columns written.0 written.1
     entries_wrong reader h (inr w) T M K =
         w.2 version (with_edition taken e) h (entries_are_of T M K w.0 w.1) T M (fits_entries version db (with_edition taken e) now_fits n can.known w.0 w.1 can.no_entries T M K) K.stands
@@ -99,5 +99,5 @@ module _ (version : ℕ) (db : Database) (taken : Tables) (n : ℤ) (can : CanRe
     edition_wrong reader h (inl w) T M K = entries_wrong reader h w T M K
     edition_wrong reader h (inr w) T M K =
         let found = find_edition T M.items n K.stands.editions (can.known T M K) in
-        let is : entries_of n T.entries ≡ w.0 = entries_read version db taken.members T M K n found w.1.0 w.1.1 ∙ entries_are (layout_of version) w.1.0 w.0 w.1.2 in
+        let is : entries_of n T.entries ≡ w.0 = entries_read version db taken.members T M K n found w.1.0 w.1.1 ∙ entries_are (layout_of version) w.1.0 w.0 w.1.3 w.1.2 in
         never_other (layout_of version) db T n found K.keeps w.0 is w.2

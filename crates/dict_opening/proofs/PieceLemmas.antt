@@ -1,9 +1,8 @@
 -- What is derived of the entries of each edition, and of all.
-use Rattle.std.proofs.Common.{◌≡◌, ℕ, ◌+◌, ℤ, pos, Bool, true, false, ◌||◌, List, [], ◌∷◌, ◌++◌, map, drop, filter, codes, refl, sym, ap, subst, ◌∙◌, append_assoc, append-nil, Vec}
+use Rattle.std.proofs.Common.{◌≡◌, ℕ, ◌+◌, ℤ, pos, Bool, true, false, ◌||◌, List, [], ◌∷◌, ◌++◌, map, drop, filter, refl, sym, ap, subst, ◌∙◌, append_assoc, append-nil, Vec}
 use Rattle.std.specs.Prelude.{flat_map, IsTrue}
-use Rattle.std.specs.List.{AllByRecursion, list_any}
+use Rattle.std.specs.List.{AllByRecursion}
 use Rattle.std.specs.List.Sorted.{IsPermutation}
-use Rattle.std.proofs.lemmas.Bool.{false≢true}
 use Rattle.std.proofs.lemmas.List.{map-append}
 use Rattle.std.proofs.lemmas.List.Sorted.{IsPermutation-map, IsPermutation-refl, IsPermutation-sym, IsPermutation-trans, IsPermutation-append}
 use Rattle.std.specs.declared.alloc.Global.{Global}
@@ -29,7 +28,7 @@ use Rattle.dict_rows.specs.Written.{numbered, entry_record}
 use Rattle.dict_rows.proofs.PartLemmas.{of_more, filter_whole}
 use Rattle.dict_rows.proofs.TakenLemmas.{same_number_is}
 use Rattle.dict_derived.specs.AllTables.{with_derived}
-use Rattle.dict_derived.specs.Entries.{derived, derived_from, piece_at, pieces_of}
+use Rattle.dict_derived.specs.Entries.{derived, derived_from}
 use Rattle.dict_derived.specs.declared.reader.Pieces.{Pieces}
 use Rattle.dict_derived.specs.declared.reader.Pieces.TheVariants.{Words, Grams}
 use Rattle.dict_derived.proofs.AfterLemmas.{derived_part, derived_due, derived_more, derived_whole}
@@ -42,7 +41,7 @@ use Rattle.dict_scans.specs.Census.{one_of}
 use Rattle.dict_scans.proofs.CodecLemmas.{Codec, read, read_is, IsRow, selected_records}
 use Rattle.dict_scans.proofs.NumberLemmas.{first_number}
 use Rattle.dict_scans.specs.Filing.{keys_of}
-use Rattle.dict_opening.specs.Opens.{HasBoth, HasPieces, HasOtherPieces}
+use Rattle.dict_opening.specs.Opens.{HasBoth, HasOtherPieces}
 use Rattle.dict_opening.proofs.FindLemmas.{Found, find_edition}
 use Rattle.dict_opening.proofs.PartLemmas.{rows_more, numbers_is}
 

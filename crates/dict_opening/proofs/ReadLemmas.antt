@@ -1,14 +1,13 @@
 -- The editions of one number more were read.
-use Rattle.std.proofs.Common.{◌≡◌, ℕ, zero, suc, ◌<◌, ℤ, pos, Bool, true, false, ◌&&◌, ◌||◌, List, [], ◌∷◌, ◌++◌, map, drop, take, filter, cond, length, get_or, codes, refl, sym, ap, subst, ◌∙◌, arith, append-nil}
+use Rattle.std.proofs.Common.{◌≡◌, ℕ, zero, suc, ◌<◌, ℤ, pos, Bool, true, false, ◌||◌, List, [], ◌∷◌, ◌++◌, map, drop, take, filter, cond, length, get_or, codes, refl, sym, ap, subst, ◌∙◌, arith, append-nil}
 use Rattle.std.specs.List.{AllByRecursion, list_any}
 use Rattle.std.specs.List.Sorted.{IsPermutation}
-use Rattle.std.proofs.lemmas.Bool.{false≢true, or_parts}
+use Rattle.std.proofs.lemmas.Bool.{or_parts}
 use Rattle.std.proofs.lemmas.List.{map-append}
 use Rattle.std.proofs.lemmas.List.Elements.{All-from_recursion, filter-append}
-use Rattle.std.proofs.lemmas.List.Folds.{list_any-append}
 use Rattle.std.proofs.lemmas.List.Sorted.{IsPermutation-refl}
 use Rattle.sqlite.specs.Effect.{Database}
-use Rattle.sqlite.specs.Order.{Row, column}
+use Rattle.sqlite.specs.Order.{Row}
 use Rattle.dict_records.specs.Records as spec
 use Rattle.dict_sql.specs.Effects.{rows_of, equals_number}
 use Rattle.dict_sql.specs.Encodings.{edition_row, stored_edition}
@@ -24,12 +23,12 @@ use Rattle.dict_rows.specs.declared.reader.Reader.{Reader}
 use Rattle.dict_rows.proofs.OrderLemmas.{all_same, all_passed}
 use Rattle.dict_rows.proofs.StrayLemmas.{numbers_taken}
 use Rattle.dict_rows.proofs.TakenLemmas.{same_number_is, same_itself, filter_passes_not}
-use Rattle.dict_scans.specs.Census.{one_of}
+use Rattle.dict_file.specs.Readings.{AreShownIn}
 use Rattle.dict_scans.specs.Entries.{behind, entry_cells, BeginsWithEntries}
 use Rattle.dict_scans.proofs.CodecLemmas.{edition_codec}
 use Rattle.dict_scans.proofs.NumberLemmas.{int_is}
 use Rattle.dict_opening.specs.Opens.{Keeping, Fits, HasPieces, CanReadOne, HasReadOne, CanRead, HasRead}
-use Rattle.dict_opening.proofs.EntryLemmas.{number_of_row}
+use Rattle.dict_opening.proofs.EntryLemmas.{number_of_row, none_shown, more_shown}
 use Rattle.dict_opening.proofs.PartLemmas.{rows_more, parts_of, turned}
 use Rattle.dict_opening.proofs.FitLemmas.{fits_edition, fits_entries}
 
@@ -68,6 +67,7 @@ read_none version db reader numbers front can = record {
   entry_rows = [];
   entries = subst (λ l. IsPermutation l []) (sym (none_passes (rows_of (codes "entry") db))) (IsPermutation-refl []);
   entries_are = sym (ap (map (entry_cells (layout_of version))) can.no_entries);
+  shown = subst (AreShownIn (layout_of version)) (sym can.no_entries) (none_shown (layout_of version));
   pieces = tt;
   fits = can.fits;
   other_editions = (λ n e. ap (editions_numbered n) can.no_editions);
@@ -79,7 +79,7 @@ read_none version db reader numbers front can = record {
 pub can_one : (version : ℕ) (db : Database) (reader : Reader) (numbers ns : List ℤ) (front taken : Tables) (n : ℤ) → CanRead version db reader numbers front → HasRead version db ns front taken → has_number (items_in reader) n ≡ true → is_of ns n ≡ false → CanReadOne version db taken n
 can_one version db reader numbers ns front taken n can done there new = record {
   fits = done.fits;
-  known = (λ T M K. known T M (record { keeps = K.keeps; same_members = K.same_members ∙ done.members; stands = K.stands; records = K.records }));
+  known = (λ T M K. known T M (record { keeps = K.keeps; shown = K.shown; same_members = K.same_members ∙ done.members; stands = K.stands; records = K.records }));
   no_editions = done.other_editions n new;
   no_entries = done.other_entries n new;
 }
@@ -124,7 +124,7 @@ module _ (version : ℕ) (db : Database) (ns : List ℤ) (front taken after : Ta
   all_of (x ∷ xs) h = ap (λ b. cond b (x ∷ entries_of n xs) (entries_of n xs)) (subst (λ z. same_number z n ≡ true) (sym h.0) (same_itself n)) ∙ ap (λ l. x ∷ l) (all_of xs h.1)
 
   all_given : BeginsWithEntries layout db n es
-  all_given = (one.entries.0, [], subst (λ rows. IsSelection (codes "entry") (equals_number 1 n) (2 ∷ []) db rows) (sym (append-nil one.entries.0)) one.entries.1, one.entries.2)
+  all_given = (one.entries.0, [], subst (λ rows. IsSelection (codes "entry") (equals_number 1 n) (2 ∷ []) db rows) (sym (append-nil one.entries.0)) one.entries.1, one.entries.2, one.entries.3)
 
   fits : Fits version db whole
   fits = fits_entries version db (with_edition taken e) (fits_edition version db taken can.fits n can.known one.row one.edition can.no_editions) n can.known es all_given can.no_entries
@@ -157,6 +157,7 @@ module _ (version : ℕ) (db : Database) (ns : List ℤ) (front taken after : Ta
     entry_rows = done.entry_rows ++ one.entries.0;
     entries = rows_more ns n (rows_of (codes "entry") db) done.entry_rows one.entries.0 new done.entries one.entries.1.same;
     entries_are = map-append (behind layout) done.entry_rows one.entries.0 ∙ (λ i. done.entries_are i ++ one.entries.2 i) ∙ sym (map-append (entry_cells layout) taken.entries es);
+    shown = more_shown layout taken.entries es done.shown one.entries.3;
     pieces = pieces_more;
     fits = fits;
     other_editions = (λ m k. let p = parts_of ns n m k in

@@ -177,6 +177,7 @@ module _ (version : ℕ) (db : Database) (marks : List (Beside (typed.Mark.Mark 
     none = (λ none M h.
         none (record h.tables { members = members_given members }) M (record {
           keeps = keeps_so db h.tables (members_given members) listed (layout_of version) h.keeps;
+          shown = h.shown;
           same_members = refl;
           stands = stands_so h.tables M (members_kept (layout_of version) db h.tables h.keeps) h.stands;
           records = held_readable version db M h;

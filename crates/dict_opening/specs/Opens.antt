@@ -1,6 +1,6 @@
 -- Which files are opened, and what becomes of the others.
-use Rattle.std.specs.Prelude.{◌≡◌, ◌⊎◌, ◌≤◌, ⊤, ℕ, ℤ, pos, Bool, true, false, List, [], ◌∷◌, ◌++◌, map, drop, filter, length, codes, IsPermutation}
-use Rattle.std.specs.List.{AllByRecursion, Contains}
+use Rattle.std.specs.Prelude.{◌≡◌, ◌⊎◌, ◌≤◌, ⊤, ℕ, ℤ, pos, true, false, List, [], ◌∷◌, ◌++◌, map, drop, filter, length, codes, IsPermutation}
+use Rattle.std.specs.List.{AllByRecursion}
 use Rattle.sqlite.specs.Order.{Row}
 use Rattle.std.specs.Prelude.{String}
 use Rattle.std.specs.declared.alloc.Global.{Global}
@@ -29,14 +29,13 @@ use Rattle.dict_catalogue.specs.Tests.{Holdings}
 use Rattle.dict_catalogue.specs.WellFormed.{IsEachOnce}
 use Rattle.sqlite.specs.declared.types.Value.TheVariants.{Int}
 use Rattle.dict_derived.specs.AllTables.{with_derived}
-use Rattle.dict_derived.specs.declared.reader.Pieces.{Pieces}
 use Rattle.dict_derived.specs.declared.reader.Pieces.TheVariants.{Words, Grams}
 use Rattle.dict_keyed_sql.specs.Pieces.{HasDerived, name_for}
 use Rattle.dict_rows.specs.Tables.{Tables, editions_numbered, entries_of}
 use Rattle.dict_rows.specs.Stands.{Stands, has_number}
 use Rattle.dict_rows.specs.Taken.{GoesOn, HasTaken, HasIdsOnce, items_in, with_edition}
 use Rattle.dict_rows.specs.Versions.{Layout, Plain, Keyed, Shown, layout_of, IsVersion}
-use Rattle.dict_file.specs.Readings.{Reading, KeepsAll, IsReadable, readings, derived_readings, tables_of, name_of, entries}
+use Rattle.dict_file.specs.Readings.{Reading, KeepsAll, AreShownIn, IsReadable, readings, derived_readings, tables_of, name_of, entries}
 pub use Rattle.dict_file.specs.Holds.{HoldsNone, HoldsNoneAs}
 pub use Rattle.dict_file.specs.Readings.{HasReadableRows, HasRowidsApart}
 use Rattle.dict_scans.specs.Census.{one_of, AreNumberedApart}
@@ -46,6 +45,7 @@ use Rattle.dict_scans.specs.Entries.{behind, entry_cells, HasEntries, HasWrongEn
 -- the database keeps tables with the members in this order, and they stand for the catalogue under this version
 pub record Keeping (version : ℕ) (db : Database) (members : List Member) (tables : Tables) (M : Catalogue) : Type 0 where
   pub keeps : KeepsAll (layout_of version) db (with_derived tables)
+  pub shown : AreShownIn (layout_of version) tables.entries
   pub same_members : tables.members ≡ members
   pub stands : Stands version tables M
   pub records : HasReadableRows (layout_of version) db
@@ -135,6 +135,7 @@ pub record HasRead (version : ℕ) (db : Database) (numbers : List ℤ) (front a
   pub entry_rows : List Row
   pub entries : IsPermutation (filter (one_of numbers) (rows_of (codes "entry") db)) entry_rows
   pub entries_are : map (behind (layout_of version)) entry_rows ≡ map (entry_cells (layout_of version)) after.entries
+  pub shown : AreShownIn (layout_of version) after.entries
   pub pieces : AllByRecursion (λ n. HasPieces (layout_of version) db n (entries_of n after.entries)) numbers
   pub fits : Fits version db after
   pub other_editions : (n : ℤ) → is_of numbers n ≡ false → editions_numbered n after.editions ≡ []
@@ -228,13 +229,15 @@ pub record HasReplies (db : Database) (taken after : Tables) : Type 0 where
   pub after_is : after ≡ with_replies taken (kept_given given)
   pub ids : IsEachOnce (ids_given given)
 
--- The tables of records, those of what is derived aside, have a row for each of these and no others.
+-- The tables of records, those of what is derived aside, have a row for each of these and no others; where there is no column
+-- for what is shown, it is the headword.
 pub record HasRecords (layout : Layout) (db : Database) (tables : Tables) : Type 0 where
   pub marks : IsPermutation (map mark_row tables.marks) (map (drop 1) (rows_of (codes "mark") db))
   pub items : IsPermutation (map item_row tables.items) (map (drop 1) (rows_of (codes "item") db))
   pub members : IsPermutation (map member_row tables.members) (map (drop 1) (rows_of (codes "member") db))
   pub editions : IsPermutation (map edition_row tables.editions) (map (drop 1) (rows_of (codes "edition") db))
   pub entries : IsPermutation (map (entry_cells layout) tables.entries) (map (behind layout) (rows_of (codes "entry") db))
+  pub shown : AreShownIn layout tables.entries
   pub kept : IsPermutation (map kept_row tables.kept) (map (drop 1) (rows_of (codes "kept") db))
 
 -- all records were read, and of each edition what is derived of its entries
@@ -251,13 +254,14 @@ abbrev pub AreApartEntries : Layout → Database → Type 0
 AreApartEntries layout db = HasApartRowids (rows_of (codes "entry") db) × AllByRecursion (λ r. HasApartRowids (rows_of (name_of r) db)) (derived_readings layout)
 
 -- the records of all rows stand for the catalogue of this summary, under this version
-pub record HasSummary (version : ℕ) (db : Database) (shown : Holdings (List ℕ)) : Type 0 where
+pub record HasSummary (version : ℕ) (db : Database) (holdings : Holdings (List ℕ)) : Type 0 where
   pub catalogue : Catalogue
   pub tables : Tables
   pub keeps : HasAllRows version db tables
   pub apart : AreApartEntries (layout_of version) db
+  pub shown : AreShownIn (layout_of version) tables.entries
   pub stands : Stands version tables catalogue
-  pub summary : summary_of catalogue ≡ shown
+  pub summary : summary_of catalogue ≡ holdings
 
 -- ---- the mark
 

@@ -1,5 +1,5 @@
 -- Records that are read of rows, and the rows that records are written as.
-use Rattle.std.proofs.Common.{◌≡◌, ℕ, ℤ, pos, Bool, true, false, List, [], ◌∷◌, map, drop, filter, cond, Option, Some, None, refl, sym, ap, subst, ◌∙◌, String, Vec}
+use Rattle.std.proofs.Common.{◌≡◌, ℕ, Bool, true, false, List, [], ◌∷◌, map, drop, filter, cond, refl, sym, ap, subst, ◌∙◌, String, Vec}
 use Rattle.std.specs.List.{AllByRecursion}
 use Rattle.std.specs.List.Sorted.{IsPermutation, IsSorted}
 use Rattle.std.specs.Ordering.{is_lt}
@@ -8,18 +8,17 @@ use Rattle.std.specs.declared.alloc.Global.{Global}
 use Rattle.sqlite_trees.proofs.ListLemmas.{IsPermutation-filter}
 use Rattle.sqlite.specs.Effect.{Database}
 use Rattle.sqlite.specs.Order.{Row}
-use Rattle.sqlite.specs.declared.types.Value.{Value}
-use Rattle.sqlite.specs.declared.types.Value.TheVariants.{Int, Text, Blob}
 use Rattle.dict_text.proofs.AllLemmas.{all_filter}
 use Rattle.dict_records.specs.Records as spec
-use Rattle.dict_records.specs.Typed.{owned_mark, owned_item, owned_member, owned_edition, owned_entry, owned_kept}
+use Rattle.dict_records.specs.Typed.{owned_mark, owned_item, owned_member, owned_edition, owned_kept}
 use Rattle.dict_records.specs.declared.records as typed
 use Rattle.dict_records.specs.declared.records.Stored.{Stored}
 use Rattle.dict_sql.specs.Effects.{rows_of}
-use Rattle.dict_sql.specs.Encodings.{mark_row, item_row, member_row, edition_row, entry_row, kept_row, stored_mark, stored_item, stored_member, stored_edition, stored_entry, stored_kept, number_or_null, text_or_null}
+use Rattle.dict_sql.specs.Encodings.{mark_row, item_row, member_row, edition_row, kept_row, stored_mark, stored_item, stored_member, stored_edition, stored_kept}
 use Rattle.dict_sql.specs.Reads.{by_columns}
 use Rattle.dict_file.specs.Holds.{Keeps}
 use Rattle.dict_file.proofs.ReadLemmas.{sorted_order}
+use Rattle.dict_file.proofs.OneLemmas.{decode_mark, decode_item, decode_member, decode_edition, decode_kept, mark_back, item_back, member_back, edition_back, kept_back}
 use Rattle.dict_rows.specs.Order.{InOrder}
 use Rattle.dict_rows.proofs.OrderLemmas.{order_given, all_same}
 use Rattle.dict_scans.proofs.RowidLemmas.{all_of_map}
@@ -112,72 +111,6 @@ module _ {R W : Type 0} (k : Codec R W) where
 
 -- ---- the six tables
 
-unfoldable pub number_in : Value → Option ℤ
-number_in (Int n) = Some n
-number_in _ = None
-
-unfoldable pub text_in : Value → Option (List ℕ)
-text_in (Text t) = Some t
-text_in _ = None
-
-unfoldable pub decode_mark : Row → spec.Mark
-decode_mark (Int id ∷ Text magic ∷ Int version ∷ Int installs ∷ []) = record { id = id; magic = magic; version = version; installs = installs }
-decode_mark _ = record { id = pos 0; magic = []; version = pos 0; installs = pos 0 }
-
-unfoldable pub decode_item : Row → spec.Item
-decode_item (Int place ∷ Text name ∷ Int kind ∷ title ∷ current ∷ former ∷ []) = record { place = place; name = name; kind = kind; title = text_in title; current = number_in current; former = number_in former }
-decode_item _ = record { place = pos 0; name = []; kind = pos 0; title = None; current = None; former = None }
-
-unfoldable pub decode_member : Row → spec.Member
-decode_member (Text owner ∷ Int ord ∷ Text name ∷ []) = record { owner = owner; ord = ord; name = name }
-decode_member _ = record { owner = []; ord = pos 0; name = [] }
-
-unfoldable pub decode_edition : Row → spec.Edition
-decode_edition (Int number ∷ Text owner ∷ Text title ∷ Text info ∷ Blob body ∷ []) = record { number = number; owner = owner; title = title; info = info; body = body }
-decode_edition _ = record { number = pos 0; owner = []; title = []; info = []; body = [] }
-
-unfoldable pub decode_entry : Row → spec.Entry
-decode_entry (Int edition ∷ Int ord ∷ Text headword ∷ Int start ∷ Int length ∷ []) = record { edition = edition; ord = ord; headword = headword; start = start; length = length }
-decode_entry _ = record { edition = pos 0; ord = pos 0; headword = []; start = pos 0; length = pos 0 }
-
-unfoldable pub decode_kept : Row → spec.Kept
-decode_kept (Text id ∷ Int number ∷ Text verb ∷ Text name ∷ edition ∷ []) = record { id = id; number = number; verb = verb; name = name; edition = number_in edition }
-decode_kept _ = record { id = []; number = pos 0; verb = []; name = []; edition = None }
-
-number_back : (o : Option ℤ) → number_in (number_or_null o) ≡ o
-unfolding number_in
-number_back None = refl
-number_back (Some n) = refl
-
-text_back : (o : Option (List ℕ)) → text_in (text_or_null o) ≡ o
-unfolding text_in
-text_back None = refl
-text_back (Some t) = refl
-
-pub mark_back : (m : spec.Mark) → decode_mark (mark_row m) ≡ m
-unfolding decode_mark
-mark_back m = refl
-
-pub item_back : (i : spec.Item) → decode_item (item_row i) ≡ i
-unfolding decode_item
-item_back i = λ j. record { place = i.place; name = i.name; kind = i.kind; title = text_back i.title j; current = number_back i.current j; former = number_back i.former j }
-
-pub member_back : (m : spec.Member) → decode_member (member_row m) ≡ m
-unfolding decode_member
-member_back m = refl
-
-pub edition_back : (e : spec.Edition) → decode_edition (edition_row e) ≡ e
-unfolding decode_edition
-edition_back e = refl
-
-pub entry_back : (e : spec.Entry) → decode_entry (entry_row e) ≡ e
-unfolding decode_entry
-entry_back e = refl
-
-pub kept_back : (k : spec.Kept) → decode_kept (kept_row k) ≡ k
-unfolding decode_kept
-kept_back k = λ j. record { id = k.id; number = k.number; verb = k.verb; name = k.name; edition = number_back k.edition j }
-
 abbrev pub mark_codec : Codec (Stored (typed.Mark.Mark (String Global))) spec.Mark
 mark_codec = record { stored = stored_mark; owned = (λ row. owned_mark row.value); encode = mark_row; decode = decode_mark; undo = mark_back; behind = (λ r. refl) }
 
@@ -189,9 +122,6 @@ member_codec = record { stored = stored_member; owned = (λ row. owned_member ro
 
 abbrev pub edition_codec : Codec (Stored (typed.Edition.Edition (String Global) (Vec ℕ Global))) spec.Edition
 edition_codec = record { stored = stored_edition; owned = (λ row. owned_edition row.value); encode = edition_row; decode = decode_edition; undo = edition_back; behind = (λ r. refl) }
-
-abbrev pub entry_codec : Codec (Stored (typed.Entry.Entry (String Global))) spec.Entry
-entry_codec = record { stored = stored_entry; owned = (λ row. owned_entry row.value); encode = entry_row; decode = decode_entry; undo = entry_back; behind = (λ r. refl) }
 
 abbrev pub kept_codec : Codec (Stored (typed.Kept.Kept (String Global))) spec.Kept
 kept_codec = record { stored = stored_kept; owned = (λ row. owned_kept row.value); encode = kept_row; decode = decode_kept; undo = kept_back; behind = (λ r. refl) }

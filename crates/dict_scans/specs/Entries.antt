@@ -14,7 +14,7 @@ use Rattle.dict_rows.specs.Whole.{with_entries, AreOf}
 use Rattle.dict_rows.specs.Versions.{Layout, Plain, Keyed, Shown}
 use Rattle.dict_rows.specs.declared.reader.Reader.{Reader}
 use Rattle.dict_derived.specs.Entries.{filed}
-use Rattle.dict_file.specs.Readings.{entries, filed_row}
+use Rattle.dict_file.specs.Readings.{AreShownIn, entries, filed_row}
 
 -- of a row of `entry`, the columns behind its rowid that are looked at
 abbrev pub behind : Layout → Row → Row
@@ -26,15 +26,16 @@ entry_cells Plain e = entry_row e
 entry_cells Keyed e = entry_row e
 entry_cells Shown e = filed_row (filed e)
 
--- the rows of the edition, in the order of their places, are those of these entries
+-- The rows of the edition, in the order of their places, are those of these entries; of a layout that has no column for what is
+-- shown, by their headwords.
 abbrev pub HasEntries : Layout → Database → ℤ → List Entry → Type 0
-HasEntries layout db number all = (rows : List Row) × IsSelection (codes "entry") (equals_number 1 number) (2 ∷ []) db rows × (map (behind layout) rows ≡ map (entry_cells layout) all)
+HasEntries layout db number all = (rows : List Row) × IsSelection (codes "entry") (equals_number 1 number) (2 ∷ []) db rows × (map (behind layout) rows ≡ map (entry_cells layout) all) × AreShownIn layout all
 
 -- they begin with those of these entries
 abbrev pub BeginsWithEntries : Layout → Database → ℤ → List Entry → Type 0
-BeginsWithEntries layout db number first = (rows : List Row) × (tail : List Row) × IsSelection (codes "entry") (equals_number 1 number) (2 ∷ []) db (rows ++ tail) × (map (behind layout) rows ≡ map (entry_cells layout) first)
+BeginsWithEntries layout db number first = (rows : List Row) × (tail : List Row) × IsSelection (codes "entry") (equals_number 1 number) (2 ∷ []) db (rows ++ tail) × (map (behind layout) rows ≡ map (entry_cells layout) first) × AreShownIn layout first
 
--- the row is of another kind than a record, or that of no entry: a key, the key's reverse or what is shown isn't the headword's
+-- the row is of another kind than a record, or that of no entry: a key or the key's reverse isn't the headword's
 abbrev pub IsNoEntryRow : Layout → Row → Type 0
 IsNoEntryRow layout row = HasColumns (entries layout).columns ((entries layout).looked row) → (e : Entry) → behind layout row ≡ entry_cells layout e → ⊥
 

@@ -67,7 +67,7 @@ pub fn read_old_entries<S: Alter>(
 }
 
 /// Takes the entries of the edition that was taken last, which has this number, from tables with keys, and keeps their keys.
-/// Each row is to have the key of its headword, the key's octets in reverse order, and the headword as what is shown.
+/// Each row is to have the key of its headword, and the key's octets in reverse order.
 pub fn read_filed_entries<S: Alter>(
     alloc: Global,
     conn: &mut Connection<S>,

@@ -2,6 +2,7 @@
 ghost use Rattle.std.specs.Prelude.{◌≡◌, ◌↔◌, ◌++◌, ◌∷◌, [], IsTrue, IfOk, IfErr, OnOk, string_bytes};
 ghost use Rattle.dict_match.specs.Key.{key_of};
 ghost use Rattle.dict_records.specs.Keyed.{owned_keyed_entry, owned_old_entry, plain_entry};
+ghost use Rattle.dict_records.specs.Records.{shown_as};
 ghost use Rattle.dict_records.specs.Typed.{owned_entry};
 ghost use Rattle.dict_derived.specs.Entries.{filed, plain};
 ghost use Rattle.dict_scans.specs.Entries.{AreTaken, AreNotTaken};
@@ -23,13 +24,12 @@ pub struct EditionReader {
     pub keys: Vec<Key>,
 }
 
-/// Whether what a row has is what is derived of its headword; what is shown is the headword.
+/// Whether what a row has is what is derived of its headword.
 fn has_derived(row: &KeyedEntry<String, Vec<u8>>, derived: &Derived) -> bool
-    ensures { IsTrue result ↔ ((owned_keyed_entry row.now).key ≡ derived.now.key) × ((owned_keyed_entry row.now).reversed ≡ derived.now.reversed.items) × ((owned_keyed_entry row.now).shown ≡ (owned_keyed_entry row.now).headword) }
+    ensures { IsTrue result ↔ ((owned_keyed_entry row.now).key ≡ derived.now.key) × ((owned_keyed_entry row.now).reversed ≡ derived.now.reversed.items) }
 {
     row.key.as_slice() == derived.key.as_bytes()
         && row.reversed.as_slice() == derived.reversed.as_slice()
-        && row.shown.as_str() == row.headword.as_str()
 }
 
 /// The key of a row's headword, where the row has what is derived of it. `Damaged` tells that it has something else.
@@ -45,9 +45,9 @@ fn filed_key(alloc: Global, row: &KeyedEntry<String, Vec<u8>>) -> Result<Key, Ro
     Ok(derived.key)
 }
 
-/// The entry without what was derived of it.
-fn without_keys(row: KeyedEntry<String, Vec<u8>>) -> Entry<String>
-    ensures { owned_entry result ≡ plain (owned_keyed_entry row) }
+/// The entry without what was derived of it, and what is shown of it.
+fn without_keys(row: KeyedEntry<String, Vec<u8>>) -> (Entry<String>, String)
+    ensures { shown_as (owned_entry result.0) (string_bytes result.1) ≡ plain (owned_keyed_entry row) }
 {
     let KeyedEntry {
         edition,
@@ -55,18 +55,20 @@ fn without_keys(row: KeyedEntry<String, Vec<u8>>) -> Entry<String>
         headword,
         start,
         length,
+        shown,
         ..
     } = row;
-    Entry {
+    let entry = Entry {
         edition,
         ord,
         headword,
         start,
         length,
-    }
+    };
+    (entry, shown)
 }
 
-/// The same of an entry of schemas 2 and 3.
+/// An entry of schemas 2 and 3 without what was derived of it.
 fn without_old_keys(row: OldEntry<String, Vec<u8>>) -> Entry<String>
     ensures { owned_entry result ≡ plain_entry (owned_old_entry row) }
 {
@@ -88,13 +90,19 @@ fn without_old_keys(row: OldEntry<String, Vec<u8>>) -> Entry<String>
 }
 
 impl EditionReader {
-    /// Takes an entry of the edition that was taken last, and keeps its key.
-    fn entry(&mut self, alloc: Global, row: &Entry<String>, key: Key) -> Result<(), RowsFault>
-        ensures taken { OnOk result (AreTaken self.old.reader self.new.reader (owned_entry row.now ∷ [])) }
+    /// Takes an entry of the edition that was taken last, of which this is shown, and keeps its key.
+    fn entry(
+        &mut self,
+        alloc: Global,
+        row: &Entry<String>,
+        shown: &str,
+        key: Key,
+    ) -> Result<(), RowsFault>
+        ensures taken { OnOk result (AreTaken self.old.reader self.new.reader (shown_as (owned_entry row.now) shown.now ∷ [])) }
         ensures kept { OnOk result (self.new.keys.items ≡ self.old.keys.items ++ key ∷ []) }
-        ensures damaged { IfErr result (λ fault. fault ≡ RowsFault.Damaged → AreNotTaken self.old.reader (owned_entry row.now ∷ [])) }
+        ensures damaged { IfErr result (λ fault. fault ≡ RowsFault.Damaged → AreNotTaken self.old.reader (shown_as (owned_entry row.now) shown.now ∷ [])) }
     {
-        self.reader.entry(alloc, row)?;
+        self.reader.entry(alloc, row, shown)?;
         self.keys.push(key)?;
         Ok(())
     }
@@ -112,7 +120,8 @@ impl Taker<Stored<KeyedEntry<String, Vec<u8>>>> for EditionReader {
         next: Stored<KeyedEntry<String, Vec<u8>>>,
     ) -> Result<(), RowsFault> {
         let key = filed_key(alloc, &next.value)?;
-        self.entry(alloc, &without_keys(next.value), key)
+        let (entry, shown) = without_keys(next.value);
+        self.entry(alloc, &entry, shown.as_str(), key)
     }
 
     ghost none = { no_filed };
@@ -129,7 +138,8 @@ impl Taker<Stored<OldEntry<String, Vec<u8>>>> for Reader {
         alloc: Global,
         next: Stored<OldEntry<String, Vec<u8>>>,
     ) -> Result<(), RowsFault> {
-        self.entry(alloc, &without_old_keys(next.value))
+        let entry = without_old_keys(next.value);
+        self.entry(alloc, &entry, entry.headword.as_str())
     }
 
     ghost none = { no_old };

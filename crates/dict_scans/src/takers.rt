@@ -29,7 +29,7 @@ impl Taker<Stored<Entry<String>>> for Reader {
     ghost refuses = { refuses_entries };
 
     fn take(&mut self, alloc: Global, next: Stored<Entry<String>>) -> Result<(), RowsFault> {
-        self.entry(alloc, &next.value)
+        self.entry(alloc, &next.value, next.value.headword.as_str())
     }
 
     ghost none = { no_entries };

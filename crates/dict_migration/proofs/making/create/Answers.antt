@@ -9,7 +9,7 @@ use Rattle.dict_file.specs.Writing.{Stays}
 use Rattle.dict_migration.specs.Making.{creation, RunInTurn, FailsInTurn}
 use Rattle.dict_file.proofs.CommitLemmas.{leaves, only_left, done, before_commit, commit_fails, keeps_begun, stays_undone}
 use Rattle.dict_migration.proofs.making.create.Goals as goal
-use Rattle.dict_rows.specs.Versions.{next}
+use Rattle.dict_rows.specs.Versions.{known}
 
 pub returns-in-Ok-clause-rests : goal.returns-in-Ok-clause-rests
 returns-in-Ok-clause-rests g c clean =
@@ -19,9 +19,9 @@ returns-in-Ok-clause-rests g c clean =
     let same : end ≡ c.conn-2-1.given.0 = search rules in
     let late : HasCleanDisk (state g.S.Store end) = search rules in
     let shown = (c.in-Ok.ensures.committed late).1 in
-    let there = done g.S.Store old c.transaction-tx.result.conn.now mid end (λ db. Holds next db empty_catalogue) c.transaction-tx.ensures.begun c.make_all.ensures.survives c.commit.ensures.survives c.in_default.ensures.made late shown in
-    let rests : Rests next (state g.S.Store end) empty_catalogue = record { is_open = shown.is_open; settled = shown.now_is ∙ sym shown.committed_is; holds = there } in
-    subst (λ h. Rests next (state g.S.Store h) empty_catalogue) same rests
+    let there = done g.S.Store old c.transaction-tx.result.conn.now mid end (λ db. Holds known db empty_catalogue) c.transaction-tx.ensures.begun c.make_all.ensures.survives c.commit.ensures.survives c.in_default.ensures.made late shown in
+    let rests : Rests known (state g.S.Store end) empty_catalogue = record { is_open = shown.is_open; settled = shown.now_is ∙ sym shown.committed_is; holds = there } in
+    subst (λ h. Rests known (state g.S.Store h) empty_catalogue) same rests
 
 pub returns-in-Ok-clause-only : goal.returns-in-Ok-clause-only
 returns-in-Ok-clause-only g c clean =
@@ -32,8 +32,8 @@ returns-in-Ok-clause-only g c clean =
     let same : end ≡ c.conn-2-1.given.0 = search rules in
     let late : HasCleanDisk (state g.S.Store end) = search rules in
     let shown = (c.in-Ok.ensures.committed late).1 in
-    let there = only_left g.S.Store old begun mid end (λ db. Holds next db empty_catalogue) c.transaction-tx.ensures.begun c.make_all.ensures.survives c.commit.ensures.survives c.in_default.ensures.made late shown (c.in-Ok.ensures.only late) in
-    subst (λ h. (trees : Trees) → (state g.S.Store h).may_leave trees → IsLeftAs next empty_catalogue trees) same there
+    let there = only_left g.S.Store old begun mid end (λ db. Holds known db empty_catalogue) c.transaction-tx.ensures.begun c.make_all.ensures.survives c.commit.ensures.survives c.in_default.ensures.made late shown (c.in-Ok.ensures.only late) in
+    subst (λ h. (trees : Trees) → (state g.S.Store h).may_leave trees → IsLeftAs known empty_catalogue trees) same there
 
 pub returns-in-Ok-clause-crash : goal.returns-in-Ok-clause-crash
 returns-in-Ok-clause-crash g c =
@@ -41,8 +41,8 @@ returns-in-Ok-clause-crash g c =
     let mid = c.make_all.new.tx.conn.now in
     let end = c.commit.new.tx.0 in
     let same : end ≡ c.conn-2-1.given.0 = search rules in
-    let there = leaves g.S.Store old c.transaction-tx.result.conn.now mid end (λ db. Holds next db empty_catalogue) c.transaction-tx.ensures.begun c.make_all.ensures.survives c.commit.ensures.survives c.in_default.ensures.made in
-    subst (λ h. Survives (state g.S.Store old) (state g.S.Store h) (IsLeftAs next empty_catalogue)) same there
+    let there = leaves g.S.Store old c.transaction-tx.result.conn.now mid end (λ db. Holds known db empty_catalogue) c.transaction-tx.ensures.begun c.make_all.ensures.survives c.commit.ensures.survives c.in_default.ensures.made in
+    subst (λ h. Survives (state g.S.Store old) (state g.S.Store h) (IsLeftAs known empty_catalogue)) same there
 
 pub returns-in-Err-commit-clause-crash : goal.returns-in-Err-commit-clause-crash
 returns-in-Err-commit-clause-crash g c =
@@ -50,8 +50,8 @@ returns-in-Err-commit-clause-crash g c =
     let mid = c.make_all.new.tx.conn.now in
     let end = c.commit.new.tx.0 in
     let same : end ≡ c.conn-2-1.given.0 = search rules in
-    let there = leaves g.S.Store old c.transaction-tx.result.conn.now mid end (λ db. Holds next db empty_catalogue) c.transaction-tx.ensures.begun c.make_all.ensures.survives c.commit.ensures.survives c.in_default.ensures.made in
-    subst (λ h. Survives (state g.S.Store old) (state g.S.Store h) (IsLeftAs next empty_catalogue)) same there
+    let there = leaves g.S.Store old c.transaction-tx.result.conn.now mid end (λ db. Holds known db empty_catalogue) c.transaction-tx.ensures.begun c.make_all.ensures.survives c.commit.ensures.survives c.in_default.ensures.made in
+    subst (λ h. Survives (state g.S.Store old) (state g.S.Store h) (IsLeftAs known empty_catalogue)) same there
 
 pub returns-in-Err-clause-failed : goal.returns-in-Err-clause-failed
 returns-in-Err-clause-failed g c clean other =
@@ -64,7 +64,7 @@ returns-in-Err-clause-failed g c clean other =
       error = c.in-Err.error;
       told = c.fault_of.ensures;
       last = mid;
-      within = subst (λ h. FailsInTurn g.S.Store (creation next) h mid c.in-Err.error) c.transaction-tx.ensures.begun (c.in-Err.ensures.failed early);
+      within = subst (λ h. FailsInTurn g.S.Store (creation known) h mid c.in-Err.error) c.transaction-tx.ensures.begun (c.in-Err.ensures.failed early);
       after = subst (λ h. Survives (state g.S.Store mid) (state g.S.Store h) (λ _. ⊥)) same c.drop-tx.ensures.survives;
       undone = subst (λ h. IsRolledBack (state g.S.Store mid) (state g.S.Store h)) same (c.drop-tx.ensures.undone late);
     })
@@ -77,11 +77,11 @@ returns-in-Err-commit-clause-failed g c clean other =
     let end = c.commit.new.tx.0 in
     let same : end ≡ c.conn-2-1.given.0 = search rules in
     let late : HasCleanDisk (state g.S.Store end) = search rules in
-    let early : HasCleanDisk (state g.S.Store mid) = before_commit g.S.Store old begun mid end (λ db. Holds next db empty_catalogue) c.transaction-tx.ensures.begun c.make_all.ensures.survives c.commit.ensures.survives c.in_default.ensures.made late in
+    let early : HasCleanDisk (state g.S.Store mid) = before_commit g.S.Store old begun mid end (λ db. Holds known db empty_catalogue) c.transaction-tx.ensures.begun c.make_all.ensures.survives c.commit.ensures.survives c.in_default.ensures.made late in
     inr (record {
       told = refl;
       last = mid;
-      ran = subst (λ h. RunInTurn g.S.Store (creation next) h mid) c.transaction-tx.ensures.begun (c.in_default.ensures.ran early);
+      ran = subst (λ h. RunInTurn g.S.Store (creation known) h mid) c.transaction-tx.ensures.begun (c.in_default.ensures.ran early);
       before = survives_begin g.S.Store old (state g.S.Store mid) (λ _. ⊥) (subst (λ h. Survives (state g.S.Store h) (state g.S.Store mid) (λ _. ⊥)) c.transaction-tx.ensures.begun c.make_all.ensures.survives);
       written = (c.in_default.ensures.made early).0;
       error = c.in-Err-commit.field-0;
@@ -96,7 +96,7 @@ returns-in-Err-commit-clause-stays g c clean =
     let end = c.commit.new.tx.0 in
     let same : end ≡ c.conn-2-1.given.0 = search rules in
     let late : HasCleanDisk (state g.S.Store end) = search rules in
-    let early : HasCleanDisk (state g.S.Store mid) = before_commit g.S.Store old begun mid end (λ db. Holds next db empty_catalogue) c.transaction-tx.ensures.begun c.make_all.ensures.survives c.commit.ensures.survives c.in_default.ensures.made late in
+    let early : HasCleanDisk (state g.S.Store mid) = before_commit g.S.Store old begun mid end (λ db. Holds known db empty_catalogue) c.transaction-tx.ensures.begun c.make_all.ensures.survives c.commit.ensures.survives c.in_default.ensures.made late in
     subst (λ h. Stays (state g.S.Store old) (state g.S.Store h)) same (stays_undone (state g.S.Store old) (state g.S.Store mid) (state g.S.Store end)
     (keeps_begun g.S.Store old begun (state g.S.Store mid) c.transaction-tx.ensures.begun (c.make_all.ensures.keeps early))
     (commit_fails (state g.S.Store mid) (state g.S.Store end) c.in-Err-commit.field-0 (c.in_default.ensures.inside early) (c.in-Err-commit.ensures.failed late)).3)

@@ -10,7 +10,7 @@ use Rattle.dict_sql.specs.Inserts.{Inserts, FailsToInsert}
 use Rattle.dict_sql.specs.Statements.{Statement, make, add}
 use Rattle.dict_sql.proofs.Callers.{own_has}
 use Rattle.dict_sql.proofs.StreamLemmas.{passed_on}
-use Rattle.dict_rows.specs.Versions.{next}
+use Rattle.dict_rows.specs.Versions.{known}
 use Rattle.dict_rows.specs.Written.{mark_record}
 use Rattle.dict_migration.specs.Making.{Step, one, derived_tables, lasting_tables, creation, RunInTurn, FailsInTurn}
 use Rattle.dict_migration.proofs.FlowLemmas.{two_survive, three_survive}
@@ -21,7 +21,7 @@ abbrev first : List Step
 first = map one (map make lasting_tables)
 
 abbrev marking : Step
-marking = one (add (codes "mark") (mark_row (mark_record next 0)))
+marking = one (add (codes "mark") (mark_row (mark_record known 0)))
 
 pub make_each-requires-clause-apart : goal.make_each-requires-clause-apart
 make_each-requires-clause-apart g c = lasting_apart
@@ -77,7 +77,7 @@ returns-in_err-make_each-clause-failed g c clean =
     let h0 = c.args.tx.now.conn.now in
     let h1 = c.make_each.new.tx.conn.now in
     let e = c.in_err-make_each.field-0.0 in
-    passed_on (FailsInTurn g.S.Store (creation next) h0 h1) e c.from_residual.result c.from_residual.ensures.1
+    passed_on (FailsInTurn g.S.Store (creation known) h0 h1) e c.from_residual.result c.from_residual.ensures.1
     (fails_front g.S.Store first (derived_tables ∷ marking ∷ []) h0 h1 e (fails_ones g.S.Store (map make lasting_tables) h0 h1 e (c.in_err-make_each.ensures.failed clean)))
 
 pub returns-in_err-create_keyed_tables-clause-failed : goal.returns-in_err-create_keyed_tables-clause-failed
@@ -87,7 +87,7 @@ returns-in_err-create_keyed_tables-clause-failed g c clean =
     let h2 = c.create_keyed_tables.new.tx.conn.now in
     let clean1 : HasCleanDisk (state g.S.Store h1) = omega (arith, c.create_keyed_tables.ensures.survives.clean, clean) in
     let e = c.in_err-create_keyed_tables.field-0.0 in
-    passed_on (FailsInTurn g.S.Store (creation next) h0 h2) e c.from_residual-in_err-create_keyed_tables.result c.from_residual-in_err-create_keyed_tables.ensures.1
+    passed_on (FailsInTurn g.S.Store (creation known) h0 h2) e c.from_residual-in_err-create_keyed_tables.result c.from_residual-in_err-create_keyed_tables.ensures.1
     (fails_back g.S.Store first (derived_tables ∷ marking ∷ []) h0 h1 h2 e (run_ones g.S.Store (map make lasting_tables) h0 h1 (c.in_ok-make_each.ensures.ran clean1))
     (fails_front g.S.Store (derived_tables ∷ []) (marking ∷ []) h1 h2 e (fails_step g.S.Store derived_tables h1 h2 e (c.in_err-create_keyed_tables.ensures.failed clean) c.create_keyed_tables.ensures.survives)))
 
@@ -101,7 +101,7 @@ returns-in_err-insert_mark-clause-failed g c clean =
     let clean1 : HasCleanDisk (state g.S.Store h1) = omega (arith, c.create_keyed_tables.ensures.survives.clean, clean2) in
     let e = c.in_err-insert_mark.field-0.0 in
     let put = subst (λ (m : Mark). FailsToInsert (codes "mark") (mark_row m) (state g.S.Store h2) (state g.S.Store h3) e) c.mark_row-mark.ensures (c.in_err-insert_mark.ensures.failed clean) in
-    passed_on (FailsInTurn g.S.Store (creation next) h0 h3) e c.from_residual-in_err-insert_mark.result c.from_residual-in_err-insert_mark.ensures.1
+    passed_on (FailsInTurn g.S.Store (creation known) h0 h3) e c.from_residual-in_err-insert_mark.result c.from_residual-in_err-insert_mark.ensures.1
     (fails_back g.S.Store first (derived_tables ∷ marking ∷ []) h0 h1 h3 e (run_ones g.S.Store (map make lasting_tables) h0 h1 (c.in_ok-make_each.ensures.ran clean1))
     (fails_back g.S.Store (derived_tables ∷ []) (marking ∷ []) h1 h2 h3 e (run_step g.S.Store derived_tables h1 h2 (c.in_ok-create_keyed_tables.ensures.made clean2) c.create_keyed_tables.ensures.survives)
     (fails_step g.S.Store marking h2 h3 e put c.insert_mark.ensures.survives)))

@@ -1,4 +1,4 @@
-use Rattle.std.proofs.Common.{ℕ, ◌≡◌, true, ◌<◌, ◌≤◌, pos, length, take, get_or, rules, arith, sym, subst}
+use Rattle.std.proofs.Common.{◌≡◌, true, ◌<◌, ◌≤◌, pos, length, take, get_or, rules, arith, sym, subst}
 use Rattle.std.proofs.lemmas.Int.{to_z-of_z}
 use Rattle.std.proofs.lemmas.List.{take_all, take_more, get_or_default}
 use mir.Syntax.{w64}

@@ -1,4 +1,4 @@
-use Rattle.std.proofs.Common.{◌≡◌, rules}
+use Rattle.std.proofs.Common.{rules}
 use Rattle.std.specs.Prelude.{IsTrue}
 use Rattle.dict_opening.proofs.layout.has_shown.Goals as goal
 

@@ -2,7 +2,7 @@ use Rattle.std.proofs.Common.{◌≡◌, ℕ, ◌<◌, ◌≤◌, List, IfNone, 
 use Rattle.sqlite.specs.Held.{state}
 use Rattle.dict_tables.specs.Found.{HasOwn}
 use Rattle.dict_tables.specs.Tables.{mark}
-use Rattle.dict_opening.specs.Opens.{HasMark, IsMarked}
+use Rattle.dict_opening.specs.Opens.{IsMarked}
 use Rattle.dict_opening.proofs.MarkLemmas.{has_mark, is_marked, no_record, MarkRow}
 use Rattle.dict_opening.proofs.FaultLemmas.{desk_cause}
 use Rattle.dict_desk.specs.declared.fault.Fault.TheVariants as desk

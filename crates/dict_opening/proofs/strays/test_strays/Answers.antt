@@ -1,19 +1,15 @@
-use Rattle.std.proofs.Common.{ℕ, ◌≡◌, ◌⊎◌, ℤ, List, sym, subst, ◌∙◌}
+use Rattle.std.proofs.Common.{◌≡◌, sym, subst, ◌∙◌}
 use Rattle.std.proofs.lemmas.Result.{on_ok_weaker}
 use Rattle.sqlite.specs.Effect.{Database}
 use Rattle.sqlite.specs.State.{HasCleanDisk}
 use Rattle.sqlite.specs.Held.{state}
 use Rattle.dict_sql.proofs.StreamLemmas.{passed_on}
-use Rattle.dict_sql.specs.Encodings.{stored_number}
-use Rattle.dict_sql.specs.Streams.Scan.{EditionNumbers}
 use Rattle.dict_rows.specs.Tables.{Tables}
 use Rattle.dict_rows.specs.Taken.{HasTaken}
-use Rattle.dict_scans.specs.Cursors.{InStore}
 use Rattle.dict_scans.specs.Reading.{IsExcused}
-use Rattle.dict_scans.specs.Takers.{AreKnown, number_given}
 use Rattle.dict_scans.specs.declared.fault.ReadingFault.{ReadingFault}
 use Rattle.dict_scans.specs.declared.fault.ReadingFault.TheVariants.{Damaged}
-use Rattle.dict_scans.proofs.CauseLemmas.{cause_passed, cause_last, cause_then, rows_cause}
+use Rattle.dict_scans.proofs.CauseLemmas.{cause_passed, cause_last, rows_cause}
 use Rattle.dict_scans.proofs.ScanLemmas.{rows_damaged}
 use Rattle.dict_scans.proofs.StateLemmas.{clean_before, while_same, reads_then}
 use Rattle.dict_scans.proofs.TakerLemmas.{if_err_then, on_damage}

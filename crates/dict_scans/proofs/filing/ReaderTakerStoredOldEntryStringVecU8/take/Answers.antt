@@ -1,5 +1,6 @@
 use Rattle.std.proofs.Common.{[], ◌∷◌, subst}
 use Rattle.std.proofs.lemmas.Result.{on_ok_weaker}
+use Rattle.dict_records.specs.Records.{shown_as}
 use Rattle.dict_records.specs.Typed.{owned_entry}
 use Rattle.dict_scans.specs.Entries.{AreTaken, AreNotTaken}
 use Rattle.dict_scans.specs.Filing.{old_entry_in}
@@ -8,10 +9,14 @@ use Rattle.dict_scans.proofs.filing.ReaderTakerStoredOldEntryStringVecU8.take.Go
 
 pub returns-clause-taken : goal.returns-clause-taken
 returns-clause-taken c =
+    let row = c.without_old_keys-entry.result in
     on_ok_weaker c.entry.result (λ more first given h. entries_next old_entry_in first given c.args.next c.args.self.now h c.entry.new.self
-    (subst (λ e. AreTaken c.args.self.now c.entry.new.self (e ∷ [])) c.without_old_keys.ensures more)) c.entry.ensures.taken
+    (subst (λ e. AreTaken c.args.self.now c.entry.new.self (e ∷ [])) c.without_old_keys-entry.ensures
+    (subst (λ shown. AreTaken c.args.self.now c.entry.new.self (shown_as (owned_entry row) shown ∷ [])) c.as_str.ensures.value more))) c.entry.ensures.taken
 
 pub returns-clause-refused : goal.returns-clause-refused
 returns-clause-refused c =
-    if_err_then _ _ c.entry.result (λ fault wrong e first given h. entries_refused old_entry_in first given c.args.next c.args.self.now h
-    (subst (λ e. AreNotTaken c.args.self.now (e ∷ [])) c.without_old_keys.ensures (one_refused c.args.self.now (owned_entry c.without_old_keys.result) (on_damage fault _ wrong e)))) c.entry.ensures.damaged
+    let row = c.without_old_keys-entry.result in
+    if_err_then _ _ c.entry.result (λ fault wrong is first given h. entries_refused old_entry_in first given c.args.next c.args.self.now h
+    (subst (λ e. AreNotTaken c.args.self.now (e ∷ [])) c.without_old_keys-entry.ensures
+    (subst (λ shown. AreNotTaken c.args.self.now (shown_as (owned_entry row) shown ∷ [])) c.as_str.ensures.value (one_refused c.args.self.now (shown_as (owned_entry row) c.as_str.result.now) (on_damage fault _ wrong is))))) c.entry.ensures.damaged

@@ -1,11 +1,18 @@
+use Rattle.std.proofs.Common.{[], ◌∷◌, subst}
 use Rattle.std.proofs.lemmas.Result.{on_ok_weaker}
+use Rattle.dict_records.specs.Records.{shown_as}
 use Rattle.dict_records.specs.Typed.{owned_entry}
+use Rattle.dict_scans.specs.Entries.{AreTaken, AreNotTaken}
 use Rattle.dict_scans.specs.Takers.{EntryRow}
 use Rattle.dict_scans.proofs.TakerLemmas.{if_err_then, on_damage, one_refused, entries_next, entries_refused}
 use Rattle.dict_scans.proofs.takers.ReaderTakerStoredEntryString.take.Goals as goal
 
 pub returns-clause-taken : goal.returns-clause-taken
-returns-clause-taken c = on_ok_weaker c.entry.result (λ more first given h. entries_next (λ (row : EntryRow). owned_entry row.value) first given c.args.next c.args.self.now h c.entry.new.self more) c.entry.ensures.taken
+returns-clause-taken c =
+    on_ok_weaker c.entry.result (λ more first given h. entries_next (λ (row : EntryRow). owned_entry row.value) first given c.args.next c.args.self.now h c.entry.new.self
+    (subst (λ shown. AreTaken c.args.self.now c.entry.new.self (shown_as (owned_entry c.args.next.value) shown ∷ [])) c.as_str.ensures.value more)) c.entry.ensures.taken
 
 pub returns-clause-refused : goal.returns-clause-refused
-returns-clause-refused c = if_err_then _ _ c.entry.result (λ fault wrong e first given h. entries_refused (λ (row : EntryRow). owned_entry row.value) first given c.args.next c.args.self.now h (one_refused c.args.self.now (owned_entry c.args.next.value) (on_damage fault _ wrong e))) c.entry.ensures.damaged
+returns-clause-refused c =
+    if_err_then _ _ c.entry.result (λ fault wrong e first given h. entries_refused (λ (row : EntryRow). owned_entry row.value) first given c.args.next c.args.self.now h
+    (subst (λ shown. AreNotTaken c.args.self.now (shown_as (owned_entry c.args.next.value) shown ∷ [])) c.as_str.ensures.value (one_refused c.args.self.now (shown_as (owned_entry c.args.next.value) c.as_str.result.now) (on_damage fault _ wrong e)))) c.entry.ensures.damaged
