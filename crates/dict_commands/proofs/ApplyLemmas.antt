@@ -21,23 +21,39 @@ use Rattle.dict_catalogue.specs.declared.fault.Refusal.{Refusal}
 use Rattle.dict_catalogue.proofs.SummaryLemmas.{refusal_of_as, effect_with, reply_to_as}
 use Rattle.dict_desk.specs.declared.fault.Fault.{Fault}
 use Rattle.dict_desk.specs.declared.fault.Fault.TheVariants.{Refused, Memory, Disk, Closed, NotACatalogue, Damaged, NewerSchema}
-use Rattle.dict_rows.specs.After.{tables_after}
+use Rattle.dict_rows.specs.After.{Change, IsChange as IsAChange, tables_after}
 use Rattle.dict_rows.proofs.ChangeLemmas.{after_stands}
-use Rattle.dict_rows.specs.Versions.{known}
+use Rattle.dict_rows.specs.Versions.{known, layout_of}
+use Rattle.dict_derived.specs.AllTables.{AllTables, with_derived, all_after}
+use Rattle.dict_derived.proofs.AfterLemmas.{derived_after_is}
+use Rattle.dict_file.specs.Readings.{KeepsAll}
 use Rattle.dict_file.specs.Faults.{IsUnread}
 use Rattle.dict_file.specs.Holds.{Holds, Rests, IsLeftAs}
 use Rattle.dict_file.specs.Writing.{FailsToEnd}
-use Rattle.dict_commands.specs.Kept.{Turns}
+use Rattle.dict_commands.specs.Kept.{SparesOthers, Turns}
 use Rattle.dict_commands.specs.Changes.{change_by}
 use Rattle.dict_commands.specs.Decided.{IsDeclined, LiesWithin}
-use Rattle.dict_commands.specs.Committed.{IsCommitted, IsTreesOf, Stays, IsOfStore}
+use Rattle.dict_commands.specs.Committed.{IsCommitted, IsTreesOf, Stays, IsOfStore, FailsToCommit}
 use Rattle.dict_commands.specs.Answers.{Answers, HoldsBy, summary_after, IsOfShut, HoldsAfter, IsPlanned, FailsToAct, FailsToApply}
 use Rattle.dict_commands.specs.Statements.{statements_of}
 use Rattle.dict_sql.specs.Statements.{Statement}
 use Rattle.dict_commands.specs.declared.applied.Applied.{Applied}
 use Rattle.dict_commands.specs.declared.applied.Applied.TheVariants.{Before, Now}
 use Rattle.dict_commands.proofs.DecideLemmas.{change_is}
-use Rattle.dict_file.proofs.ReadingLemmas.{plain_kept, kept_plain}
+
+-- ---- what a command makes of all records
+
+pub command_applied : (change : Change) (M : Catalogue) (id : List ℕ) (command : Command Edition) (old new : Database) → Turns (all_after known change) old new → Holds known old M → IsLawfulCommand command → IsTrue (is_request_id id) → kept_under M.kept id ≡ None → refusal_of (holdings M) command ≡ None
+    → IsAChange M id command change → Holds known new (with_effect M id command)
+command_applied change M id command old new turns h lawful named free allowed is =
+    let after = (turns (with_derived h.tables) (record { own = h.own; keeps = h.keeps })).0 in
+    record {
+      own = after.own;
+      tables = tables_after known change h.tables;
+      keeps = subst (KeepsAll (layout_of known) new) (sym (derived_after_is known change h.tables)) after.keeps;
+      shown = tt;
+      stands = after_stands known h.tables M id command change h.stands lawful named free allowed is;
+    }
 
 -- ---- the cases of a step
 
@@ -121,20 +137,15 @@ module _ (M : Catalogue) (id : List ℕ) (command : typed.Command) (planned : Pl
   acted : step M id (command_meant command) ≡ record { reply = accepted (reply_to (command_meant command) (effect (command_meant command) (holdings M))); catalogue = with_effect M id (command_meant command) }
   acted = accepted_step M id (command_meant command) lawful new none_refused
 
-  pub holds_after : (old db : Database) → Holds known old M → Turns (tables_after known (change_by id command planned)) old db → Holds known db (step M id (command_meant command)).catalogue
+  pub holds_after : (old db : Database) → Holds known old M → Turns (all_after known (change_by id command planned)) old db → Holds known db (step M id (command_meant command)).catalogue
   holds_after old db h turns =
-      let it = turns h.tables (record { own = h.own; keeps = plain_kept old h.tables h.keeps }) in
-      subst (λ (o : Outcome). Holds known db o.catalogue) (sym acted) (record {
-        own = it.own;
-        tables = tables_after known (change_by id command planned) h.tables;
-        keeps = kept_plain db (tables_after known (change_by id command planned) h.tables) it.keeps;
-        stands = after_stands known h.tables M id (command_meant command) (change_by id command planned) h.stands allowed lawful new none_refused (change_is M id command planned planned_here.1 lies);
-      })
+      subst (λ (o : Outcome). Holds known db o.catalogue) (sym acted)
+      (command_applied (change_by id command planned) M id (command_meant command) old db turns h allowed lawful new none_refused (change_is M id command planned planned_here.1 lies))
 
-  pub left_after : (old : State) (trees : Trees) → Rests known old M → IsTreesOf (Turns (tables_after known (change_by id command planned)) old.now) trees → IsLeftAs known (step M id (command_meant command)).catalogue trees
+  pub left_after : (old : State) (trees : Trees) → Rests known old M → IsTreesOf (Turns (all_after known (change_by id command planned)) old.now) trees → IsLeftAs known (step M id (command_meant command)).catalogue trees
   left_after old trees rests it = (it.0, it.1, it.2, holds_after old.now it.0 (holds_now old M rests) it.3)
 
-  pub acted_answers : (old now : State) → Rests known old M → IsCommitted (Turns (tables_after known (change_by id command planned)) old.now) now
+  pub acted_answers : (old now : State) → Rests known old M → IsCommitted (Turns (all_after known (change_by id command planned)) old.now) now
       → Answers now M id (step M id (command_meant command)) (Rattle.std.proofs.Common.Ok (Now planned.kept planned.summary))
   acted_answers old now rests done = (
     new,
@@ -143,6 +154,17 @@ module _ (M : Catalogue) (id : List ℕ) (command : typed.Command) (planned : Pl
     record { is_open = done.is_open; settled = done.settled; holds = holds_after old.now now.committed (holds_now old M rests) done.holds },
     λ trees left. left_after old trees rests (done.only trees left),
   )
+
+-- ---- tables that are none of the product's
+
+pub others_spared : (summary : Holdings (List ℕ)) (old : State) (f : AllTables → AllTables) → HoldsBy summary old → HasCleanDisk old → IsTrue old.is_open → (db : Database) → Turns f old.now db → SparesOthers old.now db
+others_spared summary old f holds clean live db turns =
+    let it = holds clean live in
+    let held = holds_now old it.0 it.1 in
+    (turns (with_derived held.tables) (record { own = held.own; keeps = held.keeps })).1
+
+pub others_committed : (summary : Holdings (List ℕ)) (old new : State) (f : AllTables → AllTables) → HoldsBy summary old → HasCleanDisk old → IsTrue old.is_open → IsCommitted (Turns f old.now) new → SparesOthers old.now new.now
+others_committed summary old new f holds clean live done = subst (λ db. SparesOthers old.now db) (sym done.settled) (others_spared summary old f holds clean live new.committed done.holds)
 
 -- ---- what the next command needs
 
@@ -181,12 +203,18 @@ module _ {S : Type 0} (g : Ghosts S) where
   ends_weaker statements P Q old new fault wider (inl h) = inl h
   ends_weaker statements P Q old new fault wider (inr h) = inr (record { told = h.told; last = h.last; ran = h.ran; before = h.before; written = wider (state g h.last).now h.written; error = h.error; fails = h.fails })
 
+  -- what was planned is not committed
+  pub commit_fails : (summary : Holdings (List ℕ)) (id : List ℕ) (command : Command Edition) (change : Change) → (old : Held S) → IsPlanned summary (state g old) id command change → (P Q : Database → Type 0) → (new : Held S) → (fault : Fault) → ((db : Database) → P db → Q db)
+      → FailsToCommit g change P old new fault → ((fault ≡ Memory) × (new ≡ old)) ⊎ FailsToAct g summary id command Q old new fault
+  commit_fails summary id command change old planned P Q new fault wider (inl h) = inl h
+  commit_fails summary id command change old planned P Q new fault wider (inr h) = inr (change, planned, (h.0, h.1, ends_weaker (statements_of known change h.0) P Q old new fault wider h.2))
+
   -- a command that is new fails after the id was looked up
   pub new_fails : (summary : Holdings (List ℕ)) (id : List ℕ) (command : Command Edition) (P : Database → Type 0) (old mid new : Held S) → IsUnchanged (state g old) (state g mid) → Survives (state g old) (state g mid) (λ _. ⊥)
       → ((db : Database) → P db → HoldsAfter summary (state g old) id command db) → (fault : Fault) → ((fault ≡ Memory) × (new ≡ mid)) ⊎ FailsToAct g summary id command P mid new fault → FailsToApply g summary id command old new fault
   new_fails summary id command P old mid new same survives wider fault (inl h) = inl (inl (subst (λ k. IsUnchanged (state g old) (state g k)) (sym h.1) same, subst (IsUnread (state g old)) (sym h.0) tt))
   new_fails summary id command P old mid new same survives wider fault (inr h) =
-      inr (mid, same, survives, (h.0, h.1, ends_weaker (statements_of known h.0) P (HoldsAfter summary (state g old) id command) mid new fault wider h.2))
+      inr (mid, same, survives, (h.0, h.1, (h.2.0, h.2.1, ends_weaker (statements_of known h.0 h.2.0) P (HoldsAfter summary (state g old) id command) mid new fault wider h.2.2)))
 
 -- what is written of a command that was planned
 pub is_planned : (id : List ℕ) (command : typed.Command) (planned : Planned) (summary : Holdings (List ℕ)) → IsChange summary (command_shown command) planned → LiesWithin command → (old : State) → IsPlanned summary old id (command_meant command) (change_by id command planned)

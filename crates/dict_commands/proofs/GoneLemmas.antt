@@ -1,27 +1,32 @@
--- Editions that are taken out by their numbers.
-use Rattle.std.proofs.Common.{◌≡◌, ℕ, ◌+◌, ◌<◌, ◌&&◌, ◌||◌, ℤ, pos, Bool, true, false, List, [], ◌∷◌, ◌++◌, length, take, get_or, codes, filter, not, refl, sym, ap, subst, ◌∙◌, arith}
+-- Editions that are taken out by their numbers, with what is derived of their entries.
+use Rattle.std.proofs.Common.{◌≡◌, ℕ, ◌+◌, ◌<◌, ◌&&◌, ◌||◌, ℤ, pos, Bool, true, false, List, [], ◌∷◌, ◌++◌, length, take, get_or, codes, filter, not, refl, sym, ap, subst, ◌∙◌, arith, append-nil}
+use Rattle.std.specs.Prelude.{flat_map}
+use Rattle.std.proofs.lemmas.Grind.{flat_map-append}
 use Rattle.std.proofs.lemmas.Int.{to_z_pos}
 use Rattle.std.proofs.lemmas.List.{take_more}
 use Rattle.std.proofs.lemmas.List.Folds.{list_any-append}
 use mir.Syntax.{w64}
 use mir.Val.{to_z}
 use Rattle.sqlite.specs.Effect.{Database}
-use Rattle.dict_sql.specs.Effects.{IsRemoved, equals_number}
-use Rattle.dict_sql.specs.Encodings.{edition_row, entry_row}
-use Rattle.dict_records.specs.Records.{Edition, Entry}
-use Rattle.dict_rows.specs.Tables.{Tables, same_number}
+use Rattle.sqlite.specs.Order.{Row, column}
+use Rattle.sqlite.specs.declared.types.Value.{Value}
+use Rattle.sqlite.specs.declared.types.Value.TheVariants.{Int}
+use Rattle.dict_sql.specs.Effects.{IsRemoved, equals_number, same_value}
+use Rattle.dict_sql.specs.Encodings.{edition_row}
+use Rattle.dict_sql.specs.Keyed.{keyed_entry_row, piece_row}
+use Rattle.dict_records.specs.Records.{Edition}
+use Rattle.dict_records.specs.Keyed.{Piece}
+use Rattle.dict_rows.specs.Tables.{same_number}
 use Rattle.dict_rows.specs.After.{is_gone}
 use Rattle.dict_rows.proofs.PartLemmas.{filter_filter, filter_alike}
+use Rattle.dict_derived.specs.Entries.{Filed}
+use Rattle.dict_derived.specs.AllTables.{AllTables, without_editions}
 use Rattle.dict_file.specs.Holds.{Keeps}
-use Rattle.std.specs.Prelude.{flat_map}
-use Rattle.std.proofs.Common.{append-nil}
-use Rattle.std.proofs.lemmas.Grind.{flat_map-append}
+use Rattle.dict_commands.specs.Kept.{HasRecords, IsStorable, Turns}
 use Rattle.dict_commands.specs.Statements.{taking}
 use Rattle.dict_commands.proofs.LoopLemmas.{Grows}
-use Rattle.dict_commands.specs.Kept.{HasRecords, IsStorable}
-use Rattle.dict_commands.specs.Changes.{without_editions}
 use Rattle.dict_commands.proofs.RowLemmas.{keeps_removed, next_column, compared_values}
-use Rattle.dict_commands.proofs.TableLemmas.{editions_turned, entries_turned}
+use Rattle.dict_commands.proofs.TableLemmas.{editions_turned, entries_turned, words_turned, grams_turned, editions_kept, entries_kept, words_kept, grams_kept}
 
 -- a number that can be held is handed on as it is
 pub handed : (n : ℕ) → IsStorable n → to_z w64 n ≡ pos n
@@ -35,22 +40,39 @@ neither : (a b : Bool) → (not a && not b) ≡ not (a || b)
 neither true b = refl
 neither false b = refl
 
-one_gone : (n : ℕ) (z : ℤ) → not (equals_number 0 (pos n) (Rattle.sqlite.specs.declared.types.Value.TheVariants.Int z ∷ [])) ≡ not (is_gone (n ∷ []) z)
+one_gone : (n : ℕ) (z : ℤ) → not (same_value (Int z) (Int (pos n))) ≡ not (is_gone (n ∷ []) z)
 one_gone n z = ap not (compared_values (pos n) z ∙ sym (or_none (same_number (pos n) z)))
 
-pub edition_gone : (old new : Database) (n : ℕ) → IsRemoved (codes "edition") (equals_number 1 (pos n)) old new → (tables : Tables) → HasRecords old tables
-    → HasRecords new (record tables { editions = filter (λ row. not (is_gone (n ∷ []) row.number)) tables.editions })
-edition_gone old new n gone tables it =
-    let same = filter_alike (λ (r : Edition). not (equals_number 0 (pos n) (edition_row r))) (λ (r : Edition). not (is_gone (n ∷ []) r.number)) (λ r. one_gone n r.number) tables.editions in
-    editions_turned old new tables it gone.schema (filter (λ row. not (is_gone (n ∷ []) row.number)) tables.editions) gone.others
-    (subst (λ l. Keeps (codes "edition") edition_row new l) same (keeps_removed (codes "edition") edition_row old new tables.editions (equals_number 1 (pos n)) (equals_number 0 (pos n)) (next_column 0 (pos n)) gone it.keeps.editions))
+-- ---- the records of one number, from a table whose first column it is
 
-pub entries_gone : (old new : Database) (n : ℕ) → IsRemoved (codes "entry") (equals_number 1 (pos n)) old new → (tables : Tables) → HasRecords old tables
-    → HasRecords new (record tables { entries = filter (λ row. not (is_gone (n ∷ []) row.edition)) tables.entries })
-entries_gone old new n gone tables it =
-    let same = filter_alike (λ (r : Entry). not (equals_number 0 (pos n) (entry_row r))) (λ (r : Entry). not (is_gone (n ∷ []) r.edition)) (λ r. one_gone n r.edition) tables.entries in
-    entries_turned old new tables it gone.schema (filter (λ row. not (is_gone (n ∷ []) row.edition)) tables.entries) gone.others
-    (subst (λ l. Keeps (codes "entry") entry_row new l) same (keeps_removed (codes "entry") entry_row old new tables.entries (equals_number 1 (pos n)) (equals_number 0 (pos n)) (next_column 0 (pos n)) gone it.keeps.entries))
+module _ {R : Type 0} (name : List ℕ) (encode : R → Row) (number : R → ℤ) (first : (r : R) → column (encode r) 0 ≡ Int (number r)) where
+  tested : (n : ℕ) (r : R) → not (equals_number 0 (pos n) (encode r)) ≡ not (is_gone (n ∷ []) (number r))
+  tested n r = ap (λ (v : Value). not (same_value v (Int (pos n)))) (first r) ∙ one_gone n (number r)
+
+  keeps_gone : (old new : Database) (n : ℕ) (records : List R) → IsRemoved name (equals_number 1 (pos n)) old new → Keeps name encode old records → Keeps name encode new (filter (λ r. not (is_gone (n ∷ []) (number r))) records)
+  keeps_gone old new n records gone k =
+      subst (λ l. Keeps name encode new l) (filter_alike (λ r. not (equals_number 0 (pos n) (encode r))) (λ r. not (is_gone (n ∷ []) (number r))) (tested n) records)
+      (keeps_removed name encode old new records (equals_number 1 (pos n)) (equals_number 0 (pos n)) (next_column 0 (pos n)) gone k)
+
+pub editions_gone : (n : ℕ) (old new : Database) → IsRemoved (codes "edition") (equals_number 1 (pos n)) old new → Turns (λ all. record all { editions = filter (λ row. not (is_gone (n ∷ []) row.number)) all.editions }) old new
+editions_gone n old new gone = λ all it.
+    editions_turned old new all it gone.schema (filter (λ row. not (is_gone (n ∷ []) row.number)) all.editions) gone.others
+    (keeps_gone (codes "edition") edition_row (λ (r : Edition). r.number) (λ r. refl) old new n all.editions gone (editions_kept old all it))
+
+pub entries_gone : (n : ℕ) (old new : Database) → IsRemoved (codes "entry") (equals_number 1 (pos n)) old new → Turns (λ all. record all { entries = filter (λ row. not (is_gone (n ∷ []) row.edition)) all.entries }) old new
+entries_gone n old new gone = λ all it.
+    entries_turned old new all it gone.schema (filter (λ row. not (is_gone (n ∷ []) row.edition)) all.entries) gone.others
+    (keeps_gone (codes "entry") keyed_entry_row (λ (r : Filed). r.edition) (λ r. refl) old new n all.entries gone (entries_kept old all it))
+
+pub words_gone : (n : ℕ) (old new : Database) → IsRemoved (codes "word") (equals_number 1 (pos n)) old new → Turns (λ all. record all { words = filter (λ row. not (is_gone (n ∷ []) row.edition)) all.words }) old new
+words_gone n old new gone = λ all it.
+    words_turned old new all it gone.schema (filter (λ row. not (is_gone (n ∷ []) row.edition)) all.words) gone.others
+    (keeps_gone (codes "word") piece_row (λ (r : Piece). r.edition) (λ r. refl) old new n all.words gone (words_kept old all it))
+
+pub grams_gone : (n : ℕ) (old new : Database) → IsRemoved (codes "gram") (equals_number 1 (pos n)) old new → Turns (λ all. record all { grams = filter (λ row. not (is_gone (n ∷ []) row.edition)) all.grams }) old new
+grams_gone n old new gone = λ all it.
+    grams_turned old new all it gone.schema (filter (λ row. not (is_gone (n ∷ []) row.edition)) all.grams) gone.others
+    (keeps_gone (codes "gram") piece_row (λ (r : Piece). r.edition) (λ r. refl) old new n all.grams gone (grams_kept old all it))
 
 -- ---- one number after another
 
@@ -61,22 +83,33 @@ all_stay : {X : Type 0} (xs : List X) → filter (λ (x : X). not false) xs ≡ 
 all_stay [] = refl
 all_stay (x ∷ xs) = ap (λ l. x ∷ l) (all_stay xs)
 
-pub none_gone : (db : Database) (tables : Tables) → HasRecords db tables → HasRecords db (without_editions [] tables)
-none_gone db tables it = subst (λ (t : Tables). HasRecords db t) (λ i. record tables { editions = sym (all_stay tables.editions) i; entries = sym (all_stay tables.entries) i }) it
+pub none_gone : (db : Database) (all : AllTables) → HasRecords db all → HasRecords db (without_editions [] all)
+none_gone db all it = subst (λ (t : AllTables). HasRecords db t) (λ i. record all {
+  editions = sym (all_stay all.editions) i;
+  entries = sym (all_stay all.entries) i;
+  words = sym (all_stay all.words) i;
+  grams = sym (all_stay all.grams) i;
+}) it
 
-pub next_gone : (db : Database) (gone : List ℕ) (i : ℕ) → i < length gone → (tables : Tables) → HasRecords db (without_editions (get_or gone i 0 ∷ []) (without_editions (take i gone) tables)) → HasRecords db (without_editions (take (i + 1) gone) tables)
-next_gone db gone i lt tables it =
+module _ {R : Type 0} (some : List ℕ) (n : ℕ) (number : R → ℤ) where
+  both_gone : (rows : List R) → filter (λ row. not (is_gone (n ∷ []) (number row))) (filter (λ row. not (is_gone some (number row))) rows) ≡ filter (λ row. not (is_gone (some ++ n ∷ []) (number row))) rows
+  both_gone rows = filter_filter (λ row. not (is_gone (n ∷ []) (number row))) (λ row. not (is_gone some (number row))) (λ row. not (is_gone (some ++ n ∷ []) (number row))) (λ row. gone_more some n (number row)) rows
+
+pub next_gone : (db : Database) (gone : List ℕ) (i : ℕ) → i < length gone → (all : AllTables) → HasRecords db (without_editions (get_or gone i 0 ∷ []) (without_editions (take i gone) all)) → HasRecords db (without_editions (take (i + 1) gone) all)
+next_gone db gone i lt all it =
     let n : ℕ = get_or gone i 0 in
     let some : List ℕ = take i gone in
-    let more : HasRecords db (without_editions (some ++ n ∷ []) tables) = subst (λ (t : Tables). HasRecords db t) (λ k. record tables {
-      editions = filter_filter (λ (row : Edition). not (is_gone (n ∷ []) row.number)) (λ (row : Edition). not (is_gone some row.number)) (λ (row : Edition). not (is_gone (some ++ n ∷ []) row.number)) (λ row. gone_more some n row.number) tables.editions k;
-      entries = filter_filter (λ (row : Entry). not (is_gone (n ∷ []) row.edition)) (λ (row : Entry). not (is_gone some row.edition)) (λ (row : Entry). not (is_gone (some ++ n ∷ []) row.edition)) (λ row. gone_more some n row.edition) tables.entries k;
+    let more : HasRecords db (without_editions (some ++ n ∷ []) all) = subst (λ (t : AllTables). HasRecords db t) (λ k. record all {
+      editions = both_gone some n (λ (row : Edition). row.number) all.editions k;
+      entries = both_gone some n (λ (row : Filed). row.edition) all.entries k;
+      words = both_gone some n (λ (row : Piece). row.edition) all.words k;
+      grams = both_gone some n (λ (row : Piece). row.edition) all.grams k;
     }) it in
-    subst (λ l. HasRecords db (without_editions l tables)) (sym (take_more gone i 0 lt)) more
+    subst (λ l. HasRecords db (without_editions l all)) (sym (take_more gone i 0 lt)) more
 
 -- the statements that take them out
-pub taken_run : (gone : List ℕ) (i : ℕ) → i < length gone → flat_map taking (take i gone) ++ taking (get_or gone i 0) ≡ flat_map taking (take (i + 1) gone)
-taken_run gone i lt = sym (ap (flat_map taking) (take_more gone i 0 lt) ∙ flat_map-append taking (take i gone) (get_or gone i 0 ∷ []) ∙ ap (λ l. flat_map taking (take i gone) ++ l) (append-nil (taking (get_or gone i 0))))
+pub taken_next : (gone : List ℕ) (i : ℕ) → i < length gone → flat_map taking (take i gone) ++ taking (get_or gone i 0) ≡ flat_map taking (take (i + 1) gone)
+taken_next gone i lt = sym (ap (flat_map taking) (take_more gone i 0 lt) ∙ flat_map-append taking (take i gone) (get_or gone i 0 ∷ []) ∙ ap (λ l. flat_map taking (take i gone) ++ l) (append-nil (taking (get_or gone i 0))))
 
 pub taken_grows : Grows (flat_map taking)
 taken_grows front back = (flat_map taking back, flat_map-append taking front back)

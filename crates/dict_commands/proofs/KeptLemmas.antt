@@ -28,7 +28,24 @@ use Rattle.dict_rows.proofs.OnceLemmas.{kept_same}
 use Rattle.dict_file.specs.Holds.{Holds, Keeps}
 use Rattle.dict_commands.proofs.RowLemmas.{filter_map}
 use Rattle.dict_file.proofs.ReadingLemmas.{replies_kept}
-use Rattle.dict_rows.specs.Versions.{layout_of}
+use Rattle.dict_rows.specs.Versions.{known, layout_of}
+use Rattle.std.specs.Prelude.{Result, IfErr, IsErrAnd}
+use Rattle.std.specs.List.{AllByRecursion, Contains}
+use Rattle.std.proofs.lemmas.List.Elements.{All-from_recursion}
+use Rattle.sqlite.specs.State.{State, IsUnchanged}
+use Rattle.sqlite.specs.declared.error.Error.{Error}
+use Rattle.dict_text.proofs.AllLemmas.{all_filter}
+use Rattle.dict_sql.specs.Columns.{HasColumns, kept_columns}
+use Rattle.dict_sql.specs.Reads.{FailsToRead, FailsToList}
+use Rattle.dict_sql.specs.declared.records.ReadError.{ReadError}
+use Rattle.dict_sql.specs.declared.records.ReadError.TheVariants.{NoRecord, Store}
+use Rattle.dict_sql.proofs.StreamLemmas.{passed_on}
+use Rattle.dict_desk.specs.declared.fault.Fault.{Fault}
+use Rattle.dict_desk.specs.declared.fault.Fault.TheVariants.{Memory}
+use Rattle.dict_file.specs.Faults.{fault_of, fault_of_read}
+use Rattle.dict_file.proofs.FailLemmas.{list_fails}
+use Rattle.dict_file.proofs.ReadableLemmas.{held_replies}
+use Rattle.dict_file.specs.Faults.{IsUnread, FailsToLookUp}
 
 abbrev ReadKept : Type 0
 ReadKept = Stored (typed.Kept (String Global))
@@ -183,3 +200,9 @@ pub none_of : {X : Type 0} (parts : Option X) (row : typed.Kept (String Global))
 none_of (Some x) row apart none one e = apart x refl
 none_of None row apart none one e =
     none one.reply.number one.reply.verb one.reply.edition (ap (λ (k : Kept). k.number) e) (ap (λ (k : Kept). k.verb) e) (ap (λ (k : Kept). k.edition) e)
+
+-- ---- why it isn't read
+
+-- in a catalogue each row of a reply stands for a record
+pub replies_fail : (test : Row → Bool) (old new : State) (e : ReadError) → FailsToList kept_columns (filter test (rows_of (codes "kept") old.now)) old new e → FailsToLookUp old new (fault_of_read e)
+replies_fail test old new e h = list_fails (codes "kept") test kept_columns old new (λ M holds. held_replies known old.now M holds) e h

@@ -52,12 +52,6 @@ keeps_cleared name encode old new gone =
       apart = subst HasApartRowids (sym empty) apart_none;
     }
 
-pub keeps_same : {R : Type 0} (name : List ℕ) (encode : R → Row) (old new : Database) (records : List R) → rows_of name new ≡ rows_of name old → Keeps name encode old records → Keeps name encode new records
-keeps_same name encode old new records same k = record {
-  rows = subst (λ l. IsPermutation (map encode records) (map (drop 1) l)) (sym same) k.rows;
-  apart = subst HasApartRowids (sym same) k.apart;
-}
-
 -- ---- numbers are compared as they are in records
 
 equal_by : (o : Ordering) → is_eq o ≡ true → o ≡ Equal

@@ -1,192 +1,287 @@
 -- What a statement on one table makes of the records of all.
-use Rattle.std.proofs.Common.{◌≡◌, ◌≢◌, ℕ, List, [], ◌∷◌, ◌++◌, codes, true, false, bytes_eq, refl, sym, subst, ◌∙◌}
+use Rattle.std.proofs.Common.{◌≡◌, ◌≢◌, ◌⊎◌, inl, inr, ℕ, List, [], ◌∷◌, ◌++◌, codes, map, drop, true, false, bytes_eq, Some, refl, sym, subst, ◌∙◌}
 use Rattle.std.specs.List.{AllByRecursion}
+use Rattle.std.specs.List.Sorted.{IsPermutation}
+use Rattle.std.proofs.lemmas.List.Sorted.{IsPermutation-map, IsPermutation-refl, IsPermutation-sym, IsPermutation-trans}
 use Rattle.std.proofs.lemmas.Bool.{false≢true}
 use Rattle.std.proofs.lemmas.Slice.Eq.{bytes_eq-Decides}
 use Rattle.sqlite.specs.Effect.{Database}
-use Rattle.sqlite.specs.Order.{Row}
+use Rattle.sqlite.specs.Table.{Table}
 use Rattle.sqlite.specs.Schema.{Schema}
-use Rattle.dict_tables.specs.Found.{HasOwn}
-use Rattle.dict_tables.specs.Tables.{table_of}
-use Rattle.dict_tables.specs.declared.tables.StoreTable.{StoreTable}
-use Rattle.dict_tables.specs.declared.tables.StoreTable.TheVariants as table
-use Rattle.dict_sql.specs.Effects.{Has, HasApartRowids, IsAdded, IsRemoved, SameOthers, rows_of}
+use Rattle.sqlite_schema.specs.Names.{table_named}
+use Rattle.dict_text.proofs.AllLemmas.{all_weaker}
+use Rattle.dict_tables.specs.Found.{HasOwn, found_table}
+use Rattle.dict_tables.specs.Tables.{mark, item, member, edition, kept}
+use Rattle.dict_tables.specs.Keyed as keyed
+use Rattle.dict_sql.specs.Effects.{Has, HasApartRowids, IsAdded, IsRemoved, SameOthers, rows_of, table_in}
 use Rattle.dict_sql.specs.Deletes.{HasToRemove}
-use Rattle.dict_sql.specs.Encodings.{mark_row, item_row, member_row, edition_row, entry_row, kept_row}
+use Rattle.dict_sql.specs.Encodings.{mark_row, item_row, member_row, edition_row, kept_row}
+use Rattle.dict_sql.specs.Keyed.{keyed_entry_row, piece_row}
 use Rattle.dict_sql.proofs.Callers.{own_has}
-use Rattle.dict_records.specs.Records.{Mark, Item, Member, Edition, Entry, Kept}
-use Rattle.dict_rows.specs.Versions.{known, layout_of}
-use Rattle.dict_rows.specs.Tables.{Tables}
+use Rattle.dict_records.specs.Records.{Mark, Item, Member, Edition, Kept}
+use Rattle.dict_records.specs.Keyed.{Piece}
+use Rattle.dict_rows.specs.Versions.{Shown}
+use Rattle.dict_derived.specs.Entries.{Filed}
+use Rattle.dict_derived.specs.AllTables.{AllTables}
+use Rattle.dict_file.specs.Readings.{Reading, name_of, readings, KeepsRows}
 use Rattle.dict_file.specs.Holds.{Keeps, HasLayout}
 use Rattle.dict_file.proofs.KeepLemmas.{unmoved, keeps_added}
-use Rattle.dict_commands.specs.Kept.{HasRecords, IsUsable}
-use Rattle.dict_commands.specs.Changes.{cleared}
-use Rattle.dict_commands.proofs.RowLemmas.{keeps_same, keeps_cleared}
+use Rattle.dict_commands.specs.Kept.{HasRecords, IsUsable, IsOther, SparesOthers, Turns}
+use Rattle.dict_commands.specs.Changes.{without_items, without_members, with_more_items, with_more_members, with_more_editions, with_more_entries, with_more_words, with_more_grams}
+use Rattle.dict_commands.proofs.RowLemmas.{keeps_cleared}
 
 abbrev AreOwn : Schema → Type 0
-AreOwn s = HasLayout (layout_of known) s
-
-abbrev name : StoreTable → List ℕ
-name t = (table_of t 0).name
-
-named : (t : StoreTable) (tree : ℕ) → (table_of t tree).name ≡ name t
-named table.Mark tree = refl
-named table.Item tree = refl
-named table.Member tree = refl
-named table.Edition tree = refl
-named table.Entry tree = refl
-named table.Kept tree = refl
-
-treed : (t : StoreTable) (tree : ℕ) → (table_of t tree).tree ≡ tree
-treed table.Mark tree = refl
-treed table.Item tree = refl
-treed table.Member tree = refl
-treed table.Edition tree = refl
-treed table.Entry tree = refl
-treed table.Kept tree = refl
-
-pub own_of : (t : StoreTable) (s : Schema) → AreOwn s → HasOwn s (table_of t)
-own_of table.Mark s own = own.tables.0
-own_of table.Item s own = own.tables.1.0
-own_of table.Member s own = own.tables.1.1.0
-own_of table.Edition s own = own.tables.1.1.1.0
-own_of table.Entry s own = own.tables.1.1.1.1.0
-own_of table.Kept s own = own.tables.1.1.1.1.1.0
-
--- ---- the statements can use the tables
-
-pub usable_has : (t : StoreTable) (db : Database) → IsUsable db → Has (table_of t) db
-usable_has t db it = own_has (table_of t) db (own_of t db.schema it.1.own)
-
-apart_of : (t : StoreTable) (db : Database) (tables : Tables) → HasRecords db tables → HasApartRowids (rows_of (name t) db)
-apart_of table.Mark db tables it = it.keeps.marks.apart
-apart_of table.Item db tables it = it.keeps.items.apart
-apart_of table.Member db tables it = it.keeps.members.apart
-apart_of table.Edition db tables it = it.keeps.editions.apart
-apart_of table.Entry db tables it = it.keeps.entries.apart
-apart_of table.Kept db tables it = it.keeps.kept.apart
-
-pub usable_to_remove : (t : StoreTable) (db : Database) → IsUsable db → HasToRemove (table_of t) db
-usable_to_remove t db it = record { has = usable_has t db it; apart = apart_of t db it.0 it.1 }
-
--- ---- the other tables stay
+AreOwn s = HasLayout Shown s
 
 names_apart : (a b : List ℕ) → bytes_eq a b ≡ false → a ≢ b
 names_apart a b apart same = false≢true (sym apart ∙ (bytes_eq-Decides a b).1 same)
 
-module _ (old new : Database) (tables : Tables) (it : HasRecords old tables) (same : new.schema ≡ old.schema) where
+-- ---- one table has changed, and the others stay
+
+-- the reading is of another table than the one of this name, which is to have what it had
+record IsAnother (name : List ℕ) (all turned : AllTables) (q : Reading) : Type 0 where
+  apart : bytes_eq name (name_of q) ≡ false
+  named : (tree : ℕ) → (q.table tree).name ≡ name_of q
+  same : q.rows turned ≡ q.rows all
+
+module _ (a : ℕ → Table) (name : List ℕ) (old new : Database) (all turned : AllTables) (names : (t : ℕ) → (a t).name ≡ name) (trees : (t : ℕ) → (a t).tree ≡ t) (own : HasOwn old.schema a) (schema : new.schema ≡ old.schema) (rest : SameOthers name old new) where
+  -- of each reading: it is of another table, or what it reads was told
+  abbrev IsTurned : Reading → Type 0
+  IsTurned q = IsAnother name all turned q ⊎ KeepsRows q new turned
+
+  one_turned : (q : Reading) → HasOwn old.schema q.table → IsTurned q → KeepsRows q old all → KeepsRows q new turned
+  one_turned q has (inr done) k = done
+  one_turned q has (inl is) k =
+      let same : rows_of (name_of q) new ≡ rows_of (name_of q) old = unmoved name (name_of q) a q.table old new names is.named trees (names_apart name (name_of q) is.apart) own has schema rest in
+      record {
+        rows = subst (λ l. IsPermutation l (map (λ row. drop 1 (q.looked row)) (rows_of (name_of q) new))) (sym is.same)
+            (subst (λ l. IsPermutation (q.rows all) (map (λ row. drop 1 (q.looked row)) l)) (sym same) k.rows);
+        apart = subst HasApartRowids (sym same) k.apart;
+      }
+
+  all_turned : (qs : List Reading) → AllByRecursion (λ q. HasOwn old.schema q.table) qs → AllByRecursion IsTurned qs → AllByRecursion (λ q. KeepsRows q old all) qs → AllByRecursion (λ q. KeepsRows q new turned) qs
+  all_turned [] has are k = tt
+  all_turned (q ∷ qs) has are k = (one_turned q has.0 are.0 k.0, all_turned qs has.1 are.1 k.1)
+
+  there : table_in name old ≡ Some (a own.tree)
+  there =
+      let named : table_named old.schema name ≡ Some own.at = subst (λ n. table_named old.schema n ≡ Some own.at) (names own.tree) own.has.named in
+      rw (named) own.has.is
+
+  spared : ((t : Table) → IsOther old.schema t → (found : Table) → found_table old.schema name ≡ Some found → t.tree ≢ found.tree) → SparesOthers old new
+  spared pick = record {
+    schema = schema;
+    others = all_weaker (λ (t : Table). t.tree ≢ (a own.tree).tree → new.trees t.tree ≡ old.trees t.tree) (λ (t : Table). IsOther old.schema t → new.trees t.tree ≡ old.trees t.tree) (λ t same other. same (pick t other (a own.tree) there)) old.schema.tables (rest (a own.tree) there);
+  }
+
+module _ (old new : Database) (all : AllTables) (it : HasRecords old all) (schema : new.schema ≡ old.schema) where
   owns : AreOwn new.schema
-  owns = subst AreOwn (sym same) it.own
+  owns = subst AreOwn (sym schema) it.own
 
-  keep : (a b : StoreTable) → SameOthers (name a) old new → bytes_eq (name a) (name b) ≡ false → {R : Type 0} (encode : R → Row) (records : List R) → Keeps (name b) encode old records → Keeps (name b) encode new records
-  keep a b rest apart encode records k =
-      keeps_same (name b) encode old new records
-      (unmoved (name a) (name b) (table_of a) (table_of b) old new (named a) (named b) (treed a) (names_apart (name a) (name b) apart) (own_of a old.schema it.own) (own_of b old.schema it.own) same rest) k
+  pub marks_turned : (records : List Mark) → SameOthers (codes "mark") old new → Keeps (codes "mark") mark_row new records → HasRecords new (record all { marks = records }) × SparesOthers old new
+  marks_turned records rest k = (
+    record {
+      own = owns;
+      keeps = all_turned mark (codes "mark") old new all (record all { marks = records }) (λ t. refl) (λ t. refl) it.own.tables.0 schema rest (readings Shown) it.own.tables
+          (inr (record { rows = k.rows; apart = k.apart }), (inl (record { apart = refl; named = λ t. refl; same = refl }), (inl (record { apart = refl; named = λ t. refl; same = refl }), (inl (record { apart = refl; named = λ t. refl; same = refl }), (inl (record { apart = refl; named = λ t. refl; same = refl }), (inl (record { apart = refl; named = λ t. refl; same = refl }), (inl (record { apart = refl; named = λ t. refl; same = refl }), (inl (record { apart = refl; named = λ t. refl; same = refl }), tt)))))))) it.keeps;
+    },
+    spared mark (codes "mark") old new all all (λ t. refl) (λ t. refl) it.own.tables.0 schema rest (λ t other. other.0),
+  )
 
-  pub marks_turned : (records : List Mark) → SameOthers (codes "mark") old new → Keeps (codes "mark") mark_row new records → HasRecords new (record tables { marks = records })
-  marks_turned records rest k = record {
-    own = owns;
-    keeps = record {
-      marks = k;
-      items = keep table.Mark table.Item rest refl item_row tables.items it.keeps.items;
-      members = keep table.Mark table.Member rest refl member_row tables.members it.keeps.members;
-      editions = keep table.Mark table.Edition rest refl edition_row tables.editions it.keeps.editions;
-      entries = keep table.Mark table.Entry rest refl entry_row tables.entries it.keeps.entries;
-      kept = keep table.Mark table.Kept rest refl kept_row tables.kept it.keeps.kept;
-    };
-  }
+  pub items_turned : (records : List Item) → SameOthers (codes "item") old new → Keeps (codes "item") item_row new records → HasRecords new (record all { items = records }) × SparesOthers old new
+  items_turned records rest k = (
+    record {
+      own = owns;
+      keeps = all_turned item (codes "item") old new all (record all { items = records }) (λ t. refl) (λ t. refl) it.own.tables.1.0 schema rest (readings Shown) it.own.tables
+          (inl (record { apart = refl; named = λ t. refl; same = refl }), (inr (record { rows = k.rows; apart = k.apart }), (inl (record { apart = refl; named = λ t. refl; same = refl }), (inl (record { apart = refl; named = λ t. refl; same = refl }), (inl (record { apart = refl; named = λ t. refl; same = refl }), (inl (record { apart = refl; named = λ t. refl; same = refl }), (inl (record { apart = refl; named = λ t. refl; same = refl }), (inl (record { apart = refl; named = λ t. refl; same = refl }), tt)))))))) it.keeps;
+    },
+    spared item (codes "item") old new all all (λ t. refl) (λ t. refl) it.own.tables.1.0 schema rest (λ t other. other.1.0),
+  )
 
-  pub items_turned : (records : List Item) → SameOthers (codes "item") old new → Keeps (codes "item") item_row new records → HasRecords new (record tables { items = records })
-  items_turned records rest k = record {
-    own = owns;
-    keeps = record {
-      marks = keep table.Item table.Mark rest refl mark_row tables.marks it.keeps.marks;
-      items = k;
-      members = keep table.Item table.Member rest refl member_row tables.members it.keeps.members;
-      editions = keep table.Item table.Edition rest refl edition_row tables.editions it.keeps.editions;
-      entries = keep table.Item table.Entry rest refl entry_row tables.entries it.keeps.entries;
-      kept = keep table.Item table.Kept rest refl kept_row tables.kept it.keeps.kept;
-    };
-  }
+  pub members_turned : (records : List Member) → SameOthers (codes "member") old new → Keeps (codes "member") member_row new records → HasRecords new (record all { members = records }) × SparesOthers old new
+  members_turned records rest k = (
+    record {
+      own = owns;
+      keeps = all_turned member (codes "member") old new all (record all { members = records }) (λ t. refl) (λ t. refl) it.own.tables.1.1.0 schema rest (readings Shown) it.own.tables
+          (inl (record { apart = refl; named = λ t. refl; same = refl }), (inl (record { apart = refl; named = λ t. refl; same = refl }), (inr (record { rows = k.rows; apart = k.apart }), (inl (record { apart = refl; named = λ t. refl; same = refl }), (inl (record { apart = refl; named = λ t. refl; same = refl }), (inl (record { apart = refl; named = λ t. refl; same = refl }), (inl (record { apart = refl; named = λ t. refl; same = refl }), (inl (record { apart = refl; named = λ t. refl; same = refl }), tt)))))))) it.keeps;
+    },
+    spared member (codes "member") old new all all (λ t. refl) (λ t. refl) it.own.tables.1.1.0 schema rest (λ t other. other.1.1.0),
+  )
 
-  pub members_turned : (records : List Member) → SameOthers (codes "member") old new → Keeps (codes "member") member_row new records → HasRecords new (record tables { members = records })
-  members_turned records rest k = record {
-    own = owns;
-    keeps = record {
-      marks = keep table.Member table.Mark rest refl mark_row tables.marks it.keeps.marks;
-      items = keep table.Member table.Item rest refl item_row tables.items it.keeps.items;
-      members = k;
-      editions = keep table.Member table.Edition rest refl edition_row tables.editions it.keeps.editions;
-      entries = keep table.Member table.Entry rest refl entry_row tables.entries it.keeps.entries;
-      kept = keep table.Member table.Kept rest refl kept_row tables.kept it.keeps.kept;
-    };
-  }
+  pub editions_turned : (records : List Edition) → SameOthers (codes "edition") old new → Keeps (codes "edition") edition_row new records → HasRecords new (record all { editions = records }) × SparesOthers old new
+  editions_turned records rest k = (
+    record {
+      own = owns;
+      keeps = all_turned edition (codes "edition") old new all (record all { editions = records }) (λ t. refl) (λ t. refl) it.own.tables.1.1.1.0 schema rest (readings Shown) it.own.tables
+          (inl (record { apart = refl; named = λ t. refl; same = refl }), (inl (record { apart = refl; named = λ t. refl; same = refl }), (inl (record { apart = refl; named = λ t. refl; same = refl }), (inr (record { rows = k.rows; apart = k.apart }), (inl (record { apart = refl; named = λ t. refl; same = refl }), (inl (record { apart = refl; named = λ t. refl; same = refl }), (inl (record { apart = refl; named = λ t. refl; same = refl }), (inl (record { apart = refl; named = λ t. refl; same = refl }), tt)))))))) it.keeps;
+    },
+    spared edition (codes "edition") old new all all (λ t. refl) (λ t. refl) it.own.tables.1.1.1.0 schema rest (λ t other. other.1.1.1.0),
+  )
 
-  pub editions_turned : (records : List Edition) → SameOthers (codes "edition") old new → Keeps (codes "edition") edition_row new records → HasRecords new (record tables { editions = records })
-  editions_turned records rest k = record {
-    own = owns;
-    keeps = record {
-      marks = keep table.Edition table.Mark rest refl mark_row tables.marks it.keeps.marks;
-      items = keep table.Edition table.Item rest refl item_row tables.items it.keeps.items;
-      members = keep table.Edition table.Member rest refl member_row tables.members it.keeps.members;
-      editions = k;
-      entries = keep table.Edition table.Entry rest refl entry_row tables.entries it.keeps.entries;
-      kept = keep table.Edition table.Kept rest refl kept_row tables.kept it.keeps.kept;
-    };
-  }
+  pub entries_turned : (records : List Filed) → SameOthers (codes "entry") old new → Keeps (codes "entry") keyed_entry_row new records → HasRecords new (record all { entries = records }) × SparesOthers old new
+  entries_turned records rest k = (
+    record {
+      own = owns;
+      keeps = all_turned keyed.entry (codes "entry") old new all (record all { entries = records }) (λ t. refl) (λ t. refl) it.own.tables.1.1.1.1.0 schema rest (readings Shown) it.own.tables
+          (inl (record { apart = refl; named = λ t. refl; same = refl }), (inl (record { apart = refl; named = λ t. refl; same = refl }), (inl (record { apart = refl; named = λ t. refl; same = refl }), (inl (record { apart = refl; named = λ t. refl; same = refl }), (inr (record { rows = k.rows; apart = k.apart }), (inl (record { apart = refl; named = λ t. refl; same = refl }), (inl (record { apart = refl; named = λ t. refl; same = refl }), (inl (record { apart = refl; named = λ t. refl; same = refl }), tt)))))))) it.keeps;
+    },
+    spared keyed.entry (codes "entry") old new all all (λ t. refl) (λ t. refl) it.own.tables.1.1.1.1.0 schema rest (λ t other. other.1.1.1.1.0),
+  )
 
-  pub entries_turned : (records : List Entry) → SameOthers (codes "entry") old new → Keeps (codes "entry") entry_row new records → HasRecords new (record tables { entries = records })
-  entries_turned records rest k = record {
-    own = owns;
-    keeps = record {
-      marks = keep table.Entry table.Mark rest refl mark_row tables.marks it.keeps.marks;
-      items = keep table.Entry table.Item rest refl item_row tables.items it.keeps.items;
-      members = keep table.Entry table.Member rest refl member_row tables.members it.keeps.members;
-      editions = keep table.Entry table.Edition rest refl edition_row tables.editions it.keeps.editions;
-      entries = k;
-      kept = keep table.Entry table.Kept rest refl kept_row tables.kept it.keeps.kept;
-    };
-  }
+  pub kept_turned : (records : List Kept) → SameOthers (codes "kept") old new → Keeps (codes "kept") kept_row new records → HasRecords new (record all { kept = records }) × SparesOthers old new
+  kept_turned records rest k = (
+    record {
+      own = owns;
+      keeps = all_turned kept (codes "kept") old new all (record all { kept = records }) (λ t. refl) (λ t. refl) it.own.tables.1.1.1.1.1.0 schema rest (readings Shown) it.own.tables
+          (inl (record { apart = refl; named = λ t. refl; same = refl }), (inl (record { apart = refl; named = λ t. refl; same = refl }), (inl (record { apart = refl; named = λ t. refl; same = refl }), (inl (record { apart = refl; named = λ t. refl; same = refl }), (inl (record { apart = refl; named = λ t. refl; same = refl }), (inr (record { rows = k.rows; apart = k.apart }), (inl (record { apart = refl; named = λ t. refl; same = refl }), (inl (record { apart = refl; named = λ t. refl; same = refl }), tt)))))))) it.keeps;
+    },
+    spared kept (codes "kept") old new all all (λ t. refl) (λ t. refl) it.own.tables.1.1.1.1.1.0 schema rest (λ t other. other.1.1.1.1.1.0),
+  )
 
-  pub kept_turned : (records : List Kept) → SameOthers (codes "kept") old new → Keeps (codes "kept") kept_row new records → HasRecords new (record tables { kept = records })
-  kept_turned records rest k = record {
-    own = owns;
-    keeps = record {
-      marks = keep table.Kept table.Mark rest refl mark_row tables.marks it.keeps.marks;
-      items = keep table.Kept table.Item rest refl item_row tables.items it.keeps.items;
-      members = keep table.Kept table.Member rest refl member_row tables.members it.keeps.members;
-      editions = keep table.Kept table.Edition rest refl edition_row tables.editions it.keeps.editions;
-      entries = keep table.Kept table.Entry rest refl entry_row tables.entries it.keeps.entries;
-      kept = k;
-    };
-  }
+  pub words_turned : (records : List Piece) → SameOthers (codes "word") old new → Keeps (codes "word") piece_row new records → HasRecords new (record all { words = records }) × SparesOthers old new
+  words_turned records rest k = (
+    record {
+      own = owns;
+      keeps = all_turned keyed.word (codes "word") old new all (record all { words = records }) (λ t. refl) (λ t. refl) it.own.tables.1.1.1.1.1.1.0 schema rest (readings Shown) it.own.tables
+          (inl (record { apart = refl; named = λ t. refl; same = refl }), (inl (record { apart = refl; named = λ t. refl; same = refl }), (inl (record { apart = refl; named = λ t. refl; same = refl }), (inl (record { apart = refl; named = λ t. refl; same = refl }), (inl (record { apart = refl; named = λ t. refl; same = refl }), (inl (record { apart = refl; named = λ t. refl; same = refl }), (inr (record { rows = k.rows; apart = k.apart }), (inl (record { apart = refl; named = λ t. refl; same = refl }), tt)))))))) it.keeps;
+    },
+    spared keyed.word (codes "word") old new all all (λ t. refl) (λ t. refl) it.own.tables.1.1.1.1.1.1.0 schema rest (λ t other. other.1.1.1.1.1.1.0),
+  )
+
+  pub grams_turned : (records : List Piece) → SameOthers (codes "gram") old new → Keeps (codes "gram") piece_row new records → HasRecords new (record all { grams = records }) × SparesOthers old new
+  grams_turned records rest k = (
+    record {
+      own = owns;
+      keeps = all_turned keyed.gram (codes "gram") old new all (record all { grams = records }) (λ t. refl) (λ t. refl) it.own.tables.1.1.1.1.1.1.1.0 schema rest (readings Shown) it.own.tables
+          (inl (record { apart = refl; named = λ t. refl; same = refl }), (inl (record { apart = refl; named = λ t. refl; same = refl }), (inl (record { apart = refl; named = λ t. refl; same = refl }), (inl (record { apart = refl; named = λ t. refl; same = refl }), (inl (record { apart = refl; named = λ t. refl; same = refl }), (inl (record { apart = refl; named = λ t. refl; same = refl }), (inl (record { apart = refl; named = λ t. refl; same = refl }), (inr (record { rows = k.rows; apart = k.apart }), tt)))))))) it.keeps;
+    },
+    spared keyed.gram (codes "gram") old new all all (λ t. refl) (λ t. refl) it.own.tables.1.1.1.1.1.1.1.0 schema rest (λ t other. other.1.1.1.1.1.1.1.0),
+  )
+
+-- ---- what each keeps
+
+module _ (db : Database) (all : AllTables) (it : HasRecords db all) where
+  pub marks_kept : Keeps (codes "mark") mark_row db all.marks
+  marks_kept = record { rows = it.keeps.0.rows; apart = it.keeps.0.apart }
+
+  pub items_kept : Keeps (codes "item") item_row db all.items
+  items_kept = record { rows = it.keeps.1.0.rows; apart = it.keeps.1.0.apart }
+
+  pub members_kept : Keeps (codes "member") member_row db all.members
+  members_kept = record { rows = it.keeps.1.1.0.rows; apart = it.keeps.1.1.0.apart }
+
+  pub editions_kept : Keeps (codes "edition") edition_row db all.editions
+  editions_kept = record { rows = it.keeps.1.1.1.0.rows; apart = it.keeps.1.1.1.0.apart }
+
+  pub entries_kept : Keeps (codes "entry") keyed_entry_row db all.entries
+  entries_kept = record { rows = it.keeps.1.1.1.1.0.rows; apart = it.keeps.1.1.1.1.0.apart }
+
+  pub kept_kept : Keeps (codes "kept") kept_row db all.kept
+  kept_kept = record { rows = it.keeps.1.1.1.1.1.0.rows; apart = it.keeps.1.1.1.1.1.0.apart }
+
+  pub words_kept : Keeps (codes "word") piece_row db all.words
+  words_kept = record { rows = it.keeps.1.1.1.1.1.1.0.rows; apart = it.keeps.1.1.1.1.1.1.0.apart }
+
+  pub grams_kept : Keeps (codes "gram") piece_row db all.grams
+  grams_kept = record { rows = it.keeps.1.1.1.1.1.1.1.0.rows; apart = it.keeps.1.1.1.1.1.1.1.0.apart }
+
+-- ---- the statements can use the tables
+
+pub has_marks : (db : Database) → IsUsable db → Has mark db
+has_marks db it = own_has mark db it.1.own.tables.0
+
+pub has_items : (db : Database) → IsUsable db → Has item db
+has_items db it = own_has item db it.1.own.tables.1.0
+
+pub has_members : (db : Database) → IsUsable db → Has member db
+has_members db it = own_has member db it.1.own.tables.1.1.0
+
+pub has_editions : (db : Database) → IsUsable db → Has edition db
+has_editions db it = own_has edition db it.1.own.tables.1.1.1.0
+
+pub has_entries : (db : Database) → IsUsable db → Has keyed.entry db
+has_entries db it = own_has keyed.entry db it.1.own.tables.1.1.1.1.0
+
+pub has_kept : (db : Database) → IsUsable db → Has kept db
+has_kept db it = own_has kept db it.1.own.tables.1.1.1.1.1.0
+
+pub has_words : (db : Database) → IsUsable db → Has keyed.word db
+has_words db it = own_has keyed.word db it.1.own.tables.1.1.1.1.1.1.0
+
+pub has_grams : (db : Database) → IsUsable db → Has keyed.gram db
+has_grams db it = own_has keyed.gram db it.1.own.tables.1.1.1.1.1.1.1.0
+
+pub marks_to_remove : (db : Database) → IsUsable db → HasToRemove mark db
+marks_to_remove db it = record { has = has_marks db it; apart = (marks_kept db it.0 it.1).apart }
+
+pub items_to_remove : (db : Database) → IsUsable db → HasToRemove item db
+items_to_remove db it = record { has = has_items db it; apart = (items_kept db it.0 it.1).apart }
+
+pub members_to_remove : (db : Database) → IsUsable db → HasToRemove member db
+members_to_remove db it = record { has = has_members db it; apart = (members_kept db it.0 it.1).apart }
+
+pub editions_to_remove : (db : Database) → IsUsable db → HasToRemove edition db
+editions_to_remove db it = record { has = has_editions db it; apart = (editions_kept db it.0 it.1).apart }
+
+pub entries_to_remove : (db : Database) → IsUsable db → HasToRemove keyed.entry db
+entries_to_remove db it = record { has = has_entries db it; apart = (entries_kept db it.0 it.1).apart }
+
+pub words_to_remove : (db : Database) → IsUsable db → HasToRemove keyed.word db
+words_to_remove db it = record { has = has_words db it; apart = (words_kept db it.0 it.1).apart }
+
+pub grams_to_remove : (db : Database) → IsUsable db → HasToRemove keyed.gram db
+grams_to_remove db it = record { has = has_grams db it; apart = (grams_kept db it.0 it.1).apart }
 
 -- ---- a table is cleared
 
-pub all_cleared : (t : StoreTable) (old new : Database) → IsRemoved (name t) (λ _. true) old new → (tables : Tables) → HasRecords old tables → HasRecords new (cleared t tables)
-all_cleared table.Mark old new gone tables it = marks_turned old new tables it gone.schema [] gone.others (keeps_cleared (codes "mark") mark_row old new gone)
-all_cleared table.Item old new gone tables it = items_turned old new tables it gone.schema [] gone.others (keeps_cleared (codes "item") item_row old new gone)
-all_cleared table.Member old new gone tables it = members_turned old new tables it gone.schema [] gone.others (keeps_cleared (codes "member") member_row old new gone)
-all_cleared table.Edition old new gone tables it = editions_turned old new tables it gone.schema [] gone.others (keeps_cleared (codes "edition") edition_row old new gone)
-all_cleared table.Entry old new gone tables it = entries_turned old new tables it gone.schema [] gone.others (keeps_cleared (codes "entry") entry_row old new gone)
-all_cleared table.Kept old new gone tables it = kept_turned old new tables it gone.schema [] gone.others (keeps_cleared (codes "kept") kept_row old new gone)
+pub marks_cleared : (old new : Database) → IsRemoved (codes "mark") (λ _. true) old new → Turns (λ all. record all { marks = [] }) old new
+marks_cleared old new gone = λ all it. marks_turned old new all it gone.schema [] gone.others (keeps_cleared (codes "mark") mark_row old new gone)
+
+pub items_cleared : (old new : Database) → IsRemoved (codes "item") (λ _. true) old new → Turns (without_items) old new
+items_cleared old new gone = λ all it. items_turned old new all it gone.schema [] gone.others (keeps_cleared (codes "item") item_row old new gone)
+
+pub members_cleared : (old new : Database) → IsRemoved (codes "member") (λ _. true) old new → Turns (without_members) old new
+members_cleared old new gone = λ all it. members_turned old new all it gone.schema [] gone.others (keeps_cleared (codes "member") member_row old new gone)
 
 -- ---- a record more
 
-pub mark_added : (old new : Database) (r : Mark) → IsAdded (codes "mark") (mark_row r) old new → (tables : Tables) → HasRecords old tables → HasRecords new (record tables { marks = tables.marks ++ r ∷ [] })
-mark_added old new r one tables it = marks_turned old new tables it one.schema (tables.marks ++ r ∷ []) one.others (keeps_added (codes "mark") mark_row old new tables.marks r one it.keeps.marks)
+pub marks_added : (r : Mark) (old new : Database) → IsAdded (codes "mark") (mark_row r) old new → Turns (λ all. record all { marks = all.marks ++ r ∷ [] }) old new
+marks_added r old new one = λ all it. marks_turned old new all it one.schema (all.marks ++ r ∷ []) one.others (keeps_added (codes "mark") mark_row old new all.marks r one (marks_kept old all it))
 
-pub item_added : (old new : Database) (r : Item) → IsAdded (codes "item") (item_row r) old new → (tables : Tables) → HasRecords old tables → HasRecords new (record tables { items = tables.items ++ r ∷ [] })
-item_added old new r one tables it = items_turned old new tables it one.schema (tables.items ++ r ∷ []) one.others (keeps_added (codes "item") item_row old new tables.items r one it.keeps.items)
+pub items_added : (r : Item) (old new : Database) → IsAdded (codes "item") (item_row r) old new → Turns (with_more_items (r ∷ [])) old new
+items_added r old new one = λ all it. items_turned old new all it one.schema (all.items ++ r ∷ []) one.others (keeps_added (codes "item") item_row old new all.items r one (items_kept old all it))
 
-pub member_added : (old new : Database) (r : Member) → IsAdded (codes "member") (member_row r) old new → (tables : Tables) → HasRecords old tables → HasRecords new (record tables { members = tables.members ++ r ∷ [] })
-member_added old new r one tables it = members_turned old new tables it one.schema (tables.members ++ r ∷ []) one.others (keeps_added (codes "member") member_row old new tables.members r one it.keeps.members)
+pub members_added : (r : Member) (old new : Database) → IsAdded (codes "member") (member_row r) old new → Turns (with_more_members (r ∷ [])) old new
+members_added r old new one = λ all it. members_turned old new all it one.schema (all.members ++ r ∷ []) one.others (keeps_added (codes "member") member_row old new all.members r one (members_kept old all it))
 
-pub edition_added : (old new : Database) (r : Edition) → IsAdded (codes "edition") (edition_row r) old new → (tables : Tables) → HasRecords old tables → HasRecords new (record tables { editions = tables.editions ++ r ∷ [] })
-edition_added old new r one tables it = editions_turned old new tables it one.schema (tables.editions ++ r ∷ []) one.others (keeps_added (codes "edition") edition_row old new tables.editions r one it.keeps.editions)
+pub editions_added : (r : Edition) (old new : Database) → IsAdded (codes "edition") (edition_row r) old new → Turns (with_more_editions (r ∷ [])) old new
+editions_added r old new one = λ all it. editions_turned old new all it one.schema (all.editions ++ r ∷ []) one.others (keeps_added (codes "edition") edition_row old new all.editions r one (editions_kept old all it))
 
-pub entry_added : (old new : Database) (r : Entry) → IsAdded (codes "entry") (entry_row r) old new → (tables : Tables) → HasRecords old tables → HasRecords new (record tables { entries = tables.entries ++ r ∷ [] })
-entry_added old new r one tables it = entries_turned old new tables it one.schema (tables.entries ++ r ∷ []) one.others (keeps_added (codes "entry") entry_row old new tables.entries r one it.keeps.entries)
+pub entries_added : (r : Filed) (old new : Database) → IsAdded (codes "entry") (keyed_entry_row r) old new → Turns (with_more_entries (r ∷ [])) old new
+entries_added r old new one = λ all it. entries_turned old new all it one.schema (all.entries ++ r ∷ []) one.others (keeps_added (codes "entry") keyed_entry_row old new all.entries r one (entries_kept old all it))
 
-pub kept_added : (old new : Database) (r : Kept) → IsAdded (codes "kept") (kept_row r) old new → (tables : Tables) → HasRecords old tables → HasRecords new (record tables { kept = tables.kept ++ r ∷ [] })
-kept_added old new r one tables it = kept_turned old new tables it one.schema (tables.kept ++ r ∷ []) one.others (keeps_added (codes "kept") kept_row old new tables.kept r one it.keeps.kept)
+pub kept_added : (r : Kept) (old new : Database) → IsAdded (codes "kept") (kept_row r) old new → Turns (λ all. record all { kept = all.kept ++ r ∷ [] }) old new
+kept_added r old new one = λ all it. kept_turned old new all it one.schema (all.kept ++ r ∷ []) one.others (keeps_added (codes "kept") kept_row old new all.kept r one (kept_kept old all it))
+
+pub words_added : (r : Piece) (old new : Database) → IsAdded (codes "word") (piece_row r) old new → Turns (with_more_words (r ∷ [])) old new
+words_added r old new one = λ all it. words_turned old new all it one.schema (all.words ++ r ∷ []) one.others (keeps_added (codes "word") piece_row old new all.words r one (words_kept old all it))
+
+pub grams_added : (r : Piece) (old new : Database) → IsAdded (codes "gram") (piece_row r) old new → Turns (with_more_grams (r ∷ [])) old new
+grams_added r old new one = λ all it. grams_turned old new all it one.schema (all.grams ++ r ∷ []) one.others (keeps_added (codes "gram") piece_row old new all.grams r one (grams_kept old all it))
+
+-- ---- other records with the same rows
+
+same_bags : (db : Database) (all turned : AllTables) (qs : List Reading) → AllByRecursion (λ q. IsPermutation (q.rows all) (q.rows turned)) qs → AllByRecursion (λ q. KeepsRows q db all) qs → AllByRecursion (λ q. KeepsRows q db turned) qs
+same_bags db all turned [] same k = tt
+same_bags db all turned (q ∷ qs) same k = (
+  record { rows = IsPermutation-trans (q.rows turned) (q.rows all) (map (λ row. drop 1 (q.looked row)) (rows_of (name_of q) db)) (IsPermutation-sym (q.rows all) (q.rows turned) same.0) k.0.rows; apart = k.0.apart },
+  same_bags db all turned qs same.1 k.1,
+)
+
+-- the words and the grams in another order
+pub pieces_turned : (db : Database) (all : AllTables) (words grams : List Piece) → IsPermutation all.words words → IsPermutation all.grams grams → HasRecords db all → HasRecords db (record all { words = words; grams = grams })
+pieces_turned db all words grams one two it = record {
+  own = it.own;
+  keeps = same_bags db all (record all { words = words; grams = grams }) (readings Shown)
+      (IsPermutation-refl _, (IsPermutation-refl _, (IsPermutation-refl _, (IsPermutation-refl _, (IsPermutation-refl _, (IsPermutation-refl _, (IsPermutation-map piece_row all.words words one, (IsPermutation-map piece_row all.grams grams two, tt)))))))) it.keeps;
+}

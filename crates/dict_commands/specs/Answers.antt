@@ -16,6 +16,7 @@ use Rattle.dict_desk.specs.declared.fault.Fault.{Fault}
 use Rattle.dict_desk.specs.declared.fault.Fault.TheVariants.{Refused, Memory, Disk, Closed, NotACatalogue, Damaged, NewerSchema}
 use Rattle.dict_desk.specs.Faults.{is_disk}
 use Rattle.dict_file.specs.Faults.{FailsToLookUp}
+use Rattle.dict_commands.specs.Listed.{Listed, AreListed}
 use Rattle.dict_file.specs.Holds.{Holds, Rests, IsLeftAs}
 use Rattle.dict_file.specs.Writing.{FailsToEnd}
 use Rattle.dict_rows.specs.After.{Change, IsChange}
@@ -88,7 +89,9 @@ IsPlanned summary old id command change = (M : Catalogue) → Rests known old M 
 
 -- A command that was planned is not made: one of its statements failed behind those before it, or its commit did.
 abbrev pub FailsToAct : {S : Type 0} → Ghosts S → Holdings (List ℕ) → List ℕ → Command Edition → (Database → Type 0) → Held S → Held S → Fault → Type 0
-FailsToAct {S} g summary id command P old new fault = (change : Change) × IsPlanned summary (state g old) id command change × FailsToEnd g (statements_of known change) P old new fault
+FailsToAct {S} g summary id command P old new fault =
+    (change : Change) × IsPlanned summary (state g old) id command change
+    × ((listed : Listed) × AreListed change.edition listed × FailsToEnd g (statements_of known change listed) P old new fault)
 
 -- A command fails that is not refused: what is kept under its id was not read; or nothing was kept, and the change was not
 -- made.

@@ -1,6 +1,7 @@
 -- What each part of a command's change makes of the records.
-use Rattle.std.specs.Prelude.{ℕ, not, ◌≤◌, List, [], ◌∷◌, ◌++◌, filter, Option, Some, None, IfSome}
+use Rattle.std.specs.Prelude.{ℕ, ◌≤◌, List, [], ◌∷◌, ◌++◌, Option, Some, None, IfSome}
 use Rattle.std.specs.List.{AllByRecursion}
+use Rattle.dict_index.specs.Limits.{most_octets}
 use Rattle.dict_index.specs.Line.{Line}
 use Rattle.dict_catalogue.specs.Items.{Item, numbers_of, edition_numbers}
 use Rattle.dict_catalogue.specs.Steps.{KeptFor}
@@ -9,51 +10,54 @@ use Rattle.dict_catalogue.specs.Views.{item_shown, summary_shown, kept_shown}
 use Rattle.dict_catalogue.specs.declared.commands.Command.{Command}
 use Rattle.dict_catalogue.specs.declared.commands.Command.TheVariants.{Install, Rollback, Retire, PutVirtual, Place}
 use Rattle.dict_catalogue.specs.declared.planning.Change.{Change as Planned}
-use Rattle.dict_rows.specs.Tables.{Tables}
+use Rattle.dict_records.specs.Records.{Item as ItemRecord, Member, Edition}
+use Rattle.dict_records.specs.Keyed.{Piece}
+use Rattle.dict_derived.specs.Entries.{Filed}
+use Rattle.dict_derived.specs.AllTables.{AllTables}
 use Rattle.dict_rows.specs.Written.{numbered, mark_record, item_record, kept_record}
-use Rattle.dict_rows.specs.After.{Installed, Change, is_gone, installed_editions, installed_entries, all_members}
+use Rattle.dict_rows.specs.After.{Installed, Change, all_members}
 use Rattle.dict_rows.specs.Versions.{known}
-use Rattle.dict_tables.specs.declared.tables.StoreTable.{StoreTable}
-use Rattle.dict_tables.specs.declared.tables.StoreTable.TheVariants.{Mark, Item as Items, Member, Edition, Entry, Kept}
 use Rattle.dict_commands.specs.Kept.{IsStorable, AreStorable}
 
 -- a table is empty
-abbrev pub cleared : StoreTable → Tables → Tables
-cleared Mark tables = record tables { marks = [] }
-cleared Items tables = record tables { items = [] }
-cleared Member tables = record tables { members = [] }
-cleared Edition tables = record tables { editions = [] }
-cleared Entry tables = record tables { entries = [] }
-cleared Kept tables = record tables { kept = [] }
+abbrev pub without_items : AllTables → AllTables
+without_items all = record all { items = [] }
+
+abbrev pub without_members : AllTables → AllTables
+without_members all = record all { members = [] }
+
+-- records that come last in their table
+abbrev pub with_more_items : List ItemRecord → AllTables → AllTables
+with_more_items more all = record all { items = all.items ++ more }
+
+abbrev pub with_more_members : List Member → AllTables → AllTables
+with_more_members more all = record all { members = all.members ++ more }
+
+abbrev pub with_more_editions : List Edition → AllTables → AllTables
+with_more_editions more all = record all { editions = all.editions ++ more }
+
+abbrev pub with_more_entries : List Filed → AllTables → AllTables
+with_more_entries more all = record all { entries = all.entries ++ more }
+
+abbrev pub with_more_words : List Piece → AllTables → AllTables
+with_more_words more all = record all { words = all.words ++ more }
+
+abbrev pub with_more_grams : List Piece → AllTables → AllTables
+with_more_grams more all = record all { grams = all.grams ++ more }
 
 -- the mark, the items and the members written anew
-abbrev pub with_mark : ℕ → Tables → Tables
-with_mark installs tables = record tables { marks = mark_record known installs ∷ [] }
+abbrev pub with_mark : ℕ → AllTables → AllTables
+with_mark installs all = record all { marks = mark_record known installs ∷ [] }
 
-abbrev pub with_items : {A : Type 0} → List (Item A) → Tables → Tables
-with_items items tables = record tables { items = numbered item_record 0 items }
+abbrev pub with_items : {A : Type 0} → List (Item A) → AllTables → AllTables
+with_items items all = record all { items = numbered item_record 0 items }
 
-abbrev pub with_members : {A : Type 0} → List (Item A) → Tables → Tables
-with_members items tables = record tables { members = all_members items }
-
--- without the editions of these numbers, and their entries
-abbrev pub without_editions : List ℕ → Tables → Tables
-without_editions gone tables = record tables {
-  editions = filter (λ row. not (is_gone gone row.number)) tables.editions;
-  entries = filter (λ row. not (is_gone gone row.edition)) tables.entries;
-}
-
--- with an edition that is installed, where there is one
-abbrev pub with_installed : Option Installed → Tables → Tables
-with_installed edition tables = record tables { editions = tables.editions ++ installed_editions edition; entries = tables.entries ++ installed_entries edition }
+abbrev pub with_members : {A : Type 0} → List (Item A) → AllTables → AllTables
+with_members items all = record all { members = all_members items }
 
 -- with one reply more
-abbrev pub with_reply : KeptFor → Tables → Tables
-with_reply kept tables = record tables { kept = tables.kept ++ kept_record kept ∷ [] }
-
--- with an edition and its entries
-abbrev pub with_edition : Installed → Tables → Tables
-with_edition new tables = with_installed (Some new) tables
+abbrev pub with_reply : KeptFor → AllTables → AllTables
+with_reply kept all = record all { kept = all.kept ++ kept_record kept ∷ [] }
 
 -- the edition that a command installs, under this number
 abbrev pub installed_by : ℕ → Command → Option Installed
@@ -86,5 +90,5 @@ IsInRange summary = AllByRecursion (λ number. number ≤ summary.installs) (edi
 
 -- an entry's interval is within the limit of a text
 pub record IsShort (line : Line) : Type 0 where
-  pub offset : line.offset ≤ 16777216
-  pub size : line.size ≤ 16777216
+  pub offset : line.offset ≤ most_octets
+  pub size : line.size ≤ most_octets

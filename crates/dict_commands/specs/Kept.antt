@@ -1,23 +1,36 @@
--- The records that the product's tables keep, and what a call makes of them.
-use Rattle.std.specs.Prelude.{ℕ, ◌≤◌, List}
+-- The records that the product's tables keep, those that are derived among them, and what a call makes of them.
+use Rattle.std.specs.Prelude.{◌≡◌, ◌≢◌, ℕ, ◌≤◌, List, Some}
 use Rattle.std.specs.List.{AllByRecursion}
 use Rattle.sqlite.specs.Effect.{Database}
+use Rattle.sqlite.specs.Schema.{Schema}
+use Rattle.sqlite.specs.Table.{Table}
+use Rattle.dict_tables.specs.Found.{found_table}
 use Rattle.dict_rows.specs.Versions.{known, layout_of}
-use Rattle.dict_rows.specs.Tables.{Tables}
-use Rattle.dict_file.specs.Holds.{HasLayout, KeepsPlain}
+use Rattle.dict_derived.specs.AllTables.{AllTables}
+use Rattle.dict_file.specs.Holds.{HasLayout}
+use Rattle.dict_file.specs.Readings.{name_of, readings, KeepsAll}
 
 -- the database has the product's tables, and they keep these records
-pub record HasRecords (db : Database) (tables : Tables) : Type 0 where
+pub record HasRecords (db : Database) (all : AllTables) : Type 0 where
   pub own : HasLayout (layout_of known) db.schema
-  pub keeps : KeepsPlain db tables
+  pub keeps : KeepsAll (layout_of known) db all
 
 -- they keep some records
 abbrev pub IsUsable : Database → Type 0
-IsUsable db = (tables : Tables) × HasRecords db tables
+IsUsable db = (all : AllTables) × HasRecords db all
 
--- whatever records the tables kept, they keep these of them now
-abbrev pub Turns : (Tables → Tables) → Database → Database → Type 0
-Turns f old new = (tables : Tables) → HasRecords old tables → HasRecords new (f tables)
+-- the table is none of the product's
+abbrev pub IsOther : Schema → Table → Type 0
+IsOther schema table = AllByRecursion (λ r. (own : Table) → found_table schema (name_of r) ≡ Some own → table.tree ≢ own.tree) (readings (layout_of known))
+
+-- the tables are those that there were, and each that is none of the product's has the rows that it had
+pub record SparesOthers (old new : Database) : Type 0 where
+  pub schema : new.schema ≡ old.schema
+  pub others : AllByRecursion (λ t. IsOther old.schema t → new.trees t.tree ≡ old.trees t.tree) old.schema.tables
+
+-- whatever records the tables kept, they keep these of them now, and other tables have the rows that they had
+abbrev pub Turns : (AllTables → AllTables) → Database → Database → Type 0
+Turns f old new = (all : AllTables) → HasRecords old all → HasRecords new (f all) × SparesOthers old new
 
 -- a number that a column of integers can hold
 abbrev pub IsStorable : ℕ → Type 0

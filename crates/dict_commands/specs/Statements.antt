@@ -1,16 +1,20 @@
 -- The statements of a command that acts, in their order.
-use Rattle.std.specs.Prelude.{ℕ, pos, true, List, [], ◌∷◌, ◌++◌, codes, map, flat_map, Option}
+use Rattle.std.specs.Prelude.{ℕ, pos, true, List, [], ◌∷◌, ◌++◌, codes, map, flat_map, Option, Some, None}
 use Rattle.dict_tables.specs.Tables.{table_of}
 use Rattle.dict_tables.specs.declared.tables.StoreTable.{StoreTable}
 use Rattle.dict_tables.specs.declared.tables.StoreTable.TheVariants as table
 use Rattle.dict_sql.specs.Effects.{equals_number}
-use Rattle.dict_sql.specs.Encodings.{mark_row, item_row, member_row, edition_row, entry_row, kept_row}
+use Rattle.dict_sql.specs.Encodings.{mark_row, item_row, member_row, edition_row, kept_row}
+use Rattle.dict_sql.specs.Keyed.{keyed_entry_row, piece_row}
 use Rattle.dict_sql.specs.Statements.{Statement, add, remove}
-use Rattle.dict_records.specs.Records.{Mark, Item as ItemRecord, Member, Edition, Entry, Kept}
+use Rattle.dict_records.specs.Records.{Mark, Item as ItemRecord, Member, Edition, Kept}
+use Rattle.dict_records.specs.Keyed.{Piece}
+use Rattle.dict_derived.specs.Entries.{Filed, filed}
 use Rattle.dict_catalogue.specs.Items.{Item}
 use Rattle.dict_catalogue.specs.Steps.{KeptFor}
-use Rattle.dict_rows.specs.Written.{numbered, mark_record, item_record, kept_record}
-use Rattle.dict_rows.specs.After.{Installed, Change, installed_editions, installed_entries, all_members}
+use Rattle.dict_rows.specs.Written.{numbered, mark_record, item_record, edition_record, entry_record, kept_record}
+use Rattle.dict_rows.specs.After.{Installed, Change, all_members}
+use Rattle.dict_commands.specs.Listed.{Listed}
 
 -- all records of a table are taken out
 abbrev pub clearing : StoreTable → Statement
@@ -29,8 +33,14 @@ adding_member it = add (codes "member") (member_row it)
 abbrev pub adding_edition : Edition → Statement
 adding_edition it = add (codes "edition") (edition_row it)
 
-abbrev pub adding_entry : Entry → Statement
-adding_entry it = add (codes "entry") (entry_row it)
+abbrev pub adding_entry : Filed → Statement
+adding_entry it = add (codes "entry") (keyed_entry_row it)
+
+abbrev pub adding_word : Piece → Statement
+adding_word it = add (codes "word") (piece_row it)
+
+abbrev pub adding_gram : Piece → Statement
+adding_gram it = add (codes "gram") (piece_row it)
 
 abbrev pub adding_kept : Kept → Statement
 adding_kept it = add (codes "kept") (kept_row it)
@@ -48,28 +58,28 @@ members_anew items = clearing table.Member ∷ map adding_member (all_members it
 abbrev pub summary_anew : {A : Type 0} → ℕ → ℕ → List (Item A) → List Statement
 summary_anew version installs items = mark_anew version installs ++ (items_anew items ++ members_anew items)
 
--- the entries of the edition of this number are taken out, and its own record
-abbrev pub taking_entries : ℕ → Statement
-taking_entries number = remove (codes "entry") (equals_number 1 (pos number))
-
-abbrev pub taking_record : ℕ → Statement
-taking_record number = remove (codes "edition") (equals_number 1 (pos number))
+-- the grams, the words and the entries of the edition of this number are taken out, and its own record
+abbrev pub taking_of : List ℕ → ℕ → Statement
+taking_of name number = remove name (equals_number 1 (pos number))
 
 abbrev pub taking : ℕ → List Statement
-taking number = taking_entries number ∷ taking_record number ∷ []
+taking number = taking_of (codes "gram") number ∷ taking_of (codes "word") number ∷ taking_of (codes "entry") number ∷ taking_of (codes "edition") number ∷ []
 
--- the edition that is installed is added, if there is one, and its entries
-abbrev pub installing : Option Installed → List Statement
-installing edition = map adding_edition (installed_editions edition) ++ map adding_entry (installed_entries edition)
+-- the edition that is installed is added, if there is one, and its entries, words and grams
+abbrev pub installing : Option Installed → Listed → List Statement
+installing None listed = []
+installing (Some new) listed =
+    adding_edition (edition_record new.owner new.number new.reading)
+    ∷ (map adding_entry (map filed (numbered (entry_record new.number) 0 new.reading.lines)) ++ (map adding_word listed.words ++ map adding_gram listed.grams))
 
 -- the editions that go are taken out, and then the one that is installed is added
-abbrev pub exchanging : List ℕ → Option Installed → List Statement
-exchanging gone edition = flat_map taking gone ++ installing edition
+abbrev pub exchanging : List ℕ → Option Installed → Listed → List Statement
+exchanging gone edition listed = flat_map taking gone ++ installing edition listed
 
 -- the reply is kept
 abbrev pub replying : KeptFor → List Statement
 replying kept = adding_kept (kept_record kept) ∷ []
 
 -- all of them
-abbrev pub statements_of : ℕ → Change → List Statement
-statements_of version change = summary_anew version change.summary.installs change.summary.items ++ (exchanging change.gone change.edition ++ replying change.kept)
+abbrev pub statements_of : ℕ → Change → Listed → List Statement
+statements_of version change listed = summary_anew version change.summary.installs change.summary.items ++ (exchanging change.gone change.edition listed ++ replying change.kept)

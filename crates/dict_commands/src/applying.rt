@@ -1,5 +1,5 @@
 // A command on the tables of one database.
-ghost use Rattle.std.specs.Prelude.{◌≡◌, ◌⊎◌, false, true, None, IsTrue, IfErr};
+ghost use Rattle.std.specs.Prelude.{◌≡◌, ◌⊎◌, false, true, None, IsTrue, IfErr, OnOk};
 ghost use Rattle.sqlite.specs.State.{HasCleanDisk, Survives};
 ghost use Rattle.sqlite.specs.Held.{state};
 ghost use Rattle.dict_name.specs.Names.{is_request_id};
@@ -7,7 +7,9 @@ ghost use Rattle.dict_catalogue.specs.Steps.{Catalogue, summary_of, kept_under, 
 ghost use Rattle.dict_catalogue.specs.Views.{summary_shown, command_meant};
 ghost use Rattle.dict_desk.specs.Faults.{is_failure};
 ghost use Rattle.dict_file.specs.Holds.{Holds, Rests, IsLeftAs};
+ghost use Rattle.dict_commands.specs.Kept.{SparesOthers};
 ghost use Rattle.dict_commands.specs.Changes.{IsInRange};
+ghost use Rattle.dict_commands.specs.Committed.{IsTreesOf};
 ghost use Rattle.dict_commands.specs.Answers.{HoldsBy, Answers, has_written, summary_after, IsOfApply, IsOfShut, FailsToAct, FailsToApply};
 ghost use Rattle.dict_rows.specs.Versions.{known};
 
@@ -40,6 +42,8 @@ fn apply_new<S: Alter>(
         → IsLeftAs known (step M id.now (command_meant command.now)).catalogue trees) }
     ensures lives { HasCleanDisk (state S.Store conn.new) → IsTrue (state S.Store conn.new).is_open → IsTrue (state S.Store conn.old).is_open }
     ensures failed { HasCleanDisk (state S.Store conn.new) → IfErr result (λ fault. is_failure fault ≡ true → ((fault ≡ Fault.Memory) × (conn.new ≡ conn.old)) ⊎ FailsToAct S.Store (summary_shown summary.now) id.now (command_meant command.now) (λ db. (M : Catalogue) → Rests known (state S.Store conn.old) M → summary_of M ≡ summary_shown summary.now → kept_under M.kept id.now ≡ None → Holds known db (step M id.now (command_meant command.now)).catalogue) conn.old conn.new fault) }
+    ensures others { HasCleanDisk (state S.Store conn.new) → OnOk result (SparesOthers (state S.Store conn.old).now (state S.Store conn.new).now) }
+    ensures beside { Survives (state S.Store conn.old) (state S.Store conn.new) (λ trees. IsTrue (state S.Store conn.old).is_open → IsTreesOf (SparesOthers (state S.Store conn.old).now) trees) }
     ensures kinds { IfErr result IsOfApply }
     ensures range { IsInRange (summary_after (summary_shown summary.now) result) }
     ensures autocommit { (state S.Store conn.new).in_transaction ≡ false }
@@ -47,7 +51,7 @@ fn apply_new<S: Alter>(
     let change = decide(alloc, summary, command)?;
     command.is_lawful();
     lies_within(command);
-    commit_change(conn, id, command, &change)?;
+    commit_change(alloc, conn, id, command, &change)?;
     let Change { summary, kept, .. } = change;
     Ok(Applied::Now(kept, summary))
 }
@@ -57,7 +61,8 @@ fn apply_new<S: Alter>(
 ///
 /// An unlawful id is refused; an id that is kept is answered its reply again, and nothing is written, whatever the command;
 /// else the command's own tests decide, and then it does its effect, and its reply is kept. All memory for the answer is
-/// taken before the commit, which is the last call of the store.
+/// taken before the commit, which is the last call of the store. What is derived of an edition that is installed is made
+/// before anything is written. Tables that are none of the product's keep their rows, also in what a stop leaves.
 ///
 /// `Memory` tells that a growth was refused before the commit: nothing has changed while the store is open. `Disk` tells
 /// that a read or a statement failed for another cause, or the commit did, for whatever cause: what a stop leaves is what it
@@ -80,6 +85,8 @@ pub fn apply<S: Alter>(
     ensures shut { HasCleanDisk (state S.Store conn.new) → (state S.Store conn.old).is_open ≡ false → IsOfShut id.now result }
     ensures lives { HasCleanDisk (state S.Store conn.new) → IsTrue (state S.Store conn.new).is_open → IsTrue (state S.Store conn.old).is_open }
     ensures failed { HasCleanDisk (state S.Store conn.new) → IfErr result (λ fault. is_failure fault ≡ true → FailsToApply S.Store (summary_shown summary.now) id.now (command_meant command.now) conn.old conn.new fault) }
+    ensures others { HasCleanDisk (state S.Store conn.new) → OnOk result (SparesOthers (state S.Store conn.old).now (state S.Store conn.new).now) }
+    ensures beside { Survives (state S.Store conn.old) (state S.Store conn.new) (IsTreesOf (SparesOthers (state S.Store conn.old).now)) }
     ensures kinds { IfErr result IsOfApply }
     ensures range { IsInRange (summary_after (summary_shown summary.now) result) }
     ensures holds { HoldsBy (summary_after (summary_shown summary.now) result) (state S.Store conn.new) }

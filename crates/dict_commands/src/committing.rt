@@ -4,20 +4,81 @@ ghost use Rattle.sqlite.specs.State.{HasCleanDisk, Survives};
 ghost use Rattle.sqlite.specs.Held.{state};
 ghost use Rattle.dict_sql.specs.Effects.{WhileOpen};
 ghost use Rattle.dict_desk.specs.Faults.{is_disk};
-ghost use Rattle.dict_rows.specs.After.{tables_after};
 ghost use Rattle.dict_rows.specs.Versions.{known};
+ghost use Rattle.dict_derived.specs.AllTables.{all_after};
 ghost use Rattle.dict_file.specs.Writing.{FailsToEnd};
 ghost use Rattle.dict_commands.specs.Kept.{Turns, IsUsable};
 ghost use Rattle.dict_commands.specs.Changes.{change_by, IsWritable};
+ghost use Rattle.dict_commands.specs.Listed.{AreRowsOf, keys_by, listed_by};
 ghost use Rattle.dict_commands.specs.Statements.{statements_of};
-ghost use Rattle.dict_commands.specs.Committed.{IsCommitted, IsTreesOf, Stays, IsOfStore};
+ghost use Rattle.dict_commands.specs.Committed.{IsCommitted, IsTreesOf, Stays, IsOfStore, FailsToCommit};
 
+use crate::derivation::{DerivedRows, derive_rows, installed_keys};
 use crate::writing::write_all;
 use dict_catalogue::{Change, Command};
 use dict_desk::Fault;
 use dict_file::fault_of;
+use dict_match::Key;
 use dict_sql::commit::commit;
 use sqlite::{Alter, Connection};
+use std::alloc::Global;
+
+// Makes what was planned of a command by one commit, with what was derived of the keys of the edition that it installs.
+fn commit_rows<S: Alter>(
+    conn: &mut Connection<S>,
+    id: &str,
+    command: &Command,
+    change: &Change,
+    rows: &DerivedRows,
+) -> Result<(), Fault>
+    requires autocommit { conn.old.in_transaction ≡ false }
+    requires usable { WhileOpen (state S.Store conn.old) IsUsable }
+    requires writable { IsWritable change.now }
+    requires rows { AreRowsOf (keys_by command.now) rows.now }
+    ensures made { HasCleanDisk (state S.Store conn.new) → OnOk result (IsCommitted (Turns (all_after known (change_by id.now command.now change.now)) (state S.Store conn.old).now) (state S.Store conn.new)) }
+    ensures lives { HasCleanDisk (state S.Store conn.new) → IsTrue (state S.Store conn.new).is_open → IsTrue (state S.Store conn.old).is_open }
+    ensures stays { HasCleanDisk (state S.Store conn.new) → OnErr result (Stays (state S.Store conn.old) (state S.Store conn.new)) }
+    ensures adds_none { IfErr result (λ fault. is_disk fault ≡ false → Survives (state S.Store conn.old) (state S.Store conn.new) (λ _. ⊥)) }
+    ensures failed { HasCleanDisk (state S.Store conn.new) → IfErr result (FailsToEnd S.Store (statements_of known (change_by id.now command.now change.now) (listed_by change.now.summary.installs rows.now)) (Turns (all_after known (change_by id.now command.now change.now)) (state S.Store conn.old).now) conn.old conn.new) }
+    ensures kinds { IfErr result IsOfStore }
+    ensures autocommit { (state S.Store conn.new).in_transaction ≡ false }
+    ensures crash { Survives (state S.Store conn.old) (state S.Store conn.new) (IsTreesOf (Turns (all_after known (change_by id.now command.now change.now)) (state S.Store conn.old).now)) }
+{
+    let mut tx = conn.transaction();
+    if let Err(error) = write_all(&mut tx, id, command, change, rows) {
+        return Err(fault_of(error));
+    }
+    match commit(tx) {
+        Ok(()) => Ok(()),
+        Err(_) => Err(Fault::Disk),
+    }
+}
+
+// The same, of the keys of the edition: what is derived of them is made first.
+fn commit_keys<S: Alter>(
+    alloc: Global,
+    conn: &mut Connection<S>,
+    id: &str,
+    command: &Command,
+    change: &Change,
+    keys: &[Key],
+) -> Result<(), Fault>
+    requires autocommit { conn.old.in_transaction ≡ false }
+    requires usable { WhileOpen (state S.Store conn.old) IsUsable }
+    requires writable { IsWritable change.now }
+    requires keys { keys.now ≡ keys_by command.now }
+    ensures made { HasCleanDisk (state S.Store conn.new) → OnOk result (IsCommitted (Turns (all_after known (change_by id.now command.now change.now)) (state S.Store conn.old).now) (state S.Store conn.new)) }
+    ensures lives { HasCleanDisk (state S.Store conn.new) → IsTrue (state S.Store conn.new).is_open → IsTrue (state S.Store conn.old).is_open }
+    ensures stays { HasCleanDisk (state S.Store conn.new) → OnErr result (Stays (state S.Store conn.old) (state S.Store conn.new)) }
+    ensures adds_none { IfErr result (λ fault. is_disk fault ≡ false → Survives (state S.Store conn.old) (state S.Store conn.new) (λ _. ⊥)) }
+    ensures failed { HasCleanDisk (state S.Store conn.new) → IfErr result (FailsToCommit S.Store (change_by id.now command.now change.now) (Turns (all_after known (change_by id.now command.now change.now)) (state S.Store conn.old).now) conn.old conn.new) }
+    ensures kinds { IfErr result IsOfStore }
+    ensures autocommit { (state S.Store conn.new).in_transaction ≡ false }
+    ensures crash { Survives (state S.Store conn.old) (state S.Store conn.new) (IsTreesOf (Turns (all_after known (change_by id.now command.now change.now)) (state S.Store conn.old).now)) }
+{
+    let rows = derive_rows(alloc, keys)?;
+    commit_rows(conn, id, command, change, &rows)
+}
 
 /// Makes what was planned of a command by one commit, with its reply for the id of its request.
 ///
@@ -25,6 +86,7 @@ use sqlite::{Alter, Connection};
 /// another cause, or the commit did, for whatever cause: only the next opening knows what it left. While the store is
 /// open, it shows what it did before.
 pub(crate) fn commit_change<S: Alter>(
+    alloc: Global,
     conn: &mut Connection<S>,
     id: &str,
     command: &Command,
@@ -33,21 +95,15 @@ pub(crate) fn commit_change<S: Alter>(
     requires autocommit { conn.old.in_transaction ≡ false }
     requires usable { WhileOpen (state S.Store conn.old) IsUsable }
     requires writable { IsWritable change.now }
-    ensures made { HasCleanDisk (state S.Store conn.new) → OnOk result (IsCommitted (Turns (tables_after known (change_by id.now command.now change.now)) (state S.Store conn.old).now) (state S.Store conn.new)) }
+    ensures made { HasCleanDisk (state S.Store conn.new) → OnOk result (IsCommitted (Turns (all_after known (change_by id.now command.now change.now)) (state S.Store conn.old).now) (state S.Store conn.new)) }
     ensures lives { HasCleanDisk (state S.Store conn.new) → IsTrue (state S.Store conn.new).is_open → IsTrue (state S.Store conn.old).is_open }
     ensures stays { HasCleanDisk (state S.Store conn.new) → OnErr result (Stays (state S.Store conn.old) (state S.Store conn.new)) }
     ensures adds_none { IfErr result (λ fault. is_disk fault ≡ false → Survives (state S.Store conn.old) (state S.Store conn.new) (λ _. ⊥)) }
-    ensures failed { HasCleanDisk (state S.Store conn.new) → IfErr result (FailsToEnd S.Store (statements_of known (change_by id.now command.now change.now)) (Turns (tables_after known (change_by id.now command.now change.now)) (state S.Store conn.old).now) conn.old conn.new) }
+    ensures failed { HasCleanDisk (state S.Store conn.new) → IfErr result (FailsToCommit S.Store (change_by id.now command.now change.now) (Turns (all_after known (change_by id.now command.now change.now)) (state S.Store conn.old).now) conn.old conn.new) }
     ensures kinds { IfErr result IsOfStore }
     ensures autocommit { (state S.Store conn.new).in_transaction ≡ false }
-    ensures crash { Survives (state S.Store conn.old) (state S.Store conn.new) (IsTreesOf (Turns (tables_after known (change_by id.now command.now change.now)) (state S.Store conn.old).now)) }
+    ensures crash { Survives (state S.Store conn.old) (state S.Store conn.new) (IsTreesOf (Turns (all_after known (change_by id.now command.now change.now)) (state S.Store conn.old).now)) }
 {
-    let mut tx = conn.transaction();
-    if let Err(error) = write_all(&mut tx, id, command, change) {
-        return Err(fault_of(error));
-    }
-    match commit(tx) {
-        Ok(()) => Ok(()),
-        Err(_) => Err(Fault::Disk),
-    }
+    let keys = installed_keys(alloc, command)?;
+    commit_keys(alloc, conn, id, command, change, &keys)
 }

@@ -1,78 +1,53 @@
-// The editions that go, and the one that is installed.
-ghost use Rattle.std.specs.Prelude.{◌≡◌, ◌≤◌, ◌++◌, [], ◌∷◌, OnOk, map, flat_map, Some, not, filter, true, IfErr};
+// The editions that go, and the one that is installed, with what is derived of its entries.
+ghost use Rattle.std.specs.Prelude.{◌≡◌, [], ◌∷◌, IfErr, OnOk, Some, map, flat_map, pos, reverse};
 ghost use Rattle.std.specs.List.{AllByRecursion};
-ghost use Rattle.sqlite.specs.State.{HasCleanDisk, KeepsCommit, Survives};
 ghost use Rattle.sqlite.specs.Held.{state};
 ghost use Rattle.dict_sql.specs.Effects.{WhileOpen};
-ghost use Rattle.dict_index.specs.Views.{line_of};
-ghost use Rattle.dict_rows.specs.Written.{numbered, edition_record, entry_record};
-ghost use Rattle.dict_rows.specs.After.{is_gone};
-ghost use Rattle.dict_sql.specs.Statements.{RunInTurn, FailsInTurn};
-ghost use Rattle.dict_commands.specs.Kept.{Turns, IsUsable, IsStorable, AreStorable};
-ghost use Rattle.dict_commands.specs.Statements.{taking_entries, taking_record, taking, adding_edition, adding_entry, installing};
-ghost use Rattle.dict_commands.specs.Changes.{without_editions, with_edition, with_installed, installed_by, IsShort};
+ghost use Rattle.dict_records.specs.Keyed.{lent_keyed_entry, lent_word, lent_gram};
+ghost use Rattle.dict_match.specs.Key.{key_of};
+ghost use Rattle.dict_index.specs.Views.{line_of, HasItsKey};
+ghost use Rattle.dict_rows.specs.Written.{numbered, entry_record};
+ghost use Rattle.dict_derived.specs.Entries.{filed, piece_at};
+ghost use Rattle.dict_derived.specs.Placed.{word_rows, gram_rows};
+ghost use Rattle.dict_derived.specs.AllTables.{without_editions, with_installed};
+ghost use Rattle.dict_commands.specs.Kept.{IsUsable, IsStorable, AreStorable};
+ghost use Rattle.dict_commands.specs.Statements.{taking, adding_entry, adding_word, adding_gram, installing};
+ghost use Rattle.dict_commands.specs.Changes.{with_more_entries, with_more_words, with_more_grams, installed_by, IsShort};
+ghost use Rattle.dict_commands.specs.Listed.{AreRowsOf, keys_by, keys_of_lines, listed_by};
+ghost use Rattle.dict_commands.specs.Writes.{Wrote, FailsToWrite, Spares};
 
+use crate::derivation::DerivedRows;
 use dict_catalogue::Command;
+use dict_derived::{PlacedGram, PlacedWord};
 use dict_index::{Edition, Entry};
-use dict_rows::{edition_row, entry_row};
-use dict_sql::delete::{delete_edition, delete_entries};
-use dict_sql::insert::{insert_edition, insert_entry};
+use dict_keyed_sql::{
+    delete_grams, delete_keyed_entries, delete_words, insert_gram, insert_keyed_entry, insert_word,
+};
+use dict_records::{Gram, KeyedEntry, Word};
+use dict_rows::edition_row;
+use dict_sql::delete::delete_edition;
+use dict_sql::insert::insert_edition;
 use dict_sql::transaction::OpenTransaction;
 use sqlite::{Alter, Error};
 
-// Takes out the entries of the edition of this number.
-fn take_entries<S: Alter, T: OpenTransaction<S>>(tx: &mut T, number: u64) -> Result<(), Error>
-    requires number { IsStorable number }
-    requires usable { WhileOpen (state S.Store (T.held tx.old)) IsUsable }
-    ensures same_reference { T.reference tx.new ≡ T.reference tx.old }
-    ensures turns { HasCleanDisk (state S.Store (T.held tx.new)) → OnOk result (Turns (λ tables. record tables { entries = filter (λ row. not (is_gone (number ∷ []) row.edition)) tables.entries }) (state S.Store (T.held tx.old)).now (state S.Store (T.held tx.new)).now) }
-    ensures usable { OnOk result (WhileOpen (state S.Store (T.held tx.new)) IsUsable) }
-    ensures inside { HasCleanDisk (state S.Store (T.held tx.new)) → OnOk result ((state S.Store (T.held tx.old)).in_transaction ≡ true → (state S.Store (T.held tx.new)).in_transaction ≡ true) }
-    ensures ran { HasCleanDisk (state S.Store (T.held tx.new)) → OnOk result (RunInTurn S.Store (taking_entries number ∷ []) (T.held tx.old) (T.held tx.new)) }
-    ensures failed { HasCleanDisk (state S.Store (T.held tx.new)) → IfErr result (FailsInTurn S.Store (taking_entries number ∷ []) (T.held tx.old) (T.held tx.new)) }
-    ensures keeps { HasCleanDisk (state S.Store (T.held tx.new)) → KeepsCommit (state S.Store (T.held tx.old)) (state S.Store (T.held tx.new)) }
-    ensures survives { Survives (state S.Store (T.held tx.old)) (state S.Store (T.held tx.new)) (λ _. ⊥) }
-{
-    delete_entries(tx, number as i64)?;
-    Ok(())
-}
-
-// Takes out the record of the edition of this number.
-fn take_row<S: Alter, T: OpenTransaction<S>>(tx: &mut T, number: u64) -> Result<(), Error>
-    requires number { IsStorable number }
-    requires usable { WhileOpen (state S.Store (T.held tx.old)) IsUsable }
-    ensures same_reference { T.reference tx.new ≡ T.reference tx.old }
-    ensures turns { HasCleanDisk (state S.Store (T.held tx.new)) → OnOk result (Turns (λ tables. record tables { editions = filter (λ row. not (is_gone (number ∷ []) row.number)) tables.editions }) (state S.Store (T.held tx.old)).now (state S.Store (T.held tx.new)).now) }
-    ensures usable { OnOk result (WhileOpen (state S.Store (T.held tx.new)) IsUsable) }
-    ensures inside { HasCleanDisk (state S.Store (T.held tx.new)) → OnOk result ((state S.Store (T.held tx.old)).in_transaction ≡ true → (state S.Store (T.held tx.new)).in_transaction ≡ true) }
-    ensures ran { HasCleanDisk (state S.Store (T.held tx.new)) → OnOk result (RunInTurn S.Store (taking_record number ∷ []) (T.held tx.old) (T.held tx.new)) }
-    ensures failed { HasCleanDisk (state S.Store (T.held tx.new)) → IfErr result (FailsInTurn S.Store (taking_record number ∷ []) (T.held tx.old) (T.held tx.new)) }
-    ensures keeps { HasCleanDisk (state S.Store (T.held tx.new)) → KeepsCommit (state S.Store (T.held tx.old)) (state S.Store (T.held tx.new)) }
-    ensures survives { Survives (state S.Store (T.held tx.old)) (state S.Store (T.held tx.new)) (λ _. ⊥) }
-{
-    delete_edition(tx, number as i64)?;
-    Ok(())
-}
-
-// Takes out the edition of this number, with its entries.
+// Takes out the edition of this number, with its entries, their words and their grams.
 fn take_edition<S: Alter, T: OpenTransaction<S>>(tx: &mut T, number: u64) -> Result<(), Error>
     requires number { IsStorable number }
     requires usable { WhileOpen (state S.Store (T.held tx.old)) IsUsable }
     ensures same_reference { T.reference tx.new ≡ T.reference tx.old }
-    ensures turns { HasCleanDisk (state S.Store (T.held tx.new)) → OnOk result (Turns (without_editions (number ∷ [])) (state S.Store (T.held tx.old)).now (state S.Store (T.held tx.new)).now) }
+    ensures wrote { OnOk result (Wrote S.Store (taking number) (without_editions (number ∷ [])) (T.held tx.old) (T.held tx.new)) }
     ensures usable { OnOk result (WhileOpen (state S.Store (T.held tx.new)) IsUsable) }
-    ensures inside { HasCleanDisk (state S.Store (T.held tx.new)) → OnOk result ((state S.Store (T.held tx.old)).in_transaction ≡ true → (state S.Store (T.held tx.new)).in_transaction ≡ true) }
-    ensures ran { HasCleanDisk (state S.Store (T.held tx.new)) → OnOk result (RunInTurn S.Store (taking number) (T.held tx.old) (T.held tx.new)) }
-    ensures failed { HasCleanDisk (state S.Store (T.held tx.new)) → IfErr result (FailsInTurn S.Store (taking number) (T.held tx.old) (T.held tx.new)) }
-    ensures keeps { HasCleanDisk (state S.Store (T.held tx.new)) → KeepsCommit (state S.Store (T.held tx.old)) (state S.Store (T.held tx.new)) }
-    ensures survives { Survives (state S.Store (T.held tx.old)) (state S.Store (T.held tx.new)) (λ _. ⊥) }
+    ensures failed { IfErr result (FailsToWrite S.Store (taking number) (T.held tx.old) (T.held tx.new)) }
+    ensures spares { Spares S.Store (T.held tx.old) (T.held tx.new) }
 {
-    take_entries(tx, number)?;
-    take_row(tx, number)?;
+    delete_grams(tx, number as i64)?;
+    delete_words(tx, number as i64)?;
+    delete_keyed_entries(tx, number as i64)?;
+    delete_edition(tx, number as i64)?;
     Ok(())
 }
 
-/// Takes out the editions of these numbers, with their entries.
+/// Takes out the editions of these numbers, with their entries and what is derived of them.
 pub(crate) fn take_editions<S: Alter, T: OpenTransaction<S>>(
     tx: &mut T,
     gone: &[u64],
@@ -80,13 +55,10 @@ pub(crate) fn take_editions<S: Alter, T: OpenTransaction<S>>(
     requires numbers { AreStorable gone.now }
     requires usable { WhileOpen (state S.Store (T.held tx.old)) IsUsable }
     ensures same_reference { T.reference tx.new ≡ T.reference tx.old }
-    ensures turns { HasCleanDisk (state S.Store (T.held tx.new)) → OnOk result (Turns (without_editions gone.now) (state S.Store (T.held tx.old)).now (state S.Store (T.held tx.new)).now) }
+    ensures wrote { OnOk result (Wrote S.Store (flat_map taking gone.now) (without_editions gone.now) (T.held tx.old) (T.held tx.new)) }
     ensures usable { OnOk result (WhileOpen (state S.Store (T.held tx.new)) IsUsable) }
-    ensures inside { HasCleanDisk (state S.Store (T.held tx.new)) → OnOk result ((state S.Store (T.held tx.old)).in_transaction ≡ true → (state S.Store (T.held tx.new)).in_transaction ≡ true) }
-    ensures ran { HasCleanDisk (state S.Store (T.held tx.new)) → OnOk result (RunInTurn S.Store (flat_map taking gone.now) (T.held tx.old) (T.held tx.new)) }
-    ensures failed { HasCleanDisk (state S.Store (T.held tx.new)) → IfErr result (FailsInTurn S.Store (flat_map taking gone.now) (T.held tx.old) (T.held tx.new)) }
-    ensures keeps { HasCleanDisk (state S.Store (T.held tx.new)) → KeepsCommit (state S.Store (T.held tx.old)) (state S.Store (T.held tx.new)) }
-    ensures survives { Survives (state S.Store (T.held tx.old)) (state S.Store (T.held tx.new)) (λ _. ⊥) }
+    ensures failed { IfErr result (FailsToWrite S.Store (flat_map taking gone.now) (T.held tx.old) (T.held tx.new)) }
+    ensures spares { Spares S.Store (T.held tx.old) (T.held tx.new) }
 {
     'each: for number in gone {
         take_edition(tx, *number)?;
@@ -94,52 +66,30 @@ pub(crate) fn take_editions<S: Alter, T: OpenTransaction<S>>(
     Ok(())
 }
 
-// Adds the record of an edition under its number.
-fn add_row<S: Alter, T: OpenTransaction<S>>(
-    tx: &mut T,
-    owner: &str,
-    number: u64,
-    edition: &Edition,
-) -> Result<(), Error>
-    requires number { IsStorable number }
-    requires usable { WhileOpen (state S.Store (T.held tx.old)) IsUsable }
-    ensures same_reference { T.reference tx.new ≡ T.reference tx.old }
-    ensures turns { HasCleanDisk (state S.Store (T.held tx.new)) → OnOk result (Turns (λ tables. record tables { editions = tables.editions ++ edition_record owner.now number edition.now ∷ [] }) (state S.Store (T.held tx.old)).now (state S.Store (T.held tx.new)).now) }
-    ensures usable { OnOk result (WhileOpen (state S.Store (T.held tx.new)) IsUsable) }
-    ensures inside { HasCleanDisk (state S.Store (T.held tx.new)) → OnOk result ((state S.Store (T.held tx.old)).in_transaction ≡ true → (state S.Store (T.held tx.new)).in_transaction ≡ true) }
-    ensures ran { HasCleanDisk (state S.Store (T.held tx.new)) → OnOk result (RunInTurn S.Store (adding_edition (edition_record owner.now number edition.now) ∷ []) (T.held tx.old) (T.held tx.new)) }
-    ensures failed { HasCleanDisk (state S.Store (T.held tx.new)) → IfErr result (FailsInTurn S.Store (adding_edition (edition_record owner.now number edition.now) ∷ []) (T.held tx.old) (T.held tx.new)) }
-    ensures keeps { HasCleanDisk (state S.Store (T.held tx.new)) → KeepsCommit (state S.Store (T.held tx.old)) (state S.Store (T.held tx.new)) }
-    ensures survives { Survives (state S.Store (T.held tx.old)) (state S.Store (T.held tx.new)) (λ _. ⊥) }
-{
-    let row = edition_row(owner, number, edition);
-    insert_edition(tx, &row)?;
-    Ok(())
-}
-
-// Adds the record of an entry at its place.
-fn add_entry<S: Alter, T: OpenTransaction<S>>(
-    tx: &mut T,
+// The record of an entry of this edition at its place, with its key, the key's octets in reverse order, and what is shown.
+fn filed_row<'a>(
     number: u64,
     ord: u64,
-    entry: &Entry,
-) -> Result<(), Error>
+    entry: &'a Entry,
+    reversed: &'a [u8],
+) -> KeyedEntry<&'a str, &'a [u8]>
     requires number { IsStorable number }
     requires ord { IsStorable ord }
     requires short { IsShort (line_of entry.now) }
-    requires usable { WhileOpen (state S.Store (T.held tx.old)) IsUsable }
-    ensures same_reference { T.reference tx.new ≡ T.reference tx.old }
-    ensures turns { HasCleanDisk (state S.Store (T.held tx.new)) → OnOk result (Turns (λ tables. record tables { entries = tables.entries ++ entry_record number ord (line_of entry.now) ∷ [] }) (state S.Store (T.held tx.old)).now (state S.Store (T.held tx.new)).now) }
-    ensures usable { OnOk result (WhileOpen (state S.Store (T.held tx.new)) IsUsable) }
-    ensures inside { HasCleanDisk (state S.Store (T.held tx.new)) → OnOk result ((state S.Store (T.held tx.old)).in_transaction ≡ true → (state S.Store (T.held tx.new)).in_transaction ≡ true) }
-    ensures ran { HasCleanDisk (state S.Store (T.held tx.new)) → OnOk result (RunInTurn S.Store (adding_entry (entry_record number ord (line_of entry.now)) ∷ []) (T.held tx.old) (T.held tx.new)) }
-    ensures failed { HasCleanDisk (state S.Store (T.held tx.new)) → IfErr result (FailsInTurn S.Store (adding_entry (entry_record number ord (line_of entry.now)) ∷ []) (T.held tx.old) (T.held tx.new)) }
-    ensures keeps { HasCleanDisk (state S.Store (T.held tx.new)) → KeepsCommit (state S.Store (T.held tx.old)) (state S.Store (T.held tx.new)) }
-    ensures survives { Survives (state S.Store (T.held tx.old)) (state S.Store (T.held tx.new)) (λ _. ⊥) }
+    requires key { HasItsKey entry.now }
+    requires reversed { reversed.now ≡ reverse (key_of entry.now.headword.now) }
+    ensures { lent_keyed_entry result ≡ filed (entry_record number ord (line_of entry.now)) }
 {
-    let row = entry_row(number, ord, entry);
-    insert_entry(tx, &row)?;
-    Ok(())
+    KeyedEntry {
+        edition: number as i64,
+        ord: ord as i64,
+        headword: entry.headword,
+        start: entry.offset as i64,
+        length: entry.size as i64,
+        key: entry.key.as_bytes(),
+        reversed,
+        shown: entry.shown,
+    }
 }
 
 // Adds the records of entries, each at its place.
@@ -147,71 +97,136 @@ fn add_entries<S: Alter, T: OpenTransaction<S>>(
     tx: &mut T,
     number: u64,
     entries: &[Entry],
+    reversed: &[Vec<u8>],
 ) -> Result<(), Error>
     requires number { IsStorable number }
     requires short { AllByRecursion (λ entry. IsShort (line_of entry)) entries.now }
+    requires keys { AllByRecursion HasItsKey entries.now }
+    requires reversed { map (λ octets. octets.items) reversed.now ≡ map reverse (keys_of_lines (map line_of entries.now)) }
     requires usable { WhileOpen (state S.Store (T.held tx.old)) IsUsable }
     ensures same_reference { T.reference tx.new ≡ T.reference tx.old }
-    ensures turns { HasCleanDisk (state S.Store (T.held tx.new)) → OnOk result (Turns (λ tables. record tables { entries = tables.entries ++ numbered (entry_record number) 0 (map line_of entries.now) }) (state S.Store (T.held tx.old)).now (state S.Store (T.held tx.new)).now) }
+    ensures wrote { OnOk result (Wrote S.Store (map adding_entry (map filed (numbered (entry_record number) 0 (map line_of entries.now)))) (with_more_entries (map filed (numbered (entry_record number) 0 (map line_of entries.now)))) (T.held tx.old) (T.held tx.new)) }
     ensures usable { OnOk result (WhileOpen (state S.Store (T.held tx.new)) IsUsable) }
-    ensures inside { HasCleanDisk (state S.Store (T.held tx.new)) → OnOk result ((state S.Store (T.held tx.old)).in_transaction ≡ true → (state S.Store (T.held tx.new)).in_transaction ≡ true) }
-    ensures ran { HasCleanDisk (state S.Store (T.held tx.new)) → OnOk result (RunInTurn S.Store (map adding_entry (numbered (entry_record number) 0 (map line_of entries.now))) (T.held tx.old) (T.held tx.new)) }
-    ensures failed { HasCleanDisk (state S.Store (T.held tx.new)) → IfErr result (FailsInTurn S.Store (map adding_entry (numbered (entry_record number) 0 (map line_of entries.now))) (T.held tx.old) (T.held tx.new)) }
-    ensures keeps { HasCleanDisk (state S.Store (T.held tx.new)) → KeepsCommit (state S.Store (T.held tx.old)) (state S.Store (T.held tx.new)) }
-    ensures survives { Survives (state S.Store (T.held tx.old)) (state S.Store (T.held tx.new)) (λ _. ⊥) }
+    ensures failed { IfErr result (FailsToWrite S.Store (map adding_entry (map filed (numbered (entry_record number) 0 (map line_of entries.now)))) (T.held tx.old) (T.held tx.new)) }
+    ensures spares { Spares S.Store (T.held tx.old) (T.held tx.new) }
 {
     for (ord, entry) in entries.iter().enumerate() {
-        add_entry(tx, number, ord as u64, entry)?;
+        let row = filed_row(number, ord as u64, entry, reversed[ord].as_slice());
+        insert_keyed_entry(tx, &row)?;
     }
     Ok(())
 }
 
-// Adds an edition of this owner under its number, with its entries.
+// The record of a word of this edition.
+fn word_row<'a>(number: u64, placed: &PlacedWord<'a>) -> Word<&'a [u8]>
+    requires { IsStorable number }
+    ensures { lent_word result ≡ piece_at (pos number) (pos placed.now.ord) placed.now.word.now }
+{
+    Word {
+        edition: number as i64,
+        word: placed.word,
+        ord: i64::from(placed.ord),
+    }
+}
+
+// The record of a gram of this edition.
+fn gram_row(number: u64, placed: &PlacedGram) -> Gram<&[u8]>
+    requires { IsStorable number }
+    ensures { lent_gram result ≡ piece_at (pos number) (pos placed.now.ord) placed.now.gram }
+{
+    Gram {
+        edition: number as i64,
+        gram: placed.gram.as_slice(),
+        ord: i64::from(placed.ord),
+    }
+}
+
+// Adds the words of an edition, in their order.
+fn add_words<S: Alter, T: OpenTransaction<S>>(
+    tx: &mut T,
+    number: u64,
+    words: &[PlacedWord],
+) -> Result<(), Error>
+    requires number { IsStorable number }
+    requires usable { WhileOpen (state S.Store (T.held tx.old)) IsUsable }
+    ensures same_reference { T.reference tx.new ≡ T.reference tx.old }
+    ensures wrote { OnOk result (Wrote S.Store (map adding_word (word_rows (pos number) words.now)) (with_more_words (word_rows (pos number) words.now)) (T.held tx.old) (T.held tx.new)) }
+    ensures usable { OnOk result (WhileOpen (state S.Store (T.held tx.new)) IsUsable) }
+    ensures failed { IfErr result (FailsToWrite S.Store (map adding_word (word_rows (pos number) words.now)) (T.held tx.old) (T.held tx.new)) }
+    ensures spares { Spares S.Store (T.held tx.old) (T.held tx.new) }
+{
+    'each: for placed in words {
+        let row = word_row(number, placed);
+        insert_word(tx, &row)?;
+    }
+    Ok(())
+}
+
+// Adds the grams of an edition, in their order.
+fn add_grams<S: Alter, T: OpenTransaction<S>>(
+    tx: &mut T,
+    number: u64,
+    grams: &[PlacedGram],
+) -> Result<(), Error>
+    requires number { IsStorable number }
+    requires usable { WhileOpen (state S.Store (T.held tx.old)) IsUsable }
+    ensures same_reference { T.reference tx.new ≡ T.reference tx.old }
+    ensures wrote { OnOk result (Wrote S.Store (map adding_gram (gram_rows (pos number) grams.now)) (with_more_grams (gram_rows (pos number) grams.now)) (T.held tx.old) (T.held tx.new)) }
+    ensures usable { OnOk result (WhileOpen (state S.Store (T.held tx.new)) IsUsable) }
+    ensures failed { IfErr result (FailsToWrite S.Store (map adding_gram (gram_rows (pos number) grams.now)) (T.held tx.old) (T.held tx.new)) }
+    ensures spares { Spares S.Store (T.held tx.old) (T.held tx.new) }
+{
+    'each: for placed in grams {
+        let row = gram_row(number, placed);
+        insert_gram(tx, &row)?;
+    }
+    Ok(())
+}
+
+// Adds an edition of this owner under its number, with its entries and what is derived of them.
 fn add_edition<S: Alter, T: OpenTransaction<S>>(
     tx: &mut T,
     owner: &str,
     number: u64,
     edition: &Edition,
+    rows: &DerivedRows,
 ) -> Result<(), Error>
     requires number { IsStorable number }
+    requires rows { AreRowsOf (keys_of_lines edition.now.lines) rows.now }
     requires usable { WhileOpen (state S.Store (T.held tx.old)) IsUsable }
     ensures same_reference { T.reference tx.new ≡ T.reference tx.old }
-    ensures turns { HasCleanDisk (state S.Store (T.held tx.new)) → OnOk result (Turns (with_edition (record { owner = owner.now; number = number; reading = edition.now })) (state S.Store (T.held tx.old)).now (state S.Store (T.held tx.new)).now) }
+    ensures wrote { OnOk result (Wrote S.Store (installing (Some (record { owner = owner.now; number = number; reading = edition.now })) (listed_by number rows.now)) (with_installed (Some (record { owner = owner.now; number = number; reading = edition.now }))) (T.held tx.old) (T.held tx.new)) }
     ensures usable { OnOk result (WhileOpen (state S.Store (T.held tx.new)) IsUsable) }
-    ensures inside { HasCleanDisk (state S.Store (T.held tx.new)) → OnOk result ((state S.Store (T.held tx.old)).in_transaction ≡ true → (state S.Store (T.held tx.new)).in_transaction ≡ true) }
-    ensures ran { HasCleanDisk (state S.Store (T.held tx.new)) → OnOk result (RunInTurn S.Store (installing (Some (record { owner = owner.now; number = number; reading = edition.now }))) (T.held tx.old) (T.held tx.new)) }
-    ensures failed { HasCleanDisk (state S.Store (T.held tx.new)) → IfErr result (FailsInTurn S.Store (installing (Some (record { owner = owner.now; number = number; reading = edition.now }))) (T.held tx.old) (T.held tx.new)) }
-    ensures keeps { HasCleanDisk (state S.Store (T.held tx.new)) → KeepsCommit (state S.Store (T.held tx.old)) (state S.Store (T.held tx.new)) }
-    ensures survives { Survives (state S.Store (T.held tx.old)) (state S.Store (T.held tx.new)) (λ _. ⊥) }
+    ensures failed { IfErr result (FailsToWrite S.Store (installing (Some (record { owner = owner.now; number = number; reading = edition.now })) (listed_by number rows.now)) (T.held tx.old) (T.held tx.new)) }
+    ensures spares { Spares S.Store (T.held tx.old) (T.held tx.new) }
 {
     let _text = edition.text();
-    add_row(tx, owner, number, edition)?;
-    add_entries(tx, number, edition.entries())?;
+    let row = edition_row(owner, number, edition);
+    insert_edition(tx, &row)?;
+    add_entries(tx, number, edition.entries(), &rows.reversed)?;
+    add_words(tx, number, &rows.words)?;
+    add_grams(tx, number, &rows.grams)?;
     Ok(())
 }
 
-/// Adds the edition that the command installs, if it installs one, under its number.
+/// Adds the edition that the command installs, if it installs one, under its number, with what was derived of its keys.
 pub(crate) fn add_installed<S: Alter, T: OpenTransaction<S>>(
     tx: &mut T,
     number: u64,
     command: &Command,
+    rows: &DerivedRows,
 ) -> Result<(), Error>
     requires number { IsStorable number }
+    requires rows { AreRowsOf (keys_by command.now) rows.now }
     requires usable { WhileOpen (state S.Store (T.held tx.old)) IsUsable }
     ensures same_reference { T.reference tx.new ≡ T.reference tx.old }
-    ensures turns { HasCleanDisk (state S.Store (T.held tx.new)) → OnOk result (Turns (with_installed (installed_by number command.now)) (state S.Store (T.held tx.old)).now (state S.Store (T.held tx.new)).now) }
+    ensures wrote { OnOk result (Wrote S.Store (installing (installed_by number command.now) (listed_by number rows.now)) (with_installed (installed_by number command.now)) (T.held tx.old) (T.held tx.new)) }
     ensures usable { OnOk result (WhileOpen (state S.Store (T.held tx.new)) IsUsable) }
-    ensures inside { HasCleanDisk (state S.Store (T.held tx.new)) → OnOk result ((state S.Store (T.held tx.old)).in_transaction ≡ true → (state S.Store (T.held tx.new)).in_transaction ≡ true) }
-    ensures ran { HasCleanDisk (state S.Store (T.held tx.new)) → OnOk result (RunInTurn S.Store (installing (installed_by number command.now)) (T.held tx.old) (T.held tx.new)) }
-    ensures failed { HasCleanDisk (state S.Store (T.held tx.new)) → IfErr result (FailsInTurn S.Store (installing (installed_by number command.now)) (T.held tx.old) (T.held tx.new)) }
-    ensures keeps { HasCleanDisk (state S.Store (T.held tx.new)) → KeepsCommit (state S.Store (T.held tx.old)) (state S.Store (T.held tx.new)) }
-    ensures survives { Survives (state S.Store (T.held tx.old)) (state S.Store (T.held tx.new)) (λ _. ⊥) }
+    ensures failed { IfErr result (FailsToWrite S.Store (installing (installed_by number command.now) (listed_by number rows.now)) (T.held tx.old) (T.held tx.new)) }
+    ensures spares { Spares S.Store (T.held tx.old) (T.held tx.new) }
 {
     match command {
-        Command::Install { name, edition } => {
-            add_edition(tx, name, number, edition)?;
-            Ok(())
-        }
+        Command::Install { name, edition } => add_edition(tx, name, number, edition, rows),
         Command::Rollback { .. }
         | Command::Retire { .. }
         | Command::PutVirtual { .. }

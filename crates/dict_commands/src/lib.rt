@@ -1,10 +1,11 @@
-//! Editors' commands on the tables of one database: each by one transaction, the whole of it or nothing, and once.
+//! Editors' commands on the tables of one database, those of what is derived among them: each by one transaction, the whole of it or nothing, and once.
 #![tactic(auto)]
 
 mod applied;
 mod applying;
 mod committing;
 mod deciding;
+mod derivation;
 mod editions;
 mod laws;
 mod replies;
@@ -13,5 +14,5 @@ mod writing;
 
 pub use applied::Applied;
 pub use applying::apply;
-pub use laws::summaries_in_range;
+pub use laws::{command_holds, summaries_in_range};
 pub use replies::kept_reply;

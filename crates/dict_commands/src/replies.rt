@@ -9,7 +9,8 @@ ghost use Rattle.dict_catalogue.specs.Steps.{Catalogue, KeptFor, kept_under};
 ghost use Rattle.dict_catalogue.specs.Views.{kept_shown};
 ghost use Rattle.dict_catalogue.specs.declared.reply.Verb.{Verb as AVerb};
 ghost use Rattle.dict_rows.specs.Written.{kept_record, verb_name};
-ghost use Rattle.dict_file.specs.Faults.{fault_of_read, FailsToLookUp};
+ghost use Rattle.dict_file.specs.Faults.{fault_of_read};
+ghost use Rattle.dict_file.specs.Faults.{FailsToLookUp};
 ghost use Rattle.dict_file.specs.Holds.{Holds};
 ghost use Rattle.dict_commands.specs.Committed.{IsOfStore, Stays};
 

@@ -1,19 +1,21 @@
 // All that one command writes, inside an open transaction.
-ghost use Rattle.std.specs.Prelude.{◌≡◌, ◌++◌, ◌∷◌, [], true, OnOk, IfSome, map, IfErr};
+ghost use Rattle.std.specs.Prelude.{◌≡◌, ◌∷◌, [], true, OnOk, IfSome, map, IfErr};
 ghost use Rattle.std.specs.List.{AllByRecursion};
 ghost use Rattle.sqlite.specs.Effect.{IsDatabase};
-ghost use Rattle.sqlite.specs.State.{HasCleanDisk, KeepsCommit, Survives};
+ghost use Rattle.sqlite.specs.State.{HasCleanDisk};
 ghost use Rattle.sqlite.specs.Held.{state};
 ghost use Rattle.dict_sql.specs.Effects.{WhileOpen};
 ghost use Rattle.dict_catalogue.specs.Items.{numbers_of};
 ghost use Rattle.dict_catalogue.specs.Views.{item_shown, kept_shown};
-ghost use Rattle.dict_rows.specs.After.{tables_after};
 ghost use Rattle.dict_rows.specs.Versions.{known};
-ghost use Rattle.dict_sql.specs.Statements.{RunInTurn, FailsInTurn};
-ghost use Rattle.dict_commands.specs.Kept.{Turns, IsUsable, IsStorable, AreStorable};
+ghost use Rattle.dict_derived.specs.AllTables.{all_after, without_editions, with_installed};
+ghost use Rattle.dict_commands.specs.Kept.{IsUsable, IsStorable, AreStorable};
 ghost use Rattle.dict_commands.specs.Statements.{summary_anew, exchanging, replying, statements_of};
-ghost use Rattle.dict_commands.specs.Changes.{with_mark, with_items, with_members, without_editions, with_installed, with_reply, installed_by, change_by, IsWritable};
+ghost use Rattle.dict_commands.specs.Changes.{with_mark, with_items, with_members, with_reply, installed_by, change_by, IsWritable};
+ghost use Rattle.dict_commands.specs.Listed.{AreRowsOf, keys_by, listed_by};
+ghost use Rattle.dict_commands.specs.Writes.{Wrote, FailsToWrite, Spares};
 
+use crate::derivation::DerivedRows;
 use crate::editions::{add_installed, take_editions};
 use crate::small::{write_items, write_mark, write_members};
 use dict_catalogue::{Change, Command, Kept, Summary};
@@ -31,13 +33,10 @@ fn write_summary<S: Alter, T: OpenTransaction<S>>(
     requires numbers { AllByRecursion (λ item. AreStorable (numbers_of (item_shown item))) summary.now.items.items }
     requires usable { WhileOpen (state S.Store (T.held tx.old)) IsUsable }
     ensures same_reference { T.reference tx.new ≡ T.reference tx.old }
-    ensures turns { HasCleanDisk (state S.Store (T.held tx.new)) → OnOk result (Turns (λ tables. with_members (map item_shown summary.now.items.items) (with_items (map item_shown summary.now.items.items) (with_mark summary.now.installs tables))) (state S.Store (T.held tx.old)).now (state S.Store (T.held tx.new)).now) }
+    ensures wrote { OnOk result (Wrote S.Store (summary_anew known summary.now.installs (map item_shown summary.now.items.items)) (λ all. with_members (map item_shown summary.now.items.items) (with_items (map item_shown summary.now.items.items) (with_mark summary.now.installs all))) (T.held tx.old) (T.held tx.new)) }
     ensures usable { OnOk result (WhileOpen (state S.Store (T.held tx.new)) IsUsable) }
-    ensures inside { HasCleanDisk (state S.Store (T.held tx.new)) → OnOk result ((state S.Store (T.held tx.old)).in_transaction ≡ true → (state S.Store (T.held tx.new)).in_transaction ≡ true) }
-    ensures ran { HasCleanDisk (state S.Store (T.held tx.new)) → OnOk result (RunInTurn S.Store (summary_anew 1 summary.now.installs (map item_shown summary.now.items.items)) (T.held tx.old) (T.held tx.new)) }
-    ensures failed { HasCleanDisk (state S.Store (T.held tx.new)) → IfErr result (FailsInTurn S.Store (summary_anew 1 summary.now.installs (map item_shown summary.now.items.items)) (T.held tx.old) (T.held tx.new)) }
-    ensures keeps { HasCleanDisk (state S.Store (T.held tx.new)) → KeepsCommit (state S.Store (T.held tx.old)) (state S.Store (T.held tx.new)) }
-    ensures survives { Survives (state S.Store (T.held tx.old)) (state S.Store (T.held tx.new)) (λ _. ⊥) }
+    ensures failed { IfErr result (FailsToWrite S.Store (summary_anew known summary.now.installs (map item_shown summary.now.items.items)) (T.held tx.old) (T.held tx.new)) }
+    ensures spares { Spares S.Store (T.held tx.old) (T.held tx.new) }
 {
     write_mark(tx, summary.installs)?;
     write_items(tx, &summary.items)?;
@@ -45,27 +44,26 @@ fn write_summary<S: Alter, T: OpenTransaction<S>>(
     Ok(())
 }
 
-// Takes out the editions that go, and adds the one that the command installs.
+// Takes out the editions that go, and adds the one that the command installs, with what was derived of its keys.
 fn write_editions<S: Alter, T: OpenTransaction<S>>(
     tx: &mut T,
     gone: &[u64],
     installs: u64,
     command: &Command,
+    rows: &DerivedRows,
 ) -> Result<(), Error>
     requires gone { AreStorable gone.now }
     requires installs { IsStorable installs }
+    requires rows { AreRowsOf (keys_by command.now) rows.now }
     requires usable { WhileOpen (state S.Store (T.held tx.old)) IsUsable }
     ensures same_reference { T.reference tx.new ≡ T.reference tx.old }
-    ensures turns { HasCleanDisk (state S.Store (T.held tx.new)) → OnOk result (Turns (λ tables. with_installed (installed_by installs command.now) (without_editions gone.now tables)) (state S.Store (T.held tx.old)).now (state S.Store (T.held tx.new)).now) }
+    ensures wrote { OnOk result (Wrote S.Store (exchanging gone.now (installed_by installs command.now) (listed_by installs rows.now)) (λ all. with_installed (installed_by installs command.now) (without_editions gone.now all)) (T.held tx.old) (T.held tx.new)) }
     ensures usable { OnOk result (WhileOpen (state S.Store (T.held tx.new)) IsUsable) }
-    ensures inside { HasCleanDisk (state S.Store (T.held tx.new)) → OnOk result ((state S.Store (T.held tx.old)).in_transaction ≡ true → (state S.Store (T.held tx.new)).in_transaction ≡ true) }
-    ensures ran { HasCleanDisk (state S.Store (T.held tx.new)) → OnOk result (RunInTurn S.Store (exchanging gone.now (installed_by installs command.now)) (T.held tx.old) (T.held tx.new)) }
-    ensures failed { HasCleanDisk (state S.Store (T.held tx.new)) → IfErr result (FailsInTurn S.Store (exchanging gone.now (installed_by installs command.now)) (T.held tx.old) (T.held tx.new)) }
-    ensures keeps { HasCleanDisk (state S.Store (T.held tx.new)) → KeepsCommit (state S.Store (T.held tx.old)) (state S.Store (T.held tx.new)) }
-    ensures survives { Survives (state S.Store (T.held tx.old)) (state S.Store (T.held tx.new)) (λ _. ⊥) }
+    ensures failed { IfErr result (FailsToWrite S.Store (exchanging gone.now (installed_by installs command.now) (listed_by installs rows.now)) (T.held tx.old) (T.held tx.new)) }
+    ensures spares { Spares S.Store (T.held tx.old) (T.held tx.new) }
 {
     take_editions(tx, gone)?;
-    add_installed(tx, installs, command)?;
+    add_installed(tx, installs, command, rows)?;
     Ok(())
 }
 
@@ -79,38 +77,38 @@ fn add_reply<S: Alter, T: OpenTransaction<S>>(
     requires edition { IfSome reply.now.edition IsStorable }
     requires usable { WhileOpen (state S.Store (T.held tx.old)) IsUsable }
     ensures same_reference { T.reference tx.new ≡ T.reference tx.old }
-    ensures turns { HasCleanDisk (state S.Store (T.held tx.new)) → OnOk result (Turns (with_reply (record { id = id.now; reply = kept_shown reply.now })) (state S.Store (T.held tx.old)).now (state S.Store (T.held tx.new)).now) }
+    ensures wrote { OnOk result (Wrote S.Store (replying (record { id = id.now; reply = kept_shown reply.now })) (with_reply (record { id = id.now; reply = kept_shown reply.now })) (T.held tx.old) (T.held tx.new)) }
     ensures sound { HasCleanDisk (state S.Store (T.held tx.new)) → OnOk result (IsDatabase (state S.Store (T.held tx.new)).now) }
     ensures inside { HasCleanDisk (state S.Store (T.held tx.new)) → OnOk result ((state S.Store (T.held tx.new)).in_transaction ≡ true) }
-    ensures ran { HasCleanDisk (state S.Store (T.held tx.new)) → OnOk result (RunInTurn S.Store (replying (record { id = id.now; reply = kept_shown reply.now })) (T.held tx.old) (T.held tx.new)) }
-    ensures failed { HasCleanDisk (state S.Store (T.held tx.new)) → IfErr result (FailsInTurn S.Store (replying (record { id = id.now; reply = kept_shown reply.now })) (T.held tx.old) (T.held tx.new)) }
-    ensures keeps { HasCleanDisk (state S.Store (T.held tx.new)) → KeepsCommit (state S.Store (T.held tx.old)) (state S.Store (T.held tx.new)) }
-    ensures survives { Survives (state S.Store (T.held tx.old)) (state S.Store (T.held tx.new)) (λ _. ⊥) }
+    ensures failed { IfErr result (FailsToWrite S.Store (replying (record { id = id.now; reply = kept_shown reply.now })) (T.held tx.old) (T.held tx.new)) }
+    ensures spares { Spares S.Store (T.held tx.old) (T.held tx.new) }
 {
     let row = kept_row(id, reply);
     insert_kept(tx, &row)?;
     Ok(())
 }
 
-/// Writes all that a planned command does, and its reply for the id of its request.
+/// Writes all that a planned command does, with what was derived of the keys of the edition that it installs, and its reply
+/// for the id of its request.
 pub(crate) fn write_all<S: Alter, T: OpenTransaction<S>>(
     tx: &mut T,
     id: &str,
     command: &Command,
     change: &Change,
+    rows: &DerivedRows,
 ) -> Result<(), Error>
     requires writable { IsWritable change.now }
+    requires rows { AreRowsOf (keys_by command.now) rows.now }
     requires usable { WhileOpen (state S.Store (T.held tx.old)) IsUsable }
     ensures same_reference { T.reference tx.new ≡ T.reference tx.old }
-    ensures made { HasCleanDisk (state S.Store (T.held tx.new)) → OnOk result (Turns (tables_after known (change_by id.now command.now change.now)) (state S.Store (T.held tx.old)).now (state S.Store (T.held tx.new)).now × IsDatabase (state S.Store (T.held tx.new)).now) }
+    ensures wrote { OnOk result (Wrote S.Store (statements_of known (change_by id.now command.now change.now) (listed_by change.now.summary.installs rows.now)) (all_after known (change_by id.now command.now change.now)) (T.held tx.old) (T.held tx.new)) }
+    ensures sound { HasCleanDisk (state S.Store (T.held tx.new)) → OnOk result (IsDatabase (state S.Store (T.held tx.new)).now) }
     ensures inside { HasCleanDisk (state S.Store (T.held tx.new)) → OnOk result ((state S.Store (T.held tx.new)).in_transaction ≡ true) }
-    ensures ran { HasCleanDisk (state S.Store (T.held tx.new)) → OnOk result (RunInTurn S.Store (statements_of known (change_by id.now command.now change.now)) (T.held tx.old) (T.held tx.new)) }
-    ensures failed { HasCleanDisk (state S.Store (T.held tx.new)) → IfErr result (FailsInTurn S.Store (statements_of known (change_by id.now command.now change.now)) (T.held tx.old) (T.held tx.new)) }
-    ensures keeps { HasCleanDisk (state S.Store (T.held tx.new)) → KeepsCommit (state S.Store (T.held tx.old)) (state S.Store (T.held tx.new)) }
-    ensures survives { Survives (state S.Store (T.held tx.old)) (state S.Store (T.held tx.new)) (λ _. ⊥) }
+    ensures failed { IfErr result (FailsToWrite S.Store (statements_of known (change_by id.now command.now change.now) (listed_by change.now.summary.installs rows.now)) (T.held tx.old) (T.held tx.new)) }
+    ensures spares { Spares S.Store (T.held tx.old) (T.held tx.new) }
 {
     write_summary(tx, &change.summary)?;
-    write_editions(tx, &change.gone, change.summary.installs, command)?;
+    write_editions(tx, &change.gone, change.summary.installs, command, rows)?;
     add_reply(tx, id, &change.kept)?;
     Ok(())
 }

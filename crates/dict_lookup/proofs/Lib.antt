@@ -1,4 +1,9 @@
-pub mod RecordLemmas
-pub mod StateLemmas
+pub mod FailLemmas
+pub mod FiledLemmas
+pub mod FoundLemmas
 pub mod HandLemmas
+pub mod HeldLemmas
+pub mod RecordLemmas
+pub mod SortLemmas
+pub mod StateLemmas
 pub mod StreamLemmas

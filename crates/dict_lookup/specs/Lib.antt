@@ -1,3 +1,3 @@
-pub mod Lookups
+pub mod Searches
 pub mod Handed
 pub mod CountLemmas

@@ -1,5 +1,5 @@
 // A sink that counts rows.
-use dict_desk::{RowSink, Turn};
+use dict_desk::{Row, RowSink, Turn};
 
 // How many rows were taken.
 #[derive(Drop)]
@@ -16,7 +16,7 @@ impl RowSink for Counter {
     // Only a count that is as high as a number goes stops it.
     ghost stops = { λ old rows new. 18446744073709551615 ≤ old.count + length rows };
 
-    fn take(&mut self, headword: &str, body: &[u8]) -> Turn {
+    fn take(&mut self, _: Row) -> Turn {
         if self.count == u64::MAX {
             return Turn::Stop;
         }

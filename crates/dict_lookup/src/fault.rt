@@ -1,6 +1,6 @@
 // Why a read fails.
 ghost use Rattle.std.specs.Prelude.{◌≡◌};
-ghost use Rattle.dict_lookup.specs.Lookups.{fault_of_read, IsOfStore};
+ghost use Rattle.dict_lookup.specs.Searches.{fault_of_read, IsOfStore};
 
 use dict_desk::Fault;
 use dict_file::fault_of;

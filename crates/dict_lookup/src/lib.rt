@@ -1,14 +1,17 @@
-//! What is asked of one edition of the catalogue that a file holds, by going through its entries in order.
+//! What is asked of one edition of the catalogue that a file holds, by the keys, the words and the grams of its entries.
 //!
-//! Within a call the edition's text is in memory, and where headwords are listed those found so far; after it nothing is.
+//! A lookup reads the entries that a query looks at (`dict_derived::select`) row by row, in the order of the index, and hands them out while it reads. No key of an entry is made. Within a call of `find` the edition's text is in memory, and where headwords are listed those found so far; after it nothing is.
 #![tactic(auto)]
 
+mod begin;
 mod counter;
 mod entries;
 mod fault;
 mod found;
+mod laws;
 mod listed;
 mod lookups;
 mod record;
 
+pub use laws::held_laws;
 pub use lookups::{count, find, heads, info};

@@ -2,26 +2,23 @@
 ghost use Rattle.std.specs.Prelude.{◌≡◌, ◌≤◌, length, false, List, IfOk, IfErr, IsErr, OnOk};
 ghost use Rattle.sqlite.specs.State.{HasCleanDisk, IsUnchanged, Survives};
 ghost use Rattle.sqlite.specs.Held.{state};
-ghost use Rattle.dict_tables.specs.Tables.{entry as entry_table};
-ghost use Rattle.dict_sql.specs.Effects.{Has, WhileOpen};
-ghost use Rattle.dict_index.specs.Edition.{Edition, Entry, ReadEdition, edition_of};
-ghost use Rattle.dict_catalogue.specs.Steps.{Catalogue};
-ghost use Rattle.dict_desk.specs.Found.{found};
-ghost use Rattle.dict_desk.specs.Shown.{HasEdition, headword_rows, info_rows, count_of};
+ghost use Rattle.dict_sql.specs.Effects.{WhileOpen};
+ghost use Rattle.dict_index.specs.Limits.{most_entries};
+ghost use Rattle.dict_index.specs.Edition.{ReadEdition, edition_of};
+ghost use Rattle.dict_desk.specs.Shown.{Row as ShownRow, found_rows, headword_rows, info_rows, count_of};
 ghost use Rattle.dict_desk.specs.Handing.{Hands};
-ghost use Rattle.dict_file.specs.Holds.{Holds};
-ghost use Rattle.dict_lookup.specs.Lookups.{HasTables, HoldsOne, FailsToLookUp, IsOfStore};
-ghost use Rattle.dict_rows.specs.Versions.{known};
+ghost use Rattle.dict_lookup.specs.Searches.{HasTables, HoldsOne, IsReadable, FailsToLookUp, IsOfStore, column_of};
 
+use crate::begin::{begin, refused_first};
 use crate::counter::Counter;
 use crate::fault::fault_of_read;
 use crate::found::hand_found;
 use crate::listed::hand_listed;
-use crate::record::{column_number, edition_of_number};
-use dict_desk::{End, Fault, RowSink, Turn, What};
+use crate::record::{column_number, edition_of_number, info_of_number};
+use dict_derived::select;
+use dict_desk::{End, Fault, Row, RowSink, Turn, What};
 use dict_match::{Key, Strategy};
 use dict_sql::records::ReadError;
-use dict_sql::stream::read_entries_of;
 use sqlite::{Alter, Connection};
 use std::alloc::Global;
 
@@ -34,20 +31,24 @@ fn find_in<S: Alter, T: RowSink>(
     strategy: Strategy,
     query: &Key,
     sink: &mut T,
+    rows_taken: &mut u64,
 ) -> Result<End, Fault>
-    requires { WhileOpen (state S.Store conn.old) (Has entry_table) }
-    ensures value { HasCleanDisk (state S.Store conn.new) → (reading : ReadEdition) → HoldsOne (state S.Store conn.old).now number reading → Hands T.takes T.stops sink.old sink.new (found strategy query.now (edition_of (record reading { text = text.now }))) result }
-    ensures handed { (rows : List Entry) × Hands T.takes T.stops sink.old sink.new rows result }
-    ensures few { HasCleanDisk (state S.Store conn.new) → (M : Catalogue) → Holds known (state S.Store conn.old).now M → (rows : List Entry) × (length rows ≤ 65535) × Hands T.takes T.stops sink.old sink.new rows result }
+    requires { WhileOpen (state S.Store conn.old) HasTables }
+    ensures value { HasCleanDisk (state S.Store conn.new) → (reading : ReadEdition) → HoldsOne (state S.Store conn.old).now number reading → Hands T.takes T.stops sink.old sink.new (found_rows strategy query.now (edition_of (record reading { text = text.now }))) result }
+    ensures handed { (rows : List ShownRow) × Hands T.takes T.stops sink.old sink.new rows result }
+    ensures few { HasCleanDisk (state S.Store conn.new) → IsReadable (state S.Store conn.old).now (column_of number) → (rows : List ShownRow) × (length rows ≤ most_entries) × Hands T.takes T.stops sink.old sink.new rows result }
     ensures same { HasCleanDisk (state S.Store conn.new) → OnOk result (IsUnchanged (state S.Store conn.old) (state S.Store conn.new)) }
-    ensures failed { HasCleanDisk (state S.Store conn.new) → IfErr result (FailsToLookUp (state S.Store conn.old) (state S.Store conn.new)) }
+    ensures failed { HasCleanDisk (state S.Store conn.new) → IfErr result (FailsToLookUp (column_of number) (state S.Store conn.old) (state S.Store conn.new)) }
     ensures shut { HasCleanDisk (state S.Store conn.new) → (state S.Store conn.old).is_open ≡ false → IsErr result × (sink.new ≡ sink.old) }
     ensures kinds { IfErr result IsOfStore }
     ensures mode { conn.old.in_transaction ≡ false → conn.new.in_transaction ≡ false }
     ensures survives { Survives (state S.Store conn.old) (state S.Store conn.new) (λ _. ⊥) }
 {
-    match read_entries_of(conn, column_number(number)) {
-        Ok(mut rows) => hand_found(alloc, &mut rows, text, strategy, query, sink),
+    let Ok(selection) = select(alloc, strategy, query.as_bytes()) else {
+        return Err(refused_first(conn));
+    };
+    match begin(conn, column_number(number), &selection) {
+        Ok(mut rows) => hand_found(&mut rows, text, strategy, query, sink, rows_taken),
         Err(error) => Err(fault_of_read(ReadError::Store(error))),
     }
 }
@@ -60,26 +61,30 @@ fn heads_in<S: Alter, T: RowSink>(
     strategy: Strategy,
     query: &Key,
     sink: &mut T,
+    rows_taken: &mut u64,
 ) -> Result<End, Fault>
-    requires { WhileOpen (state S.Store conn.old) (Has entry_table) }
+    requires { WhileOpen (state S.Store conn.old) HasTables }
     ensures value { HasCleanDisk (state S.Store conn.new) → (reading : ReadEdition) → HoldsOne (state S.Store conn.old).now number reading → Hands T.takes T.stops sink.old sink.new (headword_rows strategy query.now (edition_of reading)) result }
-    ensures handed { (rows : List Entry) × Hands T.takes T.stops sink.old sink.new rows result }
-    ensures few { HasCleanDisk (state S.Store conn.new) → (M : Catalogue) → Holds known (state S.Store conn.old).now M → (rows : List Entry) × (length rows ≤ 65535) × Hands T.takes T.stops sink.old sink.new rows result }
+    ensures handed { (rows : List ShownRow) × Hands T.takes T.stops sink.old sink.new rows result }
+    ensures few { HasCleanDisk (state S.Store conn.new) → IsReadable (state S.Store conn.old).now (column_of number) → (rows : List ShownRow) × (length rows ≤ most_entries) × Hands T.takes T.stops sink.old sink.new rows result }
     ensures same { HasCleanDisk (state S.Store conn.new) → OnOk result (IsUnchanged (state S.Store conn.old) (state S.Store conn.new)) }
-    ensures failed { HasCleanDisk (state S.Store conn.new) → IfErr result (FailsToLookUp (state S.Store conn.old) (state S.Store conn.new)) }
+    ensures failed { HasCleanDisk (state S.Store conn.new) → IfErr result (FailsToLookUp (column_of number) (state S.Store conn.old) (state S.Store conn.new)) }
     ensures shut { HasCleanDisk (state S.Store conn.new) → (state S.Store conn.old).is_open ≡ false → IsErr result × (sink.new ≡ sink.old) }
     ensures kinds { IfErr result IsOfStore }
     ensures mode { conn.old.in_transaction ≡ false → conn.new.in_transaction ≡ false }
     ensures survives { Survives (state S.Store conn.old) (state S.Store conn.new) (λ _. ⊥) }
 {
-    match read_entries_of(conn, column_number(number)) {
-        Ok(mut rows) => hand_listed(alloc, &mut rows, strategy, query, sink),
+    let Ok(selection) = select(alloc, strategy, query.as_bytes()) else {
+        return Err(refused_first(conn));
+    };
+    match begin(conn, column_number(number), &selection) {
+        Ok(mut rows) => hand_listed(alloc, &mut rows, strategy, query, sink, rows_taken),
         Err(error) => Err(fault_of_read(ReadError::Store(error))),
     }
 }
 
-/// Hands one row to the sink: the empty headword, and what the edition's database says of itself. Of a number that no
-/// edition has nothing is told.
+/// Hands one row to the sink, which shows nothing: what the edition's database says of itself. It counts the rows that
+/// its statement hands over. Of a number that no edition has nothing is told. The edition's text isn't read.
 ///
 /// `Memory` tells that a growth was refused, `Disk` that the store failed, or that the limit on steps was met. The database
 /// stays as it is.
@@ -88,28 +93,34 @@ pub fn info<S: Alter, T: RowSink>(
     conn: &mut Connection<S>,
     number: u64,
     sink: &mut T,
+    rows_taken: &mut u64,
 ) -> Result<End, Fault>
     requires { WhileOpen (state S.Store conn.old) HasTables }
-    ensures value { HasCleanDisk (state S.Store conn.new) → (M : Catalogue) (edition : Edition) → Holds known (state S.Store conn.old).now M → HasEdition M number edition → Hands T.takes T.stops sink.old sink.new (info_rows edition) result }
-    ensures handed { (rows : List Entry) × Hands T.takes T.stops sink.old sink.new rows result }
+    ensures value { HasCleanDisk (state S.Store conn.new) → (reading : ReadEdition) → HoldsOne (state S.Store conn.old).now number reading → Hands T.takes T.stops sink.old sink.new (info_rows (edition_of reading)) result }
+    ensures handed { (rows : List ShownRow) × Hands T.takes T.stops sink.old sink.new rows result }
     ensures same { HasCleanDisk (state S.Store conn.new) → OnOk result (IsUnchanged (state S.Store conn.old) (state S.Store conn.new)) }
-    ensures failed { HasCleanDisk (state S.Store conn.new) → IfErr result (FailsToLookUp (state S.Store conn.old) (state S.Store conn.new)) }
+    ensures failed { HasCleanDisk (state S.Store conn.new) → IfErr result (FailsToLookUp (column_of number) (state S.Store conn.old) (state S.Store conn.new)) }
     ensures shut { HasCleanDisk (state S.Store conn.new) → (state S.Store conn.old).is_open ≡ false → IsErr result × (sink.new ≡ sink.old) }
     ensures kinds { IfErr result IsOfStore }
     ensures mode { conn.old.in_transaction ≡ false → conn.new.in_transaction ≡ false }
     ensures survives { Survives (state S.Store conn.old) (state S.Store conn.new) (λ _. ⊥) }
 {
-    let Some(edition) = edition_of_number(alloc, conn, number)? else {
+    let Some(info) = info_of_number(alloc, conn, number, rows_taken)? else {
         return Ok(End::All);
     };
-    match sink.take("", edition.info.as_bytes()) {
+    let row = Row {
+        shown: "",
+        text: info.as_bytes(),
+    };
+    match sink.take(row) {
         Turn::More => Ok(End::All),
         Turn::Stop => Ok(End::Stopped),
     }
 }
 
 /// Hands the entries of the edition that the query finds by the strategy to the sink, in the order of the index, each as
-/// a row of its headword and its text. Of a number that no edition has nothing is told.
+/// a row of what is shown of it and its text, and counts the rows that its statements hand over. Of a number that no edition has
+/// nothing is told.
 ///
 /// `Memory` tells that a growth was refused, `Disk` that the store failed, or that the limit on steps was met. The database
 /// stays as it is.
@@ -120,18 +131,19 @@ pub fn find<S: Alter, T: RowSink>(
     strategy: Strategy,
     query: &Key,
     sink: &mut T,
+    rows_taken: &mut u64,
 ) -> Result<End, Fault>
     requires { WhileOpen (state S.Store conn.old) HasTables }
-    ensures value { HasCleanDisk (state S.Store conn.new) → (M : Catalogue) (edition : Edition) → Holds known (state S.Store conn.old).now M → HasEdition M number edition → Hands T.takes T.stops sink.old sink.new (found strategy query.now edition) result }
-    ensures handed { (rows : List Entry) × Hands T.takes T.stops sink.old sink.new rows result }
+    ensures value { HasCleanDisk (state S.Store conn.new) → (reading : ReadEdition) → HoldsOne (state S.Store conn.old).now number reading → Hands T.takes T.stops sink.old sink.new (found_rows strategy query.now (edition_of reading)) result }
+    ensures handed { (rows : List ShownRow) × Hands T.takes T.stops sink.old sink.new rows result }
     ensures same { HasCleanDisk (state S.Store conn.new) → OnOk result (IsUnchanged (state S.Store conn.old) (state S.Store conn.new)) }
-    ensures failed { HasCleanDisk (state S.Store conn.new) → IfErr result (FailsToLookUp (state S.Store conn.old) (state S.Store conn.new)) }
+    ensures failed { HasCleanDisk (state S.Store conn.new) → IfErr result (FailsToLookUp (column_of number) (state S.Store conn.old) (state S.Store conn.new)) }
     ensures shut { HasCleanDisk (state S.Store conn.new) → (state S.Store conn.old).is_open ≡ false → IsErr result × (sink.new ≡ sink.old) }
     ensures kinds { IfErr result IsOfStore }
     ensures mode { conn.old.in_transaction ≡ false → conn.new.in_transaction ≡ false }
     ensures survives { Survives (state S.Store conn.old) (state S.Store conn.new) (λ _. ⊥) }
 {
-    let Some(edition) = edition_of_number(alloc, conn, number)? else {
+    let Some(edition) = edition_of_number(alloc, conn, number, rows_taken)? else {
         return Ok(End::All);
     };
     find_in(
@@ -142,11 +154,13 @@ pub fn find<S: Alter, T: RowSink>(
         strategy,
         query,
         sink,
+        rows_taken,
     )
 }
 
-/// Hands the headwords of the entries that the query finds by the strategy to the sink, each once, in the order in which
-/// they first stand among these, as rows with the empty text. Of a number that no edition has nothing is told.
+/// Hands the headwords shown of the entries that the query finds by the strategy to the sink, each once, in the order in which
+/// they first stand among these, as rows with the empty text, and counts the rows that its statement hands over. Of a
+/// number that no edition has nothing is told.
 ///
 /// `Memory` tells that a growth was refused, `Disk` that the store failed, or that the limit on steps was met. The database
 /// stays as it is.
@@ -157,22 +171,23 @@ pub fn heads<S: Alter, T: RowSink>(
     strategy: Strategy,
     query: &Key,
     sink: &mut T,
+    rows_taken: &mut u64,
 ) -> Result<End, Fault>
     requires { WhileOpen (state S.Store conn.old) HasTables }
-    ensures value { HasCleanDisk (state S.Store conn.new) → (M : Catalogue) (edition : Edition) → Holds known (state S.Store conn.old).now M → HasEdition M number edition → Hands T.takes T.stops sink.old sink.new (headword_rows strategy query.now edition) result }
-    ensures handed { (rows : List Entry) × Hands T.takes T.stops sink.old sink.new rows result }
+    ensures value { HasCleanDisk (state S.Store conn.new) → (reading : ReadEdition) → HoldsOne (state S.Store conn.old).now number reading → Hands T.takes T.stops sink.old sink.new (headword_rows strategy query.now (edition_of reading)) result }
+    ensures handed { (rows : List ShownRow) × Hands T.takes T.stops sink.old sink.new rows result }
     ensures same { HasCleanDisk (state S.Store conn.new) → OnOk result (IsUnchanged (state S.Store conn.old) (state S.Store conn.new)) }
-    ensures failed { HasCleanDisk (state S.Store conn.new) → IfErr result (FailsToLookUp (state S.Store conn.old) (state S.Store conn.new)) }
+    ensures failed { HasCleanDisk (state S.Store conn.new) → IfErr result (FailsToLookUp (column_of number) (state S.Store conn.old) (state S.Store conn.new)) }
     ensures shut { HasCleanDisk (state S.Store conn.new) → (state S.Store conn.old).is_open ≡ false → IsErr result × (sink.new ≡ sink.old) }
     ensures kinds { IfErr result IsOfStore }
     ensures mode { conn.old.in_transaction ≡ false → conn.new.in_transaction ≡ false }
     ensures survives { Survives (state S.Store conn.old) (state S.Store conn.new) (λ _. ⊥) }
 {
-    heads_in(alloc, conn, number, strategy, query, sink)
+    heads_in(alloc, conn, number, strategy, query, sink, rows_taken)
 }
 
-/// How many entries of the edition the query finds by the strategy, or how many headwords they have. Of a number that no
-/// edition has nothing is told.
+/// How many entries of the edition the query finds by the strategy, or how many headwords are shown of them. It counts the rows
+/// that its statement hands over. Of a number that no edition has nothing is told.
 ///
 /// `Memory` tells that a growth was refused, `Disk` that the store failed, or that the limit on steps was met. The database
 /// stays as it is.
@@ -183,19 +198,37 @@ pub fn count<S: Alter>(
     strategy: Strategy,
     query: &Key,
     what: What,
+    rows_taken: &mut u64,
 ) -> Result<u64, Fault>
     requires { WhileOpen (state S.Store conn.old) HasTables }
-    ensures value { HasCleanDisk (state S.Store conn.new) → (M : Catalogue) (edition : Edition) → Holds known (state S.Store conn.old).now M → HasEdition M number edition → IfOk result (λ count. count ≡ count_of what strategy query.now edition) }
+    ensures value { HasCleanDisk (state S.Store conn.new) → (reading : ReadEdition) → HoldsOne (state S.Store conn.old).now number reading → IfOk result (λ count. count ≡ count_of what strategy query.now (edition_of reading)) }
     ensures same { HasCleanDisk (state S.Store conn.new) → OnOk result (IsUnchanged (state S.Store conn.old) (state S.Store conn.new)) }
-    ensures failed { HasCleanDisk (state S.Store conn.new) → IfErr result (FailsToLookUp (state S.Store conn.old) (state S.Store conn.new)) }
+    ensures failed { HasCleanDisk (state S.Store conn.new) → IfErr result (FailsToLookUp (column_of number) (state S.Store conn.old) (state S.Store conn.new)) }
     ensures kinds { IfErr result IsOfStore }
     ensures mode { conn.old.in_transaction ≡ false → conn.new.in_transaction ≡ false }
     ensures survives { Survives (state S.Store conn.old) (state S.Store conn.new) (λ _. ⊥) }
 {
     let mut counter = Counter { count: 0 };
     let end = match what {
-        What::Entries => find_in(alloc, conn, number, b"", strategy, query, &mut counter)?,
-        What::Headwords => heads_in(alloc, conn, number, strategy, query, &mut counter)?,
+        What::Entries => find_in(
+            alloc,
+            conn,
+            number,
+            b"",
+            strategy,
+            query,
+            &mut counter,
+            rows_taken,
+        )?,
+        What::Headwords => heads_in(
+            alloc,
+            conn,
+            number,
+            strategy,
+            query,
+            &mut counter,
+            rows_taken,
+        )?,
     };
     match end {
         End::All => Ok(counter.count),

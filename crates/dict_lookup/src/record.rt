@@ -1,5 +1,5 @@
 // The record of one edition.
-ghost use Rattle.std.specs.Prelude.{◌≡◌, ◌≤◌, ◌<◌, ◌-◌, ℕ, pos, length, slice_index_or, String, Vec, false, Some, option_map, IfOk, IfErr, IsErr, OnOk};
+ghost use Rattle.std.specs.Prelude.{◌≡◌, ◌<◌, ◌-◌, ℕ, pos, length, slice_index_or, String, string_bytes, Vec, false, Some, option_map, IfOk, IfErr, IsErr, OnOk};
 ghost use Rattle.sqlite.specs.State.{HasCleanDisk, IsUnchanged, Survives};
 ghost use Rattle.sqlite.specs.Held.{state};
 ghost use Rattle.std.specs.declared.alloc.Global.{Global};
@@ -10,10 +10,11 @@ ghost use Rattle.dict_tables.specs.Tables.{edition as edition_table};
 ghost use Rattle.dict_sql.specs.Effects.{Has, WhileOpen};
 ghost use Rattle.dict_index.specs.Edition.{ReadEdition};
 ghost use Rattle.dict_rows.specs.Written.{edition_record};
-ghost use Rattle.dict_lookup.specs.Lookups.{HoldsOne, FailsToLookUp, IsOfStore};
+ghost use Rattle.dict_lookup.specs.Searches.{HoldsOne, FailsToLookUp, IsOfStore, column_of};
 
 use crate::fault::fault_of_read;
 use dict_desk::Fault;
+use dict_keyed_sql::infos_numbered;
 use dict_records::{Edition, Stored};
 use dict_sql::read::editions_numbered;
 use sqlite::{Alter, Connection};
@@ -21,7 +22,7 @@ use std::alloc::Global;
 
 // The number as a column has it. A number that no column can have is no edition's, nor is the one that stands for it.
 pub(crate) fn column_number(number: u64) -> i64
-    ensures { number ≤ 9223372036854775807 → result ≡ pos number }
+    ensures { result ≡ pos (column_of number) }
 {
     if number > i64::MAX as u64 {
         return 0;
@@ -37,23 +38,60 @@ fn taken(rows: &mut Vec<Stored<Edition<String, Vec<u8>>>>) -> Option<Edition<Str
     Some(row.value)
 }
 
-// The record of the edition of this number, if there is one.
+// The record of the edition of this number, if there is one. Each row that is handed over is counted.
 pub(crate) fn edition_of_number<S: Alter>(
     alloc: Global,
     conn: &mut Connection<S>,
     number: u64,
+    rows_taken: &mut u64,
 ) -> Result<Option<Edition<String, Vec<u8>>>, Fault>
     requires { WhileOpen (state S.Store conn.old) (Has edition_table) }
     ensures value { HasCleanDisk (state S.Store conn.new) → IfOk result (λ found. (reading : ReadEdition) (one : HoldsOne (state S.Store conn.old).now number reading) → option_map owned_edition found ≡ Some (edition_record one.owner number reading)) }
     ensures same { HasCleanDisk (state S.Store conn.new) → OnOk result (IsUnchanged (state S.Store conn.old) (state S.Store conn.new)) }
-    ensures failed { HasCleanDisk (state S.Store conn.new) → IfErr result (FailsToLookUp (state S.Store conn.old) (state S.Store conn.new)) }
+    ensures failed { HasCleanDisk (state S.Store conn.new) → IfErr result (FailsToLookUp (column_of number) (state S.Store conn.old) (state S.Store conn.new)) }
     ensures shut { HasCleanDisk (state S.Store conn.new) → (state S.Store conn.old).is_open ≡ false → IsErr result }
     ensures kinds { IfErr result IsOfStore }
     ensures mode { conn.old.in_transaction ≡ false → conn.new.in_transaction ≡ false }
     ensures survives { Survives (state S.Store conn.old) (state S.Store conn.new) (λ _. ⊥) }
 {
     match editions_numbered(alloc, conn, column_number(number)) {
-        Ok(mut rows) => Ok(taken(&mut rows)),
+        Ok(mut rows) => {
+            *rows_taken = rows_taken.saturating_add(rows.len() as u64);
+            Ok(taken(&mut rows))
+        }
+        Err(error) => Err(fault_of_read(error)),
+    }
+}
+
+// The last of them.
+fn last_info(infos: &mut Vec<String>) -> Option<String>
+    ensures { (d : String Global) → 0 < length infos.old.items → result ≡ Some (slice_index_or infos.old.items (length infos.old.items - 1) d) }
+{
+    infos.pop()
+}
+
+// What the edition of this number says of its database, if there is one. Each row that is handed over is counted; the
+// edition's text isn't read.
+pub(crate) fn info_of_number<S: Alter>(
+    alloc: Global,
+    conn: &mut Connection<S>,
+    number: u64,
+    rows_taken: &mut u64,
+) -> Result<Option<String>, Fault>
+    requires { WhileOpen (state S.Store conn.old) (Has edition_table) }
+    ensures value { HasCleanDisk (state S.Store conn.new) → IfOk result (λ found. (reading : ReadEdition) → HoldsOne (state S.Store conn.old).now number reading → option_map string_bytes found ≡ Some reading.info) }
+    ensures same { HasCleanDisk (state S.Store conn.new) → OnOk result (IsUnchanged (state S.Store conn.old) (state S.Store conn.new)) }
+    ensures failed { HasCleanDisk (state S.Store conn.new) → IfErr result (FailsToLookUp (column_of number) (state S.Store conn.old) (state S.Store conn.new)) }
+    ensures shut { HasCleanDisk (state S.Store conn.new) → (state S.Store conn.old).is_open ≡ false → IsErr result }
+    ensures kinds { IfErr result IsOfStore }
+    ensures mode { conn.old.in_transaction ≡ false → conn.new.in_transaction ≡ false }
+    ensures survives { Survives (state S.Store conn.old) (state S.Store conn.new) (λ _. ⊥) }
+{
+    match infos_numbered(alloc, conn, column_number(number)) {
+        Ok(mut infos) => {
+            *rows_taken = rows_taken.saturating_add(infos.len() as u64);
+            Ok(last_info(&mut infos))
+        }
         Err(error) => Err(fault_of_read(error)),
     }
 }

@@ -1,12 +1,15 @@
-use Rattle.std.proofs.Common.{◌≡◌, true, None, Some, sym, rules, ◌⊎◌, inl}
+use Rattle.std.proofs.Common.{◌≡◌, true, None, Some, sym, subst, rules, ◌⊎◌, inl, OnOk}
 use Rattle.sqlite.specs.State.{HasCleanDisk}
 use Rattle.sqlite.specs.Held.{state}
 use Rattle.sqlite.proofs.StateLemmas.{survives_then}
 use Rattle.dict_name.specs.Names.{is_request_id}
 use Rattle.dict_catalogue.specs.Steps.{kept_under, Catalogue, summary_of, step}
 use Rattle.dict_catalogue.specs.Views.{command_meant, kept_shown, summary_shown}
-use Rattle.dict_commands.proofs.ApplyLemmas.{kept_step, rests_unchanged, holds_now, holds_again, store_shut, not_shut, new_fails, failed_answers}
-use Rattle.dict_commands.proofs.LoopLemmas.{clean_before, each_err}
+use Rattle.dict_commands.proofs.ApplyLemmas.{kept_step, rests_unchanged, holds_now, holds_again, not_shut, new_fails, failed_answers}
+use Rattle.dict_commands.proofs.WriteLemmas.{clean_before, others_none}
+use Rattle.dict_commands.proofs.LoopLemmas.{each_err}
+use Rattle.dict_commands.specs.Kept.{SparesOthers}
+use Rattle.dict_commands.specs.Committed.{IsTreesOf}
 use Rattle.sqlite.specs.Effect.{Database}
 use Rattle.dict_sql.proofs.StreamLemmas.{passed_on}
 use Rattle.dict_desk.specs.Faults.{is_failure}
@@ -48,7 +51,7 @@ returns-clause-holds g c =
     holds_again (summary_shown c.args.summary.now) c.args.id.now (command_meant c.args.command.now) old new c.apply_new.result c.requires.holds (λ clean. clean_before old mid c.kept_reply.ensures.survives (early clean))
     (λ clean lives. (c.in_ok-kept.ensures.same (early clean)).0.was_open)
     (λ clean M rests is.
-    let none : kept_under M.kept c.args.id.now ≡ None = sym (rw c.in_default.is at (c.in_ok-kept.ensures.value (early clean) 1 M (holds_now old M rests))) in
+    let none : kept_under M.kept c.args.id.now ≡ None = sym (rw c.in_default.is at (c.in_ok-kept.ensures.value (early clean) known M (holds_now old M rests))) in
     c.apply_new.ensures.value clean M (rests_unchanged old mid M (c.in_ok-kept.ensures.same (early clean)) rests) is none)
 
 pub returns-in-Some-clause-shut : goal.returns-in-Some-clause-shut
@@ -85,3 +88,26 @@ pub returns-in_err-kept-clause-value : goal.returns-in_err-kept-clause-value
 returns-in_err-kept-clause-value g c = λ clean M rests is.
     let p = err_from_is_err_and c.from_residual.result c.from_residual.ensures.1 in
     rw (p.1, p.2) (failed_answers (state g.S.Store c.args.conn.now) (state g.S.Store c.kept_reply.new.conn) M c.args.id.now _ c.in_err-kept.field-0.0 c.in_err-kept.ensures.kinds (c.in_err-kept.ensures.stays clean) rests)
+
+pub returns-in-Some-clause-others : goal.returns-in-Some-clause-others
+returns-in-Some-clause-others g c = λ clean.
+    let old = state g.S.Store c.args.conn.now in
+    subst (λ db. SparesOthers old.now db) (sym (c.in_ok-kept.ensures.same clean).0.now_is) (others_none old.now)
+
+pub returns-clause-others : goal.returns-clause-others
+returns-clause-others g c = λ clean.
+    let old = state g.S.Store c.args.conn.now in
+    let mid = state g.S.Store c.kept_reply.new.conn in
+    let new = state g.S.Store c.apply_new.new.conn in
+    let same = (c.in_ok-kept.ensures.same (clean_before mid new c.apply_new.ensures.crash clean)).0.now_is in
+    subst (λ a. OnOk c.apply_new.result (SparesOthers a new.now)) same (c.apply_new.ensures.others clean)
+
+pub returns-clause-beside : goal.returns-clause-beside
+returns-clause-beside g c =
+    let old = state g.S.Store c.args.conn.now in
+    let mid = state g.S.Store c.kept_reply.new.conn in
+    let new = state g.S.Store c.apply_new.new.conn in
+    survives_then old mid new _ _ _ (λ clean trees none. absurd none)
+    (λ clean trees left.
+    let same = (c.in_ok-kept.ensures.same (clean_before mid new c.apply_new.ensures.crash clean)).0 in
+    subst (λ a. IsTreesOf (SparesOthers a) trees) same.now_is (left same.is_open)) c.kept_reply.ensures.survives c.apply_new.ensures.beside

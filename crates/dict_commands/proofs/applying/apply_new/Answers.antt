@@ -2,21 +2,20 @@ use Rattle.std.proofs.lemmas.Result.{err_from_is_err_and}
 use Rattle.sqlite.specs.Held.{state}
 use Rattle.sqlite.proofs.StateLemmas.{survives_weaker}
 use Rattle.dict_catalogue.specs.Views.{summary_shown, command_shown, command_meant}
-use Rattle.dict_commands.proofs.ApplyLemmas.{declined_answers, failed_answers, acted_answers, left_after, declined_fails, ends_weaker, is_planned, holds_after, holds_now}
-use Rattle.std.proofs.Common.{◌≡◌, ◌⊎◌, inl, inr, refl, true, None}
+use Rattle.dict_commands.proofs.ApplyLemmas.{declined_answers, failed_answers, acted_answers, left_after, declined_fails, commit_fails, is_planned, holds_after, holds_now, others_spared, others_committed}
+use Rattle.dict_commands.proofs.WriteLemmas.{clean_before}
+use Rattle.std.proofs.Common.{◌≡◌, ◌⊎◌, inl, refl, true, None}
 use Rattle.sqlite.specs.Effect.{Database}
 use Rattle.dict_sql.proofs.StreamLemmas.{passed_on}
 use Rattle.dict_catalogue.specs.Steps.{Catalogue, summary_of, kept_under, step}
 use Rattle.dict_desk.specs.Faults.{is_failure}
 use Rattle.dict_desk.specs.declared.fault.Fault.TheVariants.{Memory}
-use Rattle.dict_rows.specs.After.{tables_after}
+use Rattle.dict_derived.specs.AllTables.{with_derived, all_after}
 use Rattle.dict_rows.specs.Versions.{known}
 use Rattle.dict_file.specs.Holds.{Holds, Rests}
 use Rattle.dict_commands.specs.Answers.{FailsToAct}
-use Rattle.dict_commands.specs.Statements.{statements_of}
 use Rattle.dict_commands.specs.Kept.{Turns}
 use Rattle.dict_commands.specs.Changes.{change_by}
-use Rattle.dict_file.proofs.ReadingLemmas.{plain_kept}
 use Rattle.dict_commands.proofs.applying.apply_new.Goals as goal
 
 pub returns-in_err-change-clause-value : goal.returns-in_err-change-clause-value
@@ -62,17 +61,36 @@ returns-in_err-commit_change-clause-failed g c clean =
     let change = change_by c.args.id.now c.args.command.now c.in_ok-change.change in
     let planned = is_planned c.args.id.now c.args.command.now c.in_ok-change.change summary c.in_ok-change.ensures.planned c.lies_within.ensures (state g.S.Store old) in
     passed_on (λ fault. is_failure fault ≡ true → ((fault ≡ Memory) × (new ≡ old)) ⊎ FailsToAct g.S.Store summary c.args.id.now (command_meant c.args.command.now) P old new fault) fault c.from_residual-in_err-commit_change.result c.from_residual-in_err-commit_change.ensures.1
-    (λ real. inr (
-      change,
-      planned,
-      ends_weaker g.S.Store (statements_of known change) (Turns (tables_after known change) (state g.S.Store old).now) P old new fault
-          (λ db turns M rests is new. holds_after M c.args.id.now c.args.command.now c.in_ok-change.change summary c.requires.id new is c.in_ok-change.ensures.planned c.is_lawful.ensures c.lies_within.ensures (state g.S.Store old).now db (holds_now (state g.S.Store old) M rests) turns)
-          (c.in_err-commit_change.ensures.failed clean),
-    ))
+    (λ real. commit_fails g.S.Store summary c.args.id.now (command_meant c.args.command.now) change old planned (Turns (all_after known change) (state g.S.Store old).now) P new fault
+    (λ db turns M rests is new. holds_after M c.args.id.now c.args.command.now c.in_ok-change.change summary c.requires.id new is c.in_ok-change.ensures.planned c.is_lawful.ensures c.lies_within.ensures (state g.S.Store old).now db (holds_now (state g.S.Store old) M rests) turns)
+    (c.in_err-commit_change.ensures.failed clean))
 
 pub commit_change-requires-clause-usable : goal.commit_change-requires-clause-usable
 commit_change-requires-clause-usable g c = λ clean live.
     let old = state g.S.Store c.args.conn.now in
     let it = c.requires.holds clean live in
     let held = holds_now old it.0 it.1 in
-    (held.tables, record { own = held.own; keeps = plain_kept old.now held.tables held.keeps })
+    (with_derived held.tables, record { own = held.own; keeps = held.keeps })
+
+pub returns-clause-others : goal.returns-clause-others
+returns-clause-others g c clean =
+    let old = state g.S.Store c.args.conn.now in
+    let new = state g.S.Store c.commit_change.new.conn in
+    let done = c.in_ok-commit_change.ensures.made clean in
+    others_committed (summary_shown c.args.summary.now) old new (all_after known (change_by c.args.id.now c.args.command.now c.in_ok-change.change)) c.requires.holds (clean_before old new c.commit_change.ensures.crash clean) (c.commit_change.ensures.lives clean done.is_open) done
+
+pub returns-clause-beside : goal.returns-clause-beside
+returns-clause-beside g c =
+    let old = state g.S.Store c.args.conn.now in
+    let new = state g.S.Store c.commit_change.new.conn in
+    survives_weaker old new _ _
+    (λ clean trees it live. (it.0, it.1, it.2, others_spared (summary_shown c.args.summary.now) old (all_after known (change_by c.args.id.now c.args.command.now c.in_ok-change.change)) c.requires.holds (clean_before old new c.commit_change.ensures.crash clean) live it.0 it.3))
+    c.commit_change.ensures.crash
+
+pub returns-in_err-commit_change-clause-beside : goal.returns-in_err-commit_change-clause-beside
+returns-in_err-commit_change-clause-beside g c =
+    let old = state g.S.Store c.args.conn.now in
+    let new = state g.S.Store c.commit_change.new.conn in
+    survives_weaker old new _ _
+    (λ clean trees it live. (it.0, it.1, it.2, others_spared (summary_shown c.args.summary.now) old (all_after known (change_by c.args.id.now c.args.command.now c.in_ok-change.change)) c.requires.holds (clean_before old new c.commit_change.ensures.crash clean) live it.0 it.3))
+    c.commit_change.ensures.crash

@@ -1,45 +1,80 @@
-use Rattle.std.proofs.Common.{subst, arith, take, ◌++◌, map, ◌∙◌, ◌<◌, length}
+use Rattle.std.proofs.Common.{refl, subst, arith, map, codes, [], ◌∷◌, ◌∙◌, ◌<◌, length}
 use Rattle.std.proofs.lemmas.List.{take_all}
 use Rattle.sqlite.specs.Held.{state}
+use Rattle.dict_sql.proofs.StreamLemmas.{passed_on}
+use Rattle.dict_commands.specs.Writes.{Wrote, FailsToWrite}
+use Rattle.dict_sql.specs.Keyed.{keyed_entry_row}
+use Rattle.dict_records.specs.Keyed.{lent_keyed_entry}
 use Rattle.dict_index.specs.Views.{line_of}
 use Rattle.dict_rows.specs.Written.{numbered, entry_record}
-use Rattle.dict_commands.specs.Kept.{HasRecords}
-use Rattle.dict_commands.proofs.LoopLemmas.{clean_before, keeps_then, none_then, numbered_next}
-use Rattle.dict_sql.proofs.StreamLemmas.{passed_on}
-use Rattle.dict_sql.specs.Statements.{RunInTurn, FailsInTurn}
-use Rattle.dict_commands.proofs.LoopLemmas.{loop_ran, loop_fails}
-use Rattle.dict_commands.proofs.LoopLemmas.{numbered_run, numbered_grows}
+use Rattle.dict_derived.specs.Entries.{filed}
+use Rattle.dict_commands.proofs.LoopLemmas.{adding_none, adding_wrote, adding_failed, entries_none, entries_last, made_next, map_grows, numbered_grows}
+use Rattle.dict_commands.specs.Changes.{with_more_entries}
 use Rattle.dict_commands.specs.Statements.{adding_entry}
-use Rattle.std.proofs.Common.{[], ◌∷◌}
+use Rattle.dict_commands.proofs.TableLemmas.{has_entries, entries_added}
+use Rattle.dict_commands.proofs.WriteLemmas.{wrote_record, failed_record, spares_none, spares_added, spares_then, usable_then}
+use Rattle.dict_commands.proofs.ListedLemmas.{reversed_length, reversed_at}
 use Rattle.dict_commands.proofs.editions.add_entries.Goals as goal
 
 pub loop-ord-preserved : goal.loop-ord-preserved
 loop-ord-preserved g c =
-    let first = state g.S.Store (g.T.OpenTransaction.held c.args.tx.now) in
-    let mid = state g.S.Store (g.T.OpenTransaction.held c.loop-ord.tx) in
-    let new = state g.S.Store (g.T.OpenTransaction.held c.add_entry.new.tx) in
+    let first = (g.T.OpenTransaction.held c.args.tx.now) in
+    let mid = (g.T.OpenTransaction.held c.loop-ord.tx) in
+    let new = (g.T.OpenTransaction.held c.insert_keyed_entry.new.tx) in
     let low : c.loop-ord.ord < length c.args.entries.now = omega arith in
+    let spares = spares_added g.S.Store (codes "entry") (keyed_entry_row (lent_keyed_entry c.filed_row-row.result)) mid new c.insert_keyed_entry.ensures.survives c.insert_keyed_entry.result c.insert_keyed_entry.ensures.added c.insert_keyed_entry.ensures.failed in
+    let one = wrote_record g.S.Store (codes "entry") keyed_entry_row (λ r. with_more_entries (r ∷ [])) (lent_keyed_entry c.filed_row-row.result) (filed (entry_record c.args.number c.loop-ord.ord (line_of c.index-entries-ord.result))) (c.filed_row-row.ensures) mid new c.insert_keyed_entry.ensures.survives entries_added c.in_ok-insert_keyed_entry.ensures.added in
     record {
-      same_reference = c.add_entry.ensures.same_reference ∙ c.loop-ord.invariant.same_reference;
-      turns = λ clean tables it. subst (λ l. HasRecords new.now (record tables { entries = l })) (numbered_next line_of c.args.entries.now c.loop-ord.ord c.index-entries-ord.result low c.index-entries-ord.is (entry_record c.args.number) tables.entries)
-          (c.in_ok-add_entry.ensures.turns clean (record tables { entries = tables.entries ++ numbered (entry_record c.args.number) 0 (map line_of (take c.loop-ord.ord c.args.entries.now)) }) (c.loop-ord.invariant.turns (clean_before mid new c.add_entry.ensures.survives clean) tables it));
-      ran = λ clean. loop_ran g.S.Store c.args.entries.now c.loop-ord.ord (λ l. map adding_entry (numbered (entry_record c.args.number) 0 (map line_of l))) (adding_entry (entry_record c.args.number c.loop-ord.ord (line_of c.index-entries-ord.result)) ∷ []) (numbered_run adding_entry line_of c.args.entries.now c.loop-ord.ord c.index-entries-ord.result low c.index-entries-ord.is (entry_record c.args.number)) (g.T.OpenTransaction.held c.args.tx.now) (g.T.OpenTransaction.held c.loop-ord.tx) (g.T.OpenTransaction.held c.add_entry.new.tx) (c.loop-ord.invariant.ran (clean_before (state g.S.Store (g.T.OpenTransaction.held c.loop-ord.tx)) (state g.S.Store (g.T.OpenTransaction.held c.add_entry.new.tx)) c.add_entry.ensures.survives clean)) (c.in_ok-add_entry.ensures.ran clean);
-      usable = c.in_ok-add_entry.ensures.usable;
-      keeps = λ clean. keeps_then first mid new (c.loop-ord.invariant.keeps (clean_before mid new c.add_entry.ensures.survives clean)) (c.add_entry.ensures.keeps clean);
-      survives = none_then first mid new c.loop-ord.invariant.survives c.add_entry.ensures.survives;
-      inside = λ clean begun. c.in_ok-add_entry.ensures.inside clean (c.loop-ord.invariant.inside (clean_before mid new c.add_entry.ensures.survives clean) begun);
+      same_reference = c.insert_keyed_entry.ensures.same_reference ∙ c.loop-ord.invariant.same_reference;
+      wrote = adding_wrote g.S.Store adding_entry with_more_entries entries_last (λ l. map filed (numbered (entry_record c.args.number) 0 (map line_of l))) c.args.entries.now c.loop-ord.ord (filed (entry_record c.args.number c.loop-ord.ord (line_of c.index-entries-ord.result)) ∷ []) (made_next line_of c.args.entries.now c.loop-ord.ord c.index-entries-ord.result low c.index-entries-ord.is filed (entry_record c.args.number)) first mid new c.loop-ord.invariant.wrote spares one;
+      usable = usable_then g.S.Store (map adding_entry (filed (entry_record c.args.number c.loop-ord.ord (line_of c.index-entries-ord.result)) ∷ [])) (with_more_entries (filed (entry_record c.args.number c.loop-ord.ord (line_of c.index-entries-ord.result)) ∷ [])) mid new c.loop-ord.invariant.usable one spares;
+      spares = spares_then g.S.Store first mid new c.loop-ord.invariant.spares spares;
     }
 
-pub returns-clause-turns : goal.returns-clause-turns
-returns-clause-turns g c = λ clean tables it.
-    subst (λ l. HasRecords (state g.S.Store (g.T.OpenTransaction.held c.loop-ord.tx)).now (record tables { entries = tables.entries ++ numbered (entry_record c.args.number) 0 (map line_of l) })) (take_all c.loop-ord.ord c.args.entries.now (omega arith)) (c.loop-ord.invariant.turns clean tables it)
+pub loop-ord-init : goal.loop-ord-init
+loop-ord-init g c =
+    let first = (g.T.OpenTransaction.held c.args.tx.now) in
+    record {
+      same_reference = refl;
+      wrote = adding_none g.S.Store adding_entry with_more_entries entries_none first;
+      usable = c.requires.usable;
+      spares = spares_none g.S.Store first;
+    }
 
-pub returns-in_err-add_entry-clause-failed : goal.returns-in_err-add_entry-clause-failed
-returns-in_err-add_entry-clause-failed g c clean =
+pub returns-clause-wrote : goal.returns-clause-wrote
+returns-clause-wrote g c =
+    subst (λ l. Wrote g.S.Store (map adding_entry (map filed (numbered (entry_record c.args.number) 0 (map line_of l)))) (with_more_entries (map filed (numbered (entry_record c.args.number) 0 (map line_of l)))) (g.T.OpenTransaction.held c.args.tx.now) (g.T.OpenTransaction.held c.loop-ord.tx)) (take_all c.loop-ord.ord c.args.entries.now (omega arith)) c.loop-ord.invariant.wrote
+
+pub returns-in_err-insert_keyed_entry-clause-spares : goal.returns-in_err-insert_keyed_entry-clause-spares
+returns-in_err-insert_keyed_entry-clause-spares g c =
+    let first = (g.T.OpenTransaction.held c.args.tx.now) in
+    let mid = (g.T.OpenTransaction.held c.loop-ord.tx) in
+    let new = (g.T.OpenTransaction.held c.insert_keyed_entry.new.tx) in
+    let spares = spares_added g.S.Store (codes "entry") (keyed_entry_row (lent_keyed_entry c.filed_row-row.result)) mid new c.insert_keyed_entry.ensures.survives c.insert_keyed_entry.result c.insert_keyed_entry.ensures.added c.insert_keyed_entry.ensures.failed in
+    spares_then g.S.Store first mid new c.loop-ord.invariant.spares spares
+
+pub returns-in_err-insert_keyed_entry-clause-failed : goal.returns-in_err-insert_keyed_entry-clause-failed
+returns-in_err-insert_keyed_entry-clause-failed g c =
+    let first = (g.T.OpenTransaction.held c.args.tx.now) in
+    let mid = (g.T.OpenTransaction.held c.loop-ord.tx) in
+    let new = (g.T.OpenTransaction.held c.insert_keyed_entry.new.tx) in
     let low : c.loop-ord.ord < length c.args.entries.now = omega arith in
-    passed_on (FailsInTurn g.S.Store (map adding_entry (numbered (entry_record c.args.number) 0 (map line_of c.args.entries.now))) (g.T.OpenTransaction.held c.args.tx.now) (g.T.OpenTransaction.held c.add_entry.new.tx)) c.in_err-add_entry.field-0.0 c.from_residual.result c.from_residual.ensures.1
-    (loop_fails g.S.Store c.args.entries.now c.loop-ord.ord (λ l. map adding_entry (numbered (entry_record c.args.number) 0 (map line_of l))) (adding_entry (entry_record c.args.number c.loop-ord.ord (line_of c.index-entries-ord.result)) ∷ []) (numbered_run adding_entry line_of c.args.entries.now c.loop-ord.ord c.index-entries-ord.result low c.index-entries-ord.is (entry_record c.args.number)) (g.T.OpenTransaction.held c.args.tx.now) (g.T.OpenTransaction.held c.loop-ord.tx) (g.T.OpenTransaction.held c.add_entry.new.tx) (c.loop-ord.invariant.ran (clean_before (state g.S.Store (g.T.OpenTransaction.held c.loop-ord.tx)) (state g.S.Store (g.T.OpenTransaction.held c.add_entry.new.tx)) c.add_entry.ensures.survives clean)) (numbered_grows adding_entry line_of (entry_record c.args.number)) c.in_err-add_entry.field-0.0 (c.in_err-add_entry.ensures.failed clean))
+    let spares = spares_added g.S.Store (codes "entry") (keyed_entry_row (lent_keyed_entry c.filed_row-row.result)) mid new c.insert_keyed_entry.ensures.survives c.insert_keyed_entry.result c.insert_keyed_entry.ensures.added c.insert_keyed_entry.ensures.failed in
+    let e = c.in_err-insert_keyed_entry.field-0.0 in
+    let two = failed_record g.S.Store (codes "entry") keyed_entry_row (λ r. with_more_entries (r ∷ [])) (lent_keyed_entry c.filed_row-row.result) (filed (entry_record c.args.number c.loop-ord.ord (line_of c.index-entries-ord.result))) (c.filed_row-row.ensures) mid new c.insert_keyed_entry.ensures.survives e c.in_err-insert_keyed_entry.ensures.failed in
+    passed_on (FailsToWrite g.S.Store (map adding_entry (map filed (numbered (entry_record c.args.number) 0 (map line_of c.args.entries.now)))) first new) e c.from_residual.result c.from_residual.ensures.1
+    (adding_failed g.S.Store adding_entry with_more_entries entries_last (λ l. map filed (numbered (entry_record c.args.number) 0 (map line_of l))) c.args.entries.now c.loop-ord.ord (filed (entry_record c.args.number c.loop-ord.ord (line_of c.index-entries-ord.result)) ∷ []) (made_next line_of c.args.entries.now c.loop-ord.ord c.index-entries-ord.result low c.index-entries-ord.is filed (entry_record c.args.number)) first mid new c.loop-ord.invariant.wrote spares (map_grows filed (λ l. numbered (entry_record c.args.number) 0 (map line_of l)) (numbered_grows line_of (entry_record c.args.number))) e two)
 
-pub returns-clause-ran : goal.returns-clause-ran
-returns-clause-ran g c clean =
-    subst (λ l. RunInTurn g.S.Store (map adding_entry (numbered (entry_record c.args.number) 0 (map line_of l))) (g.T.OpenTransaction.held c.args.tx.now) (g.T.OpenTransaction.held c.loop-ord.tx)) (take_all c.loop-ord.ord c.args.entries.now (omega arith)) (c.loop-ord.invariant.ran clean)
+pub insert_keyed_entry-requires : goal.insert_keyed_entry-requires
+insert_keyed_entry-requires g c = λ clean lives. has_entries (state g.S.Store (g.T.OpenTransaction.held c.loop-ord.tx)).now (c.loop-ord.invariant.usable clean lives)
+
+pub filed_row-row-requires-clause-reversed : goal.filed_row-row-requires-clause-reversed
+filed_row-row-requires-clause-reversed g c =
+    let low : c.loop-ord.ord < length c.args.entries.now = omega arith in
+    c.as_slice.ensures.value ∙ reversed_at c.args.reversed.now c.args.entries.now c.loop-ord.ord c.index-reversed-ord.result c.index-entries-ord.result c.requires.reversed low c.index-reversed-ord.is c.index-entries-ord.is
+
+pub bounds-reversed-ord : goal.bounds-reversed-ord
+bounds-reversed-ord g c =
+    let low : c.loop-ord.ord < length c.args.entries.now = omega arith in
+    let same = reversed_length c.args.reversed.now c.args.entries.now c.requires.reversed in
+    omega (arith, low, same)

@@ -1,55 +1,55 @@
-use Rattle.std.proofs.Common.{subst, take, refl, ◌∙◌}
-use Rattle.std.proofs.lemmas.List.{take_all}
-use Rattle.sqlite.specs.Held.{state}
-use Rattle.dict_commands.specs.Kept.{HasRecords}
-use Rattle.dict_commands.specs.Changes.{without_editions}
-use Rattle.dict_commands.proofs.GoneLemmas.{none_gone, next_gone}
-use Rattle.dict_commands.proofs.LoopLemmas.{clean_before, keeps_then, keeps_all, none_then, none_more}
-use Rattle.dict_sql.proofs.StreamLemmas.{passed_on}
-use Rattle.dict_sql.specs.Statements.{RunInTurn, FailsInTurn}
-use Rattle.dict_commands.proofs.LoopLemmas.{loop_ran, loop_fails}
-use Rattle.dict_commands.proofs.GoneLemmas.{taken_run, taken_grows}
-use Rattle.dict_commands.specs.Statements.{taking}
+use Rattle.std.proofs.Common.{subst, refl, get_or, [], ◌∷◌, ◌∙◌}
 use Rattle.std.specs.Prelude.{flat_map}
-use Rattle.std.proofs.Common.{get_or}
+use Rattle.std.proofs.lemmas.List.{take_all}
+use Rattle.dict_sql.proofs.StreamLemmas.{passed_on}
+use Rattle.dict_derived.specs.AllTables.{without_editions}
+use Rattle.dict_commands.specs.Statements.{taking}
+use Rattle.dict_commands.specs.Writes.{Wrote, FailsToWrite}
+use Rattle.dict_commands.proofs.WriteLemmas.{wrote_as, wrote_none, spares_none, spares_then}
+use Rattle.dict_commands.proofs.LoopLemmas.{loop_wrote, loop_failed}
+use Rattle.dict_commands.proofs.GoneLemmas.{none_gone, next_gone, taken_next, taken_grows}
 use Rattle.dict_commands.proofs.editions.take_editions.Goals as goal
 
 pub each-init : goal.each-init
-each-init g c = record {
-  same_reference = refl;
-  turns = λ clean tables it. none_gone (state g.S.Store (g.T.OpenTransaction.held c.args.tx.now)).now tables it;
-  ran = λ clean. refl;
-  usable = c.requires.usable;
-  keeps = λ clean. keeps_all (state g.S.Store (g.T.OpenTransaction.held c.args.tx.now));
-  survives = none_more (state g.S.Store (g.T.OpenTransaction.held c.args.tx.now));
-  inside = λ clean begun. begun;
-}
+each-init g c =
+    let first = (g.T.OpenTransaction.held c.args.tx.now) in
+    record {
+      same_reference = refl;
+      wrote = wrote_as g.S.Store (flat_map taking []) (λ all. all) (without_editions []) first first none_gone (wrote_none g.S.Store first);
+      usable = c.requires.usable;
+      spares = spares_none g.S.Store first;
+    }
 
 pub each-preserved : goal.each-preserved
 each-preserved g c =
-    let first = state g.S.Store (g.T.OpenTransaction.held c.args.tx.now) in
-    let mid = state g.S.Store (g.T.OpenTransaction.held c.each.tx) in
-    let new = state g.S.Store (g.T.OpenTransaction.held c.take_edition.new.tx) in
+    let first = (g.T.OpenTransaction.held c.args.tx.now) in
+    let mid = (g.T.OpenTransaction.held c.each.tx) in
+    let new = (g.T.OpenTransaction.held c.take_edition.new.tx) in
+    let gone = c.args.gone.now in
+    let i = c.each.number-index in
     record {
       same_reference = c.take_edition.ensures.same_reference ∙ c.each.invariant.same_reference;
-      turns = λ clean tables it. next_gone new.now c.args.gone.now c.each.number-index c.each-test.true tables
-          (c.in_ok-take_edition.ensures.turns clean (without_editions (take c.each.number-index c.args.gone.now) tables) (c.each.invariant.turns (clean_before mid new c.take_edition.ensures.survives clean) tables it));
-      ran = λ clean. loop_ran g.S.Store c.args.gone.now c.each.number-index (flat_map taking) (taking (get_or c.args.gone.now c.each.number-index 0)) (taken_run c.args.gone.now c.each.number-index c.each-test.true) (g.T.OpenTransaction.held c.args.tx.now) (g.T.OpenTransaction.held c.each.tx) (g.T.OpenTransaction.held c.take_edition.new.tx) (c.each.invariant.ran (clean_before (state g.S.Store (g.T.OpenTransaction.held c.each.tx)) (state g.S.Store (g.T.OpenTransaction.held c.take_edition.new.tx)) c.take_edition.ensures.survives clean)) (c.in_ok-take_edition.ensures.ran clean);
+      wrote = loop_wrote g.S.Store (flat_map taking) without_editions gone i (taking (get_or gone i 0)) (without_editions (get_or gone i 0 ∷ [])) (taken_next gone i c.each-test.true) first mid new c.each.invariant.wrote c.take_edition.ensures.spares
+          (λ db all it. next_gone db gone i c.each-test.true all it) c.in_ok-take_edition.ensures.wrote;
       usable = c.in_ok-take_edition.ensures.usable;
-      keeps = λ clean. keeps_then first mid new (c.each.invariant.keeps (clean_before mid new c.take_edition.ensures.survives clean)) (c.take_edition.ensures.keeps clean);
-      survives = none_then first mid new c.each.invariant.survives c.take_edition.ensures.survives;
-      inside = λ clean begun. c.in_ok-take_edition.ensures.inside clean (c.each.invariant.inside (clean_before mid new c.take_edition.ensures.survives clean) begun);
+      spares = spares_then g.S.Store first mid new c.each.invariant.spares c.take_edition.ensures.spares;
     }
 
-pub returns-clause-turns : goal.returns-clause-turns
-returns-clause-turns g c = λ clean tables it.
-    subst (λ l. HasRecords (state g.S.Store (g.T.OpenTransaction.held c.each.tx)).now (without_editions l tables)) (take_all c.each.number-index c.args.gone.now c.each-test.false) (c.each.invariant.turns clean tables it)
+pub returns-clause-wrote : goal.returns-clause-wrote
+returns-clause-wrote g c =
+    subst (λ l. Wrote g.S.Store (flat_map taking l) (without_editions l) (g.T.OpenTransaction.held c.args.tx.now) (g.T.OpenTransaction.held c.each.tx)) (take_all c.each.number-index c.args.gone.now c.each-test.false) c.each.invariant.wrote
+
+pub returns-in_err-take_edition-clause-spares : goal.returns-in_err-take_edition-clause-spares
+returns-in_err-take_edition-clause-spares g c =
+    spares_then g.S.Store (g.T.OpenTransaction.held c.args.tx.now) (g.T.OpenTransaction.held c.each.tx) (g.T.OpenTransaction.held c.take_edition.new.tx) c.each.invariant.spares c.take_edition.ensures.spares
 
 pub returns-in_err-take_edition-clause-failed : goal.returns-in_err-take_edition-clause-failed
-returns-in_err-take_edition-clause-failed g c clean =
-    passed_on (FailsInTurn g.S.Store (flat_map taking c.args.gone.now) (g.T.OpenTransaction.held c.args.tx.now) (g.T.OpenTransaction.held c.take_edition.new.tx)) c.in_err-take_edition.field-0.0 c.from_residual.result c.from_residual.ensures.1
-    (loop_fails g.S.Store c.args.gone.now c.each.number-index (flat_map taking) (taking (get_or c.args.gone.now c.each.number-index 0)) (taken_run c.args.gone.now c.each.number-index c.each-test.true) (g.T.OpenTransaction.held c.args.tx.now) (g.T.OpenTransaction.held c.each.tx) (g.T.OpenTransaction.held c.take_edition.new.tx) (c.each.invariant.ran (clean_before (state g.S.Store (g.T.OpenTransaction.held c.each.tx)) (state g.S.Store (g.T.OpenTransaction.held c.take_edition.new.tx)) c.take_edition.ensures.survives clean)) (taken_grows) c.in_err-take_edition.field-0.0 (c.in_err-take_edition.ensures.failed clean))
-
-pub returns-clause-ran : goal.returns-clause-ran
-returns-clause-ran g c clean =
-    subst (λ l. RunInTurn g.S.Store (flat_map taking l) (g.T.OpenTransaction.held c.args.tx.now) (g.T.OpenTransaction.held c.each.tx)) (take_all c.each.number-index c.args.gone.now c.each-test.false) (c.each.invariant.ran clean)
+returns-in_err-take_edition-clause-failed g c =
+    let first = (g.T.OpenTransaction.held c.args.tx.now) in
+    let mid = (g.T.OpenTransaction.held c.each.tx) in
+    let new = (g.T.OpenTransaction.held c.take_edition.new.tx) in
+    let gone = c.args.gone.now in
+    let i = c.each.number-index in
+    let e = c.in_err-take_edition.field-0.0 in
+    passed_on (FailsToWrite g.S.Store (flat_map taking gone) first new) e c.from_residual.result c.from_residual.ensures.1
+    (loop_failed g.S.Store (flat_map taking) without_editions gone i (taking (get_or gone i 0)) (without_editions (get_or gone i 0 ∷ [])) (taken_next gone i c.each-test.true) first mid new c.each.invariant.wrote c.take_edition.ensures.spares taken_grows e c.in_err-take_edition.ensures.failed)

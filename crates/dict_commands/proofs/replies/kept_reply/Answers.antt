@@ -1,12 +1,11 @@
-use Rattle.std.proofs.Common.{refl, arith, sym, string_bytes, ◌≤◌, length, codes, subst, inl, inr}
+use Rattle.std.proofs.Common.{arith, sym, string_bytes, ◌≤◌, length, subst, inl, inr}
 use Rattle.dict_catalogue.specs.Views.{kept_shown}
 use Rattle.dict_commands.proofs.KeptLemmas.{kept_told, none_told, first_told, reply_told}
 use Rattle.sqlite.specs.Held.{state}
-use Rattle.dict_sql.specs.Columns.{kept_columns}
 use Rattle.dict_sql.specs.Effects.{equals_text}
 use Rattle.dict_file.specs.Faults.{FailsToLookUp}
-use Rattle.dict_file.proofs.FailLemmas.{list_fails, refused_memory}
-use Rattle.dict_file.proofs.ReadableLemmas.{held_rows}
+use Rattle.dict_commands.proofs.KeptLemmas.{replies_fail}
+use Rattle.dict_file.proofs.FailLemmas.{refused_memory}
 use Rattle.dict_commands.proofs.replies.kept_reply.Goals as goal
 use Rattle.dict_rows.specs.Versions.{known}
 
@@ -27,7 +26,7 @@ returns-in-Err-clause-failed g c clean =
     let old = state g.S.Store c.args.conn.now in
     let new = state g.S.Store c.kept_replies_of.new.conn in
     subst (FailsToLookUp old new) (sym c.read_fault.ensures.is)
-    (list_fails (codes "kept") (equals_text 1 c.args.id.now) kept_columns old new (λ M holds. (held_rows known old.now M refl holds).1.1.1.1.1.0) c.in-Err.error (c.in-Err.ensures.failed clean))
+    (replies_fail (equals_text 1 c.args.id.now) old new c.in-Err.error (c.in-Err.ensures.failed clean))
 
 pub returns-in_err-reply-clause-failed : goal.returns-in_err-reply-clause-failed
 returns-in_err-reply-clause-failed g c clean =

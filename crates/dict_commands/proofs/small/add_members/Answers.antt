@@ -1,46 +1,68 @@
-use Rattle.std.proofs.Common.{subst, arith, take, ◌++◌, ◌∙◌, ◌<◌, length}
+use Rattle.std.proofs.Common.{refl, subst, arith, map, codes, [], ◌∷◌, ◌∙◌, ◌<◌, length}
 use Rattle.std.proofs.lemmas.List.{take_all}
 use Rattle.sqlite.specs.Held.{state}
-use Rattle.dict_catalogue.specs.Views.{texts_shown}
-use Rattle.std.proofs.Common.{string_bytes}
-use Rattle.dict_rows.specs.Written.{numbered, member_record}
-use Rattle.dict_commands.specs.Kept.{HasRecords}
-use Rattle.dict_commands.proofs.LoopLemmas.{clean_before, keeps_then, none_then, numbered_next}
 use Rattle.dict_sql.proofs.StreamLemmas.{passed_on}
-use Rattle.dict_sql.specs.Statements.{RunInTurn, FailsInTurn}
-use Rattle.dict_commands.proofs.LoopLemmas.{loop_ran, loop_fails}
-use Rattle.dict_commands.proofs.LoopLemmas.{numbered_run, numbered_grows}
+use Rattle.dict_commands.specs.Writes.{Wrote, FailsToWrite}
+use Rattle.std.proofs.Common.{string_bytes}
+use Rattle.dict_sql.specs.Encodings.{member_row}
+use Rattle.dict_records.specs.Typed.{lent_member}
+use Rattle.dict_catalogue.specs.Views.{texts_shown}
+use Rattle.dict_rows.specs.Written.{numbered, member_record}
+use Rattle.dict_commands.proofs.LoopLemmas.{adding_none, adding_wrote, adding_failed, members_none, members_last, numbered_next, numbered_grows}
+use Rattle.dict_commands.specs.Changes.{with_more_members}
 use Rattle.dict_commands.specs.Statements.{adding_member}
-use Rattle.std.proofs.Common.{[], ◌∷◌, map}
+use Rattle.dict_commands.proofs.TableLemmas.{has_members, members_added}
+use Rattle.dict_commands.proofs.WriteLemmas.{wrote_record, failed_record, spares_none, spares_added, spares_then, usable_then}
 use Rattle.dict_commands.proofs.small.add_members.Goals as goal
 
 pub loop-ord-preserved : goal.loop-ord-preserved
 loop-ord-preserved g c =
-    let first = state g.S.Store (g.T.OpenTransaction.held c.args.tx.now) in
-    let mid = state g.S.Store (g.T.OpenTransaction.held c.loop-ord.tx) in
-    let new = state g.S.Store (g.T.OpenTransaction.held c.add_member.new.tx) in
+    let first = (g.T.OpenTransaction.held c.args.tx.now) in
+    let mid = (g.T.OpenTransaction.held c.loop-ord.tx) in
+    let new = (g.T.OpenTransaction.held c.insert_member.new.tx) in
     let low : c.loop-ord.ord < length c.args.members.now = omega arith in
+    let spares = spares_added g.S.Store (codes "member") (member_row (lent_member c.member_row-row.result)) mid new c.insert_member.ensures.survives c.insert_member.result c.insert_member.ensures.added c.insert_member.ensures.failed in
+    let one = wrote_record g.S.Store (codes "member") member_row (λ r. with_more_members (r ∷ [])) (lent_member c.member_row-row.result) (member_record c.args.owner.now c.loop-ord.ord (string_bytes c.index-members-ord.result)) (rw c.deref.ensures at c.member_row-row.ensures) mid new c.insert_member.ensures.survives members_added c.in_ok-insert_member.ensures.added in
     record {
-      same_reference = c.add_member.ensures.same_reference ∙ c.loop-ord.invariant.same_reference;
-      turns = λ clean tables it. subst (λ l. HasRecords new.now (record tables { members = l })) (numbered_next string_bytes c.args.members.now c.loop-ord.ord c.index-members-ord.result low c.index-members-ord.is (member_record c.args.owner.now) tables.members)
-          (rw c.deref.ensures at (c.in_ok-add_member.ensures.turns clean (record tables { members = tables.members ++ numbered (member_record c.args.owner.now) 0 (texts_shown (take c.loop-ord.ord c.args.members.now)) }) (c.loop-ord.invariant.turns (clean_before mid new c.add_member.ensures.survives clean) tables it)));
-      ran = λ clean. loop_ran g.S.Store c.args.members.now c.loop-ord.ord (λ l. map adding_member (numbered (member_record c.args.owner.now) 0 (texts_shown l))) (adding_member (member_record c.args.owner.now c.loop-ord.ord (string_bytes c.index-members-ord.result)) ∷ []) (numbered_run adding_member string_bytes c.args.members.now c.loop-ord.ord c.index-members-ord.result low c.index-members-ord.is (member_record c.args.owner.now)) (g.T.OpenTransaction.held c.args.tx.now) (g.T.OpenTransaction.held c.loop-ord.tx) (g.T.OpenTransaction.held c.add_member.new.tx) (c.loop-ord.invariant.ran (clean_before (state g.S.Store (g.T.OpenTransaction.held c.loop-ord.tx)) (state g.S.Store (g.T.OpenTransaction.held c.add_member.new.tx)) c.add_member.ensures.survives clean)) (rw c.deref.ensures at (c.in_ok-add_member.ensures.ran clean));
-      usable = c.in_ok-add_member.ensures.usable;
-      keeps = λ clean. keeps_then first mid new (c.loop-ord.invariant.keeps (clean_before mid new c.add_member.ensures.survives clean)) (c.add_member.ensures.keeps clean);
-      survives = none_then first mid new c.loop-ord.invariant.survives c.add_member.ensures.survives;
-      inside = λ clean begun. c.in_ok-add_member.ensures.inside clean (c.loop-ord.invariant.inside (clean_before mid new c.add_member.ensures.survives clean) begun);
+      same_reference = c.insert_member.ensures.same_reference ∙ c.loop-ord.invariant.same_reference;
+      wrote = adding_wrote g.S.Store adding_member with_more_members members_last (λ l. numbered (member_record c.args.owner.now) 0 (texts_shown l)) c.args.members.now c.loop-ord.ord (member_record c.args.owner.now c.loop-ord.ord (string_bytes c.index-members-ord.result) ∷ []) (numbered_next string_bytes c.args.members.now c.loop-ord.ord c.index-members-ord.result low c.index-members-ord.is (member_record c.args.owner.now)) first mid new c.loop-ord.invariant.wrote spares one;
+      usable = usable_then g.S.Store (map adding_member (member_record c.args.owner.now c.loop-ord.ord (string_bytes c.index-members-ord.result) ∷ [])) (with_more_members (member_record c.args.owner.now c.loop-ord.ord (string_bytes c.index-members-ord.result) ∷ [])) mid new c.loop-ord.invariant.usable one spares;
+      spares = spares_then g.S.Store first mid new c.loop-ord.invariant.spares spares;
     }
 
-pub returns-clause-turns : goal.returns-clause-turns
-returns-clause-turns g c = λ clean tables it.
-    subst (λ l. HasRecords (state g.S.Store (g.T.OpenTransaction.held c.loop-ord.tx)).now (record tables { members = tables.members ++ numbered (member_record c.args.owner.now) 0 (texts_shown l) })) (take_all c.loop-ord.ord c.args.members.now (omega arith)) (c.loop-ord.invariant.turns clean tables it)
+pub loop-ord-init : goal.loop-ord-init
+loop-ord-init g c =
+    let first = (g.T.OpenTransaction.held c.args.tx.now) in
+    record {
+      same_reference = refl;
+      wrote = adding_none g.S.Store adding_member with_more_members members_none first;
+      usable = c.requires.usable;
+      spares = spares_none g.S.Store first;
+    }
 
-pub returns-in_err-add_member-clause-failed : goal.returns-in_err-add_member-clause-failed
-returns-in_err-add_member-clause-failed g c clean =
+pub returns-clause-wrote : goal.returns-clause-wrote
+returns-clause-wrote g c =
+    subst (λ l. Wrote g.S.Store (map adding_member (numbered (member_record c.args.owner.now) 0 (texts_shown l))) (with_more_members (numbered (member_record c.args.owner.now) 0 (texts_shown l))) (g.T.OpenTransaction.held c.args.tx.now) (g.T.OpenTransaction.held c.loop-ord.tx)) (take_all c.loop-ord.ord c.args.members.now (omega arith)) c.loop-ord.invariant.wrote
+
+pub returns-in_err-insert_member-clause-spares : goal.returns-in_err-insert_member-clause-spares
+returns-in_err-insert_member-clause-spares g c =
+    let first = (g.T.OpenTransaction.held c.args.tx.now) in
+    let mid = (g.T.OpenTransaction.held c.loop-ord.tx) in
+    let new = (g.T.OpenTransaction.held c.insert_member.new.tx) in
+    let spares = spares_added g.S.Store (codes "member") (member_row (lent_member c.member_row-row.result)) mid new c.insert_member.ensures.survives c.insert_member.result c.insert_member.ensures.added c.insert_member.ensures.failed in
+    spares_then g.S.Store first mid new c.loop-ord.invariant.spares spares
+
+pub returns-in_err-insert_member-clause-failed : goal.returns-in_err-insert_member-clause-failed
+returns-in_err-insert_member-clause-failed g c =
+    let first = (g.T.OpenTransaction.held c.args.tx.now) in
+    let mid = (g.T.OpenTransaction.held c.loop-ord.tx) in
+    let new = (g.T.OpenTransaction.held c.insert_member.new.tx) in
     let low : c.loop-ord.ord < length c.args.members.now = omega arith in
-    passed_on (FailsInTurn g.S.Store (map adding_member (numbered (member_record c.args.owner.now) 0 (texts_shown c.args.members.now))) (g.T.OpenTransaction.held c.args.tx.now) (g.T.OpenTransaction.held c.add_member.new.tx)) c.in_err-add_member.field-0.0 c.from_residual.result c.from_residual.ensures.1
-    (loop_fails g.S.Store c.args.members.now c.loop-ord.ord (λ l. map adding_member (numbered (member_record c.args.owner.now) 0 (texts_shown l))) (adding_member (member_record c.args.owner.now c.loop-ord.ord (string_bytes c.index-members-ord.result)) ∷ []) (numbered_run adding_member string_bytes c.args.members.now c.loop-ord.ord c.index-members-ord.result low c.index-members-ord.is (member_record c.args.owner.now)) (g.T.OpenTransaction.held c.args.tx.now) (g.T.OpenTransaction.held c.loop-ord.tx) (g.T.OpenTransaction.held c.add_member.new.tx) (c.loop-ord.invariant.ran (clean_before (state g.S.Store (g.T.OpenTransaction.held c.loop-ord.tx)) (state g.S.Store (g.T.OpenTransaction.held c.add_member.new.tx)) c.add_member.ensures.survives clean)) (numbered_grows adding_member string_bytes (member_record c.args.owner.now)) c.in_err-add_member.field-0.0 (rw c.deref.ensures at (c.in_err-add_member.ensures.failed clean)))
+    let spares = spares_added g.S.Store (codes "member") (member_row (lent_member c.member_row-row.result)) mid new c.insert_member.ensures.survives c.insert_member.result c.insert_member.ensures.added c.insert_member.ensures.failed in
+    let e = c.in_err-insert_member.field-0.0 in
+    let two = failed_record g.S.Store (codes "member") member_row (λ r. with_more_members (r ∷ [])) (lent_member c.member_row-row.result) (member_record c.args.owner.now c.loop-ord.ord (string_bytes c.index-members-ord.result)) (rw c.deref.ensures at c.member_row-row.ensures) mid new c.insert_member.ensures.survives e c.in_err-insert_member.ensures.failed in
+    passed_on (FailsToWrite g.S.Store (map adding_member (numbered (member_record c.args.owner.now) 0 (texts_shown c.args.members.now))) first new) e c.from_residual.result c.from_residual.ensures.1
+    (adding_failed g.S.Store adding_member with_more_members members_last (λ l. numbered (member_record c.args.owner.now) 0 (texts_shown l)) c.args.members.now c.loop-ord.ord (member_record c.args.owner.now c.loop-ord.ord (string_bytes c.index-members-ord.result) ∷ []) (numbered_next string_bytes c.args.members.now c.loop-ord.ord c.index-members-ord.result low c.index-members-ord.is (member_record c.args.owner.now)) first mid new c.loop-ord.invariant.wrote spares (numbered_grows string_bytes (member_record c.args.owner.now)) e two)
 
-pub returns-clause-ran : goal.returns-clause-ran
-returns-clause-ran g c clean =
-    subst (λ l. RunInTurn g.S.Store (map adding_member (numbered (member_record c.args.owner.now) 0 (texts_shown l))) (g.T.OpenTransaction.held c.args.tx.now) (g.T.OpenTransaction.held c.loop-ord.tx)) (take_all c.loop-ord.ord c.args.members.now (omega arith)) (c.loop-ord.invariant.ran clean)
+pub insert_member-requires : goal.insert_member-requires
+insert_member-requires g c = λ clean lives. has_members (state g.S.Store (g.T.OpenTransaction.held c.loop-ord.tx)).now (c.loop-ord.invariant.usable clean lives)

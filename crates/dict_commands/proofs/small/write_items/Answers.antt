@@ -1,41 +1,57 @@
+use Rattle.std.proofs.Common.{codes, [], ◌∷◌, map, true}
 use Rattle.sqlite.specs.Held.{state}
-use Rattle.dict_commands.specs.Changes.{cleared}
+use Rattle.dict_sql.proofs.StreamLemmas.{passed_on}
 use Rattle.dict_tables.specs.declared.tables.StoreTable.TheVariants as table
-use Rattle.dict_commands.proofs.LoopLemmas.{clean_before, keeps_then, none_then}
-use Rattle.dict_file.proofs.WithinLemmas.{err_first, err_later}
-use Rattle.dict_sql.proofs.TurnLemmas.{run_then}
-use Rattle.dict_commands.specs.Statements.{clearing, adding_item}
-use Rattle.dict_rows.specs.Written.{numbered, item_record}
-use Rattle.std.proofs.Common.{[], ◌∷◌, map}
 use Rattle.dict_catalogue.specs.Views.{item_shown}
+use Rattle.dict_rows.specs.Written.{numbered, item_record}
+use Rattle.dict_commands.specs.Changes.{without_items, with_more_items}
+use Rattle.dict_commands.specs.Statements.{clearing, adding_item, items_anew}
+use Rattle.dict_commands.specs.Writes.{FailsToWrite}
+use Rattle.dict_commands.proofs.TableLemmas.{items_to_remove, items_cleared}
+use Rattle.dict_commands.proofs.WriteLemmas.{wrote_removed, wrote_then, failed_after, spares_removed, spares_then, usable_then}
 use Rattle.dict_commands.proofs.small.write_items.Goals as goal
 
-pub returns-clause-turns : goal.returns-clause-turns
-returns-clause-turns g c = λ clean tables it.
-    c.in_ok-add_items.ensures.turns clean (cleared table.Item tables)
-    (c.in_ok-clear.ensures.turns (clean_before (state g.S.Store (g.T.OpenTransaction.held c.clear.new.tx)) (state g.S.Store (g.T.OpenTransaction.held c.add_items.new.tx)) c.add_items.ensures.survives clean) tables it)
+pub clear_table-requires : goal.clear_table-requires
+clear_table-requires g c = λ clean lives. items_to_remove (state g.S.Store (g.T.OpenTransaction.held c.args.tx.now)).now (c.requires.usable clean lives)
 
-pub returns-clause-survives : goal.returns-clause-survives
-returns-clause-survives g c = none_then (state g.S.Store (g.T.OpenTransaction.held c.args.tx.now)) (state g.S.Store (g.T.OpenTransaction.held c.clear.new.tx)) (state g.S.Store (g.T.OpenTransaction.held c.add_items.new.tx)) c.clear.ensures.survives c.add_items.ensures.survives
+pub add_items-requires-clause-usable : goal.add_items-requires-clause-usable
+add_items-requires-clause-usable g c =
+    let old = (g.T.OpenTransaction.held c.args.tx.now) in
+    let mid = (g.T.OpenTransaction.held c.clear_table.new.tx) in
+    usable_then g.S.Store (clearing table.Item ∷ []) without_items old mid c.requires.usable
+    (wrote_removed g.S.Store (codes "item") (λ _. true) old mid c.clear_table.ensures.survives without_items items_cleared c.in_ok-clear_table.ensures.removed)
+    (spares_removed g.S.Store (codes "item") (λ _. true) old mid c.clear_table.ensures.survives c.clear_table.result c.clear_table.ensures.removed c.clear_table.ensures.failed)
 
-pub returns-in_err-clear-clause-failed : goal.returns-in_err-clear-clause-failed
-returns-in_err-clear-clause-failed g c clean =
-    err_first g.S.Store (g.T.OpenTransaction.held c.args.tx.now) (g.T.OpenTransaction.held c.clear.new.tx) c.in_err-clear.field-0.0 c.from_residual.result c.from_residual.ensures.1 (clearing table.Item ∷ []) (map adding_item (numbered item_record 0 (map item_shown c.args.items.now))) (c.in_err-clear.ensures.failed clean)
+pub returns-clause-wrote : goal.returns-clause-wrote
+returns-clause-wrote g c =
+    let old = (g.T.OpenTransaction.held c.args.tx.now) in
+    let mid = (g.T.OpenTransaction.held c.clear_table.new.tx) in
+    let new = (g.T.OpenTransaction.held c.add_items.new.tx) in
+    let rows = numbered item_record 0 (map item_shown c.args.items.now) in
+    let one = wrote_removed g.S.Store (codes "item") (λ _. true) old mid c.clear_table.ensures.survives without_items items_cleared c.in_ok-clear_table.ensures.removed in
+    wrote_then g.S.Store (clearing table.Item ∷ []) (map adding_item rows) without_items (with_more_items rows) old mid new one c.in_ok-add_items.ensures.wrote c.add_items.ensures.spares
+
+pub returns-clause-spares : goal.returns-clause-spares
+returns-clause-spares g c =
+    let old = (g.T.OpenTransaction.held c.args.tx.now) in
+    let mid = (g.T.OpenTransaction.held c.clear_table.new.tx) in
+    spares_then g.S.Store old mid (g.T.OpenTransaction.held c.add_items.new.tx)
+    (spares_removed g.S.Store (codes "item") (λ _. true) old mid c.clear_table.ensures.survives c.clear_table.result c.clear_table.ensures.removed c.clear_table.ensures.failed) c.add_items.ensures.spares
+
+pub returns-in_err-add_items-clause-spares : goal.returns-in_err-add_items-clause-spares
+returns-in_err-add_items-clause-spares g c =
+    let old = (g.T.OpenTransaction.held c.args.tx.now) in
+    let mid = (g.T.OpenTransaction.held c.clear_table.new.tx) in
+    spares_then g.S.Store old mid (g.T.OpenTransaction.held c.add_items.new.tx)
+    (spares_removed g.S.Store (codes "item") (λ _. true) old mid c.clear_table.ensures.survives c.clear_table.result c.clear_table.ensures.removed c.clear_table.ensures.failed) c.add_items.ensures.spares
 
 pub returns-in_err-add_items-clause-failed : goal.returns-in_err-add_items-clause-failed
-returns-in_err-add_items-clause-failed g c clean =
-    err_later g.S.Store (g.T.OpenTransaction.held c.args.tx.now) (g.T.OpenTransaction.held c.add_items.new.tx) c.in_err-add_items.field-0.0 c.from_residual-in_err-add_items.result c.from_residual-in_err-add_items.ensures.1 (clearing table.Item ∷ []) (map adding_item (numbered item_record 0 (map item_shown c.args.items.now))) (g.T.OpenTransaction.held c.clear.new.tx)
-    (c.in_ok-clear.ensures.ran (clean_before (state g.S.Store (g.T.OpenTransaction.held c.clear.new.tx)) (state g.S.Store (g.T.OpenTransaction.held c.add_items.new.tx)) c.add_items.ensures.survives clean)) (c.in_err-add_items.ensures.failed clean)
-
-pub returns-in_err-add_items-clause-survives : goal.returns-in_err-add_items-clause-survives
-returns-in_err-add_items-clause-survives g c = none_then (state g.S.Store (g.T.OpenTransaction.held c.args.tx.now)) (state g.S.Store (g.T.OpenTransaction.held c.clear.new.tx)) (state g.S.Store (g.T.OpenTransaction.held c.add_items.new.tx)) c.clear.ensures.survives c.add_items.ensures.survives
-
-pub returns-clause-ran : goal.returns-clause-ran
-returns-clause-ran g c clean =
-    run_then g.S.Store (clearing table.Item ∷ []) (map adding_item (numbered item_record 0 (map item_shown c.args.items.now))) (g.T.OpenTransaction.held c.args.tx.now) (g.T.OpenTransaction.held c.clear.new.tx) (g.T.OpenTransaction.held c.add_items.new.tx) (c.in_ok-clear.ensures.ran (clean_before (state g.S.Store (g.T.OpenTransaction.held c.clear.new.tx)) (state g.S.Store (g.T.OpenTransaction.held c.add_items.new.tx)) c.add_items.ensures.survives clean)) (c.in_ok-add_items.ensures.ran clean)
-
-pub returns-clause-keeps : goal.returns-clause-keeps
-returns-clause-keeps g c clean = keeps_then (state g.S.Store (g.T.OpenTransaction.held c.args.tx.now)) (state g.S.Store (g.T.OpenTransaction.held c.clear.new.tx)) (state g.S.Store (g.T.OpenTransaction.held c.add_items.new.tx)) (c.clear.ensures.keeps (clean_before (state g.S.Store (g.T.OpenTransaction.held c.clear.new.tx)) (state g.S.Store (g.T.OpenTransaction.held c.add_items.new.tx)) c.add_items.ensures.survives clean)) (c.add_items.ensures.keeps clean)
-
-pub returns-in_err-add_items-clause-keeps : goal.returns-in_err-add_items-clause-keeps
-returns-in_err-add_items-clause-keeps g c clean = keeps_then (state g.S.Store (g.T.OpenTransaction.held c.args.tx.now)) (state g.S.Store (g.T.OpenTransaction.held c.clear.new.tx)) (state g.S.Store (g.T.OpenTransaction.held c.add_items.new.tx)) (c.clear.ensures.keeps (clean_before (state g.S.Store (g.T.OpenTransaction.held c.clear.new.tx)) (state g.S.Store (g.T.OpenTransaction.held c.add_items.new.tx)) c.add_items.ensures.survives clean)) (c.add_items.ensures.keeps clean)
+returns-in_err-add_items-clause-failed g c =
+    let old = (g.T.OpenTransaction.held c.args.tx.now) in
+    let mid = (g.T.OpenTransaction.held c.clear_table.new.tx) in
+    let new = (g.T.OpenTransaction.held c.add_items.new.tx) in
+    let rows = numbered item_record 0 (map item_shown c.args.items.now) in
+    let e = c.in_err-add_items.field-0.0 in
+    let one = wrote_removed g.S.Store (codes "item") (λ _. true) old mid c.clear_table.ensures.survives without_items items_cleared c.in_ok-clear_table.ensures.removed in
+    passed_on (FailsToWrite g.S.Store (items_anew (map item_shown c.args.items.now)) old new) e c.from_residual-in_err-add_items.result c.from_residual-in_err-add_items.ensures.1
+    (failed_after g.S.Store (clearing table.Item ∷ []) (map adding_item rows) without_items old mid new e one c.add_items.ensures.spares c.in_err-add_items.ensures.failed)

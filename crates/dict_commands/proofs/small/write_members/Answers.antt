@@ -1,41 +1,59 @@
+use Rattle.std.proofs.Common.{codes, [], ◌∷◌, map, true}
 use Rattle.sqlite.specs.Held.{state}
-use Rattle.dict_commands.specs.Changes.{cleared}
+use Rattle.dict_sql.proofs.StreamLemmas.{passed_on}
 use Rattle.dict_tables.specs.declared.tables.StoreTable.TheVariants as table
-use Rattle.dict_commands.proofs.LoopLemmas.{clean_before, keeps_then, none_then}
-use Rattle.dict_file.proofs.WithinLemmas.{err_first, err_later}
-use Rattle.dict_sql.proofs.TurnLemmas.{run_then}
-use Rattle.dict_commands.specs.Statements.{clearing, adding_member}
-use Rattle.dict_rows.specs.After.{all_members}
-use Rattle.std.proofs.Common.{[], ◌∷◌, map}
 use Rattle.dict_catalogue.specs.Views.{item_shown}
+use Rattle.dict_rows.specs.After.{all_members}
+use Rattle.dict_commands.specs.Changes.{without_members, with_more_members}
+use Rattle.dict_commands.specs.Statements.{clearing, adding_member, members_anew}
+use Rattle.dict_commands.specs.Writes.{FailsToWrite}
+use Rattle.dict_commands.proofs.TableLemmas.{members_to_remove, members_cleared}
+use Rattle.dict_commands.proofs.WriteLemmas.{wrote_removed, wrote_then, failed_after, spares_removed, spares_then, usable_then}
 use Rattle.dict_commands.proofs.small.write_members.Goals as goal
 
-pub returns-clause-turns : goal.returns-clause-turns
-returns-clause-turns g c = λ clean tables it.
-    c.in_ok-add_all_members.ensures.turns clean (cleared table.Member tables)
-    (c.in_ok-clear.ensures.turns (clean_before (state g.S.Store (g.T.OpenTransaction.held c.clear.new.tx)) (state g.S.Store (g.T.OpenTransaction.held c.add_all_members.new.tx)) c.add_all_members.ensures.survives clean) tables it)
+pub clear_table-requires : goal.clear_table-requires
+clear_table-requires g c = λ clean lives. members_to_remove (state g.S.Store (g.T.OpenTransaction.held c.args.tx.now)).now (c.requires.usable clean lives)
 
-pub returns-clause-survives : goal.returns-clause-survives
-returns-clause-survives g c = none_then (state g.S.Store (g.T.OpenTransaction.held c.args.tx.now)) (state g.S.Store (g.T.OpenTransaction.held c.clear.new.tx)) (state g.S.Store (g.T.OpenTransaction.held c.add_all_members.new.tx)) c.clear.ensures.survives c.add_all_members.ensures.survives
+pub add_all_members-requires : goal.add_all_members-requires
+add_all_members-requires g c =
+    let old = (g.T.OpenTransaction.held c.args.tx.now) in
+    let mid = (g.T.OpenTransaction.held c.clear_table.new.tx) in
+    record {
+      usable = usable_then g.S.Store (clearing table.Member ∷ []) without_members old mid c.requires.usable
+          (wrote_removed g.S.Store (codes "member") (λ _. true) old mid c.clear_table.ensures.survives without_members members_cleared c.in_ok-clear_table.ensures.removed)
+          (spares_removed g.S.Store (codes "member") (λ _. true) old mid c.clear_table.ensures.survives c.clear_table.result c.clear_table.ensures.removed c.clear_table.ensures.failed);
+    }
 
-pub returns-in_err-clear-clause-failed : goal.returns-in_err-clear-clause-failed
-returns-in_err-clear-clause-failed g c clean =
-    err_first g.S.Store (g.T.OpenTransaction.held c.args.tx.now) (g.T.OpenTransaction.held c.clear.new.tx) c.in_err-clear.field-0.0 c.from_residual.result c.from_residual.ensures.1 (clearing table.Member ∷ []) (map adding_member (all_members (map item_shown c.args.items.now))) (c.in_err-clear.ensures.failed clean)
+pub returns-clause-wrote : goal.returns-clause-wrote
+returns-clause-wrote g c =
+    let old = (g.T.OpenTransaction.held c.args.tx.now) in
+    let mid = (g.T.OpenTransaction.held c.clear_table.new.tx) in
+    let new = (g.T.OpenTransaction.held c.add_all_members.new.tx) in
+    let rows = all_members (map item_shown c.args.items.now) in
+    let one = wrote_removed g.S.Store (codes "member") (λ _. true) old mid c.clear_table.ensures.survives without_members members_cleared c.in_ok-clear_table.ensures.removed in
+    wrote_then g.S.Store (clearing table.Member ∷ []) (map adding_member rows) without_members (with_more_members rows) old mid new one c.in_ok-add_all_members.ensures.wrote c.add_all_members.ensures.spares
+
+pub returns-clause-spares : goal.returns-clause-spares
+returns-clause-spares g c =
+    let old = (g.T.OpenTransaction.held c.args.tx.now) in
+    let mid = (g.T.OpenTransaction.held c.clear_table.new.tx) in
+    spares_then g.S.Store old mid (g.T.OpenTransaction.held c.add_all_members.new.tx)
+    (spares_removed g.S.Store (codes "member") (λ _. true) old mid c.clear_table.ensures.survives c.clear_table.result c.clear_table.ensures.removed c.clear_table.ensures.failed) c.add_all_members.ensures.spares
+
+pub returns-in_err-add_all_members-clause-spares : goal.returns-in_err-add_all_members-clause-spares
+returns-in_err-add_all_members-clause-spares g c =
+    let old = (g.T.OpenTransaction.held c.args.tx.now) in
+    let mid = (g.T.OpenTransaction.held c.clear_table.new.tx) in
+    spares_then g.S.Store old mid (g.T.OpenTransaction.held c.add_all_members.new.tx)
+    (spares_removed g.S.Store (codes "member") (λ _. true) old mid c.clear_table.ensures.survives c.clear_table.result c.clear_table.ensures.removed c.clear_table.ensures.failed) c.add_all_members.ensures.spares
 
 pub returns-in_err-add_all_members-clause-failed : goal.returns-in_err-add_all_members-clause-failed
-returns-in_err-add_all_members-clause-failed g c clean =
-    err_later g.S.Store (g.T.OpenTransaction.held c.args.tx.now) (g.T.OpenTransaction.held c.add_all_members.new.tx) c.in_err-add_all_members.field-0.0 c.from_residual-in_err-add_all_members.result c.from_residual-in_err-add_all_members.ensures.1 (clearing table.Member ∷ []) (map adding_member (all_members (map item_shown c.args.items.now))) (g.T.OpenTransaction.held c.clear.new.tx)
-    (c.in_ok-clear.ensures.ran (clean_before (state g.S.Store (g.T.OpenTransaction.held c.clear.new.tx)) (state g.S.Store (g.T.OpenTransaction.held c.add_all_members.new.tx)) c.add_all_members.ensures.survives clean)) (c.in_err-add_all_members.ensures.failed clean)
-
-pub returns-in_err-add_all_members-clause-survives : goal.returns-in_err-add_all_members-clause-survives
-returns-in_err-add_all_members-clause-survives g c = none_then (state g.S.Store (g.T.OpenTransaction.held c.args.tx.now)) (state g.S.Store (g.T.OpenTransaction.held c.clear.new.tx)) (state g.S.Store (g.T.OpenTransaction.held c.add_all_members.new.tx)) c.clear.ensures.survives c.add_all_members.ensures.survives
-
-pub returns-clause-ran : goal.returns-clause-ran
-returns-clause-ran g c clean =
-    run_then g.S.Store (clearing table.Member ∷ []) (map adding_member (all_members (map item_shown c.args.items.now))) (g.T.OpenTransaction.held c.args.tx.now) (g.T.OpenTransaction.held c.clear.new.tx) (g.T.OpenTransaction.held c.add_all_members.new.tx) (c.in_ok-clear.ensures.ran (clean_before (state g.S.Store (g.T.OpenTransaction.held c.clear.new.tx)) (state g.S.Store (g.T.OpenTransaction.held c.add_all_members.new.tx)) c.add_all_members.ensures.survives clean)) (c.in_ok-add_all_members.ensures.ran clean)
-
-pub returns-clause-keeps : goal.returns-clause-keeps
-returns-clause-keeps g c clean = keeps_then (state g.S.Store (g.T.OpenTransaction.held c.args.tx.now)) (state g.S.Store (g.T.OpenTransaction.held c.clear.new.tx)) (state g.S.Store (g.T.OpenTransaction.held c.add_all_members.new.tx)) (c.clear.ensures.keeps (clean_before (state g.S.Store (g.T.OpenTransaction.held c.clear.new.tx)) (state g.S.Store (g.T.OpenTransaction.held c.add_all_members.new.tx)) c.add_all_members.ensures.survives clean)) (c.add_all_members.ensures.keeps clean)
-
-pub returns-in_err-add_all_members-clause-keeps : goal.returns-in_err-add_all_members-clause-keeps
-returns-in_err-add_all_members-clause-keeps g c clean = keeps_then (state g.S.Store (g.T.OpenTransaction.held c.args.tx.now)) (state g.S.Store (g.T.OpenTransaction.held c.clear.new.tx)) (state g.S.Store (g.T.OpenTransaction.held c.add_all_members.new.tx)) (c.clear.ensures.keeps (clean_before (state g.S.Store (g.T.OpenTransaction.held c.clear.new.tx)) (state g.S.Store (g.T.OpenTransaction.held c.add_all_members.new.tx)) c.add_all_members.ensures.survives clean)) (c.add_all_members.ensures.keeps clean)
+returns-in_err-add_all_members-clause-failed g c =
+    let old = (g.T.OpenTransaction.held c.args.tx.now) in
+    let mid = (g.T.OpenTransaction.held c.clear_table.new.tx) in
+    let new = (g.T.OpenTransaction.held c.add_all_members.new.tx) in
+    let rows = all_members (map item_shown c.args.items.now) in
+    let e = c.in_err-add_all_members.field-0.0 in
+    let one = wrote_removed g.S.Store (codes "member") (λ _. true) old mid c.clear_table.ensures.survives without_members members_cleared c.in_ok-clear_table.ensures.removed in
+    passed_on (FailsToWrite g.S.Store (members_anew (map item_shown c.args.items.now)) old new) e c.from_residual-in_err-add_all_members.result c.from_residual-in_err-add_all_members.ensures.1
+    (failed_after g.S.Store (clearing table.Member ∷ []) (map adding_member rows) without_members old mid new e one c.add_all_members.ensures.spares c.in_err-add_all_members.ensures.failed)

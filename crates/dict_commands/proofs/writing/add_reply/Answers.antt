@@ -1,27 +1,36 @@
-use Rattle.std.proofs.Common.{codes, subst}
+use Rattle.std.proofs.Common.{codes, ◌++◌, ◌∷◌, []}
 use Rattle.sqlite.specs.Held.{state}
-use Rattle.dict_sql.specs.Effects.{IsAdded}
 use Rattle.dict_sql.specs.Encodings.{kept_row}
+use Rattle.dict_sql.proofs.StreamLemmas.{passed_on}
 use Rattle.dict_records.specs.Records.{Kept}
-use Rattle.dict_commands.proofs.TableLemmas.{kept_added}
-use Rattle.dict_file.proofs.WithinLemmas.{ran_one, err_one}
-use Rattle.dict_commands.specs.Statements.{adding_kept}
 use Rattle.dict_records.specs.Typed.{lent_kept}
 use Rattle.dict_rows.specs.Written.{kept_record}
 use Rattle.dict_catalogue.specs.Views.{kept_shown}
+use Rattle.dict_derived.specs.AllTables.{AllTables}
+use Rattle.dict_commands.specs.Statements.{replying}
+use Rattle.dict_commands.specs.Writes.{FailsToWrite}
+use Rattle.dict_commands.proofs.TableLemmas.{has_kept, kept_added}
+use Rattle.dict_commands.proofs.WriteLemmas.{wrote_record, failed_record, spares_added}
 use Rattle.dict_commands.proofs.writing.add_reply.Goals as goal
 
-pub returns-clause-turns : goal.returns-clause-turns
-returns-clause-turns g c = λ clean.
-    let old = state g.S.Store (g.T.OpenTransaction.held c.args.tx.now) in
-    let new = state g.S.Store (g.T.OpenTransaction.held c.insert_kept.new.tx) in
-    kept_added old.now new.now _ (subst (λ (r : Kept). IsAdded (codes "kept") (kept_row r) old.now new.now) c.kept_row-row.ensures (c.in_ok-insert_kept.ensures.added clean).0)
+abbrev added : Kept → AllTables → AllTables
+added r all = record all { kept = all.kept ++ r ∷ [] }
+
+pub insert_kept-requires : goal.insert_kept-requires
+insert_kept-requires g c = λ clean lives. has_kept (state g.S.Store (g.T.OpenTransaction.held c.args.tx.now)).now (c.requires.usable clean lives)
+
+pub returns-clause-wrote : goal.returns-clause-wrote
+returns-clause-wrote g c =
+    wrote_record g.S.Store (codes "kept") kept_row added (lent_kept c.kept_row-row.result) (kept_record (record { id = c.args.id.now; reply = kept_shown c.args.reply.now })) c.kept_row-row.ensures (g.T.OpenTransaction.held c.args.tx.now) (g.T.OpenTransaction.held c.insert_kept.new.tx) c.insert_kept.ensures.survives kept_added c.in_ok-insert_kept.ensures.added
+
+pub returns-clause-spares : goal.returns-clause-spares
+returns-clause-spares g c = spares_added g.S.Store (codes "kept") (kept_row (lent_kept c.kept_row-row.result)) (g.T.OpenTransaction.held c.args.tx.now) (g.T.OpenTransaction.held c.insert_kept.new.tx) c.insert_kept.ensures.survives c.insert_kept.result c.insert_kept.ensures.added c.insert_kept.ensures.failed
+
+pub returns-in_err-insert_kept-clause-spares : goal.returns-in_err-insert_kept-clause-spares
+returns-in_err-insert_kept-clause-spares g c = spares_added g.S.Store (codes "kept") (kept_row (lent_kept c.kept_row-row.result)) (g.T.OpenTransaction.held c.args.tx.now) (g.T.OpenTransaction.held c.insert_kept.new.tx) c.insert_kept.ensures.survives c.insert_kept.result c.insert_kept.ensures.added c.insert_kept.ensures.failed
 
 pub returns-in_err-insert_kept-clause-failed : goal.returns-in_err-insert_kept-clause-failed
-returns-in_err-insert_kept-clause-failed g c clean =
-    err_one g.S.Store (g.T.OpenTransaction.held c.args.tx.now) (g.T.OpenTransaction.held c.insert_kept.new.tx) c.in_err-insert_kept.field-0.0 c.from_residual.result c.from_residual.ensures.1
-    adding_kept (lent_kept c.kept_row-row.result) (kept_record (record { id = c.args.id.now; reply = kept_shown c.args.reply.now })) c.kept_row-row.ensures (c.in_err-insert_kept.ensures.failed clean) c.insert_kept.ensures.survives
-
-pub returns-clause-ran : goal.returns-clause-ran
-returns-clause-ran g c clean =
-    ran_one g.S.Store adding_kept (lent_kept c.kept_row-row.result) (kept_record (record { id = c.args.id.now; reply = kept_shown c.args.reply.now })) c.kept_row-row.ensures (g.T.OpenTransaction.held c.args.tx.now) (g.T.OpenTransaction.held c.insert_kept.new.tx) (c.in_ok-insert_kept.ensures.added clean) c.insert_kept.ensures.survives
+returns-in_err-insert_kept-clause-failed g c =
+    let e = c.in_err-insert_kept.field-0.0 in
+    passed_on (FailsToWrite g.S.Store (replying (record { id = c.args.id.now; reply = kept_shown c.args.reply.now })) (g.T.OpenTransaction.held c.args.tx.now) (g.T.OpenTransaction.held c.insert_kept.new.tx)) e c.from_residual.result c.from_residual.ensures.1
+    (failed_record g.S.Store (codes "kept") kept_row added (lent_kept c.kept_row-row.result) (kept_record (record { id = c.args.id.now; reply = kept_shown c.args.reply.now })) c.kept_row-row.ensures (g.T.OpenTransaction.held c.args.tx.now) (g.T.OpenTransaction.held c.insert_kept.new.tx) c.insert_kept.ensures.survives e c.in_err-insert_kept.ensures.failed)

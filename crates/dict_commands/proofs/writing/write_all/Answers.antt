@@ -1,79 +1,90 @@
-use Rattle.std.proofs.Common.{map}
-use Rattle.sqlite.specs.State.{HasCleanDisk}
-use Rattle.sqlite.specs.Held.{state}
-use Rattle.dict_catalogue.specs.Views.{item_shown}
-use Rattle.dict_commands.specs.Changes.{with_mark, with_items, with_members, without_editions, with_installed, installed_by}
-use Rattle.dict_commands.proofs.LoopLemmas.{clean_before, keeps_then, none_then}
-use Rattle.dict_file.proofs.WithinLemmas.{err_first, err_later}
-use Rattle.dict_sql.proofs.TurnLemmas.{run_then, fails_before, fails_after}
-use Rattle.dict_commands.specs.Statements.{summary_anew, exchanging, replying}
-use Rattle.std.proofs.Common.{◌++◌}
-use Rattle.dict_catalogue.specs.Views.{kept_shown}
+use Rattle.std.proofs.Common.{map, ◌++◌}
+use Rattle.dict_sql.proofs.StreamLemmas.{passed_on}
+use Rattle.dict_derived.specs.AllTables.{AllTables}
+use Rattle.dict_commands.specs.Writes.{Wrote, FailsToWrite}
+use Rattle.dict_commands.proofs.WriteLemmas.{wrote_then, failed_before, failed_after, spares_then}
+use Rattle.dict_catalogue.specs.Views.{item_shown, kept_shown}
+use Rattle.dict_rows.specs.Versions.{known}
+use Rattle.dict_derived.specs.AllTables.{without_editions, with_installed}
+use Rattle.dict_commands.specs.Changes.{with_mark, with_items, with_members, with_reply, installed_by, change_by}
+use Rattle.dict_commands.specs.Listed.{listed_by}
+use Rattle.dict_commands.specs.Statements.{summary_anew, exchanging, replying, statements_of}
 use Rattle.dict_commands.proofs.writing.write_all.Goals as goal
 
-pub returns-in_err-add_reply-clause-survives : goal.returns-in_err-add_reply-clause-survives
-returns-in_err-add_reply-clause-survives g c =
-    let first = state g.S.Store (g.T.OpenTransaction.held c.args.tx.now) in
-    let one = state g.S.Store (g.T.OpenTransaction.held c.write_summary.new.tx) in
-    let two = state g.S.Store (g.T.OpenTransaction.held c.write_editions.new.tx) in
-    let new = state g.S.Store (g.T.OpenTransaction.held c.add_reply.new.tx) in
-    none_then first two new (none_then first one two c.write_summary.ensures.survives c.write_editions.ensures.survives) c.add_reply.ensures.survives
+pub returns-clause-wrote : goal.returns-clause-wrote
+returns-clause-wrote g c =
+    let first = (g.T.OpenTransaction.held c.args.tx.now) in
+    let s0 = (g.T.OpenTransaction.held c.write_summary.new.tx) in
+    let spares0 = c.write_summary.ensures.spares in
+    let wrote0 : Wrote g.S.Store (summary_anew known c.args.change.now.summary.installs (map item_shown c.args.change.now.summary.items.items)) ((λ (all : AllTables). with_members (map item_shown c.args.change.now.summary.items.items) (with_items (map item_shown c.args.change.now.summary.items.items) (with_mark c.args.change.now.summary.installs all)))) first s0 = c.in_ok-write_summary.ensures.wrote in
+    let s1 = (g.T.OpenTransaction.held c.write_editions.new.tx) in
+    let spares1 = c.write_editions.ensures.spares in
+    let wrote1 : Wrote g.S.Store (exchanging c.args.change.now.gone.items (installed_by c.args.change.now.summary.installs c.args.command.now) (listed_by c.args.change.now.summary.installs c.args.rows.now)) ((λ (all : AllTables). with_installed (installed_by c.args.change.now.summary.installs c.args.command.now) (without_editions c.args.change.now.gone.items all))) s0 s1 = rw c.deref.ensures.value at c.in_ok-write_editions.ensures.wrote in
+    let s2 = (g.T.OpenTransaction.held c.add_reply.new.tx) in
+    let spares2 = c.add_reply.ensures.spares in
+    let wrote2 : Wrote g.S.Store (replying (record { id = c.args.id.now; reply = kept_shown c.args.change.now.kept })) (with_reply (record { id = c.args.id.now; reply = kept_shown c.args.change.now.kept })) s1 s2 = c.in_ok-add_reply.ensures.wrote in
+    (wrote_then g.S.Store (summary_anew known c.args.change.now.summary.installs (map item_shown c.args.change.now.summary.items.items)) ((exchanging c.args.change.now.gone.items (installed_by c.args.change.now.summary.installs c.args.command.now) (listed_by c.args.change.now.summary.installs c.args.rows.now)) ++ ((replying (record { id = c.args.id.now; reply = kept_shown c.args.change.now.kept })))) ((λ (all : AllTables). with_members (map item_shown c.args.change.now.summary.items.items) (with_items (map item_shown c.args.change.now.summary.items.items) (with_mark c.args.change.now.summary.installs all)))) (λ (all : AllTables). (with_reply (record { id = c.args.id.now; reply = kept_shown c.args.change.now.kept }) ((λ (all : AllTables). with_installed (installed_by c.args.change.now.summary.installs c.args.command.now) (without_editions c.args.change.now.gone.items all)) all))) first s0 s2 wrote0 (wrote_then g.S.Store (exchanging c.args.change.now.gone.items (installed_by c.args.change.now.summary.installs c.args.command.now) (listed_by c.args.change.now.summary.installs c.args.rows.now)) ((replying (record { id = c.args.id.now; reply = kept_shown c.args.change.now.kept }))) ((λ (all : AllTables). with_installed (installed_by c.args.change.now.summary.installs c.args.command.now) (without_editions c.args.change.now.gone.items all))) (λ (all : AllTables). (with_reply (record { id = c.args.id.now; reply = kept_shown c.args.change.now.kept }) all)) s0 s1 s2 wrote1 wrote2 spares2) (spares_then g.S.Store s0 s1 s2 spares1 spares2))
 
-pub returns-clause-made : goal.returns-clause-made
-returns-clause-made g c = λ clean.
-    let one = state g.S.Store (g.T.OpenTransaction.held c.write_summary.new.tx) in
-    let two = state g.S.Store (g.T.OpenTransaction.held c.write_editions.new.tx) in
-    let new = state g.S.Store (g.T.OpenTransaction.held c.add_reply.new.tx) in
-    let late : HasCleanDisk two = clean_before two new c.add_reply.ensures.survives clean in
-    let items = map item_shown c.args.change.now.summary.items.items in (
-      λ tables it.
-          let first = with_members items (with_items items (with_mark c.args.change.now.summary.installs tables)) in
-          rw c.deref.ensures.value at
-          (c.in_ok-add_reply.ensures.turns clean (with_installed (installed_by c.args.change.now.summary.installs c.args.command.now) (without_editions c.deref.result.now first))
-          (c.in_ok-write_editions.ensures.turns late first
-          (c.in_ok-write_summary.ensures.turns (clean_before one two c.write_editions.ensures.survives late) tables it))),
-      c.in_ok-add_reply.ensures.sound clean,
-    )
+pub returns-clause-spares : goal.returns-clause-spares
+returns-clause-spares g c =
+    let first = (g.T.OpenTransaction.held c.args.tx.now) in
+    let s0 = (g.T.OpenTransaction.held c.write_summary.new.tx) in
+    let spares0 = c.write_summary.ensures.spares in
+    let s1 = (g.T.OpenTransaction.held c.write_editions.new.tx) in
+    let spares1 = c.write_editions.ensures.spares in
+    let s2 = (g.T.OpenTransaction.held c.add_reply.new.tx) in
+    let spares2 = c.add_reply.ensures.spares in
+    (spares_then g.S.Store first s0 s2 spares0 (spares_then g.S.Store s0 s1 s2 spares1 spares2))
 
-pub returns-clause-survives : goal.returns-clause-survives
-returns-clause-survives g c =
-    let first = state g.S.Store (g.T.OpenTransaction.held c.args.tx.now) in
-    let one = state g.S.Store (g.T.OpenTransaction.held c.write_summary.new.tx) in
-    let two = state g.S.Store (g.T.OpenTransaction.held c.write_editions.new.tx) in
-    let new = state g.S.Store (g.T.OpenTransaction.held c.add_reply.new.tx) in
-    none_then first two new (none_then first one two c.write_summary.ensures.survives c.write_editions.ensures.survives) c.add_reply.ensures.survives
+pub returns-in_err-write_editions-clause-spares : goal.returns-in_err-write_editions-clause-spares
+returns-in_err-write_editions-clause-spares g c =
+    let first = (g.T.OpenTransaction.held c.args.tx.now) in
+    let s0 = (g.T.OpenTransaction.held c.write_summary.new.tx) in
+    let spares0 = c.write_summary.ensures.spares in
+    let s1 = (g.T.OpenTransaction.held c.write_editions.new.tx) in
+    let spares1 = c.write_editions.ensures.spares in
+    (spares_then g.S.Store first s0 s1 spares0 spares1)
+
+pub returns-in_err-add_reply-clause-spares : goal.returns-in_err-add_reply-clause-spares
+returns-in_err-add_reply-clause-spares g c =
+    let first = (g.T.OpenTransaction.held c.args.tx.now) in
+    let s0 = (g.T.OpenTransaction.held c.write_summary.new.tx) in
+    let spares0 = c.write_summary.ensures.spares in
+    let s1 = (g.T.OpenTransaction.held c.write_editions.new.tx) in
+    let spares1 = c.write_editions.ensures.spares in
+    let s2 = (g.T.OpenTransaction.held c.add_reply.new.tx) in
+    let spares2 = c.add_reply.ensures.spares in
+    (spares_then g.S.Store first s0 s2 spares0 (spares_then g.S.Store s0 s1 s2 spares1 spares2))
 
 pub returns-in_err-write_summary-clause-failed : goal.returns-in_err-write_summary-clause-failed
-returns-in_err-write_summary-clause-failed g c clean =
-    err_first g.S.Store (g.T.OpenTransaction.held c.args.tx.now) (g.T.OpenTransaction.held c.write_summary.new.tx) c.in_err-write_summary.field-0.0 c.from_residual.result c.from_residual.ensures.1 (summary_anew 1 c.args.change.now.summary.installs (map item_shown c.args.change.now.summary.items.items)) ((exchanging c.args.change.now.gone.items (installed_by c.args.change.now.summary.installs c.args.command.now)) ++ (replying (record { id = c.args.id.now; reply = kept_shown c.args.change.now.kept }))) (c.in_err-write_summary.ensures.failed clean)
+returns-in_err-write_summary-clause-failed g c =
+    let first = (g.T.OpenTransaction.held c.args.tx.now) in
+    let s0 = (g.T.OpenTransaction.held c.write_summary.new.tx) in
+    let spares0 = c.write_summary.ensures.spares in
+    let e = c.in_err-write_summary.field-0.0 in
+    passed_on (FailsToWrite g.S.Store (statements_of known (change_by c.args.id.now c.args.command.now c.args.change.now) (listed_by c.args.change.now.summary.installs c.args.rows.now)) first s0) e c.from_residual.result c.from_residual.ensures.1 ((failed_before g.S.Store (summary_anew known c.args.change.now.summary.installs (map item_shown c.args.change.now.summary.items.items)) ((exchanging c.args.change.now.gone.items (installed_by c.args.change.now.summary.installs c.args.command.now) (listed_by c.args.change.now.summary.installs c.args.rows.now)) ++ ((replying (record { id = c.args.id.now; reply = kept_shown c.args.change.now.kept })))) first s0 e (c.in_err-write_summary.ensures.failed)))
 
 pub returns-in_err-write_editions-clause-failed : goal.returns-in_err-write_editions-clause-failed
-returns-in_err-write_editions-clause-failed g c clean =
-    err_later g.S.Store (g.T.OpenTransaction.held c.args.tx.now) (g.T.OpenTransaction.held c.write_editions.new.tx) c.in_err-write_editions.field-0.0 c.from_residual-in_err-write_editions.result c.from_residual-in_err-write_editions.ensures.1 (summary_anew 1 c.args.change.now.summary.installs (map item_shown c.args.change.now.summary.items.items)) ((exchanging c.args.change.now.gone.items (installed_by c.args.change.now.summary.installs c.args.command.now)) ++ (replying (record { id = c.args.id.now; reply = kept_shown c.args.change.now.kept }))) (g.T.OpenTransaction.held c.write_summary.new.tx)
-    (c.in_ok-write_summary.ensures.ran (clean_before (state g.S.Store (g.T.OpenTransaction.held c.write_summary.new.tx)) (state g.S.Store (g.T.OpenTransaction.held c.write_editions.new.tx)) c.write_editions.ensures.survives clean)) (fails_before g.S.Store (exchanging c.args.change.now.gone.items (installed_by c.args.change.now.summary.installs c.args.command.now)) (replying (record { id = c.args.id.now; reply = kept_shown c.args.change.now.kept })) (g.T.OpenTransaction.held c.write_summary.new.tx) (g.T.OpenTransaction.held c.write_editions.new.tx) c.in_err-write_editions.field-0.0 (rw c.deref.ensures.value at (c.in_err-write_editions.ensures.failed clean)))
+returns-in_err-write_editions-clause-failed g c =
+    let first = (g.T.OpenTransaction.held c.args.tx.now) in
+    let s0 = (g.T.OpenTransaction.held c.write_summary.new.tx) in
+    let spares0 = c.write_summary.ensures.spares in
+    let wrote0 : Wrote g.S.Store (summary_anew known c.args.change.now.summary.installs (map item_shown c.args.change.now.summary.items.items)) ((λ (all : AllTables). with_members (map item_shown c.args.change.now.summary.items.items) (with_items (map item_shown c.args.change.now.summary.items.items) (with_mark c.args.change.now.summary.installs all)))) first s0 = c.in_ok-write_summary.ensures.wrote in
+    let s1 = (g.T.OpenTransaction.held c.write_editions.new.tx) in
+    let spares1 = c.write_editions.ensures.spares in
+    let e = c.in_err-write_editions.field-0.0 in
+    passed_on (FailsToWrite g.S.Store (statements_of known (change_by c.args.id.now c.args.command.now c.args.change.now) (listed_by c.args.change.now.summary.installs c.args.rows.now)) first s1) e c.from_residual-in_err-write_editions.result c.from_residual-in_err-write_editions.ensures.1 ((failed_after g.S.Store (summary_anew known c.args.change.now.summary.installs (map item_shown c.args.change.now.summary.items.items)) ((exchanging c.args.change.now.gone.items (installed_by c.args.change.now.summary.installs c.args.command.now) (listed_by c.args.change.now.summary.installs c.args.rows.now)) ++ ((replying (record { id = c.args.id.now; reply = kept_shown c.args.change.now.kept })))) ((λ (all : AllTables). with_members (map item_shown c.args.change.now.summary.items.items) (with_items (map item_shown c.args.change.now.summary.items.items) (with_mark c.args.change.now.summary.installs all)))) first s0 s1 e wrote0 spares1 (failed_before g.S.Store (exchanging c.args.change.now.gone.items (installed_by c.args.change.now.summary.installs c.args.command.now) (listed_by c.args.change.now.summary.installs c.args.rows.now)) ((replying (record { id = c.args.id.now; reply = kept_shown c.args.change.now.kept }))) s0 s1 e (rw c.deref.ensures.value at c.in_err-write_editions.ensures.failed))))
 
 pub returns-in_err-add_reply-clause-failed : goal.returns-in_err-add_reply-clause-failed
-returns-in_err-add_reply-clause-failed g c clean =
-    err_later g.S.Store (g.T.OpenTransaction.held c.args.tx.now) (g.T.OpenTransaction.held c.add_reply.new.tx) c.in_err-add_reply.field-0.0 c.from_residual-in_err-add_reply.result c.from_residual-in_err-add_reply.ensures.1 (summary_anew 1 c.args.change.now.summary.installs (map item_shown c.args.change.now.summary.items.items)) ((exchanging c.args.change.now.gone.items (installed_by c.args.change.now.summary.installs c.args.command.now)) ++ (replying (record { id = c.args.id.now; reply = kept_shown c.args.change.now.kept }))) (g.T.OpenTransaction.held c.write_summary.new.tx)
-    (c.in_ok-write_summary.ensures.ran (clean_before (state g.S.Store (g.T.OpenTransaction.held c.write_summary.new.tx)) (state g.S.Store (g.T.OpenTransaction.held c.write_editions.new.tx)) c.write_editions.ensures.survives (clean_before (state g.S.Store (g.T.OpenTransaction.held c.write_editions.new.tx)) (state g.S.Store (g.T.OpenTransaction.held c.add_reply.new.tx)) c.add_reply.ensures.survives clean))) (fails_after g.S.Store (exchanging c.args.change.now.gone.items (installed_by c.args.change.now.summary.installs c.args.command.now)) (replying (record { id = c.args.id.now; reply = kept_shown c.args.change.now.kept })) (g.T.OpenTransaction.held c.write_summary.new.tx) (g.T.OpenTransaction.held c.write_editions.new.tx) (g.T.OpenTransaction.held c.add_reply.new.tx) c.in_err-add_reply.field-0.0 (rw c.deref.ensures.value at (c.in_ok-write_editions.ensures.ran (clean_before (state g.S.Store (g.T.OpenTransaction.held c.write_editions.new.tx)) (state g.S.Store (g.T.OpenTransaction.held c.add_reply.new.tx)) c.add_reply.ensures.survives clean))) (c.in_err-add_reply.ensures.failed clean))
-
-pub returns-in_err-write_editions-clause-survives : goal.returns-in_err-write_editions-clause-survives
-returns-in_err-write_editions-clause-survives g c = none_then (state g.S.Store (g.T.OpenTransaction.held c.args.tx.now)) (state g.S.Store (g.T.OpenTransaction.held c.write_summary.new.tx)) (state g.S.Store (g.T.OpenTransaction.held c.write_editions.new.tx)) c.write_summary.ensures.survives c.write_editions.ensures.survives
-
-pub returns-clause-ran : goal.returns-clause-ran
-returns-clause-ran g c clean =
-    run_then g.S.Store (summary_anew 1 c.args.change.now.summary.installs (map item_shown c.args.change.now.summary.items.items)) ((exchanging c.args.change.now.gone.items (installed_by c.args.change.now.summary.installs c.args.command.now)) ++ (replying (record { id = c.args.id.now; reply = kept_shown c.args.change.now.kept }))) (g.T.OpenTransaction.held c.args.tx.now) (g.T.OpenTransaction.held c.write_summary.new.tx) (g.T.OpenTransaction.held c.add_reply.new.tx) (c.in_ok-write_summary.ensures.ran (clean_before (state g.S.Store (g.T.OpenTransaction.held c.write_summary.new.tx)) (state g.S.Store (g.T.OpenTransaction.held c.write_editions.new.tx)) c.write_editions.ensures.survives (clean_before (state g.S.Store (g.T.OpenTransaction.held c.write_editions.new.tx)) (state g.S.Store (g.T.OpenTransaction.held c.add_reply.new.tx)) c.add_reply.ensures.survives clean)))
-    (run_then g.S.Store (exchanging c.args.change.now.gone.items (installed_by c.args.change.now.summary.installs c.args.command.now)) (replying (record { id = c.args.id.now; reply = kept_shown c.args.change.now.kept })) (g.T.OpenTransaction.held c.write_summary.new.tx) (g.T.OpenTransaction.held c.write_editions.new.tx) (g.T.OpenTransaction.held c.add_reply.new.tx) (rw c.deref.ensures.value at (c.in_ok-write_editions.ensures.ran (clean_before (state g.S.Store (g.T.OpenTransaction.held c.write_editions.new.tx)) (state g.S.Store (g.T.OpenTransaction.held c.add_reply.new.tx)) c.add_reply.ensures.survives clean))) (c.in_ok-add_reply.ensures.ran clean))
-
-pub returns-clause-keeps : goal.returns-clause-keeps
-returns-clause-keeps g c clean =
-    let late = clean_before (state g.S.Store (g.T.OpenTransaction.held c.write_editions.new.tx)) (state g.S.Store (g.T.OpenTransaction.held c.add_reply.new.tx)) c.add_reply.ensures.survives clean in
-    keeps_then (state g.S.Store (g.T.OpenTransaction.held c.args.tx.now)) (state g.S.Store (g.T.OpenTransaction.held c.write_editions.new.tx)) (state g.S.Store (g.T.OpenTransaction.held c.add_reply.new.tx)) (keeps_then (state g.S.Store (g.T.OpenTransaction.held c.args.tx.now)) (state g.S.Store (g.T.OpenTransaction.held c.write_summary.new.tx)) (state g.S.Store (g.T.OpenTransaction.held c.write_editions.new.tx)) (c.write_summary.ensures.keeps (clean_before (state g.S.Store (g.T.OpenTransaction.held c.write_summary.new.tx)) (state g.S.Store (g.T.OpenTransaction.held c.write_editions.new.tx)) c.write_editions.ensures.survives late)) (c.write_editions.ensures.keeps late)) (c.add_reply.ensures.keeps clean)
-
-pub returns-in_err-add_reply-clause-keeps : goal.returns-in_err-add_reply-clause-keeps
-returns-in_err-add_reply-clause-keeps g c clean =
-    let late = clean_before (state g.S.Store (g.T.OpenTransaction.held c.write_editions.new.tx)) (state g.S.Store (g.T.OpenTransaction.held c.add_reply.new.tx)) c.add_reply.ensures.survives clean in
-    keeps_then (state g.S.Store (g.T.OpenTransaction.held c.args.tx.now)) (state g.S.Store (g.T.OpenTransaction.held c.write_editions.new.tx)) (state g.S.Store (g.T.OpenTransaction.held c.add_reply.new.tx)) (keeps_then (state g.S.Store (g.T.OpenTransaction.held c.args.tx.now)) (state g.S.Store (g.T.OpenTransaction.held c.write_summary.new.tx)) (state g.S.Store (g.T.OpenTransaction.held c.write_editions.new.tx)) (c.write_summary.ensures.keeps (clean_before (state g.S.Store (g.T.OpenTransaction.held c.write_summary.new.tx)) (state g.S.Store (g.T.OpenTransaction.held c.write_editions.new.tx)) c.write_editions.ensures.survives late)) (c.write_editions.ensures.keeps late)) (c.add_reply.ensures.keeps clean)
-
-pub returns-in_err-write_editions-clause-keeps : goal.returns-in_err-write_editions-clause-keeps
-returns-in_err-write_editions-clause-keeps g c late = keeps_then (state g.S.Store (g.T.OpenTransaction.held c.args.tx.now)) (state g.S.Store (g.T.OpenTransaction.held c.write_summary.new.tx)) (state g.S.Store (g.T.OpenTransaction.held c.write_editions.new.tx)) (c.write_summary.ensures.keeps (clean_before (state g.S.Store (g.T.OpenTransaction.held c.write_summary.new.tx)) (state g.S.Store (g.T.OpenTransaction.held c.write_editions.new.tx)) c.write_editions.ensures.survives late)) (c.write_editions.ensures.keeps late)
+returns-in_err-add_reply-clause-failed g c =
+    let first = (g.T.OpenTransaction.held c.args.tx.now) in
+    let s0 = (g.T.OpenTransaction.held c.write_summary.new.tx) in
+    let spares0 = c.write_summary.ensures.spares in
+    let wrote0 : Wrote g.S.Store (summary_anew known c.args.change.now.summary.installs (map item_shown c.args.change.now.summary.items.items)) ((λ (all : AllTables). with_members (map item_shown c.args.change.now.summary.items.items) (with_items (map item_shown c.args.change.now.summary.items.items) (with_mark c.args.change.now.summary.installs all)))) first s0 = c.in_ok-write_summary.ensures.wrote in
+    let s1 = (g.T.OpenTransaction.held c.write_editions.new.tx) in
+    let spares1 = c.write_editions.ensures.spares in
+    let wrote1 : Wrote g.S.Store (exchanging c.args.change.now.gone.items (installed_by c.args.change.now.summary.installs c.args.command.now) (listed_by c.args.change.now.summary.installs c.args.rows.now)) ((λ (all : AllTables). with_installed (installed_by c.args.change.now.summary.installs c.args.command.now) (without_editions c.args.change.now.gone.items all))) s0 s1 = rw c.deref.ensures.value at c.in_ok-write_editions.ensures.wrote in
+    let s2 = (g.T.OpenTransaction.held c.add_reply.new.tx) in
+    let spares2 = c.add_reply.ensures.spares in
+    let e = c.in_err-add_reply.field-0.0 in
+    passed_on (FailsToWrite g.S.Store (statements_of known (change_by c.args.id.now c.args.command.now c.args.change.now) (listed_by c.args.change.now.summary.installs c.args.rows.now)) first s2) e c.from_residual-in_err-add_reply.result c.from_residual-in_err-add_reply.ensures.1 ((failed_after g.S.Store (summary_anew known c.args.change.now.summary.installs (map item_shown c.args.change.now.summary.items.items)) ((exchanging c.args.change.now.gone.items (installed_by c.args.change.now.summary.installs c.args.command.now) (listed_by c.args.change.now.summary.installs c.args.rows.now)) ++ ((replying (record { id = c.args.id.now; reply = kept_shown c.args.change.now.kept })))) ((λ (all : AllTables). with_members (map item_shown c.args.change.now.summary.items.items) (with_items (map item_shown c.args.change.now.summary.items.items) (with_mark c.args.change.now.summary.installs all)))) first s0 s2 e wrote0 (spares_then g.S.Store s0 s1 s2 spares1 spares2) (failed_after g.S.Store (exchanging c.args.change.now.gone.items (installed_by c.args.change.now.summary.installs c.args.command.now) (listed_by c.args.change.now.summary.installs c.args.rows.now)) ((replying (record { id = c.args.id.now; reply = kept_shown c.args.change.now.kept }))) ((λ (all : AllTables). with_installed (installed_by c.args.change.now.summary.installs c.args.command.now) (without_editions c.args.change.now.gone.items all))) s0 s1 s2 e wrote1 spares2 c.in_err-add_reply.ensures.failed)))

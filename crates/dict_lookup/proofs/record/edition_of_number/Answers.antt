@@ -1,26 +1,25 @@
-use Rattle.std.proofs.Common.{refl, ap, sym, subst, codes, ◌∙◌, Some}
-use Rattle.std.specs.Prelude.{ℤ}
-use mir.Val.{to_z, of_z}
-use mir.Syntax.{w64}
+use Rattle.std.proofs.Common.{ap, sym, subst, codes, filter, ◌∙◌, Some}
+use Rattle.std.specs.Prelude.{ℤ, pos}
 use Rattle.dict_sql.specs.Columns.{edition_columns}
-use Rattle.dict_sql.specs.Effects.{equals_number}
-use Rattle.dict_file.specs.Faults.{FailsToLookUp}
-use Rattle.dict_file.proofs.FailLemmas.{list_fails}
-use Rattle.dict_file.proofs.ReadableLemmas.{held_rows}
-use Rattle.dict_rows.specs.Versions.{known}
-use Rattle.dict_lookup.proofs.RecordLemmas.{edition_owned, at_number, value_told}
+use Rattle.dict_sql.specs.Effects.{equals_number, rows_of}
+use Rattle.dict_sql.specs.Reads.{FailsToList}
+use Rattle.dict_lookup.specs.Searches.{FailsToLookUp, column_of}
+use Rattle.dict_lookup.proofs.FailLemmas.{list_fails}
+use Rattle.dict_lookup.proofs.RecordLemmas.{edition_owned, column_back, column_is, value_told}
 use Rattle.dict_lookup.proofs.record.edition_of_number.Goals as goal
 use Rattle.sqlite.specs.Held.{state}
 
 pub returns-in-Ok-clause-value : goal.returns-in-Ok-clause-value
 returns-in-Ok-clause-value g c clean reading one =
-    let column = ap (λ (z : ℤ). to_z w64 (of_z w64 z)) (c.column_number.ensures one.few) ∙ at_number c.args.number one.few in
-    let read = edition_owned (state g.S.Store c.args.conn.now).now c.args.number reading c.in-Ok.rows.items one (to_z w64 (of_z w64 c.column_number.result)) column (c.in-Ok.ensures.selected clean).0 in
+    let column = column_back c.args.number c.column_number.result c.column_number.ensures ∙ ap pos (column_is c.args.number one.few) in
+    let read = edition_owned (state g.S.Store c.args.conn.now).now c.args.number reading c.in-Ok.rows.items one _ column (c.in-Ok.ensures.selected clean).0 in
     value_told c.in-Ok.rows.items read.0 c.taken.result read.1 c.taken.ensures ∙ ap Some read.2
 
 pub returns-in-Err-clause-failed : goal.returns-in-Err-clause-failed
 returns-in-Err-clause-failed g c clean =
     let old = state g.S.Store c.args.conn.now in
     let new = state g.S.Store c.editions_numbered.new.conn in
-    subst (FailsToLookUp old new) (sym c.fault_of_read.ensures.is)
-    (list_fails (codes "edition") (equals_number 1 (to_z w64 (of_z w64 c.column_number.result))) edition_columns old new (λ M holds. (held_rows known old.now M refl holds).1.1.1.0) c.in-Err.error (c.in-Err.ensures.failed clean))
+    let column = column_back c.args.number c.column_number.result c.column_number.ensures in
+    let failed = subst (λ (z : ℤ). FailsToList edition_columns (filter (equals_number 1 z) (rows_of (codes "edition") old.now)) old new c.in-Err.error) column (c.in-Err.ensures.failed clean) in
+    subst (FailsToLookUp (column_of c.args.number) old new) (sym c.fault_of_read.ensures.is)
+    (list_fails (column_of c.args.number) (λ db. filter (equals_number 1 (pos (column_of c.args.number))) (rows_of (codes "edition") db)) edition_columns old new (λ h. h.editions) c.in-Err.error failed)

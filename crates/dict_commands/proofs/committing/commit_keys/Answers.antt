@@ -1,0 +1,34 @@
+use Rattle.std.proofs.Common.{inl, inr, refl, subst}
+use Rattle.sqlite.specs.Held.{state}
+use Rattle.dict_sql.proofs.StreamLemmas.{passed_on}
+use Rattle.dict_desk.specs.declared.fault.Fault.TheVariants.{Memory}
+use Rattle.dict_file.specs.Writing.{FailsToEnd}
+use Rattle.dict_rows.specs.Versions.{known}
+use Rattle.dict_derived.specs.AllTables.{all_after}
+use Rattle.dict_commands.specs.Kept.{Turns}
+use Rattle.dict_commands.specs.Changes.{change_by}
+use Rattle.dict_commands.specs.Statements.{statements_of}
+use Rattle.dict_commands.specs.Committed.{FailsToCommit}
+use Rattle.dict_commands.specs.Listed.{AreRowsOf, listed_by}
+use Rattle.dict_commands.proofs.ListedLemmas.{are_listed}
+use Rattle.dict_commands.proofs.LoopLemmas.{each_err}
+use Rattle.dict_commands.proofs.committing.commit_keys.Goals as goal
+
+pub commit_rows-requires-clause-rows : goal.commit_rows-requires-clause-rows
+commit_rows-requires-clause-rows g c = subst (λ k. AreRowsOf k c.in_ok-rows.rows) c.requires.keys c.in_ok-rows.ensures
+
+pub returns-in_err-rows-clause-failed : goal.returns-in_err-rows-clause-failed
+returns-in_err-rows-clause-failed g c clean =
+    let old = c.args.conn.now in
+    let change = change_by c.args.id.now c.args.command.now c.args.change.now in
+    passed_on (FailsToCommit g.S.Store change (Turns (all_after known change) (state g.S.Store old).now) old old) Memory c.from_residual.result c.from_residual.ensures.1 (inl (refl, refl))
+
+pub returns-clause-failed : goal.returns-clause-failed
+returns-clause-failed g c clean =
+    let old = c.args.conn.now in
+    let new = c.commit_rows.new.conn in
+    let change = change_by c.args.id.now c.args.command.now c.args.change.now in
+    let listed = listed_by c.args.change.now.summary.installs c.in_ok-rows.rows in
+    let P = Turns (all_after known change) (state g.S.Store old).now in
+    each_err c.commit_rows.result (FailsToEnd g.S.Store (statements_of known change listed) P old new) (FailsToCommit g.S.Store change P old new)
+    (λ fault h. inr (listed, are_listed c.args.change.now.summary.installs c.args.command.now c.in_ok-rows.rows (subst (λ k. AreRowsOf k c.in_ok-rows.rows) c.requires.keys c.in_ok-rows.ensures), h)) (c.commit_rows.ensures.failed clean)

@@ -1,9 +1,0 @@
-pub mod RowLemmas
-pub mod TableLemmas
-pub mod WriteLemmas
-pub mod LoopLemmas
-pub mod GoneLemmas
-pub mod ListedLemmas
-pub mod DecideLemmas
-pub mod KeptLemmas
-pub mod ApplyLemmas

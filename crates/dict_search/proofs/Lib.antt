@@ -1,9 +1,0 @@
-pub mod FailLemmas
-pub mod FiledLemmas
-pub mod FoundLemmas
-pub mod HandLemmas
-pub mod HeldLemmas
-pub mod RecordLemmas
-pub mod SortLemmas
-pub mod StateLemmas
-pub mod StreamLemmas

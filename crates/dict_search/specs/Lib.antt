@@ -1,3 +1,0 @@
-pub mod Searches
-pub mod Handed
-pub mod CountLemmas
