@@ -1,22 +1,26 @@
 -- Why a call of a desk failed.
-use Rattle.std.proofs.Common.{◌≡◌, inl, inr, ℕ, true, false, List, sym, ap, subst, ◌∙◌, arith}
+use Rattle.std.proofs.Common.{◌≡◌, ◌⊎◌, inl, inr, ℕ, true, false, List, sym, ap, subst, ◌∙◌, arith}
 use Rattle.std.specs.Prelude.{Option, None, IsSome, is_some, Result, Ok, Err, IfErr}
 use Rattle.std.proofs.lemmas.Bool.{false≢true}
 use Rattle.sqlite.specs.Effect.{Database}
-use Rattle.sqlite.specs.State.{HasCleanDisk, IsUnchanged, Survives}
+use Rattle.sqlite.specs.State.{HasCleanDisk, IsUnchanged, Fails, Survives}
+use Rattle.sqlite.specs.declared.error.Error.{Error}
 use Rattle.sqlite.specs.Held.{Held, state}
 use Rattle.sqlite_trees.specs.declared.store.Store.{Ghosts}
 use Rattle.dict_index.specs.Edition.{Edition}
 use Rattle.dict_catalogue.specs.Commands.{Command}
+use Rattle.dict_catalogue.specs.Steps.{Catalogue}
 use Rattle.dict_catalogue.specs.Tests.{Holdings}
 use Rattle.dict_catalogue.specs.declared.reply.Kept.{Kept}
 use Rattle.dict_desk.specs.Faults.{is_failure}
 use Rattle.dict_desk.specs.declared.fault.Fault.{Fault}
 use Rattle.dict_desk.specs.declared.fault.Fault.TheVariants.{Refused, Memory, Disk, Closed, NotACatalogue, Damaged, NewerSchema}
 use Rattle.dict_rows.specs.Versions.{known}
-use Rattle.dict_file.specs.Faults.{IsUnread, FailsToLookUp}
+use Rattle.dict_file.specs.Faults.{fault_of, IsUnread, FailsToLookUp}
 use Rattle.dict_file.specs.Holds.{Holds}
-use Rattle.dict_lookup.specs.Lookups.{IsOfStore}
+use Rattle.dict_lookup.specs.Searches as search
+use Rattle.dict_lookup.specs.Searches.{IsOfStore}
+use Rattle.dict_lookup.proofs.HeldLemmas.{held_readable}
 use Rattle.dict_commands.specs.Answers.{FailsToApply, IsOfApply}
 use Rattle.dict_commands.specs.declared.applied.Applied.{Applied}
 use Rattle.dict_commands.specs.declared.applied.Applied.TheVariants.{Before, Now}
@@ -30,28 +34,47 @@ no_limit limit is some = false≢true (sym (ap is_some is) ∙ some)
 -- a lookup, or a reading of a kept reply
 module _ {S : Type 0} (g : Ghosts S) (old new : Held S) (summary : Holdings (List ℕ)) (before after : Last) (open_before : is_closed before ≡ false) (rest : IsAtRest g before summary old) (survives : Survives (state g old) (state g new) (λ _. ⊥)) where
   -- what an open desk reads is a catalogue's, and it has no limit on steps
-  is_read : HasCleanDisk (state g new) → IsUnchanged (state g old) (state g new) → IsUnread (state g old) Disk → ⊥
-  is_read clean same (inl limited) = no_limit old.step_limit rest.limit limited
-  is_read clean same (inr none) =
+  read_holds : HasCleanDisk (state g new) → IsUnchanged (state g old) (state g new) → (M : Catalogue) × Holds known (state g old).now M
+  read_holds clean same =
       let it = rest.holds open_before (omega (arith, survives.clean)) same.0.was_open in
-      none it.0 (subst (λ (db : Database). Holds known db it.0) (sym it.1.settled) it.1.holds)
+      (it.0, subst (λ (db : Database). Holds known db it.0) (sym it.1.settled) it.1.holds)
 
-  fails_for : HasCleanDisk (state g new) → (fault : Fault) → IsOfStore fault → FailsToLookUp (state g old) (state g new) fault
-      → GivesWay g (record { conn = old; summary = summary; last = before }) (record { conn = new; summary = summary; last = after }) fault
-  fails_for clean (Refused refusal) kind h = absurd kind
-  fails_for clean Memory kind h = h
-  fails_for clean Disk kind (inl h) = absurd (is_read clean h.0 h.1)
-  fails_for clean Disk kind (inr h) = h
-  fails_for clean Closed kind h = absurd kind
-  fails_for clean NotACatalogue kind h = absurd kind
-  fails_for clean Damaged kind h = absurd kind
-  fails_for clean NewerSchema kind h = absurd kind
+  reply_read : HasCleanDisk (state g new) → IsUnchanged (state g old) (state g new) → IsUnread (state g old) Disk → ⊥
+  reply_read clean same (inl limited) = no_limit old.step_limit rest.limit limited
+  reply_read clean same (inr none) = let it = read_holds clean same in none it.0 it.1
 
-  pub gives_way : {T : Type 0} (result : Result T Fault) → IfErr result IsOfStore → (HasCleanDisk (state g new) → IfErr result (FailsToLookUp (state g old) (state g new)))
+  rows_read : (number : ℕ) → HasCleanDisk (state g new) → IsUnchanged (state g old) (state g new) → search.IsUnread number (state g old) Disk → ⊥
+  rows_read number clean same (inl limited) = no_limit old.step_limit rest.limit limited
+  rows_read number clean same (inr unreadable) = let it = read_holds clean same in unreadable (held_readable (state g old).now it.0 number it.1)
+
+  -- why it isn't read, where its store doesn't fail
+  module _ (Why : Fault → Type 0) (never : HasCleanDisk (state g new) → IsUnchanged (state g old) (state g new) → Why Disk → ⊥) where
+    fails_for : HasCleanDisk (state g new) → (fault : Fault) → IsOfStore fault → (IsUnchanged (state g old) (state g new) × Why fault) ⊎ ((e : Error) × (fault ≡ fault_of e) × Fails (state g old) (state g new) ⊥ e)
+        → GivesWay g (record { conn = old; summary = summary; last = before }) (record { conn = new; summary = summary; last = after }) fault
+    fails_for clean (Refused refusal) kind h = absurd kind
+    fails_for clean Memory kind (inl h) = inl (h.0, tt)
+    fails_for clean Memory kind (inr h) = inr h
+    fails_for clean Disk kind (inl h) = absurd (never clean h.0 h.1)
+    fails_for clean Disk kind (inr h) = h
+    fails_for clean Closed kind h = absurd kind
+    fails_for clean NotACatalogue kind h = absurd kind
+    fails_for clean Damaged kind h = absurd kind
+    fails_for clean NewerSchema kind h = absurd kind
+
+    gives_for : {T : Type 0} (result : Result T Fault) → IfErr result IsOfStore
+        → (HasCleanDisk (state g new) → IfErr result (λ fault. (IsUnchanged (state g old) (state g new) × Why fault) ⊎ ((e : Error) × (fault ≡ fault_of e) × Fails (state g old) (state g new) ⊥ e)))
+        → (desk : DeskState S) → record { conn = old; summary = summary; last = before } ≡ desk → HasCleanDisk (state g new) → IfErr result (GivesWay g desk (record { conn = new; summary = summary; last = after }))
+    gives_for (Ok value) kind failed desk is clean = tt
+    gives_for (Err fault) kind failed desk is clean =
+        subst (λ (d : DeskState S). GivesWay g d (record { conn = new; summary = summary; last = after }) fault) is (fails_for clean fault kind (failed clean))
+
+  pub lookup_gives_way : {T : Type 0} (number : ℕ) (result : Result T Fault) → IfErr result IsOfStore → (HasCleanDisk (state g new) → IfErr result (search.FailsToLookUp number (state g old) (state g new)))
       → (desk : DeskState S) → record { conn = old; summary = summary; last = before } ≡ desk → HasCleanDisk (state g new) → IfErr result (GivesWay g desk (record { conn = new; summary = summary; last = after }))
-  gives_way (Ok value) kind failed desk is clean = tt
-  gives_way (Err fault) kind failed desk is clean =
-      subst (λ (d : DeskState S). GivesWay g d (record { conn = new; summary = summary; last = after }) fault) is (fails_for clean fault kind (failed clean))
+  lookup_gives_way number result kind failed = gives_for (search.IsUnread number (state g old)) (rows_read number) result kind failed
+
+  pub reply_gives_way : {T : Type 0} (result : Result T Fault) → IfErr result IsOfStore → (HasCleanDisk (state g new) → IfErr result (FailsToLookUp (state g old) (state g new)))
+      → (desk : DeskState S) → record { conn = old; summary = summary; last = before } ≡ desk → HasCleanDisk (state g new) → IfErr result (GivesWay g desk (record { conn = new; summary = summary; last = after }))
+  reply_gives_way result kind failed = gives_for (IsUnread (state g old)) reply_read result kind failed
 
 -- a command
 module _ {S : Type 0} (g : Ghosts S) (old : DeskState S) (id : List ℕ) (command : Command Edition) (new : DeskState S) where

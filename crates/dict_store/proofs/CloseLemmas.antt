@@ -24,7 +24,7 @@ use Rattle.dict_store.specs.Desk.{DeskState, IsAtRest, LeavesOneOf, Shows, is_cl
 use Rattle.dict_store.specs.declared.last.Last.{Last}
 use Rattle.std.proofs.Common.{ℕ}
 use Rattle.dict_rows.specs.Versions.{known}
-use Rattle.dict_opening.proofs.HeldLemmas.{held_known}
+use Rattle.dict_file.proofs.OneLemmas.{held_known}
 
 -- what is shown is committed
 pub committed_holds : {S : Type 0} (g : store.Ghosts S) (conn : Held S) (summary : Holdings (List ℕ)) (last : Last) → IsAtRest g last summary conn → IsLive (state g conn)

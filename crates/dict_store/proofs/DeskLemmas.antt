@@ -9,17 +9,17 @@ use Rattle.sqlite.specs.Held.{Held, state}
 use Rattle.sqlite_trees.specs.declared.store.Store.{Ghosts}
 use Rattle.dict_catalogue.specs.Tests.{Holdings}
 use Rattle.dict_catalogue.specs.Steps.{Catalogue}
-use Rattle.dict_index.specs.Edition.{Entry}
+use Rattle.dict_desk.specs.Shown.{Row}
 use Rattle.dict_desk.specs.Handing.{Hands}
 use Rattle.dict_desk.specs.declared.fault.Fault.{Fault}
 use Rattle.dict_desk.specs.declared.lookup.End.{End}
 use Rattle.dict_desk.proofs.HandingLemmas.{hands_front}
 use Rattle.dict_file.specs.Holds.{HasLayout, Holds, IsLeft}
-use Rattle.dict_lookup.specs.Lookups.{FailsToLookUp}
+use Rattle.dict_lookup.specs.Searches.{FailsToLookUp}
 use Rattle.dict_store.specs.Desk.{IsAtRest, Shows, is_closed}
 use Rattle.dict_store.specs.declared.last.Last.{Last}
 use Rattle.dict_rows.specs.Versions.{known, layout_of}
-use Rattle.dict_opening.proofs.HeldLemmas.{held_known}
+use Rattle.dict_file.proofs.OneLemmas.{held_known}
 
 -- a store that is open was so before, and shows what it did, if that was committed
 pub record Stays (old new : State) : Type 0 where
@@ -30,13 +30,13 @@ pub record Stays (old new : State) : Type 0 where
 unchanged_stays : (old new : State) → IsUnchanged old new → Stays old new
 unchanged_stays old new same = record { was_open = λ live. same.0.was_open; now = λ live settled. same.0.now_is; committed = λ live. same.0.committed_is }
 
-fails_stays : (old new : State) (fault : Fault) → FailsToLookUp old new fault → Stays old new
-fails_stays old new fault (inl same) = unchanged_stays old new same.0
-fails_stays old new fault (inr h) = let back = h.2.3 in record { was_open = back.was_open; now = λ live settled. (back.undone live).0 ∙ sym settled; committed = λ live. (back.undone live).1 }
+fails_stays : (number : ℕ) (old new : State) (fault : Fault) → FailsToLookUp number old new fault → Stays old new
+fails_stays number old new fault (inl same) = unchanged_stays old new same.0
+fails_stays number old new fault (inr h) = let back = h.2.3 in record { was_open = back.was_open; now = λ live settled. (back.undone live).0 ∙ sym settled; committed = λ live. (back.undone live).1 }
 
-pub stays_by : {T : Type 0} (old new : State) (result : Result T Fault) → OnOk result (IsUnchanged old new) → IfErr result (FailsToLookUp old new) → Stays old new
-stays_by old new (Ok value) same failed = unchanged_stays old new same
-stays_by old new (Err fault) same failed = fails_stays old new fault failed
+pub stays_by : {T : Type 0} (number : ℕ) (old new : State) (result : Result T Fault) → OnOk result (IsUnchanged old new) → IfErr result (FailsToLookUp number old new) → Stays old new
+stays_by number old new (Ok value) same failed = unchanged_stays old new same
+stays_by number old new (Err fault) same failed = fails_stays number old new fault failed
 
 module _ {S : Type 0} (g : Ghosts S) (old new : Held S) (summary : Holdings (List ℕ)) (before after : Last) (open_before : is_closed before ≡ false) (rest : IsAtRest g before summary old) (survives : Survives (state g old) (state g new) (λ _. ⊥)) (stays : HasCleanDisk (state g new) → Stays (state g old) (state g new)) where
   clean_first : HasCleanDisk (state g new) → HasCleanDisk (state g old)
@@ -75,7 +75,7 @@ module _ {S : Type 0} (g : Ghosts S) (old new : Held S) (summary : Holdings (Lis
     held clean live = shown.holds open_before (clean_first clean) live
 
 -- what was handed out over a store that may be shut
-pub handed_by : {K : Type 0} (takes stops : K → List Entry → K → Type 0) (first last : K) (rows : List Entry) (result : Result End Fault) (live : Bool) → (live ≡ true → Hands takes stops first last rows result) → (live ≡ false → IsErr result × (last ≡ first)) → takes first [] first
+pub handed_by : {K : Type 0} (takes stops : K → List Row → K → Type 0) (first last : K) (rows : List Row) (result : Result End Fault) (live : Bool) → (live ≡ true → Hands takes stops first last rows result) → (live ≡ false → IsErr result × (last ≡ first)) → takes first [] first
     → Hands takes stops first last rows result
 handed_by takes stops first last rows result true value shut none = value refl
 handed_by takes stops first last rows (Ok end) false value shut none = absurd (false≢true (shut refl).0)

@@ -31,7 +31,7 @@ use Rattle.dict_store.specs.Desk.{DeskState, IsAtRest, Shows, LeavesOneOf, Stand
 use Rattle.dict_store.specs.declared.last.Last.{Last}
 use Rattle.dict_store.proofs.DeskLemmas.{Stays}
 use Rattle.dict_rows.specs.Versions.{known, layout_of}
-use Rattle.dict_opening.proofs.HeldLemmas.{left_known}
+use Rattle.dict_file.proofs.OneLemmas.{left_known}
 
 -- ---- kept replies
 
@@ -182,7 +182,7 @@ module _ {S : Type 0} (g : Ghosts S) (old new : Held S) (summary : Holdings (Lis
 
   one_more : (M : Catalogue) → (IsTrue (state g old).is_open → Rests known (state g old) M) → summary_of M ≡ summary → (ms : List (Option Catalogue)) → LeavesOneOf g desk_before ms → LeavesOneOf g desk_after (Some (step M id command).catalogue ∷ ms)
   one_more M rests is ms left clean trees may =
-      elim (crash.crash clean trees may) as (λ _. (m : Option Catalogue) × Contains (Some (step M id command).catalogue ∷ ms) m × StandsFor g m trees) [
+      elim (crash.crash clean trees may) as (λ _. (m : Option Catalogue) × Contains (Some (step M id command).catalogue ∷ ms) m × StandsFor m trees) [
         | inl h ↦ let it = left (clean_first clean) trees h in (it.0, contains_later (Some (step M id command).catalogue) it.0 ms it.1, it.2)
         | inr h ↦ (Some (step M id command).catalogue, (0, omega arith, refl), left_known (step M id command).catalogue trees (h.1 M (rests h.0) is))
       ]

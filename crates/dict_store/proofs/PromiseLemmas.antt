@@ -18,7 +18,7 @@ use Rattle.dict_desk.specs.declared.fault.Fault.TheVariants as fault
 use Rattle.dict_desk.specs.declared.keeper.Halted.{Halted}
 use Rattle.dict_file.specs.Holds.{IsLeft}
 use Rattle.dict_store.specs.Desk.{DeskState, Shows, LeavesOneOf, StandsFor}
-use Rattle.dict_opening.proofs.HeldLemmas.{one_left}
+use Rattle.dict_file.proofs.OneLemmas.{one_left}
 use Rattle.dict_store.specs.Promise.{IsLeftAlone, HoldsFront, KeepsAlone, KeepsFront, KeepsAt}
 
 -- commands of which none acts leave the catalogue
@@ -61,13 +61,13 @@ module _ {S : Type 0} (g : Ghosts S) (old new : DeskState S) (M : Catalogue) (re
   alone_left N trees left = record { left = left; alone = λ other found. one_left trees other N found left }
 
   sole_left : (N : Catalogue) → LeavesOneOf g new (Some N ∷ []) → HasCleanDisk (state g new.conn) → (trees : Trees) → (state g new.conn).may_leave trees → IsLeft N trees
-  sole_left N left clean trees may = let it = left clean trees may in subst (λ m. StandsFor g m trees) (sym (only (Some N) it.0 it.1)) it.2
+  sole_left N left clean trees may = let it = left clean trees may in subst (λ m. StandsFor m trees) (sym (only (Some N) it.0 it.1)) it.2
 
   two_left : (N P : Catalogue) → LeavesOneOf g new (Some N ∷ Some P ∷ []) → HasCleanDisk (state g new.conn) → (trees : Trees) → (state g new.conn).may_leave trees → IsLeft N trees ⊎ IsLeft P trees
   two_left N P left clean trees may = let it = left clean trees may in
       elim (either (Some N) (Some P) it.0 it.1) as (λ _. IsLeft N trees ⊎ IsLeft P trees) [
-        | inl e ↦ inl (subst (λ m. StandsFor g m trees) (sym e) it.2)
-        | inr e ↦ inr (subst (λ m. StandsFor g m trees) (sym e) it.2)
+        | inl e ↦ inl (subst (λ m. StandsFor m trees) (sym e) it.2)
+        | inr e ↦ inr (subst (λ m. StandsFor m trees) (sym e) it.2)
       ]
 
   so_many : (answered : ℕ) → LeavesOneOf g new (Some (after M (take answered requests)) ∷ []) → HasCleanDisk (state g new.conn) → (trees : Trees) → (state g new.conn).may_leave trees → HoldsFront M requests answered trees

@@ -23,17 +23,17 @@ use Rattle.sqlite_trees.proofs.Doubt.{no_doubt}
 use Rattle.sqlite.proofs.Theorems.{next_run, opens_again}
 use Rattle.dict_catalogue.specs.Steps.{Catalogue, Request, after}
 use Rattle.dict_desk.specs.declared.fault.Fault.{Fault}
-use Rattle.dict_file.specs.Holds.{Holds, IsLeft}
+use Rattle.dict_file.specs.Holds.{IsLeft}
 use Rattle.dict_opening.specs.Reading.{IsOfOpening}
 use Rattle.dict_store.specs.Desk.{DeskState, LeavesOneOf, StandsFor}
 use Rattle.dict_store.specs.Promise.{HoldsFront}
 use Rattle.dict_store.specs.Reopened.{HoldsFrontIn, IsOfStore, IsLetGo, IsOpenedOver, LeavesFront, ShowsFront, ShowsOneOf}
-use Rattle.dict_store.specs.Unopened.{IsOf, IsOneIn, IsOneOf, IsRejected, IsUnopenedOver, IsUnopenedAgain, IsExcused, HandsBack, TellsNoHolding}
+use Rattle.dict_store.specs.Unopened.{IsOneIn, IsOneOf, IsRejected, IsUnopenedOver, IsUnopenedAgain, IsExcused, HandsBack, TellsNoHolding}
 use Rattle.dict_store.specs.declared.reopening.Unopened.{Unopened}
 use Rattle.dict_store.specs.declared.reopening.Unopened.TheVariants as left
 use Rattle.dict_store.proofs.UnopenedLemmas.{rest_leaves, excused_by}
-use Rattle.dict_rows.specs.Versions.{known}
-use Rattle.dict_opening.proofs.HeldLemmas.{held_known}
+use Rattle.dict_migration.specs.Migrated.{MayMigrate}
+use Rattle.dict_migration.proofs.StopLemmas.{stands_still}
 
 -- what a stop leaves of two files is a database that holds what its trees stand for
 pub front_in : {D : Type 0} {g : Ghosts D} (it : FileStore D g) (before : Catalogue) (requests : List Request) (answered : ℕ) (left : Image)
@@ -42,11 +42,11 @@ front_in it before requests answered left numbered each may =
     let sound : AreDatabases (recovers it) = λ trees found. let whole = (each trees found).3.left in (whole.0.schema, subst (IsSound whole.0.schema) (sym whole.1) whole.2) in
     ∥∥₁_map (opens_again it numbered sound left may) (λ db. let h = each db.0 db.1 in (h.0, h.1, h.2, (db.0, db.2, h.3.left)))
 
--- of a database that only was read a stop leaves what was committed
-pub only_committed : {D : Type 0} {g : Ghosts D} → SeenMayStay g → (conn now : Held (FileStore D g)) → Survives (file_state (record conn { step_limit = None })) (file_state now) (λ _. ⊥) → IsTrue (file_state conn).is_open
-    → HasCleanDisk (file_state now) → (trees : Trees) → (file_state now).may_leave trees → trees ≡ (file_state conn).committed.trees
-only_committed stays conn now survives live honest trees stop =
-    settled_at conn.store stays trees live (elim (survives.crash honest trees stop) as (λ _. (file_state conn).may_leave trees) [ inl h ↦ h | inr h ↦ absurd h ])
+-- what a stop leaves of a database that was handed back stands for what was committed
+pub stands_after : {D : Type 0} {g : Ghosts D} → SeenMayStay g → (conn now : Held (FileStore D g)) → IsOpened conn → Survives (file_state (record conn { step_limit = None })) (file_state now) (MayMigrate (file_state conn))
+    → HasCleanDisk (file_state now) → (m : Option Catalogue) → StandsFor m (file_state conn).committed.trees → (trees : Trees) → (file_state now).may_leave trees → StandsFor m trees
+stands_after stays conn now opened survives honest m stands trees stop =
+    stands_still (file_state (record conn { step_limit = None })) (file_state now) (λ live. (opened.1 live).1) (λ trees live may. settled_at conn.store stays trees live may) opened.0.is_open survives honest m stands trees stop
 
 -- The two files that a desk let go of, as they are now, with a stop between or none: they leave nothing new.
 module _ {D : Type 0} {g : Ghosts D} (stays : SeenMayStay g) (desk : DeskState (FileStore D g)) (files now : Files D) (gone : IsLetGo desk.conn files)
@@ -86,16 +86,16 @@ module _ {D : Type 0} {g : Ghosts D} (stays : SeenMayStay g) (desk : DeskState (
 
   module _ (next : DeskState (FileStore D g)) (over : IsOpenedOver now next) (honest : HasCleanDisk (file_state next.conn)) where
     early : HasCleanDisk (file_state over.conn)
-    early = omega (arith, over.adopted.spares.clean, honest)
+    early = omega (arith, over.adopted.migrated.clean, honest)
 
     -- what was opened is a catalogue
     opened : (M : Catalogue) × IsLeft M (file_state over.conn).committed.trees
     opened =
         let it = over.adopted.shows honest in
         let db = (file_state over.conn).committed in
-        let whole = (over.opened early).0 in (it.0, (db, refl, (whole.1 whole.0.is_open).1, held_known db it.0 (subst (λ (d : Database). Holds known d it.0) (over.adopted.same honest) it.1.holds)))
+        let whole = (over.opened early).0 in (it.0, (db, refl, (whole.1 whole.0.is_open).1, (over.adopted.same honest it.0).1 it.1.holds))
 
-    shows_as : (ms : List (Option Catalogue)) (m : Option Catalogue) → Contains ms m → StandsFor (over_files {D = D} {g = g}) m (file_state over.conn).committed.trees → ShowsOneOf over_files next ms
+    shows_as : (ms : List (Option Catalogue)) (m : Option Catalogue) → Contains ms m → StandsFor m (file_state over.conn).committed.trees → ShowsOneOf over_files next ms
     shows_as ms (Some M) is stands = (M, is, over.left honest M stands)
     shows_as ms None is stands = absurd (stands opened.0 opened.1)
 
@@ -111,13 +111,13 @@ module _ {D : Type 0} {g : Ghosts D} (stays : SeenMayStay g) (desk : DeskState (
   -- ---- or none
 
   -- what stands for one of these, of which each is a catalogue, is left of that
-  left_as : (trees : Trees) (ms : List (Option Catalogue)) (m : Option Catalogue) → Contains ms m → StandsFor (over_files {D = D} {g = g}) m trees → (Contains ms None → ⊥) → (M : Catalogue) × IsLeft M trees
+  left_as : (trees : Trees) (ms : List (Option Catalogue)) (m : Option Catalogue) → Contains ms m → StandsFor m trees → (Contains ms None → ⊥) → (M : Catalogue) × IsLeft M trees
   left_as trees ms (Some M) is stands never = (M, stands)
   left_as trees ms None is stands never = absurd (never is)
 
   module _ (conn : Held (FileStore D g)) (fault : Fault) (over : IsRejected now conn fault) (honest : HasCleanDisk (file_state conn)) where
     first_clean : HasCleanDisk (file_state over.conn)
-    first_clean = omega (arith, over.adopted.adds_none.clean, honest)
+    first_clean = omega (arith, over.adopted.crash.clean, honest)
 
     -- no fault tells of what was opened, where a stop always leaves a catalogue
     is_of_store : (HasCleanDisk (file_state desk.conn) → (trees : Trees) → (file_state desk.conn).may_leave trees → (M : Catalogue) × IsLeft M trees) → IsOfStore fault
@@ -133,9 +133,8 @@ module _ {D : Type 0} {g : Ghosts D} (stays : SeenMayStay g) (desk : DeskState (
     -- and a stop leaves nothing new of it
     rejected_leaves : (ms : List (Option Catalogue)) → LeavesOneOf over_files desk ms → (trees : Trees) → (file_state conn).may_leave trees → ∥ IsOneOf ms trees ∥₁
     rejected_leaves ms leaves trees stop =
-        let same = only_committed stays over.conn conn over.adopted.adds_none (over.opened first_clean).0.0.is_open honest trees stop in
         ∥∥₁_map (may over.conn over.opened first_clean)
-        (λ both. let h = leaves both.0 (file_state over.conn).committed.trees both.1 in (h.0, h.1, subst (IsOf h.0) (sym same) h.2))
+        (λ both. let h = leaves both.0 (file_state over.conn).committed.trees both.1 in (h.0, h.1, stands_after stays over.conn conn (over.opened first_clean).0 over.adopted.crash honest h.0 h.2 trees stop))
 
   pub tells_none : (it : Unopened D g) (fault : Fault) → IsUnopenedOver now it fault → (ms : List (Option Catalogue)) → LeavesOneOf over_files desk ms → (Contains ms None → ⊥) → TellsNoHolding it fault
   tells_none (left.Files some) fault h = λ ms leaves never. tt

@@ -21,7 +21,8 @@ use Rattle.sqlite_store.specs.Unopened.{state_of}
 use Rattle.dict_catalogue.specs.Steps.{Catalogue}
 use Rattle.dict_desk.specs.declared.fault.Fault.{Fault}
 use Rattle.dict_desk.specs.declared.fault.Fault.TheVariants.{Memory}
-use Rattle.dict_store.specs.Unopened.{fault_of_files, IsOf, IsOneIn, RestLeaves}
+use Rattle.dict_store.specs.Unopened.{fault_of_files, IsOneIn, RestLeaves}
+use Rattle.dict_store.specs.Desk.{StandsFor}
 
 -- ---- the size of pages
 
@@ -80,7 +81,7 @@ module _ {D : Type 0} {g : Ghosts D} (files : Files D) (ms : List (Option Catalo
       ])
   rest_leaves (rest.Store now) left = λ trees found. ∥∥₁_map (each (image_of g files) stay) (λ one.
       let same : trees ≡ one.2.0 = (left trees found).1 one.2.0 one.2.1 in
-      (one.0, one.1, subst (IsOf one.0) (sym same) one.2.2))
+      (one.0, one.1, subst (StandsFor one.0) (sym same) one.2.2))
 
 -- files that hold a database are refused for memory, a failure of the disk, or a limit
 pub excused_by : {D : Type 0} {g : Ghosts D} (files : Files D) (now : Leftover D g) (error : Error) (fault : Fault) → ∥ ((db : Trees) × HoldsDatabase (image_of g files) db) ∥₁ → fault ≡ fault_of_files error

@@ -1,30 +1,58 @@
 -- What a desk over a database shows, and why there is none.
-use Rattle.std.specs.Prelude.{◌≡◌, [], ◌∷◌, Some, None, IsTrue}
+use Rattle.std.specs.Prelude.{◌≡◌, ◌<◌, ◌↔◌, ◌⊎◌, ℕ, false, [], ◌∷◌, List, Some, None, IsTrue}
 use Rattle.sqlite.specs.State.{HasCleanDisk, Survives}
 use Rattle.sqlite.specs.Held.{Held, state}
 use Rattle.sqlite_trees.specs.declared.store.Store.{Ghosts}
-use Rattle.dict_catalogue.specs.Steps.{Catalogue}
+use Rattle.dict_catalogue.specs.Steps.{Catalogue, summary_of}
+use Rattle.dict_catalogue.specs.Tests.{Holdings}
+use Rattle.dict_desk.specs.Faults.{is_disk}
 use Rattle.dict_desk.specs.declared.fault.Fault.{Fault}
-use Rattle.dict_file.specs.Holds.{Rests}
-use Rattle.dict_opening.specs.Reading.{IsOfOpening}
+use Rattle.dict_desk.specs.declared.fault.Fault.TheVariants.{Disk}
+use Rattle.dict_file.specs.Holds.{Holds, IsHeld, Rests}
+use Rattle.dict_opening.specs.Reading.{IsOfOpening, HasFailed}
+use Rattle.dict_migration.specs.Failing.{FailsToMigrate}
+use Rattle.dict_migration.specs.Migrated.{MayMigrate}
 use Rattle.dict_store.specs.Desk.{DeskState, Shows, LeavesOneOf}
 use Rattle.dict_store.specs.Opened.{IsTold, IsNotHeld}
 use Rattle.dict_store.specs.declared.last.Last.TheVariants.{Fine}
 use Rattle.dict_rows.specs.Versions.{known}
 
 module _ {S : Type 0} (g : Ghosts S) where
-  -- The database holds a catalogue, which the desk over it shows, and a stop leaves that one alone. Nothing was written.
+  -- The database holds a catalogue, which the desk over it shows, and a stop leaves that one alone. Where its tables are of an
+  -- older version, those of the known one were made of them, of the same catalogue, by one commit; else nothing was written.
   pub record IsAdopted (conn : Held S) (desk : DeskState S) : Type 0 where
     pub fine : desk.last ≡ Fine
     pub shows : HasCleanDisk (state g desk.conn) → (M : Catalogue) × Rests known (state g desk.conn) M × Shows g desk M
     pub only : (M : Catalogue) → Shows g desk M → LeavesOneOf g desk (Some M ∷ [])
-    pub same : HasCleanDisk (state g desk.conn) → (state g desk.conn).committed ≡ (state g conn).committed
-    pub spares : Survives (state g (record conn { step_limit = None })) (state g desk.conn) (λ _. ⊥)
+    pub same : HasCleanDisk (state g desk.conn) → (M : Catalogue) → IsHeld (state g conn).committed M ↔ Holds known (state g desk.conn).committed M
+    pub unwritten : HasCleanDisk (state g desk.conn) → (M : Catalogue) → Holds known (state g conn).committed M → (state g desk.conn).committed ≡ (state g conn).committed
+    pub migrated : Survives (state g (record conn { step_limit = None })) (state g desk.conn) (MayMigrate (state g conn))
 
-  -- The database holds none, and the fault tells why; or it couldn't be told. The fault is one of an opening. Nothing was written.
+  -- The database holds none, and the fault tells why; or it couldn't be told, or its tables couldn't be made those of the known
+  -- version. The fault is one of an opening. While the store is open, what it shows and has committed is as it was; and a stop leaves
+  -- nothing more, but where the store failed the tables of the known version, of the same catalogue.
   pub record IsNotAdopted (conn left : Held S) (fault : Fault) : Type 0 where
     pub kind : IsOfOpening fault
     pub told : HasCleanDisk (state g left) → IsTold (state g conn).now fault
     pub not_held : HasCleanDisk (state g left) → IsNotHeld (state g conn).now fault
     pub same : HasCleanDisk (state g left) → IsTrue (state g left).is_open → ((state g left).now ≡ (state g conn).now) × ((state g left).committed ≡ (state g conn).committed)
-    pub adds_none : Survives (state g (record conn { step_limit = None })) (state g left) (λ _. ⊥)
+    pub adds_none : is_disk fault ≡ false → Survives (state g (record conn { step_limit = None })) (state g left) (λ _. ⊥)
+    pub crash : Survives (state g (record conn { step_limit = None })) (state g left) (MayMigrate (state g conn))
+
+  -- The database was read, and held a catalogue under an older version; and one of the statements that make tables of the known
+  -- version of it failed, or their commit did.
+  pub record FailsToRenew (conn left : Held S) (fault : Fault) : Type 0 where
+    pub read : Held S
+    pub only_read : Survives (state g conn) (state g read) (λ _. ⊥)
+    pub same : (state g read).committed ≡ (state g conn).committed
+    pub version : ℕ
+    pub older : version < known
+    pub catalogue : Catalogue
+    pub holds : Holds version (state g conn).committed catalogue
+    pub summary : Holdings (List ℕ)
+    pub told : summary ≡ summary_of catalogue
+    pub fails : FailsToMigrate g version summary read left fault
+
+  -- Why an opening is told `Disk`: the store failed while the database was read, or the making of its new tables did.
+  abbrev pub FailsToOpen : Held S → Held S → Type 0
+  FailsToOpen conn left = HasFailed (state g conn) (state g left) ⊎ FailsToRenew conn left Disk

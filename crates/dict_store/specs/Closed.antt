@@ -38,4 +38,4 @@ module _ {D : Type 0} (d : disk.Ghosts D) where
 
 -- whatever a stop now leaves of a store that was let go of stands for one of these
 abbrev pub StoreLeaves : {D : Type 0} {d : disk.Ghosts D} → FileStore D d → List (Option Catalogue) → Type 0
-StoreLeaves {D} {d} store ms = IsClean (view store) → (trees : Trees) → recovers store trees → (m : Option Catalogue) × Contains ms m × StandsFor (over_files {D = D} {g = d}) m trees
+StoreLeaves {D} {d} store ms = IsClean (view store) → (trees : Trees) → recovers store trees → (m : Option Catalogue) × Contains ms m × StandsFor m trees

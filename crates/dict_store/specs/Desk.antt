@@ -1,5 +1,5 @@
 -- A desk over one database: what it is seen as, which catalogue it shows, and what a stop may leave of it.
-use Rattle.std.specs.Prelude.{◌≡◌, ℕ, Bool, true, false, IsTrue, List, Option, None, MatchOption, Contains, Result, Ok, Err, if◌then◌else◌}
+use Rattle.std.specs.Prelude.{◌≡◌, ℕ, Bool, true, false, IsTrue, List, Option, None, Contains, Result, Ok, Err, if◌then◌else◌}
 use Rattle.sqlite.specs.Tree.{Trees}
 use Rattle.sqlite.specs.State.{HasCleanDisk}
 use Rattle.sqlite.specs.Held.{Held, state}
@@ -9,7 +9,8 @@ use Rattle.dict_catalogue.specs.Steps.{Catalogue, summary_of}
 use Rattle.dict_catalogue.specs.WellFormed.{IsWellFormed}
 use Rattle.dict_desk.specs.Faults.{is_disk, is_failure}
 use Rattle.dict_desk.specs.declared.fault.Fault.{Fault}
-use Rattle.dict_file.specs.Holds.{HasLayout, Holds, IsLeft}
+use Rattle.dict_file.specs.Holds.{HasLayout, Holds}
+pub use Rattle.dict_migration.specs.Leaves.{StandsFor}
 use Rattle.dict_commands.specs.Changes.{IsInRange}
 use Rattle.dict_commands.specs.Answers.{HoldsBy}
 use Rattle.dict_commands.specs.declared.applied.Applied.{Applied}
@@ -63,10 +64,6 @@ module _ {S : Type 0} (g : Ghosts S) where
     pub summary : desk.summary ≡ summary_of M
     pub well_formed : IsWellFormed M
     pub holds : is_closed desk.last ≡ false → HasCleanDisk (state g desk.conn) → IsTrue (state g desk.conn).is_open → Holds known (state g desk.conn).now M
-
-  -- trees of which the catalogue is opened again, or of which none is
-  abbrev pub StandsFor : Option Catalogue → Trees → Type 0
-  StandsFor m trees = MatchOption m ((M : Catalogue) → IsLeft M trees → ⊥) (λ M. IsLeft M trees)
 
   -- whatever a stop now leaves stands for one of these
   abbrev pub LeavesOneOf : DeskState S → List (Option Catalogue) → Type 0

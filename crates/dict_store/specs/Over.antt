@@ -44,4 +44,4 @@ module _ {S : Type 0} (g : Ghosts S) where
 
   -- whatever a stop now leaves of the database stands for one of these catalogues, or for none
   abbrev pub Leaves : Held S → List (Option Catalogue) → Type 0
-  Leaves conn ms = HasCleanDisk (state g conn) → (trees : Trees) → (state g conn).may_leave trees → (m : Option Catalogue) × Contains ms m × StandsFor g m trees
+  Leaves conn ms = HasCleanDisk (state g conn) → (trees : Trees) → (state g conn).may_leave trees → (m : Option Catalogue) × Contains ms m × StandsFor m trees

@@ -1,5 +1,5 @@
 -- What is left where a database is not opened again, and why it isn't.
-use Rattle.std.specs.Prelude.{◌≡◌, ◌⊎◌, ◌&&◌, false, IsTrue, ℕ, List, [], ◌∷◌, Option, Some, None, Contains, MatchOption}
+use Rattle.std.specs.Prelude.{◌≡◌, ◌⊎◌, ◌&&◌, false, IsTrue, ℕ, List, [], ◌∷◌, Option, Some, None, Contains}
 use Rattle.sqlite.specs.Recovery.{Image}
 use Rattle.sqlite.specs.Tree.{Trees}
 use Rattle.sqlite.specs.Files.{HoldsDatabase, IsOpened, Finds, IsCleanLeft, IsFullLeft, FailsToOpenFiles, LeavesFiles, faults_of, faults_left, file_state, image_of, over_files}
@@ -25,10 +25,10 @@ use Rattle.dict_catalogue.specs.Steps.{Catalogue, Request}
 use Rattle.dict_desk.specs.declared.fault.Fault.{Fault}
 use Rattle.dict_desk.specs.declared.fault.Fault.TheVariants.{Memory, Disk, NotACatalogue}
 use Rattle.dict_file.specs.Holds.{IsLeft}
-use Rattle.dict_opening.specs.Reading.{IsOfOpening, HasFailed}
-use Rattle.dict_store.specs.Desk.{DeskState, LeavesOneOf}
+use Rattle.dict_opening.specs.Reading.{IsOfOpening}
+use Rattle.dict_store.specs.Desk.{DeskState, LeavesOneOf, StandsFor}
 use Rattle.dict_store.specs.Opened.{IsNotLeft}
-use Rattle.dict_store.specs.Adopted.{IsNotAdopted}
+use Rattle.dict_store.specs.Adopted.{IsNotAdopted, FailsToOpen}
 use Rattle.dict_store.specs.Reopened.{IsIn, IsOfStore, IsLetGo, IsStopped, LeavesFront}
 use Rattle.dict_store.specs.declared.reopening.Unopened.{Unopened}
 use Rattle.dict_store.specs.declared.reopening.Unopened.TheVariants.{Files, Spent, Database}
@@ -40,16 +40,13 @@ fault_of_files _ = NotACatalogue
 
 -- ---- what a stop leaves of that which is handed back
 
--- trees of a database from which this is opened: a catalogue, or none
-abbrev pub IsOf : Option Catalogue → Trees → Type 0
-IsOf m trees = MatchOption m ((M : Catalogue) → IsLeft M trees → ⊥) (λ M. IsLeft M trees)
-
+-- trees of a database from which one of these is opened: a catalogue, or none
 abbrev pub IsOneOf : List (Option Catalogue) → Trees → Type 0
-IsOneOf ms trees = (m : Option Catalogue) × Contains ms m × IsOf m trees
+IsOneOf ms trees = (m : Option Catalogue) × Contains ms m × StandsFor m trees
 
 -- and octets of a log and of its database file that hold such trees
 abbrev pub StandsIn : Option Catalogue → Image → Type 0
-StandsIn m image = (db : Trees) × HoldsDatabase image db × IsOf m db
+StandsIn m image = (db : Trees) × HoldsDatabase image db × StandsFor m db
 
 abbrev pub IsOneIn : List (Option Catalogue) → Image → Type 0
 IsOneIn ms image = (m : Option Catalogue) × Contains ms m × StandsIn m image
@@ -96,7 +93,7 @@ module _ {D : Type 0} {d : disk.Ghosts D} where
     pub conn : Held (FileStore D d)
     pub opened : HasCleanDisk (file_state conn) → IsOpened conn × Finds files conn
     pub adopted : IsNotAdopted over_files conn now fault
-    pub failed : HasCleanDisk (file_state now) → fault ≡ Disk → HasFailed (file_state (record conn { step_limit = None })) (file_state now)
+    pub failed : HasCleanDisk (file_state now) → fault ≡ Disk → FailsToOpen over_files (record conn { step_limit = None }) now
     pub autocommit : now.in_transaction ≡ false
     pub not_left : HasCleanDisk (file_state now) → IsTrue (file_state conn).is_open → IsNotLeft (file_state conn).now.trees fault
 
@@ -167,10 +164,10 @@ module _ {D : Type 0} {d : disk.Ghosts D} where
     pub conn : Held (FileStore D d)
     pub opened : HasCleanDisk (file_state conn) → IsOpened conn × FindsIn image (file_state conn)
     pub adopted : IsNotAdopted over_files conn now fault
-    pub failed : HasCleanDisk (file_state now) → fault ≡ Disk → HasFailed (file_state (record conn { step_limit = None })) (file_state now)
+    pub failed : HasCleanDisk (file_state now) → fault ≡ Disk → FailsToOpen over_files (record conn { step_limit = None }) now
     pub autocommit : now.in_transaction ≡ false
     pub of_store : (M : Catalogue) → IsIn M image → HasCleanDisk (file_state now) → IsOfStore fault
-    pub leaves : (m : Option Catalogue) → StandsIn m image → HasCleanDisk (file_state now) → (trees : Trees) → (file_state now).may_leave trees → IsOf m trees
+    pub leaves : (m : Option Catalogue) → StandsIn m image → HasCleanDisk (file_state now) → (trees : Trees) → (file_state now).may_leave trees → StandsFor m trees
 
   -- The files at a path couldn't be had, for this error of `sqlite`; or there is no desk over two files with these octets.
   abbrev pub IsUnopened : Image → Unopened D d → Fault → Type 0

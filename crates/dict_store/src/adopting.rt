@@ -1,24 +1,30 @@
 // A desk over a database that holds a catalogue.
-ghost use Rattle.std.specs.Prelude.{◌≡◌, ◌<◌, ◌↔◌, ◌||◌, ℕ, false, true, Some, None, [], ◌∷◌, IsTrue, IfOk, IfErr, Err};
+ghost use Rattle.std.specs.Prelude.{◌≡◌, ◌<◌, ◌↔◌, ◌||◌, false, true, Some, None, [], ◌∷◌, IsTrue, IfOk, IfErr, OnOk, OnErr, Err};
 ghost use Rattle.sqlite.specs.State.{HasCleanDisk, IsLive, Survives};
 ghost use Rattle.sqlite.specs.Held.{state};
 ghost use Rattle.dict_catalogue.specs.Steps.{Catalogue, summary_of};
 ghost use Rattle.dict_catalogue.specs.Views.{summary_shown};
-ghost use Rattle.dict_file.specs.Holds.{IsHeld, IsLeft, Rests};
+ghost use Rattle.dict_file.specs.Holds.{Holds, IsHeld, IsLeft, Rests};
+ghost use Rattle.dict_file.specs.Writing.{Stays};
+ghost use Rattle.dict_migration.specs.Failing.{FailsToMigrate};
+ghost use Rattle.dict_migration.specs.Migrated.{MayMigrate};
+ghost use Rattle.dict_migration.specs.Moved.{IsOfMigration};
 ghost use Rattle.dict_commands.specs.Changes.{IsInRange};
-ghost use Rattle.dict_desk.specs.Faults.{has_closed_by, has_failed_by};
-ghost use Rattle.dict_opening.specs.Opens.{HasMark, HasKnownMark, HoldsNone};
+ghost use Rattle.dict_desk.specs.Faults.{has_closed_by, has_failed_by, is_disk};
 ghost use Rattle.dict_opening.specs.Reading.{IsOfOpening, HasFailed};
 ghost use Rattle.dict_store.specs.Desk.{Shows, LeavesOneOf, is_closed, has_failed};
 ghost use Rattle.dict_store.specs.Opened.{IsTold, IsNotHeld, IsNotLeft, HoldsItsTrees};
-ghost use Rattle.dict_rows.specs.Versions.{known};
+ghost use Rattle.dict_rows.specs.Versions.{known, IsVersion};
+ghost use Rattle.dict_store.specs.Adopted.{FailsToOpen};
 
 use crate::desk::Desk;
 use crate::last::{Last, last_by};
 use dict_catalogue::{Summary, edition_numbers};
 use dict_commands::summaries_in_range;
 use dict_desk::Fault;
+use dict_migration::migrate;
 use dict_opening::{held_is_marked, one_is_held, read_catalogue};
+use dict_rows::KNOWN_VERSION;
 use sqlite::{Alter, Connection};
 use std::alloc::{AllocError, Global};
 
@@ -40,33 +46,12 @@ pub(crate) fn is_whole<S: Alter>(conn: &Connection<S>)
     let _schema = conn.schema();
 }
 
-// Reads a database whole: the summary of the catalogue that it holds under the known version, the only one that is opened yet.
-fn read_known<S: Alter>(alloc: Global, conn: &mut Connection<S>) -> Result<Summary, Fault>
+// Reads a database whole: the version of its tables, and the summary of the catalogue that it holds. Nothing is written.
+fn read<S: Alter>(alloc: Global, conn: &mut Connection<S>) -> Result<(u64, Summary), Fault>
     requires { conn.old.in_transaction ≡ false }
-    ensures rests { HasCleanDisk (state S.Store conn.new) → IfOk result (λ summary. (M : Catalogue) × Rests known (state S.Store conn.new) M × (summary_of M ≡ summary_shown summary)) }
-    ensures damaged { HasCleanDisk (state S.Store conn.new) → result ≡ Err Fault.Damaged → HasKnownMark (state S.Store conn.old).now × HoldsNone (state S.Store conn.old).now }
-    ensures newer { HasCleanDisk (state S.Store conn.new) → result ≡ Err Fault.NewerSchema → (version : ℕ) × HasMark (state S.Store conn.old).now version × (known < version) }
-    ensures none { HasCleanDisk (state S.Store conn.new) → result ≡ Err Fault.NotACatalogue → (version : ℕ) → HasMark (state S.Store conn.old).now version → ⊥ }
-    ensures lives { HasCleanDisk (state S.Store conn.new) → IsTrue (state S.Store conn.new).is_open → IsTrue (state S.Store conn.old).is_open }
-    ensures kinds { IfErr result IsOfOpening }
-    ensures failed { HasCleanDisk (state S.Store conn.new) → result ≡ Err Fault.Disk → HasFailed (state S.Store conn.old) (state S.Store conn.new) }
-    ensures now { HasCleanDisk (state S.Store conn.new) → IsTrue (state S.Store conn.new).is_open → (state S.Store conn.new).now ≡ (state S.Store conn.old).now }
-    ensures committed { HasCleanDisk (state S.Store conn.new) → IsTrue (state S.Store conn.new).is_open → (state S.Store conn.new).committed ≡ (state S.Store conn.old).committed }
-    ensures autocommit { (state S.Store conn.new).in_transaction ≡ false }
-    ensures survives { Survives (state S.Store conn.old) (state S.Store conn.new) (λ _. ⊥) }
-{
-    match read_catalogue(alloc, conn) {
-        Ok((_, summary)) => Ok(summary),
-        Err(fault) => Err(fault),
-    }
-}
-
-// Reads a database whole: the summary of the catalogue that it holds. Nothing is written.
-fn read<S: Alter>(alloc: Global, conn: &mut Connection<S>) -> Result<Summary, Fault>
-    requires { conn.old.in_transaction ≡ false }
-    ensures rests { HasCleanDisk (state S.Store conn.new) → IfOk result (λ summary. (M : Catalogue) × Rests known (state S.Store conn.new) M × (summary_of M ≡ summary_shown summary)) }
-    ensures every { HasCleanDisk (state S.Store conn.new) → IfOk result (λ summary. (M : Catalogue) → IsHeld (state S.Store conn.old).committed M → Rests known (state S.Store conn.new) M × (summary_of M ≡ summary_shown summary)) }
-    ensures range { IfOk result (λ summary. IsInRange (summary_shown summary)) }
+    ensures rests { HasCleanDisk (state S.Store conn.new) → IfOk result (λ found. (M : Catalogue) × Rests found.0 (state S.Store conn.new) M × (summary_of M ≡ summary_shown found.1)) }
+    ensures version { IfOk result (λ found. IsVersion found.0) }
+    ensures range { IfOk result (λ found. IsInRange (summary_shown found.1)) }
     ensures kinds { IfErr result IsOfOpening }
     ensures failed { HasCleanDisk (state S.Store conn.new) → IfErr result (λ fault. fault ≡ Fault.Disk → HasFailed (state S.Store conn.old) (state S.Store conn.new)) }
     ensures told { HasCleanDisk (state S.Store conn.new) → IfErr result (IsTold (state S.Store conn.old).now) }
@@ -78,23 +63,106 @@ fn read<S: Alter>(alloc: Global, conn: &mut Connection<S>) -> Result<Summary, Fa
     ensures survives { Survives (state S.Store conn.old) (state S.Store conn.new) (λ _. ⊥) }
 {
     held_is_marked();
-    one_is_held();
     summaries_in_range();
-    let summary = read_known(alloc, conn)?;
-    let within = is_in_range(alloc, &summary)?;
+    let found = read_catalogue(alloc, conn)?;
+    let within = is_in_range(alloc, &found.1)?;
     if !within {
         return Err(Fault::Disk);
     }
+    Ok(found)
+}
+
+// Makes tables of the known version of those of a database that was read, where they are of an older one: of the same catalogue, by
+// one commit.
+fn renew<S: Alter>(
+    alloc: Global,
+    conn: &mut Connection<S>,
+    version: u64,
+    summary: &Summary,
+) -> Result<(), Fault>
+    requires autocommit { conn.old.in_transaction ≡ false }
+    requires version { IsVersion version }
+    requires holds { HasCleanDisk (state S.Store conn.old) → (M : Catalogue) × Rests version (state S.Store conn.old) M × (summary_of M ≡ summary_shown summary.now) }
+    ensures rests { HasCleanDisk (state S.Store conn.new) → OnOk result ((M : Catalogue) → Holds version (state S.Store conn.old).committed M → Rests known (state S.Store conn.new) M) }
+    ensures unwritten { version ≡ known → conn.new ≡ conn.old }
+    ensures lives { HasCleanDisk (state S.Store conn.new) → IsTrue (state S.Store conn.new).is_open → IsTrue (state S.Store conn.old).is_open }
+    ensures stays { HasCleanDisk (state S.Store conn.new) → OnErr result (Stays (state S.Store conn.old) (state S.Store conn.new)) }
+    ensures failed { HasCleanDisk (state S.Store conn.new) → IfErr result (λ fault. (version < known) × FailsToMigrate S.Store version (summary_shown summary.now) conn.old conn.new fault) }
+    ensures kinds { IfErr result IsOfMigration }
+    ensures autocommit { conn.new.in_transaction ≡ false }
+    ensures adds_none { IfErr result (λ fault. is_disk fault ≡ false → Survives (state S.Store conn.old) (state S.Store conn.new) (λ _. ⊥)) }
+    ensures crash { Survives (state S.Store conn.old) (state S.Store conn.new) (MayMigrate (state S.Store conn.old)) }
+{
+    if version < KNOWN_VERSION {
+        migrate(alloc, conn, version, summary)
+    } else {
+        Ok(())
+    }
+}
+
+// Reads a database whole, whose tables are those of the known version then: the summary of the catalogue that it holds.
+fn read_renewed<S: Alter>(alloc: Global, conn: &mut Connection<S>) -> Result<Summary, Fault>
+    requires { conn.old.in_transaction ≡ false }
+    ensures rests { HasCleanDisk (state S.Store conn.new) → IfOk result (λ summary. (M : Catalogue) × Rests known (state S.Store conn.new) M × (summary_of M ≡ summary_shown summary)) }
+    ensures every { HasCleanDisk (state S.Store conn.new) → IfOk result (λ summary. (M : Catalogue) → IsHeld (state S.Store conn.old).committed M → Rests known (state S.Store conn.new) M × (summary_of M ≡ summary_shown summary)) }
+    ensures same { HasCleanDisk (state S.Store conn.new) → OnOk result ((M : Catalogue) → IsHeld (state S.Store conn.old).committed M ↔ Holds known (state S.Store conn.new).committed M) }
+    ensures unwritten { HasCleanDisk (state S.Store conn.new) → OnOk result ((M : Catalogue) → Holds known (state S.Store conn.old).committed M → (state S.Store conn.new).committed ≡ (state S.Store conn.old).committed) }
+    ensures range { IfOk result (λ summary. IsInRange (summary_shown summary)) }
+    ensures kinds { IfErr result IsOfOpening }
+    ensures failed { HasCleanDisk (state S.Store conn.new) → IfErr result (λ fault. fault ≡ Fault.Disk → FailsToOpen S.Store conn.old conn.new) }
+    ensures told { HasCleanDisk (state S.Store conn.new) → IfErr result (IsTold (state S.Store conn.old).now) }
+    ensures not_held { HasCleanDisk (state S.Store conn.new) → IfErr result (IsNotHeld (state S.Store conn.old).now) }
+    ensures lives { HasCleanDisk (state S.Store conn.new) → IsTrue (state S.Store conn.new).is_open → IsTrue (state S.Store conn.old).is_open }
+    ensures stays { HasCleanDisk (state S.Store conn.new) → OnErr result (IsTrue (state S.Store conn.new).is_open → ((state S.Store conn.new).now ≡ (state S.Store conn.old).now) × ((state S.Store conn.new).committed ≡ (state S.Store conn.old).committed)) }
+    ensures autocommit { conn.new.in_transaction ≡ false }
+    ensures adds_none { IfErr result (λ fault. is_disk fault ≡ false → Survives (state S.Store conn.old) (state S.Store conn.new) (λ _. ⊥)) }
+    ensures crash { Survives (state S.Store conn.old) (state S.Store conn.new) (MayMigrate (state S.Store conn.old)) }
+{
+    one_is_held();
+    let (version, summary) = read(alloc, conn)?;
+    renew(alloc, conn, version, &summary)?;
     Ok(summary)
 }
 
+// Reads a database whole whose tables are those of the known version. Nothing is written.
+fn read_again<S: Alter>(alloc: Global, conn: &mut Connection<S>) -> Result<(), Fault>
+    requires autocommit { conn.old.in_transaction ≡ false }
+    requires holds { HasCleanDisk (state S.Store conn.old) → IsTrue (state S.Store conn.old).is_open → (M : Catalogue) × Rests known (state S.Store conn.old) M }
+    ensures rests { HasCleanDisk (state S.Store conn.new) → OnOk result ((M : Catalogue) × Rests known (state S.Store conn.new) M) }
+    ensures kinds { IfErr result IsOfOpening }
+    ensures failed { HasCleanDisk (state S.Store conn.new) → IfErr result (λ fault. fault ≡ Fault.Disk → HasFailed (state S.Store conn.old) (state S.Store conn.new)) }
+    ensures told { HasCleanDisk (state S.Store conn.new) → IfErr result (IsTold (state S.Store conn.old).now) }
+    ensures not_held { HasCleanDisk (state S.Store conn.new) → IfErr result (IsNotHeld (state S.Store conn.old).now) }
+    ensures lives { HasCleanDisk (state S.Store conn.new) → IsTrue (state S.Store conn.new).is_open → IsTrue (state S.Store conn.old).is_open }
+    ensures now { HasCleanDisk (state S.Store conn.new) → IsTrue (state S.Store conn.new).is_open → (state S.Store conn.new).now ≡ (state S.Store conn.old).now }
+    ensures committed { HasCleanDisk (state S.Store conn.new) → IsTrue (state S.Store conn.new).is_open → (state S.Store conn.new).committed ≡ (state S.Store conn.old).committed }
+    ensures autocommit { conn.new.in_transaction ≡ false }
+    ensures survives { Survives (state S.Store conn.old) (state S.Store conn.new) (λ _. ⊥) }
+{
+    one_is_held();
+    match read(alloc, conn) {
+        Ok((version, _)) => {
+            if version == KNOWN_VERSION {
+                Ok(())
+            } else {
+                Err(Fault::Disk)
+            }
+        }
+        Err(fault) => Err(fault),
+    }
+}
+
 impl<S: Alter + Drop> Desk<S> {
-    /// A desk over a database that holds a catalogue, the only one that it holds. It is read whole, and nothing is written. A
-    /// stop leaves the catalogue that the desk shows, and no other.
+    /// A desk over a database that holds a catalogue, the only one that it holds. It is read whole. A stop leaves the catalogue
+    /// that the desk shows, and no other.
+    ///
+    /// Tables of the known version are not written to. Of tables of an older one those of the known one are made, of the same
+    /// catalogue, by one commit: stopped in it, the next opening finds the one or the other.
     ///
     /// At a fault the connection is handed back. `NotACatalogue`: there is no readable mark. `NewerSchema`: the mark's
-    /// version is above the one that is known. `Damaged`: the tables hold no catalogue. They are tested in this order. `Memory`:
-    /// a growth was refused. `Disk`: the store failed. The connection's limit on steps is taken away.
+    /// version is above the one that is known. `Damaged`: the tables hold no catalogue. They are tested in this order, before anything
+    /// is written. `Memory`: a growth was refused; nothing is changed. `Disk`: the store failed; where tables were being made, the next
+    /// opening tells which are there. The connection's limit on steps is taken away.
     pub fn adopt(alloc: Global, conn: Connection<S>) -> Result<Desk<S>, (Connection<S>, Fault)>
         requires { conn.in_transaction ≡ false }
         ensures rests { IfOk result (λ desk. HasCleanDisk (state S.Store desk.conn) → (M : Catalogue) × Rests known (state S.Store desk.conn) M × Shows S.Store desk M) }
@@ -102,27 +170,32 @@ impl<S: Alter + Drop> Desk<S> {
         ensures left { IfOk result (λ desk. HasCleanDisk (state S.Store desk.conn) → (M : Catalogue) → IsLeft M (state S.Store conn).committed.trees → Shows S.Store desk M) }
         ensures only { IfOk result (λ desk. (M : Catalogue) → Shows S.Store desk M → LeavesOneOf S.Store desk (Some M ∷ [])) }
         ensures open { IfOk result (λ desk. (desk.last ≡ Last.Fine) × (desk.conn.in_transaction ≡ false)) }
-        ensures same { IfOk result (λ desk. HasCleanDisk (state S.Store desk.conn) → (state S.Store desk.conn).committed ≡ (state S.Store conn).committed) }
-        ensures spares { IfOk result (λ desk. Survives (state S.Store (record conn { step_limit = None })) (state S.Store desk.conn) (λ _. ⊥)) }
+        ensures same { IfOk result (λ desk. HasCleanDisk (state S.Store desk.conn) → (M : Catalogue) → IsHeld (state S.Store conn).committed M ↔ Holds known (state S.Store desk.conn).committed M) }
+        ensures unwritten { IfOk result (λ desk. HasCleanDisk (state S.Store desk.conn) → (M : Catalogue) → Holds known (state S.Store conn).committed M → (state S.Store desk.conn).committed ≡ (state S.Store conn).committed) }
+        ensures migrated { IfOk result (λ desk. Survives (state S.Store (record conn { step_limit = None })) (state S.Store desk.conn) (MayMigrate (state S.Store conn))) }
         ensures handed { IfErr result (λ left. left.0.in_transaction ≡ false) }
         ensures kinds { IfErr result (λ left. IsOfOpening left.1) }
         ensures told { IfErr result (λ left. HasCleanDisk (state S.Store left.0) → IsTold (state S.Store conn).now left.1) }
         ensures not_held { IfErr result (λ left. HasCleanDisk (state S.Store left.0) → IsNotHeld (state S.Store conn).now left.1) }
         ensures not_left { IfErr result (λ left. HasCleanDisk (state S.Store left.0) → IsTrue (state S.Store conn).is_open → IsNotLeft (state S.Store conn).now.trees left.1) }
-        ensures failed { IfErr result (λ left. HasCleanDisk (state S.Store left.0) → left.1 ≡ Fault.Disk → HasFailed (state S.Store (record conn { step_limit = None })) (state S.Store left.0)) }
+        ensures failed { IfErr result (λ left. HasCleanDisk (state S.Store left.0) → left.1 ≡ Fault.Disk → FailsToOpen S.Store (record conn { step_limit = None }) left.0) }
         ensures stays { IfErr result (λ left. HasCleanDisk (state S.Store left.0) → IsTrue (state S.Store left.0).is_open → ((state S.Store left.0).now ≡ (state S.Store conn).now) × ((state S.Store left.0).committed ≡ (state S.Store conn).committed)) }
-        ensures adds_none { IfErr result (λ left. Survives (state S.Store (record conn { step_limit = None })) (state S.Store left.0) (λ _. ⊥)) }
+        ensures adds_none { IfErr result (λ left. is_disk left.1 ≡ false → Survives (state S.Store (record conn { step_limit = None })) (state S.Store left.0) (λ _. ⊥)) }
+        ensures crash { IfErr result (λ left. Survives (state S.Store (record conn { step_limit = None })) (state S.Store left.0) (MayMigrate (state S.Store conn))) }
     {
         let mut conn = conn;
         is_whole(&conn);
         conn.set_step_limit(None);
-        match read(alloc, &mut conn) {
-            Ok(summary) => Ok(Desk::over(alloc, conn, summary)),
+        match read_renewed(alloc, &mut conn) {
+            Ok(summary) => {
+                is_whole(&conn);
+                Ok(Desk::over(alloc, conn, summary))
+            }
             Err(fault) => Err((conn, fault)),
         }
     }
 
-    /// Reads the database whole again, as `adopt` does. Nothing is written.
+    /// Reads the database whole again, as `adopt` does. Nothing is written: no tables are made.
     ///
     /// `Ok`: it holds a catalogue, and the desk goes on. `Damaged`, `NewerSchema` and `NotACatalogue` tell what `adopt` would.
     /// `Memory`: a growth was refused. `Disk`: the store failed, and the desk is closed. `Closed`: it was so before.
@@ -142,11 +215,8 @@ impl<S: Alter + Drop> Desk<S> {
         if self.last == Last::Closed {
             return Err(Fault::Closed);
         }
-        let outcome = read(self.alloc, &mut self.conn);
+        let outcome = read_again(self.alloc, &mut self.conn);
         self.last = last_by(&outcome);
-        match outcome {
-            Ok(_) => Ok(()),
-            Err(fault) => Err(fault),
-        }
+        outcome
     }
 }

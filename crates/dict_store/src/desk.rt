@@ -7,7 +7,8 @@ ghost use Rattle.dict_catalogue.specs.Views.{summary_shown};
 ghost use Rattle.dict_catalogue.specs.WellFormed.{IsWellFormed};
 ghost use Rattle.dict_desk.specs.Faults.{is_disk};
 ghost use Rattle.dict_file.specs.Holds.{Holds, Rests, IsLeftAs, HasPlace};
-ghost use Rattle.dict_file.specs.Writing.{Stays, creation, FailsToEnd, IsOfCreation};
+ghost use Rattle.dict_file.specs.Writing.{Stays, IsOfCreation};
+ghost use Rattle.dict_migration.specs.Making.{creation, FailsToEnd};
 ghost use Rattle.dict_commands.specs.Changes.{IsInRange};
 ghost use Rattle.dict_commands.specs.Answers.{HoldsBy};
 ghost use Rattle.dict_store.specs.Desk.{Shows, LeavesOneOf, is_closed};
@@ -16,7 +17,7 @@ ghost use Rattle.dict_rows.specs.Versions.{known};
 use crate::last::Last;
 use dict_catalogue::Summary;
 use dict_desk::Fault;
-use dict_file::create;
+use dict_migration::create;
 use sqlite::{Alter, Connection};
 use std::alloc::Global;
 use std::marker::Model;
@@ -28,6 +29,8 @@ pub struct Desk<S: Alter + Drop> {
     pub(crate) conn: Connection<S>,
     pub(crate) summary: Summary,
     pub(crate) last: Last,
+    // The rows that the statements of lookups have handed over. Nothing rests on it.
+    pub(crate) rows_taken: u64,
 }
 
 impl<S: Alter + Drop> Model for Desk<S> {
@@ -60,6 +63,7 @@ impl<S: Alter + Drop> Desk<S> {
             conn,
             summary,
             last: Last::Fine,
+            rows_taken: 0,
         }
     }
 
@@ -97,6 +101,12 @@ impl<S: Alter + Drop> Desk<S> {
         ensures { result ≡ is_closed self.now.last }
     {
         self.last == Last::Closed
+    }
+
+    /// How many rows the statements of this desk's lookups have handed over since it was opened, up to the greatest number of its
+    /// type, where it stays. Nothing rests on it: it tells what lookups cost.
+    pub fn rows_taken(&self) -> u64 {
+        self.rows_taken
     }
 
     /// The connection, as the desk left it, in no transaction.

@@ -37,7 +37,13 @@ impl<S: Alter + Drop> Lookup for Desk<S> {
         if self.last == Last::Closed {
             return Err(Fault::Closed);
         }
-        let outcome = dict_lookup::info(self.alloc, &mut self.conn, number, sink);
+        let outcome = dict_lookup::info(
+            self.alloc,
+            &mut self.conn,
+            number,
+            sink,
+            &mut self.rows_taken,
+        );
         self.last = last_by(&outcome);
         outcome
     }
@@ -52,7 +58,15 @@ impl<S: Alter + Drop> Lookup for Desk<S> {
         if self.last == Last::Closed {
             return Err(Fault::Closed);
         }
-        let outcome = dict_lookup::count(self.alloc, &mut self.conn, number, strategy, query, what);
+        let outcome = dict_lookup::count(
+            self.alloc,
+            &mut self.conn,
+            number,
+            strategy,
+            query,
+            what,
+            &mut self.rows_taken,
+        );
         self.last = last_by(&outcome);
         outcome
     }
@@ -67,7 +81,15 @@ impl<S: Alter + Drop> Lookup for Desk<S> {
         if self.last == Last::Closed {
             return Err(Fault::Closed);
         }
-        let outcome = dict_lookup::find(self.alloc, &mut self.conn, number, strategy, query, sink);
+        let outcome = dict_lookup::find(
+            self.alloc,
+            &mut self.conn,
+            number,
+            strategy,
+            query,
+            sink,
+            &mut self.rows_taken,
+        );
         self.last = last_by(&outcome);
         outcome
     }
@@ -82,7 +104,15 @@ impl<S: Alter + Drop> Lookup for Desk<S> {
         if self.last == Last::Closed {
             return Err(Fault::Closed);
         }
-        let outcome = dict_lookup::heads(self.alloc, &mut self.conn, number, strategy, query, sink);
+        let outcome = dict_lookup::heads(
+            self.alloc,
+            &mut self.conn,
+            number,
+            strategy,
+            query,
+            sink,
+            &mut self.rows_taken,
+        );
         self.last = last_by(&outcome);
         outcome
     }

@@ -4,11 +4,11 @@ ghost use Rattle.sqlite.specs.State.{HasCleanDisk};
 ghost use Rattle.sqlite.specs.Held.{state};
 ghost use Rattle.dict_catalogue.specs.Steps.{Catalogue};
 ghost use Rattle.dict_io.specs.Streams.{change};
-ghost use Rattle.dict_opening.specs.Reading.{HasFailed};
-ghost use Rattle.dict_store.specs.Adopted.{IsNotAdopted};
+ghost use Rattle.dict_store.specs.Adopted.{IsNotAdopted, FailsToOpen};
 ghost use Rattle.dict_store.specs.Desk.{LeavesOneOf};
 ghost use Rattle.dict_store.specs.Over.{HasRun, IsUntouched, Leaves, TellsNoLeft};
 
+use crate::adopting::is_whole;
 use crate::desk::Desk;
 use dict_desk::Fault;
 use dict_io::{Sink, Source};
@@ -20,7 +20,8 @@ use std::alloc::Global;
 /// `number` the session's number. The desk is handed back with the end: it tells how its last call ended, so whether the session was
 /// broken off for it.
 ///
-/// Nothing is written to the database. Where it isn't opened, the fault is one of `adopt`, nothing was read or written, and the
+/// Nothing is written to a database of the known version; of one of an older version the tables of the known one are made, as by
+/// `adopt`. Where it isn't opened, the fault is one of `adopt`, nothing was read or written, and the
 /// connection is handed back, in no transaction. Its limit on steps is taken away.
 pub fn session_over<S: Alter + Drop, R: Source, K: Sink>(
     alloc: Global,
@@ -36,12 +37,13 @@ pub fn session_over<S: Alter + Drop, R: Source, K: Sink>(
     ensures memory { IfOk result (λ ran. ran.1 ≡ Err SessionFault.Memory → IsUntouched (change R.stream reader.old reader.new) × IsUntouched (change K.stream writer.old writer.new)) }
     ensures leaves { IfOk result (λ ran. (ms : List (Option Catalogue)) → Leaves S.Store connection ms → LeavesOneOf S.Store ran.0 ms) }
     ensures unopened { IfErr result (λ left. IsNotAdopted S.Store connection left.0 left.1) }
-    ensures failed { IfErr result (λ left. HasCleanDisk (state S.Store left.0) → left.1 ≡ Fault.Disk → HasFailed (state S.Store (record connection { step_limit = None })) (state S.Store left.0)) }
+    ensures failed { IfErr result (λ left. HasCleanDisk (state S.Store left.0) → left.1 ≡ Fault.Disk → FailsToOpen S.Store (record connection { step_limit = None }) left.0) }
     ensures not_left { IfErr result (λ left. TellsNoLeft S.Store connection left.0 left.1) }
     ensures untouched { IfErr result (λ _. IsUntouched (change R.stream reader.old reader.new) × IsUntouched (change K.stream writer.old writer.new)) }
     ensures leaves_unopened { IfErr result (λ left. (ms : List (Option Catalogue)) → Leaves S.Store connection ms → Leaves S.Store left.0 ms) }
     ensures autocommit { IfErr result (λ left. left.0.in_transaction ≡ false) }
 {
+    is_whole(&connection);
     let mut desk = match Desk::adopt(alloc, connection) {
         Ok(desk) => desk,
         Err(left) => return Err(left),

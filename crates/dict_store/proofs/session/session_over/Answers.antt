@@ -1,9 +1,6 @@
-use Rattle.std.proofs.Common.{ap, subst}
-use Rattle.dict_file.specs.Holds.{Holds}
+use Rattle.std.proofs.Common.{ap}
 use Rattle.dict_store.proofs.OverLemmas.{leaves_after}
 use Rattle.dict_store.proofs.session.session_over.Goals as goal
-use Rattle.dict_rows.specs.Versions.{known}
-use Rattle.dict_opening.proofs.HeldLemmas.{held_known}
 
 pub returns-clause-ran : goal.returns-clause-ran
 returns-clause-ran g c = λ clean.
@@ -11,7 +8,7 @@ returns-clause-ran g c = λ clean.
     let is = c.in-Ok.ensures.rests opened in
     record {
       catalogue = is.0;
-      held = held_known _ is.0 (subst (λ db. Holds known db is.0) (c.in-Ok.ensures.same opened) is.1.holds);
+      held = (c.in-Ok.ensures.same opened is.0).1 is.1.holds;
       over = λ M held. let shown = c.in-Ok.ensures.held opened M held in record { ended = c.run-end.ensures.answers clean M shown; shown = c.run-end.ensures.desk.shows clean M shown };
       left = λ M left. let shown = c.in-Ok.ensures.left opened M left in record { ended = c.run-end.ensures.answers clean M shown; shown = c.run-end.ensures.desk.shows clean M shown };
     }
@@ -20,10 +17,10 @@ pub returns-clause-memory : goal.returns-clause-memory
 returns-clause-memory g c = λ is. let both = c.run-end.ensures.memory is in (ap g.R.Source.stream both.0, ap g.K.Sink.stream both.1)
 
 pub returns-clause-leaves : goal.returns-clause-leaves
-returns-clause-leaves g c = λ ms before. c.run-end.ensures.desk.leaves ms (leaves_after g.S.Store c.args.connection c.in-Ok.desk.conn c.in-Ok.ensures.spares ms before)
+returns-clause-leaves g c = λ ms before. c.run-end.ensures.desk.leaves ms (leaves_after g.S.Store c.args.connection c.in-Ok.desk.conn c.is_whole.ensures.live (g.met.S.Store.stays c.args.connection.store) c.in-Ok.ensures.migrated ms before)
 
 pub returns-in-Err-clause-unopened : goal.returns-in-Err-clause-unopened
-returns-in-Err-clause-unopened g c = record { kind = c.in-Err.ensures.kinds; told = c.in-Err.ensures.told; not_held = c.in-Err.ensures.not_held; same = c.in-Err.ensures.stays; adds_none = c.in-Err.ensures.adds_none }
+returns-in-Err-clause-unopened g c = record { kind = c.in-Err.ensures.kinds; told = c.in-Err.ensures.told; not_held = c.in-Err.ensures.not_held; same = c.in-Err.ensures.stays; adds_none = c.in-Err.ensures.adds_none; crash = c.in-Err.ensures.crash }
 
 pub returns-in-Err-clause-leaves_unopened : goal.returns-in-Err-clause-leaves_unopened
-returns-in-Err-clause-leaves_unopened g c = λ ms before. leaves_after g.S.Store c.args.connection c.in-Err.left.0 c.in-Err.ensures.adds_none ms before
+returns-in-Err-clause-leaves_unopened g c = λ ms before. leaves_after g.S.Store c.args.connection c.in-Err.left.0 c.is_whole.ensures.live (g.met.S.Store.stays c.args.connection.store) c.in-Err.ensures.crash ms before

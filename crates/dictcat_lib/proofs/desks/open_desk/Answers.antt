@@ -14,7 +14,7 @@ pub returns-in-Ok-clause-opened : goal.returns-in-Ok-clause-opened
 returns-in-Ok-clause-opened c = record {
   opened = (
     c.in_ok-conn.conn,
-    record { fine = c.in-Ok.ensures.open.0; shows = c.in-Ok.ensures.rests; only = c.in-Ok.ensures.only; same = c.in-Ok.ensures.same; spares = c.in-Ok.ensures.spares },
+    record { fine = c.in-Ok.ensures.open.0; shows = c.in-Ok.ensures.rests; only = c.in-Ok.ensures.only; same = c.in-Ok.ensures.same; unwritten = c.in-Ok.ensures.unwritten; migrated = c.in-Ok.ensures.migrated },
   );
   alone = λ clean. let it = c.in-Ok.ensures.rests clean in (it.0, it.2, c.in-Ok.ensures.only it.0 it.2);
 }
@@ -23,7 +23,7 @@ pub returns-in-Err-clause-opened : goal.returns-in-Err-clause-opened
 returns-in-Err-clause-opened c = (
   inr (
     c.in_ok-conn.conn,
-    (c.in-Err.conn, c.in-Err.fault, c.from.ensures, record { kind = c.in-Err.ensures.kinds; told = c.in-Err.ensures.told; not_held = c.in-Err.ensures.not_held; same = c.in-Err.ensures.stays; adds_none = c.in-Err.ensures.adds_none }),
+    (c.in-Err.conn, c.in-Err.fault, c.from.ensures, record { kind = c.in-Err.ensures.kinds; told = c.in-Err.ensures.told; not_held = c.in-Err.ensures.not_held; same = c.in-Err.ensures.stays; adds_none = c.in-Err.ensures.adds_none; crash = c.in-Err.ensures.crash }),
   ),
   subst IsOfFile (sym c.from.ensures) (opening_of_file c.in-Err.fault c.in-Err.ensures.kinds),
 )

@@ -12,31 +12,17 @@ use Rattle.dict_store.proofs.desk.Desk.audit.Goals as goal
 pub invariant_of-self : goal.invariant_of-self
 invariant_of-self g c =
     let before : is_closed c.self.inside.last ≡ false = search rules in
-    rests_on g.S.Store c.self.inside.conn c.read-outcome.new.conn (summary_shown c.self.inside.summary) c.self.inside.last c.last_by-self-inside.result before c.self.invariant c.read-outcome.ensures.survives
-    (λ clean. record { was_open = c.read-outcome.ensures.lives clean; now = λ live settled. c.read-outcome.ensures.now clean live; committed = λ live. c.read-outcome.ensures.committed clean live }) (λ _. c.read-outcome.ensures.autocommit)
-
-pub invariant_of-self-2 : goal.invariant_of-self-2
-invariant_of-self-2 g c =
-    let before : is_closed c.self.inside.last ≡ false = search rules in
-    rests_on g.S.Store c.self.inside.conn c.read-outcome.new.conn (summary_shown c.self.inside.summary) c.self.inside.last c.last_by-self-inside.result before c.self.invariant c.read-outcome.ensures.survives
-    (λ clean. record { was_open = c.read-outcome.ensures.lives clean; now = λ live settled. c.read-outcome.ensures.now clean live; committed = λ live. c.read-outcome.ensures.committed clean live }) (λ _. c.read-outcome.ensures.autocommit)
-
-pub returns-in-Ok-clause-shows : goal.returns-in-Ok-clause-shows
-returns-in-Ok-clause-shows g c = λ clean M shown.
-    let before : is_closed c.self.inside.last ≡ false = search rules in
-    shows_on g.S.Store c.self.inside.conn c.read-outcome.new.conn (summary_shown c.self.inside.summary) c.self.inside.last c.last_by-self-inside.result before c.self.invariant c.read-outcome.ensures.survives
-    (λ clean. record { was_open = c.read-outcome.ensures.lives clean; now = λ live settled. c.read-outcome.ensures.now clean live; committed = λ live. c.read-outcome.ensures.committed clean live })
-    M (subst (λ desk. Shows g.S.Store desk M) (sym c.self.view_is) shown)
+    rests_on g.S.Store c.self.inside.conn c.read_again-outcome.new.conn (summary_shown c.self.inside.summary) c.self.inside.last c.last_by-self-inside.result before c.self.invariant c.read_again-outcome.ensures.survives
+    (λ clean. record { was_open = c.read_again-outcome.ensures.lives clean; now = λ live settled. c.read_again-outcome.ensures.now clean live; committed = λ live. c.read_again-outcome.ensures.committed clean live }) (λ _. c.read_again-outcome.ensures.autocommit)
 
 pub returns-clause-shows : goal.returns-clause-shows
 returns-clause-shows g c = λ clean M shown.
     let before : is_closed c.self.inside.last ≡ false = search rules in
-    shows_on g.S.Store c.self.inside.conn c.read-outcome.new.conn (summary_shown c.self.inside.summary) c.self.inside.last c.last_by-self-inside.result before c.self.invariant c.read-outcome.ensures.survives
-    (λ clean. record { was_open = c.read-outcome.ensures.lives clean; now = λ live settled. c.read-outcome.ensures.now clean live; committed = λ live. c.read-outcome.ensures.committed clean live })
+    shows_on g.S.Store c.self.inside.conn c.read_again-outcome.new.conn (summary_shown c.self.inside.summary) c.self.inside.last c.last_by-self-inside.result before c.self.invariant c.read_again-outcome.ensures.survives
+    (λ clean. record { was_open = c.read_again-outcome.ensures.lives clean; now = λ live settled. c.read_again-outcome.ensures.now clean live; committed = λ live. c.read_again-outcome.ensures.committed clean live })
     M (subst (λ desk. Shows g.S.Store desk M) (sym c.self.view_is) shown)
 
 pub returns-clause-broken : goal.returns-clause-broken
-returns-clause-broken g c = λ clean is.
-    let new = state g.S.Store c.read-outcome.new.conn in
-    let failed = subst (λ r. IfErr r (λ (fault : Fault). fault ≡ Disk → HasFailed (state g.S.Store c.self.inside.conn) new)) c.in-Err.is (c.read-outcome.ensures.failed clean) in
-    subst (λ desk. HasFailed (state g.S.Store desk.conn) new) c.self.view_is (failed is)
+returns-clause-broken g c = λ clean.
+    let new = state g.S.Store c.read_again-outcome.new.conn in
+    subst (λ desk. IfErr c.read_again-outcome.result (λ (fault : Fault). fault ≡ Disk → HasFailed (state g.S.Store desk.conn) new)) c.self.view_is (c.read_again-outcome.ensures.failed clean)

@@ -9,7 +9,7 @@ use Rattle.dict_store.specs.Desk.{DeskState, LeavesOneOf}
 use Rattle.dict_store.proofs.DeskLemmas.{alone}
 use Rattle.dict_store.proofs.desk.Desk.create.Goals as goal
 use Rattle.dict_rows.specs.Versions.{known}
-use Rattle.dict_opening.proofs.HeldLemmas.{left_known}
+use Rattle.dict_file.proofs.OneLemmas.{left_known}
 
 pub returns-in-Ok-clause-shows : goal.returns-in-Ok-clause-shows
 returns-in-Ok-clause-shows g c = c.over.ensures.shows empty_catalogue c.new.ensures empty_well_formed c.in-Ok.ensures.rests

@@ -2,7 +2,7 @@ use Rattle.std.proofs.Common.{◌≡◌, false, sym, subst, rules}
 use Rattle.sqlite.specs.Held.{state}
 use Rattle.dict_catalogue.specs.Views.{summary_shown}
 use Rattle.dict_store.specs.Desk.{Shows, is_closed}
-use Rattle.dict_store.proofs.CauseLemmas.{gives_way}
+use Rattle.dict_store.proofs.CauseLemmas.{reply_gives_way}
 use Rattle.dict_store.proofs.DeskLemmas.{rests_on, shows_on}
 use Rattle.dict_store.proofs.KeeperLemmas.{kept_stays}
 use Rattle.dict_store.proofs.keeper.DeskKeeper.kept.Goals as goal
@@ -23,5 +23,5 @@ returns-clause-shows g c = λ clean M shown.
 pub returns-clause-caused : goal.returns-clause-caused
 returns-clause-caused g c =
     let before : is_closed c.self.inside.last ≡ false = search rules in
-    gives_way g.S.Store c.self.inside.conn c.kept_reply-outcome.new.conn (summary_shown c.self.inside.summary) c.self.inside.last c.last_by-self-inside.result before c.self.invariant c.kept_reply-outcome.ensures.survives
+    reply_gives_way g.S.Store c.self.inside.conn c.kept_reply-outcome.new.conn (summary_shown c.self.inside.summary) c.self.inside.last c.last_by-self-inside.result before c.self.invariant c.kept_reply-outcome.ensures.survives
     c.kept_reply-outcome.result c.kept_reply-outcome.ensures.kinds c.kept_reply-outcome.ensures.failed _ c.self.view_is

@@ -1,9 +1,13 @@
 use Rattle.std.proofs.Common.{◌≡◌, false, sym, subst, rules}
+use Rattle.dict_index.specs.Edition.{Edition}
 use Rattle.sqlite.specs.Held.{state}
 use Rattle.dict_catalogue.specs.Views.{summary_shown}
 use Rattle.dict_desk.specs.Shown.{count_of}
+use Rattle.dict_lookup.specs.Searches.{column_of}
+use Rattle.dict_lookup.proofs.HeldLemmas.{held_one}
 use Rattle.dict_store.specs.Desk.{Shows, is_closed}
-use Rattle.dict_store.proofs.CauseLemmas.{gives_way}
+use Rattle.dict_store.proofs.CauseLemmas.{lookup_gives_way}
+use Rattle.std.specs.Prelude.{IfOk}
 use Rattle.dict_store.proofs.DeskLemmas.{stays_by, rests_on, shows_on, held, value_by}
 use Rattle.dict_store.proofs.lookups.DeskLookup.count.Goals as goal
 
@@ -11,25 +15,25 @@ pub invariant_of-self : goal.invariant_of-self
 invariant_of-self g c =
     let before : is_closed c.self.inside.last ≡ false = search rules in
     rests_on g.S.Store c.self.inside.conn c.count-outcome.new.conn (summary_shown c.self.inside.summary) c.self.inside.last c.last_by-self-inside.result before c.self.invariant c.count-outcome.ensures.survives
-    (λ clean. stays_by (state g.S.Store c.self.inside.conn) (state g.S.Store c.count-outcome.new.conn) c.count-outcome.result (c.count-outcome.ensures.same clean) (c.count-outcome.ensures.failed clean)) c.count-outcome.ensures.mode
+    (λ clean. stays_by (column_of c.args.number) (state g.S.Store c.self.inside.conn) (state g.S.Store c.count-outcome.new.conn) c.count-outcome.result (c.count-outcome.ensures.same clean) (c.count-outcome.ensures.failed clean)) c.count-outcome.ensures.mode
 
 pub returns-clause-shows : goal.returns-clause-shows
 returns-clause-shows g c = λ clean M shown.
     let before : is_closed c.self.inside.last ≡ false = search rules in
     shows_on g.S.Store c.self.inside.conn c.count-outcome.new.conn (summary_shown c.self.inside.summary) c.self.inside.last c.last_by-self-inside.result before c.self.invariant c.count-outcome.ensures.survives
-    (λ clean. stays_by (state g.S.Store c.self.inside.conn) (state g.S.Store c.count-outcome.new.conn) c.count-outcome.result (c.count-outcome.ensures.same clean) (c.count-outcome.ensures.failed clean))
+    (λ clean. stays_by (column_of c.args.number) (state g.S.Store c.self.inside.conn) (state g.S.Store c.count-outcome.new.conn) c.count-outcome.result (c.count-outcome.ensures.same clean) (c.count-outcome.ensures.failed clean))
     M (subst (λ desk. Shows g.S.Store desk M) (sym c.self.view_is) shown)
 
 pub returns-clause-value : goal.returns-clause-value
 returns-clause-value g c = λ clean M edition shown has.
     let before : is_closed c.self.inside.last ≡ false = search rules in
     let holds = held g.S.Store c.self.inside.conn c.count-outcome.new.conn (summary_shown c.self.inside.summary) c.self.inside.last c.last_by-self-inside.result before c.self.invariant c.count-outcome.ensures.survives
-    (λ clean. stays_by (state g.S.Store c.self.inside.conn) (state g.S.Store c.count-outcome.new.conn) c.count-outcome.result (c.count-outcome.ensures.same clean) (c.count-outcome.ensures.failed clean))
+    (λ clean. stays_by (column_of c.args.number) (state g.S.Store c.self.inside.conn) (state g.S.Store c.count-outcome.new.conn) c.count-outcome.result (c.count-outcome.ensures.same clean) (c.count-outcome.ensures.failed clean))
     M (subst (λ desk. Shows g.S.Store desk M) (sym c.self.view_is) shown) clean in
-    value_by (λ count. count ≡ count_of c.args.what c.args.strategy c.args.query.now edition) c.count-outcome.result (state g.S.Store c.self.inside.conn) (state g.S.Store c.count-outcome.new.conn) (c.count-outcome.ensures.same clean) (λ live. c.count-outcome.ensures.value clean M edition (holds live) has)
+    value_by (λ count. count ≡ count_of c.args.what c.args.strategy c.args.query.now edition) c.count-outcome.result (state g.S.Store c.self.inside.conn) (state g.S.Store c.count-outcome.new.conn) (c.count-outcome.ensures.same clean) (λ live. let one = held_one (state g.S.Store c.self.inside.conn).now M c.args.number edition (holds live) has in subst (λ (e : Edition). IfOk c.count-outcome.result (λ count. count ≡ count_of c.args.what c.args.strategy c.args.query.now e)) (sym one.2) (c.count-outcome.ensures.value clean one.0 one.1))
 
 pub returns-clause-caused : goal.returns-clause-caused
 returns-clause-caused g c =
     let before : is_closed c.self.inside.last ≡ false = search rules in
-    gives_way g.S.Store c.self.inside.conn c.count-outcome.new.conn (summary_shown c.self.inside.summary) c.self.inside.last c.last_by-self-inside.result before c.self.invariant c.count-outcome.ensures.survives
-    c.count-outcome.result c.count-outcome.ensures.kinds c.count-outcome.ensures.failed _ c.self.view_is
+    lookup_gives_way g.S.Store c.self.inside.conn c.count-outcome.new.conn (summary_shown c.self.inside.summary) c.self.inside.last c.last_by-self-inside.result before c.self.invariant c.count-outcome.ensures.survives
+    (column_of c.args.number) c.count-outcome.result c.count-outcome.ensures.kinds c.count-outcome.ensures.failed _ c.self.view_is

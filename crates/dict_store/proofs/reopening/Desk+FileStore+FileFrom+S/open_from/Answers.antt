@@ -4,14 +4,15 @@ use Rattle.sqlite.specs.State.{HasCleanDisk}
 use Rattle.sqlite.specs.Files.{file_state}
 use Rattle.sqlite.specs.WalFiles.{image_at}
 use Rattle.dict_file.specs.Holds.{IsLeft}
-use Rattle.dict_store.specs.Unopened.{IsOf, fault_of_files}
-use Rattle.dict_store.proofs.ReopenLemmas.{only_committed}
+use Rattle.dict_store.specs.Unopened.{fault_of_files}
+use Rattle.dict_store.specs.Desk.{StandsFor}
+use Rattle.dict_store.proofs.ReopenLemmas.{stands_after}
 use Rattle.dict_store.proofs.FreshLemmas.{seen_is, left_is, honest_is, octets_by, unopened_from}
 use Rattle.dict_store.proofs.reopening.Desk+FileStore+FileFrom+S.open_from.Goals as goal
 
 pub returns-in-Ok-adopt-clause-shows : goal.returns-in-Ok-adopt-clause-shows
 returns-in-Ok-adopt-clause-shows g c = λ clean M held.
-    let early : HasCleanDisk (file_state c.in-Ok.conn) = omega (arith, c.in-Ok-adopt.ensures.spares.clean, clean) in
+    let early : HasCleanDisk (file_state c.in-Ok.conn) = omega (arith, c.in-Ok-adopt.ensures.migrated.clean, clean) in
     let found = c.in-Ok.ensures.found early in
     c.in-Ok-adopt.ensures.left clean M (subst (IsLeft M) (sym (found.holds held.0 held.1)) held.2)
 
@@ -19,20 +20,18 @@ pub returns-in-Err-adopt-clause-unopened : goal.returns-in-Err-adopt-clause-unop
 returns-in-Err-adopt-clause-unopened g c = record {
   conn = c.in-Ok.conn;
   opened = λ clean. (c.in-Ok.ensures.opened clean, c.in-Ok.ensures.found clean);
-  adopted = record { kind = c.in-Err-adopt.ensures.kinds; told = c.in-Err-adopt.ensures.told; not_held = c.in-Err-adopt.ensures.not_held; same = c.in-Err-adopt.ensures.stays; adds_none = c.in-Err-adopt.ensures.adds_none };
+  adopted = record { kind = c.in-Err-adopt.ensures.kinds; told = c.in-Err-adopt.ensures.told; not_held = c.in-Err-adopt.ensures.not_held; same = c.in-Err-adopt.ensures.stays; adds_none = c.in-Err-adopt.ensures.adds_none; crash = c.in-Err-adopt.ensures.crash };
   failed = c.in-Err-adopt.ensures.failed;
   autocommit = c.in-Err-adopt.ensures.handed;
   of_store = λ M held clean.
-      let early : HasCleanDisk (file_state c.in-Ok.conn) = omega (arith, c.in-Err-adopt.ensures.adds_none.clean, clean) in
+      let early : HasCleanDisk (file_state c.in-Ok.conn) = omega (arith, c.in-Err-adopt.ensures.crash.clean, clean) in
       let opened = (c.in-Ok.ensures.opened early).0 in
       let found = c.in-Ok.ensures.found early in
       c.in-Err-adopt.ensures.not_left clean opened.is_open M (subst (λ db. IsLeft M db.trees) (sym opened.clean) (subst (IsLeft M) (sym (found.holds held.0 held.1)) held.2));
   leaves = λ m stands clean trees stop.
-      let early : HasCleanDisk (file_state c.in-Ok.conn) = omega (arith, c.in-Err-adopt.ensures.adds_none.clean, clean) in
-      let opened = (c.in-Ok.ensures.opened early).0 in
+      let early : HasCleanDisk (file_state c.in-Ok.conn) = omega (arith, c.in-Err-adopt.ensures.crash.clean, clean) in
       let found = c.in-Ok.ensures.found early in
-      let same = only_committed (λ _. inl refl) c.in-Ok.conn c.in-Err-adopt.conn c.in-Err-adopt.ensures.adds_none opened.is_open clean trees stop in
-      subst (IsOf m) (sym (same ∙ found.holds stands.0 stands.1)) stands.2;
+      stands_after (λ _. inl refl) c.in-Ok.conn c.in-Err-adopt.conn (c.in-Ok.ensures.opened early) c.in-Err-adopt.ensures.crash clean m (subst (StandsFor m) (sym (found.holds stands.0 stands.1)) stands.2) trees stop;
 }
 
 pub returns-in-Err-clause-unopened : goal.returns-in-Err-clause-unopened

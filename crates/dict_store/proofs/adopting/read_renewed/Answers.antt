@@ -1,0 +1,103 @@
+use Rattle.std.proofs.Common.{◌≡◌, sym, subst, arith, inr}
+use Rattle.std.specs.Prelude.{IsTrue}
+use Rattle.std.proofs.lemmas.Result.{err_from_is_err_and}
+use Rattle.sqlite.specs.Effect.{Database}
+use Rattle.sqlite.specs.State.{HasCleanDisk}
+use Rattle.sqlite.specs.Held.{state}
+use Rattle.sqlite.proofs.StateLemmas.{survives_then}
+use Rattle.dict_catalogue.specs.Steps.{Catalogue, summary_of}
+use Rattle.dict_catalogue.specs.Views.{summary_shown}
+use Rattle.dict_file.specs.Holds.{Holds, IsHeld, Rests, IsLeftAs}
+use Rattle.dict_migration.specs.Failing.{FailsToMigrate}
+use Rattle.dict_migration.specs.Migrated.{MayMigrate, HoldsOlder}
+use Rattle.dict_rows.specs.Versions.{known}
+use Rattle.dict_store.proofs.adopting.read_renewed.Goals as goal
+
+pub returns-in_err-renew-clause-failed : goal.returns-in_err-renew-clause-failed
+returns-in_err-renew-clause-failed g c = λ clean.
+    let p = err_from_is_err_and c.from_residual-in_err-renew.result c.from_residual-in_err-renew.ensures.1 in
+    let one = c.renew.ensures.crash.clean in
+    let there : HasCleanDisk (state g.S.Store c.read.new.conn) = omega (arith, one, clean) in
+    let found = c.in_ok-version.ensures.rests there in
+    let same = c.in_ok-version.ensures.committed there found.1.is_open in
+    let failed = c.in_err-renew.ensures.failed clean in
+    rw (p.1, p.2) (λ is. inr (record {
+      read = c.read.new.conn;
+      only_read = c.read.ensures.survives;
+      same = same;
+      version = c.in_ok-version.version;
+      older = failed.0;
+      catalogue = found.0;
+      holds = subst (λ (db : Database). Holds c.in_ok-version.version db found.0) same found.1.holds;
+      summary = summary_shown c.in_ok-version.summary;
+      told = sym found.2;
+      fails = subst (FailsToMigrate g.S.Store c.in_ok-version.version (summary_shown c.in_ok-version.summary) c.read.new.conn c.renew.new.conn) is failed.1;
+    }))
+
+pub returns-in_err-renew-clause-adds_none : goal.returns-in_err-renew-clause-adds_none
+returns-in_err-renew-clause-adds_none g c =
+    let p = err_from_is_err_and c.from_residual-in_err-renew.result c.from_residual-in_err-renew.ensures.1 in
+    rw (p.1, p.2) (λ other.
+    survives_then (state g.S.Store c.args.conn.now) (state g.S.Store c.read.new.conn) (state g.S.Store c.renew.new.conn) (λ _. ⊥) (λ _. ⊥) (λ _. ⊥) (λ _ db none. none) (λ _ db none. none)
+    c.read.ensures.survives (c.in_err-renew.ensures.adds_none other))
+
+-- what may be committed of what was read is what may be of what was there
+pub returns-in_err-renew-clause-crash : goal.returns-in_err-renew-clause-crash
+returns-in_err-renew-clause-crash g c =
+    let old = state g.S.Store c.args.conn.now in
+    let read = state g.S.Store c.read.new.conn in
+    survives_then old read (state g.S.Store c.renew.new.conn) (λ _. ⊥) (MayMigrate read) (MayMigrate old) (λ _ db none. absurd none)
+    (λ clean trees may.
+    let one = c.renew.ensures.crash.clean in
+    let there : HasCleanDisk read = omega (arith, one, clean) in
+    let same = c.in_ok-version.ensures.committed there may.0 in
+    (c.in_ok-version.ensures.lives there may.0, subst (λ (db : Database). (M : Catalogue) × HoldsOlder db M × IsLeftAs known M trees) same may.1))
+    c.read.ensures.survives c.renew.ensures.crash
+
+pub returns-clause-crash : goal.returns-clause-crash
+returns-clause-crash g c =
+    let old = state g.S.Store c.args.conn.now in
+    let read = state g.S.Store c.read.new.conn in
+    survives_then old read (state g.S.Store c.renew.new.conn) (λ _. ⊥) (MayMigrate read) (MayMigrate old) (λ _ db none. absurd none)
+    (λ clean trees may.
+    let one = c.renew.ensures.crash.clean in
+    let there : HasCleanDisk read = omega (arith, one, clean) in
+    let same = c.in_ok-version.ensures.committed there may.0 in
+    (c.in_ok-version.ensures.lives there may.0, subst (λ (db : Database). (M : Catalogue) × HoldsOlder db M × IsLeftAs known M trees) same may.1))
+    c.read.ensures.survives c.renew.ensures.crash
+
+pub returns-clause-rests : goal.returns-clause-rests
+returns-clause-rests g c = λ clean.
+    let one = c.renew.ensures.crash.clean in
+    let there : HasCleanDisk (state g.S.Store c.read.new.conn) = omega (arith, one, clean) in
+    let found = c.in_ok-version.ensures.rests there in
+    (found.0, c.in_ok-renew.ensures.rests clean found.0 found.1.holds, found.2)
+
+pub returns-clause-every : goal.returns-clause-every
+returns-clause-every g c = λ clean M held.
+    let old = state g.S.Store c.args.conn.now in
+    let new = state g.S.Store c.renew.new.conn in
+    let one = c.renew.ensures.crash.clean in
+    let there : HasCleanDisk (state g.S.Store c.read.new.conn) = omega (arith, one, clean) in
+    let found = c.in_ok-version.ensures.rests there in
+    let same = c.in_ok-version.ensures.committed there found.1.is_open in
+    let first : IsHeld old.committed found.0 = record { version = c.in_ok-version.version; known = c.in_ok-version.ensures.version; holds = subst (λ (db : Database). Holds c.in_ok-version.version db found.0) same found.1.holds } in
+    let is = c.one_is_held.ensures.held old.committed found.0 M first held in
+    subst (λ (N : Catalogue). Rests known new N × (summary_of N ≡ summary_shown c.in_ok-version.summary)) is (c.in_ok-renew.ensures.rests clean found.0 found.1.holds, found.2)
+
+pub returns-clause-same : goal.returns-clause-same
+returns-clause-same g c = λ clean M.
+    let old = state g.S.Store c.args.conn.now in
+    let new = state g.S.Store c.renew.new.conn in
+    let one = c.renew.ensures.crash.clean in
+    let there : HasCleanDisk (state g.S.Store c.read.new.conn) = omega (arith, one, clean) in
+    let found = c.in_ok-version.ensures.rests there in
+    let same = c.in_ok-version.ensures.committed there found.1.is_open in
+    let first : IsHeld old.committed found.0 = record { version = c.in_ok-version.version; known = c.in_ok-version.ensures.version; holds = subst (λ (db : Database). Holds c.in_ok-version.version db found.0) same found.1.holds } in
+    let after : Holds known new.committed found.0 = (c.in_ok-renew.ensures.rests clean found.0 found.1.holds).holds in (
+      (λ held. subst (λ (N : Catalogue). Holds known new.committed N) (c.one_is_held.ensures.held old.committed found.0 M first held) after),
+      (λ held.
+          let was : IsHeld new.committed found.0 = record { version = known; known = record { counted = omega arith; within = omega arith }; holds = after } in
+          let is : IsHeld new.committed M = record { version = known; known = record { counted = omega arith; within = omega arith }; holds = held } in
+          subst (λ (N : Catalogue). IsHeld old.committed N) (c.one_is_held.ensures.held new.committed found.0 M was is) first),
+    )

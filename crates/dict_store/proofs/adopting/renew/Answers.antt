@@ -1,0 +1,18 @@
+use Rattle.std.proofs.Common.{◌≡◌, subst, arith}
+use Rattle.sqlite.specs.Held.{state}
+use Rattle.dict_file.specs.Holds.{Holds}
+use Rattle.dict_rows.specs.Versions.{known}
+use Rattle.dict_store.proofs.adopting.renew.Goals as goal
+
+-- what has the known version already is left as it is
+pub returns-else-version-lt-KNOWN_VERSION-clause-rests : goal.returns-else-version-lt-KNOWN_VERSION-clause-rests
+returns-else-version-lt-KNOWN_VERSION-clause-rests g c = λ clean M held.
+    let it = c.requires.holds clean in
+    let within = c.requires.version.within in
+    let least = c.if-version-lt-KNOWN_VERSION.false in
+    let is : c.args.version ≡ known = omega (arith, within, least) in
+    record {
+      is_open = it.1.is_open;
+      settled = it.1.settled;
+      holds = subst (λ v. Holds v (state g.S.Store c.args.conn.now).committed M) is held;
+    }
