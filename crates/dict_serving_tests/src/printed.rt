@@ -7,13 +7,21 @@ use dict_printed::{Fault, StoreFault};
 use std::alloc::Global;
 use std::test::Fail;
 
-static FAULTS: [(Fault<'static>, &str, u8); 13] = [
+static FAULTS: [(Fault<'static>, &str, u8); 14] = [
     (
         Fault::Line {
             refusal: Refusal::ReservedTwice,
             line: 65536,
         },
         "refused 9 ReservedTwice line 65536\n",
+        1,
+    ),
+    (
+        Fault::Line {
+            refusal: Refusal::Shown,
+            line: 2,
+        },
+        "refused 15 Shown line 2\n",
         1,
     ),
     (

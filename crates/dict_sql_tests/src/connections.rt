@@ -19,6 +19,7 @@ pub(crate) enum Part {
     WithoutKeys,
     OtherIndexes,
     Dropped,
+    Old,
 }
 
 /// Runs a text of a test's own.
@@ -77,6 +78,7 @@ fn run<S: Alter>(
         (Part::WithoutKeys, false) => keyed::inside::run(rt, alloc, conn),
         (Part::OtherIndexes, false) => keyed::indexes::others(rt, conn),
         (Part::Dropped, false) => keyed::drops::run(rt, conn),
+        (Part::Old, false) => keyed::old::run(rt, alloc, conn),
         (_, true) => Ok(()),
     }
 }
@@ -91,8 +93,8 @@ fn fill_and_look<S: Alter>(
     run(rt, alloc, conn, part, true)
 }
 
-/// Runs the part over memory.
-pub(crate) fn over_memory(rt: &impl Abort, alloc: Global, part: Part) -> Result<(), Fail> {
+// Runs the part over memory.
+fn over_memory(rt: &impl Abort, alloc: Global, part: Part) -> Result<(), Fail> {
     let mut conn = Connection::open_in_memory(alloc)?;
     fill_and_look(rt, alloc, &mut conn, part)
 }
@@ -140,6 +142,28 @@ fn over_files<D: Disk + Drop>(
     let db = in_files(rt, alloc, files, part, false)?;
     in_files(rt, alloc, Files { log, db }, part, true)?;
     Ok(())
+}
+
+static PARTS: [Part; 6] = [
+    Part::Plain,
+    Part::Keyed,
+    Part::WithoutKeys,
+    Part::OtherIndexes,
+    Part::Dropped,
+    Part::Old,
+];
+
+#[test]
+fn in_memory(rt: HostRuntime) -> Result<(), Fail> {
+    for part in &PARTS {
+        over_memory(&rt, rt.alloc(), *part)?;
+    }
+    Ok(())
+}
+
+#[test]
+fn selections_find_what_the_list_has(rt: HostRuntime) -> Result<(), Fail> {
+    over_memory(&rt, rt.alloc(), Part::Selections)
 }
 
 #[test]

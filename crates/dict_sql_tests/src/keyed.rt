@@ -1,6 +1,6 @@
 //! The statements of the keyed tables on their happy path, with other tables before and after them.
 
-use crate::connections::{Part, compare_numbers, over_memory, raw};
+use crate::connections::{compare_numbers, raw};
 use rows::{empty_all, put_all};
 use sqlite::{Alter, Connection};
 use std::alloc::Global;
@@ -11,6 +11,7 @@ pub(crate) mod drops;
 pub(crate) mod indexes;
 pub(crate) mod inside;
 mod made;
+pub(crate) mod old;
 mod reads;
 mod rows;
 pub(crate) mod search;
@@ -49,29 +50,4 @@ pub(crate) fn look<S: Alter>(
 ) -> Result<(), Fail> {
     reads::look(rt, alloc, conn)?;
     compare_numbers(rt, conn, &COUNTS)
-}
-
-#[test]
-fn in_memory(rt: HostRuntime) -> Result<(), Fail> {
-    over_memory(&rt, rt.alloc(), Part::Keyed)
-}
-
-#[test]
-fn selections_find_what_the_list_has(rt: HostRuntime) -> Result<(), Fail> {
-    over_memory(&rt, rt.alloc(), Part::Selections)
-}
-
-#[test]
-fn without_keys(rt: HostRuntime) -> Result<(), Fail> {
-    over_memory(&rt, rt.alloc(), Part::WithoutKeys)
-}
-
-#[test]
-fn other_indexes(rt: HostRuntime) -> Result<(), Fail> {
-    over_memory(&rt, rt.alloc(), Part::OtherIndexes)
-}
-
-#[test]
-fn dropped(rt: HostRuntime) -> Result<(), Fail> {
-    over_memory(&rt, rt.alloc(), Part::Dropped)
 }

@@ -1,7 +1,7 @@
 //! The statements of each table on their happy path, with other tables before and after them. The tables are made by one transaction.
 
 use crate::checks::holds;
-use crate::connections::{Part, compare_numbers, over_memory, raw};
+use crate::connections::{compare_numbers, raw};
 use dict_tables::{StoreTable, has_table, is_name_used};
 use rows::{drop_kept, make_all, put_all};
 use sqlite::{Alter, Connection};
@@ -60,9 +60,4 @@ pub(crate) fn drop_and_look<S: Alter>(
     )?;
     holds(rt, !has_table(conn.schema(), StoreTable::Kept), "kept");
     Ok(())
-}
-
-#[test]
-fn in_memory(rt: HostRuntime) -> Result<(), Fail> {
-    over_memory(&rt, rt.alloc(), Part::Plain)
 }

@@ -2,62 +2,95 @@
 
 use dict_catalogue::{Command, Kept, Refusal};
 use dict_desk::Fault;
-use dict_index::{Edition, IndexFault, read_edition};
+use dict_index::{Edition, read_edition};
 use std::alloc::{AllocError, Global};
+use std::test::Fail;
 
-/// An edition of three entries, the first two with one body, and two of a single entry, of which one's headword is `ÉTÉ`.
-#[derive(Drop)]
-pub(crate) struct Editions {
-    gems: Edition<'static>,
-    ores: Edition<'static>,
-    words: Edition<'static>,
+/// An edition.
+#[derive(Clone, Copy)]
+pub(crate) enum Source {
+    /// Three entries, the first two with one body.
+    Gems,
+    /// One entry.
+    Ores,
+    /// One entry, whose headword is `ÉTÉ`.
+    Words,
+    /// Twelve entries, of which one shows another text than its headword, two have one headword, and some have letters of several octets.
+    More,
+    /// Two entries that show one text, and one that shows its headword.
+    Alike,
 }
 
-pub(crate) fn read_editions(alloc: Global) -> Result<Editions, IndexFault> {
-    let gems = read_edition(
-        alloc,
+/// The text of the first and of the last.
+pub(crate) const GEMS: &[u8] = b"00-database-short\n  Gems\nopal\n  a stone\n.dot\n";
+
+// The index and the text of each.
+static SOURCES: [(&[u8], &[u8]); 5] = [
+    (
         b"00-database-short\tA\tZ\nopal\tZ\tP\nFire Opal\tZ\tP\ndot\to\tF\n",
-        b"00-database-short\n  Gems\nopal\n  a stone\n.dot\n",
-    )?;
-    let ores = read_edition(
-        alloc,
+        GEMS,
+    ),
+    (
         b"00-database-short\tA\tX\niron\tX\tL\n",
         b"00-database-short\nOres\niron\n  ore\n",
-    )?;
-    let words = read_edition(
-        alloc,
+    ),
+    (
         b"00-database-short\tA\tZ\n\xc3\x89T\xc3\x89\tZ\tH\n",
         b"00-database-short\n  Mots\nsaison\n",
-    )?;
-    Ok(Editions { gems, ores, words })
+    ),
+    (
+        b"00-database-short\tA\tZ\n00-database-info\tx\tK\nopal\tZ\tC\nFire Opal\tb\tC\tOpal, fire\nopal fire\td\tC\n\xc3\x89t\xc3\xa9\tf\tC\nabcd\th\tC\nbcd abc\tj\tC\nopal\tl\tC\nStra\xc3\x9fe\tn\tC\na\xf0\xb1\x8d\x8a\tp\tC\nc++\tr\tC\n+ +\tt\tC\na\tv\tC\n",
+        b"00-database-short\n  Gems\n0!1!2!3!4!5!6!7!8!9!a!b!About gems",
+    ),
+    (
+        b"00-database-short\tA\tZ\nopal\tZ\tP\tOpal\nfire opal\tZ\tP\tOpal\ndot\to\tF\n",
+        GEMS,
+    ),
+];
+
+/// All editions, in that order.
+#[derive(Drop)]
+pub(crate) struct Editions {
+    all: Vec<Edition<'static>>,
 }
 
-/// A command. `Gems`, `Ores` and `Words` install one of the editions under a name.
+pub(crate) fn read_editions(alloc: Global) -> Result<Editions, Fail> {
+    let mut all = Vec::new(alloc);
+    for (index, text) in &SOURCES {
+        all.push(read_edition(alloc, *index, *text)?)?;
+    }
+    Ok(Editions { all })
+}
+
+/// A command.
 #[derive(Clone, Copy)]
 pub(crate) enum Asked {
-    Gems(&'static str),
-    Ores(&'static str),
-    Words(&'static str),
+    Install(&'static str, Source),
     Rollback(&'static str),
     Retire(&'static str),
     Put(&'static str, &'static str, &'static [&'static str]),
     Place(&'static str, u64),
 }
 
+impl Source {
+    fn place(self) -> usize {
+        match self {
+            Source::Gems => 0,
+            Source::Ores => 1,
+            Source::Words => 2,
+            Source::More => 3,
+            Source::Alike => 4,
+        }
+    }
+}
+
 impl Asked {
+    /// The command. One that isn't lawful stands for an edition that isn't there.
     pub(crate) fn command<'a>(self, editions: &'a Editions) -> Command<'a> {
         match self {
-            Asked::Gems(name) => Command::Install {
-                name,
-                edition: &editions.gems,
-            },
-            Asked::Ores(name) => Command::Install {
-                name,
-                edition: &editions.ores,
-            },
-            Asked::Words(name) => Command::Install {
-                name,
-                edition: &editions.words,
+            Asked::Install(name, source) => match editions.all.get(source.place()) {
+                Some(edition) => Command::Install { name, edition },
+                None => Command::Retire { name: "" },
             },
             Asked::Rollback(name) => Command::Rollback { name },
             Asked::Retire(name) => Command::Retire { name },

@@ -1,93 +1,20 @@
-//! The same commands over a catalogue in memory and over one file.
+//! The same commands over lists and over a database.
 
-use crate::asked::{Asked, Editions, read_editions, told};
-use crate::checks::{holds, same_text};
-use crate::desks::{applied, dumped, made_in};
-use crate::refused::has_numbers;
-use crate::shown::{listed, shown};
-use dict_catalogue::Command;
-use dict_desk::{Keeper, Lookup, PlainDesk};
-use dict_store::Desk;
-use sqlite::{Alter, Connection};
-use std::alloc::{AllocError, Global};
-use std::process::Abort;
+use crate::asked::{Asked, Source};
+use crate::steps::{Row, Step, over_memory};
 use std::test::Fail;
 
-/// An id, a command, its answer, and the items after it.
-#[derive(Clone, Copy)]
-struct Row(&'static str, Asked, &'static str, &'static str);
-
-// What the desk answers to a command under this id.
-fn answer<K: Keeper>(
-    alloc: Global,
-    desk: &mut K,
-    editions: &Editions,
-    id: &str,
-    asked: Asked,
-) -> Result<String, AllocError> {
-    let answer = desk.apply(id, &asked.command(editions));
-    told(alloc, &answer)
-}
-
-fn play<K: Keeper>(
-    rt: &impl Abort,
-    alloc: Global,
-    desk: &mut K,
-    editions: &Editions,
-    rows: &[Row],
-) -> Result<(), Fail> {
-    for Row(id, asked, wanted, after) in rows {
-        let told = answer(alloc, desk, editions, id, *asked)?;
-        same_text(rt, told.as_str(), *wanted, id);
-        let items = listed(alloc, desk.summary()?)?;
-        same_text(rt, items.as_str(), *after, id);
-    }
-    Ok(())
-}
-
-// Plays the rows over a desk that shows the same then, and is sound.
-fn play_as_wanted<S: Alter + Drop>(
-    rt: &impl Abort,
-    alloc: Global,
-    desk: &mut Desk<S>,
-    editions: &Editions,
-    rows: &[Row],
-    wanted: &str,
-) -> Result<(), Fail> {
-    play(rt, alloc, desk, editions, rows)?;
-    same_text(rt, shown(alloc, desk)?.as_str(), wanted, "both desks");
-    holds(rt, desk.audit().is_ok(), "a sound desk");
-    Ok(())
-}
-
-// Plays the rows over lists and over a new database, which show the same then, the database opened anew too.
-fn play_on_both<S: Alter + Drop>(
-    rt: &impl Abort,
-    alloc: Global,
-    editions: &Editions,
-    conn: Connection<S>,
-    rows: &[Row],
-) -> Result<(), Fail> {
-    let mut plain = PlainDesk::new(alloc);
-    play(rt, alloc, &mut plain, editions, rows)?;
-    let wanted = shown(alloc, &mut plain)?;
-    let mut desk = applied(alloc, editions, conn, true, &[])?;
-    play_as_wanted(rt, alloc, &mut desk, editions, rows, wanted.as_str())?;
-    let mut again = applied(alloc, editions, desk.into_connection(), false, &[])?;
-    play_as_wanted(rt, alloc, &mut again, editions, &[], wanted.as_str())
-}
-
-static SWAPPED: [Row; 7] = [
+const SWAPPED: &[Row] = &[
     Row(
         "a",
-        Asked::Gems("gem"),
+        Asked::Install("gem", Source::Gems),
         "1 Install gem Some(1)",
         "gem Gems 1; ",
     ),
     Row("x", Asked::Rollback("gem"), "23", "gem Gems 1; "),
     Row(
         "b",
-        Asked::Gems("gem"),
+        Asked::Install("gem", Source::More),
         "2 Install gem Some(2)",
         "gem Gems 2/1; ",
     ),
@@ -105,7 +32,7 @@ static SWAPPED: [Row; 7] = [
     ),
     Row(
         "e",
-        Asked::Ores("gem"),
+        Asked::Install("gem", Source::Ores),
         "5 Install gem Some(3)",
         "gem Ores 3/2; ",
     ),
@@ -115,18 +42,30 @@ static SWAPPED: [Row; 7] = [
         "1 Install gem Some(1)",
         "gem Ores 3/2; ",
     ),
+    Row(
+        "f",
+        Asked::Rollback("gem"),
+        "6 Rollback gem Some(2)",
+        "gem Gems 2/3; ",
+    ),
+    Row(
+        "g",
+        Asked::Install("gem", Source::Alike),
+        "7 Install gem Some(4)",
+        "gem Gems 4/2; ",
+    ),
 ];
 
-static ONCE: [Row; 5] = [
+const ONCE: &[Row] = &[
     Row(
         "a",
-        Asked::Gems("gem"),
+        Asked::Install("gem", Source::Gems),
         "1 Install gem Some(1)",
         "gem Gems 1; ",
     ),
     Row(
         "a",
-        Asked::Ores("ore"),
+        Asked::Install("ore", Source::Ores),
         "1 Install gem Some(1)",
         "gem Gems 1; ",
     ),
@@ -135,16 +74,16 @@ static ONCE: [Row; 5] = [
     Row("e", Asked::Rollback("gem"), "2 Retire gem None", ""),
 ];
 
-static ORDERED: [Row; 9] = [
+const ORDERED: &[Row] = &[
     Row(
         "a",
-        Asked::Ores("ore"),
+        Asked::Install("ore", Source::Ores),
         "1 Install ore Some(1)",
         "ore Ores 1; ",
     ),
     Row(
         "b",
-        Asked::Gems("gem"),
+        Asked::Install("gem", Source::Gems),
         "2 Install gem Some(2)",
         "ore Ores 1; gem Gems 2; ",
     ),
@@ -187,16 +126,16 @@ static ORDERED: [Row; 9] = [
     Row("h", Asked::Retire("ore"), "8 Retire ore None", ""),
 ];
 
-static KEPT: [Row; 6] = [
+const KEPT: &[Row] = &[
     Row(
         "a",
-        Asked::Gems("gem"),
+        Asked::Install("gem", Source::Gems),
         "1 Install gem Some(1)",
         "gem Gems 1; ",
     ),
     Row(
         "b",
-        Asked::Ores("gem"),
+        Asked::Install("gem", Source::Ores),
         "2 Install gem Some(2)",
         "gem Ores 2/1; ",
     ),
@@ -226,34 +165,50 @@ static KEPT: [Row; 6] = [
     ),
 ];
 
+// A database is made, and opened again after its commands.
+static PLAYED: [[Step; 3]; 4] = [
+    [Step::Make(SWAPPED), Step::Open(&[]), Step::Keep(&[])],
+    [Step::Make(ONCE), Step::Open(&[]), Step::Keep(&[])],
+    [Step::Make(ORDERED), Step::Open(&[]), Step::Keep(&[])],
+    [Step::Make(KEPT), Step::Open(&[]), Step::Keep(&[])],
+];
+
 #[test]
 fn commands_on_both_desks(rt: HostRuntime) -> Result<(), Fail> {
-    let alloc = rt.alloc();
-    let editions = read_editions(alloc)?;
-    for rows in [
-        SWAPPED.as_slice(),
-        ONCE.as_slice(),
-        ORDERED.as_slice(),
-        KEPT.as_slice(),
-    ] {
-        let conn = Connection::open_in_memory(alloc)?;
-        play_on_both(&rt, alloc, &editions, conn, rows)?;
+    for steps in &PLAYED {
+        over_memory(&rt, rt.alloc(), steps.as_slice())?;
     }
     Ok(())
 }
 
-static CATALOGUE: [(&str, Asked); 3] = [
-    ("a", Asked::Ores("ore")),
-    ("b", Asked::Gems("gem")),
-    ("c", Asked::Put("all", "All", &["ore", "gem"])),
+/// Two databases, and a list of both.
+pub(crate) const CATALOGUE: &[Row] = &[
+    Row(
+        "a",
+        Asked::Install("ore", Source::Ores),
+        "1 Install ore Some(1)",
+        "ore Ores 1; ",
+    ),
+    Row(
+        "b",
+        Asked::Install("gem", Source::Gems),
+        "2 Install gem Some(2)",
+        "ore Ores 1; gem Gems 2; ",
+    ),
+    Row(
+        "c",
+        Asked::Put("all", "All", &["ore", "gem"]),
+        "3 Virtual all None",
+        UNCHANGED,
+    ),
 ];
 
 const UNCHANGED: &str = "ore Ores 1; gem Gems 2; all All +ore +gem; ";
 
 // Commands that are refused, and ids that are kept.
-static NOTHING: [Row; 22] = [
-    Row("x", Asked::Gems("Gem"), "20", UNCHANGED),
-    Row("x", Asked::Gems("all"), "22", UNCHANGED),
+const NOTHING: &[Row] = &[
+    Row("x", Asked::Install("Gem", Source::Gems), "20", UNCHANGED),
+    Row("x", Asked::Install("all", Source::Gems), "22", UNCHANGED),
     Row("x", Asked::Rollback("Gem"), "20", UNCHANGED),
     Row("x", Asked::Rollback("tin"), "21", UNCHANGED),
     Row("x", Asked::Rollback("all"), "22", UNCHANGED),
@@ -291,111 +246,31 @@ static NOTHING: [Row; 22] = [
     Row("c", Asked::Retire("all"), "3 Virtual all None", UNCHANGED),
 ];
 
-// A desk that is opened, plays rows that act on nothing, and has kept nothing of a refused id; and its connection.
-fn play_nothing<S: Alter + Drop>(
-    rt: &impl Abort,
-    alloc: Global,
-    editions: &Editions,
-    conn: Connection<S>,
-) -> Result<Connection<S>, Fail> {
-    let mut desk = applied(alloc, editions, conn, false, &[])?;
-    let end = play(rt, alloc, &mut desk, editions, &NOTHING);
-    let is_free = matches!(desk.kept("x"), Ok(None));
-    let conn = desk.into_connection();
-    end?;
-    holds(rt, is_free, "a connection in no transaction");
-    Ok(conn)
-}
-
-// The rows of all tables, before what acts on nothing and after it.
-fn around_nothing<S: Alter + Drop>(
-    rt: &impl Abort,
-    alloc: Global,
-    conn: Connection<S>,
-) -> Result<(String, String), Fail> {
-    let editions = read_editions(alloc)?;
-    let mut conn = made_in(alloc, conn, &CATALOGUE)?;
-    let before = dumped(alloc, &mut conn)?;
-    let mut conn = play_nothing(rt, alloc, &editions, conn)?;
-    Ok((before, dumped(alloc, &mut conn)?))
-}
+static KEEPING: [Step; 2] = [Step::Make(CATALOGUE), Step::Keep(NOTHING)];
 
 #[test]
 fn what_acts_on_nothing_leaves_all_rows(rt: HostRuntime) -> Result<(), Fail> {
-    let alloc = rt.alloc();
-    let conn = Connection::open_in_memory(alloc)?;
-    let (before, after) = around_nothing(&rt, alloc, conn)?;
-    same_text(&rt, after.as_str(), before.as_str(), "all rows");
-    Ok(())
+    over_memory(&rt, rt.alloc(), &KEEPING)
 }
 
-// 63 lists of one database.
-fn fill<K: Keeper>(alloc: Global, desk: &mut K, editions: &Editions) -> Result<(), Fail> {
-    answer(alloc, desk, editions, "a", Asked::Gems("gem"))?;
-    for place in 1..64u64 {
-        let name = format!(in alloc; "all{place}")?;
-        let put = Command::PutVirtual {
-            name: name.as_str(),
-            title: "All",
-            members: &["gem"],
-        };
-        desk.apply(name.as_str(), &put)?;
-    }
-    Ok(())
-}
+const ONE: &[Row] = &[Row(
+    "a",
+    Asked::Install("gem", Source::Gems),
+    "1 Install gem Some(1)",
+    "gem Gems 1; ",
+)];
 
-/// An id, a command and its answer.
-type Answered = (&'static str, Asked, &'static str);
-
-// A new name finds no place, and one that is there does.
-static FULL: [Answered; 3] = [
-    ("x", Asked::Ores("ore"), "25"),
-    ("x", Asked::Put("more", "More", &["gem"]), "25"),
-    (
-        "x",
-        Asked::Put("all9", "Gems", &["gem"]),
-        "65 Virtual all9 None",
-    ),
-];
-
-fn answer_all<K: Keeper>(
-    rt: &impl Abort,
-    alloc: Global,
-    desk: &mut K,
-    editions: &Editions,
-    asked: &[Answered],
-) -> Result<(), Fail> {
-    for (id, one, wanted) in asked {
-        let told = answer(alloc, desk, editions, id, *one)?;
-        same_text(rt, told.as_str(), *wanted, id);
-    }
-    Ok(())
-}
-
-// A catalogue that is full.
-fn fill_up<S: Alter + Drop>(
-    rt: &impl Abort,
-    alloc: Global,
-    conn: Connection<S>,
-) -> Result<(), Fail> {
-    let editions = read_editions(alloc)?;
-    let mut desk = applied(alloc, &editions, conn, true, &[])?;
-    fill(alloc, &mut desk, &editions)?;
-    answer_all(rt, alloc, &mut desk, &editions, &FULL)?;
-    holds(rt, desk.audit().is_ok(), "a sound desk");
-    Ok(())
-}
+static FILLED: [Step; 2] = [Step::Make(ONE), Step::Fill];
 
 #[test]
 fn sixty_four_items(rt: HostRuntime) -> Result<(), Fail> {
-    let conn = Connection::open_in_memory(rt.alloc())?;
-    fill_up(&rt, rt.alloc(), conn)
+    over_memory(&rt, rt.alloc(), &FILLED)
 }
 
 // What a new catalogue has.
-static NEW: [(&str, i64); 7] = [
+const NEW: &[(&str, i64)] = &[
     (
-        "SELECT count(*) FROM mark WHERE id = 1 AND magic = 'dictcat' AND version = 1 AND installs = 0",
+        "SELECT count(*) FROM mark WHERE id = 1 AND magic = 'dictcat' AND version = 4 AND installs = 0",
         1,
     ),
     ("SELECT count(*) FROM mark", 1),
@@ -403,45 +278,163 @@ static NEW: [(&str, i64); 7] = [
     ("SELECT count(*) FROM member", 0),
     ("SELECT count(*) FROM edition", 0),
     ("SELECT count(*) FROM entry", 0),
+    ("SELECT count(*) FROM word", 0),
+    ("SELECT count(*) FROM gram", 0),
     ("SELECT count(*) FROM kept", 0),
 ];
 
 // An edition goes at the third install.
-static INSTALLED: [(&str, Asked); 4] = [
-    ("a", Asked::Gems("gem")),
-    ("b", Asked::Ores("gem")),
-    ("c", Asked::Rollback("gem")),
-    ("d", Asked::Ores("gem")),
+const INSTALLED: &[Row] = &[
+    Row(
+        "a",
+        Asked::Install("gem", Source::Gems),
+        "1 Install gem Some(1)",
+        "gem Gems 1; ",
+    ),
+    Row(
+        "b",
+        Asked::Install("gem", Source::Ores),
+        "2 Install gem Some(2)",
+        "gem Ores 2/1; ",
+    ),
+    Row(
+        "c",
+        Asked::Rollback("gem"),
+        "3 Rollback gem Some(1)",
+        "gem Gems 1/2; ",
+    ),
+    Row(
+        "d",
+        Asked::Install("gem", Source::More),
+        "4 Install gem Some(3)",
+        "gem Gems 3/1; ",
+    ),
 ];
 
-static ROWS: [(&str, i64); 8] = [
+const ROWS: &[(&str, i64)] = &[
     ("SELECT installs FROM mark", 3),
     ("SELECT current FROM item", 3),
     ("SELECT former FROM item", 1),
     ("SELECT count(*) FROM edition", 2),
     ("SELECT count(*) FROM entry WHERE edition = 1", 3),
-    ("SELECT count(*) FROM entry WHERE edition = 3", 1),
-    ("SELECT count(*) FROM entry", 4),
+    ("SELECT count(*) FROM entry WHERE edition = 3", 12),
+    ("SELECT count(*) FROM entry", 15),
+    ("SELECT count(*) FROM entry WHERE headword <> shown", 1),
+    (
+        "SELECT count(*) FROM entry WHERE edition = 3 AND ord = 1 AND headword = 'Fire Opal' AND shown = 'Opal, fire' AND start = 27 AND length = 2 AND key = x'66697265206f70616c' AND rkey = x'6c61706f2065726966'",
+        1,
+    ),
+    ("SELECT count(*) FROM word WHERE edition = 1", 4),
+    ("SELECT count(*) FROM word WHERE edition = 3", 15),
+    ("SELECT count(*) FROM word", 19),
+    (
+        "SELECT count(*) FROM word WHERE edition = 3 AND word = x'c3a974c3a9' AND ord = 3",
+        1,
+    ),
+    ("SELECT count(*) FROM gram WHERE edition = 1", 10),
+    ("SELECT count(*) FROM gram WHERE edition = 3", 37),
+    ("SELECT count(*) FROM gram", 47),
+    (
+        "SELECT count(*) FROM gram WHERE edition = 3 AND gram = x'f0b18d' AND ord = 8",
+        1,
+    ),
     ("SELECT count(*) FROM kept", 4),
 ];
 
-// Whether each selection gives its number once a catalogue is made and these commands are done.
-fn made_has<S: Alter + Drop>(
-    alloc: Global,
-    conn: Connection<S>,
-    asked: &[(&'static str, Asked)],
-    wanted: &[(&str, i64)],
-) -> Result<bool, Fail> {
-    let mut conn = made_in(alloc, conn, asked)?;
-    Ok(has_numbers(&mut conn, wanted)?)
-}
+static COUNTED: [Step; 4] = [
+    Step::Make(&[]),
+    Step::Numbers(NEW),
+    Step::Open(INSTALLED),
+    Step::Numbers(ROWS),
+];
 
 #[test]
 fn rows_of_editions(rt: HostRuntime) -> Result<(), Fail> {
-    let alloc = rt.alloc();
-    let empty = Connection::open_in_memory(alloc)?;
-    holds(&rt, made_has(alloc, empty, &[], &NEW)?, "new");
-    let conn = Connection::open_in_memory(alloc)?;
-    holds(&rt, made_has(alloc, conn, &INSTALLED, &ROWS)?, "installed");
+    over_memory(&rt, rt.alloc(), &COUNTED)
+}
+
+const FOUR: &[Row] = &[
+    Row(
+        "a",
+        Asked::Install("ore", Source::Ores),
+        "1 Install ore Some(1)",
+        "ore Ores 1; ",
+    ),
+    Row(
+        "b",
+        Asked::Install("gem", Source::Gems),
+        "2 Install gem Some(2)",
+        "ore Ores 1; gem Gems 2; ",
+    ),
+    Row(
+        "c",
+        Asked::Install("more", Source::More),
+        "3 Install more Some(3)",
+        "ore Ores 1; gem Gems 2; more Gems 3; ",
+    ),
+    Row(
+        "d",
+        Asked::Install("alike", Source::Alike),
+        "4 Install alike Some(4)",
+        "ore Ores 1; gem Gems 2; more Gems 3; alike Gems 4; ",
+    ),
+];
+
+static LOOKED: [Step; 3] = [Step::Make(FOUR), Step::Look, Step::Look];
+
+#[test]
+fn lookups_on_both_desks(rt: HostRuntime) -> Result<(), Fail> {
+    over_memory(&rt, rt.alloc(), &LOOKED)
+}
+
+static MANY: [Step; 2] = [Step::Make(&[]), Step::Many];
+
+#[test]
+fn lookups_in_many_entries(rt: HostRuntime) -> Result<(), Fail> {
+    over_memory(&rt, rt.alloc(), &MANY)
+}
+
+const WORDS: &[Row] = &[Row(
+    "a",
+    Asked::Install("ete", Source::Words),
+    "1 Install ete Some(1)",
+    "ete Mots 1; ",
+)];
+
+static SPOKEN: [[Step; 4]; 3] = [
+    [
+        Step::Make(ONE),
+        Step::Speak(
+            "DEFINE gem OPAL\r\nQUIT\r\n",
+            "150 1 definitions retrieved\r\n151 \"opal\" gem \"Gems\"\r\nopal\r\n  a stone\r\n.\r\n250 ok\r\n221 closing connection\r\nquit",
+        ),
+        Step::Speak(
+            "SHOW DB\r\n",
+            "110 1 databases present\r\ngem \"Gems\"\r\n.\r\n250 ok\r\ninput end",
+        ),
+        Step::Cut,
+    ],
+    [
+        Step::Make(WORDS),
+        Step::Speak(
+            "DEFINE ete été\r\nMATCH ete suffix é\r\n",
+            "150 1 definitions retrieved\r\n151 \"ÉTÉ\" ete \"Mots\"\r\nsaison\r\n.\r\n250 ok\r\n152 1 matches found\r\nete \"ÉTÉ\"\r\n.\r\n250 ok\r\ninput end",
+        ),
+        Step::Open(&[]),
+        Step::Open(&[]),
+    ],
+    [
+        Step::Speak("SHOW DB\r\n", "no catalogue"),
+        Step::Make(ONE),
+        Step::Open(&[]),
+        Step::Open(&[]),
+    ],
+];
+
+#[test]
+fn sessions(rt: HostRuntime) -> Result<(), Fail> {
+    for steps in &SPOKEN {
+        over_memory(&rt, rt.alloc(), steps.as_slice())?;
+    }
     Ok(())
 }

@@ -1,11 +1,10 @@
 //! Desks over databases that are made or found, and the rows of their tables.
 
-use crate::asked::{Asked, Editions, read_editions};
+use crate::asked::{Asked, Editions};
 use dict_desk::{Fault, Keeper};
 use dict_store::Desk;
-use sqlite::{Alter, Connection};
+use sqlite::{Alter, Connection, Error};
 use std::alloc::{AllocError, Global};
-use std::test::Fail;
 
 /// A desk over a database that is made, or over one that is found.
 pub(crate) fn desk_over<S: Alter + Drop>(
@@ -35,40 +34,39 @@ pub(crate) fn accept_all<K: Keeper>(
     Ok(())
 }
 
-/// A desk over a database that is made, or over one that is found, after these commands.
-pub(crate) fn applied<S: Alter + Drop>(
-    alloc: Global,
-    editions: &Editions,
-    conn: Connection<S>,
-    is_new: bool,
-    asked: &[(&'static str, Asked)],
-) -> Result<Desk<S>, Fail> {
-    let Ok(mut desk) = desk_over(alloc, conn, is_new) else {
-        return Err("no desk")?;
-    };
-    accept_all(&mut desk, editions, asked)?;
-    Ok(desk)
+/// Runs statements, one text after the other.
+pub(crate) fn batched<S: Alter>(conn: &mut Connection<S>, texts: &[&str]) -> Result<(), Error> {
+    for text in texts {
+        conn.execute_batch(*text)?;
+    }
+    Ok(())
 }
 
-/// The database in which these commands made a catalogue.
-pub(crate) fn made_in<S: Alter + Drop>(
-    alloc: Global,
-    conn: Connection<S>,
-    asked: &[(&'static str, Asked)],
-) -> Result<Connection<S>, Fail> {
-    let editions = read_editions(alloc)?;
-    let desk = applied(alloc, &editions, conn, true, asked)?;
-    Ok(desk.into_connection())
+/// Whether each selection gives its number.
+pub(crate) fn has_numbers<S: Alter>(
+    conn: &mut Connection<S>,
+    wanted: &[(&str, i64)],
+) -> Result<bool, Error> {
+    for (text, count) in wanted {
+        let found: i64 = conn.query_row(*text, &[])?.get(0)?;
+        if found != *count {
+            return Ok(false);
+        }
+    }
+    Ok(true)
 }
 
 // All rows of the tables.
-static TABLES: [&str; 6] = [
+static TABLES: [&str; 9] = [
     "SELECT rowid, * FROM mark ORDER BY 1",
     "SELECT rowid, * FROM item ORDER BY 1",
     "SELECT rowid, * FROM member ORDER BY 1",
     "SELECT rowid, * FROM edition ORDER BY 1",
     "SELECT rowid, * FROM entry ORDER BY 1",
+    "SELECT rowid, * FROM word ORDER BY 1",
+    "SELECT rowid, * FROM gram ORDER BY 1",
     "SELECT rowid, * FROM kept ORDER BY 1",
+    "SELECT rowid, * FROM extra ORDER BY 1",
 ];
 
 /// The rows of all tables that are there, as text.

@@ -14,7 +14,13 @@ mod fails_once;
 #[cfg(test)]
 mod files;
 #[cfg(test)]
+mod full;
+#[cfg(test)]
 mod looking;
+#[cfg(test)]
+mod many;
+#[cfg(test)]
+mod migrations;
 #[cfg(test)]
 mod refused;
 #[cfg(test)]
@@ -24,4 +30,8 @@ mod shown;
 #[cfg(test)]
 mod spoken;
 #[cfg(test)]
+mod steps;
+#[cfg(test)]
 mod stops;
+#[cfg(test)]
+mod stored;

@@ -1,142 +1,514 @@
-//! What readers ask of a desk over a file, and of one in memory.
-use crate::asked::{Asked, read_editions};
-use crate::checks::same_text;
-use crate::desks::{accept_all, applied};
-use crate::shown::Rows;
-use dict_desk::{End, Fault, Lookup, PlainDesk, What};
-use dict_match::{Strategy, key_of};
-use sqlite::{Alter, Connection};
+//! What readers ask of a desk.
+use crate::checks::{holds, same_text};
+use crate::shown::{Counted, Rows, taken_between};
+use dict_desk::{Fault, Lookup, What};
+use dict_match::{Key, Strategy, key_of};
 use std::alloc::Global;
 use std::process::Abort;
 use std::test::Fail;
 
-/// What is asked of an edition.
+/// What is asked of an edition: the entries that are found, what is shown of them, and how many they are; or one of these, with a sink that takes so many rows.
 #[derive(Clone, Copy)]
 enum Question {
-    Info,
-    Found(Strategy, &'static str),
-    Heads(Strategy, &'static str),
-    Entries(Strategy, &'static str),
-    Headwords(Strategy, &'static str),
+    All,
+    Found(usize),
+    Heads(usize),
+    Info(usize),
 }
 
-/// The edition's number, the question, how many rows are taken at most, and what is told: the rows, and `.` behind all of
-/// them or `!` where the sink stopped; or the count.
+/// The edition's number, the question, a strategy and a text, what is told, and how many rows the statements hand over for it.
 #[derive(Clone, Copy)]
-struct Row(u64, Question, usize, &'static str);
+struct Case(u64, Question, Strategy, &'static str, &'static str, u64);
 
-static ASKED: [Row; 14] = [
-    Row(1, Question::Info, 9, "=;."),
-    Row(
-        2,
-        Question::Found(Strategy::Suffix, "opal"),
+// The keys of the third edition are, by place: opal, fire opal, opal fire, été, abcd, bcd abc, opal, strasse, a and a letter of four octets, c, + +, a.
+static CASES: [Case; 66] = [
+    Case(
+        3,
+        Question::All,
+        Strategy::Exact,
+        "OPAL",
+        "opal=0!/opal=6!/;opal=/;2 1",
         9,
-        "opal=opal\n  a stone\n;Fire Opal=opal\n  a stone\n;.",
     ),
-    Row(
+    Case(
+        3,
+        Question::All,
+        Strategy::Exact,
+        "Opal, fire",
+        "opal fire=2!/;opal fire=/;1 1",
+        5,
+    ),
+    Case(3, Question::All, Strategy::Exact, "", ";;0 0", 1),
+    Case(
+        3,
+        Question::All,
+        Strategy::Exact,
+        "ÉTÉ",
+        "Été=3!/;Été=/;1 1",
+        5,
+    ),
+    Case(
+        3,
+        Question::All,
+        Strategy::Exact,
+        "strasse",
+        "Straße=7!/;Straße=/;1 1",
+        5,
+    ),
+    Case(
+        3,
+        Question::All,
+        Strategy::Exact,
+        "+ +",
+        "+ +=a!/;+ +=/;1 1",
+        5,
+    ),
+    Case(3, Question::All, Strategy::Exact, "-+", ";;0 0", 1),
+    Case(
+        3,
+        Question::All,
+        Strategy::Prefix,
+        "o",
+        "opal=0!/opal fire=2!/opal=6!/;opal=/opal fire=/;3 2",
+        13,
+    ),
+    Case(
+        3,
+        Question::All,
+        Strategy::Prefix,
+        "a",
+        "abcd=4!/a\u{3134a}=8!/a=b!/;abcd=/a\u{3134a}=/a=/;3 3",
+        13,
+    ),
+    Case(3, Question::All, Strategy::Prefix, "\u{3134a}", ";;0 0", 1),
+    Case(
+        3,
+        Question::All,
+        Strategy::Prefix,
+        "STRASS",
+        "Straße=7!/;Straße=/;1 1",
+        5,
+    ),
+    Case(3, Question::All, Strategy::Prefix, "", ";;0 0", 1),
+    Case(
+        3,
+        Question::All,
+        Strategy::Suffix,
+        "opal",
+        "opal=0!/Opal, fire=1!/opal=6!/;opal=/Opal, fire=/;3 2",
+        13,
+    ),
+    Case(
+        3,
+        Question::All,
+        Strategy::Suffix,
+        "é",
+        "Été=3!/;Été=/;1 1",
+        5,
+    ),
+    Case(
+        3,
+        Question::All,
+        Strategy::Suffix,
+        "\u{3134a}",
+        "a\u{3134a}=8!/;a\u{3134a}=/;1 1",
+        5,
+    ),
+    Case(
+        3,
+        Question::All,
+        Strategy::Suffix,
+        "e",
+        "opal fire=2!/Straße=7!/;opal fire=/Straße=/;2 2",
+        9,
+    ),
+    Case(
+        3,
+        Question::All,
+        Strategy::Substring,
+        "abcd",
+        "abcd=4!/;abcd=/;1 1",
+        9,
+    ),
+    Case(
+        3,
+        Question::All,
+        Strategy::Substring,
+        "al",
+        "opal=0!/Opal, fire=1!/opal fire=2!/opal=6!/;opal=/Opal, fire=/opal fire=/;4 3",
+        49,
+    ),
+    Case(
+        3,
+        Question::All,
+        Strategy::Substring,
+        "pal",
+        "opal=0!/Opal, fire=1!/opal fire=2!/opal=6!/;opal=/Opal, fire=/opal fire=/;4 3",
+        17,
+    ),
+    Case(
+        3,
+        Question::All,
+        Strategy::Substring,
+        "ét",
+        "Été=3!/;Été=/;1 1",
+        5,
+    ),
+    Case(3, Question::All, Strategy::Substring, " ", ";;0 0", 1),
+    Case(
+        3,
+        Question::All,
+        Strategy::Substring,
+        "c",
+        "abcd=4!/bcd abc=5!/c++=9!/;abcd=/bcd abc=/c++=/;3 3",
+        49,
+    ),
+    Case(
+        3,
+        Question::All,
+        Strategy::Word,
+        "opal fire",
+        "opal fire=2!/;opal fire=/;1 1",
+        17,
+    ),
+    Case(
+        3,
+        Question::All,
+        Strategy::Word,
+        "fire opal",
+        "Opal, fire=1!/;Opal, fire=/;1 1",
+        9,
+    ),
+    Case(
+        3,
+        Question::All,
+        Strategy::Word,
+        "fire",
+        "Opal, fire=1!/opal fire=2!/;Opal, fire=/opal fire=/;2 2",
+        9,
+    ),
+    Case(3, Question::All, Strategy::Word, "op", ";;0 0", 1),
+    Case(
+        3,
+        Question::All,
+        Strategy::First,
+        "opal",
+        "opal=0!/opal fire=2!/opal=6!/;opal=/opal fire=/;3 2",
+        17,
+    ),
+    Case(
+        3,
+        Question::All,
+        Strategy::Last,
+        "opal",
+        "opal=0!/Opal, fire=1!/opal=6!/;opal=/Opal, fire=/;3 2",
+        17,
+    ),
+    Case(
+        3,
+        Question::All,
+        Strategy::Last,
+        "fire",
+        "opal fire=2!/;opal fire=/;1 1",
+        9,
+    ),
+    Case(
+        3,
+        Question::All,
+        Strategy::First,
+        "+",
+        "+ +=a!/;+ +=/;1 1",
+        5,
+    ),
+    Case(
+        3,
+        Question::All,
+        Strategy::Substring,
+        "e opa",
+        "Opal, fire=1!/;Opal, fire=/;1 1",
+        5,
+    ),
+    Case(3, Question::All, Strategy::Substring, "opa e o", ";;0 0", 5),
+    Case(3, Question::All, Strategy::Word, "opal opal", ";;0 0", 17),
+    Case(
+        3,
+        Question::All,
+        Strategy::Last,
+        "fire opal",
+        "Opal, fire=1!/;Opal, fire=/;1 1",
+        9,
+    ),
+    Case(3, Question::All, Strategy::First, "abc", ";;0 0", 5),
+    // A sink that takes so many rows.
+    Case(
+        3,
+        Question::Found(1),
+        Strategy::Prefix,
+        "o",
+        "opal=0!/ Stopped",
         2,
-        Question::Found(Strategy::Suffix, "opal"),
+    ),
+    Case(
+        3,
+        Question::Found(2),
+        Strategy::Prefix,
+        "o",
+        "opal=0!/opal fire=2!/ Stopped",
+        3,
+    ),
+    Case(
+        3,
+        Question::Found(3),
+        Strategy::Prefix,
+        "o",
+        "opal=0!/opal fire=2!/opal=6!/ Stopped",
+        4,
+    ),
+    Case(
+        3,
+        Question::Found(4),
+        Strategy::Prefix,
+        "o",
+        "opal=0!/opal fire=2!/opal=6!/ All",
+        4,
+    ),
+    Case(
+        3,
+        Question::Heads(1),
+        Strategy::Suffix,
+        "opal",
+        "opal=/ Stopped",
         1,
-        "opal=opal\n  a stone\n;!",
     ),
-    Row(
+    Case(
+        3,
+        Question::Heads(2),
+        Strategy::Suffix,
+        "opal",
+        "opal=/Opal, fire=/ Stopped",
         2,
-        Question::Found(Strategy::Exact, "DOT"),
-        9,
-        "dot=.dot\n;.",
     ),
-    Row(
+    Case(
+        3,
+        Question::Heads(3),
+        Strategy::Suffix,
+        "opal",
+        "opal=/Opal, fire=/ All",
+        3,
+    ),
+    Case(
+        3,
+        Question::Info(1),
+        Strategy::Exact,
+        "",
+        "=About gems/ Stopped",
         1,
-        Question::Found(Strategy::Substring, "o"),
+    ),
+    Case(
+        3,
+        Question::Info(2),
+        Strategy::Exact,
+        "",
+        "=About gems/ All",
+        1,
+    ),
+    Case(1, Question::Info(2), Strategy::Exact, "", "=/ All", 1),
+    Case(5, Question::Info(2), Strategy::Exact, "", " All", 0),
+    Case(0, Question::Found(2), Strategy::Substring, "o", " All", 0),
+    Case(
+        18_446_744_073_709_551_615,
+        Question::Heads(2),
+        Strategy::Exact,
+        "opal",
+        " All",
+        0,
+    ),
+    // The first two editions.
+    Case(
+        2,
+        Question::Found(9),
+        Strategy::Suffix,
+        "opal",
+        "opal=opal\n  a stone\n/Fire Opal=opal\n  a stone\n/ All",
+        3,
+    ),
+    Case(
+        2,
+        Question::Found(1),
+        Strategy::Suffix,
+        "opal",
+        "opal=opal\n  a stone\n/ Stopped",
+        2,
+    ),
+    Case(
+        2,
+        Question::Found(9),
+        Strategy::Exact,
+        "DOT",
+        "dot=.dot\n/ All",
+        2,
+    ),
+    Case(
+        1,
+        Question::Found(9),
+        Strategy::Substring,
+        "o",
+        "iron=iron\n  ore\n/ All",
+        2,
+    ),
+    Case(2, Question::Found(9), Strategy::Prefix, "00", " All", 1),
+    Case(
+        2,
+        Question::Heads(9),
+        Strategy::Substring,
+        "o",
+        "opal=/Fire Opal=/dot=/ All",
+        3,
+    ),
+    Case(
+        2,
+        Question::Heads(2),
+        Strategy::Substring,
+        "o",
+        "opal=/Fire Opal=/ Stopped",
+        2,
+    ),
+    Case(1, Question::Heads(9), Strategy::First, "opal", " All", 0),
+    Case(2, Question::All, Strategy::Word, "opal fire", ";;0 0", 9),
+    Case(
+        2,
+        Question::All,
+        Strategy::Word,
+        "fire opal",
+        "Fire Opal=opal\n  a stone\n/;Fire Opal=/;1 1",
+        5,
+    ),
+    // One text is shown of two headwords, by which they are found.
+    Case(
+        4,
+        Question::All,
+        Strategy::Exact,
+        "OPAL",
+        "Opal=opal\n  a stone\n/;Opal=/;1 1",
+        5,
+    ),
+    Case(
+        4,
+        Question::All,
+        Strategy::Exact,
+        "fire opal",
+        "Opal=opal\n  a stone\n/;Opal=/;1 1",
+        5,
+    ),
+    Case(
+        4,
+        Question::All,
+        Strategy::Prefix,
+        "fire",
+        "Opal=opal\n  a stone\n/;Opal=/;1 1",
+        5,
+    ),
+    Case(
+        4,
+        Question::All,
+        Strategy::Suffix,
+        "opal",
+        "Opal=opal\n  a stone\n/Opal=opal\n  a stone\n/;Opal=/;2 1",
         9,
-        "iron=iron\n  ore\n;.",
     ),
-    Row(3, Question::Found(Strategy::Substring, "o"), 9, "."),
-    Row(2, Question::Found(Strategy::Prefix, "00"), 9, "."),
-    Row(
-        2,
-        Question::Heads(Strategy::Substring, "o"),
+    Case(
+        4,
+        Question::All,
+        Strategy::Substring,
+        "opal",
+        "Opal=opal\n  a stone\n/Opal=opal\n  a stone\n/;Opal=/;2 1",
         9,
-        "opal=;Fire Opal=;dot=;.",
     ),
-    Row(
-        2,
-        Question::Heads(Strategy::Substring, "o"),
-        2,
-        "opal=;Fire Opal=;!",
+    Case(
+        4,
+        Question::All,
+        Strategy::Word,
+        "opal",
+        "Opal=opal\n  a stone\n/Opal=opal\n  a stone\n/;Opal=/;2 1",
+        9,
     ),
-    Row(1, Question::Heads(Strategy::First, "opal"), 9, "."),
-    Row(2, Question::Entries(Strategy::Last, "opal"), 9, "2"),
-    Row(2, Question::Entries(Strategy::Word, "fire"), 9, "1"),
-    Row(2, Question::Headwords(Strategy::Substring, "o"), 9, "3"),
-    Row(1, Question::Headwords(Strategy::Exact, "opal"), 9, "0"),
+    Case(
+        4,
+        Question::All,
+        Strategy::First,
+        "opal",
+        "Opal=opal\n  a stone\n/;Opal=/;1 1",
+        9,
+    ),
+    Case(
+        4,
+        Question::All,
+        Strategy::Last,
+        "opal",
+        "Opal=opal\n  a stone\n/Opal=opal\n  a stone\n/;Opal=/;2 1",
+        9,
+    ),
 ];
 
-// The rows that were taken, and how they end.
-fn told_rows(rows: Rows, end: End) -> Result<String, Fault> {
-    let Rows { mut text, .. } = rows;
-    text.push(if end == End::All { '.' } else { '!' })?;
-    Ok(text)
+// What is found, and shown, and how many they are.
+fn told_all<L: Lookup>(
+    alloc: Global,
+    desk: &mut L,
+    number: u64,
+    strategy: Strategy,
+    query: &Key,
+) -> Result<String, Fault> {
+    let mut rows = Rows::new(alloc, usize::MAX);
+    desk.find(number, strategy, query, &mut rows)?;
+    rows.text.push(';')?;
+    desk.heads(number, strategy, query, &mut rows)?;
+    let entries = desk.count(number, strategy, query, What::Entries)?;
+    let texts = desk.count(number, strategy, query, What::Headwords)?;
+    rows.text
+        .push_str(format!(in alloc; ";{entries} {texts}")?.as_str())?;
+    Ok(rows.text)
 }
 
-fn answer<L: Lookup>(alloc: Global, desk: &mut L, row: Row) -> Result<String, Fault> {
-    let Row(number, question, most, _) = row;
+// The rows that are handed out, and how they end.
+fn told_rows<L: Lookup>(
+    alloc: Global,
+    desk: &mut L,
+    case: &Case,
+    query: &Key,
+    most: usize,
+) -> Result<String, Fault> {
     let mut rows = Rows::new(alloc, most);
-    match question {
-        Question::Info => {
-            let end = desk.info(number, &mut rows)?;
-            told_rows(rows, end)
-        }
-        Question::Found(strategy, text) => {
-            let end = desk.find(number, strategy, &key_of(alloc, text)?, &mut rows)?;
-            told_rows(rows, end)
-        }
-        Question::Heads(strategy, text) => {
-            let end = desk.heads(number, strategy, &key_of(alloc, text)?, &mut rows)?;
-            told_rows(rows, end)
-        }
-        Question::Entries(strategy, text) => {
-            let count = desk.count(number, strategy, &key_of(alloc, text)?, What::Entries)?;
-            Ok(format!(in alloc; "{count}")?)
-        }
-        Question::Headwords(strategy, text) => {
-            let count = desk.count(number, strategy, &key_of(alloc, text)?, What::Headwords)?;
-            Ok(format!(in alloc; "{count}")?)
+    let end = match case.1 {
+        Question::Info(_) => desk.info(case.0, &mut rows)?,
+        Question::Heads(_) => desk.heads(case.0, case.2, query, &mut rows)?,
+        _ => desk.find(case.0, case.2, query, &mut rows)?,
+    };
+    rows.text.push_str(format!(in alloc; " {end:?}")?.as_str())?;
+    Ok(rows.text)
+}
+
+fn answer<L: Lookup>(alloc: Global, desk: &mut L, case: &Case) -> Result<String, Fault> {
+    let query = key_of(alloc, case.3)?;
+    match case.1 {
+        Question::All => told_all(alloc, desk, case.0, case.2, &query),
+        Question::Found(most) | Question::Heads(most) | Question::Info(most) => {
+            told_rows(alloc, desk, case, &query, most)
         }
     }
 }
 
-fn answers_all<L: Lookup>(rt: &impl Abort, alloc: Global, desk: &mut L) -> Result<(), Fail> {
-    for row in &ASKED {
-        same_text(rt, answer(alloc, desk, *row)?.as_str(), row.3, "a row");
-    }
-    Ok(())
-}
-
-// Two databases, and a list of both.
-static CATALOGUE: [(&str, Asked); 3] = [
-    ("a", Asked::Ores("ore")),
-    ("b", Asked::Gems("gem")),
-    ("c", Asked::Put("all", "All", &["ore", "gem"])),
-];
-
-// The catalogue in a database.
-fn in_tables<S: Alter + Drop>(
+/// The editions `ore`, `gem`, `more` and `alike` answer so, and no row is handed over that isn't needed.
+pub(crate) fn look<L: Lookup + Counted>(
     rt: &impl Abort,
     alloc: Global,
-    conn: Connection<S>,
+    desk: &mut L,
 ) -> Result<(), Fail> {
-    let editions = read_editions(alloc)?;
-    let mut desk = applied(alloc, &editions, conn, true, &CATALOGUE)?;
-    answers_all(rt, alloc, &mut desk)
-}
-
-#[test]
-fn lookups_on_both_desks(rt: HostRuntime) -> Result<(), Fail> {
-    let alloc = rt.alloc();
-    let mut plain = PlainDesk::new(alloc);
-    accept_all(&mut plain, &read_editions(alloc)?, &CATALOGUE)?;
-    answers_all(&rt, alloc, &mut plain)?;
-    let conn = Connection::open_in_memory(alloc)?;
-    in_tables(&rt, alloc, conn)
+    for case in &CASES {
+        let before = desk.taken();
+        let found = answer(alloc, desk, case)?;
+        same_text(rt, found.as_str(), case.4, case.3);
+        let taken = taken_between(before, desk.taken());
+        holds(rt, taken.unwrap_or(case.5) == case.5, case.3);
+    }
+    Ok(())
 }

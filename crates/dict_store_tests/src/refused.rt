@@ -1,10 +1,9 @@
-//! Databases in which no store is made, and files that are not adopted: nothing of them changes.
-use crate::asked::{Asked, read_editions};
-use crate::checks::holds;
-use crate::desks::{applied, desk_over, dumped, made_in};
+//! Databases in which no store is made, and files that aren't opened: nothing of them changes.
+use crate::asked::Asked;
+use crate::commands::CATALOGUE;
+use crate::steps::{Row, Step, over_memory};
+use crate::stored::{PLAIN, SHARED};
 use dict_desk::Fault;
-use sqlite::{Alter, Connection, Error};
-use std::alloc::{AllocError, Global};
 use std::test::Fail;
 
 // Each of these takes a name, or refers to one, that a store needs.
@@ -17,23 +16,39 @@ static IN_USE: [&str; 6] = [
     "CREATE TABLE others (a TEXT REFERENCES dictcat_entry (a)) STRICT",
 ];
 
-// Two databases, and a list of both.
-static CATALOGUE: [(&str, Asked); 3] = [
-    ("a", Asked::Ores("ore")),
-    ("b", Asked::Gems("gem")),
-    ("c", Asked::Put("all", "All", &["ore", "gem"])),
-];
+#[test]
+fn no_store_is_made(rt: HostRuntime) -> Result<(), Fail> {
+    for text in &IN_USE {
+        let steps = [Step::Batch(*text), Step::Refuse(true, Fault::NotACatalogue)];
+        over_memory(&rt, rt.alloc(), steps.as_slice())?;
+    }
+    over_memory(
+        &rt,
+        rt.alloc(),
+        &[
+            Step::Refuse(false, Fault::NotACatalogue),
+            Step::Make(&[]),
+            Step::Refuse(true, Fault::NotACatalogue),
+        ],
+    )
+}
 
 // Each of these makes a file that is refused.
-static STATEMENTS: [(&str, Fault); 27] = [
+static STATEMENTS: [(&str, Fault); 56] = [
+    // Its items and lists.
     ("UPDATE item SET place = 9 WHERE place = 2", Fault::Damaged),
     ("UPDATE item SET kind = 2 WHERE place = 0", Fault::Damaged),
     (
         "UPDATE item SET current = 2 WHERE place = 0",
         Fault::Damaged,
     ),
+    ("UPDATE item SET former = 3 WHERE place = 0", Fault::Damaged),
     (
         "UPDATE member SET name = 'tin' WHERE name = 'gem'",
+        Fault::Damaged,
+    ),
+    (
+        "UPDATE member SET ord = 7 WHERE name = 'gem'",
         Fault::Damaged,
     ),
     ("DELETE FROM member WHERE ord = 0", Fault::Damaged),
@@ -41,6 +56,7 @@ static STATEMENTS: [(&str, Fault); 27] = [
         "INSERT INTO member VALUES ('gem', 0, 'gem')",
         Fault::Damaged,
     ),
+    // Its editions.
     ("DELETE FROM edition WHERE number = 1", Fault::Damaged),
     (
         "INSERT INTO edition VALUES (3, 'gem', 'Gems', '', x'')",
@@ -54,15 +70,66 @@ static STATEMENTS: [(&str, Fault); 27] = [
         "UPDATE edition SET owner = 'all' WHERE number = 2",
         Fault::Damaged,
     ),
+    (
+        "UPDATE edition SET title = ' Gems' WHERE number = 2",
+        Fault::Damaged,
+    ),
+    (
+        "UPDATE edition SET body = x'' WHERE number = 2",
+        Fault::Damaged,
+    ),
+    // Its entries.
     ("DELETE FROM entry WHERE headword = 'opal'", Fault::Damaged),
+    ("DELETE FROM entry WHERE headword = 'dot'", Fault::Damaged),
+    (
+        "UPDATE entry SET ord = 7 WHERE headword = 'dot'",
+        Fault::Damaged,
+    ),
     (
         "UPDATE entry SET start = 31 WHERE headword = 'opal'",
         Fault::Damaged,
     ),
     (
-        "INSERT INTO entry VALUES (9, 0, 'tin', 0, 1)",
+        "UPDATE entry SET headword = 'opak' WHERE headword = 'opal'",
         Fault::Damaged,
     ),
+    (
+        "INSERT INTO entry VALUES (9, 0, 'tin', 0, 1, x'74696e', x'6e6974', 'tin')",
+        Fault::Damaged,
+    ),
+    // What is shown of them.
+    (
+        "UPDATE entry SET shown = '' WHERE headword = 'opal'",
+        Fault::Damaged,
+    ),
+    (
+        "UPDATE entry SET shown = 'o\tpal' WHERE headword = 'opal'",
+        Fault::Damaged,
+    ),
+    (
+        "UPDATE entry SET shown = 'xxxxxxxxxxxxxxxxxxxxxxxxxxxxxxxxxxxxxxxxxxxxxxxxxxxxxxxxxxxxxxxxxxxxxxxxxxxxxxxxxxxxxxxxxxxxxxxxxxxxxxxxxxxxxxxxxxxxxxxxxxxxxxxxxxxxxxxxxxxxxxxxxxxxxxxxxxxxxxxxxxxxxxxxxxxxxxxxxxxxxxxxxxxxxxxxxxxxxxxxxxxxxxxxxxxxxxxxxxxxxxxxxxxxxxxxxxxxxxxxxxxxxxxxxxxxxxxx' WHERE headword = 'opal'",
+        Fault::Damaged,
+    ),
+    // Their keys, words and grams.
+    (
+        "UPDATE entry SET key = x'6f70616b' WHERE headword = 'opal'",
+        Fault::Damaged,
+    ),
+    (
+        "UPDATE entry SET rkey = x'746f64' WHERE headword = 'opal'",
+        Fault::Damaged,
+    ),
+    ("INSERT INTO word VALUES (2, x'61', 0)", Fault::Damaged),
+    ("INSERT INTO word VALUES (9, x'61', 0)", Fault::Damaged),
+    (
+        "UPDATE word SET ord = 9 WHERE word = x'646f74'",
+        Fault::Damaged,
+    ),
+    ("DELETE FROM word WHERE word = x'646f74'", Fault::Damaged),
+    ("INSERT INTO gram VALUES (2, x'616161', 0)", Fault::Damaged),
+    ("INSERT INTO gram VALUES (9, x'616161', 0)", Fault::Damaged),
+    ("DELETE FROM gram WHERE gram = x'646f74'", Fault::Damaged),
+    // The replies that are kept, and the mark.
     (
         "UPDATE kept SET number = 9 WHERE number = 2",
         Fault::Damaged,
@@ -72,119 +139,96 @@ static STATEMENTS: [(&str, Fault); 27] = [
         Fault::Damaged,
     ),
     ("UPDATE mark SET installs = 3", Fault::Damaged),
+    // The tables and their indexes.
     ("DROP TABLE kept", Fault::Damaged),
+    ("DROP TABLE word", Fault::Damaged),
+    ("DROP TABLE gram", Fault::Damaged),
+    ("DROP INDEX dictcat_entry_key", Fault::Damaged),
+    ("DROP INDEX dictcat_entry_rkey", Fault::Damaged),
     (
-        "CREATE UNIQUE INDEX more ON entry (headword)",
+        "DROP INDEX dictcat_entry_rkey; CREATE INDEX dictcat_entry_rkey ON entry (rkey)",
         Fault::Damaged,
     ),
-    ("CREATE TABLE word (a TEXT) STRICT", Fault::Damaged),
     (
-        "CREATE TABLE others (a TEXT) STRICT; CREATE INDEX dictcat_entry_key ON others (a)",
+        "CREATE UNIQUE INDEX more ON entry (headword)",
         Fault::Damaged,
     ),
     (
         "CREATE TABLE others (a TEXT REFERENCES gram (a)) STRICT",
         Fault::Damaged,
     ),
+    (
+        "DROP TABLE member; CREATE TABLE member (owner TEXT NOT NULL, ord INTEGER NOT NULL, name TEXT NOT NULL, PRIMARY KEY (owner, ord)) STRICT; INSERT INTO member VALUES ('all', 0, 'ore'), ('all', 1, 'gem')",
+        Fault::Damaged,
+    ),
+    // Whose tables they are.
+    ("UPDATE mark SET version = 1", Fault::Damaged),
+    ("UPDATE mark SET version = 2", Fault::Damaged),
+    ("UPDATE mark SET version = 3", Fault::Damaged),
+    ("UPDATE mark SET version = 5", Fault::NewerSchema),
     ("UPDATE mark SET version = 9", Fault::NewerSchema),
     ("UPDATE mark SET version = 0", Fault::NotACatalogue),
+    ("UPDATE mark SET version = -4", Fault::NotACatalogue),
     ("UPDATE mark SET magic = 'dictcaz'", Fault::NotACatalogue),
+    ("UPDATE mark SET id = 2", Fault::NotACatalogue),
     ("DELETE FROM mark", Fault::NotACatalogue),
     (
-        "INSERT INTO mark VALUES (2, 'dictcat', 1, 2)",
+        "INSERT INTO mark VALUES (2, 'dictcat', 4, 2)",
         Fault::NotACatalogue,
     ),
     ("DROP TABLE mark", Fault::NotACatalogue),
 ];
 
-fn is_same(one: Result<String, AllocError>, other: Result<String, AllocError>) -> bool {
-    match (one, other) {
-        (Ok(one), Ok(other)) => one.as_str() == other.as_str(),
-        _ => false,
-    }
-}
-
-// Whether no store is made in a database, or the one in it is not adopted, by this fault, and all rows stay as they were.
-fn is_refused<S: Alter + Drop>(
-    alloc: Global,
-    conn: Connection<S>,
-    is_new: bool,
-    wanted: Fault,
-) -> bool {
-    let mut conn = conn;
-    let before = dumped(alloc, &mut conn);
-    match desk_over(alloc, conn, is_new) {
-        Ok(_) => false,
-        Err((conn, fault)) => {
-            let mut conn = conn;
-            fault == wanted && is_same(before, dumped(alloc, &mut conn))
-        }
-    }
-}
-
-// The database after these statements.
-fn batched<S: Alter + Drop>(conn: Connection<S>, text: &str) -> Result<Connection<S>, Error> {
-    let mut conn = conn;
-    conn.execute_batch(text)?;
-    Ok(conn)
-}
-
 #[test]
 fn refused_files(rt: HostRuntime) -> Result<(), Fail> {
-    let alloc = rt.alloc();
-    for text in &IN_USE {
-        let conn = batched(Connection::open_in_memory(alloc)?, *text)?;
-        holds(
-            &rt,
-            is_refused(alloc, conn, true, Fault::NotACatalogue),
-            text,
-        );
-    }
     for (statement, wanted) in &STATEMENTS {
-        let conn = made_in(alloc, Connection::open_in_memory(alloc)?, &CATALOGUE)?;
-        let conn = batched(conn, *statement)?;
-        holds(&rt, is_refused(alloc, conn, false, *wanted), statement);
+        let steps = [
+            Step::Make(CATALOGUE),
+            Step::Batch(*statement),
+            Step::Refuse(false, *wanted),
+        ];
+        over_memory(&rt, rt.alloc(), steps.as_slice())?;
     }
-    // a name that goes with the table of entries is no hindrance
-    let own = made_in(alloc, Connection::open_in_memory(alloc)?, &CATALOGUE)?;
-    let own = batched(own, "CREATE INDEX dictcat_entry_key ON entry (headword)")?;
-    holds(&rt, desk_over(alloc, own, false).is_ok(), "own");
-    let empty = Connection::open_in_memory(alloc)?;
-    holds(
-        &rt,
-        is_refused(alloc, empty, false, Fault::NotACatalogue),
-        "empty",
-    );
-    let made = made_in(alloc, Connection::open_in_memory(alloc)?, &[])?;
-    holds(
-        &rt,
-        is_refused(alloc, made, true, Fault::NotACatalogue),
-        "made",
-    );
     Ok(())
 }
 
-const EXTRA: &str = "CREATE TABLE extra (a TEXT) STRICT; INSERT INTO extra VALUES ('its own')";
+// Each of these, in a file of schema 1, takes a name that the new tables or the helper of their making need; or a table is gone.
+static OLDER: [&str; 8] = [
+    "CREATE TABLE word (a TEXT) STRICT",
+    "CREATE TABLE GRAM (a TEXT) STRICT",
+    "CREATE VIEW dictcat_entry AS SELECT 1",
+    "CREATE TABLE others (a TEXT) STRICT; CREATE INDEX dictcat_entry_key ON others (a)",
+    "CREATE INDEX dictcat_entry_rkey ON item (kind)",
+    "CREATE TABLE others (a TEXT REFERENCES gram (a)) STRICT",
+    "CREATE TABLE others (a TEXT REFERENCES dictcat_entry (a)) STRICT",
+    "DROP TABLE entry",
+];
 
-// The list of both is retired.
-static RETIRED: [(&str, Asked); 1] = [("d", Asked::Retire("all"))];
-
-/// Whether each selection gives its number.
-pub(crate) fn has_numbers<S: Alter>(
-    conn: &mut Connection<S>,
-    wanted: &[(&str, i64)],
-) -> Result<bool, Error> {
-    for (text, count) in wanted {
-        let found: i64 = conn.query_row(*text, &[])?.get(0)?;
-        if found != *count {
-            return Ok(false);
-        }
+#[test]
+fn refused_older_files(rt: HostRuntime) -> Result<(), Fail> {
+    for statement in &OLDER {
+        let steps = [
+            Step::Batch(SHARED),
+            Step::Batch(PLAIN),
+            Step::Batch("INSERT INTO mark VALUES (1, 'dictcat', 1, 2)"),
+            Step::Batch(*statement),
+            Step::Refuse(false, Fault::Damaged),
+        ];
+        over_memory(&rt, rt.alloc(), steps.as_slice())?;
     }
-    Ok(true)
+    Ok(())
 }
 
-// The tables and the index of others, and their rows.
-static OTHERS: [(&str, i64); 2] = [
+// The list of both is retired.
+const RETIRED: &[Row] = &[Row(
+    "d",
+    Asked::Retire("all"),
+    "4 Retire all None",
+    "ore Ores 1; gem Gems 2; ",
+)];
+
+// The tables and the indexes of others, and their rows.
+const OTHERS: &[(&str, i64)] = &[
     ("SELECT count(*) FROM extra WHERE a = 'its own'", 1),
     (
         "SELECT count(*) FROM sqlite_schema WHERE name = 'others'",
@@ -192,18 +236,16 @@ static OTHERS: [(&str, i64); 2] = [
     ),
 ];
 
-// Whether the tables and the index of others stay beside a catalogue.
-fn others_stay<S: Alter + Drop>(alloc: Global, conn: Connection<S>) -> Result<bool, Fail> {
-    let conn = made_in(alloc, batched(conn, EXTRA)?, &CATALOGUE)?;
-    let conn = batched(conn, "CREATE INDEX others ON entry (headword)")?;
-    let editions = read_editions(alloc)?;
-    let mut conn = applied(alloc, &editions, conn, false, &RETIRED)?.into_connection();
-    Ok(has_numbers(&mut conn, &OTHERS)?)
-}
+static BESIDE: [Step; 6] = [
+    Step::Batch("CREATE TABLE extra (a TEXT) STRICT; INSERT INTO extra VALUES ('its own')"),
+    Step::Make(CATALOGUE),
+    Step::Batch("CREATE INDEX others ON entry (headword)"),
+    Step::Keep(&[]),
+    Step::Open(RETIRED),
+    Step::Numbers(OTHERS),
+];
 
 #[test]
 fn other_tables_stay(rt: HostRuntime) -> Result<(), Fail> {
-    let conn = Connection::open_in_memory(rt.alloc())?;
-    holds(&rt, others_stay(rt.alloc(), conn)?, "others");
-    Ok(())
+    over_memory(&rt, rt.alloc(), &BESIDE)
 }

@@ -1,10 +1,9 @@
 //! Desks over files in memory that are opened anew.
-use crate::asked::{Asked, Editions, read_editions};
+use crate::asked::{Asked, Editions, Source, read_editions};
 use crate::checks::holds;
-use crate::desks::{accept_all, desk_over};
+use crate::desks::desk_over;
 use crate::files::{Octets, disk, opened, options};
 use crate::stops::made;
-use dict_catalogue::Command;
 use dict_desk::{Fault, Keeper, Lookup};
 use dict_store::{Desk, Unopened};
 use sqlite::{Alter, Connection, FileStore, Files};
@@ -13,7 +12,7 @@ use std::alloc::Global;
 use std::test::Fail;
 
 // One command: gem is installed.
-static GEM: [(&str, Asked); 1] = [("gem", Asked::Gems("gem"))];
+static GEM: [(&str, Asked); 1] = [("gem", Asked::Install("gem", Source::Gems))];
 
 // Whether a desk is open and shows the one install.
 fn has_gem<S: Alter + Drop>(desk: &Desk<S>) -> bool {
@@ -49,18 +48,13 @@ fn begun<S: Alter + Drop>(
     let Ok(mut desk) = desk_over(alloc, conn, is_new) else {
         return None;
     };
-    let is_done = if is_new {
-        accept_all(&mut desk, editions, &GEM).is_ok()
+    let asked = if is_new {
+        Asked::Install("gem", Source::Gems)
     } else {
-        desk.apply("r", &Command::Retire { name: "gem" }).is_ok()
+        Asked::Retire("gem")
     };
+    let is_done = desk.apply("r", &asked.command(editions)).is_ok();
     Some((desk, is_done))
-}
-
-// A desk, and whether it shows the one install.
-fn looked_at<S: Alter + Drop>(desk: Desk<S>) -> (Desk<S>, bool) {
-    let is_there = has_gem(&desk);
-    (desk, is_there)
 }
 
 // What a desk shows that was opened again.
@@ -84,11 +78,7 @@ fn opened_again<D: Disk + Drop>(desk: Desk<FileStore<D>>) -> Met {
 // Opens what a stop leaves of the files, and then the same files again.
 fn restarted<D: Crash + Drop>(desk: Desk<FileStore<D>>) -> Met {
     match desk.restart(options()) {
-        Ok(desk) => {
-            let (desk, stands) = looked_at(desk);
-            let met = opened_again(desk);
-            if stands { met } else { Met::Other }
-        }
+        Ok(desk) => opened_again(desk),
         Err(_) => Met::Other,
     }
 }

@@ -1,14 +1,15 @@
-//! Sessions over a database in memory.
-use crate::asked::Asked;
-use crate::checks::same_text;
-use crate::desks::made_in;
-use dict_desk::Fault;
+//! Sessions over a database.
+use crate::checks::{holds, same_text};
+use dict_desk::{Fault, Lookup};
 use dict_io::{LimitedSink, OverRead};
-use dict_session::End;
+use dict_session::{End, Session, Step};
 use dict_store::session_over;
 use sqlite::{Alter, Connection};
-use std::alloc::Global;
+use std::alloc::{AllocError, Global};
+use std::process::Abort;
 use std::test::Fail;
+
+const BANNER: &str = "220 dict.example.org dictcat ready <7@dict.example.org>\r\n";
 
 // A session with this input; the connection, and how it ended.
 fn spoken<S: Alter + Drop>(
@@ -30,63 +31,54 @@ fn spoken<S: Alter + Drop>(
     }
 }
 
-// What a session wrote, and behind it how it ended.
-fn told(alloc: Global, end: &str, writer: &LimitedSink) -> Result<String, Fail> {
-    let octets = writer.taken().to_vec(alloc)?;
-    let mut text = String::from_utf8(octets).map_err(|_| Fail::from("no text"))?;
-    text.push_str(end)?;
-    Ok(text)
+// Whether the session wrote this behind its banner, or nothing, and ended so.
+fn is_told(writer: &LimitedSink, end: &str, wanted: &str) -> bool {
+    let text = str::from_utf8(writer.taken()).unwrap_or("not UTF-8");
+    let text = text.strip_prefix(BANNER).unwrap_or(text);
+    wanted.strip_prefix(text) == Some(end)
 }
 
-// One command: gem is installed.
-static GEM: [(&str, Asked); 1] = [("gem", Asked::Gems("gem"))];
-
-const FOUND: &str =
-    "220 dict.example.org dictcat ready <7@dict.example.org>\r\n150 1 definitions retrieved\r\n151 \"opal\" gem \"Gems\"\r\nopal\r\n  a stone\r\n.\r\n250 ok\r\n221 closing connection\r\nquit";
-
-const SHOWN: &str =
-    "220 dict.example.org dictcat ready <7@dict.example.org>\r\n110 1 databases present\r\ngem \"Gems\"\r\n.\r\n250 ok\r\ninput end";
-
-// What two sessions, one after the other, are answered.
-fn spoken_twice<S: Alter + Drop>(
+/// A session with this input writes this behind its banner, and how it ended.
+pub(crate) fn speak<S: Alter + Drop>(
+    rt: &impl Abort,
     alloc: Global,
     conn: Connection<S>,
-) -> Result<(String, String), Fail> {
-    let mut first = LimitedSink::new(alloc, 1000)?;
-    let mut second = LimitedSink::new(alloc, 1000)?;
-    let (conn, end) = spoken(alloc, conn, "DEFINE gem OPAL\r\nQUIT\r\n", &mut first);
-    let (_, next_end) = spoken(alloc, conn, "SHOW DB\r\n", &mut second);
-    Ok((told(alloc, end, &first)?, told(alloc, next_end, &second)?))
+    input: &str,
+    wanted: &str,
+) -> (Connection<S>, Result<(), Fail>) {
+    let mut writer = match LimitedSink::new(alloc, 10_000) {
+        Ok(writer) => writer,
+        Err(_) => return (conn, Err(Fail::new("no memory"))),
+    };
+    let (conn, end) = spoken(alloc, conn, input, &mut writer);
+    holds(rt, is_told(&writer, end, wanted), input);
+    (conn, Ok(()))
 }
 
-#[test]
-fn two_sessions(rt: HostRuntime) -> Result<(), Fail> {
-    let alloc = rt.alloc();
-    let conn = made_in(alloc, Connection::open_in_memory(alloc)?, &GEM)?;
-    let (first, second) = spoken_twice(alloc, conn)?;
-    same_text(&rt, first.as_str(), FOUND, "the first");
-    same_text(&rt, second.as_str(), SHOWN, "the second");
-    let conn = Connection::open_in_memory(alloc)?;
-    let (first, second) = spoken_twice(alloc, conn)?;
-    same_text(&rt, first.as_str(), "no catalogue", "an empty file");
-    same_text(&rt, second.as_str(), "no catalogue", "an empty file");
-    Ok(())
+const DEFINED: &str =
+    "150 1 definitions retrieved\r\n151 \"opal\" gem \"Gems\"\r\nopal\r\n  a stone\r\n.\r\n250 ok\r\n";
+
+// What a session comes to that is sent one line, and what it writes into a sink with this room.
+fn told_with_room<L: Lookup>(
+    alloc: Global,
+    desk: &mut L,
+    room: usize,
+) -> Result<String, AllocError> {
+    let mut sink = LimitedSink::new(alloc, room)?;
+    let mut session = Session::new(alloc, "dict.example.org", 7)?;
+    let step = session.feed(alloc, b"DEFINE gem OPAL\r\n", desk, &mut sink);
+    let taken = str::from_utf8(sink.taken()).unwrap_or("not UTF-8");
+    format!(in alloc; "{step:?} {taken}")
 }
 
-// One command: words are installed.
-static WORDS: [(&str, Asked); 1] = [("ete", Asked::Words("ete"))];
-
-const WORDS_FOUND: &str =
-    "220 dict.example.org dictcat ready <7@dict.example.org>\r\n150 1 definitions retrieved\r\n151 \"ÉTÉ\" ete \"Mots\"\r\nsaison\r\n.\r\n250 ok\r\n152 1 matches found\r\nete \"ÉTÉ\"\r\n.\r\n250 ok\r\ninput end";
-
-#[test]
-fn words_are_found_in_any_case(rt: HostRuntime) -> Result<(), Fail> {
-    let alloc = rt.alloc();
-    let conn = made_in(alloc, Connection::open_in_memory(alloc)?, &WORDS)?;
-    let mut writer = LimitedSink::new(alloc, 1000)?;
-    let input = "DEFINE ete été\r\nMATCH ete suffix é\r\n";
-    let (_, end) = spoken(alloc, conn, input, &mut writer);
-    let found = told(alloc, end, &writer)?;
-    same_text(&rt, found.as_str(), WORDS_FOUND, "the words");
+/// A client that takes fewer octets than the answer has is sent its first ones; and one that takes all, all.
+pub(crate) fn cut<L: Lookup>(rt: &impl Abort, alloc: Global, desk: &mut L) -> Result<(), Fail> {
+    for room in 0..=80usize {
+        let step = if room < 80 { Step::Broken } else { Step::More };
+        let front = DEFINED.get(..room).unwrap_or("no front");
+        let wanted = format!(in alloc; "{step:?} {front}")?;
+        let found = told_with_room(alloc, desk, room)?;
+        same_text(rt, found.as_str(), wanted.as_str(), "a client");
+    }
     Ok(())
 }

@@ -2,10 +2,11 @@
 //!
 //! A run begins with the opening of two files that hold a catalogue. One of them fails at one of its calls, or from it on.
 
-use crate::asked::{Asked, Editions, read_editions, requests, told, told_outcome};
+use crate::asked::{Asked, Editions, Source, read_editions, requests, told, told_outcome};
 use crate::checks::{holds, same_text};
-use crate::desks::{accept_all, desk_over};
+use crate::desks::{accept_all, batched, desk_over};
 use crate::files::{Failing, Octets, closed, crashed, disk, opened};
+use crate::migrations::{OLDER, Older};
 use crate::shown::{Rows, shown};
 use dict_catalogue::{Command, Kept, Refusal};
 use dict_desk::{Fault, Keeper, Lookup, PlainDesk, What};
@@ -25,28 +26,43 @@ struct Case(Steps, Steps);
 
 static CASES: [Case; 7] = [
     // An edition is installed over another.
-    Case(&[("a", Asked::Gems("gem"))], &[("b", Asked::Ores("gem"))]),
+    Case(
+        &[("a", Asked::Install("gem", Source::Gems))],
+        &[("b", Asked::Install("gem", Source::Ores))],
+    ),
     // An older edition goes.
     Case(
-        &[("a", Asked::Gems("gem")), ("b", Asked::Ores("gem"))],
-        &[("c", Asked::Gems("gem"))],
+        &[
+            ("a", Asked::Install("gem", Source::Alike)),
+            ("b", Asked::Install("gem", Source::Ores)),
+        ],
+        &[("c", Asked::Install("gem", Source::Gems))],
     ),
     Case(
-        &[("a", Asked::Gems("gem")), ("b", Asked::Ores("gem"))],
+        &[
+            ("a", Asked::Install("gem", Source::Gems)),
+            ("b", Asked::Install("gem", Source::Ores)),
+        ],
         &[("c", Asked::Rollback("gem"))],
     ),
     Case(
-        &[("a", Asked::Gems("gem")), ("b", Asked::Ores("gem"))],
+        &[
+            ("a", Asked::Install("gem", Source::Gems)),
+            ("b", Asked::Install("gem", Source::Ores)),
+        ],
         &[("c", Asked::Retire("gem"))],
     ),
     Case(
-        &[("a", Asked::Ores("ore")), ("b", Asked::Gems("gem"))],
+        &[
+            ("a", Asked::Install("ore", Source::Ores)),
+            ("b", Asked::Install("gem", Source::Gems)),
+        ],
         &[("c", Asked::Put("all", "All", &["ore", "gem"]))],
     ),
     Case(
         &[
-            ("a", Asked::Ores("ore")),
-            ("b", Asked::Gems("gem")),
+            ("a", Asked::Install("ore", Source::Ores)),
+            ("b", Asked::Install("gem", Source::Gems)),
             ("c", Asked::Put("all", "All", &["ore", "gem"])),
         ],
         &[("d", Asked::Place("all", 0))],
@@ -55,13 +71,23 @@ static CASES: [Case; 7] = [
     Case(
         &[],
         &[
-            ("a", Asked::Gems("gem")),
+            ("a", Asked::Install("gem", Source::Gems)),
             ("b", Asked::Rollback("gem")),
             ("a", Asked::Retire("gem")),
             ("b", Asked::Retire("gem")),
         ],
     ),
 ];
+
+// How a file of an older schema came about. Over it a reply that was kept is asked for again, and the list is retired.
+const MIGRATED: Case = Case(
+    &[
+        ("r1", Asked::Install("ore", Source::Ores)),
+        ("r2", Asked::Install("gem", Source::Gems)),
+        ("r3", Asked::Put("all", "All", &["ore", "gem"])),
+    ],
+    &[("r1", Asked::Retire("gem")), ("r4", Asked::Retire("all"))],
+);
 
 /// Two files, the commands that are done over them, their answers, and what is shown before them and after each.
 #[derive(Clone, Copy)]
@@ -86,6 +112,8 @@ struct Mode {
 enum Work<'a> {
     // Commands make a new catalogue.
     Make(&'a Editions, Steps),
+    // Statements write a file of an older schema.
+    Write(&'a Older),
     // Commands are done over a desk that is opened first.
     Run(&'a Sweep<'a>),
     // After a run that ended so, and a crash of the machine, the catalogue stands as it has to, and is sound.
@@ -156,7 +184,6 @@ fn done<S: Alter + Drop>(
                 desk.is_closed() && desk.audit() == Err(Fault::Closed),
                 "a closed desk",
             );
-            holds(rt, answers_nothing(alloc, desk)?, "each call of it");
             Ok(Ended {
                 is_open: true,
                 stand: halted.stand,
@@ -227,10 +254,33 @@ fn desk_for<S: Alter + Drop>(
     work: &Work<'_>,
 ) -> Result<Desk<S>, (Connection<S>, Fault)> {
     match work {
-        Work::Make(_, _) => desk_over(alloc, conn, true),
+        Work::Make(_, _) | Work::Write(_) => desk_over(alloc, conn, true),
         Work::Run(sweep) => desk_over(alloc, conn, sweep.is_new),
         Work::Look(sweep, ended) => found_again(alloc, conn, sweep.is_new && !ended.is_open),
     }
+}
+
+// What is done over any desk; after a run, what its desk answers that is closed.
+fn kept_by<K: Keeper>(
+    rt: &impl Abort,
+    alloc: Global,
+    desk: &mut K,
+    work: &Work<'_>,
+    ended: Ended,
+) -> Result<Ended, Fail> {
+    match work {
+        Work::Make(editions, asked) => accept_all(desk, editions, asked)?,
+        Work::Look(sweep, before) => stands(rt, alloc, desk, sweep, *before)?,
+        Work::Run(_) if ended.fault.is_some() => {
+            holds(
+                rt,
+                answers_nothing(alloc, desk)?,
+                "each call of a closed desk",
+            );
+        }
+        _ => {}
+    }
+    Ok(ended)
 }
 
 // Does it.
@@ -240,22 +290,19 @@ fn work_on<S: Alter + Drop>(
     desk: &mut Desk<S>,
     work: &Work<'_>,
 ) -> Result<Ended, Fail> {
-    match work {
-        Work::Make(editions, asked) => {
-            accept_all(desk, editions, asked)?;
-            Ok(Ended {
-                is_open: true,
-                stand: asked.len(),
-                fault: None,
-            })
-        }
-        Work::Run(sweep) => done(rt, alloc, desk, sweep),
-        Work::Look(sweep, ended) => {
-            stands(rt, alloc, desk, sweep, *ended)?;
-            holds(rt, desk.audit().is_ok(), "a sound desk");
-            Ok(*ended)
-        }
+    let ended = match work {
+        Work::Run(sweep) => done(rt, alloc, desk, sweep)?,
+        _ => Ended {
+            is_open: true,
+            stand: 0,
+            fault: None,
+        },
+    };
+    let ended = kept_by(rt, alloc, desk, work, ended)?;
+    if matches!(work, Work::Look(_, _)) {
+        holds(rt, desk.audit().is_ok(), "a sound desk");
     }
+    Ok(ended)
 }
 
 // How the work ended, where there is no desk for it.
@@ -270,12 +317,27 @@ fn without_a_desk(work: &Work<'_>, fault: Fault) -> Result<Ended, Fail> {
     }
 }
 
+// Writes a file.
+fn written<S: Alter>(conn: &mut Connection<S>, texts: &Older) -> Result<Ended, Fail> {
+    batched(conn, texts.as_slice())?;
+    Ok(Ended {
+        is_open: false,
+        stand: 0,
+        fault: None,
+    })
+}
+
 fn work_over<S: Alter + Drop>(
     rt: &impl Abort,
     alloc: Global,
     conn: Connection<S>,
     work: &Work<'_>,
 ) -> (Connection<S>, Result<Ended, Fail>) {
+    if let Work::Write(texts) = work {
+        let mut conn = conn;
+        let ended = written(&mut conn, *texts);
+        return (conn, ended);
+    }
     match desk_for(alloc, conn, work) {
         Ok(desk) => {
             let mut desk = desk;
@@ -300,7 +362,8 @@ fn over_files<D: Crash + Drop>(
     match opened(alloc, files) {
         Ok(conn) => {
             let (conn, ended) = work_over(rt, alloc, conn, work);
-            (closed(conn, matches!(work, Work::Make(_, _))), ended)
+            let is_whole = matches!(work, Work::Make(_, _) | Work::Write(_));
+            (closed(conn, is_whole), ended)
         }
         Err(files) => (files, without_a_desk(work, Fault::Disk)),
     }
@@ -316,6 +379,26 @@ fn over_failing(
     over_files(rt, alloc, files, work)
 }
 
+// What two files of these octets have after this work.
+fn made_by(
+    rt: &impl Abort,
+    alloc: Global,
+    log: &[u8],
+    db: &[u8],
+    work: &Work<'_>,
+) -> Result<Octets, Fail> {
+    let files = Files {
+        log: disk(alloc, log, u64::MAX, true)?,
+        db: disk(alloc, db, u64::MAX, true)?,
+    };
+    let (files, ended) = over_failing(rt, alloc, files, work);
+    let _ended = ended?;
+    Ok(Octets {
+        log: files.log.inner.inner().bytes().to_vec(alloc)?,
+        db: files.db.inner.inner().bytes().to_vec(alloc)?,
+    })
+}
+
 /// What two files have after these commands over a new catalogue.
 pub(crate) fn made(
     rt: &impl Abort,
@@ -323,16 +406,23 @@ pub(crate) fn made(
     editions: &Editions,
     asked: Steps,
 ) -> Result<Octets, Fail> {
-    let files = Files {
-        log: disk(alloc, &[], u64::MAX, true)?,
-        db: disk(alloc, &[], u64::MAX, true)?,
+    made_by(rt, alloc, &[], &[], &Work::Make(editions, asked))
+}
+
+// Whether the files are the same after they were opened.
+fn stay_when_opened(rt: &impl Abort, alloc: Global, octets: &Octets) -> Result<bool, Fail> {
+    let log = octets.log.as_slice();
+    let db = octets.db.as_slice();
+    let sweep = Sweep {
+        is_new: false,
+        log,
+        db,
+        requests: &[],
+        answers: &[],
+        states: &[],
     };
-    let (files, ended) = over_failing(rt, alloc, files, &Work::Make(editions, asked));
-    let _ended = ended?;
-    Ok(Octets {
-        log: files.log.inner.inner().bytes().to_vec(alloc)?,
-        db: files.db.inner.inner().bytes().to_vec(alloc)?,
-    })
+    let after = made_by(rt, alloc, log, db, &Work::Run(&sweep))?;
+    Ok(after.log.as_slice() == log && after.db.as_slice() == db)
 }
 
 // One run with a failure at this call of one file, and how it ended, where there was a failure. Without one no command fails.
@@ -448,6 +538,16 @@ fn sweep_cases(rt: &impl Abort, alloc: Global, mode: Mode) -> Result<(), Fail> {
     Ok(())
 }
 
+// Files of older schemas, of which the tables of the known one are made first.
+fn sweep_migrations(rt: &impl Abort, alloc: Global, mode: Mode) -> Result<(), Fail> {
+    let editions = read_editions(alloc)?;
+    for texts in &OLDER {
+        let octets = made_by(rt, alloc, &[], &[], &Work::Write(texts))?;
+        sweep_over(rt, alloc, &editions, MIGRATED, &octets, mode)?;
+    }
+    Ok(())
+}
+
 // A stop of one file, and of the other, and a failure of each after which it goes on.
 static MODES: [Mode; 4] = [
     Mode {
@@ -472,6 +572,35 @@ static MODES: [Mode; 4] = [
 fn a_stop_or_a_failure_of_each_call(rt: HostRuntime) -> Result<(), Fail> {
     for mode in &MODES {
         sweep_cases(&rt, rt.alloc(), *mode)?;
+    }
+    Ok(())
+}
+
+#[test]
+fn a_stop_or_a_failure_of_each_call_of_a_migration(rt: HostRuntime) -> Result<(), Fail> {
+    for mode in &MODES {
+        sweep_migrations(&rt, rt.alloc(), *mode)?;
+    }
+    Ok(())
+}
+
+#[test]
+fn an_opening_writes_to_older_files_alone(rt: HostRuntime) -> Result<(), Fail> {
+    let alloc = rt.alloc();
+    let editions = read_editions(alloc)?;
+    let known = made(&rt, alloc, &editions, MIGRATED.0)?;
+    holds(
+        &rt,
+        stay_when_opened(&rt, alloc, &known)?,
+        "the known schema",
+    );
+    for texts in &OLDER {
+        let older = made_by(&rt, alloc, &[], &[], &Work::Write(texts))?;
+        holds(
+            &rt,
+            !stay_when_opened(&rt, alloc, &older)?,
+            "an older schema",
+        );
     }
     Ok(())
 }

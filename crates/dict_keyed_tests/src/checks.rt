@@ -1,7 +1,0 @@
-//! An assertion, a function of its own, so that the proof of a test has one step for it.
-use std::process::Abort;
-
-/// The text is the one that is wanted.
-pub(crate) fn same_text(test: &impl Abort, found: &str, wanted: &str) {
-    assert_eq!(test; found, wanted);
-}

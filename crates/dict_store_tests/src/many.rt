@@ -1,0 +1,77 @@
+//! Lookups in an edition of 65,535 entries: no more rows are read than are due, and each when it is due.
+
+use crate::asked::GEMS;
+use crate::checks::holds;
+use crate::shown::{Counted, Rows, taken_between};
+use dict_catalogue::Command;
+use dict_desk::{Fault, Keeper, Lookup};
+use dict_index::{Edition, read_edition};
+use dict_match::{Strategy, key_of};
+use std::alloc::{AllocError, Global};
+use std::process::Abort;
+use std::test::Fail;
+
+// Headwords from `w00001` on, all of one body.
+fn index_of_many(alloc: Global) -> Result<String, AllocError> {
+    let mut index = String::new(alloc);
+    index.push_str("00-database-short\tA\tZ\n")?;
+    for number in 1..65_536u32 {
+        index.push_str(format!(in alloc; "w{number:05}\tZ\tP\n")?.as_str())?;
+    }
+    Ok(index)
+}
+
+fn install_edition<K: Keeper>(desk: &mut K, edition: &Edition) -> Result<(), Fault> {
+    let name = "many";
+    let _kept = desk.apply("many", &Command::Install { name, edition })?;
+    Ok(())
+}
+
+fn install<K: Keeper>(alloc: Global, desk: &mut K, index: &str) -> Result<(), Fail> {
+    let edition = read_edition(alloc, index.as_bytes(), GEMS)?;
+    install_edition(desk, &edition)?;
+    Ok(())
+}
+
+/// By a strategy, a text and a sink that takes so many rows: how many it is handed, and how many the statements hand over at most.
+#[derive(Clone, Copy)]
+struct Case(Strategy, &'static str, usize, usize, u64);
+
+// Behind a sink that stops at its first row, the next lookup is answered as before.
+static CASES: [Case; 6] = [
+    Case(Strategy::Exact, "w00777", 100, 1, 2),
+    Case(Strategy::Prefix, "w0077", 100, 10, 11),
+    Case(Strategy::Suffix, "5535", 100, 7, 8),
+    Case(Strategy::Substring, "5553", 100, 16, 17),
+    Case(Strategy::Prefix, "w", 1, 1, 2),
+    Case(Strategy::Exact, "w00777", 100, 1, 2),
+];
+
+// How many rows are handed to the sink.
+fn handed<L: Lookup>(
+    alloc: Global,
+    desk: &mut L,
+    number: u64,
+    case: &Case,
+) -> Result<usize, Fault> {
+    let mut rows = Rows::new(alloc, case.2);
+    desk.find(number, case.0, &key_of(alloc, case.1)?, &mut rows)?;
+    Ok(case.2.saturating_sub(rows.left))
+}
+
+/// Installs the edition, as the first of its catalogue, and looks it up.
+pub(crate) fn look<K: Keeper + Counted>(
+    rt: &impl Abort,
+    alloc: Global,
+    desk: &mut K,
+) -> Result<(), Fail> {
+    install(alloc, desk, index_of_many(alloc)?.as_str())?;
+    for case in &CASES {
+        let before = desk.taken();
+        let found = handed(alloc, desk, 1, case)?;
+        let taken = taken_between(before, desk.taken()).unwrap_or(case.4);
+        let is_so = found == case.3 && found as u64 <= taken && taken <= case.4;
+        holds(rt, is_so, case.1);
+    }
+    Ok(())
+}

@@ -1,0 +1,182 @@
+//! Files that stock `sqlite3` wrote are opened, those of schemas 1 to 3 by making the tables of schema 4: they have the same catalogue.
+use crate::asked::{Asked, Source};
+use crate::steps::{Row, Step, over_memory};
+use crate::stored::{CAPITALS, KEYED, PLAIN, SHARED, SHOWN};
+use std::test::Fail;
+
+/// The mark and the entries of a file of schemas 1, 2 or 3.
+pub(crate) type Older = [&'static str; 3];
+
+pub(crate) static OLDER: [Older; 3] = [
+    [SHARED, "INSERT INTO mark VALUES(1,'dictcat',1,2)", PLAIN],
+    [SHARED, "INSERT INTO mark VALUES(1,'dictcat',2,2)", KEYED],
+    [SHARED, "INSERT INTO mark VALUES(1,'dictcat',3,2)", KEYED],
+];
+
+const LISTED: &str = "ore Ores 1; gem Gems 2; all All +ore +gem; ";
+
+// The commands by which such a file came about.
+const MADE: &[Row] = &[
+    Row(
+        "r1",
+        Asked::Install("ore", Source::Ores),
+        "1 Install ore Some(1)",
+        "ore Ores 1; ",
+    ),
+    Row(
+        "r2",
+        Asked::Install("gem", Source::Gems),
+        "2 Install gem Some(2)",
+        "ore Ores 1; gem Gems 2; ",
+    ),
+    Row(
+        "r3",
+        Asked::Put("all", "All", &["ore", "gem"]),
+        "3 Virtual all None",
+        LISTED,
+    ),
+];
+
+// Replies that were kept stay so, and what comes next is the next.
+const REPEATED: &[Row] = &[
+    Row("r1", Asked::Retire("all"), "1 Install ore Some(1)", LISTED),
+    Row("r2", Asked::Retire("all"), "2 Install gem Some(2)", LISTED),
+    Row("r3", Asked::Retire("all"), "3 Virtual all None", LISTED),
+    Row("x", Asked::Rollback("gem"), "23", LISTED),
+    Row(
+        "r4",
+        Asked::Install("gem", Source::More),
+        "4 Install gem Some(3)",
+        "ore Ores 1; gem Gems 3/2; all All +ore +gem; ",
+    ),
+];
+
+// What a migration leaves of others, and makes.
+const LEFT: &[(&str, i64)] = &[
+    ("SELECT version FROM mark", 4),
+    ("SELECT installs FROM mark", 2),
+    ("SELECT count(*) FROM mark", 1),
+    ("SELECT count(*) FROM entry", 4),
+    ("SELECT count(*) FROM entry WHERE shown = headword", 4),
+    (
+        "SELECT count(*) FROM entry WHERE edition = 2 AND ord = 1 AND key = x'66697265206f70616c' AND rkey = x'6c61706f2065726966'",
+        1,
+    ),
+    ("SELECT count(*) FROM word", 5),
+    ("SELECT count(*) FROM gram", 12),
+    ("SELECT count(*) FROM kept", 3),
+    (
+        "SELECT count(*) FROM sqlite_schema WHERE name LIKE 'dictcat_%'",
+        2,
+    ),
+    (
+        "SELECT count(*) FROM sqlite_schema WHERE name IN ('last', 'others')",
+        2,
+    ),
+    ("SELECT count(*) FROM extra WHERE a = 'its own'", 1),
+];
+
+const OTHERS: &str =
+    "CREATE TABLE extra (a TEXT NOT NULL UNIQUE) STRICT; INSERT INTO extra VALUES ('its own'); CREATE VIEW last AS SELECT a FROM extra";
+
+// Of an index over the old table nothing is left, and one over another stays.
+const INDEXES: &str =
+    "CREATE INDEX by_headword ON entry (headword); CREATE INDEX others ON item (kind)";
+
+// In the first file, an index that goes with the old table has a name that the new one needs. In the others, what an older
+// version has derived is made wrong.
+static CHANGED: [&str; 3] = [
+    "CREATE INDEX dictcat_entry_key ON entry (headword)",
+    "UPDATE entry SET key = x'00', rkey = x'ff'; DELETE FROM gram; INSERT INTO word VALUES (9, x'61', 0), (1, x'61', 7)",
+    "UPDATE entry SET key = x'00', rkey = x'ff'; DELETE FROM gram; INSERT INTO word VALUES (9, x'61', 0), (1, x'61', 7)",
+];
+
+const LOOKED_UP: &str =
+    "DEFINE ! opal\r\nDEFINE all opal\r\nDEFINE * opal\r\nMATCH ! substring o\r\nMATCH * substring o\r\nSHOW DB\r\nSHOW INFO all\r\nSHOW INFO gem\r\n";
+
+const ANSWERED: &str =
+    "150 1 definitions retrieved\r\n151 \"opal\" gem \"Gems\"\r\nopal\r\n  a stone\r\n.\r\n250 ok\r\n\
+     150 1 definitions retrieved\r\n151 \"opal\" gem \"Gems\"\r\nopal\r\n  a stone\r\n.\r\n250 ok\r\n\
+     150 1 definitions retrieved\r\n151 \"opal\" gem \"Gems\"\r\nopal\r\n  a stone\r\n.\r\n250 ok\r\n\
+     152 1 matches found\r\nore \"iron\"\r\n.\r\n250 ok\r\n\
+     152 4 matches found\r\nore \"iron\"\r\ngem \"opal\"\r\ngem \"Fire Opal\"\r\ngem \"dot\"\r\n.\r\n250 ok\r\n\
+     110 3 databases present\r\nore \"Ores\"\r\ngem \"Gems\"\r\nall \"All\"\r\n.\r\n250 ok\r\n\
+     112 database information\r\nore \"Ores\"\r\ngem \"Gems\"\r\n.\r\n250 ok\r\n\
+     112 database information\r\n.\r\n250 ok\r\ninput end";
+
+#[test]
+fn older_files(rt: HostRuntime) -> Result<(), Fail> {
+    for (texts, changed) in OLDER.iter().zip(CHANGED.iter()) {
+        let steps = [
+            Step::Batch(OTHERS),
+            Step::Batch(texts[0]),
+            Step::Batch(texts[1]),
+            Step::Batch(texts[2]),
+            Step::Batch(INDEXES),
+            Step::Batch(*changed),
+            Step::Made(MADE),
+            Step::Speak(LOOKED_UP, ANSWERED),
+            Step::Numbers(LEFT),
+            Step::Keep(&[]),
+            Step::Open(REPEATED),
+            Step::Keep(&[]),
+        ];
+        over_memory(&rt, rt.alloc(), steps.as_slice())?;
+    }
+    Ok(())
+}
+
+const ETE: &[Row] = &[Row(
+    "r1",
+    Asked::Install("ete", Source::Words),
+    "1 Install ete Some(1)",
+    "ete Mots 1; ",
+)];
+
+// The keys of a headword in capitals are made anew.
+const ETE_LEFT: &[(&str, i64)] = &[
+    ("SELECT version FROM mark", 4),
+    (
+        "SELECT count(*) FROM entry WHERE key = x'c3a974c3a9' AND rkey = x'a9c374a9c3' AND shown = 'ÉTÉ'",
+        1,
+    ),
+    ("SELECT count(*) FROM word WHERE word = x'c3a974c3a9'", 1),
+    ("SELECT count(*) FROM word", 1),
+    ("SELECT count(*) FROM gram WHERE gram = x'a974c3'", 1),
+    ("SELECT count(*) FROM gram", 3),
+];
+
+static CAPITAL: [Step; 5] = [
+    Step::Batch(CAPITALS),
+    Step::Made(ETE),
+    Step::Speak(
+        "DEFINE ete été\r\n",
+        "150 1 definitions retrieved\r\n151 \"ÉTÉ\" ete \"Mots\"\r\nsaison\r\n.\r\n250 ok\r\ninput end",
+    ),
+    Step::Numbers(ETE_LEFT),
+    Step::Keep(&[]),
+];
+
+const GEMS_TWICE: &[Row] = &[
+    Row(
+        "r1",
+        Asked::Install("gem", Source::Gems),
+        "1 Install gem Some(1)",
+        "gem Gems 1; ",
+    ),
+    Row(
+        "r2",
+        Asked::Install("gem", Source::More),
+        "2 Install gem Some(2)",
+        "gem Gems 2/1; ",
+    ),
+];
+
+// A file of schema 4 is opened as it is.
+static KNOWN: [Step; 3] = [Step::Batch(SHOWN), Step::Made(GEMS_TWICE), Step::Keep(&[])];
+
+#[test]
+fn other_files_of_others(rt: HostRuntime) -> Result<(), Fail> {
+    over_memory(&rt, rt.alloc(), &CAPITAL)?;
+    over_memory(&rt, rt.alloc(), &KNOWN)
+}

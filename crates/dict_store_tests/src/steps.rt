@@ -1,0 +1,221 @@
+//! What is done in one database, step after step, and over lists beside it: both answer and show the same.
+
+use crate::asked::{Asked, Editions, read_editions, told};
+use crate::checks::{holds, same_text};
+use crate::desks::{batched, desk_over, dumped, has_numbers};
+use crate::shown::{Counted, listed, shown};
+use crate::{full, looking, many, spoken};
+use dict_desk::{Fault, Keeper, PlainDesk};
+use dict_store::Desk;
+use sqlite::{Alter, Connection};
+use std::alloc::{AllocError, Global};
+use std::process::Abort;
+use std::test::Fail;
+
+/// An id, a command, its answer, and the items after it.
+#[derive(Clone, Copy)]
+pub(crate) struct Row(
+    pub(crate) &'static str,
+    pub(crate) Asked,
+    pub(crate) &'static str,
+    pub(crate) &'static str,
+);
+
+#[derive(Clone, Copy)]
+pub(crate) enum Step {
+    /// Statements of others.
+    Batch(&'static str),
+    /// Each selection gives its number.
+    Numbers(&'static [(&'static str, i64)]),
+    /// The commands that made the tables which are there, over the lists alone.
+    Made(&'static [Row]),
+    /// A store is made, and commands are answered so.
+    Make(&'static [Row]),
+    /// The store is opened, and commands are answered so.
+    Open(&'static [Row]),
+    /// The same, and no row changes.
+    Keep(&'static [Row]),
+    /// No store is made, or the one that is there isn't opened, by this fault. No row changes.
+    Refuse(bool, Fault),
+    /// Lookups.
+    Look,
+    /// Items, up to the last that there may be.
+    Fill,
+    /// Lookups in an edition with as many entries as a file of the first limits may have.
+    Many,
+    /// A session with this input writes this, behind the banner.
+    Speak(&'static str, &'static str),
+    /// A session whose client takes so many octets and no more, for each count.
+    Cut,
+}
+
+// What the desk answers to a command under this id.
+fn answer<K: Keeper>(
+    alloc: Global,
+    desk: &mut K,
+    editions: &Editions,
+    id: &str,
+    asked: Asked,
+) -> Result<String, AllocError> {
+    let answer = desk.apply(id, &asked.command(editions));
+    told(alloc, &answer)
+}
+
+/// The commands are answered so.
+pub(crate) fn play<K: Keeper>(
+    rt: &impl Abort,
+    alloc: Global,
+    desk: &mut K,
+    editions: &Editions,
+    rows: &[Row],
+) -> Result<(), Fail> {
+    for Row(id, asked, wanted, after) in rows {
+        let told = answer(alloc, desk, editions, id, *asked)?;
+        same_text(rt, told.as_str(), *wanted, id);
+        let items = listed(alloc, desk.summary()?)?;
+        same_text(rt, items.as_str(), *after, id);
+    }
+    Ok(())
+}
+
+// What a step does over a desk, and what the desk shows then.
+fn act<K: Keeper + Counted>(
+    rt: &impl Abort,
+    alloc: Global,
+    desk: &mut K,
+    editions: &Editions,
+    step: &Step,
+) -> Result<String, Fail> {
+    match step {
+        Step::Made(rows) | Step::Make(rows) | Step::Open(rows) | Step::Keep(rows) => {
+            play(rt, alloc, desk, editions, *rows)?
+        }
+        Step::Look => looking::look(rt, alloc, desk)?,
+        Step::Fill => full::fill(rt, alloc, desk, editions)?,
+        Step::Many => many::look(rt, alloc, desk)?,
+        Step::Cut => spoken::cut(rt, alloc, desk)?,
+        _ => {}
+    }
+    Ok(shown(alloc, desk)?)
+}
+
+// A step over the desk of tables, which shows what the lists do then, and is sound.
+fn on_desk<S: Alter + Drop>(
+    rt: &impl Abort,
+    alloc: Global,
+    desk: &mut Desk<S>,
+    editions: &Editions,
+    step: &Step,
+    wanted: &str,
+) -> Result<(), Fail> {
+    holds(rt, !matches!(step, Step::Refuse(_, _)), "no desk");
+    let found = act(rt, alloc, desk, editions, step)?;
+    same_text(rt, found.as_str(), wanted, "both desks");
+    holds(rt, desk.audit().is_ok(), "a sound desk");
+    Ok(())
+}
+
+// A step over the desk of the database.
+fn over_desk<S: Alter + Drop>(
+    rt: &impl Abort,
+    alloc: Global,
+    conn: Connection<S>,
+    editions: &Editions,
+    step: &Step,
+    wanted: &str,
+) -> (Connection<S>, Result<(), Fail>) {
+    let is_new = matches!(step, Step::Make(_) | Step::Refuse(true, _));
+    match desk_over(alloc, conn, is_new) {
+        Ok(desk) => {
+            let mut desk = desk;
+            let end = on_desk(rt, alloc, &mut desk, editions, step, wanted);
+            (desk.into_connection(), end)
+        }
+        Err((conn, fault)) => match step {
+            Step::Refuse(_, due) if *due == fault => (conn, Ok(())),
+            _ => (conn, Err(Fail::new("no desk"))),
+        },
+    }
+}
+
+// The same; no row changes.
+fn beside_all_rows<S: Alter + Drop>(
+    rt: &impl Abort,
+    alloc: Global,
+    conn: Connection<S>,
+    editions: &Editions,
+    step: &Step,
+    wanted: &str,
+) -> (Connection<S>, Result<(), Fail>) {
+    let mut conn = conn;
+    let before = dumped(alloc, &mut conn);
+    let (conn, end) = over_desk(rt, alloc, conn, editions, step, wanted);
+    let mut conn = conn;
+    let is_same = match (before, dumped(alloc, &mut conn)) {
+        (Ok(before), Ok(after)) => before.as_str() == after.as_str(),
+        _ => false,
+    };
+    holds(rt, is_same, "all rows");
+    (conn, end)
+}
+
+// A step over the tables alone.
+fn over_tables<S: Alter>(
+    rt: &impl Abort,
+    conn: &mut Connection<S>,
+    step: &Step,
+) -> Result<(), Fail> {
+    match step {
+        Step::Batch(text) => batched(conn, &[*text])?,
+        Step::Numbers(wanted) => holds(rt, has_numbers(conn, *wanted)?, "numbers"),
+        _ => {}
+    }
+    Ok(())
+}
+
+fn done<S: Alter + Drop>(
+    rt: &impl Abort,
+    alloc: Global,
+    conn: Connection<S>,
+    editions: &Editions,
+    step: &Step,
+    wanted: &str,
+) -> (Connection<S>, Result<(), Fail>) {
+    match step {
+        Step::Batch(_) | Step::Numbers(_) | Step::Made(_) => {
+            let mut conn = conn;
+            let end = over_tables(rt, &mut conn, step);
+            (conn, end)
+        }
+        Step::Speak(input, output) => spoken::speak(rt, alloc, conn, *input, *output),
+        Step::Keep(_) | Step::Refuse(_, _) => {
+            beside_all_rows(rt, alloc, conn, editions, step, wanted)
+        }
+        _ => over_desk(rt, alloc, conn, editions, step, wanted),
+    }
+}
+
+// Each step is begun with the connection that the last one left.
+fn run<S: Alter + Drop>(
+    rt: &impl Abort,
+    alloc: Global,
+    conn: Connection<S>,
+    steps: &[Step],
+) -> Result<(), Fail> {
+    let editions = read_editions(alloc)?;
+    let mut plain = PlainDesk::new(alloc);
+    let mut conn = conn;
+    for step in steps {
+        let wanted = act(rt, alloc, &mut plain, &editions, step)?;
+        let (next, end) = done(rt, alloc, conn, &editions, step, wanted.as_str());
+        conn = next;
+        end?;
+    }
+    Ok(())
+}
+
+/// Does the steps in a new database.
+pub(crate) fn over_memory(rt: &impl Abort, alloc: Global, steps: &[Step]) -> Result<(), Fail> {
+    let conn = Connection::open_in_memory(alloc)?;
+    run(rt, alloc, conn, steps)
+}
