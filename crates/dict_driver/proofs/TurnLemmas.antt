@@ -522,7 +522,7 @@ departs_whole taken coming made a b c d sending finishing dropping moved well fi
       has_moved = is ∙ ap (λ (e : Bool). has_departed sending e dropping) (between.has_moved ∙ ap (λ (e : Bool). e && is_finishing b.stage) clear ∙ ap (λ (s : Stage). is_clear d.queue && is_finishing s) first.stage)
           ∙ ap (λ (e : Bool). has_departed sending (is_clear d.queue && is_finishing a.stage) e) (last.has_moved ∙ ap (λ (e : Bool). e && has_come last.reading) is_read);
       id = last.id ∙ between.id ∙ first.id;
-      closed = λ was. ap is_open last.stage ∙ closed_drained (is_dropped c.stage c.may_receive) (26_214_400 - c.dropped) last.reading c.stage (ap is_open stage ∙ closed_between (is_clear d.queue) a.stage between.is_told was);
+      closed = λ was. ap is_open last.stage ∙ closed_drained (is_dropped c.stage c.may_receive) (84_934_656 - c.dropped) last.reading c.stage (ap is_open stage ∙ closed_between (is_clear d.queue) a.stage between.is_told was);
       sent = first.sent;
       takes = appends_kept _ _ _ first.sent (appends_kept _ _ _ first.sent first.takes between.takes) last.takes;
       order = ap (λ q. first.sent ++ waiting q) queue ∙ first.order;
@@ -534,9 +534,9 @@ departs_whole taken coming made a b c d sending finishing dropping moved well fi
       idle = first.idle;
       leads = leads_away made a d sending between.is_told last.reading well (
         makes_joined _ _ _ _ _ first.calls (makes_joined _ _ _ _ _ told read),
-        last.stage ∙ ap (λ (s : Stage). stage_drained (is_dropped c.stage c.may_receive) (26_214_400 - c.dropped) last.reading s) stage
-            ∙ ap (λ (e : Bool). stage_drained e (26_214_400 - c.dropped) last.reading (stage_between (is_clear d.queue) a.stage between.is_told)) is_read
-            ∙ ap (λ (n : ℕ). stage_drained (is_dropped (stage_between (is_clear d.queue) a.stage between.is_told) a.may_receive) (26_214_400 - n) last.reading (stage_between (is_clear d.queue) a.stage between.is_told)) dropped,
+        last.stage ∙ ap (λ (s : Stage). stage_drained (is_dropped c.stage c.may_receive) (84_934_656 - c.dropped) last.reading s) stage
+            ∙ ap (λ (e : Bool). stage_drained e (84_934_656 - c.dropped) last.reading (stage_between (is_clear d.queue) a.stage between.is_told)) is_read
+            ∙ ap (λ (n : ℕ). stage_drained (is_dropped (stage_between (is_clear d.queue) a.stage between.is_told) a.may_receive) (84_934_656 - n) last.reading (stage_between (is_clear d.queue) a.stage between.is_told)) dropped,
         last.dropped ∙ ap (λ (e : Bool). dropped_after e last.reading c.dropped) is_read
             ∙ ap (λ (n : ℕ). dropped_after (is_dropped (stage_between (is_clear d.queue) a.stage between.is_told) a.may_receive) last.reading n) dropped,
         last.may_receive ∙ ap (λ (e : Bool). marked_after e last.reading c.may_receive) is_read

@@ -200,7 +200,7 @@ pub record Drains {T : Type 0} (taken coming : T → Option (List ℕ)) (made : 
   pub gives : Consumes (coming old.transport) (coming new.transport) received
   pub reading : Received
   pub calls : Makes (made old.transport) (made new.transport) (readings (is_dropped old.stage old.may_receive) reading)
-  pub stage : new.stage ≡ stage_drained (is_dropped old.stage old.may_receive) (26_214_400 - old.dropped) reading old.stage
+  pub stage : new.stage ≡ stage_drained (is_dropped old.stage old.may_receive) (84_934_656 - old.dropped) reading old.stage
   pub dropped : new.dropped ≡ dropped_after (is_dropped old.stage old.may_receive) reading old.dropped
   pub may_receive : new.may_receive ≡ marked_after (is_dropped old.stage old.may_receive) reading old.may_receive
   pub has_moved : moved ≡ (is_dropped old.stage old.may_receive && has_come reading)
@@ -211,7 +211,7 @@ LeadsOut made sending is_told reading old new =
     let between = stage_between (is_clear new.queue) old.stage is_told in
     let is_read = is_dropped between old.may_receive in
     Makes (made old.transport) (made new.transport) (sendings (is_clear old.queue) sending ++ (endings (is_clear new.queue) old.stage is_told ++ readings is_read reading))
-    × (new.stage ≡ stage_drained is_read (26_214_400 - old.dropped) reading between) × (new.dropped ≡ dropped_after is_read reading old.dropped)
+    × (new.stage ≡ stage_drained is_read (84_934_656 - old.dropped) reading between) × (new.dropped ≡ dropped_after is_read reading old.dropped)
     × (new.may_receive ≡ marked_after is_read reading old.may_receive)
 
 -- the same, where the sending may have failed
@@ -221,7 +221,7 @@ LeadsAway made sents.Nothing is_told reading old new = LeadsOut made sents.Nothi
 LeadsAway made sents.Some is_told reading old new = LeadsOut made sents.Some is_told reading old new
 
 -- A turn of a connection that is no longer open, of which the hub is told nothing: a front of what waited is sent; once nothing waits,
--- the peer of one that the hub closed is told so, and then what comes is read and dropped, up to 26,214,400 octets and its end. A
+-- the peer of one that the hub closed is told so, and then what comes is read and dropped, up to 84,934,656 octets and its end. A
 -- sending that failed, or an end that can't be told, leads to one that is over
 pub record Departs {T : Type 0} (taken coming : T → Option (List ℕ)) (made : T → Option (List Call)) (old new : Connection T) (moved : Bool) : Type 0 where
   pub id : new.id ≡ old.id

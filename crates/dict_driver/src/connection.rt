@@ -18,7 +18,7 @@ use std::alloc::Global;
 pub const PIECE: usize = 4_096;
 
 // The most octets that are dropped of a connection once all is sent: the largest body of a request and 1 MiB.
-const MOST_DROPPED: usize = 26_214_400;
+const MOST_DROPPED: usize = 84_934_656;
 
 /// One connection: its id, the octets that wait for its peer, and what carries them.
 #[derive(Drop)]

@@ -1,17 +1,16 @@
 // A catalogue in memory.
 use dict_desk::PlainDesk;
-use dict_http::Service;
-use dict_hub::take_piece;
+use dict_hub::{Event, Hub, Kind};
 use dict_io::LimitedSink;
 use std::alloc::Global;
 use std::test::Fail;
 
 // Does what a request asks.
 fn install(alloc: Global, desk: &mut PlainDesk, request: &[u8]) -> Result<(), Fail> {
-    let service = Service::new(alloc)?;
+    let mut hub = Hub::new(alloc, "localhost")?;
     let mut sink = LimitedSink::new(alloc, 1000)?;
-    let mut held = Vec::new(alloc);
-    take_piece(&service, alloc, &mut held, request, desk, &mut sink)?;
+    hub.event(desk, Event::Opened(1, Kind::Http), &mut sink)?;
+    hub.event(desk, Event::Bytes(1, request), &mut sink)?;
     Ok(())
 }
 

@@ -1,6 +1,8 @@
 -- From what `httparse` says of the front to what is needed, and to the request.
-use Rattle.std.proofs.Common.{rules, ◌≡◌, ◌<◌, ◌≤◌, ◌+◌, ◌-◌, ◌++◌, inl, inr, ℕ, List, [], length, map, take, drop, sym, ap, ◌∙◌, subst, arith}
-use Rattle.std.proofs.lemmas.List.{length-map, length-take-le, length-drop}
+use Rattle.std.proofs.Common.{rules, ◌≡◌, ◌<◌, ◌≤◌, ◌+◌, ◌-◌, ◌++◌, inl, inr, ℕ, Bool, true, false, Option, Some, None, List, [], ◌∷◌, length, map, take, drop, refl, sym, ap, ◌∙◌, subst, arith, codes}
+use Rattle.std.specs.Prelude.{nat_le, if◌then◌else◌}
+use Rattle.std.proofs.lemmas.Bool.Decides.{nat_tests}
+use Rattle.std.proofs.lemmas.List.{length-map, length-take, length-take-le, length-drop}
 use Rattle.std.proofs.Math.Seq.{take-length}
 use Rattle.httparse.specs.declared.spans.HeaderSpan.{HeaderSpan}
 use Rattle.httparse.specs.declared.spans.RequestSpans.{RequestSpans}
@@ -11,10 +13,11 @@ use Rattle.dict_head.specs.declared.kinds.Need.TheVariants.{More, Refused}
 use Rattle.dict_head.specs.declared.kinds.Framing.{Framing}
 use Rattle.dict_head.specs.declared.kinds.Reading.{Reading}
 use Rattle.dict_head.specs.declared.kinds.Reading.TheVariants.{More as ReadMore, Whole as ReadWhole, Refused as ReadRefused}
-use Rattle.dict_head.specs.declared.kinds.Framing.TheVariants.{Body}
-use Rattle.dict_head.specs.Fields.{framing_of, ids_of}
+use Rattle.dict_head.specs.declared.kinds.Framing.TheVariants.{Body, Refused as NoBody}
+use Rattle.dict_head.specs.declared.statuses.Status.TheVariants.{ContentTooLarge}
+use Rattle.dict_head.specs.Fields.{Header, framing_of, framing_of_codings, framing_of_length, ids_of, length_of, values_of}
 use Rattle.dict_head.specs.Heads.{Needs, NeedsBody, NeedsHead, HasHead, headers_of, front_of}
-use Rattle.dict_head.specs.Requests.{IsReading, IsHeadReading, Request, IsRequest}
+use Rattle.dict_head.specs.Requests.{IsAwaited, IsReading, IsHeadReading, Request, IsRequest}
 
 few : (fr : List ℕ) (hs : List HeaderSpan) (spans : RequestSpans) (h : RequestHead) → spans.headers ≤ length hs → length hs ≡ 32 → IsRequestAt fr hs spans h → length h.fields ≤ 32
 few fr hs spans h within room at =
@@ -23,6 +26,13 @@ few fr hs spans h within room at =
     let d : length (map name_and_value h.fields) ≡ length h.fields = length-map h.fields name_and_value in
     let e : length (take spans.headers hs) ≡ spans.headers = length-take-le spans.headers hs within in
     omega (arith, a, b, d, e, within, room)
+
+body_size : {a b : ℕ} → Body a ≡ Body b → a ≡ b
+body_size h = cc h
+
+size_tested : (n size : ℕ) (test : Bool) → nat_le n 83886080 ≡ test → Body size ≡ (if test then Body n else NoBody ContentTooLarge) → size ≤ 83886080
+size_tested n size true le is = (let small : n ≤ 83886080 = grind (arith, nat_tests, le) in omega (arith, small, body_size is))
+size_tested n size false le is = cc is
 
 -- the head that was parsed stands at the front
 pub has_head : (octets fr : List ℕ) (hs : List HeaderSpan) (spans : RequestSpans) → fr ≡ front_of octets → length hs ≡ 32
@@ -47,6 +57,34 @@ needs_with_head octets fr hs spans a n is room within of is_framing body =
       subst (λ x. NeedsBody octets x (framing_of (headers_of of.0)) n) of.1.len
           (subst (λ x. NeedsBody octets spans.len x n) (framing_same fr hs spans a of is_framing) body),
     )
+
+size_of_length : (length : Option ℕ) (size : ℕ) → Body size ≡ framing_of_length length → size ≤ 83886080
+size_of_length None size is = cc is
+size_of_length (Some n) size is = size_tested n size (nat_le n 83886080) refl is
+
+size_of_codings : (codings lengths : List (List ℕ)) (size : ℕ) → Body size ≡ framing_of_codings codings lengths → size ≤ 83886080
+size_of_codings (value ∷ others) lengths size is = cc is
+size_of_codings [] [] size is = omega (arith, body_size is)
+size_of_codings [] (value ∷ []) size is = size_of_length (length_of value) size is
+size_of_codings [] (value ∷ second ∷ others) size is = cc is
+
+-- how many octets the body has at most
+pub body_bound : (headers : List Header) (size : ℕ) → Body size ≡ framing_of headers → size ≤ 83886080
+body_bound headers size is = size_of_codings (values_of (codes "transfer-encoding") headers) (values_of (codes "content-length") headers) size is
+
+-- and head and body
+pub whole_bound : (octets fr : List ℕ) (hs : List HeaderSpan) (spans : RequestSpans) (size : ℕ) → fr ≡ front_of octets → IsRequestWithin fr hs spans
+    → Body size ≡ framing_of (map (header_bytes fr) (take spans.headers hs)) → spans.len + size ≤ 83894272
+whole_bound octets fr hs spans size is within is_framing =
+    let body : size ≤ 83886080 = body_bound (map (header_bytes fr) (take spans.headers hs)) size is_framing in
+    let inside : spans.len ≤ length fr = within.section.len_fits in
+    omega (arith, body, inside, ap length is, length-take 8192 octets)
+
+-- how many octets head and body have
+pub awaited_with_head : (octets fr : List ℕ) (hs : List HeaderSpan) (spans : RequestSpans) (size : ℕ) → fr ≡ front_of octets → length hs ≡ 32
+    → IsRequestWithin fr hs spans → IsRequestOf fr hs spans → Body size ≡ framing_of (map (header_bytes fr) (take spans.headers hs)) → IsAwaited octets (spans.len + size)
+awaited_with_head octets fr hs spans size is room within of is_framing =
+    inl (of.0, has_head octets fr hs spans is room within of, (size, sym (framing_same fr hs spans (Body size) of is_framing), ap (λ n. n + size) of.1.len))
 
 -- the request that the head and so many octets after it say
 abbrev pub parsed : List ℕ → (fr : List ℕ) (hs : List HeaderSpan) (spans : RequestSpans) → IsRequestOf fr hs spans → ℕ → Request
@@ -76,22 +114,24 @@ needs_partial : (octets fr : List ℕ) (n : Need) → fr ≡ front_of octets →
 needs_partial octets fr n is none h =
     inr (λ head has. none head has.rest (subst (λ x. ReadsRequest x head has.rest) (sym is) has.reads), subst (λ x. NeedsHead x n) is h)
 
+no_head : (octets fr : List ℕ) → fr ≡ front_of octets → RequestOverflows 32 fr → (head : RequestHead) → ¬ HasHead octets head
+no_head octets fr is over head has =
+    let more : 32 < length head.fields = over [] head has.rest (subst (λ x. ReadsRequest x head has.rest) (sym (append_nil fr ∙ is)) has.reads) in
+    absurd (omega (arith, more, has.few))
+
 needs_error : (octets fr : List ℕ) (n : Need) → fr ≡ front_of octets → RequestOverflows 32 fr → NeedsHead fr n → Needs octets n
-needs_error octets fr n is over h =
-    inr (
-      λ head has.
-          (let more : 32 < length head.fields = over [] head has.rest (subst (λ x. ReadsRequest x head has.rest) (sym (append_nil fr ∙ is)) has.reads) in
-          absurd (omega (arith, more, has.few))),
-      subst (λ x. NeedsHead x n) is h,
-    )
+needs_error octets fr n is over h = inr (no_head octets fr is over, subst (λ x. NeedsHead x n) is h)
 
 pub reading_partial : (octets fr : List ℕ) (r : Reading) → fr ≡ front_of octets → HasNoRequest fr → IsHeadReading fr r → IsReading octets r
-reading_partial octets fr ReadMore is none h = needs_partial octets fr More is none h
+reading_partial octets fr (ReadMore size) is none (h, zero) = (
+  needs_partial octets fr More is none h,
+  inr (λ head has. none head has.rest (subst (λ x. ReadsRequest x head has.rest) (sym is) has.reads), zero),
+)
 reading_partial octets fr (ReadRefused s) is none h = needs_partial octets fr (Refused s) is none h
 reading_partial octets fr (ReadWhole told) is none h = absurd h
 
 pub reading_error : (octets fr : List ℕ) (r : Reading) → fr ≡ front_of octets → RequestOverflows 32 fr → IsHeadReading fr r → IsReading octets r
-reading_error octets fr ReadMore is over h = needs_error octets fr More is over h
+reading_error octets fr (ReadMore size) is over (h, zero) = (needs_error octets fr More is over h, inr (no_head octets fr is over, zero))
 reading_error octets fr (ReadRefused s) is over h = needs_error octets fr (Refused s) is over h
 reading_error octets fr (ReadWhole told) is over h = absurd h
 

@@ -1,14 +1,14 @@
 -- Octets have one answer, which stays.
-use Rattle.std.proofs.Common.{◌≡◌, ◌≤◌, ◌+◌, ◌++◌, drop, inl, inr, ℕ, zero, suc, List, [], ◌∷◌, length, take, refl, sym, ap, ◌∙◌, subst, arith}
+use Rattle.std.proofs.Common.{◌≡◌, ◌≤◌, ◌<◌, ◌+◌, ◌++◌, drop, inl, inr, ℕ, zero, suc, List, [], ◌∷◌, length, take, refl, sym, ap, ◌∙◌, subst, arith}
 use Rattle.std.proofs.lemmas.List.{length-append, length-drop, take-append-le, drop-append-le}
 use Rattle.httparse.specs.Grammar.{RequestHead, ReadsRequest, print_request}
 use Rattle.httparse.proofs.GrammarLemmas.{request_unique, ReadsRequest-append}
 use Rattle.dict_head.specs.declared.kinds.Need.{Need}
-use Rattle.dict_head.specs.declared.kinds.Need.TheVariants.{Whole}
+use Rattle.dict_head.specs.declared.kinds.Need.TheVariants.{More, Whole}
 use Rattle.dict_head.specs.declared.kinds.Framing.{Framing}
 use Rattle.dict_head.specs.declared.kinds.Framing.TheVariants.{Body, Refused as NoBody}
 use Rattle.dict_head.specs.Fields.{framing_of, ids_of}
-use Rattle.dict_head.specs.Requests.{Request, IsRequest, request_of}
+use Rattle.dict_head.specs.Requests.{IsAwaited, Request, IsRequest, request_of}
 use Rattle.dict_head.specs.Heads.{Needs, NeedsBody, NeedsHead, HasHead, headers_of, front_of}
 
 body_one : (x : List ℕ) (len : ℕ) (k : Framing) (a b : Need) → NeedsBody x len k a → NeedsBody x len k b → a ≡ b
@@ -71,7 +71,7 @@ one_request x a b p q =
     let sizes : p.size ≡ q.size = body_size (sym p.framed ∙ (ap (λ h. framing_of (headers_of h)) same ∙ q.framed)) in
     p.says ∙ (ap (λ h. request_of x h p.size) same ∙ (ap (λ n. request_of x q.head n) sizes ∙ sym q.says))
 
-head_stays : (x y : List ℕ) (h : RequestHead) → HasHead x h → HasHead (x ++ y) h
+pub head_stays : (x y : List ℕ) (h : RequestHead) → HasHead x h → HasHead (x ++ y) h
 head_stays x y h has =
     let f = front_more 8192 x y in
     record {
@@ -96,3 +96,9 @@ request_stays x y r p = record {
   fits = omega (arith, p.fits, length-append x y);
   says = p.says ∙ ap (λ t. record { method = p.head.method; target = p.head.target; ids = ids_of (headers_of p.head); body = t }) (part_stays x y (length (print_request p.head)) p.size p.fits);
 }
+
+-- until so many octets have come more are needed, whatever they are
+pub awaits : (x y : List ℕ) (size : ℕ) → IsAwaited x size → length (x ++ y) < size → Needs (x ++ y) More
+awaits x y size (inl (h, has, (body, framed, is))) fewer =
+    inl (h, head_stays x y h has, subst (λ k. NeedsBody (x ++ y) (length (print_request h)) k More) (sym framed) (inl (omega (arith, is, fewer), refl)))
+awaits x y size (inr (none, is)) fewer = absurd (omega (arith, is, fewer))

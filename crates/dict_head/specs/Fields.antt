@@ -34,10 +34,10 @@ length_of value =
     then Some (digits_value 10 value)
     else None
 
--- no number of 1 to 10 digits; one above 25,165,824; or the length of the body
+-- no number of 1 to 10 digits; one above 83,886,080; or the length of the body
 abbrev pub framing_of_length : Option ℕ → framings.Framing
 framing_of_length None = Refused BadRequest
-framing_of_length (Some size) = if nat_le size 25165824 then Body size else Refused ContentTooLarge
+framing_of_length (Some size) = if nat_le size 83886080 then Body size else Refused ContentTooLarge
 
 -- by the values of `Content-Length`: none means that there is no body
 abbrev pub framing_of_lengths : List (List ℕ) → framings.Framing

@@ -1,5 +1,5 @@
 -- What a whole request says.
-use Rattle.std.specs.Prelude.{◌≡◌, ◌≤◌, ◌+◌, ℕ, List, length, take, drop}
+use Rattle.std.specs.Prelude.{◌≡◌, ◌⊎◌, ◌≤◌, ◌+◌, ℕ, List, length, take, drop}
 use Rattle.httparse.specs.Grammar.{RequestHead, print_request}
 use Rattle.dict_head.specs.Fields.{AreValues, framing_of, ids_of}
 use Rattle.dict_head.specs.Heads.{HasHead, headers_of, Needs, NeedsHead}
@@ -42,13 +42,19 @@ pub record Tells (told : requests.Request) (request : Request) : Type 0 where
   pub ids : AreValues told.ids request.ids
   pub body : told.body.now ≡ request.body
 
+-- a head stands at the front, and with its body it has so many octets; or none does, and 0 is told
+abbrev pub IsAwaited : List ℕ → ℕ → Type 0
+IsAwaited octets size =
+    ((head : RequestHead) × HasHead octets head × ((body : ℕ) × (framing_of (headers_of head) ≡ Body body) × (size ≡ length (print_request head) + body)))
+    ⊎ (((head : RequestHead) → ¬ HasHead octets head) × (size ≡ 0))
+
 abbrev pub IsReading : List ℕ → Reading → Type 0
-IsReading octets More = Needs octets NeedsMore
+IsReading octets (More size) = Needs octets NeedsMore × IsAwaited octets size
 IsReading octets (Whole told) = Needs octets (NeedsNone told.len) × (request : Request) × IsRequest octets request × Tells told request
 IsReading octets (Refused status) = Needs octets (IsRefused status)
 
 -- while no head is in these octets, the front
 abbrev pub IsHeadReading : List ℕ → Reading → Type 0
-IsHeadReading octets More = NeedsHead octets NeedsMore
+IsHeadReading octets (More size) = NeedsHead octets NeedsMore × (size ≡ 0)
 IsHeadReading octets (Whole told) = ⊥
 IsHeadReading octets (Refused status) = NeedsHead octets (IsRefused status)

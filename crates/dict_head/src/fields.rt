@@ -8,7 +8,7 @@ use crate::statuses::Status;
 use httparse::spans::HeaderSpan;
 
 /// The most octets of a body.
-const MAX_BODY: usize = 25_165_824;
+const MAX_BODY: usize = 83_886_080;
 
 /// The most digits of a length.
 const MAX_DIGITS: usize = 10;

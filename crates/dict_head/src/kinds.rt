@@ -39,8 +39,8 @@ pub struct Request<'r> {
 /// The octets of a request that have come, as a request.
 #[derive(Clone, Copy, Debug)]
 pub enum Reading<'r> {
-    /// The request isn't whole yet.
-    More,
+    /// The request isn't whole yet. Where its head is, it is once so many octets have come, head and body, and 0 is told else.
+    More(usize),
     Whole(Request<'r>),
     /// It is answered with this status, whatever follows.
     Refused(Status),

@@ -59,7 +59,7 @@ fn without_head<'r>(front: &[u8]) -> Reading<'r>
     if front.len() == MAX_HEAD || has_end(front) {
         Reading::Refused(Status::BadRequest)
     } else {
-        Reading::More
+        Reading::More(0)
     }
 }
 
@@ -84,7 +84,7 @@ fn with_head<'r>(
     };
     let rest = &octets[head.len..];
     if rest.len() < size {
-        return Reading::More;
+        return Reading::More(head.len + size);
     }
     let Ok(target) = str::from_utf8(head.path.of(front)) else {
         unreachable!()
@@ -117,7 +117,7 @@ pub fn need(octets: &[u8]) -> Need
     ensures only { (other : needs.Need) → Needs octets.now other → other ≡ result }
 {
     match read_request(octets) {
-        Reading::More => Need::More,
+        Reading::More(_) => Need::More,
         Reading::Whole(request) => Need::Whole(request.len),
         Reading::Refused(status) => Need::Refused(status),
     }

@@ -23,7 +23,7 @@ OfRefused status = (status ≡ BadRequest) ⊎ (status ≡ ContentTooLarge)
 
 of_length : (o : Option ℕ) (status : Status) → framing_of_length o ≡ NoBody status → OfRefused status
 of_length None status e = let same : status ≡ BadRequest = cc in inl same
-of_length (Some size) status e = by (nat_le size 25165824) e
+of_length (Some size) status e = by (nat_le size 83886080) e
   where
     by : (b : Bool) → (if b then Body size else NoBody ContentTooLarge) ≡ NoBody status → OfRefused status
     by true e = let none : ⊥ = cc in absurd none

@@ -104,7 +104,7 @@ impl Service {
         ensures trust { K.is_trusted desk.new → K.is_trusted desk.old }
     {
         match read_request(octets) {
-            Reading::More => unreachable!(),
+            Reading::More(_) => unreachable!(),
             Reading::Whole(request) => self.respond_to(alloc, request, desk),
             Reading::Refused(status) => refused(status),
         }

@@ -102,7 +102,7 @@ static REFUSED: [(&str, &str); 8] = [
     ("DELETE /databases/gem HTTP/1.1\r\n\r\n", BAD_REQUEST),
     ("GET /databases HTTP/9\r\n\r\n", BAD_REQUEST),
     (
-        "PUT /databases/gem HTTP/1.1\r\nContent-Length: 25165825\r\n\r\n",
+        "PUT /databases/gem HTTP/1.1\r\nContent-Length: 83886081\r\n\r\n",
         TOO_LARGE,
     ),
     (

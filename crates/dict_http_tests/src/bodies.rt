@@ -211,6 +211,11 @@ fn refusals(rt: HostRuntime) -> Result<(), Fail> {
         refused_edition_json(alloc, EditionRefusal::LastLine, None)?.as_str(),
         "{\"fault\":14,\"line\":null,\"reason\":\"LastLine\"}",
     );
+    same_text(
+        &rt,
+        refused_edition_json(alloc, EditionRefusal::Shown, Some(2))?.as_str(),
+        "{\"fault\":15,\"line\":2,\"reason\":\"Shown\"}",
+    );
     Ok(())
 }
 

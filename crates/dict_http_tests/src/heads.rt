@@ -40,11 +40,11 @@ static HEADS: [(&[u8], Need); 30] = [
     (b"PUT /a HTTP/1.1\r\nContent-Length: 1 1\r\n\r\na", BAD),
     (b"PUT /a HTTP/1.1\r\nContent-Length: 0x1\r\n\r\na", BAD),
     (
-        b"PUT /a HTTP/1.1\r\nContent-Length: 25165824\r\n\r\na",
+        b"PUT /a HTTP/1.1\r\nContent-Length: 83886080\r\n\r\na",
         Need::More,
     ),
     (
-        b"PUT /a HTTP/1.1\r\nContent-Length: 25165825\r\n\r\na",
+        b"PUT /a HTTP/1.1\r\nContent-Length: 83886081\r\n\r\na",
         LARGE,
     ),
     (

@@ -1,6 +1,6 @@
 -- What a piece does, by whether its connection is open.
 use Rattle.std.proofs.Common.{◌≡◌, ◌++◌, ℕ, List, refl, sym, subst}
-use Rattle.std.specs.Prelude.{Option, Some, None, Result, Err, IfOk}
+use Rattle.std.specs.Prelude.{Option, Some, None, Result, Ok, Err, IfErr, IfOk}
 use Rattle.dict_io.specs.Streams.{Stream}
 use Rattle.dict_catalogue.specs.Steps.{Catalogue}
 use Rattle.dict_hub.specs.Holding.{Holding, left_by}
@@ -10,8 +10,15 @@ use Rattle.dict_hub.specs.Events.{Happening, came, id_of, held_after, Serves}
 use Rattle.dict_hub.specs.declared.hub.Hub.{Hub}
 use Rattle.dict_hub.specs.declared.asking.Out.{Out}
 use Rattle.dict_hub.specs.declared.fault.HubFault.{HubFault}
-use Rattle.dict_hub.specs.declared.fault.HubFault.TheVariants.{UnknownConnection}
+use Rattle.dict_hub.specs.declared.fault.HubFault.TheVariants.{Memory, UnknownConnection}
+use Rattle.dict_hub.specs.Books.{IsRefusal}
 use Rattle.dict_session.specs.Desks.{Condition}
+
+-- what an opening is refused for
+pub refusal_of : (test : Result (Unit {0}) HubFault) (result : Result Out HubFault) → ((fault : HubFault) → test ≡ Err fault → result ≡ Err fault) → (test ≡ Ok tt → IfErr result (λ fault. fault ≡ Memory))
+    → IfErr result (λ fault. IsRefusal test fault)
+refusal_of (Err fault) result tests memory = rw (tests fault refl) refl
+refusal_of (Ok tt) result tests memory = memory refl
 
 pub serves_piece : (host : List ℕ) (desk : Condition) (Shows : Catalogue → Type 0) (Before After : List (Option Catalogue) → Type 0) (before : Catalogue)
     (held : Option Holding) (what : Happening) (id : ℕ) (piece : List ℕ) (old new : Stream) (result : Result Out HubFault) → what ≡ came id piece

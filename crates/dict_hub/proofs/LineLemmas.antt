@@ -1,6 +1,6 @@
 -- What a piece gives a reader or an editor.
-use Rattle.std.proofs.Common.{◌≡◌, ℕ, List, refl, sym, subst, inl, inr}
-use Rattle.std.specs.Prelude.{Option, Result, Ok, Err, IfOk}
+use Rattle.std.proofs.Common.{◌≡◌, ◌∙◌, ℕ, List, refl, sym, ap, subst, inl, inr}
+use Rattle.std.specs.Prelude.{Option, Result, Ok, Err, IfOk, OnErr}
 use Rattle.dict_io.specs.Streams.{Stream}
 use Rattle.dict_line.specs.Meaning.{Meaning}
 use Rattle.dict_catalogue.specs.Steps.{Catalogue}
@@ -8,7 +8,11 @@ use Rattle.dict_session.specs.Ending.{Wrote, step_at}
 use Rattle.dict_session.specs.declared.step.Course.{Course}
 use Rattle.dict_session.specs.declared.step.Course.TheVariants as courses
 use Rattle.dict_session.specs.declared.step.Step.TheVariants as steps
-use Rattle.dict_hub.specs.Asking.{Awaits, Answers}
+use Rattle.dict_hub.specs.Asking.{Awaits, Answers, IsAwaitedIn}
+use Rattle.dict_hub.specs.Holding.{Holding, left_by, unanswered}
+use Rattle.dict_hub.specs.Lines.{Holds, IsLeft}
+use Rattle.dict_hub.specs.declared.asking.Incoming.{Incoming}
+use Rattle.dict_hub.specs.declared.line.Line.TheVariants.{Editor}
 use Rattle.dict_hub.specs.Given.{Replies, Stays, Gets}
 use Rattle.dict_hub.specs.declared.kind.Kind.{Kind}
 use Rattle.dict_hub.specs.declared.kind.Kind.TheVariants.{Http}
@@ -43,3 +47,16 @@ asks_from host desk Shows Before After before kind octets held old new (Ok More)
 asks_from host desk Shows Before After before kind octets held old new (Ok Close) is awaits stays answers =
     subst (λ one. Gets host desk Shows Before After before one octets Close old new) (sym is) (answers refl)
 asks_from host desk Shows Before After before kind octets held old new (Err fault) is awaits stays answers = tt
+
+-- what is left of an editor's request that is awaited further
+pub left_from : (host : List ℕ) (id : ℕ) (kind : Kind) (octets : List ℕ) (new : Incoming) (result : Result Out HubFault) → kind ≡ Http → (result ≡ Ok More → new.octets.items ≡ octets)
+    → IsAwaitedIn new.octets.items new.awaited → IfOk result (λ out. IsLeft host id (Editor new) (left_by kind octets out))
+left_from host id kind octets new (Ok More) is held awaited = record { kind = is; octets_held = held refl ∙ sym (ap (λ (k : Kind). unanswered k octets) is); awaited = awaited }
+left_from host id kind octets new (Ok Close) is held awaited = tt
+left_from host id kind octets new (Err fault) is held awaited = tt
+
+-- a piece that was refused
+pub held_from : (old new : Incoming) (result : Result Out HubFault) → OnErr result (new.octets.items ≡ old.octets.items) → (IsAwaitedIn old.octets.items old.awaited → IsAwaitedIn new.octets.items new.awaited)
+    → OnErr result ((host : List ℕ) (id : ℕ) (held : Holding) → Holds host id (Editor old) held → Holds host id (Editor new) held)
+held_from old new (Ok out) same awaited = tt
+held_from old new (Err fault) same awaited = λ host id held h. record { kind = h.kind; octets_held = same ∙ h.octets_held; awaited = awaited h.awaited }

@@ -1,11 +1,15 @@
 -- What a piece of an editor's request leaves.
-use Rattle.std.specs.Prelude.{◌≡◌, ◌⊎◌, ℕ, List, Option}
+use Rattle.std.specs.Prelude.{◌≡◌, ◌⊎◌, ◌<◌, ◌++◌, ℕ, List, Option, length}
 use Rattle.dict_io.specs.Streams.{Stream, PutsAll, PutsFront}
 use Rattle.dict_catalogue.specs.Steps.{Catalogue}
 use Rattle.dict_head.specs.Heads.{Needs}
 use Rattle.dict_head.specs.declared.kinds.Need.TheVariants.{More as NeedsMore}
 use Rattle.dict_http.specs.Responding.{Responds}
 use Rattle.dict_http.specs.Settling.{Settles}
+
+-- until so many octets have come, of which these are the first, more are needed
+abbrev pub IsAwaitedIn : List ℕ → ℕ → Type 0
+IsAwaitedIn octets size = (more : List ℕ) → length (octets ++ more) < size → Needs (octets ++ more) NeedsMore
 
 -- More octets are needed than have come, and nothing is answered.
 pub record Awaits (octets held : List ℕ) (old new : Stream) : Type 0 where

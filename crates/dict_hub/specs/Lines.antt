@@ -3,7 +3,9 @@ use Rattle.std.specs.Prelude.{◌≡◌, ℕ, List, Option, Some, None}
 use Rattle.dict_session.specs.Session.{HasUnfinished, step_of, host_of, connection_of}
 use Rattle.dict_session.specs.declared.session.Session.{Session}
 use Rattle.dict_session.specs.declared.step.Step.TheVariants as steps
+use Rattle.dict_hub.specs.Asking.{IsAwaitedIn}
 use Rattle.dict_hub.specs.Holding.{Holding}
+use Rattle.dict_hub.specs.declared.asking.Incoming.{Incoming}
 use Rattle.dict_hub.specs.declared.kind.Kind.TheVariants.{Dict, Http}
 use Rattle.dict_hub.specs.declared.line.Line.{Line}
 use Rattle.dict_hub.specs.declared.line.Line.TheVariants.{Reader, Editor}
@@ -16,14 +18,15 @@ pub record IsReader (host : List ℕ) (id : ℕ) (session : Session) (held : Hol
   pub same_host : host_of session ≡ host
   pub number : connection_of session ≡ id
 
--- the octets of a request that have come
-pub record IsEditor (octets : List ℕ) (held : Holding) : Type 0 where
+-- the octets of a request that have come, and how many are awaited
+pub record IsEditor (incoming : Incoming) (held : Holding) : Type 0 where
   pub kind : held.kind ≡ Http
-  pub octets_held : octets ≡ held.octets
+  pub octets_held : incoming.octets.items ≡ held.octets
+  pub awaited : IsAwaitedIn incoming.octets.items incoming.awaited
 
 abbrev pub Holds : List ℕ → ℕ → Line → Holding → Type 0
 Holds host id (Reader session) held = IsReader host id session held
-Holds host id (Editor octets) held = IsEditor octets.items held
+Holds host id (Editor incoming) held = IsEditor incoming held
 
 -- it holds this where it is still open
 abbrev pub IsLeft : List ℕ → ℕ → Line → Option Holding → Type 0

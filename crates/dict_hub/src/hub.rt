@@ -2,9 +2,10 @@
 ghost use Rattle.std.specs.Prelude.{◌≡◌, ◌≢◌, ◌++◌, ◌<◌, ℕ, List, Option, [], ◌∷◌, true, None, Some, Ok, Err, IfOk, IfErr, OnOk, OnErr, vec_len, vec_capacity, remove};
 ghost use Rattle.dict_catalogue.specs.Steps.{Catalogue};
 ghost use Rattle.dict_session.specs.Desks.{condition};
-ghost use Rattle.dict_hub.specs.Books.{opening, place_of};
+ghost use Rattle.dict_hub.specs.Books.{IsRefusal, opening, place_of};
 ghost use Rattle.dict_hub.specs.Holding.{Holding, left_by};
 ghost use Rattle.dict_hub.specs.Given.{Greets, Gets};
+ghost use Rattle.dict_hub.specs.declared.kind.Kind.{Kind};
 ghost use Rattle.dict_hub.specs.declared.kind.Kind.TheVariants.{Http};
 ghost use Rattle.dict_hub.specs.declared.asking.Out.TheVariants as outs;
 ghost use Rattle.dict_hub.specs.declared.fault.HubFault.{HubFault};
@@ -44,7 +45,7 @@ pub struct Hub<'h> {
 
 impl<'h> Hub<'h> {
     ghost use Rattle.dict_hub.specs.Hubs.{Has, host_of, greatest_of, count_of};
-    ghost use Rattle.dict_hub.specs.Events.{happening, id_of, admitted, takes_memory, greatest_after, held_after, Serves};
+    ghost use Rattle.dict_hub.specs.Events.{opened, happening, id_of, admitted, takes_memory, greatest_after, held_after, Serves};
     ghost use Rattle.dict_hub.specs.Runs.{State, Standing, Accepted, IsAt, Leads, LeadsOn, beginning};
     ghost use Rattle.dict_io.specs.Streams.{change};
 
@@ -78,6 +79,7 @@ impl<'h> Hub<'h> {
             → admitted held (greatest_of self.old) (count_of self.old) (happening event.entry) ≡ Err fault → result ≡ Err fault }
         ensures memory { (held : Option Holding) → Has self.old (id_of (happening event.entry)) held
             → admitted held (greatest_of self.old) (count_of self.old) (happening event.entry) ≡ Ok tt → IfErr result (λ fault. (fault ≡ Memory) × (takes_memory held (happening event.entry) ≡ true)) }
+        ensures opening { (id : ℕ) (kind : Kind) → happening event.entry ≡ opened id kind → IfErr result (λ fault. IsRefusal (opening id (greatest_of self.old) (count_of self.old)) fault) }
         ensures serves { K.is_trusted desk.new → (M : Catalogue) → K.shows desk.old M → (held : Option Holding) → Has self.old (id_of (happening event.entry)) held
             → IfOk result (λ out. Serves (host_of self.old) (condition K.has_failed K.is_closed desk.new) (K.shows desk.new) (K.leaves_one_of desk.old) (K.leaves_one_of desk.new) M held (happening event.entry) out (S.stream sink.old) (S.stream sink.new)) }
         ensures own { K.is_trusted desk.new → (M : Catalogue) → K.shows desk.old M → (held : Option Holding) → Has self.old (id_of (happening event.entry)) held

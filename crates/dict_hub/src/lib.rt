@@ -9,8 +9,7 @@ mod kind;
 mod laws;
 mod line;
 
-pub use asking::{Out, take_piece};
-pub use book::Book;
+pub use asking::Out;
 pub use fault::HubFault;
 pub use hub::{Event, Hub};
 pub use kind::Kind;

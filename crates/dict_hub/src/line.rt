@@ -8,7 +8,7 @@ ghost use Rattle.dict_hub.specs.declared.kind.Kind.TheVariants.{Http};
 ghost use Rattle.dict_hub.specs.declared.asking.Out.TheVariants as outs;
 ghost use Rattle.dict_hub.specs.declared.fault.HubFault.TheVariants.{Memory};
 
-use crate::asking::{Out, take_piece};
+use crate::asking::{Incoming, Out};
 use crate::fault::HubFault;
 use crate::kind::Kind;
 use dict_desk::Keeper;
@@ -21,7 +21,7 @@ use std::alloc::{AllocError, Global};
 #[derive(Drop)]
 pub enum Line<'h> {
     Reader(Session<'h>),
-    Editor(Vec<u8>),
+    Editor(Incoming),
 }
 
 // A session that has ended closes its connection.
@@ -44,7 +44,7 @@ impl<'h> Line<'h> {
     {
         match kind {
             Kind::Dict => Ok(Line::Reader(Session::new(alloc, host, id)?)),
-            Kind::Http => Ok(Line::Editor(Vec::new(alloc))),
+            Kind::Http => Ok(Line::Editor(Incoming::new(alloc))),
         }
     }
 
@@ -82,7 +82,7 @@ impl<'h> Line<'h> {
     {
         match self {
             Line::Reader(session) => Ok(out_of(session.feed(alloc, piece, desk, sink))),
-            Line::Editor(held) => take_piece(service, alloc, held, piece, desk, sink),
+            Line::Editor(incoming) => incoming.take(service, alloc, piece, desk, sink),
         }
     }
 }

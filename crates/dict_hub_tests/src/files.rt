@@ -1,8 +1,7 @@
 // A catalogue in memory, and what a hub puts over it.
 use crate::checks::same_text;
 use dict_desk::{Keeper, PlainDesk};
-use dict_http::Service;
-use dict_hub::{Event, Hub, take_piece};
+use dict_hub::{Event, Hub, Kind};
 use dict_io::LimitedSink;
 use std::alloc::Global;
 use std::process::Abort;
@@ -21,10 +20,10 @@ pub(crate) const DELETED_TOLD: &str =
 
 // Does what a request asks.
 fn install(alloc: Global, desk: &mut PlainDesk, request: &[u8]) -> Result<(), Fail> {
-    let service = Service::new(alloc)?;
+    let mut hub = Hub::new(alloc, HOST)?;
     let mut sink = LimitedSink::new(alloc, 1000)?;
-    let mut held = Vec::new(alloc);
-    take_piece(&service, alloc, &mut held, request, desk, &mut sink)?;
+    hub.event(desk, Event::Opened(1, Kind::Http), &mut sink)?;
+    hub.event(desk, Event::Bytes(1, request), &mut sink)?;
     Ok(())
 }
 

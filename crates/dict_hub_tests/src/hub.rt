@@ -2,48 +2,68 @@
 use super::files::{HOST, PUT, Row, play, play_anew};
 use crate::checks::{same, same_text};
 use dict_desk::PlainDesk;
-use dict_http::Service;
-use dict_hub::{Book, Event, Hub, HubFault, Kind, Out, take_piece};
+use dict_hub::{Event, Hub, HubFault, Kind, Out};
 use dict_io::LimitedSink;
 use std::alloc::Global;
 use std::process::Abort;
 use std::test::Fail;
 
-// Opens each of 65,536 connections twice and closes it.
-fn one_by_one(rt: &impl Abort, book: &mut Book) {
-    for id in 0..65_536u64 {
-        same(rt, &book.open(id).is_ok(), &true);
-        same(rt, &book.place_of(id), &Some(0));
-        same(rt, &book.open(id), &Err(HubFault::UnknownConnection));
-        if book.len() > 0 {
-            book.close(0);
-        }
+// A hub over a catalogue in memory, and where all that it puts goes.
+#[derive(Drop)]
+struct Run {
+    hub: Hub<'static>,
+    desk: PlainDesk,
+    sink: LimitedSink,
+}
+
+impl Run {
+    fn new(alloc: Global) -> Result<Run, Fail> {
+        Ok(Run {
+            hub: Hub::new(alloc, HOST)?,
+            desk: PlainDesk::new(alloc),
+            sink: LimitedSink::new(alloc, 1000)?,
+        })
+    }
+
+    // Opens an editor's connection.
+    fn open(&mut self, id: u64) -> Result<Out, HubFault> {
+        let event = Event::Opened(id, Kind::Http);
+        self.hub.event(&mut self.desk, event, &mut self.sink)
+    }
+
+    fn end(&mut self, id: u64) -> Result<Out, HubFault> {
+        let event = Event::Ended(id);
+        self.hub.event(&mut self.desk, event, &mut self.sink)
     }
 }
 
-// Opens 64 at once, closes one of them, and may open another.
-fn at_once(rt: &impl Abort, book: &mut Book) {
-    for id in 65_536..65_600u64 {
-        same(rt, &book.open(id).is_ok(), &true);
+// Opens each of 4,096 connections twice and ends it.
+fn one_by_one(rt: &impl Abort, run: &mut Run) {
+    for id in 0..4_096u64 {
+        same(rt, &run.open(id), &Ok(Out::More));
+        same(rt, &run.open(id), &Err(HubFault::UnknownConnection));
+        same(rt, &run.end(id), &Ok(Out::More));
     }
-    same(rt, &book.open(65_600), &Err(HubFault::TooMany));
-    same(rt, &book.open(65_599), &Err(HubFault::UnknownConnection));
-    same(rt, &book.place_of(65_540), &Some(4));
-    if book.len() > 4 {
-        book.close(4);
+}
+
+// Opens 64 at once, ends one of them, and may open another.
+fn at_once(rt: &impl Abort, run: &mut Run) {
+    for id in 4_096..4_160u64 {
+        same(rt, &run.open(id), &Ok(Out::More));
     }
-    same(rt, &book.place_of(65_540), &None);
-    same(rt, &book.place_of(65_541), &Some(4));
-    same(rt, &book.len(), &63);
-    same(rt, &book.admits(65_600).is_ok(), &true);
+    same(rt, &run.open(4_160), &Err(HubFault::TooMany));
+    same(rt, &run.open(4_159), &Err(HubFault::UnknownConnection));
+    same(rt, &run.end(4_100), &Ok(Out::More));
+    same(rt, &run.end(4_100), &Err(HubFault::UnknownConnection));
+    same(rt, &run.open(4_160), &Ok(Out::More));
 }
 
 #[test]
 fn connections_open_and_close(rt: HostRuntime) -> Result<(), Fail> {
-    let mut book = Book::new(rt.alloc())?;
-    one_by_one(&rt, &mut book);
-    same(&rt, &book.open(65_535), &Err(HubFault::UnknownConnection));
-    at_once(&rt, &mut book);
+    let mut run = Run::new(rt.alloc())?;
+    one_by_one(&rt, &mut run);
+    same(&rt, &run.open(4_095), &Err(HubFault::UnknownConnection));
+    at_once(&rt, &mut run);
     Ok(())
 }
 
@@ -72,10 +92,10 @@ fn take_pieces(
     sink: &mut LimitedSink,
     pieces: &[&[u8]],
 ) -> Result<usize, Fail> {
-    let service = Service::new(alloc)?;
-    let mut held = Vec::new(alloc);
+    let mut hub = Hub::new(alloc, HOST)?;
+    hub.event(desk, Event::Opened(1, Kind::Http), sink)?;
     for (count, piece) in pieces.iter().enumerate() {
-        match take_piece(&service, alloc, &mut held, piece, desk, sink)? {
+        match hub.event(desk, Event::Bytes(1, piece), sink)? {
             Out::More => {}
             Out::Close => return Ok(count.saturating_add(1)),
         }

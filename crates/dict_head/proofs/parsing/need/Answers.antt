@@ -2,7 +2,7 @@ use Rattle.dict_head.proofs.LawLemmas.{one}
 use Rattle.dict_head.proofs.parsing.need.Goals as goal
 
 pub returns-in-More-clause-only : goal.returns-in-More-clause-only
-returns-in-More-clause-only c other given = one _ other _ given c.in-More.ensures
+returns-in-More-clause-only c other given = one _ other _ given c.in-More.ensures.0
 
 pub returns-in-Whole-clause-only : goal.returns-in-Whole-clause-only
 returns-in-Whole-clause-only c other given = one _ other _ given c.in-Whole.ensures.0

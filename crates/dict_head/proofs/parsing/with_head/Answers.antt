@@ -1,6 +1,6 @@
 use Rattle.std.proofs.Common.{◌≤◌, ◌+◌, length, take, inl, inr, refl, ap, ◌∙◌, subst, arith, codes}
 use Rattle.dict_head.specs.Fields.{AreValues, values_of}
-use Rattle.dict_head.proofs.HeadLemmas.{needs_with_head, is_request, parsed, all_after}
+use Rattle.dict_head.proofs.HeadLemmas.{awaited_with_head, needs_with_head, is_request, parsed, all_after, whole_bound}
 use Rattle.dict_head.proofs.parsing.with_head.Goals as goal
 
 pub returns-in-Refused : goal.returns-in-Refused
@@ -9,9 +9,11 @@ returns-in-Refused c =
     c.requires.within c.requires.of c.in-Refused.ensures refl
 
 pub returns-then-rest-size : goal.returns-then-rest-size
-returns-then-rest-size c =
-    needs_with_head c.args.octets.now c.args.front.now c.args.headers.now c.args.head.now _ _ c.requires.front c.requires.room
-    c.requires.within c.requires.of c.in-Body.ensures (inl (omega (arith, c.if-rest-size.true), refl))
+returns-then-rest-size c = (
+  needs_with_head c.args.octets.now c.args.front.now c.args.headers.now c.args.head.now _ _ c.requires.front c.requires.room
+      c.requires.within c.requires.of c.in-Body.ensures (inl (omega (arith, c.if-rest-size.true), refl)),
+  awaited_with_head c.args.octets.now c.args.front.now c.args.headers.now c.args.head.now c.in-Body.size c.requires.front c.requires.room c.requires.within c.requires.of c.in-Body.ensures,
+)
 
 pub returns : goal.returns
 returns c =
@@ -27,3 +29,8 @@ returns c =
         body = ap (take c.in-Body.size) (all_after c.args.octets.now c.args.head.now.len);
       },
     )
+
+pub overflow_add-result : goal.overflow_add-result
+overflow_add-result c =
+    let small = whole_bound c.args.octets.now c.args.front.now c.args.headers.now c.args.head.now c.in-Body.size c.requires.front c.requires.within c.in-Body.ensures in
+    omega (arith, small)

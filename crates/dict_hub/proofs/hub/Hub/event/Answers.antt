@@ -1,11 +1,12 @@
-use Rattle.std.proofs.Common.{◌≡◌, ap, sym, subst, refl}
-use Rattle.std.specs.Prelude.{IfOk}
+use Rattle.std.proofs.Common.{◌≡◌, ◌∙◌, ap, sym, subst, refl}
+use Rattle.std.specs.Prelude.{IfErr, IfOk}
 use Rattle.dict_io.specs.Streams.{change}
-use Rattle.dict_hub.specs.Hubs.{Has}
+use Rattle.dict_hub.specs.Books.{IsRefusal, opening}
+use Rattle.dict_hub.specs.Hubs.{Has, count_of, greatest_of}
 use Rattle.dict_hub.specs.Events.{happening, opened, came, ended, id_of}
 use Rattle.dict_hub.specs.Runs.{LeadsOn}
 use Rattle.dict_hub.specs.declared.fault.HubFault.TheVariants.{UnknownConnection}
-use Rattle.dict_hub.proofs.EventLemmas.{serves_piece, own_piece}
+use Rattle.dict_hub.proofs.EventLemmas.{refusal_of, serves_piece, own_piece}
 use Rattle.dict_hub.proofs.RunLemmas.{leads_on, serves_opened, serves_ended, own_ended, on_ok}
 use Rattle.dict_session.specs.Desks.{condition}
 use Rattle.dict_hub.proofs.hub.Hub.event.Goals as goal
@@ -76,3 +77,15 @@ returns-in-Ended-clause-leads g c = λ trusted origin start events state stands 
     (λ none. c.ended.ensures.unknown (subst (λ one. Has c.args.self.now c.in-Ended.id one) none there))
     (λ one some. (c.ended.ensures.known one (subst (λ it. Has c.args.self.now c.in-Ended.id it) some there)).1))
     (on_ok c.ended.result c.ended.ensures.others) (on_ok c.ended.result c.ended.ensures.greatest) c.ended.ensures.host)
+
+pub returns-in-Opened-clause-opening : goal.returns-in-Opened-clause-opening
+returns-in-Opened-clause-opening g c = λ id kind is.
+    let same : c.in-Opened.id ≡ id = ap id_of (sym (ap happening c.in-Opened.is) ∙ is) in
+    subst (λ i. IfErr c.opened.result (λ fault. IsRefusal (opening i (greatest_of c.args.self.now) (count_of c.args.self.now)) fault)) same
+    (refusal_of (opening c.in-Opened.id (greatest_of c.args.self.now) (count_of c.args.self.now)) c.opened.result c.opened.ensures.tests c.opened.ensures.memory)
+
+pub returns-in-Bytes-clause-opening : goal.returns-in-Bytes-clause-opening
+returns-in-Bytes-clause-opening g c = λ id kind is. absurd (let never : came c.in-Bytes.id c.in-Bytes.piece.now ≡ opened id kind = sym (ap happening c.in-Bytes.is) ∙ is in cc)
+
+pub returns-in-Ended-clause-opening : goal.returns-in-Ended-clause-opening
+returns-in-Ended-clause-opening g c = λ id kind is. absurd (let never : ended c.in-Ended.id ≡ opened id kind = sym (ap happening c.in-Ended.is) ∙ is in cc)

@@ -1,12 +1,15 @@
-use Rattle.std.proofs.Common.{◌++◌, ℕ, List, sym, ◌∙◌, subst}
+use Rattle.std.proofs.Common.{◌++◌, ℕ, List, sym, ap, ◌∙◌, subst}
+use Rattle.std.specs.Prelude.{OnErr}
 use Rattle.dict_session.specs.Lines.{cut}
 use Rattle.dict_session.specs.Answers.{answer_to}
 use Rattle.dict_session.specs.Session.{course_of}
 use Rattle.dict_session.specs.Ending.{Wrote}
 use Rattle.dict_hub.specs.Asking.{Awaits, Answers}
 use Rattle.dict_hub.specs.Given.{Gets}
+use Rattle.dict_hub.specs.Holding.{Holding}
+use Rattle.dict_hub.specs.declared.line.Line.TheVariants.{Editor}
 use Rattle.dict_hub.specs.Lines.{Holds, IsReader, IsEditor}
-use Rattle.dict_hub.proofs.LineLemmas.{replies_from, asks_from}
+use Rattle.dict_hub.proofs.LineLemmas.{replies_from, asks_from, held_from, left_from}
 use Rattle.dict_session.specs.Desks.{condition}
 use Rattle.dict_hub.proofs.line.Line.take.Goals as goal
 
@@ -26,14 +29,25 @@ returns-in-Reader-clause-gets g c = λ trusted M shown host id held holds.
 
 pub returns-in-Editor-clause-gets : goal.returns-in-Editor-clause-gets
 returns-in-Editor-clause-gets g c = λ trusted M shown host id held holds.
-    let h : IsEditor c.in-Editor.held.items held = subst (λ line. Holds host id line held) c.in-Editor.is holds in
+    let h : IsEditor c.in-Editor.incoming held = subst (λ line. Holds host id line held) c.in-Editor.is holds in
     let old = g.S.Sink.stream c.args.sink.now in
-    let new = g.S.Sink.stream c.take_piece.new.sink in
-    asks_from host (condition g.K.Lookup.has_failed g.K.Lookup.is_closed c.take_piece.new.desk) (g.K.Lookup.shows c.take_piece.new.desk) (g.K.Lookup.leaves_one_of c.args.desk.now) (g.K.Lookup.leaves_one_of c.take_piece.new.desk) M
-    held.kind (held.octets ++ c.args.piece.now) c.take_piece.new.held.items old new c.take_piece.result h.kind
-    (λ e. subst (λ (o : List ℕ). Awaits (o ++ c.args.piece.now) c.take_piece.new.held.items old new) h.octets_held (c.take_piece.ensures.awaits e))
+    let new = g.S.Sink.stream c.take.new.sink in
+    asks_from host (condition g.K.Lookup.has_failed g.K.Lookup.is_closed c.take.new.desk) (g.K.Lookup.shows c.take.new.desk) (g.K.Lookup.leaves_one_of c.args.desk.now) (g.K.Lookup.leaves_one_of c.take.new.desk) M
+    held.kind (held.octets ++ c.args.piece.now) c.take.new.self.octets.items old new c.take.result h.kind
+    (λ e. subst (λ (o : List ℕ). Awaits (o ++ c.args.piece.now) c.take.new.self.octets.items old new) h.octets_held (c.take.ensures.awaits e h.awaited))
     (λ e. record {
-      shows = subst (λ desk. g.K.Lookup.shows desk M) (sym (c.take_piece.ensures.unasked e)) shown;
-      leaves = λ ms before. subst (λ desk. g.K.Lookup.leaves_one_of desk ms) (sym (c.take_piece.ensures.unasked e)) before;
+      shows = subst (λ desk. g.K.Lookup.shows desk M) (sym (c.take.ensures.unasked e)) shown;
+      leaves = λ ms before. subst (λ desk. g.K.Lookup.leaves_one_of desk ms) (sym (c.take.ensures.unasked e)) before;
     })
-    (λ e. subst (λ (o : List ℕ). Answers (g.K.Lookup.shows c.take_piece.new.desk) (g.K.Lookup.leaves_one_of c.args.desk.now) (g.K.Lookup.leaves_one_of c.take_piece.new.desk) M (o ++ c.args.piece.now) old new) h.octets_held (c.take_piece.ensures.answers e trusted M shown))
+    (λ e. subst (λ (o : List ℕ). Answers (g.K.Lookup.shows c.take.new.desk) (g.K.Lookup.leaves_one_of c.args.desk.now) (g.K.Lookup.leaves_one_of c.take.new.desk) M (o ++ c.args.piece.now) old new) h.octets_held (c.take.ensures.answers e trusted M shown))
+
+pub returns-in-Editor-clause-left : goal.returns-in-Editor-clause-left
+returns-in-Editor-clause-left g c = λ trusted M shown host id held holds.
+    let h : IsEditor c.in-Editor.incoming held = subst (λ line. Holds host id line held) c.in-Editor.is holds in
+    left_from host id held.kind (held.octets ++ c.args.piece.now) c.take.new.self c.take.result h.kind
+    (λ e. (c.take.ensures.awaits e h.awaited).held_all ∙ ap (λ (o : List ℕ). o ++ c.args.piece.now) h.octets_held) (c.take.ensures.awaited h.awaited)
+
+pub returns-in-Editor-clause-held : goal.returns-in-Editor-clause-held
+returns-in-Editor-clause-held g c =
+    subst (λ line. OnErr c.take.result ((host : List ℕ) (id : ℕ) (held : Holding) → Holds host id line held → Holds host id (Editor c.take.new.self) held)) (sym c.in-Editor.is)
+    (held_from c.in-Editor.incoming c.take.new.self c.take.result c.take.ensures.held c.take.ensures.awaited)
