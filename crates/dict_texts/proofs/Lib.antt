@@ -1,0 +1,3 @@
+pub mod SizeLemmas
+pub mod ViewLemmas
+pub mod KeptLemmas

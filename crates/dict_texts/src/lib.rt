@@ -1,0 +1,8 @@
+//! Texts of editions that are kept in memory by the editions' numbers, those that were used last, up to a limit of octets.
+#![tactic(auto)]
+
+#[cfg(test)]
+mod tests;
+mod texts;
+
+pub use texts::{MOST_OCTETS, MOST_TEXTS, Texts};

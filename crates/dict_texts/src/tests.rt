@@ -1,0 +1,60 @@
+use crate::texts::{MOST_TEXTS, Texts};
+use std::alloc::Global;
+use std::process::Abort;
+use std::test::Fail;
+
+fn text(alloc: Global, octets: &[u8]) -> Result<Vec<u8>, Fail> {
+    Ok(Vec::from_slice(alloc, octets)?)
+}
+
+// The text under the number, which is kept still.
+fn same(
+    rt: &impl Abort,
+    texts: &mut Texts,
+    number: u64,
+    wanted: Option<&[u8]>,
+) -> Result<(), Fail> {
+    match (texts.take(number), wanted) {
+        (Some(found), Some(octets)) => {
+            assert!(rt; found.as_slice() == octets, "the text {number}");
+            texts.put(number, found)?;
+            Ok(())
+        }
+        (None, None) => Ok(()),
+        _ => Err(Fail::new("kept, or not")),
+    }
+}
+
+#[test]
+fn a_text_is_kept_under_its_number(rt: HostRuntime) -> Result<(), Fail> {
+    let alloc = rt.alloc();
+    let mut texts = Texts::new(alloc);
+    same(&rt, &mut texts, 1, None)?;
+    texts.put(1, text(alloc, b"opal")?)?;
+    texts.put(2, text(alloc, b"")?)?;
+    texts.put(1, text(alloc, b"fire opal")?)?;
+    same(&rt, &mut texts, 1, Some(b"fire opal"))?;
+    same(&rt, &mut texts, 2, Some(b""))?;
+    assert_eq!(rt; texts.octets, 9);
+    texts.forget_all();
+    same(&rt, &mut texts, 1, None)?;
+    assert_eq!(rt; texts.octets, 0);
+    texts.put(3, text(alloc, b"dot")?)?;
+    same(&rt, &mut texts, 3, Some(b"dot"))
+}
+
+#[test]
+fn one_text_more_takes_the_place_of_the_last(rt: HostRuntime) -> Result<(), Fail> {
+    let alloc = rt.alloc();
+    let mut texts = Texts::new(alloc);
+    for number in 0..MOST_TEXTS as u64 {
+        texts.put(number, text(alloc, b"o")?)?;
+    }
+    same(&rt, &mut texts, 0, Some(b"o"))?;
+    texts.put(1000, text(alloc, b"oo")?)?;
+    same(&rt, &mut texts, 1, None)?;
+    same(&rt, &mut texts, 0, Some(b"o"))?;
+    same(&rt, &mut texts, 2, Some(b"o"))?;
+    assert_eq!(rt; texts.octets, MOST_TEXTS + 1);
+    Ok(())
+}
