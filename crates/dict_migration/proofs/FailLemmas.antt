@@ -1,11 +1,12 @@
 -- Where a part of a migration fails.
-use Rattle.std.proofs.Common.{◌≡◌, ◌⊎◌, ◌≤◌, ◌∙◌, ℕ, ℤ, List, true, codes, inl, inr, ap}
-use Rattle.std.specs.List.{AllByRecursion}
-use Rattle.sqlite.specs.State.{Survives}
+use Rattle.std.proofs.Common.{◌≡◌, ◌⊎◌, ◌∙◌, ℕ, ℤ, List, true, codes, inl, inr, ap, refl, subst}
+use Rattle.sqlite.specs.Order.{Row}
+use Rattle.sqlite.specs.State.{State, Survives}
+use Rattle.sqlite.specs.declared.error.Error.{Error}
 use Rattle.sqlite.specs.Held.{Held, state}
 use Rattle.sqlite.proofs.StateLemmas.{survives_then}
 use Rattle.sqlite_trees.specs.declared.store.Store.{Ghosts}
-use Rattle.dict_sql.specs.Columns.{Content}
+use Rattle.dict_sql.specs.Inserts.{FailsToInsert}
 use Rattle.dict_sql.specs.declared.records.ReadError.{ReadError}
 use Rattle.dict_sql.specs.declared.records.ReadError.TheVariants.{NoRecord, Store}
 use Rattle.dict_catalogue.specs.Items.{edition_numbers}
@@ -15,30 +16,51 @@ use Rattle.dict_desk.specs.declared.fault.Fault.TheVariants.{Memory, Disk}
 use Rattle.dict_file.specs.Faults.{fault_of_read}
 use Rattle.dict_migration_sql.specs.Copied.{FailsToCopy}
 use Rattle.dict_migration_sql.proofs.CopyLemmas.{none_more}
-use Rattle.dict_migration.specs.Failing.{Part, reading, putting, FailsBy, FailsInside, FailsToSign}
+use Rattle.dict_migration.specs.declared.aside.Older.{Older}
+use Rattle.dict_migration.specs.Parts.{Part, reading, putting, FailsBy}
+use Rattle.dict_migration.specs.Places.{Place, InCopy, columns_of}
+use Rattle.dict_migration.specs.Failing.{FailsInside, FailsToSign, IsBeyond}
+use Rattle.dict_migration.proofs.PlaceLemmas.{Leads}
 
 module _ {S : Type 0} (g : Ghosts S) where
   -- the part is the first of those that were handed in
-  pub fails_here : (part : Part) (old new : Held S) (e : ReadError) → FailsBy part (state g old) (state g new) e → FailsInside g old new e
-  fails_here part old new e fails = record { at = old; before = none_more (state g old); inside = λ h. h; part = part; fails = fails }
+  pub fails_here : (P : Place) (part : Part) (old new : Held S) (e : ReadError) → P part (state g old).now (state g old).now → FailsBy part (state g old) (state g new) e → FailsInside g P old new e
+  fails_here P part old new e place fails = record { at = old; before = none_more (state g old); inside = λ h. h; part = part; place = place; fails = fails }
 
   -- others went well before
-  pub fails_later : (old mid new : Held S) (e : ReadError) → Survives (state g old) (state g mid) (λ _. ⊥) → ((state g old).in_transaction ≡ true → (state g mid).in_transaction ≡ true) → FailsInside g mid new e → FailsInside g old new e
-  fails_later old mid new e survives inside h = record {
+  pub fails_later : (P Q : Place) (old mid new : Held S) (e : ReadError) → Survives (state g old) (state g mid) (λ _. ⊥) → ((state g old).in_transaction ≡ true → (state g mid).in_transaction ≡ true) → Leads P (state g mid).now Q (state g old).now
+      → FailsInside g P mid new e → FailsInside g Q old new e
+  fails_later P Q old mid new e survives inside leads h = record {
     at = h.at;
     before = survives_then (state g old) (state g mid) (state g h.at) (λ _. ⊥) (λ _. ⊥) (λ _. ⊥) (λ _ db none. none) (λ _ db none. none) survives h.before;
     inside = λ begun. h.inside (inside begun);
     part = h.part;
+    place = leads h.part (state g h.at).now h.place;
     fails = h.fails;
   }
 
-  pub fails_copy : (columns : List Content) (number : ℤ) (old new : Held S) (e : ReadError) → FailsToCopy g columns number old new e → FailsInside g old new e
-  fails_copy columns number old new NoRecord h = fails_here (reading (codes "entry") columns number) old new NoRecord h
-  fails_copy columns number old new (Store e) (inl h) = fails_here (reading (codes "entry") columns number) old new (Store e) h
-  fails_copy columns number old new (Store e) (inr h) = record { at = h.at; before = h.before; inside = h.inside; part = putting (codes "dictcat_entry") h.row; fails = h.fails }
+  -- the places of a call are some of another's
+  pub fails_within : (P Q : Place) (old new : Held S) (e : ReadError) → Leads P (state g old).now Q (state g old).now → FailsInside g P old new e → FailsInside g Q old new e
+  fails_within P Q old new e leads h = record { at = h.at; before = h.before; inside = h.inside; part = h.part; place = leads h.part (state g h.at).now h.place; fails = h.fails }
+
+  pub fails_copy : (older : Older) (number : ℤ) (old new : Held S) (e : ReadError) → FailsToCopy g (columns_of older) number old new e → FailsInside g (InCopy older number) old new e
+  fails_copy older number old new NoRecord h = fails_here (InCopy older number) (reading (codes "entry") (columns_of older) number) old new NoRecord (inl (refl, refl)) h
+  fails_copy older number old new (Store e) (inl h) = fails_here (InCopy older number) (reading (codes "entry") (columns_of older) number) old new (Store e) (inl (refl, refl)) h
+  fails_copy older number old new (Store e) (inr h) = record {
+    at = h.at;
+    before = h.before;
+    inside = h.inside;
+    part = putting (codes "dictcat_entry") h.row;
+    place = inr (record { put = h.put; row = h.row; rest = h.rest; these = h.these; is = refl; added = h.added });
+    fails = h.fails;
+  }
+
+-- a row that wasn't put in, told as another one that is the same
+pub inserted_as : (name : List ℕ) (row same : Row) (old new : State) (e : Error) → FailsToInsert name row old new e → row ≡ same → FailsToInsert name same old new e
+inserted_as name row same old new e fails is = subst (λ (r : Row). FailsToInsert name r old new e) is fails
 
 -- before anything was begun
 pub why_not_begun : (summary : Holdings (List ℕ)) (e : ReadError) (fault : Fault) → fault ≡ fault_of_read e → FailsToSign (edition_numbers summary.items) e
-    → (fault ≡ Memory) ⊎ ((fault ≡ Disk) × ((summary.installs ≤ 9223372036854775807) × AllByRecursion (λ number. number ≤ 9223372036854775807) (edition_numbers summary.items) → ⊥))
+    → (fault ≡ Memory) ⊎ ((fault ≡ Disk) × IsBeyond summary)
 why_not_begun summary NoRecord fault told h = inr (told, λ both. h both.1)
 why_not_begun summary (Store e) fault told h = inl (told ∙ ap (λ e. fault_of_read (Store e)) h)

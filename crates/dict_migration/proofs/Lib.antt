@@ -10,4 +10,5 @@ pub mod RoomLemmas
 pub mod MovedLemmas
 pub mod EndLemmas
 pub mod MakingLemmas
+pub mod PlaceLemmas
 pub mod FailLemmas

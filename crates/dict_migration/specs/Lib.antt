@@ -5,4 +5,6 @@ pub mod UnderWay
 pub mod Older
 pub mod Moved
 pub mod Making
+pub mod Parts
+pub mod Places
 pub mod Failing

@@ -6,6 +6,7 @@ ghost use Rattle.dict_migration_sql.specs.Copied.{HasBoth, IsCopied};
 ghost use Rattle.dict_migration.specs.Older.{AreGone, IsAside, IsOld, OwnsOld, form_of};
 ghost use Rattle.dict_migration.specs.Steps.{AreCopied};
 ghost use Rattle.dict_sql.specs.declared.records.ReadError.TheVariants.{Store};
+ghost use Rattle.dict_migration.specs.Places.{InAside, InCopy, InDrops, InTurn};
 ghost use Rattle.dict_migration.specs.Failing.{FailsInside};
 
 use dict_keyed_sql::drop_keyed_table;
@@ -35,7 +36,7 @@ fn copy_number<S: Alter>(
     ensures same_reference { tx.new.conn.ghost_name ≡ tx.old.conn.ghost_name }
     ensures copied { HasCleanDisk (seen S.Store tx.new) → OnOk result (IsCopied number (seen S.Store tx.old).now (seen S.Store tx.new).now) }
     ensures inside { HasCleanDisk (seen S.Store tx.new) → OnOk result ((seen S.Store tx.old).in_transaction ≡ true → (seen S.Store tx.new).in_transaction ≡ true) }
-    ensures failed { HasCleanDisk (seen S.Store tx.new) → IfErr result (FailsInside S.Store tx.old.conn.now tx.new.conn.now) }
+    ensures failed { HasCleanDisk (seen S.Store tx.new) → IfErr result (FailsInside S.Store (InCopy layout number) tx.old.conn.now tx.new.conn.now) }
     ensures keeps { HasCleanDisk (seen S.Store tx.new) → KeepsCommit (seen S.Store tx.old) (seen S.Store tx.new) }
     ensures survives { Survives (seen S.Store tx.old) (seen S.Store tx.new) (λ _. ⊥) }
 {
@@ -56,7 +57,7 @@ fn copy_numbers<S: Alter>(
     ensures same_reference { tx.new.conn.ghost_name ≡ tx.old.conn.ghost_name }
     ensures copied { HasCleanDisk (seen S.Store tx.new) → OnOk result (AreCopied numbers.now (seen S.Store tx.old).now (seen S.Store tx.new).now) }
     ensures inside { HasCleanDisk (seen S.Store tx.new) → OnOk result ((seen S.Store tx.old).in_transaction ≡ true → (seen S.Store tx.new).in_transaction ≡ true) }
-    ensures failed { HasCleanDisk (seen S.Store tx.new) → IfErr result (FailsInside S.Store tx.old.conn.now tx.new.conn.now) }
+    ensures failed { HasCleanDisk (seen S.Store tx.new) → IfErr result (FailsInside S.Store (InTurn AreCopied (InCopy layout) numbers.now) tx.old.conn.now tx.new.conn.now) }
     ensures keeps { HasCleanDisk (seen S.Store tx.new) → KeepsCommit (seen S.Store tx.old) (seen S.Store tx.new) }
     ensures survives { Survives (seen S.Store tx.old) (seen S.Store tx.new) (λ _. ⊥) }
 {
@@ -72,7 +73,7 @@ fn drop_keyed<S: Alter>(tx: &mut Transaction<'_, S>) -> Result<(), Error>
     ensures same_reference { tx.new.conn.ghost_name ≡ tx.old.conn.ghost_name }
     ensures gone { HasCleanDisk (seen S.Store tx.new) → OnOk result (AreGone Older.Keyed (seen S.Store tx.old).now (seen S.Store tx.new).now) }
     ensures inside { HasCleanDisk (seen S.Store tx.new) → OnOk result ((seen S.Store tx.new).in_transaction ≡ true) }
-    ensures failed { HasCleanDisk (seen S.Store tx.new) → IfErr result (λ e. FailsInside S.Store tx.old.conn.now tx.new.conn.now (Store e)) }
+    ensures failed { HasCleanDisk (seen S.Store tx.new) → IfErr result (λ e. FailsInside S.Store (InDrops Older.Keyed) tx.old.conn.now tx.new.conn.now (Store e)) }
     ensures keeps { HasCleanDisk (seen S.Store tx.new) → KeepsCommit (seen S.Store tx.old) (seen S.Store tx.new) }
     ensures survives { Survives (seen S.Store tx.old) (seen S.Store tx.new) (λ _. ⊥) }
 {
@@ -88,7 +89,7 @@ fn drop_old<S: Alter>(tx: &mut Transaction<'_, S>, layout: Older) -> Result<(), 
     ensures same_reference { tx.new.conn.ghost_name ≡ tx.old.conn.ghost_name }
     ensures gone { HasCleanDisk (seen S.Store tx.new) → OnOk result (AreGone layout (seen S.Store tx.old).now (seen S.Store tx.new).now) }
     ensures inside { HasCleanDisk (seen S.Store tx.new) → OnOk result ((seen S.Store tx.new).in_transaction ≡ true) }
-    ensures failed { HasCleanDisk (seen S.Store tx.new) → IfErr result (λ e. FailsInside S.Store tx.old.conn.now tx.new.conn.now (Store e)) }
+    ensures failed { HasCleanDisk (seen S.Store tx.new) → IfErr result (λ e. FailsInside S.Store (InDrops layout) tx.old.conn.now tx.new.conn.now (Store e)) }
     ensures keeps { HasCleanDisk (seen S.Store tx.new) → KeepsCommit (seen S.Store tx.old) (seen S.Store tx.new) }
     ensures survives { Survives (seen S.Store tx.old) (seen S.Store tx.new) (λ _. ⊥) }
 {
@@ -112,7 +113,7 @@ pub(crate) fn put_aside<S: Alter>(
     ensures same_reference { tx.new.conn.ghost_name ≡ tx.old.conn.ghost_name }
     ensures aside { HasCleanDisk (seen S.Store tx.new) → OnOk result (IsAside layout numbers.now (seen S.Store tx.old).now (seen S.Store tx.new).now) }
     ensures inside { HasCleanDisk (seen S.Store tx.new) → OnOk result ((seen S.Store tx.new).in_transaction ≡ true) }
-    ensures failed { HasCleanDisk (seen S.Store tx.new) → IfErr result (FailsInside S.Store tx.old.conn.now tx.new.conn.now) }
+    ensures failed { HasCleanDisk (seen S.Store tx.new) → IfErr result (FailsInside S.Store (InAside layout numbers.now) tx.old.conn.now tx.new.conn.now) }
     ensures keeps { HasCleanDisk (seen S.Store tx.new) → KeepsCommit (seen S.Store tx.old) (seen S.Store tx.new) }
     ensures survives { Survives (seen S.Store tx.old) (seen S.Store tx.new) (λ _. ⊥) }
 {

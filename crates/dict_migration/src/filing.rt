@@ -11,6 +11,8 @@ ghost use Rattle.dict_sql.specs.Keyed.{keyed_entry_row};
 ghost use Rattle.dict_rows.specs.Given.{entries_given};
 ghost use Rattle.dict_derived.specs.Entries.{filed};
 ghost use Rattle.dict_migration.specs.Steps.{AreFiled, HasFour, IsFiledOne, keys_of};
+ghost use Rattle.dict_migration.specs.Parts.{putting};
+ghost use Rattle.dict_migration.specs.Places.{Either, First, InEdition, InEntries, InMemory, InTurn};
 ghost use Rattle.dict_migration.specs.Failing.{FailsInside};
 
 use crate::pieces::{file_grams, file_words};
@@ -33,7 +35,7 @@ fn put_entry<S: Alter>(
     ensures same_reference { tx.new.conn.ghost_name ≡ tx.old.conn.ghost_name }
     ensures key { IfOk result (λ key. key ≡ key_of (owned_entry entry.now).headword) }
     ensures added { HasCleanDisk (seen S.Store tx.new) → OnOk result (Inserts (codes "entry") (keyed_entry_row (filed (owned_entry entry.now))) (seen S.Store tx.old) (seen S.Store tx.new)) }
-    ensures failed { HasCleanDisk (seen S.Store tx.new) → IfErr result (FailsInside S.Store tx.old.conn.now tx.new.conn.now) }
+    ensures failed { HasCleanDisk (seen S.Store tx.new) → IfErr result (FailsInside S.Store (Either InMemory (First (putting (codes "entry") (keyed_entry_row (filed (owned_entry entry.now)))))) tx.old.conn.now tx.new.conn.now) }
     ensures keeps { HasCleanDisk (seen S.Store tx.new) → KeepsCommit (seen S.Store tx.old) (seen S.Store tx.new) }
     ensures survives { Survives (seen S.Store tx.old) (seen S.Store tx.new) (λ _. ⊥) }
 {
@@ -63,7 +65,7 @@ fn put_entries<S: Alter>(
     ensures keys { IfOk result (λ keys. keys.items ≡ keys_of (entries_given entries.now)) }
     ensures added { HasCleanDisk (seen S.Store tx.new) → OnOk result (AreAdded (codes "entry") (map keyed_entry_row (map filed (entries_given entries.now))) (seen S.Store tx.old).now (seen S.Store tx.new).now) }
     ensures inside { HasCleanDisk (seen S.Store tx.new) → OnOk result ((seen S.Store tx.old).in_transaction ≡ true → (seen S.Store tx.new).in_transaction ≡ true) }
-    ensures failed { HasCleanDisk (seen S.Store tx.new) → IfErr result (FailsInside S.Store tx.old.conn.now tx.new.conn.now) }
+    ensures failed { HasCleanDisk (seen S.Store tx.new) → IfErr result (FailsInside S.Store (InEntries (entries_given entries.now)) tx.old.conn.now tx.new.conn.now) }
     ensures keeps { HasCleanDisk (seen S.Store tx.new) → KeepsCommit (seen S.Store tx.old) (seen S.Store tx.new) }
     ensures survives { Survives (seen S.Store tx.old) (seen S.Store tx.new) (λ _. ⊥) }
 {
@@ -85,7 +87,7 @@ fn file_edition<S: Alter>(
     ensures same_reference { tx.new.conn.ghost_name ≡ tx.old.conn.ghost_name }
     ensures filed { HasCleanDisk (seen S.Store tx.new) → OnOk result (IsFiledOne number (seen S.Store tx.old).now (seen S.Store tx.new).now) }
     ensures inside { HasCleanDisk (seen S.Store tx.new) → OnOk result ((seen S.Store tx.old).in_transaction ≡ true → (seen S.Store tx.new).in_transaction ≡ true) }
-    ensures failed { HasCleanDisk (seen S.Store tx.new) → IfErr result (FailsInside S.Store tx.old.conn.now tx.new.conn.now) }
+    ensures failed { HasCleanDisk (seen S.Store tx.new) → IfErr result (FailsInside S.Store (InEdition number) tx.old.conn.now tx.new.conn.now) }
     ensures keeps { HasCleanDisk (seen S.Store tx.new) → KeepsCommit (seen S.Store tx.old) (seen S.Store tx.new) }
     ensures survives { Survives (seen S.Store tx.old) (seen S.Store tx.new) (λ _. ⊥) }
 {
@@ -106,7 +108,7 @@ pub(crate) fn file_editions<S: Alter>(
     ensures same_reference { tx.new.conn.ghost_name ≡ tx.old.conn.ghost_name }
     ensures filed { HasCleanDisk (seen S.Store tx.new) → OnOk result (AreFiled numbers.now (seen S.Store tx.old).now (seen S.Store tx.new).now) }
     ensures inside { HasCleanDisk (seen S.Store tx.new) → OnOk result ((seen S.Store tx.old).in_transaction ≡ true → (seen S.Store tx.new).in_transaction ≡ true) }
-    ensures failed { HasCleanDisk (seen S.Store tx.new) → IfErr result (FailsInside S.Store tx.old.conn.now tx.new.conn.now) }
+    ensures failed { HasCleanDisk (seen S.Store tx.new) → IfErr result (FailsInside S.Store (InTurn AreFiled InEdition numbers.now) tx.old.conn.now tx.new.conn.now) }
     ensures keeps { HasCleanDisk (seen S.Store tx.new) → KeepsCommit (seen S.Store tx.old) (seen S.Store tx.new) }
     ensures survives { Survives (seen S.Store tx.old) (seen S.Store tx.new) (λ _. ⊥) }
 {

@@ -8,6 +8,7 @@ ghost use Rattle.dict_sql.specs.Drops.{IsDropped};
 ghost use Rattle.dict_sql.specs.Effects.{WhileOpen, seen};
 ghost use Rattle.dict_migration.specs.Moved.{IsMarked};
 ghost use Rattle.dict_sql.specs.declared.records.ReadError.TheVariants.{Store};
+ghost use Rattle.dict_migration.specs.Places.{InMark};
 ghost use Rattle.dict_migration.specs.Failing.{FailsInside};
 
 use dict_migration_sql::drop_helper;
@@ -24,7 +25,7 @@ pub(crate) fn renew_mark<S: Alter>(tx: &mut Transaction<'_, S>, installs: u64) -
     ensures same_reference { tx.new.conn.ghost_name ≡ tx.old.conn.ghost_name }
     ensures marked { HasCleanDisk (seen S.Store tx.new) → OnOk result (IsMarked installs (seen S.Store tx.old).now (seen S.Store tx.new).now) }
     ensures inside { HasCleanDisk (seen S.Store tx.new) → OnOk result ((seen S.Store tx.new).in_transaction ≡ true) }
-    ensures failed { HasCleanDisk (seen S.Store tx.new) → IfErr result (λ e. FailsInside S.Store tx.old.conn.now tx.new.conn.now (Store e)) }
+    ensures failed { HasCleanDisk (seen S.Store tx.new) → IfErr result (λ e. FailsInside S.Store (InMark installs) tx.old.conn.now tx.new.conn.now (Store e)) }
     ensures keeps { HasCleanDisk (seen S.Store tx.new) → KeepsCommit (seen S.Store tx.old) (seen S.Store tx.new) }
     ensures survives { Survives (seen S.Store tx.old) (seen S.Store tx.new) (λ _. ⊥) }
 {

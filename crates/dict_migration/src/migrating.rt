@@ -16,6 +16,7 @@ ghost use Rattle.dict_file.specs.Writing.{Stays};
 ghost use Rattle.dict_migration.specs.Migrated.{MayMigrate};
 ghost use Rattle.dict_migration.specs.Moved.{AreTreesOf, IsCommitted, IsOfMigration, IsOutcome, IsRefilled};
 ghost use Rattle.dict_migration.specs.Older.{IsOld, layout_as};
+ghost use Rattle.dict_migration.specs.Places.{InMove, InRefill};
 ghost use Rattle.dict_migration.specs.Failing.{FailsInside, FailsToEnd, FailsToMigrate, FailsToSign};
 
 use crate::aside::{Older, put_aside};
@@ -45,7 +46,7 @@ fn refill<S: Alter>(
     ensures same_reference { tx.new.conn.ghost_name ≡ tx.old.conn.ghost_name }
     ensures filled { HasCleanDisk (seen S.Store tx.new) → OnOk result (IsRefilled layout numbers.now (seen S.Store tx.old).now (seen S.Store tx.new).now) }
     ensures inside { HasCleanDisk (seen S.Store tx.new) → OnOk result ((seen S.Store tx.new).in_transaction ≡ true) }
-    ensures failed { HasCleanDisk (seen S.Store tx.new) → IfErr result (FailsInside S.Store tx.old.conn.now tx.new.conn.now) }
+    ensures failed { HasCleanDisk (seen S.Store tx.new) → IfErr result (FailsInside S.Store (InRefill layout numbers.now) tx.old.conn.now tx.new.conn.now) }
     ensures keeps { HasCleanDisk (seen S.Store tx.new) → KeepsCommit (seen S.Store tx.old) (seen S.Store tx.new) }
     ensures survives { Survives (seen S.Store tx.old) (seen S.Store tx.new) (λ _. ⊥) }
 {
@@ -68,7 +69,7 @@ fn migrate_inside<S: Alter>(
     ensures same_reference { tx.new.conn.ghost_name ≡ tx.old.conn.ghost_name }
     ensures moved { HasCleanDisk (seen S.Store tx.new) → OnOk result (IsOutcome layout numbers.now installs (seen S.Store tx.old) (seen S.Store tx.new).now × IsDatabase (seen S.Store tx.new).now) }
     ensures inside { HasCleanDisk (seen S.Store tx.new) → OnOk result ((seen S.Store tx.new).in_transaction ≡ true) }
-    ensures failed { HasCleanDisk (seen S.Store tx.new) → IfErr result (FailsInside S.Store tx.old.conn.now tx.new.conn.now) }
+    ensures failed { HasCleanDisk (seen S.Store tx.new) → IfErr result (FailsInside S.Store (InMove layout numbers.now installs) tx.old.conn.now tx.new.conn.now) }
     ensures keeps { HasCleanDisk (seen S.Store tx.new) → KeepsCommit (seen S.Store tx.old) (seen S.Store tx.new) }
     ensures survives { Survives (seen S.Store tx.old) (seen S.Store tx.new) (λ _. ⊥) }
 {
@@ -102,7 +103,7 @@ fn migrate_from<S: Alter>(
     ensures made { HasCleanDisk (state S.Store conn.new) → OnOk result (IsCommitted (IsOutcome layout numbers.now installs (state S.Store conn.old)) (state S.Store conn.new)) }
     ensures stays { HasCleanDisk (state S.Store conn.new) → OnErr result (Stays (state S.Store conn.old) (state S.Store conn.new)) }
     ensures adds_none { IfErr result (λ fault. is_disk fault ≡ false → Survives (state S.Store conn.old) (state S.Store conn.new) (λ _. ⊥)) }
-    ensures failed { HasCleanDisk (state S.Store conn.new) → IfErr result (FailsToEnd S.Store (IsOutcome layout numbers.now installs (state S.Store conn.old)) conn.old conn.new) }
+    ensures failed { HasCleanDisk (state S.Store conn.new) → IfErr result (FailsToEnd S.Store (InMove layout numbers.now installs) (IsOutcome layout numbers.now installs (state S.Store conn.old)) conn.old conn.new) }
     ensures kinds { IfErr result IsOfMigration }
     ensures autocommit { (state S.Store conn.new).in_transaction ≡ false }
     ensures crash { Survives (state S.Store conn.old) (state S.Store conn.new) (AreTreesOf (IsOutcome layout numbers.now installs (state S.Store conn.old))) }

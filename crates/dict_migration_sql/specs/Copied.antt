@@ -1,5 +1,5 @@
 -- The entries of an edition of an older schema, copied into the helper table, and why they weren't.
-use Rattle.std.specs.Prelude.{◌≡◌, ◌⊎◌, ℤ, true, List, map, take, drop, filter, codes}
+use Rattle.std.specs.Prelude.{◌≡◌, ◌⊎◌, ◌++◌, ℤ, true, List, ◌∷◌, map, take, drop, filter, codes, IsPermutation}
 use Rattle.sqlite.specs.Order.{Row}
 use Rattle.sqlite.specs.Effect.{Database}
 use Rattle.sqlite.specs.State.{Survives}
@@ -34,15 +34,20 @@ pub record HasBoth (form : EntryForm) (db : Database) : Type 0 where
   pub helper : Has helper db
 
 module _ {S : Type 0} (g : Ghosts S) where
-  -- At this moment of the transaction, before which nothing was committed, a row wasn't put into the helper.
-  pub record FailsToPut (old new : Held S) (e : Error) : Type 0 where
+  -- One of these rows wasn't put into the helper, at the moment of the transaction when just some of the others had been, and before
+  -- which nothing was committed.
+  pub record FailsToPut (rows : List Row) (old new : Held S) (e : Error) : Type 0 where
     pub at : Held S
     pub before : Survives (state g old) (state g at) (λ _. ⊥)
     pub inside : (state g old).in_transaction ≡ true → (state g at).in_transaction ≡ true
+    pub put : List Row
     pub row : Row
+    pub rest : List Row
+    pub these : IsPermutation (put ++ row ∷ rest) rows
+    pub added : AreAdded (codes "dictcat_entry") put (state g old).now (state g at).now
     pub fails : FailsToInsert (codes "dictcat_entry") row (state g at) (state g new) e
 
   -- The entries weren't read, or, of the store's errors, one of them wasn't put in.
   abbrev pub FailsToCopy : List Content → ℤ → Held S → Held S → ReadError → Type 0
   FailsToCopy columns edition old new NoRecord = FailsToList columns (entries_of edition (state g old).now) (state g old) (state g new) NoRecord
-  FailsToCopy columns edition old new (Store e) = FailsToList columns (entries_of edition (state g old).now) (state g old) (state g new) (Store e) ⊎ FailsToPut old new e
+  FailsToCopy columns edition old new (Store e) = FailsToList columns (entries_of edition (state g old).now) (state g old) (state g new) (Store e) ⊎ FailsToPut (map plain_row (entries_of edition (state g old).now)) old new e

@@ -29,7 +29,7 @@ fn put_entries<S: Alter, T: OpenTransaction<S>>(
     ensures same_reference { T.reference tx.new ≡ T.reference tx.old }
     ensures added { HasCleanDisk (state S.Store (T.held tx.new)) → OnOk result (AreAdded (codes "dictcat_entry") (map (λ r. plain_row (stored_entry r)) all.now) (state S.Store (T.held tx.old)).now (state S.Store (T.held tx.new)).now) }
     ensures inside { HasCleanDisk (state S.Store (T.held tx.new)) → OnOk result ((state S.Store (T.held tx.old)).in_transaction ≡ true → (state S.Store (T.held tx.new)).in_transaction ≡ true) }
-    ensures failed { HasCleanDisk (state S.Store (T.held tx.new)) → IfErr result (FailsToPut S.Store (T.held tx.old) (T.held tx.new)) }
+    ensures failed { HasCleanDisk (state S.Store (T.held tx.new)) → IfErr result (FailsToPut S.Store (map (λ r. plain_row (stored_entry r)) all.now) (T.held tx.old) (T.held tx.new)) }
     ensures keeps { HasCleanDisk (state S.Store (T.held tx.new)) → KeepsCommit (state S.Store (T.held tx.old)) (state S.Store (T.held tx.new)) }
     ensures survives { Survives (state S.Store (T.held tx.old)) (state S.Store (T.held tx.new)) (λ _. ⊥) }
 {
@@ -48,7 +48,7 @@ fn put_old_entries<S: Alter, T: OpenTransaction<S>>(
     ensures same_reference { T.reference tx.new ≡ T.reference tx.old }
     ensures added { HasCleanDisk (state S.Store (T.held tx.new)) → OnOk result (AreAdded (codes "dictcat_entry") (map (λ r. plain_row (stored_old_entry r)) all.now) (state S.Store (T.held tx.old)).now (state S.Store (T.held tx.new)).now) }
     ensures inside { HasCleanDisk (state S.Store (T.held tx.new)) → OnOk result ((state S.Store (T.held tx.old)).in_transaction ≡ true → (state S.Store (T.held tx.new)).in_transaction ≡ true) }
-    ensures failed { HasCleanDisk (state S.Store (T.held tx.new)) → IfErr result (FailsToPut S.Store (T.held tx.old) (T.held tx.new)) }
+    ensures failed { HasCleanDisk (state S.Store (T.held tx.new)) → IfErr result (FailsToPut S.Store (map (λ r. plain_row (stored_old_entry r)) all.now) (T.held tx.old) (T.held tx.new)) }
     ensures keeps { HasCleanDisk (state S.Store (T.held tx.new)) → KeepsCommit (state S.Store (T.held tx.old)) (state S.Store (T.held tx.new)) }
     ensures survives { Survives (state S.Store (T.held tx.old)) (state S.Store (T.held tx.new)) (λ _. ⊥) }
 {

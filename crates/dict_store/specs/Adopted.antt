@@ -4,13 +4,12 @@ use Rattle.sqlite.specs.State.{HasCleanDisk, Survives}
 use Rattle.sqlite.specs.Held.{Held, state}
 use Rattle.sqlite_trees.specs.declared.store.Store.{Ghosts}
 use Rattle.dict_catalogue.specs.Steps.{Catalogue, summary_of}
-use Rattle.dict_catalogue.specs.Tests.{Holdings}
 use Rattle.dict_desk.specs.Faults.{is_disk}
 use Rattle.dict_desk.specs.declared.fault.Fault.{Fault}
 use Rattle.dict_desk.specs.declared.fault.Fault.TheVariants.{Disk}
 use Rattle.dict_file.specs.Holds.{Holds, IsHeld, Rests}
 use Rattle.dict_opening.specs.Reading.{IsOfOpening, HasFailed}
-use Rattle.dict_migration.specs.Failing.{FailsToMigrate}
+use Rattle.dict_migration.specs.Failing.{IsBeyond, FailsToMove}
 use Rattle.dict_migration.specs.Migrated.{MayMigrate}
 use Rattle.dict_store.specs.Desk.{DeskState, Shows, LeavesOneOf}
 use Rattle.dict_store.specs.Opened.{IsTold, IsNotHeld}
@@ -39,20 +38,16 @@ module _ {S : Type 0} (g : Ghosts S) where
     pub adds_none : is_disk fault ≡ false → Survives (state g (record conn { step_limit = None })) (state g left) (λ _. ⊥)
     pub crash : Survives (state g (record conn { step_limit = None })) (state g left) (MayMigrate (state g conn))
 
-  -- The database was read, and held a catalogue under an older version; and one of the statements that make tables of the known
-  -- version of it failed, or their commit did.
-  pub record FailsToRenew (conn left : Held S) (fault : Fault) : Type 0 where
-    pub read : Held S
-    pub only_read : Survives (state g conn) (state g read) (λ _. ⊥)
-    pub same : (state g read).committed ≡ (state g conn).committed
+  -- The database holds a catalogue under an older version, and of just this database's tables those of the known one weren't made:
+  -- a number of the catalogue is above all that a column holds, or a part of its migration failed, behind all that comes before
+  -- that part, or its commit did, behind all of them.
+  pub record FailsToRenew (conn left : Held S) : Type 0 where
     pub version : ℕ
     pub older : version < known
     pub catalogue : Catalogue
     pub holds : Holds version (state g conn).committed catalogue
-    pub summary : Holdings (List ℕ)
-    pub told : summary ≡ summary_of catalogue
-    pub fails : FailsToMigrate g version summary read left fault
+    pub fails : IsBeyond (summary_of catalogue) ⊎ FailsToMove g version (summary_of catalogue) conn left Disk
 
   -- Why an opening is told `Disk`: the store failed while the database was read, or the making of its new tables did.
   abbrev pub FailsToOpen : Held S → Held S → Type 0
-  FailsToOpen conn left = HasFailed (state g conn) (state g left) ⊎ FailsToRenew conn left Disk
+  FailsToOpen conn left = HasFailed (state g conn) (state g left) ⊎ FailsToRenew conn left

@@ -1,7 +1,12 @@
 use Rattle.std.specs.Prelude.{Result, Ok, Err, IfErr}
-use Rattle.dict_sql.specs.Columns.{entry_columns}
-use Rattle.dict_sql.specs.Keyed.{old_entry_columns}
 use Rattle.dict_migration.specs.Failing.{FailsInside}
+use Rattle.dict_migration.specs.Places.{InCopy}
+use Rattle.dict_migration.specs.declared.aside.Older.{Older}
+use Rattle.dict_migration.specs.declared.aside.Older.TheVariants.{Plain, Keyed}
+use Rattle.std.proofs.lemmas.Int.{to_z-of_z}
+use mir.Syntax.{w64}
+use mir.Val.{to_z, of_z}
+use Rattle.std.proofs.Common.{◌≡◌, ℤ, subst, sym}
 use Rattle.dict_migration.proofs.FailLemmas.{fails_copy}
 use Rattle.dict_migration.proofs.aside.copy_number.Goals as goal
 
@@ -13,10 +18,14 @@ pub returns-in-Plain-clause-failed : goal.returns-in-Plain-clause-failed
 returns-in-Plain-clause-failed g c clean =
     let old = c.args.tx.now.conn.now in
     let new = c.copy_edition.new.tx.conn.now in
-    each_err c.copy_edition.result _ (FailsInside g.S.Store old new) (λ e h. fails_copy g.S.Store entry_columns _ old new e h) (c.copy_edition.ensures.failed clean)
+    let same : to_z w64 (of_z w64 c.args.number) ≡ c.args.number = to_z-of_z w64 c.args.number c.ranges.number in
+    let fails = each_err c.copy_edition.result _ (FailsInside g.S.Store (InCopy Plain (to_z w64 (of_z w64 c.args.number))) old new) (λ e h. fails_copy g.S.Store Plain _ old new e h) (c.copy_edition.ensures.failed clean) in
+    subst (λ (o : Older). IfErr c.copy_edition.result (FailsInside g.S.Store (InCopy o c.args.number) old new)) (sym c.in-Plain.is) (subst (λ (n : ℤ). IfErr c.copy_edition.result (FailsInside g.S.Store (InCopy Plain n) old new)) same fails)
 
 pub returns-in-Keyed-clause-failed : goal.returns-in-Keyed-clause-failed
 returns-in-Keyed-clause-failed g c clean =
     let old = c.args.tx.now.conn.now in
     let new = c.copy_old_edition.new.tx.conn.now in
-    each_err c.copy_old_edition.result _ (FailsInside g.S.Store old new) (λ e h. fails_copy g.S.Store old_entry_columns _ old new e h) (c.copy_old_edition.ensures.failed clean)
+    let same : to_z w64 (of_z w64 c.args.number) ≡ c.args.number = to_z-of_z w64 c.args.number c.ranges.number in
+    let fails = each_err c.copy_old_edition.result _ (FailsInside g.S.Store (InCopy Keyed (to_z w64 (of_z w64 c.args.number))) old new) (λ e h. fails_copy g.S.Store Keyed _ old new e h) (c.copy_old_edition.ensures.failed clean) in
+    subst (λ (o : Older). IfErr c.copy_old_edition.result (FailsInside g.S.Store (InCopy o c.args.number) old new)) (sym c.in-Keyed.is) (subst (λ (n : ℤ). IfErr c.copy_old_edition.result (FailsInside g.S.Store (InCopy Keyed n) old new)) same fails)

@@ -11,6 +11,9 @@ use Rattle.sqlite.specs.Held.{state}
 use Rattle.dict_sql.proofs.StreamLemmas.{passed_on}
 use Rattle.dict_sql.specs.declared.records.ReadError.TheVariants.{Store}
 use Rattle.dict_migration.specs.Failing.{FailsInside}
+use Rattle.dict_migration.specs.Places.{InCopy, InTurn}
+use Rattle.dict_migration.specs.Steps.{AreCopied}
+use Rattle.dict_migration.proofs.PlaceLemmas.{turn_placed}
 use Rattle.dict_migration.proofs.FailLemmas.{fails_later}
 use Rattle.dict_migration.proofs.FlowLemmas.{number_copied, both_still}
 use Rattle.dict_migration.proofs.aside.copy_numbers.Goals as goal
@@ -55,4 +58,12 @@ returns-in_err-copy_number-clause-failed g c clean =
     let new = c.copy_number.new.tx.conn.now in
     let early : HasCleanDisk (state g.S.Store mid) = omega (arith, c.copy_number.ensures.survives.clean, clean) in
     let e = c.in_err-copy_number.field-0.0 in
-    passed_on (FailsInside g.S.Store old new) e c.from_residual.result c.from_residual.ensures.1 (fails_later g.S.Store old mid new e c.each.invariant.survives (c.each.invariant.inside early) (c.in_err-copy_number.ensures.failed clean))
+    let all = c.args.numbers.now in
+    let i = c.each.number-index in
+    let fits : SFits w64 (get_or all i (pos 0)) = search rules in
+    let n = to_z w64 (of_z w64 (get_or all i (pos 0))) in
+    let P = InCopy c.args.layout in
+    let Q = InTurn AreCopied P all in
+    passed_on (FailsInside g.S.Store Q old new) e c.from_residual.result c.from_residual.ensures.1
+    (fails_later g.S.Store (P n) Q old mid new e c.each.invariant.survives (c.each.invariant.inside early)
+    (turn_placed AreCopied P all i (pos 0) n c.each-test.true (to_z-of_z w64 (get_or all i (pos 0)) fits) (state g.S.Store old).now (state g.S.Store mid).now (c.each.invariant.copied early)) (c.in_err-copy_number.ensures.failed clean))

@@ -1,13 +1,15 @@
-use Rattle.std.proofs.Common.{arith, codes}
+use Rattle.std.proofs.Common.{arith, codes, inl, inr, refl}
 use Rattle.sqlite.specs.State.{HasCleanDisk}
 use Rattle.dict_sql.specs.Effects.{seen}
 use Rattle.sqlite.specs.Held.{state}
 use Rattle.dict_sql.proofs.StreamLemmas.{passed_on}
 use Rattle.dict_sql.specs.declared.records.ReadError.TheVariants.{Store}
 use Rattle.dict_migration.specs.Failing.{FailsInside}
+use Rattle.dict_migration.specs.Places.{InAside, InCopy, InDrops, InTurn}
+use Rattle.dict_migration.specs.Steps.{AreCopied}
 use Rattle.dict_migration.proofs.FailLemmas.{fails_here}
 use Rattle.dict_migration.proofs.FailLemmas.{fails_later}
-use Rattle.dict_migration.specs.Failing.{making_helper}
+use Rattle.dict_migration.specs.Parts.{making_helper}
 use Rattle.dict_migration.proofs.AsideLemmas.{copied_schema}
 use Rattle.dict_migration.proofs.FlowLemmas.{helper_free, made_both, made_owns, owns_later, two_survive}
 use Rattle.dict_migration.proofs.aside.put_aside.Goals as goal
@@ -55,7 +57,8 @@ returns-in_err-create_helper-clause-failed g c clean =
     let old = c.args.tx.now.conn.now in
     let new = c.create_helper.new.tx.conn.now in
     let e = c.in_err-create_helper.field-0.0 in
-    passed_on (FailsInside g.S.Store old new) (Store e) c.from_residual.result c.from_residual.ensures.1 (fails_here g.S.Store making_helper old new (Store e) (c.in_err-create_helper.ensures.failed clean))
+    let Q = InAside c.args.layout c.args.numbers.now in
+    passed_on (FailsInside g.S.Store Q old new) (Store e) c.from_residual.result c.from_residual.ensures.1 (fails_here g.S.Store Q making_helper old new (Store e) (inl (refl, refl)) (c.in_err-create_helper.ensures.failed clean))
 
 pub returns-in_err-copy_numbers-clause-failed : goal.returns-in_err-copy_numbers-clause-failed
 returns-in_err-copy_numbers-clause-failed g c clean =
@@ -64,8 +67,10 @@ returns-in_err-copy_numbers-clause-failed g c clean =
     let new = c.copy_numbers.new.tx.conn.now in
     let early : HasCleanDisk (state g.S.Store mid) = omega (arith, c.copy_numbers.ensures.survives.clean, clean) in
     let e = c.in_err-copy_numbers.field-0.0 in
-    passed_on (FailsInside g.S.Store old new) e c.from_residual-in_err-copy_numbers.result c.from_residual-in_err-copy_numbers.ensures.1
-    (fails_later g.S.Store old mid new e c.create_helper.ensures.survives (λ begun. (c.in_ok-create_helper.ensures.made early).1.mode) (c.in_err-copy_numbers.ensures.failed clean))
+    let made = c.in_ok-create_helper.ensures.made early in
+    let Q = InAside c.args.layout c.args.numbers.now in
+    passed_on (FailsInside g.S.Store Q old new) e c.from_residual-in_err-copy_numbers.result c.from_residual-in_err-copy_numbers.ensures.1
+    (fails_later g.S.Store (InTurn AreCopied (InCopy c.args.layout) c.args.numbers.now) Q old mid new e c.create_helper.ensures.survives (λ begun. made.1.mode) (λ part at it. inr ((state g.S.Store mid).now, made.0, inl it)) (c.in_err-copy_numbers.ensures.failed clean))
 
 pub returns-in_err-drop_old-clause-failed : goal.returns-in_err-drop_old-clause-failed
 returns-in_err-drop_old-clause-failed g c clean =
@@ -76,6 +81,9 @@ returns-in_err-drop_old-clause-failed g c clean =
     let early : HasCleanDisk (state g.S.Store mid) = omega (arith, c.drop_old.ensures.survives.clean, clean) in
     let first : HasCleanDisk (state g.S.Store one) = omega (arith, c.copy_numbers.ensures.survives.clean, early) in
     let e = c.in_err-drop_old.field-0.0 in
-    passed_on (FailsInside g.S.Store old new) (Store e) c.from_residual-in_err-drop_old.result c.from_residual-in_err-drop_old.ensures.1
-    (fails_later g.S.Store old mid new (Store e) (two_survive (state g.S.Store old) (state g.S.Store one) (state g.S.Store mid) c.create_helper.ensures.survives c.copy_numbers.ensures.survives)
-    (λ begun. c.in_ok-copy_numbers.ensures.inside early (c.in_ok-create_helper.ensures.made first).1.mode) (c.in_err-drop_old.ensures.failed clean))
+    let made = c.in_ok-create_helper.ensures.made first in
+    let copied = c.in_ok-copy_numbers.ensures.copied early in
+    let Q = InAside c.args.layout c.args.numbers.now in
+    passed_on (FailsInside g.S.Store Q old new) (Store e) c.from_residual-in_err-drop_old.result c.from_residual-in_err-drop_old.ensures.1
+    (fails_later g.S.Store (InDrops c.args.layout) Q old mid new (Store e) (two_survive (state g.S.Store old) (state g.S.Store one) (state g.S.Store mid) c.create_helper.ensures.survives c.copy_numbers.ensures.survives)
+    (λ begun. c.in_ok-copy_numbers.ensures.inside early made.1.mode) (λ part at it. inr ((state g.S.Store one).now, made.0, inr ((state g.S.Store mid).now, copied, it))) (c.in_err-drop_old.ensures.failed clean))

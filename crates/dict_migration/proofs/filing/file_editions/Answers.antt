@@ -11,6 +11,9 @@ use Rattle.sqlite.specs.Held.{state}
 use Rattle.dict_sql.proofs.StreamLemmas.{passed_on}
 use Rattle.dict_sql.specs.declared.records.ReadError.TheVariants.{Store}
 use Rattle.dict_migration.specs.Failing.{FailsInside}
+use Rattle.dict_migration.specs.Places.{InEdition, InTurn}
+use Rattle.dict_migration.specs.Steps.{AreFiled}
+use Rattle.dict_migration.proofs.PlaceLemmas.{turn_placed}
 use Rattle.dict_migration.proofs.FailLemmas.{fails_later}
 use Rattle.dict_migration.proofs.FiledLemmas.{filed_one}
 use Rattle.dict_migration.proofs.FlowLemmas.{number_filed, four_still}
@@ -56,4 +59,12 @@ returns-in_err-file_edition-clause-failed g c clean =
     let new = c.file_edition.new.tx.conn.now in
     let early : HasCleanDisk (state g.S.Store mid) = omega (arith, c.file_edition.ensures.survives.clean, clean) in
     let e = c.in_err-file_edition.field-0.0 in
-    passed_on (FailsInside g.S.Store old new) e c.from_residual.result c.from_residual.ensures.1 (fails_later g.S.Store old mid new e c.each.invariant.survives (c.each.invariant.inside early) (c.in_err-file_edition.ensures.failed clean))
+    let all = c.args.numbers.now in
+    let i = c.each.number-index in
+    let fits : SFits w64 (get_or all i (pos 0)) = search rules in
+    let n = to_z w64 (of_z w64 (get_or all i (pos 0))) in
+    let P = InEdition in
+    let Q = InTurn AreFiled P all in
+    passed_on (FailsInside g.S.Store Q old new) e c.from_residual.result c.from_residual.ensures.1
+    (fails_later g.S.Store (P n) Q old mid new e c.each.invariant.survives (c.each.invariant.inside early)
+    (turn_placed AreFiled P all i (pos 0) n c.each-test.true (to_z-of_z w64 (get_or all i (pos 0)) fits) (state g.S.Store old).now (state g.S.Store mid).now (c.each.invariant.filed early)) (c.in_err-file_edition.ensures.failed clean))

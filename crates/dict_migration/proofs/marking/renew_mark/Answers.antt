@@ -1,4 +1,4 @@
-use Rattle.std.proofs.Common.{arith, codes, subst}
+use Rattle.std.proofs.Common.{arith, codes, subst, inl, inr, refl}
 use Rattle.sqlite.specs.State.{HasCleanDisk}
 use Rattle.dict_records.specs.Records.{Mark}
 use Rattle.dict_tables.specs.Tables.{mark}
@@ -9,9 +9,13 @@ use Rattle.sqlite.specs.Held.{state}
 use Rattle.dict_sql.proofs.StreamLemmas.{passed_on}
 use Rattle.dict_sql.specs.declared.records.ReadError.TheVariants.{Store}
 use Rattle.dict_migration.specs.Failing.{FailsInside}
+use Rattle.dict_migration.specs.Places.{First, InMark}
+use Rattle.dict_sql.specs.Inserts.{FailsToInsert}
+use Rattle.dict_rows.specs.Versions.{known}
+use Rattle.dict_rows.specs.Written.{mark_record}
 use Rattle.dict_migration.proofs.FailLemmas.{fails_here}
 use Rattle.dict_migration.proofs.FailLemmas.{fails_later}
-use Rattle.dict_migration.specs.Failing.{clearing_marks, putting}
+use Rattle.dict_migration.specs.Parts.{clearing_marks, putting}
 use Rattle.dict_migration.proofs.marking.renew_mark.Goals as goal
 
 pub insert_mark-requires : goal.insert_mark-requires
@@ -38,7 +42,8 @@ returns-in_err-clear_table-clause-failed g c clean =
     let old = c.args.tx.now.conn.now in
     let new = c.clear_table.new.tx.conn.now in
     let e = c.in_err-clear_table.field-0.0 in
-    passed_on (λ e. FailsInside g.S.Store old new (Store e)) e c.from_residual.result c.from_residual.ensures.1 (fails_here g.S.Store clearing_marks old new (Store e) (c.in_err-clear_table.ensures.failed clean))
+    let Q = InMark c.args.installs in
+    passed_on (λ e. FailsInside g.S.Store Q old new (Store e)) e c.from_residual.result c.from_residual.ensures.1 (fails_here g.S.Store Q clearing_marks old new (Store e) (inl (refl, refl)) (c.in_err-clear_table.ensures.failed clean))
 
 pub returns-in_err-insert_mark-clause-failed : goal.returns-in_err-insert_mark-clause-failed
 returns-in_err-insert_mark-clause-failed g c clean =
@@ -47,5 +52,10 @@ returns-in_err-insert_mark-clause-failed g c clean =
     let new = c.insert_mark.new.tx.conn.now in
     let early : HasCleanDisk (state g.S.Store mid) = omega (arith, c.insert_mark.ensures.survives.clean, clean) in
     let e = c.in_err-insert_mark.field-0.0 in
-    passed_on (λ e. FailsInside g.S.Store old new (Store e)) e c.from_residual-in_err-insert_mark.result c.from_residual-in_err-insert_mark.ensures.1
-    (fails_later g.S.Store old mid new (Store e) c.clear_table.ensures.survives (λ begun. (c.in_ok-clear_table.ensures.removed early).1.mode) (fails_here g.S.Store (putting (codes "mark") _) mid new (Store e) (c.in_err-insert_mark.ensures.failed clean)))
+    let removed = c.in_ok-clear_table.ensures.removed early in
+    let row = mark_row (mark_record known c.args.installs) in
+    let P = First (putting (codes "mark") row) in
+    let Q = InMark c.args.installs in
+    let fails = subst (λ (m : Mark). FailsToInsert (codes "mark") (mark_row m) (state g.S.Store mid) (state g.S.Store new) e) c.mark_row-row.ensures (c.in_err-insert_mark.ensures.failed clean) in
+    passed_on (λ e. FailsInside g.S.Store Q old new (Store e)) e c.from_residual-in_err-insert_mark.result c.from_residual-in_err-insert_mark.ensures.1
+    (fails_later g.S.Store P Q old mid new (Store e) c.clear_table.ensures.survives (λ begun. removed.1.mode) (λ part at it. inr ((state g.S.Store mid).now, removed.0, it)) (fails_here g.S.Store P (putting (codes "mark") row) mid new (Store e) (refl, refl) fails))

@@ -1,11 +1,12 @@
-use Rattle.std.proofs.Common.{◌≡◌, ◌∙◌, arith, inl, inr, refl}
+use Rattle.std.proofs.Common.{◌≡◌, ◌∙◌, ℤ, List, arith, inl, inr, refl, subst}
 use Rattle.std.specs.Prelude.{IsTrue, Result, Ok, Err, IfErr, OnErr, OnOk}
 use Rattle.std.proofs.lemmas.Result.{on_ok_weaker}
 use Rattle.sqlite.specs.Held.{state}
 use Rattle.sqlite.specs.State.{HasCleanDisk}
 use Rattle.sqlite.proofs.StateLemmas.{survives_weaker}
 use Rattle.dict_catalogue.specs.Views.{summary_shown}
-use Rattle.dict_migration.specs.Failing.{FailsToEnd, FailsToMigrate}
+use Rattle.dict_migration.specs.Places.{InMove}
+use Rattle.dict_migration.specs.Failing.{FailsBefore, FailsToEnd, FailsToMigrate}
 use Rattle.dict_migration.proofs.FailLemmas.{why_not_begun}
 use Rattle.dict_migration.specs.Migrated.{MayMigrate}
 use Rattle.dict_file.specs.Writing.{Stays}
@@ -74,24 +75,31 @@ each_err (Err e) P Q f h = f e h
 pub returns-clause-failed : goal.returns-clause-failed
 returns-clause-failed g c clean =
     let old = state g.S.Store c.args.conn.now in
+    let new = c.migrate_from.new.conn in
     let summary = summary_shown c.args.summary.now in
+    let older = c.older_layout.result in
+    let installs = c.args.summary.now.installs in
     let clean0 : HasCleanDisk old = omega (arith, c.migrate_from.ensures.crash.clean, clean) in
-    each_err c.migrate_from.result (FailsToEnd g.S.Store (IsOutcome c.older_layout.result c.deref.result.now c.args.summary.now.installs old) c.args.conn.now c.migrate_from.new.conn) (FailsToMigrate g.S.Store c.args.version summary c.args.conn.now c.migrate_from.new.conn)
-    (λ fault h. elim h [
-      | inl before ↦ inr (inl before)
-      | inr last ↦
-          let opened = last.written.was_open in
-          let it = c.requires.holds clean0 opened in
-          inr (inr (record {
-            told = last.told;
-            last = last.last;
-            before = last.before;
-            written = outcome_holds c.args.version c.older_layout.result c.older_layout.ensures old it.0 it.1 (c.is_live.ensures opened).0 c.deref.result.now c.args.summary.now.installs
-                (c.deref.ensures.value ∙ (c.in-Ok.ensures.same ∙ summary_numbers it.0 summary it.2)) (summary_installs it.0 summary it.2) (state g.S.Store last.last).now last.written;
-            error = last.error;
-            fails = last.fails;
-          }))
-    ])
+    let numbers = c.deref.ensures.value ∙ c.in-Ok.ensures.same in
+    each_err c.migrate_from.result (FailsToEnd g.S.Store (InMove older c.deref.result.now installs) (IsOutcome older c.deref.result.now installs old) c.args.conn.now new) (FailsToMigrate g.S.Store c.args.version summary c.args.conn.now new)
+    (λ fault h. inr (record {
+      older = older;
+      layout = c.older_layout.ensures;
+      why = elim h [
+        | inl before ↦ inl (subst (λ (l : List ℤ). FailsBefore g.S.Store (InMove older l installs) c.args.conn.now new fault) numbers before)
+        | inr last ↦
+            let opened = last.written.was_open in
+            let it = c.requires.holds clean0 opened in
+            inr (record {
+              told = last.told;
+              last = last.last;
+              before = last.before;
+              written = outcome_holds c.args.version older c.older_layout.ensures old it.0 it.1 (c.is_live.ensures opened).0 c.deref.result.now installs (numbers ∙ summary_numbers it.0 summary it.2) (summary_installs it.0 summary it.2) (state g.S.Store last.last).now last.written;
+              error = last.error;
+              fails = last.fails;
+            })
+      ];
+    }))
     (c.migrate_from.ensures.failed clean)
 
 either_way : {X E : Type 0} (result : Result X E) (P Q A : Type 0) → (P → A) → (Q → A) → OnOk result P → OnErr result Q → A

@@ -6,6 +6,7 @@ use Rattle.dict_file.specs.Writing.{Stays}
 use Rattle.dict_file.proofs.CommitLemmas.{leaves, done, only_left, commit_fails, keeps_begun, stays_undone}
 use Rattle.dict_migration.specs.Moved.{AreTreesOf, IsCommitted, IsOutcome}
 use Rattle.sqlite.proofs.Callers.{survives_begin}
+use Rattle.dict_migration.specs.Places.{InMove}
 use Rattle.dict_migration.specs.Failing.{FailsInside}
 use Rattle.dict_migration.proofs.EndLemmas.{outcome_of}
 use Rattle.dict_migration.proofs.migrating.migrate_from.Goals as goal
@@ -80,7 +81,7 @@ returns-in-Err-clause-failed g c clean =
       error = c.in-Err.error;
       told = c.fault_of_read.ensures;
       last = mid;
-      within = subst (λ h. FailsInside g.S.Store h mid c.in-Err.error) c.transaction-tx.ensures.begun (c.in-Err.ensures.failed early);
+      within = subst (λ h. FailsInside g.S.Store (InMove c.args.layout c.args.numbers.now c.args.installs) h mid c.in-Err.error) c.transaction-tx.ensures.begun (c.in-Err.ensures.failed early);
       after = subst (λ h. Survives (state g.S.Store mid) (state g.S.Store h) (λ _. ⊥)) same c.drop-tx.ensures.survives;
       undone = subst (λ h. IsRolledBack (state g.S.Store mid) (state g.S.Store h)) same (c.drop-tx.ensures.undone late);
     })

@@ -1,13 +1,15 @@
-use Rattle.std.proofs.Common.{arith, codes}
+use Rattle.std.proofs.Common.{arith, inl, inr, refl}
 use Rattle.sqlite.specs.State.{HasCleanDisk}
 use Rattle.dict_sql.specs.Effects.{seen}
 use Rattle.sqlite.specs.Held.{state}
 use Rattle.dict_sql.proofs.StreamLemmas.{passed_on}
 use Rattle.dict_sql.specs.declared.records.ReadError.TheVariants.{Store}
 use Rattle.dict_migration.specs.Failing.{FailsInside}
-use Rattle.dict_migration.proofs.FailLemmas.{fails_here}
+use Rattle.dict_migration.specs.Places.{First, InAside, InEdition, InRefill, InTurn}
+use Rattle.dict_migration.specs.Steps.{AreFiled}
+use Rattle.dict_migration.proofs.FailLemmas.{fails_here, fails_within}
 use Rattle.dict_migration.proofs.FailLemmas.{fails_later}
-use Rattle.dict_migration.specs.Failing.{making_tables}
+use Rattle.dict_migration.specs.Parts.{making_tables}
 use Rattle.dict_migration.proofs.FlowLemmas.{aside_ready, keyed_four, two_survive}
 use Rattle.dict_migration.proofs.migrating.refill.Goals as goal
 
@@ -55,7 +57,8 @@ returns-in_err-put_aside-clause-failed g c clean =
     let old = c.args.tx.now.conn.now in
     let new = c.put_aside.new.tx.conn.now in
     let e = c.in_err-put_aside.field-0.0 in
-    passed_on (FailsInside g.S.Store old new) e c.from_residual.result c.from_residual.ensures.1 (c.in_err-put_aside.ensures.failed clean)
+    let Q = InRefill c.args.layout c.args.numbers.now in
+    passed_on (FailsInside g.S.Store Q old new) e c.from_residual.result c.from_residual.ensures.1 (fails_within g.S.Store (InAside c.args.layout c.args.numbers.now) Q old new e (λ part at it. inl it) (c.in_err-put_aside.ensures.failed clean))
 
 pub returns-in_err-create_keyed_tables-clause-failed : goal.returns-in_err-create_keyed_tables-clause-failed
 returns-in_err-create_keyed_tables-clause-failed g c clean =
@@ -64,8 +67,11 @@ returns-in_err-create_keyed_tables-clause-failed g c clean =
     let new = c.create_keyed_tables.new.tx.conn.now in
     let early : HasCleanDisk (state g.S.Store mid) = omega (arith, c.create_keyed_tables.ensures.survives.clean, clean) in
     let e = c.in_err-create_keyed_tables.field-0.0 in
-    passed_on (FailsInside g.S.Store old new) (Store e) c.from_residual-in_err-create_keyed_tables.result c.from_residual-in_err-create_keyed_tables.ensures.1
-    (fails_later g.S.Store old mid new (Store e) c.put_aside.ensures.survives (λ begun. c.in_ok-put_aside.ensures.inside early) (fails_here g.S.Store making_tables mid new (Store e) (c.in_err-create_keyed_tables.ensures.failed clean)))
+    let P = First making_tables in
+    let Q = InRefill c.args.layout c.args.numbers.now in
+    passed_on (FailsInside g.S.Store Q old new) (Store e) c.from_residual-in_err-create_keyed_tables.result c.from_residual-in_err-create_keyed_tables.ensures.1
+    (fails_later g.S.Store P Q old mid new (Store e) c.put_aside.ensures.survives (λ begun. c.in_ok-put_aside.ensures.inside early) (λ part at it. inr ((state g.S.Store mid).now, c.in_ok-put_aside.ensures.aside early, inl it))
+    (fails_here g.S.Store P making_tables mid new (Store e) (refl, refl) (c.in_err-create_keyed_tables.ensures.failed clean)))
 
 pub returns-in_err-file_editions-clause-failed : goal.returns-in_err-file_editions-clause-failed
 returns-in_err-file_editions-clause-failed g c clean =
@@ -74,6 +80,10 @@ returns-in_err-file_editions-clause-failed g c clean =
     let mid = c.create_keyed_tables.new.tx.conn.now in
     let new = c.file_editions.new.tx.conn.now in
     let early : HasCleanDisk (state g.S.Store mid) = omega (arith, c.file_editions.ensures.survives.clean, clean) in
+    let first : HasCleanDisk (state g.S.Store one) = omega (arith, c.create_keyed_tables.ensures.survives.clean, early) in
     let e = c.in_err-file_editions.field-0.0 in
-    passed_on (FailsInside g.S.Store old new) e c.from_residual-in_err-file_editions.result c.from_residual-in_err-file_editions.ensures.1
-    (fails_later g.S.Store old mid new e (two_survive (state g.S.Store old) (state g.S.Store one) (state g.S.Store mid) c.put_aside.ensures.survives c.create_keyed_tables.ensures.survives) (λ begun. (c.in_ok-create_keyed_tables.ensures.made early).1.mode) (c.in_err-file_editions.ensures.failed clean))
+    let made = c.in_ok-create_keyed_tables.ensures.made early in
+    let Q = InRefill c.args.layout c.args.numbers.now in
+    passed_on (FailsInside g.S.Store Q old new) e c.from_residual-in_err-file_editions.result c.from_residual-in_err-file_editions.ensures.1
+    (fails_later g.S.Store (InTurn AreFiled InEdition c.args.numbers.now) Q old mid new e (two_survive (state g.S.Store old) (state g.S.Store one) (state g.S.Store mid) c.put_aside.ensures.survives c.create_keyed_tables.ensures.survives) (λ begun. made.1.mode)
+    (λ part at it. inr ((state g.S.Store one).now, c.in_ok-put_aside.ensures.aside first, inr ((state g.S.Store mid).now, made.0, it))) (c.in_err-file_editions.ensures.failed clean))

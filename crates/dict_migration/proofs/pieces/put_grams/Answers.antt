@@ -1,4 +1,4 @@
-use Rattle.std.proofs.Common.{◌≡◌, ◌∙◌, [], refl, arith, codes}
+use Rattle.std.proofs.Common.{◌≡◌, ◌∙◌, ℕ, ℤ, pos, List, [], map, get_or, refl, ap, subst, arith, codes}
 use mir.Syntax.{w64}
 use mir.Val.{to_z, of_z}
 use Rattle.sqlite.specs.State.{HasCleanDisk}
@@ -11,6 +11,14 @@ use Rattle.sqlite.specs.Held.{state}
 use Rattle.dict_sql.proofs.StreamLemmas.{passed_on}
 use Rattle.dict_sql.specs.declared.records.ReadError.TheVariants.{Store}
 use Rattle.dict_migration.specs.Failing.{FailsInside}
+use Rattle.dict_migration.specs.Places.{First, Putting}
+use Rattle.dict_migration.specs.Parts.{putting}
+use Rattle.dict_sql.specs.Keyed.{piece_row}
+use Rattle.dict_derived.specs.Entries.{piece_at}
+use Rattle.dict_derived.specs.Placed.{gram_rows}
+use Rattle.dict_derived.specs.declared.placed.PlacedGram.{PlacedGram}
+use Rattle.std.proofs.lemmas.Int.{to_z-of_z}
+use Rattle.dict_migration.proofs.PlaceLemmas.{row_placed, grams_are}
 use Rattle.dict_migration.proofs.FailLemmas.{fails_later}
 use Rattle.dict_migration.proofs.PutLemmas.{gram_put}
 use Rattle.dict_migration.proofs.pieces.put_grams.Goals as goal
@@ -47,4 +55,14 @@ returns-in_err-put_gram-clause-failed g c clean =
     let new = c.put_gram.new.tx.conn.now in
     let early : HasCleanDisk (state g.S.Store mid) = omega (arith, c.put_gram.ensures.survives.clean, clean) in
     let e = c.in_err-put_gram.field-0.0 in
-    passed_on (λ e. FailsInside g.S.Store old new (Store e)) e c.from_residual.result c.from_residual.ensures.1 (fails_later g.S.Store old mid new (Store e) c.each.invariant.survives (c.each.invariant.inside early) (c.in_err-put_gram.ensures.failed clean))
+    let all = c.args.grams.now in
+    let i = c.each.placed-index in
+    let n = to_z w64 (of_z w64 c.args.edition) in
+    let item = get_or all i (record { gram = []; ord = 0 }) in
+    let row = piece_row (piece_at n (pos item.ord) c.as_slice.result.now) in
+    let same : row ≡ piece_row (piece_at n (pos item.ord) item.gram) = ap (λ (p : List ℕ). piece_row (piece_at n (pos item.ord) p)) c.as_slice.ensures in
+    let edition : n ≡ c.args.edition = to_z-of_z w64 c.args.edition c.ranges.edition in
+    let place = row_placed (codes "gram") (λ l. map piece_row (gram_rows n l)) (λ (g : PlacedGram). piece_row (piece_at n (pos g.ord) g.gram)) (grams_are n) all i (record { gram = []; ord = 0 }) row c.each-test.true same (state g.S.Store old).now (state g.S.Store mid).now (c.each.invariant.added early) in
+    let fails = fails_later g.S.Store (First (putting (codes "gram") row)) (Putting (codes "gram") (map piece_row (gram_rows n all))) old mid new (Store e) c.each.invariant.survives (c.each.invariant.inside early) place (c.in_err-put_gram.ensures.failed clean) in
+    passed_on (λ e. FailsInside g.S.Store (Putting (codes "gram") (map piece_row (gram_rows c.args.edition all))) old new (Store e)) e c.from_residual.result c.from_residual.ensures.1
+    (subst (λ (m : ℤ). FailsInside g.S.Store (Putting (codes "gram") (map piece_row (gram_rows m all))) old new (Store e)) edition fails)

@@ -1,4 +1,4 @@
-use Rattle.std.proofs.Common.{◌≡◌, ◌∙◌, [], refl, arith, codes}
+use Rattle.std.proofs.Common.{◌≡◌, ◌∙◌, ℕ, ℤ, pos, List, [], map, get_or, refl, ap, subst, arith, codes}
 use mir.Syntax.{w64}
 use mir.Val.{to_z, of_z}
 use Rattle.sqlite.specs.State.{HasCleanDisk}
@@ -11,6 +11,14 @@ use Rattle.sqlite.specs.Held.{state}
 use Rattle.dict_sql.proofs.StreamLemmas.{passed_on}
 use Rattle.dict_sql.specs.declared.records.ReadError.TheVariants.{Store}
 use Rattle.dict_migration.specs.Failing.{FailsInside}
+use Rattle.dict_migration.specs.Places.{First, Putting}
+use Rattle.dict_migration.specs.Parts.{putting}
+use Rattle.dict_sql.specs.Keyed.{piece_row}
+use Rattle.dict_derived.specs.Entries.{piece_at}
+use Rattle.dict_derived.specs.Placed.{word_rows}
+use Rattle.dict_derived.specs.declared.placed.PlacedWord.{PlacedWord}
+use Rattle.std.proofs.lemmas.Int.{to_z-of_z}
+use Rattle.dict_migration.proofs.PlaceLemmas.{row_placed, words_are}
 use Rattle.dict_migration.proofs.FailLemmas.{fails_later}
 use Rattle.dict_migration.proofs.PutLemmas.{word_put}
 use Rattle.dict_migration.proofs.pieces.put_words.Goals as goal
@@ -47,4 +55,14 @@ returns-in_err-put_word-clause-failed g c clean =
     let new = c.put_word.new.tx.conn.now in
     let early : HasCleanDisk (state g.S.Store mid) = omega (arith, c.put_word.ensures.survives.clean, clean) in
     let e = c.in_err-put_word.field-0.0 in
-    passed_on (λ e. FailsInside g.S.Store old new (Store e)) e c.from_residual.result c.from_residual.ensures.1 (fails_later g.S.Store old mid new (Store e) c.each.invariant.survives (c.each.invariant.inside early) (c.in_err-put_word.ensures.failed clean))
+    let all = c.args.words.now in
+    let i = c.each.placed-index in
+    let n = to_z w64 (of_z w64 c.args.edition) in
+    let item = get_or all i (record { word = record { ref_ptr = (0, 0); now = [] }; ord = 0 }) in
+    let row = piece_row (piece_at n (pos item.ord) item.word.now) in
+    let same : row ≡ piece_row (piece_at n (pos item.ord) item.word.now) = refl in
+    let edition : n ≡ c.args.edition = to_z-of_z w64 c.args.edition c.ranges.edition in
+    let place = row_placed (codes "word") (λ l. map piece_row (word_rows n l)) (λ (w : PlacedWord). piece_row (piece_at n (pos w.ord) w.word.now)) (words_are n) all i (record { word = record { ref_ptr = (0, 0); now = [] }; ord = 0 }) row c.each-test.true same (state g.S.Store old).now (state g.S.Store mid).now (c.each.invariant.added early) in
+    let fails = fails_later g.S.Store (First (putting (codes "word") row)) (Putting (codes "word") (map piece_row (word_rows n all))) old mid new (Store e) c.each.invariant.survives (c.each.invariant.inside early) place (c.in_err-put_word.ensures.failed clean) in
+    passed_on (λ e. FailsInside g.S.Store (Putting (codes "word") (map piece_row (word_rows c.args.edition all))) old new (Store e)) e c.from_residual.result c.from_residual.ensures.1
+    (subst (λ (m : ℤ). FailsInside g.S.Store (Putting (codes "word") (map piece_row (word_rows m all))) old new (Store e)) edition fails)

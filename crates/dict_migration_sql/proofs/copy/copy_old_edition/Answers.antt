@@ -14,7 +14,7 @@ use Rattle.dict_sql.proofs.AddedLemmas.{added_as}
 use Rattle.dict_sql.specs.Reads.{FailsToList}
 use Rattle.dict_sql.specs.declared.records.ReadError.TheVariants.{Store}
 use Rattle.dict_sql.proofs.StreamLemmas.{passed_on}
-use Rattle.dict_migration_sql.specs.Copied.{FailsToCopy, plain_row}
+use Rattle.dict_migration_sql.specs.Copied.{FailsToCopy, FailsToPut, plain_row}
 use Rattle.dict_migration_sql.proofs.CopyLemmas.{map_twice, read_fails, put_fails}
 use Rattle.dict_migration_sql.proofs.copy.copy_old_edition.Goals as goal
 
@@ -48,5 +48,10 @@ returns-in_err-put_old_entries-clause-failed g c clean =
     let new = (g.T.OpenTransaction.held c.put_old_entries.new.tx) in
     let e = c.in_err-put_old_entries.field-0.0 in
     let clean1 : HasCleanDisk (state g.S.Store mid) = omega (arith, c.put_old_entries.ensures.survives.clean, clean) in
+    let items = c.in_ok-all.all.items in
+    let it = c.in_ok-all.ensures.selected clean1 in
+    let read = subst (λ n. IsPermutation (filter (equals_number 1 n) (rows_of (codes "entry") (state g.S.Store old).now)) (map stored_old_entry items)) (to_z-of_z w64 c.args.edition c.ranges.edition) it.0.same in
+    let copied = subst (λ (l : List Row). IsPermutation (map plain_row (filter (equals_number 1 c.args.edition) (rows_of (codes "entry") (state g.S.Store old).now))) l) (map_twice stored_old_entry plain_row items) (IsPermutation-map plain_row _ _ read) in
     passed_on (FailsToCopy g.S.Store old_entry_columns c.args.edition old new) (Store e) c.from_residual-in_err-put_old_entries.result c.from_residual-in_err-put_old_entries.ensures.1
-    (put_fails g.S.Store old_entry_columns c.args.edition old mid new e c.old_entries_inside.ensures.survives (c.in_ok-all.ensures.selected clean1).1 (c.in_err-put_old_entries.ensures.failed clean))
+    (put_fails g.S.Store old_entry_columns c.args.edition (map (λ r. plain_row (stored_old_entry r)) items) old mid new e (IsPermutation-sym _ _ copied) c.old_entries_inside.ensures.survives it.1
+    (subst (λ l. FailsToPut g.S.Store (map (λ r. plain_row (stored_old_entry r)) l) mid new e) c.deref.ensures.value (c.in_err-put_old_entries.ensures.failed clean)))

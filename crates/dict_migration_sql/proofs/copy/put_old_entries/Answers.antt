@@ -1,4 +1,4 @@
-use Rattle.std.proofs.Common.{◌∙◌, ◌++◌, List, [], ◌∷◌, refl, sym, ap, subst, arith, codes, map, take}
+use Rattle.std.proofs.Common.{◌∙◌, ◌++◌, List, [], ◌∷◌, refl, sym, ap, subst, arith, codes, map, take, drop, ◌+◌}
 use Rattle.std.proofs.lemmas.List.{take_more}
 use Rattle.sqlite.specs.State.{HasCleanDisk}
 use Rattle.sqlite.specs.Order.{Row}
@@ -7,12 +7,13 @@ use Rattle.sqlite.proofs.StateLemmas.{survives_then}
 use Rattle.dict_records.specs.Records.{Entry}
 use Rattle.dict_sql.specs.Added.{AreAdded}
 use Rattle.dict_sql.specs.Effects.{IsAdded}
+use Rattle.dict_sql.specs.Inserts.{FailsToInsert}
 use Rattle.dict_sql.specs.Encodings.{entry_row}
 use Rattle.dict_sql.specs.Keyed.{stored_old_entry}
 use Rattle.dict_sql.proofs.AddedLemmas.{none_added, one_added}
 use Rattle.dict_sql.proofs.MakeLemmas.{goes_keeps, keeps_then}
 use Rattle.dict_migration_sql.specs.Copied.{plain_row}
-use Rattle.dict_migration_sql.proofs.CopyLemmas.{keeps_none, none_more, map_more, put_later}
+use Rattle.dict_migration_sql.proofs.CopyLemmas.{keeps_none, none_more, map_more, put_later, rows_split}
 use Rattle.dict_migration_sql.proofs.copy.put_old_entries.Goals as goal
 
 pub each-init : goal.each-init
@@ -47,5 +48,13 @@ each-preserved g c =
 
 pub returns-in_err-insert_into_helper-clause-failed : goal.returns-in_err-insert_into_helper-clause-failed
 returns-in_err-insert_into_helper-clause-failed g c clean =
-    put_later g.S.Store (g.T.OpenTransaction.held c.args.tx.now) (g.T.OpenTransaction.held c.each.tx) (g.T.OpenTransaction.held c.insert_into_helper.new.tx) _ c.in_err-insert_into_helper.field-0.0 c.from_residual.result c.from_residual.ensures.1
-    c.each.invariant.survives c.insert_into_helper.ensures.survives c.each.invariant.inside clean (c.in_err-insert_into_helper.ensures.failed clean)
+    let old = g.T.OpenTransaction.held c.args.tx.now in
+    let mid = g.T.OpenTransaction.held c.each.tx in
+    let new = g.T.OpenTransaction.held c.insert_into_helper.new.tx in
+    let item = c.entry-item.result in
+    let all = c.args.all.now in
+    let i = c.each.entry-index in
+    let e = c.in_err-insert_into_helper.field-0.0 in
+    put_later g.S.Store (map (λ r. plain_row (stored_old_entry r)) all) (map (λ r. plain_row (stored_old_entry r)) (take i all)) (map (λ r. plain_row (stored_old_entry r)) (drop (i + 1) all)) (plain_row (stored_old_entry item))
+    (rows_split (λ r. plain_row (stored_old_entry r)) all i item c.each-test.true c.entry-item.is) old mid new e c.from_residual.result c.from_residual.ensures.1 c.each.invariant.survives c.insert_into_helper.ensures.survives c.each.invariant.inside c.each.invariant.added clean
+    (subst (λ (it : Entry). FailsToInsert (codes "dictcat_entry") (entry_row it) (state g.S.Store mid) (state g.S.Store new) e) c.lend_plain-plain.ensures (c.in_err-insert_into_helper.ensures.failed clean))

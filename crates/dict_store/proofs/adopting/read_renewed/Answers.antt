@@ -1,4 +1,4 @@
-use Rattle.std.proofs.Common.{◌≡◌, sym, subst, arith, inr}
+use Rattle.std.proofs.Common.{◌≡◌, ◌⊎◌, ℕ, List, sym, subst, arith, inr}
 use Rattle.std.specs.Prelude.{IsTrue}
 use Rattle.std.proofs.lemmas.Result.{err_from_is_err_and}
 use Rattle.sqlite.specs.Effect.{Database}
@@ -8,7 +8,10 @@ use Rattle.sqlite.proofs.StateLemmas.{survives_then}
 use Rattle.dict_catalogue.specs.Steps.{Catalogue, summary_of}
 use Rattle.dict_catalogue.specs.Views.{summary_shown}
 use Rattle.dict_file.specs.Holds.{Holds, IsHeld, Rests, IsLeftAs}
-use Rattle.dict_migration.specs.Failing.{FailsToMigrate}
+use Rattle.dict_desk.specs.declared.fault.Fault.TheVariants.{Disk}
+use Rattle.dict_catalogue.specs.Tests.{Holdings}
+use Rattle.dict_migration.specs.Failing.{FailsToMigrate, FailsToMove, IsBeyond}
+use Rattle.dict_store.proofs.RenewLemmas.{renews_read}
 use Rattle.dict_migration.specs.Migrated.{MayMigrate, HoldsOlder}
 use Rattle.dict_rows.specs.Versions.{known}
 use Rattle.dict_store.proofs.adopting.read_renewed.Goals as goal
@@ -16,22 +19,24 @@ use Rattle.dict_store.proofs.adopting.read_renewed.Goals as goal
 pub returns-in_err-renew-clause-failed : goal.returns-in_err-renew-clause-failed
 returns-in_err-renew-clause-failed g c = λ clean.
     let p = err_from_is_err_and c.from_residual-in_err-renew.result c.from_residual-in_err-renew.ensures.1 in
+    let conn = c.args.conn.now in
+    let read = c.read.new.conn in
+    let left = c.renew.new.conn in
+    let version = c.in_ok-version.version in
+    let summary = summary_shown c.in_ok-version.summary in
     let one = c.renew.ensures.crash.clean in
-    let there : HasCleanDisk (state g.S.Store c.read.new.conn) = omega (arith, one, clean) in
+    let there : HasCleanDisk (state g.S.Store read) = omega (arith, one, clean) in
     let found = c.in_ok-version.ensures.rests there in
+    let now = c.in_ok-version.ensures.now there found.1.is_open in
     let same = c.in_ok-version.ensures.committed there found.1.is_open in
     let failed = c.in_err-renew.ensures.failed clean in
     rw (p.1, p.2) (λ is. inr (record {
-      read = c.read.new.conn;
-      only_read = c.read.ensures.survives;
-      same = same;
-      version = c.in_ok-version.version;
+      version = version;
       older = failed.0;
       catalogue = found.0;
-      holds = subst (λ (db : Database). Holds c.in_ok-version.version db found.0) same found.1.holds;
-      summary = summary_shown c.in_ok-version.summary;
-      told = sym found.2;
-      fails = subst (FailsToMigrate g.S.Store c.in_ok-version.version (summary_shown c.in_ok-version.summary) c.read.new.conn c.renew.new.conn) is failed.1;
+      holds = subst (λ (db : Database). Holds version db found.0) same found.1.holds;
+      fails = subst (λ (s : Holdings (List ℕ)). IsBeyond s ⊎ FailsToMove g.S.Store version s conn left Disk) (sym found.2)
+          (renews_read g.S.Store conn read left c.read.ensures.survives version summary now same (subst (FailsToMigrate g.S.Store version summary read left) is failed.1));
     }))
 
 pub returns-in_err-renew-clause-adds_none : goal.returns-in_err-renew-clause-adds_none
