@@ -8,6 +8,7 @@ use Rattle.std.proofs.lemmas.Bool.{false≢true}
 use Rattle.std.proofs.lemmas.Cmp.{int_ranked}
 use Rattle.std.proofs.lemmas.Int.{ints}
 use Rattle.std.proofs.lemmas.List.{length-map}
+use Rattle.std.proofs.lemmas.List.Elements.{All-contains_itself, recursion_from_All}
 use Rattle.std.proofs.lemmas.List.Sorted.{IsPermutation-map, IsPermutation-refl, IsPermutation-trans}
 use Rattle.sqlite_value.proofs.OrderLemmas.{value_cmp-Int}
 use Rattle.sqlite.specs.Order.{Row, column}
@@ -277,6 +278,32 @@ held_one db M number edition holds has =
   where
     bound : (a b c d e : ℕ) → a ≤ b → b ≡ c → c ≤ d → d ≤ e → a ≤ e
     bound a b c d e p q r s = omega arith
+
+-- ---- a record that stands under a number
+
+-- an item's editions are the catalogue's
+item_has : (M : Catalogue) (item : Item AnEdition) → Contains M.items item → AllByRecursion (λ n. (edition : AnEdition) × HasEdition M n edition) (numbers_of item)
+item_has M item there =
+    all_map (Contains (editions_of item)) (λ n. (edition : AnEdition) × HasEdition M n edition) (λ (stored : Stored AnEdition). stored.number)
+    (λ stored at. (stored.content, record { item = item; stands = there; stored = at })) (editions_of item) (recursion_from_All (Contains (editions_of item)) (editions_of item) (All-contains_itself (editions_of item)))
+
+all_have : (M : Catalogue) → AllByRecursion (λ n. (edition : AnEdition) × HasEdition M n edition) (edition_numbers M.items)
+all_have M =
+    all_flat_map (λ n. (edition : AnEdition) × HasEdition M n edition) numbers_of M.items
+    (all_weaker (Contains M.items) (λ item. AllByRecursion (λ n. (edition : AnEdition) × HasEdition M n edition) (numbers_of item)) (item_has M) M.items (recursion_from_All (Contains M.items) M.items (All-contains_itself M.items)))
+
+-- what stands there is an edition's
+pub held_under : (db : Database) (M : Catalogue) (number : ℕ) → Holds known db M → (r : Row) → Contains (rows_under (codes "edition") number db) r → (edition : AnEdition) × HasEdition M number edition
+held_under db M number holds r there = by_known (has_number M.items (pos number)) refl
+  where
+    by_known : (b : Bool) → has_number M.items (pos number) ≡ b → (edition : AnEdition) × HasEdition M number edition
+    by_known true known =
+        any_holds (λ (one : ℕ). same_number (pos one) (pos number)) (λ n. (edition : AnEdition) × HasEdition M n edition) ((edition : AnEdition) × HasEdition M number edition)
+        (λ one same has. subst (λ n. (edition : AnEdition) × HasEdition M n edition) (nat_same one number same) has) (edition_numbers M.items) known (all_have M)
+    by_known false unknown =
+        let none : editions_numbered (pos number) holds.tables.editions ≡ [] = none_under (λ (e : Edition). e.number) M.items (pos number) unknown holds.tables.editions holds.stands.numbers in
+        let rows : IsPermutation [] (rows_under (codes "edition") number db) = subst (λ (l : List Edition). IsPermutation (map edition_row l) (rows_under (codes "edition") number db)) none (editions_under db holds.tables holds.keeps number) in
+        absurd (all_contains (λ (_ : Row). ⊥) (rows_under (codes "edition") number db) r (all_same (λ (_ : Row). ⊥) [] (rows_under (codes "edition") number db) rows tt) there)
 
 -- ---- the tables
 

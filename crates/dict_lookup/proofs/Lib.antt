@@ -7,3 +7,4 @@ pub mod RecordLemmas
 pub mod SortLemmas
 pub mod StateLemmas
 pub mod StreamLemmas
+pub mod TextLemmas

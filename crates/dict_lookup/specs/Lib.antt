@@ -1,3 +1,4 @@
 pub mod Searches
+pub mod Texts
 pub mod Handed
 pub mod CountLemmas

@@ -1,5 +1,6 @@
 // What is asked of an edition by its number.
 ghost use Rattle.std.specs.Prelude.{◌≡◌, ◌≤◌, length, false, List, IfOk, IfErr, IsErr, OnOk};
+ghost use Rattle.dict_lookup.specs.Texts.{AreTextsOf, AreMade, MayKeep};
 ghost use Rattle.sqlite.specs.State.{HasCleanDisk, IsUnchanged, Survives};
 ghost use Rattle.sqlite.specs.Held.{state};
 ghost use Rattle.dict_sql.specs.Effects.{WhileOpen};
@@ -19,8 +20,19 @@ use dict_derived::select;
 use dict_desk::{End, Fault, Row, RowSink, Turn, What};
 use dict_match::{Key, Strategy};
 use dict_sql::records::ReadError;
+use dict_texts::Texts;
 use sqlite::{Alter, Connection};
 use std::alloc::Global;
+
+// Keeps a text under its number, where that is one of an install. A refused growth leaves it unkept.
+fn keep(texts: &mut Texts, installs: u64, number: u64, text: Vec<u8>)
+    ensures { MayKeep installs number text.items texts.old texts.new }
+{
+    if number > installs {
+        return;
+    }
+    let _put = texts.put(number, text);
+}
 
 // Hands out those of the edition's entries that the query finds, cut from this text.
 fn find_in<S: Alter, T: RowSink>(
@@ -51,6 +63,44 @@ fn find_in<S: Alter, T: RowSink>(
         Ok(mut rows) => hand_found(&mut rows, text, strategy, query, sink, rows_taken),
         Err(error) => Err(fault_of_read(ReadError::Store(error))),
     }
+}
+
+// The same, of a text that is kept under the number from then on, as far as memory gives.
+fn find_and_keep<S: Alter, T: RowSink>(
+    alloc: Global,
+    conn: &mut Connection<S>,
+    texts: &mut Texts,
+    installs: u64,
+    number: u64,
+    text: Vec<u8>,
+    strategy: Strategy,
+    query: &Key,
+    sink: &mut T,
+    rows_taken: &mut u64,
+) -> Result<End, Fault>
+    requires { WhileOpen (state S.Store conn.old) HasTables }
+    ensures kept { MayKeep installs number text.items texts.old texts.new }
+    ensures value { HasCleanDisk (state S.Store conn.new) → (reading : ReadEdition) → HoldsOne (state S.Store conn.old).now number reading → Hands T.takes T.stops sink.old sink.new (found_rows strategy query.now (edition_of (record reading { text = text.items }))) result }
+    ensures handed { (rows : List ShownRow) × Hands T.takes T.stops sink.old sink.new rows result }
+    ensures same { HasCleanDisk (state S.Store conn.new) → OnOk result (IsUnchanged (state S.Store conn.old) (state S.Store conn.new)) }
+    ensures failed { HasCleanDisk (state S.Store conn.new) → IfErr result (FailsToLookUp (column_of number) (state S.Store conn.old) (state S.Store conn.new)) }
+    ensures shut { HasCleanDisk (state S.Store conn.new) → (state S.Store conn.old).is_open ≡ false → IsErr result × (sink.new ≡ sink.old) }
+    ensures kinds { IfErr result IsOfStore }
+    ensures mode { conn.old.in_transaction ≡ false → conn.new.in_transaction ≡ false }
+    ensures survives { Survives (state S.Store conn.old) (state S.Store conn.new) (λ _. ⊥) }
+{
+    let outcome = find_in(
+        alloc,
+        conn,
+        number,
+        text.as_slice(),
+        strategy,
+        query,
+        sink,
+        rows_taken,
+    );
+    keep(texts, installs, number, text);
+    outcome
 }
 
 // Hands out those of the edition's headwords that the query finds, each once.
@@ -122,11 +172,17 @@ pub fn info<S: Alter, T: RowSink>(
 /// a row of what is shown of it and its text, and counts the rows that its statements hand over. Of a number that no edition has
 /// nothing is told.
 ///
+/// The edition's text is the one that is kept under its number, if one is; else it is read, and kept from then on, unless a growth
+/// is refused, which is no fault. What is kept is the text of the edition that the database has under the number. A number above
+/// the count of installs is no edition's, and nothing is kept under it.
+///
 /// `Memory` tells that a growth was refused, `Disk` that the store failed, or that the limit on steps was met. The database
 /// stays as it is.
 pub fn find<S: Alter, T: RowSink>(
     alloc: Global,
     conn: &mut Connection<S>,
+    texts: &mut Texts,
+    installs: u64,
     number: u64,
     strategy: Strategy,
     query: &Key,
@@ -134,7 +190,9 @@ pub fn find<S: Alter, T: RowSink>(
     rows_taken: &mut u64,
 ) -> Result<End, Fault>
     requires { WhileOpen (state S.Store conn.old) HasTables }
-    ensures value { HasCleanDisk (state S.Store conn.new) → (reading : ReadEdition) → HoldsOne (state S.Store conn.old).now number reading → Hands T.takes T.stops sink.old sink.new (found_rows strategy query.now (edition_of reading)) result }
+    ensures value { HasCleanDisk (state S.Store conn.new) → AreTextsOf (state S.Store conn.old).now texts.old → (reading : ReadEdition) → HoldsOne (state S.Store conn.old).now number reading → Hands T.takes T.stops sink.old sink.new (found_rows strategy query.now (edition_of reading)) result }
+    ensures texts { HasCleanDisk (state S.Store conn.new) → AreTextsOf (state S.Store conn.old).now texts.old → AreTextsOf (state S.Store conn.old).now texts.new }
+    ensures made { AreMade installs texts.old → AreMade installs texts.new }
     ensures handed { (rows : List ShownRow) × Hands T.takes T.stops sink.old sink.new rows result }
     ensures same { HasCleanDisk (state S.Store conn.new) → OnOk result (IsUnchanged (state S.Store conn.old) (state S.Store conn.new)) }
     ensures failed { HasCleanDisk (state S.Store conn.new) → IfErr result (FailsToLookUp (column_of number) (state S.Store conn.old) (state S.Store conn.new)) }
@@ -143,14 +201,21 @@ pub fn find<S: Alter, T: RowSink>(
     ensures mode { conn.old.in_transaction ≡ false → conn.new.in_transaction ≡ false }
     ensures survives { Survives (state S.Store conn.old) (state S.Store conn.new) (λ _. ⊥) }
 {
+    if let Some(text) = texts.take(number) {
+        return find_and_keep(
+            alloc, conn, texts, installs, number, text, strategy, query, sink, rows_taken,
+        );
+    }
     let Some(edition) = edition_of_number(alloc, conn, number, rows_taken)? else {
         return Ok(End::All);
     };
-    find_in(
+    find_and_keep(
         alloc,
         conn,
+        texts,
+        installs,
         number,
-        edition.body.as_slice(),
+        edition.body,
         strategy,
         query,
         sink,

@@ -17,7 +17,10 @@ use Rattle.dict_desk.proofs.HandingLemmas.{hands_front}
 use Rattle.dict_file.specs.Holds.{HasLayout, Holds, IsLeft}
 use Rattle.dict_lookup.specs.Searches.{FailsToLookUp}
 use Rattle.dict_store.specs.Desk.{IsAtRest, Shows, is_closed}
+use Rattle.dict_lookup.specs.Texts.{AreTextsOf, AreMade}
+use Rattle.dict_store.specs.Kept.{KeepsTexts, texts_after}
 use Rattle.dict_store.specs.declared.last.Last.{Last}
+use Rattle.dict_store.specs.declared.last.Last.TheVariants.{Fine, Failed, Closed}
 use Rattle.dict_rows.specs.Versions.{known, layout_of}
 use Rattle.dict_file.proofs.OneLemmas.{held_known}
 
@@ -37,6 +40,9 @@ fails_stays number old new fault (inr h) = let back = h.2.3 in record { was_open
 pub stays_by : {T : Type 0} (number : ℕ) (old new : State) (result : Result T Fault) → OnOk result (IsUnchanged old new) → IfErr result (FailsToLookUp number old new) → Stays old new
 stays_by number old new (Ok value) same failed = unchanged_stays old new same
 stays_by number old new (Err fault) same failed = fails_stays number old new fault failed
+
+pub clean_behind : (old new : State) → Survives old new (λ _. ⊥) → HasCleanDisk new → HasCleanDisk old
+clean_behind old new survives clean = omega (arith, survives.clean)
 
 module _ {S : Type 0} (g : Ghosts S) (old new : Held S) (summary : Holdings (List ℕ)) (before after : Last) (open_before : is_closed before ≡ false) (rest : IsAtRest g before summary old) (survives : Survives (state g old) (state g new) (λ _. ⊥)) (stays : HasCleanDisk (state g new) → Stays (state g old) (state g new)) where
   clean_first : HasCleanDisk (state g new) → HasCleanDisk (state g old)
@@ -62,6 +68,24 @@ module _ {S : Type 0} (g : Ghosts S) (old new : Held S) (summary : Holdings (Lis
     settled = λ fine clean live. now_same clean live ∙ (rest.settled open_before (clean_first clean) ((stays clean).was_open live) ∙ sym ((stays clean).committed live));
     own = λ fine clean live. subst (λ (db : Database). HasLayout (layout_of known) db.schema) (sym (now_same clean live)) (rest.own open_before (clean_first clean) ((stays clean).was_open live));
   }
+
+  -- the texts that are kept are of the same database
+  pub keeps_on : (kept : List (ℕ × List ℕ)) → AreMade summary.installs kept → (HasCleanDisk (state g new) → IsTrue (state g old).is_open → AreTextsOf (state g old).now kept) → KeepsTexts g after summary (texts_after after kept) new
+  keeps_on kept made are = by_last after
+    where
+      by_last : (last : Last) → KeepsTexts g last summary (texts_after last kept) new
+      by_last Fine = record { made = made; are = λ fine clean live. subst (λ (db : Database). AreTextsOf db kept) (sym (now_same clean live)) (are clean ((stays clean).was_open live)) }
+      by_last Failed = record { made = tt; are = λ fine clean live. tt }
+      by_last Closed = record { made = tt; are = λ fine clean live. tt }
+
+  -- the desk, whose texts are these now
+  pub desk_on : (old.in_transaction ≡ false → new.in_transaction ≡ false) → (kept texts : List (ℕ × List ℕ)) → texts ≡ texts_after after kept → AreMade summary.installs kept
+      → (HasCleanDisk (state g new) → IsTrue (state g old).is_open → AreTextsOf (state g old).now kept) → IsAtRest g after summary new × KeepsTexts g after summary texts new
+  desk_on mode kept texts is made are = (rests_on mode, subst (λ (l : List (ℕ × List ℕ)). KeepsTexts g after summary l new) (sym is) (keeps_on kept made are))
+
+  -- of texts that the call left as they were
+  pub desk_still : (old.in_transaction ≡ false → new.in_transaction ≡ false) → (kept texts : List (ℕ × List ℕ)) → texts ≡ texts_after after kept → KeepsTexts g before summary kept old → IsAtRest g after summary new × KeepsTexts g after summary texts new
+  desk_still mode kept texts is keeps = desk_on mode kept texts is keeps.made (λ clean live. keeps.are open_before (clean_first clean) live)
 
   module _ (M : Catalogue) (shown : Shows g (record { conn = old; summary = summary; last = before }) M) where
     pub shows_on : Shows g (record { conn = new; summary = summary; last = after }) M

@@ -18,6 +18,7 @@ ghost use Rattle.dict_rows.specs.Versions.{known, IsVersion};
 ghost use Rattle.dict_store.specs.Adopted.{FailsToOpen};
 
 use crate::desk::Desk;
+use crate::kept::forget_by;
 use crate::last::{Last, last_by};
 use dict_catalogue::{Summary, edition_numbers};
 use dict_commands::summaries_in_range;
@@ -217,6 +218,7 @@ impl<S: Alter + Drop> Desk<S> {
         }
         let outcome = read_again(self.alloc, &mut self.conn);
         self.last = last_by(&outcome);
+        forget_by(&mut self.texts, self.last);
         outcome
     }
 }

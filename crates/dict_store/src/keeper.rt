@@ -5,6 +5,7 @@ ghost use Rattle.dict_commands.specs.Answers.{summary_after};
 ghost use Rattle.dict_store.specs.Desk.{reply_of};
 
 use crate::desk::Desk;
+use crate::kept::forget_by;
 use crate::last::{Last, last_by};
 use dict_catalogue::{Command, Kept, Summary};
 use dict_commands::{Applied, apply, kept_reply};
@@ -39,6 +40,7 @@ impl<S: Alter + Drop> Keeper for Desk<S> {
         }
         let outcome = kept_reply(self.alloc, &mut self.conn, id);
         self.last = last_by(&outcome);
+        forget_by(&mut self.texts, self.last);
         outcome
     }
 
@@ -48,6 +50,7 @@ impl<S: Alter + Drop> Keeper for Desk<S> {
         }
         let outcome = apply(self.alloc, &mut self.conn, &self.summary, id, command);
         self.last = last_by(&outcome);
+        forget_by(&mut self.texts, self.last);
         take_over(&mut self.summary, outcome)
     }
 }

@@ -5,6 +5,7 @@ mod adopting;
 mod closing;
 mod desk;
 mod keeper;
+mod kept;
 mod last;
 mod laws;
 mod lookups;

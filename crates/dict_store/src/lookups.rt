@@ -1,5 +1,6 @@
 // What readers ask of a desk.
 use crate::desk::Desk;
+use crate::kept::forget_by;
 use crate::last::{Last, last_by};
 use dict_catalogue::Summary;
 use dict_desk::{End, Fault, Lookup, RowSink, What};
@@ -45,6 +46,7 @@ impl<S: Alter + Drop> Lookup for Desk<S> {
             &mut self.rows_taken,
         );
         self.last = last_by(&outcome);
+        forget_by(&mut self.texts, self.last);
         outcome
     }
 
@@ -68,6 +70,7 @@ impl<S: Alter + Drop> Lookup for Desk<S> {
             &mut self.rows_taken,
         );
         self.last = last_by(&outcome);
+        forget_by(&mut self.texts, self.last);
         outcome
     }
 
@@ -84,6 +87,8 @@ impl<S: Alter + Drop> Lookup for Desk<S> {
         let outcome = dict_lookup::find(
             self.alloc,
             &mut self.conn,
+            &mut self.texts,
+            self.summary.installs,
             number,
             strategy,
             query,
@@ -91,6 +96,7 @@ impl<S: Alter + Drop> Lookup for Desk<S> {
             &mut self.rows_taken,
         );
         self.last = last_by(&outcome);
+        forget_by(&mut self.texts, self.last);
         outcome
     }
 
@@ -114,6 +120,7 @@ impl<S: Alter + Drop> Lookup for Desk<S> {
             &mut self.rows_taken,
         );
         self.last = last_by(&outcome);
+        forget_by(&mut self.texts, self.last);
         outcome
     }
 

@@ -1,18 +1,24 @@
-use Rattle.std.proofs.Common.{sym, subst}
+use Rattle.std.proofs.Common.{ℕ, List, sym, subst}
+use Rattle.dict_catalogue.specs.Views.{summary_shown}
+use Rattle.dict_store.specs.Kept.{KeepsTexts}
+use Rattle.dict_store.specs.declared.last.Last.TheVariants.{Fine}
 use Rattle.sqlite.specs.Effect.{Database}
 use Rattle.dict_file.specs.Holds.{HasLayout, Holds}
 use Rattle.dict_store.proofs.desk.Desk.over.Goals as goal
 use Rattle.dict_rows.specs.Versions.{known, layout_of}
 
 pub invariant_of-result : goal.invariant_of-result
-invariant_of-result g c = record {
-  autocommit = c.requires.autocommit;
-  limit = c.requires.limit;
-  range = c.requires.range;
-  holds = λ fine. c.requires.holds;
-  settled = λ fine clean live. (c.requires.holds clean live).1.settled;
-  own = λ fine clean live. let rests = (c.requires.holds clean live).1 in subst (λ (db : Database). HasLayout (layout_of known) db.schema) (sym rests.settled) rests.holds.own;
-}
+invariant_of-result g c = (
+  record {
+    autocommit = c.requires.autocommit;
+    limit = c.requires.limit;
+    range = c.requires.range;
+    holds = λ fine. c.requires.holds;
+    settled = λ fine clean live. (c.requires.holds clean live).1.settled;
+    own = λ fine clean live. let rests = (c.requires.holds clean live).1 in subst (λ (db : Database). HasLayout (layout_of known) db.schema) (sym rests.settled) rests.holds.own;
+  },
+  subst (λ (texts : List (ℕ × List ℕ)). KeepsTexts g.S.Store Fine (summary_shown c.args.summary) texts c.args.conn) (sym c.new.ensures) (record { made = tt; are = λ fine clean live. tt }),
+)
 
 pub returns-clause-shows : goal.returns-clause-shows
 returns-clause-shows g c = λ M summary well rests. record {

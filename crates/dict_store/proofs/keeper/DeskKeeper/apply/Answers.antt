@@ -7,13 +7,21 @@ use Rattle.dict_desk.specs.Applying.{Leaves}
 use Rattle.dict_store.specs.Causes.{FailsToApplyTo}
 use Rattle.dict_store.specs.Desk.{Shows, LeavesOneOf, is_closed, has_failed}
 use Rattle.dict_store.proofs.CauseLemmas.{fails_to_apply}
-use Rattle.dict_store.proofs.KeeperLemmas.{told_applies, told_leaves, told_spares, failed_by}
+use Rattle.dict_store.proofs.KeeperLemmas.{told_rests, told_applies, told_leaves, told_spares, failed_by}
 use Rattle.dict_store.proofs.keeper.DeskKeeper.apply.Goals as goal
+
+pub invariant_of-self : goal.invariant_of-self
+invariant_of-self g c =
+    let before : is_closed c.self.inside.last ≡ false = search rules in
+    told_rests g.S.Store c.self.inside.conn c.apply-outcome.new.conn (summary_shown c.self.inside.summary) c.self.inside.last c.args.id.now (command_meant c.args.command.now) c.apply-outcome.result before c.self.invariant.0
+    c.apply-outcome.ensures.value c.apply-outcome.ensures.spares c.apply-outcome.ensures.crash c.apply-outcome.ensures.lives c.apply-outcome.ensures.shut
+    (summary_shown c.take_over.new.summary) c.last_by-self-inside.result c.take_over.result c.take_over.ensures.after c.last_by-self-inside.ensures c.take_over.ensures.reply
+    c.self.inside.texts c.forget_by.new.texts c.forget_by.ensures c.self.invariant.1 c.apply-outcome.ensures.holds c.apply-outcome.ensures.range c.apply-outcome.ensures.autocommit c.apply-outcome.ensures.above c.apply-outcome.ensures.refused c.apply-outcome.ensures.grows
 
 pub returns-clause-value : goal.returns-clause-value
 returns-clause-value g c = λ clean M shown.
     let before : is_closed c.self.inside.last ≡ false = search rules in
-    told_applies g.S.Store c.self.inside.conn c.apply-outcome.new.conn (summary_shown c.self.inside.summary) c.self.inside.last c.args.id.now (command_meant c.args.command.now) c.apply-outcome.result before c.self.invariant
+    told_applies g.S.Store c.self.inside.conn c.apply-outcome.new.conn (summary_shown c.self.inside.summary) c.self.inside.last c.args.id.now (command_meant c.args.command.now) c.apply-outcome.result before c.self.invariant.0
     c.apply-outcome.ensures.value c.apply-outcome.ensures.spares c.apply-outcome.ensures.crash c.apply-outcome.ensures.lives c.apply-outcome.ensures.shut
     (summary_shown c.take_over.new.summary) c.last_by-self-inside.result c.take_over.result c.take_over.ensures.after c.last_by-self-inside.ensures c.take_over.ensures.reply
     clean M (subst (λ desk. Shows g.S.Store desk M) (sym c.self.view_is) shown)
@@ -22,7 +30,7 @@ pub returns-clause-leaves : goal.returns-clause-leaves
 returns-clause-leaves g c = λ clean M shown.
     let before : is_closed c.self.inside.last ≡ false = search rules in
     subst (λ desk. Leaves (LeavesOneOf g.S.Store desk) (LeavesOneOf g.S.Store (record { conn = c.apply-outcome.new.conn; summary = summary_shown c.take_over.new.summary; last = c.last_by-self-inside.result }))
-    (is_some (kept_under M.kept c.args.id.now)) (step M c.args.id.now (command_meant c.args.command.now)).catalogue c.take_over.result) c.self.view_is (told_leaves g.S.Store c.self.inside.conn c.apply-outcome.new.conn (summary_shown c.self.inside.summary) c.self.inside.last c.args.id.now (command_meant c.args.command.now) c.apply-outcome.result before c.self.invariant
+    (is_some (kept_under M.kept c.args.id.now)) (step M c.args.id.now (command_meant c.args.command.now)).catalogue c.take_over.result) c.self.view_is (told_leaves g.S.Store c.self.inside.conn c.apply-outcome.new.conn (summary_shown c.self.inside.summary) c.self.inside.last c.args.id.now (command_meant c.args.command.now) c.apply-outcome.result before c.self.invariant.0
     c.apply-outcome.ensures.value c.apply-outcome.ensures.spares c.apply-outcome.ensures.crash c.apply-outcome.ensures.lives c.apply-outcome.ensures.shut
     (summary_shown c.take_over.new.summary) c.last_by-self-inside.result c.take_over.result c.take_over.ensures.after c.last_by-self-inside.ensures c.take_over.ensures.reply
     clean M (subst (λ desk. Shows g.S.Store desk M) (sym c.self.view_is) shown))
@@ -30,7 +38,7 @@ returns-clause-leaves g c = λ clean M shown.
 pub returns-clause-spares : goal.returns-clause-spares
 returns-clause-spares g c = λ ms left.
     let before : is_closed c.self.inside.last ≡ false = search rules in
-    told_spares g.S.Store c.self.inside.conn c.apply-outcome.new.conn (summary_shown c.self.inside.summary) c.self.inside.last c.args.id.now (command_meant c.args.command.now) c.apply-outcome.result before c.self.invariant
+    told_spares g.S.Store c.self.inside.conn c.apply-outcome.new.conn (summary_shown c.self.inside.summary) c.self.inside.last c.args.id.now (command_meant c.args.command.now) c.apply-outcome.result before c.self.invariant.0
     c.apply-outcome.ensures.value c.apply-outcome.ensures.spares c.apply-outcome.ensures.crash c.apply-outcome.ensures.lives c.apply-outcome.ensures.shut
     (summary_shown c.take_over.new.summary) c.last_by-self-inside.result c.take_over.result c.take_over.ensures.after c.last_by-self-inside.ensures c.take_over.ensures.reply
     ms (subst (λ desk. LeavesOneOf g.S.Store desk ms) (sym c.self.view_is) left)

@@ -7,34 +7,36 @@ use Rattle.dict_lookup.proofs.HeldLemmas.{held_one}
 use Rattle.dict_store.specs.Desk.{Shows, is_closed}
 use Rattle.dict_store.proofs.CauseLemmas.{lookup_gives_way}
 use Rattle.dict_desk.specs.Handing.{Hands}
-use Rattle.dict_store.proofs.DeskLemmas.{stays_by, rests_on, shows_on, held, handed_by}
+use Rattle.dict_store.proofs.DeskLemmas.{stays_by, clean_behind, desk_on, shows_on, held, handed_by}
 use Rattle.dict_desk.specs.Shown.{found_rows}
 use Rattle.dict_store.proofs.lookups.DeskLookup.find.Goals as goal
 
 pub invariant_of-self : goal.invariant_of-self
 invariant_of-self g c =
     let before : is_closed c.self.inside.last ≡ false = search rules in
-    rests_on g.S.Store c.self.inside.conn c.find-outcome.new.conn (summary_shown c.self.inside.summary) c.self.inside.last c.last_by-self-inside.result before c.self.invariant c.find-outcome.ensures.survives
+    desk_on g.S.Store c.self.inside.conn c.find-outcome.new.conn (summary_shown c.self.inside.summary) c.self.inside.last c.last_by-self-inside.result before c.self.invariant.0 c.find-outcome.ensures.survives
     (λ clean. stays_by (column_of c.args.number) (state g.S.Store c.self.inside.conn) (state g.S.Store c.find-outcome.new.conn) c.find-outcome.result (c.find-outcome.ensures.same clean) (c.find-outcome.ensures.failed clean)) c.find-outcome.ensures.mode
+    c.find-outcome.new.texts c.forget_by.new.texts c.forget_by.ensures (c.find-outcome.ensures.made c.self.invariant.1.made)
+    (λ clean live. c.find-outcome.ensures.texts clean (c.self.invariant.1.are before (clean_behind (state g.S.Store c.self.inside.conn) (state g.S.Store c.find-outcome.new.conn) c.find-outcome.ensures.survives clean) live))
 
 pub returns-clause-shows : goal.returns-clause-shows
 returns-clause-shows g c = λ clean M shown.
     let before : is_closed c.self.inside.last ≡ false = search rules in
-    shows_on g.S.Store c.self.inside.conn c.find-outcome.new.conn (summary_shown c.self.inside.summary) c.self.inside.last c.last_by-self-inside.result before c.self.invariant c.find-outcome.ensures.survives
+    shows_on g.S.Store c.self.inside.conn c.find-outcome.new.conn (summary_shown c.self.inside.summary) c.self.inside.last c.last_by-self-inside.result before c.self.invariant.0 c.find-outcome.ensures.survives
     (λ clean. stays_by (column_of c.args.number) (state g.S.Store c.self.inside.conn) (state g.S.Store c.find-outcome.new.conn) c.find-outcome.result (c.find-outcome.ensures.same clean) (c.find-outcome.ensures.failed clean))
     M (subst (λ desk. Shows g.S.Store desk M) (sym c.self.view_is) shown)
 
 pub returns-clause-value : goal.returns-clause-value
 returns-clause-value g c = λ clean M edition shown has.
     let before : is_closed c.self.inside.last ≡ false = search rules in
-    let holds = held g.S.Store c.self.inside.conn c.find-outcome.new.conn (summary_shown c.self.inside.summary) c.self.inside.last c.last_by-self-inside.result before c.self.invariant c.find-outcome.ensures.survives
+    let holds = held g.S.Store c.self.inside.conn c.find-outcome.new.conn (summary_shown c.self.inside.summary) c.self.inside.last c.last_by-self-inside.result before c.self.invariant.0 c.find-outcome.ensures.survives
     (λ clean. stays_by (column_of c.args.number) (state g.S.Store c.self.inside.conn) (state g.S.Store c.find-outcome.new.conn) c.find-outcome.result (c.find-outcome.ensures.same clean) (c.find-outcome.ensures.failed clean))
     M (subst (λ desk. Shows g.S.Store desk M) (sym c.self.view_is) shown) clean in
     handed_by g.T.RowSink.takes g.T.RowSink.stops c.args.sink.now c.find-outcome.new.sink (found_rows c.args.strategy c.args.query.now edition) c.find-outcome.result (state g.S.Store c.self.inside.conn).is_open
-    (λ live. let one = held_one (state g.S.Store c.self.inside.conn).now M c.args.number edition (holds live) has in subst (λ (e : Edition). Hands g.T.RowSink.takes g.T.RowSink.stops c.args.sink.now c.find-outcome.new.sink (found_rows c.args.strategy c.args.query.now e) c.find-outcome.result) (sym one.2) (c.find-outcome.ensures.value clean one.0 one.1)) (c.find-outcome.ensures.shut clean) (g.met.T.RowSink.none c.args.sink.now)
+    (λ live. let one = held_one (state g.S.Store c.self.inside.conn).now M c.args.number edition (holds live) has in subst (λ (e : Edition). Hands g.T.RowSink.takes g.T.RowSink.stops c.args.sink.now c.find-outcome.new.sink (found_rows c.args.strategy c.args.query.now e) c.find-outcome.result) (sym one.2) (c.find-outcome.ensures.value clean (c.self.invariant.1.are before (clean_behind (state g.S.Store c.self.inside.conn) (state g.S.Store c.find-outcome.new.conn) c.find-outcome.ensures.survives clean) live) one.0 one.1)) (c.find-outcome.ensures.shut clean) (g.met.T.RowSink.none c.args.sink.now)
 
 pub returns-clause-caused : goal.returns-clause-caused
 returns-clause-caused g c =
     let before : is_closed c.self.inside.last ≡ false = search rules in
-    lookup_gives_way g.S.Store c.self.inside.conn c.find-outcome.new.conn (summary_shown c.self.inside.summary) c.self.inside.last c.last_by-self-inside.result before c.self.invariant c.find-outcome.ensures.survives
+    lookup_gives_way g.S.Store c.self.inside.conn c.find-outcome.new.conn (summary_shown c.self.inside.summary) c.self.inside.last c.last_by-self-inside.result before c.self.invariant.0 c.find-outcome.ensures.survives
     (column_of c.args.number) c.find-outcome.result c.find-outcome.ensures.kinds c.find-outcome.ensures.failed _ c.self.view_is
