@@ -7,3 +7,4 @@ pub mod ListedLemmas
 pub mod DecideLemmas
 pub mod KeptLemmas
 pub mod ApplyLemmas
+pub mod AboveLemmas

@@ -1,6 +1,8 @@
 -- What is derived of the keys of an edition, as the words and the grams of its entries.
-use Rattle.std.proofs.Common.{◌≡◌, ℕ, zero, suc, ◌<◌, List, [], ◌∷◌, ◌++◌, length, map, pos, get_or, Vec, Global, refl, sym, ap, subst, ◌∙◌, arith, append-nil}
-use Rattle.std.specs.Prelude.{flat_map, reverse, Option, Some, None, Result, Ok, Err, IfOk}
+use Rattle.std.proofs.Common.{◌≡◌, ℕ, zero, suc, ◌<◌, ◌≤◌, ◌+◌, List, [], ◌∷◌, ◌++◌, length, map, take, drop, pos, get_or, Vec, Global, refl, sym, ap, subst, ◌∙◌, arith, append-nil}
+use Rattle.std.proofs.lemmas.List.{append_assoc, length-reverse}
+use Rattle.std.specs.Prelude.{flat_map, reverse, cond, is_ok, Option, Some, None, Result, Ok, Err, IfOk, OnOk}
+use Rattle.std.specs.declared.alloc.AllocError.{AllocError}
 use Rattle.std.specs.List.{AllByRecursion}
 use Rattle.std.specs.List.Sorted.{IsPermutation}
 use Rattle.std.proofs.lemmas.List.Sorted.{IsPermutation-append_right}
@@ -46,13 +48,13 @@ are_listed number command rows h = record {
 
 -- the rows of an edition that were added in the order of the tables' keys
 pub installed_turned : (new : Installed) (rows : DerivedRows) → AreRowsOf (keys_of_lines new.reading.lines) rows → (db : Database) (all : AllTables)
-    → HasRecords db (with_more_grams (listed_by new.number rows).grams (with_more_words (listed_by new.number rows).words (with_more_entries (map filed (numbered (entry_record new.number) 0 new.reading.lines)) (with_more_editions (edition_record new.owner new.number new.reading ∷ []) all))))
+    → HasRecords db (with_more_editions (edition_record new.owner new.number new.reading ∷ []) (with_more_grams (listed_by new.number rows).grams (with_more_words (listed_by new.number rows).words (with_more_entries (map filed (numbered (entry_record new.number) 0 new.reading.lines)) all))))
     → HasRecords db (with_installed (Some new) all)
 installed_turned new rows h db all it =
     let entries = numbered (entry_record new.number) 0 new.reading.lines in
     let words : IsPermutation (listed_by new.number rows).words (flat_map (derived Words) entries) = subst (IsPermutation (listed_by new.number rows).words) (sym (derived_due Words new.number new.reading.lines)) (h.words (pos new.number)) in
     let grams : IsPermutation (listed_by new.number rows).grams (flat_map (derived Grams) entries) = subst (IsPermutation (listed_by new.number rows).grams) (sym (derived_due Grams new.number new.reading.lines)) (h.grams (pos new.number)) in
-    pieces_turned db (with_more_grams (listed_by new.number rows).grams (with_more_words (listed_by new.number rows).words (with_more_entries (map filed entries) (with_more_editions (edition_record new.owner new.number new.reading ∷ []) all))))
+    pieces_turned db (with_more_editions (edition_record new.owner new.number new.reading ∷ []) (with_more_grams (listed_by new.number rows).grams (with_more_words (listed_by new.number rows).words (with_more_entries (map filed entries) all))))
     (all.words ++ flat_map (derived Words) entries) (all.grams ++ flat_map (derived Grams) entries)
     (IsPermutation-append_right all.words (listed_by new.number rows).words (flat_map (derived Words) entries) words) (IsPermutation-append_right all.grams (listed_by new.number rows).grams (flat_map (derived Grams) entries) grams) it
 
@@ -68,31 +70,67 @@ none_installed db all it = subst (λ (t : AllTables). HasRecords db t) (λ i. re
 pub wrote_no_edition : {S : Type 0} (g : Ghosts S) (edition : Option Installed) (listed : Listed) → edition ≡ None → (a : Held S) → Wrote g (installing edition listed) (with_installed edition) a a
 wrote_no_edition g edition listed is a = subst (λ e. Wrote g (installing e listed) (with_installed e) a a) (sym is) (wrote_as g [] (λ all. all) (with_installed None) a a none_installed (wrote_none g a))
 
--- ---- keys and what is read in reverse order stand at the same places
+-- ---- keys in reverse order, one behind the other
 
-same_length : {X Y Z : Type 0} (f : X → Z) (h : Y → Z) (xs : List X) (ys : List Y) → map f xs ≡ map h ys → length xs ≡ length ys
-same_length f h [] [] e = refl
-same_length f h [] (y ∷ ys) e = absurd (cc)
-same_length f h (x ∷ xs) [] e = absurd (cc)
-same_length f h (x ∷ xs) (y ∷ ys) e = ap suc (same_length f h xs ys (let rest : map f xs ≡ map h ys = cc in rest))
+-- those of one key more
+reversed_next : (keys : List (List ℕ)) (i : ℕ) (key : List ℕ) → i < length keys → key ≡ get_or keys i key → flat_map reverse (take (suc i) keys) ≡ flat_map reverse (take i keys) ++ reverse key
+reversed_next [] i key lt is = absurd (omega (arith, lt))
+reversed_next (k ∷ keys) zero key lt is = append-nil (reverse k) ∙ ap reverse (sym is)
+reversed_next (k ∷ keys) (suc i) key lt is = ap (λ l. reverse k ++ l) (reversed_next keys i key (let less : i < length keys = omega (arith, lt) in less) is) ∙ sym (append_assoc (reverse k) (flat_map reverse (take i keys)) (reverse key))
 
-same_at : {X Y Z : Type 0} (f : X → Z) (h : Y → Z) (xs : List X) (ys : List Y) (i : ℕ) (x : X) (y : Y) → map f xs ≡ map h ys → i < length ys → f (get_or xs i x) ≡ h (get_or ys i y)
-same_at f h [] [] i x y e lt = absurd (omega (arith, lt))
-same_at f h [] (z ∷ ys) i x y e lt = absurd (cc)
-same_at f h (w ∷ xs) [] i x y e lt = absurd (cc)
-same_at f h (w ∷ xs) (z ∷ ys) zero x y e lt = let first : f w ≡ h z = cc in first
-same_at f h (w ∷ xs) (z ∷ ys) (suc i) x y e lt = same_at f h xs ys i x y (let rest : map f xs ≡ map h ys = cc in rest) (let less : i < length ys = omega (arith, lt) in less)
+-- as a loop counts them
+pub reversed_more : (keys : List (List ℕ)) (i : ℕ) (key : List ℕ) → i < length keys → key ≡ get_or keys i key → flat_map reverse (take (i + 1) keys) ≡ flat_map reverse (take i keys) ++ reverse key
+reversed_more keys i key lt is =
+    let next : suc i ≡ i + 1 = omega arith in
+    subst (λ n. flat_map reverse (take n keys) ≡ flat_map reverse (take i keys) ++ reverse key) next (reversed_next keys i key lt is)
 
-keys_each : (entries : List Entry) → map reverse (keys_of_lines (map line_of entries)) ≡ map (λ (e : Entry). reverse (key_of e.headword.now)) entries
-keys_each entries = map_twice (λ (line : Line). key_of line.headword) reverse (map line_of entries) ∙ map_twice line_of (λ (line : Line). reverse (key_of line.headword)) entries
+-- those of these entries
+abbrev pub rest_of : List Entry → List ℕ
+rest_of entries = flat_map reverse (keys_of_lines (map line_of entries))
 
-pub reversed_length : (reversed : List (Vec ℕ Global)) (entries : List Entry) → map (λ (v : Vec ℕ Global). v.items) reversed ≡ map reverse (keys_of_lines (map line_of entries)) → length reversed ≡ length entries
-reversed_length reversed entries are = same_length (λ (v : Vec ℕ Global). v.items) (λ (e : Entry). reverse (key_of e.headword.now)) reversed entries (are ∙ keys_each entries)
+-- those from a place on begin with that of the entry there
+rest_first : (entries : List Entry) (i : ℕ) (entry : Entry) → AllByRecursion HasItsKey entries → i < length entries → entry ≡ get_or entries i entry → rest_of (drop i entries) ≡ reverse entry.key ++ rest_of (drop (suc i) entries)
+rest_first [] i entry h lt is = absurd (omega (arith, lt))
+rest_first (e ∷ entries) zero entry h lt is = ap (λ k. reverse k ++ rest_of entries) (sym h.0) ∙ ap (λ (x : Entry). reverse x.key ++ rest_of entries) (sym is)
+rest_first (e ∷ entries) (suc i) entry h lt is = rest_first entries i entry h.1 (let less : i < length entries = omega (arith, lt) in less) is
 
-pub reversed_at : (reversed : List (Vec ℕ Global)) (entries : List Entry) (i : ℕ) (octets : Vec ℕ Global) (entry : Entry) → map (λ (v : Vec ℕ Global). v.items) reversed ≡ map reverse (keys_of_lines (map line_of entries)) → i < length entries
-    → octets ≡ get_or reversed i octets → entry ≡ get_or entries i entry → octets.items ≡ reverse (key_of entry.headword.now)
-reversed_at reversed entries i octets entry are lt one two =
-    ap (λ (v : Vec ℕ Global). v.items) one ∙ same_at (λ (v : Vec ℕ Global). v.items) (λ (e : Entry). reverse (key_of e.headword.now)) reversed entries i octets entry (are ∙ keys_each entries) lt ∙ sym (ap (λ (e : Entry). reverse (key_of e.headword.now)) two)
+pub rest_more : (entries : List Entry) (i : ℕ) (entry : Entry) → AllByRecursion HasItsKey entries → i < length entries → entry ≡ get_or entries i entry → rest_of (drop i entries) ≡ reverse entry.key ++ rest_of (drop (i + 1) entries)
+rest_more entries i entry h lt is =
+    let next : suc i ≡ i + 1 = omega arith in
+    subst (λ n. rest_of (drop i entries) ≡ reverse entry.key ++ rest_of (drop n entries)) next (rest_first entries i entry h lt is)
+
+-- the key that the entry at a place has
+pub its_key : (entries : List Entry) (i : ℕ) (entry : Entry) → AllByRecursion HasItsKey entries → i < length entries → entry ≡ get_or entries i entry → entry.key ≡ key_of entry.headword.now
+its_key [] i entry h lt is = absurd (omega (arith, lt))
+its_key (e ∷ entries) zero entry h lt is = subst (λ (x : Entry). x.key ≡ key_of x.headword.now) (sym is) h.0
+its_key (e ∷ entries) (suc i) entry h lt is = its_key entries i entry h.1 (let less : i < length entries = omega (arith, lt) in less) is
+
+take_front : (xs ys : List ℕ) → take (length xs) (xs ++ ys) ≡ xs
+take_front [] ys = refl
+take_front (x ∷ xs) ys = ap (λ l. x ∷ l) (take_front xs ys)
+
+drop_front : (xs ys : List ℕ) → drop (length xs) (xs ++ ys) ≡ ys
+drop_front [] ys = refl
+drop_front (x ∷ xs) ys = drop_front xs ys
+
+front_fits : (xs ys : List ℕ) → length xs ≤ length (xs ++ ys)
+front_fits [] ys = omega arith
+front_fits (x ∷ xs) ys = let less = front_fits xs ys in omega (arith, less)
+
+module _ (rest key tail : List ℕ) (is : rest ≡ reverse key ++ tail) where
+  pub own_first : take (length key) rest ≡ reverse key
+  own_first = subst (λ r. take (length key) r ≡ reverse key) (sym is) (subst (λ n. take n (reverse key ++ tail) ≡ reverse key) (length-reverse key) (take_front (reverse key) tail))
+
+  pub behind_first : drop (length key) rest ≡ tail
+  behind_first = subst (λ r. drop (length key) r ≡ tail) (sym is) (subst (λ n. drop n (reverse key ++ tail) ≡ tail) (length-reverse key) (drop_front (reverse key) tail))
+
+  pub own_fits : length key ≤ length rest
+  own_fits = subst (λ r. length key ≤ length r) (sym is) (subst (λ n. n ≤ length (reverse key ++ tail)) (length-reverse key) (front_fits (reverse key) tail))
+
+-- a list to which another was added, where there was memory
+pub added_behind : (result : Result (Unit {0}) AllocError) (new old own key : List ℕ) → new ≡ cond (is_ok result) (old ++ own) old → own ≡ key → OnOk result (new ≡ old ++ key)
+added_behind (Ok x) new old own key h is = h ∙ ap (λ l. old ++ l) is
+added_behind (Err e) new old own key h is = tt
 
 -- ---- the keys that entries have
 

@@ -1,9 +1,11 @@
 -- The records that the product's tables keep, those that are derived among them, and what a call makes of them.
-use Rattle.std.specs.Prelude.{◌≡◌, ◌≢◌, ℕ, ◌≤◌, List, Some}
+use Rattle.std.specs.Prelude.{◌≡◌, ◌≢◌, ℕ, ◌≤◌, pos, List, Some, codes, map, filter, drop, Contains}
 use Rattle.std.specs.List.{AllByRecursion}
 use Rattle.sqlite.specs.Effect.{Database}
 use Rattle.sqlite.specs.Schema.{Schema}
 use Rattle.sqlite.specs.Table.{Table}
+use Rattle.sqlite.specs.Order.{Row}
+use Rattle.dict_sql.specs.Effects.{equals_number, rows_of}
 use Rattle.dict_tables.specs.Found.{found_table}
 use Rattle.dict_rows.specs.Versions.{known, layout_of}
 use Rattle.dict_derived.specs.AllTables.{AllTables}
@@ -31,6 +33,15 @@ pub record SparesOthers (old new : Database) : Type 0 where
 -- whatever records the tables kept, they keep these of them now, and other tables have the rows that they had
 abbrev pub Turns : (AllTables → AllTables) → Database → Database → Type 0
 Turns f old new = (all : AllTables) → HasRecords old all → HasRecords new (f all) × SparesOthers old new
+
+-- the records that stand under the number of an edition, without their rowids
+abbrev pub edition_records : ℕ → Database → List Row
+edition_records number db = map (drop 1) (filter (equals_number 1 (pos number)) (rows_of (codes "edition") db))
+
+-- What stands under a number up to that of the installs before stood there then, with its text and all: a number is never given
+-- twice, and an edition that stays is not written anew.
+abbrev pub AddsAbove : ℕ → Database → Database → Type 0
+AddsAbove installs old new = (number : ℕ) → number ≤ installs → AllByRecursion (Contains (edition_records number old)) (edition_records number new)
 
 -- a number that a column of integers can hold
 abbrev pub IsStorable : ℕ → Type 0

@@ -46,13 +46,9 @@ keys_by (Place name at) = []
 abbrev pub listed_by : ℕ → DerivedRows → Listed
 listed_by number rows = record { words = word_rows (pos number) rows.words.items; grams = gram_rows (pos number) rows.grams.items }
 
--- each key read in reverse order
-abbrev pub reversed_of : DerivedRows → List (List ℕ)
-reversed_of rows = map (λ octets. octets.items) rows.reversed.items
-
 -- they are made of these keys, the words and the grams under whatever number
 pub record AreRowsOf (keys : List (List ℕ)) (rows : DerivedRows) : Type 0 where
-  pub reversed : reversed_of rows ≡ map reverse keys
+  pub reversed : rows.reversed.items ≡ flat_map reverse keys
   pub rising_words : (edition : ℤ) → IsStrictlySortedBy piece_cmp (word_rows edition rows.words.items)
   pub words : (edition : ℤ) → IsPermutation (word_rows edition rows.words.items) (derived_from Words edition 0 keys)
   pub rising_grams : (edition : ℤ) → IsStrictlySortedBy piece_cmp (gram_rows edition rows.grams.items)

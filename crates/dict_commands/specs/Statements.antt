@@ -65,12 +65,12 @@ taking_of name number = remove name (equals_number 1 (pos number))
 abbrev pub taking : ℕ → List Statement
 taking number = taking_of (codes "gram") number ∷ taking_of (codes "word") number ∷ taking_of (codes "entry") number ∷ taking_of (codes "edition") number ∷ []
 
--- the edition that is installed is added, if there is one, and its entries, words and grams
+-- the entries of the edition that is installed are added, if there is one, its words and grams, and then its own record
 abbrev pub installing : Option Installed → Listed → List Statement
 installing None listed = []
 installing (Some new) listed =
-    adding_edition (edition_record new.owner new.number new.reading)
-    ∷ (map adding_entry (map filed (numbered (entry_record new.number) 0 new.reading.lines)) ++ (map adding_word listed.words ++ map adding_gram listed.grams))
+    map adding_entry (map filed (numbered (entry_record new.number) 0 new.reading.lines))
+    ++ (map adding_word listed.words ++ (map adding_gram listed.grams ++ adding_edition (edition_record new.owner new.number new.reading) ∷ []))
 
 -- the editions that go are taken out, and then the one that is installed is added
 abbrev pub exchanging : List ℕ → Option Installed → Listed → List Statement

@@ -1,5 +1,5 @@
 // A command on the tables of one database.
-ghost use Rattle.std.specs.Prelude.{◌≡◌, ◌⊎◌, false, true, None, IsTrue, IfErr, OnOk};
+ghost use Rattle.std.specs.Prelude.{◌≡◌, ◌⊎◌, ◌≤◌, false, true, None, IsTrue, IfErr, OnOk};
 ghost use Rattle.sqlite.specs.State.{HasCleanDisk, Survives};
 ghost use Rattle.sqlite.specs.Held.{state};
 ghost use Rattle.dict_name.specs.Names.{is_request_id};
@@ -7,7 +7,7 @@ ghost use Rattle.dict_catalogue.specs.Steps.{Catalogue, summary_of, kept_under, 
 ghost use Rattle.dict_catalogue.specs.Views.{summary_shown, command_meant};
 ghost use Rattle.dict_desk.specs.Faults.{is_failure};
 ghost use Rattle.dict_file.specs.Holds.{Holds, Rests, IsLeftAs};
-ghost use Rattle.dict_commands.specs.Kept.{SparesOthers};
+ghost use Rattle.dict_commands.specs.Kept.{SparesOthers, AddsAbove};
 ghost use Rattle.dict_commands.specs.Changes.{IsInRange};
 ghost use Rattle.dict_commands.specs.Committed.{IsTreesOf};
 ghost use Rattle.dict_commands.specs.Answers.{HoldsBy, Answers, has_written, summary_after, IsOfApply, IsOfShut, FailsToAct, FailsToApply};
@@ -44,6 +44,9 @@ fn apply_new<S: Alter>(
     ensures failed { HasCleanDisk (state S.Store conn.new) → IfErr result (λ fault. is_failure fault ≡ true → ((fault ≡ Fault.Memory) × (conn.new ≡ conn.old)) ⊎ FailsToAct S.Store (summary_shown summary.now) id.now (command_meant command.now) (λ db. (M : Catalogue) → Rests known (state S.Store conn.old) M → summary_of M ≡ summary_shown summary.now → kept_under M.kept id.now ≡ None → Holds known db (step M id.now (command_meant command.now)).catalogue) conn.old conn.new fault) }
     ensures others { HasCleanDisk (state S.Store conn.new) → OnOk result (SparesOthers (state S.Store conn.old).now (state S.Store conn.new).now) }
     ensures beside { Survives (state S.Store conn.old) (state S.Store conn.new) (λ trees. IsTrue (state S.Store conn.old).is_open → IsTreesOf (SparesOthers (state S.Store conn.old).now) trees) }
+    ensures above { HasCleanDisk (state S.Store conn.new) → OnOk result (AddsAbove summary.now.installs (state S.Store conn.old).now (state S.Store conn.new).now) }
+    ensures refused { IfErr result (λ fault. is_failure fault ≡ false → (state S.Store conn.new).now ≡ (state S.Store conn.old).now) }
+    ensures grows { summary.now.installs ≤ (summary_after (summary_shown summary.now) result).installs }
     ensures kinds { IfErr result IsOfApply }
     ensures range { IsInRange (summary_after (summary_shown summary.now) result) }
     ensures autocommit { (state S.Store conn.new).in_transaction ≡ false }
@@ -62,7 +65,8 @@ fn apply_new<S: Alter>(
 /// An unlawful id is refused; an id that is kept is answered its reply again, and nothing is written, whatever the command;
 /// else the command's own tests decide, and then it does its effect, and its reply is kept. All memory for the answer is
 /// taken before the commit, which is the last call of the store. What is derived of an edition that is installed is made
-/// before anything is written. Tables that are none of the product's keep their rows, also in what a stop leaves.
+/// before anything is written. Tables that are none of the product's keep their rows, also in what a stop leaves. An edition that
+/// is installed gets a number above that of each install before, and one that stays keeps its record as it was.
 ///
 /// `Memory` tells that a growth was refused before the commit: nothing has changed while the store is open. `Disk` tells
 /// that a read or a statement failed for another cause, or the commit did, for whatever cause: what a stop leaves is what it
@@ -87,6 +91,9 @@ pub fn apply<S: Alter>(
     ensures failed { HasCleanDisk (state S.Store conn.new) → IfErr result (λ fault. is_failure fault ≡ true → FailsToApply S.Store (summary_shown summary.now) id.now (command_meant command.now) conn.old conn.new fault) }
     ensures others { HasCleanDisk (state S.Store conn.new) → OnOk result (SparesOthers (state S.Store conn.old).now (state S.Store conn.new).now) }
     ensures beside { Survives (state S.Store conn.old) (state S.Store conn.new) (IsTreesOf (SparesOthers (state S.Store conn.old).now)) }
+    ensures above { HasCleanDisk (state S.Store conn.new) → OnOk result (AddsAbove summary.now.installs (state S.Store conn.old).now (state S.Store conn.new).now) }
+    ensures refused { HasCleanDisk (state S.Store conn.new) → IfErr result (λ fault. is_failure fault ≡ false → (state S.Store conn.new).now ≡ (state S.Store conn.old).now) }
+    ensures grows { summary.now.installs ≤ (summary_after (summary_shown summary.now) result).installs }
     ensures kinds { IfErr result IsOfApply }
     ensures range { IsInRange (summary_after (summary_shown summary.now) result) }
     ensures holds { HoldsBy (summary_after (summary_shown summary.now) result) (state S.Store conn.new) }

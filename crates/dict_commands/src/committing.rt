@@ -29,17 +29,17 @@ fn commit_rows<S: Alter>(
     id: &str,
     command: &Command,
     change: &Change,
-    rows: &DerivedRows,
+    rows: DerivedRows,
 ) -> Result<(), Fault>
     requires autocommit { conn.old.in_transaction ≡ false }
     requires usable { WhileOpen (state S.Store conn.old) IsUsable }
     requires writable { IsWritable change.now }
-    requires rows { AreRowsOf (keys_by command.now) rows.now }
+    requires rows { AreRowsOf (keys_by command.now) rows }
     ensures made { HasCleanDisk (state S.Store conn.new) → OnOk result (IsCommitted (Turns (all_after known (change_by id.now command.now change.now)) (state S.Store conn.old).now) (state S.Store conn.new)) }
     ensures lives { HasCleanDisk (state S.Store conn.new) → IsTrue (state S.Store conn.new).is_open → IsTrue (state S.Store conn.old).is_open }
     ensures stays { HasCleanDisk (state S.Store conn.new) → OnErr result (Stays (state S.Store conn.old) (state S.Store conn.new)) }
     ensures adds_none { IfErr result (λ fault. is_disk fault ≡ false → Survives (state S.Store conn.old) (state S.Store conn.new) (λ _. ⊥)) }
-    ensures failed { HasCleanDisk (state S.Store conn.new) → IfErr result (FailsToEnd S.Store (statements_of known (change_by id.now command.now change.now) (listed_by change.now.summary.installs rows.now)) (Turns (all_after known (change_by id.now command.now change.now)) (state S.Store conn.old).now) conn.old conn.new) }
+    ensures failed { HasCleanDisk (state S.Store conn.new) → IfErr result (FailsToEnd S.Store (statements_of known (change_by id.now command.now change.now) (listed_by change.now.summary.installs rows.entry)) (Turns (all_after known (change_by id.now command.now change.now)) (state S.Store conn.old).now) conn.old conn.new) }
     ensures kinds { IfErr result IsOfStore }
     ensures autocommit { (state S.Store conn.new).in_transaction ≡ false }
     ensures crash { Survives (state S.Store conn.old) (state S.Store conn.new) (IsTreesOf (Turns (all_after known (change_by id.now command.now change.now)) (state S.Store conn.old).now)) }
@@ -77,7 +77,7 @@ fn commit_keys<S: Alter>(
     ensures crash { Survives (state S.Store conn.old) (state S.Store conn.new) (IsTreesOf (Turns (all_after known (change_by id.now command.now change.now)) (state S.Store conn.old).now)) }
 {
     let rows = derive_rows(alloc, keys)?;
-    commit_rows(conn, id, command, change, &rows)
+    commit_rows(conn, id, command, change, rows)
 }
 
 /// Makes what was planned of a command by one commit, with its reply for the id of its request.

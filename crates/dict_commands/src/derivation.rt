@@ -1,5 +1,5 @@
 // What is derived of the edition that is installed, made before anything is written.
-ghost use Rattle.std.specs.Prelude.{◌≡◌, IfOk, map, reverse};
+ghost use Rattle.std.specs.Prelude.{◌≡◌, ◌++◌, IfOk, OnOk, flat_map, map, reverse};
 ghost use Rattle.dict_commands.specs.Listed.{AreRowsOf, keys_by};
 
 use dict_catalogue::Command;
@@ -8,11 +8,11 @@ use dict_index::Entry;
 use dict_match::Key;
 use std::alloc::{AllocError, Global};
 
-/// What the tables get of the keys of an edition: the octets of each key in reverse order, and its words and grams in the
-/// order of the tables' keys.
+/// What the tables get of the keys of an edition: the octets of each key in reverse order, one key's behind the other's, and its
+/// words and grams in the order of the tables' keys.
 #[derive(Drop)]
 pub(crate) struct DerivedRows<'a> {
-    pub(crate) reversed: Vec<Vec<u8>>,
+    pub(crate) reversed: Vec<u8>,
     pub(crate) words: Vec<PlacedWord<'a>>,
     pub(crate) grams: Vec<PlacedGram>,
 }
@@ -41,14 +41,28 @@ pub(crate) fn installed_keys(alloc: Global, command: &Command) -> Result<Vec<Key
     }
 }
 
-// The octets of each key in reverse order.
-fn reversed_keys(alloc: Global, keys: &[Key]) -> Result<Vec<Vec<u8>>, AllocError>
-    ensures { IfOk result (λ list. map (λ octets. octets.items) list.items ≡ map reverse keys.now) }
+// The octets of a key in reverse order.
+fn reversed_key(alloc: Global, key: &[u8]) -> Result<Vec<u8>, AllocError>
+    ensures { IfOk result (λ own. own.items ≡ reverse key.now) }
+{
+    key.iter().rev().copied().collect(alloc)
+}
+
+// Puts the octets of a key, in reverse order, behind the list.
+fn add_reversed(alloc: Global, list: &mut Vec<u8>, key: &[u8]) -> Result<(), AllocError>
+    ensures { OnOk result (list.new.items ≡ list.old.items ++ reverse key.now) }
+{
+    let own = reversed_key(alloc, key)?;
+    list.extend_from_slice(&own)
+}
+
+// The octets of each key in reverse order, one key's behind the other's.
+fn reversed_keys(alloc: Global, keys: &[Key]) -> Result<Vec<u8>, AllocError>
+    ensures { IfOk result (λ list. list.items ≡ flat_map reverse keys.now) }
 {
     let mut list = Vec::new(alloc);
     'each: for key in keys {
-        let reversed: Vec<u8> = key.as_bytes().iter().rev().copied().collect(alloc)?;
-        list.push(reversed)?;
+        add_reversed(alloc, &mut list, key.as_bytes())?;
     }
     Ok(list)
 }

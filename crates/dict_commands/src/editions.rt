@@ -92,17 +92,17 @@ fn filed_row<'a>(
     }
 }
 
-// Adds the records of entries, each at its place.
+// Adds the records of entries, each at its place, beside their keys in reverse order, one behind the other.
 fn add_entries<S: Alter, T: OpenTransaction<S>>(
     tx: &mut T,
     number: u64,
     entries: &[Entry],
-    reversed: &[Vec<u8>],
+    reversed: &[u8],
 ) -> Result<(), Error>
     requires number { IsStorable number }
     requires short { AllByRecursion (λ entry. IsShort (line_of entry)) entries.now }
     requires keys { AllByRecursion HasItsKey entries.now }
-    requires reversed { map (λ octets. octets.items) reversed.now ≡ map reverse (keys_of_lines (map line_of entries.now)) }
+    requires reversed { reversed.now ≡ flat_map reverse (keys_of_lines (map line_of entries.now)) }
     requires usable { WhileOpen (state S.Store (T.held tx.old)) IsUsable }
     ensures same_reference { T.reference tx.new ≡ T.reference tx.old }
     ensures wrote { OnOk result (Wrote S.Store (map adding_entry (map filed (numbered (entry_record number) 0 (map line_of entries.now)))) (with_more_entries (map filed (numbered (entry_record number) 0 (map line_of entries.now)))) (T.held tx.old) (T.held tx.new)) }
@@ -110,9 +110,12 @@ fn add_entries<S: Alter, T: OpenTransaction<S>>(
     ensures failed { IfErr result (FailsToWrite S.Store (map adding_entry (map filed (numbered (entry_record number) 0 (map line_of entries.now)))) (T.held tx.old) (T.held tx.new)) }
     ensures spares { Spares S.Store (T.held tx.old) (T.held tx.new) }
 {
+    let mut rest = reversed;
     for (ord, entry) in entries.iter().enumerate() {
-        let row = filed_row(number, ord as u64, entry, reversed[ord].as_slice());
+        let (own, behind) = rest.split_at(entry.key.as_bytes().len());
+        let row = filed_row(number, ord as u64, entry, own);
         insert_keyed_entry(tx, &row)?;
+        rest = behind;
     }
     Ok(())
 }
@@ -183,29 +186,38 @@ fn add_grams<S: Alter, T: OpenTransaction<S>>(
     Ok(())
 }
 
-// Adds an edition of this owner under its number, with its entries and what is derived of them.
+// Adds an edition of this owner under its number, behind its entries and what is derived of them: each list is let go of before the
+// text is written, of which the store makes copies.
 fn add_edition<S: Alter, T: OpenTransaction<S>>(
     tx: &mut T,
     owner: &str,
     number: u64,
     edition: &Edition,
-    rows: &DerivedRows,
+    rows: DerivedRows,
 ) -> Result<(), Error>
     requires number { IsStorable number }
-    requires rows { AreRowsOf (keys_of_lines edition.now.lines) rows.now }
+    requires rows { AreRowsOf (keys_of_lines edition.now.lines) rows }
     requires usable { WhileOpen (state S.Store (T.held tx.old)) IsUsable }
     ensures same_reference { T.reference tx.new ≡ T.reference tx.old }
-    ensures wrote { OnOk result (Wrote S.Store (installing (Some (record { owner = owner.now; number = number; reading = edition.now })) (listed_by number rows.now)) (with_installed (Some (record { owner = owner.now; number = number; reading = edition.now }))) (T.held tx.old) (T.held tx.new)) }
+    ensures wrote { OnOk result (Wrote S.Store (installing (Some (record { owner = owner.now; number = number; reading = edition.now })) (listed_by number rows.entry)) (with_installed (Some (record { owner = owner.now; number = number; reading = edition.now }))) (T.held tx.old) (T.held tx.new)) }
     ensures usable { OnOk result (WhileOpen (state S.Store (T.held tx.new)) IsUsable) }
-    ensures failed { IfErr result (FailsToWrite S.Store (installing (Some (record { owner = owner.now; number = number; reading = edition.now })) (listed_by number rows.now)) (T.held tx.old) (T.held tx.new)) }
+    ensures failed { IfErr result (FailsToWrite S.Store (installing (Some (record { owner = owner.now; number = number; reading = edition.now })) (listed_by number rows.entry)) (T.held tx.old) (T.held tx.new)) }
     ensures spares { Spares S.Store (T.held tx.old) (T.held tx.new) }
 {
+    let DerivedRows {
+        reversed,
+        words,
+        grams,
+    } = rows;
     let _text = edition.text();
+    add_entries(tx, number, edition.entries(), &reversed)?;
+    drop(reversed);
+    add_words(tx, number, &words)?;
+    drop(words);
+    add_grams(tx, number, &grams)?;
+    drop(grams);
     let row = edition_row(owner, number, edition);
     insert_edition(tx, &row)?;
-    add_entries(tx, number, edition.entries(), &rows.reversed)?;
-    add_words(tx, number, &rows.words)?;
-    add_grams(tx, number, &rows.grams)?;
     Ok(())
 }
 
@@ -214,15 +226,15 @@ pub(crate) fn add_installed<S: Alter, T: OpenTransaction<S>>(
     tx: &mut T,
     number: u64,
     command: &Command,
-    rows: &DerivedRows,
+    rows: DerivedRows,
 ) -> Result<(), Error>
     requires number { IsStorable number }
-    requires rows { AreRowsOf (keys_by command.now) rows.now }
+    requires rows { AreRowsOf (keys_by command.now) rows }
     requires usable { WhileOpen (state S.Store (T.held tx.old)) IsUsable }
     ensures same_reference { T.reference tx.new ≡ T.reference tx.old }
-    ensures wrote { OnOk result (Wrote S.Store (installing (installed_by number command.now) (listed_by number rows.now)) (with_installed (installed_by number command.now)) (T.held tx.old) (T.held tx.new)) }
+    ensures wrote { OnOk result (Wrote S.Store (installing (installed_by number command.now) (listed_by number rows.entry)) (with_installed (installed_by number command.now)) (T.held tx.old) (T.held tx.new)) }
     ensures usable { OnOk result (WhileOpen (state S.Store (T.held tx.new)) IsUsable) }
-    ensures failed { IfErr result (FailsToWrite S.Store (installing (installed_by number command.now) (listed_by number rows.now)) (T.held tx.old) (T.held tx.new)) }
+    ensures failed { IfErr result (FailsToWrite S.Store (installing (installed_by number command.now) (listed_by number rows.entry)) (T.held tx.old) (T.held tx.new)) }
     ensures spares { Spares S.Store (T.held tx.old) (T.held tx.new) }
 {
     match command {

@@ -50,16 +50,16 @@ fn write_editions<S: Alter, T: OpenTransaction<S>>(
     gone: &[u64],
     installs: u64,
     command: &Command,
-    rows: &DerivedRows,
+    rows: DerivedRows,
 ) -> Result<(), Error>
     requires gone { AreStorable gone.now }
     requires installs { IsStorable installs }
-    requires rows { AreRowsOf (keys_by command.now) rows.now }
+    requires rows { AreRowsOf (keys_by command.now) rows }
     requires usable { WhileOpen (state S.Store (T.held tx.old)) IsUsable }
     ensures same_reference { T.reference tx.new ≡ T.reference tx.old }
-    ensures wrote { OnOk result (Wrote S.Store (exchanging gone.now (installed_by installs command.now) (listed_by installs rows.now)) (λ all. with_installed (installed_by installs command.now) (without_editions gone.now all)) (T.held tx.old) (T.held tx.new)) }
+    ensures wrote { OnOk result (Wrote S.Store (exchanging gone.now (installed_by installs command.now) (listed_by installs rows.entry)) (λ all. with_installed (installed_by installs command.now) (without_editions gone.now all)) (T.held tx.old) (T.held tx.new)) }
     ensures usable { OnOk result (WhileOpen (state S.Store (T.held tx.new)) IsUsable) }
-    ensures failed { IfErr result (FailsToWrite S.Store (exchanging gone.now (installed_by installs command.now) (listed_by installs rows.now)) (T.held tx.old) (T.held tx.new)) }
+    ensures failed { IfErr result (FailsToWrite S.Store (exchanging gone.now (installed_by installs command.now) (listed_by installs rows.entry)) (T.held tx.old) (T.held tx.new)) }
     ensures spares { Spares S.Store (T.held tx.old) (T.held tx.new) }
 {
     take_editions(tx, gone)?;
@@ -95,16 +95,16 @@ pub(crate) fn write_all<S: Alter, T: OpenTransaction<S>>(
     id: &str,
     command: &Command,
     change: &Change,
-    rows: &DerivedRows,
+    rows: DerivedRows,
 ) -> Result<(), Error>
     requires writable { IsWritable change.now }
-    requires rows { AreRowsOf (keys_by command.now) rows.now }
+    requires rows { AreRowsOf (keys_by command.now) rows }
     requires usable { WhileOpen (state S.Store (T.held tx.old)) IsUsable }
     ensures same_reference { T.reference tx.new ≡ T.reference tx.old }
-    ensures wrote { OnOk result (Wrote S.Store (statements_of known (change_by id.now command.now change.now) (listed_by change.now.summary.installs rows.now)) (all_after known (change_by id.now command.now change.now)) (T.held tx.old) (T.held tx.new)) }
+    ensures wrote { OnOk result (Wrote S.Store (statements_of known (change_by id.now command.now change.now) (listed_by change.now.summary.installs rows.entry)) (all_after known (change_by id.now command.now change.now)) (T.held tx.old) (T.held tx.new)) }
     ensures sound { HasCleanDisk (state S.Store (T.held tx.new)) → OnOk result (IsDatabase (state S.Store (T.held tx.new)).now) }
     ensures inside { HasCleanDisk (state S.Store (T.held tx.new)) → OnOk result ((state S.Store (T.held tx.new)).in_transaction ≡ true) }
-    ensures failed { IfErr result (FailsToWrite S.Store (statements_of known (change_by id.now command.now change.now) (listed_by change.now.summary.installs rows.now)) (T.held tx.old) (T.held tx.new)) }
+    ensures failed { IfErr result (FailsToWrite S.Store (statements_of known (change_by id.now command.now change.now) (listed_by change.now.summary.installs rows.entry)) (T.held tx.old) (T.held tx.new)) }
     ensures spares { Spares S.Store (T.held tx.old) (T.held tx.new) }
 {
     write_summary(tx, &change.summary)?;

@@ -1,4 +1,4 @@
-use Rattle.std.proofs.Common.{◌≡◌, true, None, Some, sym, subst, rules, ◌⊎◌, inl, OnOk}
+use Rattle.std.proofs.Common.{◌≡◌, true, false, None, Some, sym, subst, rules, ◌⊎◌, ◌∙◌, inl, OnOk}
 use Rattle.sqlite.specs.State.{HasCleanDisk}
 use Rattle.sqlite.specs.Held.{state}
 use Rattle.sqlite.proofs.StateLemmas.{survives_then}
@@ -8,7 +8,8 @@ use Rattle.dict_catalogue.specs.Views.{command_meant, kept_shown, summary_shown}
 use Rattle.dict_commands.proofs.ApplyLemmas.{kept_step, rests_unchanged, holds_now, holds_again, not_shut, new_fails, failed_answers}
 use Rattle.dict_commands.proofs.WriteLemmas.{clean_before, others_none}
 use Rattle.dict_commands.proofs.LoopLemmas.{each_err}
-use Rattle.dict_commands.specs.Kept.{SparesOthers}
+use Rattle.dict_commands.specs.Kept.{AddsAbove, SparesOthers}
+use Rattle.dict_commands.proofs.AboveLemmas.{above_same, none_refused}
 use Rattle.dict_commands.specs.Committed.{IsTreesOf}
 use Rattle.sqlite.specs.Effect.{Database}
 use Rattle.dict_sql.proofs.StreamLemmas.{passed_on}
@@ -111,3 +112,28 @@ returns-clause-beside g c =
     (λ clean trees left.
     let same = (c.in_ok-kept.ensures.same (clean_before mid new c.apply_new.ensures.crash clean)).0 in
     subst (λ a. IsTreesOf (SparesOthers a) trees) same.now_is (left same.is_open)) c.kept_reply.ensures.survives c.apply_new.ensures.beside
+
+pub returns-in-Some-clause-above : goal.returns-in-Some-clause-above
+returns-in-Some-clause-above g c clean = above_same c.args.summary.now.installs (state g.S.Store c.args.conn.now).now (state g.S.Store c.kept_reply.new.conn).now (c.in_ok-kept.ensures.same clean).0.now_is
+
+pub returns-clause-above : goal.returns-clause-above
+returns-clause-above g c = λ clean.
+    let mid = state g.S.Store c.kept_reply.new.conn in
+    let new = state g.S.Store c.apply_new.new.conn in
+    let same = (c.in_ok-kept.ensures.same (clean_before mid new c.apply_new.ensures.crash clean)).0.now_is in
+    subst (λ (db : Database). OnOk c.apply_new.result (AddsAbove c.args.summary.now.installs db new.now)) same (c.apply_new.ensures.above clean)
+
+pub returns-clause-refused : goal.returns-clause-refused
+returns-clause-refused g c = λ clean.
+    let old = state g.S.Store c.args.conn.now in
+    let mid = state g.S.Store c.kept_reply.new.conn in
+    let new = state g.S.Store c.apply_new.new.conn in
+    let same = (c.in_ok-kept.ensures.same (clean_before mid new c.apply_new.ensures.crash clean)).0.now_is in
+    each_err c.apply_new.result (λ fault. is_failure fault ≡ false → new.now ≡ mid.now) (λ fault. is_failure fault ≡ false → new.now ≡ old.now) (λ fault h no. h no ∙ same) c.apply_new.ensures.refused
+
+pub returns-in_err-kept-clause-refused : goal.returns-in_err-kept-clause-refused
+returns-in_err-kept-clause-refused g c = λ clean.
+    let old = state g.S.Store c.args.conn.now in
+    let new = state g.S.Store c.kept_reply.new.conn in
+    let fault = c.in_err-kept.field-0.0 in
+    passed_on (λ fault. is_failure fault ≡ false → new.now ≡ old.now) fault c.from_residual.result c.from_residual.ensures.1 (λ no. absurd (none_refused fault c.in_err-kept.ensures.kinds no))

@@ -74,7 +74,7 @@ returns-in-Err-clause-failed g c clean =
       error = c.in-Err.error;
       told = c.fault_of.ensures;
       last = mid;
-      within = subst (λ h. FailsInTurn g.S.Store (statements_of known (change_by c.args.id.now c.args.command.now c.args.change.now) (listed_by c.args.change.now.summary.installs c.args.rows.now)) h mid c.in-Err.error) c.transaction-tx.ensures.begun (c.in-Err.ensures.failed early);
+      within = subst (λ h. FailsInTurn g.S.Store (statements_of known (change_by c.args.id.now c.args.command.now c.args.change.now) (listed_by c.args.change.now.summary.installs c.args.rows)) h mid c.in-Err.error) c.transaction-tx.ensures.begun (c.in-Err.ensures.failed early);
       after = subst (λ h. Survives (state g.S.Store mid) (state g.S.Store h) (λ _. ⊥)) same c.drop-tx.ensures.survives;
       undone = subst (λ h. IsRolledBack (state g.S.Store mid) (state g.S.Store h)) same (c.drop-tx.ensures.undone late);
     })
@@ -92,7 +92,7 @@ returns-in-Err-commit-clause-failed g c clean =
     inr (record {
       told = refl;
       last = mid;
-      ran = subst (λ h. RunInTurn g.S.Store (statements_of known (change_by c.args.id.now c.args.command.now c.args.change.now) (listed_by c.args.change.now.summary.installs c.args.rows.now)) h mid) c.transaction-tx.ensures.begun (c.in_default.ensures.wrote.ran early);
+      ran = subst (λ h. RunInTurn g.S.Store (statements_of known (change_by c.args.id.now c.args.command.now c.args.change.now) (listed_by c.args.change.now.summary.installs c.args.rows)) h mid) c.transaction-tx.ensures.begun (c.in_default.ensures.wrote.ran early);
       before = survives_begin g.S.Store old (state g.S.Store mid) (λ _. ⊥) (subst (λ h. Survives (state g.S.Store h) (state g.S.Store mid) (λ _. ⊥)) c.transaction-tx.ensures.begun c.write_all.ensures.spares.survives);
       written = subst (λ d. Turns f d (state g.S.Store mid).now) (ap (λ h. (state g.S.Store h).now) c.transaction-tx.ensures.begun) (c.in_default.ensures.wrote.turns early);
       error = c.in-Err-commit.field-0;

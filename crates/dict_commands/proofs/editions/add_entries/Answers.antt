@@ -1,4 +1,4 @@
-use Rattle.std.proofs.Common.{refl, subst, arith, map, codes, [], ◌∷◌, ◌∙◌, ◌<◌, length}
+use Rattle.std.proofs.Common.{◌≡◌, refl, sym, ap, subst, ◌+◌, arith, map, take, drop, codes, [], ◌∷◌, ◌++◌, ◌∙◌, ◌<◌, ◌≤◌, length, reverse}
 use Rattle.std.proofs.lemmas.List.{take_all}
 use Rattle.sqlite.specs.Held.{state}
 use Rattle.dict_sql.proofs.StreamLemmas.{passed_on}
@@ -13,7 +13,7 @@ use Rattle.dict_commands.specs.Changes.{with_more_entries}
 use Rattle.dict_commands.specs.Statements.{adding_entry}
 use Rattle.dict_commands.proofs.TableLemmas.{has_entries, entries_added}
 use Rattle.dict_commands.proofs.WriteLemmas.{wrote_record, failed_record, spares_none, spares_added, spares_then, usable_then}
-use Rattle.dict_commands.proofs.ListedLemmas.{reversed_length, reversed_at}
+use Rattle.dict_commands.proofs.ListedLemmas.{rest_of, rest_more, its_key, own_first, behind_first, own_fits}
 use Rattle.dict_commands.proofs.editions.add_entries.Goals as goal
 
 pub loop-ord-preserved : goal.loop-ord-preserved
@@ -22,9 +22,14 @@ loop-ord-preserved g c =
     let mid = (g.T.OpenTransaction.held c.loop-ord.tx) in
     let new = (g.T.OpenTransaction.held c.insert_keyed_entry.new.tx) in
     let low : c.loop-ord.ord < length c.args.entries.now = omega arith in
+    let key = c.index-entries-ord.result.key in
+    let tail = rest_of (drop (c.loop-ord.ord + 1) c.args.entries.now) in
+    let size : length c.as_bytes.result.now ≡ length key = ap length c.as_bytes.ensures in
+    let is : c.loop-ord.rest.now ≡ reverse key ++ tail = c.loop-ord.invariant.rest ∙ rest_more c.args.entries.now c.loop-ord.ord c.index-entries-ord.result c.requires.keys low c.index-entries-ord.is in
     let spares = spares_added g.S.Store (codes "entry") (keyed_entry_row (lent_keyed_entry c.filed_row-row.result)) mid new c.insert_keyed_entry.ensures.survives c.insert_keyed_entry.result c.insert_keyed_entry.ensures.added c.insert_keyed_entry.ensures.failed in
     let one = wrote_record g.S.Store (codes "entry") keyed_entry_row (λ r. with_more_entries (r ∷ [])) (lent_keyed_entry c.filed_row-row.result) (filed (entry_record c.args.number c.loop-ord.ord (line_of c.index-entries-ord.result))) (c.filed_row-row.ensures) mid new c.insert_keyed_entry.ensures.survives entries_added c.in_ok-insert_keyed_entry.ensures.added in
     record {
+      rest = c.split_at.ensures.back ∙ ap (λ n. drop n c.loop-ord.rest.now) size ∙ behind_first c.loop-ord.rest.now key tail is;
       same_reference = c.insert_keyed_entry.ensures.same_reference ∙ c.loop-ord.invariant.same_reference;
       wrote = adding_wrote g.S.Store adding_entry with_more_entries entries_last (λ l. map filed (numbered (entry_record c.args.number) 0 (map line_of l))) c.args.entries.now c.loop-ord.ord (filed (entry_record c.args.number c.loop-ord.ord (line_of c.index-entries-ord.result)) ∷ []) (made_next line_of c.args.entries.now c.loop-ord.ord c.index-entries-ord.result low c.index-entries-ord.is filed (entry_record c.args.number)) first mid new c.loop-ord.invariant.wrote spares one;
       usable = usable_then g.S.Store (map adding_entry (filed (entry_record c.args.number c.loop-ord.ord (line_of c.index-entries-ord.result)) ∷ [])) (with_more_entries (filed (entry_record c.args.number c.loop-ord.ord (line_of c.index-entries-ord.result)) ∷ [])) mid new c.loop-ord.invariant.usable one spares;
@@ -35,6 +40,7 @@ pub loop-ord-init : goal.loop-ord-init
 loop-ord-init g c =
     let first = (g.T.OpenTransaction.held c.args.tx.now) in
     record {
+      rest = c.requires.reversed;
       same_reference = refl;
       wrote = adding_none g.S.Store adding_entry with_more_entries entries_none first;
       usable = c.requires.usable;
@@ -71,10 +77,17 @@ insert_keyed_entry-requires g c = λ clean lives. has_entries (state g.S.Store (
 pub filed_row-row-requires-clause-reversed : goal.filed_row-row-requires-clause-reversed
 filed_row-row-requires-clause-reversed g c =
     let low : c.loop-ord.ord < length c.args.entries.now = omega arith in
-    c.as_slice.ensures.value ∙ reversed_at c.args.reversed.now c.args.entries.now c.loop-ord.ord c.index-reversed-ord.result c.index-entries-ord.result c.requires.reversed low c.index-reversed-ord.is c.index-entries-ord.is
+    let key = c.index-entries-ord.result.key in
+    let tail = rest_of (drop (c.loop-ord.ord + 1) c.args.entries.now) in
+    let size : length c.as_bytes.result.now ≡ length key = ap length c.as_bytes.ensures in
+    let is : c.loop-ord.rest.now ≡ reverse key ++ tail = c.loop-ord.invariant.rest ∙ rest_more c.args.entries.now c.loop-ord.ord c.index-entries-ord.result c.requires.keys low c.index-entries-ord.is in
+    c.split_at.ensures.front ∙ ap (λ n. take n c.loop-ord.rest.now) size ∙ own_first c.loop-ord.rest.now key tail is ∙ ap reverse (its_key c.args.entries.now c.loop-ord.ord c.index-entries-ord.result c.requires.keys low c.index-entries-ord.is)
 
-pub bounds-reversed-ord : goal.bounds-reversed-ord
-bounds-reversed-ord g c =
+pub split_at-requires : goal.split_at-requires
+split_at-requires g c =
     let low : c.loop-ord.ord < length c.args.entries.now = omega arith in
-    let same = reversed_length c.args.reversed.now c.args.entries.now c.requires.reversed in
-    omega (arith, low, same)
+    let key = c.index-entries-ord.result.key in
+    let tail = rest_of (drop (c.loop-ord.ord + 1) c.args.entries.now) in
+    let size : length c.as_bytes.result.now ≡ length key = ap length c.as_bytes.ensures in
+    let is : c.loop-ord.rest.now ≡ reverse key ++ tail = c.loop-ord.invariant.rest ∙ rest_more c.args.entries.now c.loop-ord.ord c.index-entries-ord.result c.requires.keys low c.index-entries-ord.is in
+    subst (λ n. n ≤ length c.loop-ord.rest.now) (sym size) (own_fits c.loop-ord.rest.now key tail is)

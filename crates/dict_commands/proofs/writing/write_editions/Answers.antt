@@ -17,8 +17,8 @@ returns-clause-wrote g c =
     let wrote0 : Wrote g.S.Store (flat_map taking c.args.gone.now) (without_editions c.args.gone.now) first s0 = c.in_ok-take_editions.ensures.wrote in
     let s1 = (g.T.OpenTransaction.held c.add_installed.new.tx) in
     let spares1 = c.add_installed.ensures.spares in
-    let wrote1 : Wrote g.S.Store (installing (installed_by c.args.installs c.args.command.now) (listed_by c.args.installs c.args.rows.now)) (with_installed (installed_by c.args.installs c.args.command.now)) s0 s1 = c.in_ok-add_installed.ensures.wrote in
-    (wrote_then g.S.Store (flat_map taking c.args.gone.now) ((installing (installed_by c.args.installs c.args.command.now) (listed_by c.args.installs c.args.rows.now))) (without_editions c.args.gone.now) (λ (all : AllTables). (with_installed (installed_by c.args.installs c.args.command.now) all)) first s0 s1 wrote0 wrote1 spares1)
+    let wrote1 : Wrote g.S.Store (installing (installed_by c.args.installs c.args.command.now) (listed_by c.args.installs c.args.rows)) (with_installed (installed_by c.args.installs c.args.command.now)) s0 s1 = c.in_ok-add_installed.ensures.wrote in
+    (wrote_then g.S.Store (flat_map taking c.args.gone.now) ((installing (installed_by c.args.installs c.args.command.now) (listed_by c.args.installs c.args.rows))) (without_editions c.args.gone.now) (λ (all : AllTables). (with_installed (installed_by c.args.installs c.args.command.now) all)) first s0 s1 wrote0 wrote1 spares1)
 
 pub returns-clause-spares : goal.returns-clause-spares
 returns-clause-spares g c =
@@ -44,7 +44,7 @@ returns-in_err-take_editions-clause-failed g c =
     let s0 = (g.T.OpenTransaction.held c.take_editions.new.tx) in
     let spares0 = c.take_editions.ensures.spares in
     let e = c.in_err-take_editions.field-0.0 in
-    passed_on (FailsToWrite g.S.Store (exchanging c.args.gone.now (installed_by c.args.installs c.args.command.now) (listed_by c.args.installs c.args.rows.now)) first s0) e c.from_residual.result c.from_residual.ensures.1 ((failed_before g.S.Store (flat_map taking c.args.gone.now) ((installing (installed_by c.args.installs c.args.command.now) (listed_by c.args.installs c.args.rows.now))) first s0 e (c.in_err-take_editions.ensures.failed)))
+    passed_on (FailsToWrite g.S.Store (exchanging c.args.gone.now (installed_by c.args.installs c.args.command.now) (listed_by c.args.installs c.args.rows)) first s0) e c.from_residual.result c.from_residual.ensures.1 ((failed_before g.S.Store (flat_map taking c.args.gone.now) ((installing (installed_by c.args.installs c.args.command.now) (listed_by c.args.installs c.args.rows))) first s0 e (c.in_err-take_editions.ensures.failed)))
 
 pub returns-in_err-add_installed-clause-failed : goal.returns-in_err-add_installed-clause-failed
 returns-in_err-add_installed-clause-failed g c =
@@ -55,4 +55,4 @@ returns-in_err-add_installed-clause-failed g c =
     let s1 = (g.T.OpenTransaction.held c.add_installed.new.tx) in
     let spares1 = c.add_installed.ensures.spares in
     let e = c.in_err-add_installed.field-0.0 in
-    passed_on (FailsToWrite g.S.Store (exchanging c.args.gone.now (installed_by c.args.installs c.args.command.now) (listed_by c.args.installs c.args.rows.now)) first s1) e c.from_residual-in_err-add_installed.result c.from_residual-in_err-add_installed.ensures.1 ((failed_after g.S.Store (flat_map taking c.args.gone.now) ((installing (installed_by c.args.installs c.args.command.now) (listed_by c.args.installs c.args.rows.now))) (without_editions c.args.gone.now) first s0 s1 e wrote0 spares1 c.in_err-add_installed.ensures.failed))
+    passed_on (FailsToWrite g.S.Store (exchanging c.args.gone.now (installed_by c.args.installs c.args.command.now) (listed_by c.args.installs c.args.rows)) first s1) e c.from_residual-in_err-add_installed.result c.from_residual-in_err-add_installed.ensures.1 ((failed_after g.S.Store (flat_map taking c.args.gone.now) ((installing (installed_by c.args.installs c.args.command.now) (listed_by c.args.installs c.args.rows))) (without_editions c.args.gone.now) first s0 s1 e wrote0 spares1 c.in_err-add_installed.ensures.failed))
