@@ -3,6 +3,7 @@ pub mod EventLemmas
 pub mod LeadLemmas
 pub mod OrderLemmas
 pub mod TellLemmas
+pub mod PieceLemmas
 pub mod TurnLemmas
 pub mod ListLemmas
 pub mod RoundLemmas

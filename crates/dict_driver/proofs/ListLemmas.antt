@@ -11,6 +11,7 @@ use Rattle.std.proofs.lemmas.List.Edits.{get_or-remove_below, get_or-remove_abov
 use Rattle.dict_outlet.specs.Queues.{waiting}
 use Rattle.dict_driver.specs.Rounds.{WaitsAmong}
 use Rattle.dict_driver.specs.Turning.{MarkAll, any}
+use Rattle.dict_driver.specs.Turns.{IsAtRest}
 use Rattle.dict_driver.proofs.BoolLemmas.{any_more, front_move, last_move}
 use Rattle.dict_driver.specs.declared.connection.Connection.{Connection}
 
@@ -257,9 +258,9 @@ move_more {X} Changes old now i one after before here both in_now is moved chang
       rest = λ k d from below. rw (get_or-set_other now i k after d (λ same. absurd (omega (arith, from, same)))) (all.rest k d (omega (arith, from)) below);
     }
 
--- one more has nothing to read
-pub idle_more : {T : Type 0} (now : List (Connection T)) (i : ℕ) (after : Connection T) → i < length now → ((k : ℕ) (d : Connection T) → k < i → k < length now → (get_or now k d).may_receive ≡ false)
-    → after.may_receive ≡ false → (k : ℕ) (d : Connection T) → k < i + 1 → k < length (set now i after) → (get_or (set now i after) k d).may_receive ≡ false
+-- one more is at rest
+pub idle_more : {T : Type 0} (now : List (Connection T)) (i : ℕ) (after : Connection T) → i < length now → ((k : ℕ) (d : Connection T) → k < i → k < length now → IsAtRest (get_or now k d))
+    → IsAtRest after → (k : ℕ) (d : Connection T) → k < i + 1 → k < length (set now i after) → IsAtRest (get_or (set now i after) k d)
 idle_more now i after in_now before idle k d below within =
     let len : length (set now i after) ≡ length now = length-set now i after in
     elim (eqb_tells k i) [

@@ -10,19 +10,23 @@ use Rattle.std.specs.declared.io.ErrorKind.TheVariants as kinds
 use Rattle.std.proofs.lemmas.Bool.Decides.{eqb_tells}
 use Rattle.std.proofs.KnownBytes.{Consumes-nil, Keeps-refl}
 use Rattle.std.specs.IoError.{error_kind}
-use Rattle.dict_hub.specs.Events.{Happening, came, ended, id_of}
+use Rattle.dict_hub.specs.Events.{Happening, came, ended}
 use Rattle.dict_hub.specs.Runs.{Accepted}
 use Rattle.dict_hub.specs.declared.asking.Out.{Out}
 use Rattle.dict_hub.specs.declared.asking.Out.TheVariants as outs
 use Rattle.dict_outlet.specs.Queues.{waiting, is_clear, Sends}
 use Rattle.dict_driver.specs.Stages.{is_open, is_finishing, answered, parted}
 use Rattle.dict_outlet.specs.Calls.{Call, Makes, sends, receives, sent_by, received_by, received_by_kind, has_come, has_failed, has_moved, count_received}
-use Rattle.dict_driver.specs.Calls.{sendings, readings, endings, is_dropped, calls_of_turn, has_departed}
+use Rattle.dict_driver.specs.Calls.{sendings, readings, endings, is_dropped, calls_of_turn, has_departed, has_turned}
 use Rattle.dict_driver.specs.Events.{ArePut, AreOf, piece_of, pieces_of}
+use Rattle.dict_driver.specs.Handing.{held_in, is_handed}
+use Rattle.dict_driver.specs.Pieces.{next_piece, behind_piece}
+use Rattle.dict_driver.specs.declared.held.Held.{Held}
+use Rattle.dict_hub.specs.declared.kind.Kind.{Kind}
 use Rattle.dict_outlet.specs.Outlets.{Passes, is_sending}
 use Rattle.dict_driver.specs.Telling.{IsAnswered, IsTold, IsToldThrough, MayRefuse}
 use Rattle.dict_hub.specs.declared.hub.Hub.{Hub}
-use Rattle.dict_driver.specs.Turns.{BringAllOrNone, Hands, HandsOver, LeadsByAnswer, LeadsByEnd, LeadsByReading, LeadsByTurn, SendsOnce, ReadsOnce, Turns, Finishes, Drains, LeadsOut, LeadsAway, Departs, stage_between, stage_drained, dropped_after, marked_after}
+use Rattle.dict_driver.specs.Turns.{BringAllOrNone, Hands, HandsOver, LeadsByAnswer, LeadsByEnd, LeadsByReading, LeadsByTurn, LeadsFurther, may_read, SendsOnce, ReadsOnce, Turns, Finishes, Drains, LeadsOut, LeadsAway, Departs, stage_between, stage_drained, dropped_after, marked_after}
 use Rattle.dict_driver.specs.declared.connection.Connection.{Connection}
 use Rattle.dict_outlet.specs.declared.calls.Sent.{Sent}
 use Rattle.dict_outlet.specs.declared.calls.Sent.TheVariants as sents
@@ -30,11 +34,12 @@ use Rattle.dict_outlet.specs.declared.calls.Received.{Received}
 use Rattle.dict_outlet.specs.declared.calls.Received.TheVariants as receiveds
 use Rattle.dict_driver.specs.declared.stage.Stage.{Stage}
 use Rattle.dict_driver.specs.declared.stage.Stage.TheVariants as stages
-use Rattle.dict_driver.specs.Ordering.{IsOfTurn, IsOnly}
+use Rattle.dict_driver.specs.Ordering.{IsOnly}
 use Rattle.dict_outlet.proofs.CallLemmas.{makes_none, makes_joined}
 use Rattle.dict_driver.proofs.EventLemmas.{put_joined}
 use Rattle.dict_outlet.proofs.OutletLemmas.{passes_none}
 use Rattle.dict_driver.proofs.OrderLemmas.{only_turn}
+use Rattle.dict_driver.proofs.PieceLemmas.{none_held, piece_and_rest}
 use Rattle.dict_driver.proofs.TellLemmas.{answered_own, answered_only, answered_pieces}
 
 kept_appends : (a b : Option (List ℕ)) → Keeps a b → Appends a b []
@@ -101,31 +106,35 @@ told_pieces : (what : Happening) (answer : Option Out) (events : List Accepted) 
 told_pieces what None events none = inr (ap pieces_of none)
 told_pieces what (Some out) events one = inl (answered_pieces what out events one)
 
--- an event of a connection, by which it isn't opened, and which the hub accepted
-pub hands_told : {T : Type 0} (taken coming : T → Option (List ℕ)) (made : T → Option (List Call)) (a b : Connection T) (what : Happening) (out : Out) (events : List Accepted) → b.id ≡ a.id → b.may_receive ≡ a.may_receive
-    → id_of what ≡ a.id → IsOfTurn what → (is_open b.stage ≡ true → is_open a.stage ≡ true) → IsToldThrough taken coming made what (Some out) a.queue b.queue a.transport b.transport events
-    → HandsOver taken coming made (piece_of what) a b events
-hands_told taken coming made a b what out events id marks own turn was_open told = record {
-  id = id;
-  may_receive = marks;
-  was_open = was_open;
-  own = subst (λ (i : ℕ). AreOf i events) own (answered_own what (Some out) events told.answered);
-  are_turns = only_turn what events turn (answered_only what (Some out) events told.answered);
-  put = told.put;
-  are_put = told.are_put;
-  passes = told.passes;
-  pieces = told_pieces what (Some out) events told.answered;
-  handed = λ is. answered_pieces what out events told.answered;
-}
+-- the first piece of some octets, which the hub accepted
+pub hands_told : {T : Type 0} (taken coming : T → Option (List ℕ)) (made : T → Option (List Call)) (a b : Connection T) (octets piece : List ℕ) (out : Out) (events : List Accepted) → b.id ≡ a.id → b.may_receive ≡ a.may_receive
+    → b.held.kind ≡ a.held.kind → piece ≡ next_piece a.held.kind octets → held_in b.held ≡ behind_piece a.held.kind octets → (is_open b.stage ≡ true → is_open a.stage ≡ true)
+    → IsToldThrough taken coming made (came a.id piece) (Some out) a.queue b.queue a.transport b.transport events → HandsOver taken coming made octets a b events
+hands_told taken coming made a b octets piece out events id marks kind is rest was_open told =
+    let brought : pieces_of events ≡ next_piece a.held.kind octets = answered_pieces (came a.id piece) out events told.answered ∙ is in
+    record {
+      id = id;
+      may_receive = marks;
+      kind = kind;
+      was_open = was_open;
+      own = answered_own (came a.id piece) (Some out) events told.answered;
+      are_turns = only_turn (came a.id piece) events tt (answered_only (came a.id piece) (Some out) events told.answered);
+      put = told.put;
+      are_put = told.are_put;
+      passes = told.passes;
+      pieces = inl brought;
+      handed = λ still. ap (λ (l : List ℕ). l ++ held_in b.held) brought ∙ ap (λ (l : List ℕ). next_piece a.held.kind octets ++ l) rest ∙ piece_and_rest a.held.kind octets;
+    }
 
 -- an event that brings nothing, after which the connection is closed
 pub hands_ended : {T : Type 0} (a b : Connection T) (answer : Option Out) (events : List Accepted) → b.id ≡ a.id → b.transport ≡ a.transport → b.may_receive ≡ a.may_receive
-    → is_open b.stage ≡ false → IsTold (ended a.id) answer a.queue b.queue events → Hands [] a b events × IsOnly (ended a.id) events
-hands_ended a b answer events id transport marks closed told = (
+    → b.held ≡ a.held → is_open b.stage ≡ false → IsTold (ended a.id) answer a.queue b.queue events → Hands [] a b events × IsOnly (ended a.id) events
+hands_ended a b answer events id transport marks held closed told = (
   record {
     id = id;
     transport = transport;
     may_receive = marks;
+    held = held;
     was_open = λ still. absurd (let never : true ≡ false = sym still ∙ closed in cc);
     own = answered_own (ended a.id) answer events told.answered;
     are_turns = only_turn (ended a.id) events tt (answered_only (ended a.id) answer events told.answered);
@@ -156,11 +165,12 @@ passes_more taken coming made from to last x y z put more passes still is = reco
   lazy = λ few. passes.lazy (omega (arith, few, length-append put more));
 }
 
--- an event by which the transport was asked nothing
-hands_over : {T : Type 0} (taken coming : T → Option (List ℕ)) (made : T → Option (List Call)) (octets : List ℕ) (a b : Connection T) (events : List Accepted) → Hands octets a b events → HandsOver taken coming made octets a b events
-hands_over taken coming made octets a b events hands = record {
+-- an event by which the transport was asked nothing, where nothing is held
+hands_over : {T : Type 0} (taken coming : T → Option (List ℕ)) (made : T → Option (List Call)) (a b : Connection T) (events : List Accepted) → held_in a.held ≡ [] → Hands [] a b events → HandsOver taken coming made [] a b events
+hands_over taken coming made a b events none hands = record {
   id = hands.id;
   may_receive = hands.may_receive;
+  kind = ap (λ (h : Held). h.kind) hands.held;
   was_open = hands.was_open;
   own = hands.own;
   are_turns = hands.are_turns;
@@ -168,21 +178,22 @@ hands_over taken coming made octets a b events hands = record {
   are_put = hands.are_put;
   passes = passes_more taken coming made a.transport a.transport b.transport (waiting a.queue) (waiting a.queue) (waiting b.queue) [] hands.put
       (passes_none taken coming made a.transport a.transport (waiting a.queue) (waiting a.queue) refl refl) hands.transport hands.order;
-  pieces = hands.pieces;
-  handed = hands.handed;
+  pieces = inr (no_pieces events hands.pieces);
+  handed = λ still. ap (λ (l : List ℕ). l ++ held_in b.held) (no_pieces events hands.pieces) ∙ ap held_in hands.held ∙ none;
 }
 
 -- an event that was refused, and then the end
 pub hands_refused : {T : Type 0} (hub : Hub) (taken coming : T → Option (List ℕ)) (made : T → Option (List Call)) (a b c : Connection T) (octets : List ℕ) (what : Happening) (es fs : List Accepted) → b.id ≡ a.id → b.may_receive ≡ a.may_receive
-    → c.stage ≡ stages.Over → IsToldThrough taken coming made what None a.queue b.queue a.transport b.transport es → Hands [] b c fs × IsOnly (ended b.id) fs
+    → b.held ≡ a.held → c.stage ≡ stages.Over → IsToldThrough taken coming made what None a.queue b.queue a.transport b.transport es → Hands [] b c fs × IsOnly (ended b.id) fs
     → MayRefuse hub a.id → HandsOver taken coming made octets a c (es ++ fs) × LeadsByAnswer hub octets a c (es ++ fs)
-hands_refused hub taken coming made a b c octets what es fs id marks over told (later, only) refuses =
+hands_refused hub taken coming made a b c octets what es fs id marks held over told (later, only) refuses =
     let closed : is_open c.stage ≡ false = ap is_open over in
     let whole : es ++ fs ≡ fs = ap (λ (l : List Accepted). l ++ fs) told.answered in
     rw whole (
       record {
         id = later.id ∙ id;
         may_receive = later.may_receive ∙ marks;
+        kind = ap (λ (h : Held). h.kind) (later.held ∙ held);
         was_open = λ still. absurd (let never : true ≡ false = sym still ∙ closed in cc);
         own = subst (λ (i : ℕ). AreOf i fs) id later.own;
         are_turns = later.are_turns;
@@ -195,11 +206,11 @@ hands_refused hub taken coming made a b c octets what es fs id marks over told (
       inr (refuses, subst (λ (i : ℕ). IsOnly (ended i) fs) id only, over),
     )
 
--- octets that the hub answered
-pub leads_answered : {T : Type 0} (hub : Hub) (a b : Connection T) (octets : List ℕ) (out : Out) (events : List Accepted) → b.stage ≡ answered out a.stage
-    → IsAnswered (came a.id octets) (Some out) events → LeadsByAnswer hub octets a b events
-leads_answered hub a b octets out events stage (one, is, same, told) =
-    inl (one, is, same, stage ∙ ap (λ (o : Out). answered o a.stage) (sym told))
+-- octets of which the hub answered the first piece
+pub leads_answered : {T : Type 0} (hub : Hub) (a b : Connection T) (octets piece : List ℕ) (out : Out) (events : List Accepted) → piece ≡ next_piece a.held.kind octets → held_in b.held ≡ behind_piece a.held.kind octets
+    → b.stage ≡ answered out a.stage → IsAnswered (came a.id piece) (Some out) events → LeadsByAnswer hub octets a b events
+leads_answered hub a b octets piece out events first rest stage (one, is, same, told) =
+    inl (one, is, same ∙ ap (λ (l : List ℕ). came a.id l) first, rest, stage ∙ ap (λ (o : Out). answered o a.stage) (sym told))
 
 -- only an open connection goes on
 pub answered_open : (out : Out) (before : Stage) → is_open (answered out before) ≡ true → is_open before ≡ true
@@ -207,12 +218,13 @@ answered_open outs.More before still = still
 answered_open outs.Close before still = cc
 
 -- nothing has changed but how far the connection has come
-pub hands_closed : {T : Type 0} (a b c : Connection T) (octets : List ℕ) (events : List Accepted) → c.id ≡ b.id → c.transport ≡ b.transport → c.may_receive ≡ b.may_receive → c.queue ≡ b.queue → is_open c.stage ≡ false
+pub hands_closed : {T : Type 0} (a b c : Connection T) (octets : List ℕ) (events : List Accepted) → c.id ≡ b.id → c.transport ≡ b.transport → c.may_receive ≡ b.may_receive → c.held ≡ b.held → c.queue ≡ b.queue → is_open c.stage ≡ false
     → Hands octets a b events → Hands octets a c events
-hands_closed a b c octets events id transport marks queue closed hands = record {
+hands_closed a b c octets events id transport marks held queue closed hands = record {
   id = id ∙ hands.id;
   transport = transport ∙ hands.transport;
   may_receive = marks ∙ hands.may_receive;
+  held = held ∙ hands.held;
   was_open = λ still. absurd (let never : true ≡ false = sym still ∙ closed in cc);
   own = hands.own;
   are_turns = hands.are_turns;
@@ -225,13 +237,14 @@ hands_closed a b c octets events id transport marks queue closed hands = record 
 
 -- a front of what waited was sent, by one call
 pub sends_once : {T : Type 0} (taken coming : T → Option (List ℕ)) (made : T → Option (List Call)) (a b : Connection T) (outcome : Result ℕ Error)
-    → b.id ≡ a.id → b.stage ≡ a.stage → b.may_receive ≡ a.may_receive → b.dropped ≡ a.dropped → b.queue.failures ≡ a.queue.failures → is_clear a.queue ≡ false
+    → b.id ≡ a.id → b.stage ≡ a.stage → b.may_receive ≡ a.may_receive → b.held ≡ a.held → b.dropped ≡ a.dropped → b.queue.failures ≡ a.queue.failures → is_clear a.queue ≡ false
     → Sends outcome a.queue b.queue (taken a.transport) (taken b.transport) → Keeps (coming a.transport) (coming b.transport) → Makes (made a.transport) (made b.transport) (sends (sent_by outcome) ∷ [])
     → SendsOnce taken coming made a b (sent_by outcome)
-sends_once taken coming made a b (Ok n) id stage marks dropped failures clear took comes calls = record {
+sends_once taken coming made a b (Ok n) id stage marks held dropped failures clear took comes calls = record {
   id = id;
   stage = stage;
   may_receive = marks;
+  held = held;
   dropped = dropped;
   failures = failures;
   sent = take n (waiting a.queue);
@@ -241,10 +254,11 @@ sends_once taken coming made a b (Ok n) id stage marks dropped failures clear to
   calls = rw clear calls;
   idle = λ is. absurd (let never : true ≡ false = sym is ∙ clear in cc);
 }
-sends_once taken coming made a b (Err error) id stage marks dropped failures clear took comes calls = record {
+sends_once taken coming made a b (Err error) id stage marks held dropped failures clear took comes calls = record {
   id = id;
   stage = stage;
   may_receive = marks;
+  held = held;
   dropped = dropped;
   failures = failures;
   sent = [];
@@ -261,6 +275,7 @@ sends_none taken coming made a clear = record {
   id = refl;
   stage = refl;
   may_receive = refl;
+  held = refl;
   dropped = refl;
   failures = refl;
   sent = [];
@@ -271,68 +286,95 @@ sends_none taken coming made a clear = record {
   idle = λ is. refl;
 }
 
--- where a reading leads is told of what was before it
-leads_from : {T : Type 0} (hub : Hub) (a b c : Connection T) (reading : Received) (octets : List ℕ) (events : List Accepted) → b.id ≡ a.id → b.stage ≡ a.stage → b.may_receive ≡ a.may_receive
+-- where an answer leads is told of what was before it
+answer_from : {T : Type 0} (hub : Hub) (a b c : Connection T) (octets : List ℕ) (events : List Accepted) → b.id ≡ a.id → b.stage ≡ a.stage → b.held.kind ≡ a.held.kind
+    → LeadsByAnswer hub octets b c events → LeadsByAnswer hub octets a c events
+answer_from hub a b c octets events id stage kind (inl (one, is, same, rest, led)) =
+    inl (
+      one,
+      is,
+      same ∙ ap (λ (i : ℕ). came i (next_piece b.held.kind octets)) id ∙ ap (λ (k : Kind). came a.id (next_piece k octets)) kind,
+      rest ∙ ap (λ (k : Kind). behind_piece k octets) kind,
+      led ∙ ap (λ (s : Stage). answered one.out s) stage,
+    )
+answer_from hub a b c octets events id stage kind (inr (refuses, only, over)) =
+    inr (subst (λ (i : ℕ). MayRefuse hub i) id refuses, subst (λ (i : ℕ). IsOnly (ended i) events) id only, over)
+
+-- and so is where a reading leads
+leads_from : {T : Type 0} (hub : Hub) (a b c : Connection T) (reading : Received) (octets : List ℕ) (events : List Accepted) → b.id ≡ a.id → b.stage ≡ a.stage → b.may_receive ≡ a.may_receive → b.held ≡ a.held
     → LeadsByReading hub reading octets b c events → LeadsByReading hub reading octets a c events
-leads_from hub a b c receiveds.Nothing octets events id stage marks leads = ((leads.0.0, leads.0.1 ∙ stage), leads.1)
-leads_from hub a b c receiveds.Interrupted octets events id stage marks leads = ((leads.0.0, leads.0.1 ∙ stage), leads.1 ∙ marks)
-leads_from hub a b c (receiveds.Octets count) octets events id stage marks (inl (one, is, same, led), marked) = (
-  inl (
-    one,
-    is,
-    same ∙ ap (λ (i : ℕ). came i octets) id,
-    led ∙ ap (λ (s : Stage). answered one.out s) stage,
-  ),
-  marked ∙ marks,
-)
-leads_from hub a b c (receiveds.Octets count) octets events id stage marks (inr (refuses, only, over), marked) = (inr (subst (λ (i : ℕ). MayRefuse hub i) id refuses, subst (λ (i : ℕ). IsOnly (ended i) events) id only, over), marked ∙ marks)
-leads_from hub a b c receiveds.End octets events id stage marks leads = (subst (λ (i : ℕ). IsOnly (ended i) events) id leads.0, leads.1)
-leads_from hub a b c receiveds.Failed octets events id stage marks leads = (subst (λ (i : ℕ). IsOnly (ended i) events) id leads.0, leads.1)
+leads_from hub a b c receiveds.Nothing octets events id stage marks held ((none, same, kept), still) = ((none, same ∙ stage, kept ∙ ap held_in held), still)
+leads_from hub a b c receiveds.Interrupted octets events id stage marks held ((none, same, kept), still) = ((none, same ∙ stage, kept ∙ ap held_in held), still ∙ marks)
+leads_from hub a b c (receiveds.Octets count) octets events id stage marks held (answer, marked) =
+    (answer_from hub a b c octets events id stage (ap (λ (h : Held). h.kind) held) answer, marked ∙ marks)
+leads_from hub a b c receiveds.End octets events id stage marks held leads = (subst (λ (i : ℕ). IsOnly (ended i) events) id leads.0, leads.1)
+leads_from hub a b c receiveds.Failed octets events id stage marks held leads = (subst (λ (i : ℕ). IsOnly (ended i) events) id leads.0, leads.1)
 
 -- octets came, or an end, and the hub was told
-pub reads_handed : {T : Type 0} {hub : Hub} (taken coming : T → Option (List ℕ)) (made : T → Option (List Call)) (a b c : Connection T) (reading : Received) (octets : List ℕ) (events : List Accepted)
-    → b ≡ record a { transport = b.transport } → a.may_receive ≡ true → Keeps (taken a.transport) (taken b.transport) → Consumes (coming a.transport) (coming b.transport) octets
-    → Makes (made a.transport) (made b.transport) (receives 4096 reading ∷ []) → HandsOver taken coming made octets b c events → LeadsByReading hub reading octets b c events → ReadsOnce taken coming made hub a c reading events
-reads_handed {hub = hub} taken coming made a b c reading octets events same marked took comes calls hands leads =
+reads_handed : {T : Type 0} {hub : Hub} (taken coming : T → Option (List ℕ)) (made : T → Option (List Call)) (a b c : Connection T) (reading : Received) (octets : List ℕ) (events : List Accepted)
+    → b.id ≡ a.id → b.stage ≡ a.stage → b.queue ≡ a.queue → b.held.kind ≡ a.held.kind → a.may_receive ≡ true → Keeps (taken a.transport) (taken b.transport) → Consumes (coming a.transport) (coming b.transport) octets
+    → Makes (made a.transport) (made b.transport) (receives 4096 reading ∷ []) → HandsOver taken coming made octets b c events → LeadsByReading hub reading octets a c events → ReadsOnce taken coming made hub a c reading events
+reads_handed {hub = hub} taken coming made a b c reading octets events id stage queue kind marked took comes calls hands leads = record {
+  id = hands.id ∙ id;
+  kind = hands.kind ∙ kind;
+  was_open = λ still. ap is_open (sym stage) ∙ hands.was_open still;
+  own = subst (λ (i : ℕ). AreOf i events) id hands.own;
+  are_turns = hands.are_turns;
+  sent = hands.passes.sent;
+  takes = kept_then_appends _ _ _ hands.passes.sent took hands.passes.takes;
+  put = hands.put;
+  are_put = hands.are_put;
+  order = hands.passes.order ∙ ap (λ q. waiting q ++ hands.put) queue;
+  received = octets;
+  gives = consumes_kept _ _ _ octets comes hands.passes.comes;
+  pieces = subst (λ (k : Kind). BringAllOrNone (next_piece k octets) events) kind hands.pieces;
+  handed = hands.handed;
+  within = hands.passes.within;
+  sendings = hands.passes.sendings;
+  calls = rw marked (makes_joined _ _ _ (receives 4096 reading ∷ []) hands.passes.within calls hands.passes.calls);
+  lazy = λ few. hands.passes.lazy (subst (λ q. length (waiting q) + length hands.put < 1048576) (sym queue) few);
+  unmarked = λ isnt. absurd (let never : true ≡ false = sym marked ∙ isnt in cc);
+  leads = leads;
+}
+
+-- octets came, which are held then, and the hub was told the first piece of them
+pub reads_octets : {T : Type 0} {hub : Hub} (taken coming : T → Option (List ℕ)) (made : T → Option (List Call)) (a b c : Connection T) (held : Held) (count : ℕ) (octets : List ℕ) (events : List Accepted)
+    → b ≡ record a { transport = b.transport } → a.may_receive ≡ true → held.kind ≡ b.held.kind → held_in held ≡ octets → Keeps (taken a.transport) (taken b.transport) → Consumes (coming a.transport) (coming b.transport) octets
+    → Makes (made a.transport) (made b.transport) (receives 4096 (receiveds.Octets count) ∷ [])
+    → HandsOver taken coming made (held_in held) (record b { held = held }) c events × LeadsByAnswer hub (held_in held) (record b { held = held }) c events
+    → ReadsOnce taken coming made hub a c (receiveds.Octets count) events
+reads_octets {hub = hub} taken coming made a b c held count octets events same marked kind is took comes calls (hands, leads) =
     let id : b.id ≡ a.id = ap (λ it. it.id) same in
     let stage : b.stage ≡ a.stage = ap (λ it. it.stage) same in
     let marks : b.may_receive ≡ a.may_receive = ap (λ it. it.may_receive) same in
     let queue : b.queue ≡ a.queue = ap (λ it. it.queue) same in
-    record {
-      id = hands.id ∙ id;
-      was_open = λ still. ap is_open (sym stage) ∙ hands.was_open still;
-      own = subst (λ (i : ℕ). AreOf i events) id hands.own;
-      are_turns = hands.are_turns;
-      sent = hands.passes.sent;
-      takes = kept_then_appends _ _ _ hands.passes.sent took hands.passes.takes;
-      put = hands.put;
-      are_put = hands.are_put;
-      order = hands.passes.order ∙ ap (λ q. waiting q ++ hands.put) queue;
-      received = octets;
-      gives = consumes_kept _ _ _ octets comes hands.passes.comes;
-      pieces = hands.pieces;
-      handed = hands.handed;
-      within = hands.passes.within;
-      sendings = hands.passes.sendings;
-      calls = rw marked (makes_joined _ _ _ (receives 4096 reading ∷ []) hands.passes.within calls hands.passes.calls);
-      lazy = λ few. hands.passes.lazy (subst (λ q. length (waiting q) + length hands.put < 1048576) (sym queue) few);
-      unmarked = λ isnt. absurd (let never : true ≡ false = sym marked ∙ isnt in cc);
-      leads = leads_from hub a b c reading octets events id stage marks leads;
-    }
+    let kinds : held.kind ≡ a.held.kind = kind ∙ ap (λ it. it.held.kind) same in
+    reads_handed taken coming made a (record b { held = held }) c (receiveds.Octets count) octets events id stage queue kinds marked took comes calls
+    (subst (λ (l : List ℕ). HandsOver taken coming made l (record b { held = held }) c events) is hands) (
+      answer_from hub a (record b { held = held }) c octets events id stage kinds (subst (λ (l : List ℕ). LeadsByAnswer hub l (record b { held = held }) c events) is leads),
+      hands.may_receive ∙ marks,
+    )
 
--- the same, where the transport was asked nothing then
-pub reads_still : {T : Type 0} {hub : Hub} (taken coming : T → Option (List ℕ)) (made : T → Option (List Call)) (a b c : Connection T) (reading : Received) (octets : List ℕ) (events : List Accepted)
-    → b ≡ record a { transport = b.transport } → a.may_receive ≡ true → Keeps (taken a.transport) (taken b.transport) → Consumes (coming a.transport) (coming b.transport) octets
-    → Makes (made a.transport) (made b.transport) (receives 4096 reading ∷ []) → Hands octets b c events → LeadsByReading hub reading octets b c events → ReadsOnce taken coming made hub a c reading events
-reads_still taken coming made a b c reading octets events same marked took comes calls hands leads =
-    reads_handed taken coming made a b c reading octets events same marked took comes calls (hands_over taken coming made octets b c events hands) leads
+-- an end came, or a failure
+pub reads_still : {T : Type 0} {hub : Hub} (taken coming : T → Option (List ℕ)) (made : T → Option (List Call)) (a b c : Connection T) (reading : Received) (events : List Accepted)
+    → b ≡ record a { transport = b.transport } → held_in a.held ≡ [] → a.may_receive ≡ true → Keeps (taken a.transport) (taken b.transport) → Consumes (coming a.transport) (coming b.transport) []
+    → Makes (made a.transport) (made b.transport) (receives 4096 reading ∷ []) → Hands [] b c events → LeadsByReading hub reading [] b c events → ReadsOnce taken coming made hub a c reading events
+reads_still {hub = hub} taken coming made a b c reading events same none marked took comes calls hands leads =
+    let id : b.id ≡ a.id = ap (λ it. it.id) same in
+    let stage : b.stage ≡ a.stage = ap (λ it. it.stage) same in
+    let marks : b.may_receive ≡ a.may_receive = ap (λ it. it.may_receive) same in
+    let queue : b.queue ≡ a.queue = ap (λ it. it.queue) same in
+    let held : b.held ≡ a.held = ap (λ it. it.held) same in
+    reads_handed taken coming made a b c reading [] events id stage queue (ap (λ (h : Held). h.kind) held) marked took comes calls
+    (hands_over taken coming made b c events (ap held_in held ∙ none) hands) (leads_from hub a b c reading [] events id stage marks held leads)
 
 -- nothing came
 pub reads_none : {T : Type 0} {hub : Hub} (taken coming : T → Option (List ℕ)) (made : T → Option (List Call)) (a b : Connection T) (reading : Received) → b.id ≡ a.id → b.stage ≡ a.stage → b.queue ≡ a.queue
-    → Keeps (taken a.transport) (taken b.transport) → Consumes (coming a.transport) (coming b.transport) [] → Makes (made a.transport) (made b.transport) (readings a.may_receive reading)
+    → b.held ≡ a.held → held_in a.held ≡ [] → Keeps (taken a.transport) (taken b.transport) → Consumes (coming a.transport) (coming b.transport) [] → Makes (made a.transport) (made b.transport) (readings a.may_receive reading)
     → (a.may_receive ≡ false → reading ≡ receiveds.Nothing) → LeadsByReading hub reading [] a b [] → ReadsOnce taken coming made hub a b reading []
-reads_none taken coming made a b reading id stage queue took comes calls unmarked leads = record {
+reads_none taken coming made a b reading id stage queue held none took comes calls unmarked leads = record {
   id = id;
+  kind = ap (λ (h : Held). h.kind) held;
   was_open = λ still. ap is_open (sym stage) ∙ still;
   own = tt;
   are_turns = tt;
@@ -343,8 +385,8 @@ reads_none taken coming made a b reading id stage queue took comes calls unmarke
   order = ap waiting queue ∙ sym (append-nil (waiting a.queue));
   received = [];
   gives = comes;
-  pieces = inl refl;
-  handed = λ _. refl;
+  pieces = inr refl;
+  handed = λ _. ap held_in held ∙ none;
   within = [];
   sendings = All-nil (λ call. is_sending call ≡ true);
   calls = subst (λ (l : List Call). Makes (made a.transport) (made b.transport) l) (sym (append-nil (readings a.may_receive reading))) calls;
@@ -354,7 +396,7 @@ reads_none taken coming made a b reading id stage queue took comes calls unmarke
 }
 
 leads_by_turn : {T : Type 0} (hub : Hub) (a c : Connection T) (sending : Sent) (reading : Received) (octets : List ℕ) (events : List Accepted) → sending ≢ sents.Failed
-    → LeadsByReading hub reading octets a c events → LeadsByTurn hub sending reading octets a c events
+    → LeadsFurther (is_handed a.held) hub reading octets a c events → LeadsByTurn hub sending reading octets a c events
 leads_by_turn hub a c sents.Nothing reading octets events well leads = leads
 leads_by_turn hub a c sents.Some reading octets events well leads = leads
 leads_by_turn hub a c sents.Failed reading octets events well leads = absurd (well refl)
@@ -367,43 +409,98 @@ calls_of_both a b c clear may sents.Some reading within well first later =
     subst (λ (l : List Call). Makes a c l) (sym (append_assoc (sendings clear sents.Some) (readings may reading) within)) (makes_joined a b c (sendings clear sents.Some) (readings may reading ++ within) first later)
 calls_of_both a b c clear may sents.Failed reading within well first later = absurd (well refl)
 
--- a sending, and then a reading
+-- a sending, and then a reading, where nothing was held
 pub turns_read : {T : Type 0} {hub : Hub} (taken coming : T → Option (List ℕ)) (made : T → Option (List Call)) (a b c : Connection T) (sending : Sent) (reading : Received) (events : List Accepted) → sending ≢ sents.Failed
-    → SendsOnce taken coming made a b sending → ReadsOnce taken coming made hub b c reading events → (moved : Bool) → moved ≡ has_moved sending reading → Turns taken coming made hub a c moved events
-turns_read {hub = hub} taken coming made a b c sending reading events well first later moved is = record {
-  has_moved = is;
-  id = later.id ∙ first.id;
-  was_open = λ still. ap is_open (sym first.stage) ∙ later.was_open still;
-  own = subst (λ (i : ℕ). AreOf i events) first.id later.own;
-  are_turns = later.are_turns;
-  sent = first.sent ++ later.sent;
-  takes = appends_joined _ _ _ first.sent later.sent first.takes later.takes;
-  put = later.put;
-  are_put = later.are_put;
-  order = append_assoc first.sent later.sent (waiting c.queue) ∙ ap (λ (l : List ℕ). first.sent ++ l) later.order ∙ sym (append_assoc first.sent (waiting b.queue) later.put)
-      ∙ ap (λ (l : List ℕ). l ++ later.put) first.order;
-  received = later.received;
-  gives = kept_then_consumes _ _ _ later.received first.comes later.gives;
-  pieces = later.pieces;
-  handed = later.handed;
-  sending = sending;
-  reading = reading;
-  within = later.within;
-  sendings = later.sendings;
-  calls = calls_of_both _ _ _ (is_clear a.queue) a.may_receive sending reading later.within well first.calls
-      (subst (λ (m : Bool). Makes (made b.transport) (made c.transport) (readings m reading ++ later.within)) first.may_receive later.calls);
-  lazy = λ few. (later.lazy (omega (arith, few, ap length first.order, length-append first.sent (waiting b.queue)))).1;
-  idle = first.idle;
-  unmarked = λ isnt. later.unmarked (first.may_receive ∙ isnt);
-  leads = leads_by_turn hub a c sending reading later.received events well (leads_from hub a b c reading later.received events first.id first.stage first.may_receive later.leads);
-}
+    → is_handed b.held ≡ true → SendsOnce taken coming made a b sending → ReadsOnce taken coming made hub b c reading events → (moved : Bool) → moved ≡ has_moved sending reading → Turns taken coming made hub a c moved events
+turns_read {hub = hub} taken coming made a b c sending reading events well all first later moved is =
+    let empty : is_handed a.held ≡ true = ap is_handed (sym first.held) ∙ all in
+    let none : held_in a.held ≡ [] = none_held a.held empty in
+    let may : may_read a ≡ a.may_receive = ap (λ (e : Bool). e && a.may_receive) empty in
+    let kind : b.held.kind ≡ a.held.kind = ap (λ (h : Held). h.kind) first.held in
+    let whole : later.received ≡ held_in a.held ++ later.received = ap (λ (l : List ℕ). l ++ later.received) (sym none) in
+    record {
+      has_moved = is ∙ ap (λ (e : Bool). has_turned e sending reading) (sym empty);
+      id = later.id ∙ first.id;
+      kind = later.kind ∙ kind;
+      was_open = λ still. ap is_open (sym first.stage) ∙ later.was_open still;
+      own = subst (λ (i : ℕ). AreOf i events) first.id later.own;
+      are_turns = later.are_turns;
+      sent = first.sent ++ later.sent;
+      takes = appends_joined _ _ _ first.sent later.sent first.takes later.takes;
+      put = later.put;
+      are_put = later.are_put;
+      order = append_assoc first.sent later.sent (waiting c.queue) ∙ ap (λ (l : List ℕ). first.sent ++ l) later.order ∙ sym (append_assoc first.sent (waiting b.queue) later.put)
+          ∙ ap (λ (l : List ℕ). l ++ later.put) first.order;
+      received = later.received;
+      gives = kept_then_consumes _ _ _ later.received first.comes later.gives;
+      pieces = subst (λ (l : List ℕ). BringAllOrNone (next_piece a.held.kind l) events) whole (subst (λ (k : Kind). BringAllOrNone (next_piece k later.received) events) kind later.pieces);
+      handed = λ still. later.handed still ∙ whole;
+      sending = sending;
+      reading = reading;
+      within = later.within;
+      sendings = later.sendings;
+      calls = subst (λ (m : Bool). Makes (made a.transport) (made c.transport) (calls_of_turn (is_clear a.queue) m sending reading ++ later.within)) (sym may)
+          (calls_of_both _ _ _ (is_clear a.queue) a.may_receive sending reading later.within well first.calls
+          (subst (λ (m : Bool). Makes (made b.transport) (made c.transport) (readings m reading ++ later.within)) first.may_receive later.calls));
+      lazy = λ few. (later.lazy (omega (arith, few, ap length first.order, length-append first.sent (waiting b.queue)))).1;
+      idle = first.idle;
+      unmarked = λ isnt. later.unmarked (first.may_receive ∙ sym may ∙ isnt);
+      leads = leads_by_turn hub a c sending reading later.received events well (subst (λ (e : Bool). LeadsFurther e hub reading later.received a c events) (sym empty)
+          (leads_from hub a b c reading later.received events first.id first.stage first.may_receive first.held later.leads));
+    }
+
+-- a sending, and then the next piece of what was held
+pub turns_handed : {T : Type 0} {hub : Hub} (taken coming : T → Option (List ℕ)) (made : T → Option (List Call)) (a b c : Connection T) (sending : Sent) (events : List Accepted) → sending ≢ sents.Failed
+    → is_handed b.held ≡ false → SendsOnce taken coming made a b sending → HandsOver taken coming made (held_in b.held) b c events × LeadsByAnswer hub (held_in b.held) b c events → Turns taken coming made hub a c true events
+turns_handed {hub = hub} taken coming made a b c sending events well some first (hands, leads) =
+    let left : is_handed a.held ≡ false = ap is_handed (sym first.held) ∙ some in
+    let may : may_read a ≡ false = ap (λ (e : Bool). e && a.may_receive) left in
+    let kind : b.held.kind ≡ a.held.kind = ap (λ (h : Held). h.kind) first.held in
+    let whole : held_in b.held ≡ held_in a.held ++ [] = ap held_in first.held ∙ sym (append-nil (held_in a.held)) in
+    record {
+      has_moved = ap (λ (e : Bool). has_turned e sending receiveds.Nothing) (sym left);
+      id = hands.id ∙ first.id;
+      kind = hands.kind ∙ kind;
+      was_open = λ still. ap is_open (sym first.stage) ∙ hands.was_open still;
+      own = subst (λ (i : ℕ). AreOf i events) first.id hands.own;
+      are_turns = hands.are_turns;
+      sent = first.sent ++ hands.passes.sent;
+      takes = appends_joined _ _ _ first.sent hands.passes.sent first.takes hands.passes.takes;
+      put = hands.put;
+      are_put = hands.are_put;
+      order = append_assoc first.sent hands.passes.sent (waiting c.queue) ∙ ap (λ (l : List ℕ). first.sent ++ l) hands.passes.order ∙ sym (append_assoc first.sent (waiting b.queue) hands.put)
+          ∙ ap (λ (l : List ℕ). l ++ hands.put) first.order;
+      received = [];
+      gives = kept_then_consumes _ _ _ [] first.comes (kept_consumes _ _ hands.passes.comes);
+      pieces = subst (λ (l : List ℕ). BringAllOrNone (next_piece a.held.kind l) events) whole (subst (λ (k : Kind). BringAllOrNone (next_piece k (held_in b.held)) events) kind hands.pieces);
+      handed = λ still. hands.handed still ∙ whole;
+      sending = sending;
+      reading = receiveds.Nothing;
+      within = hands.passes.within;
+      sendings = hands.passes.sendings;
+      calls = subst (λ (m : Bool). Makes (made a.transport) (made c.transport) (calls_of_turn (is_clear a.queue) m sending receiveds.Nothing ++ hands.passes.within)) (sym may)
+          (calls_of_both _ _ _ (is_clear a.queue) false sending receiveds.Nothing hands.passes.within well first.calls hands.passes.calls);
+      lazy = λ few. (hands.passes.lazy (omega (arith, few, ap length first.order, length-append first.sent (waiting b.queue)))).1;
+      idle = first.idle;
+      unmarked = λ isnt. refl;
+      leads = leads_by_turn hub a c sending receiveds.Nothing [] events well (subst (λ (e : Bool). LeadsFurther e hub receiveds.Nothing [] a c events) (sym left) (
+        answer_from hub a b c (held_in a.held) events first.id first.stage kind (subst (λ (l : List ℕ). LeadsByAnswer hub l b c events) (ap held_in first.held) leads),
+        refl,
+        hands.may_receive ∙ first.may_receive,
+      ));
+    }
+
+turned_failed : (e : Bool) → true ≡ has_turned e sents.Failed receiveds.Nothing
+turned_failed true = refl
+turned_failed false = refl
 
 -- a sending that failed, and then the hub was told the end
 pub turns_failed : {T : Type 0} {hub : Hub} (taken coming : T → Option (List ℕ)) (made : T → Option (List Call)) (a b c : Connection T) (sending : Sent) (events : List Accepted) → sending ≡ sents.Failed
     → SendsOnce taken coming made a b sending → c.stage ≡ stages.Over → Hands [] b c events × IsOnly (ended b.id) events → Turns taken coming made hub a c true events
 turns_failed taken coming made a b c sending events failed first over (hands, only) = record {
-  has_moved = refl;
+  has_moved = turned_failed (is_handed a.held);
   id = hands.id ∙ first.id;
+  kind = ap (λ (h : Held). h.kind) (hands.held ∙ first.held);
   was_open = λ still. ap is_open (sym first.stage) ∙ hands.was_open still;
   own = subst (λ (i : ℕ). AreOf i events) first.id hands.own;
   are_turns = hands.are_turns;
@@ -414,8 +511,8 @@ turns_failed taken coming made a b c sending events failed first over (hands, on
   order = ap (λ (l : List ℕ). first.sent ++ l) hands.order ∙ sym (append_assoc first.sent (waiting b.queue) hands.put) ∙ ap (λ (l : List ℕ). l ++ hands.put) first.order;
   received = [];
   gives = kept_consumes _ _ (subst (λ t. Keeps (coming a.transport) (coming t)) (sym hands.transport) first.comes);
-  pieces = hands.pieces;
-  handed = hands.handed;
+  pieces = inr (no_pieces events hands.pieces);
+  handed = λ still. absurd (let never : true ≡ false = sym still ∙ ap is_open over in cc);
   sending = sents.Failed;
   reading = receiveds.Nothing;
   within = [];
@@ -568,10 +665,10 @@ parted_closed true = refl
 parted_closed false = refl
 
 -- the hub was told the end, and what waits is still sent
-pub hands_parted : {T : Type 0} (a b c : Connection T) (events : List Accepted) → c.id ≡ b.id → c.transport ≡ b.transport → c.may_receive ≡ b.may_receive → c.queue ≡ b.queue → c.stage ≡ parted (is_clear b.queue)
+pub hands_parted : {T : Type 0} (a b c : Connection T) (events : List Accepted) → c.id ≡ b.id → c.transport ≡ b.transport → c.may_receive ≡ b.may_receive → c.held ≡ b.held → c.queue ≡ b.queue → c.stage ≡ parted (is_clear b.queue)
     → Hands [] a b events × IsOnly (ended a.id) events → Hands [] a c events × LeadsByEnd (parted (is_clear c.queue)) a c events
-hands_parted a b c events id transport marks queue stage (hands, only) = (
-  hands_closed a b c [] events id transport marks queue (ap is_open stage ∙ parted_closed (is_clear b.queue)) hands,
+hands_parted a b c events id transport marks held queue stage (hands, only) = (
+  hands_closed a b c [] events id transport marks held queue (ap is_open stage ∙ parted_closed (is_clear b.queue)) hands,
   (only, stage ∙ ap (λ q. parted (is_clear q)) (sym queue)),
 )
 

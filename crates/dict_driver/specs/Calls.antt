@@ -1,6 +1,6 @@
 -- Which calls of its transport a turn makes.
 use Rattle.std.specs.Prelude.{Bool, true, false, List, [], ◌∷◌, ◌++◌, ◌||◌}
-use Rattle.dict_outlet.specs.Calls.{Call, sends, receives, ends}
+use Rattle.dict_outlet.specs.Calls.{Call, sends, receives, ends, has_moved}
 use Rattle.dict_outlet.specs.declared.calls.Sent.{Sent}
 use Rattle.dict_outlet.specs.declared.calls.Sent.TheVariants as sents
 use Rattle.dict_outlet.specs.declared.calls.Received.{Received}
@@ -17,11 +17,16 @@ abbrev pub readings : Bool → Received → List Call
 readings false received = []
 readings true received = receives 4096 received ∷ []
 
--- the calls of a turn: a sending where something waits, and where it didn't fail a reading where one may give something
+-- the calls of a turn: a sending where something waits, and where it didn't fail a reading where one is to be made
 abbrev pub calls_of_turn : Bool → Bool → Sent → Received → List Call
-calls_of_turn is_clear may_receive sents.Failed received = sendings is_clear sents.Failed
-calls_of_turn is_clear may_receive sents.Nothing received = sendings is_clear sents.Nothing ++ readings may_receive received
-calls_of_turn is_clear may_receive sents.Some received = sendings is_clear sents.Some ++ readings may_receive received
+calls_of_turn is_clear may_read sents.Failed received = sendings is_clear sents.Failed
+calls_of_turn is_clear may_read sents.Nothing received = sendings is_clear sents.Nothing ++ readings may_read received
+calls_of_turn is_clear may_read sents.Some received = sendings is_clear sents.Some ++ readings may_read received
+
+-- a turn did something, or is to be had again at once: what was held before was handed on, or else the sending or the reading tells so
+abbrev pub has_turned : Bool → Sent → Received → Bool
+has_turned false sent received = true
+has_turned true sent received = has_moved sent received
 
 -- a turn of one that is no longer open did something, or is to be had again at once: octets were taken or a sending failed or was
 -- interrupted, or one of these is so

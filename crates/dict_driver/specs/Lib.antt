@@ -5,6 +5,8 @@ pub mod Events
 pub mod Leading
 pub mod Ordering
 pub mod Telling
+pub mod Pieces
+pub mod Handing
 pub mod Turns
 pub mod Turning
 pub mod Rounds

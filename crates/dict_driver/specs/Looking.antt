@@ -8,6 +8,7 @@ use Rattle.dict_outlet.specs.declared.transport.Transport as transport
 use Rattle.dict_driver.specs.Asking.{Asking, Asks, looks}
 use Rattle.dict_driver.specs.Listening.{listening_told}
 use Rattle.dict_driver.specs.Turning.{MarkAll}
+use Rattle.dict_driver.specs.Turns.{IsAtRest}
 use Rattle.dict_driver.specs.declared.event_loop.EventLoop.{EventLoop}
 use Rattle.dict_driver.specs.declared.listening.Listening.{Listening}
 use Rattle.dict_driver.specs.declared.listening.Listening.TheVariants.{Ready}
@@ -42,11 +43,11 @@ module _ {T S : Type 0} {G : transport.Ghosts T} where
     pub failure : new.failure ≡ old.failure
 
   -- nothing is to be done before a socket is ready: each listening socket was asked, and had nobody or failed; and each open connection
-  -- was read from, and had nothing
+  -- was read from, and had nothing, and what was read of it before is handed
   pub record IsIdle (over : EventLoop T S G) : Type 0 where
     pub dict : over.dict_listening ≢ Ready
     pub http : over.http_listening ≢ Ready
-    pub read : All (λ one. one.may_receive ≡ false) over.connections.opened.items
+    pub read : All IsAtRest over.connections.opened.items
 
 abbrev pub other_kind : Kind → Kind
 other_kind Dict = Http

@@ -5,6 +5,7 @@ use Rattle.dict_outlet.specs.Queues.{waiting}
 use Rattle.dict_outlet.specs.Calls.{Call}
 use Rattle.dict_driver.specs.Stages.{is_open, is_held, is_departing}
 use Rattle.dict_driver.specs.Events.{ArePut}
+use Rattle.dict_driver.specs.Handing.{held_in}
 use Rattle.dict_driver.specs.Turns.{IsOpened}
 use Rattle.dict_driver.specs.Turning.{DepartAll, TurnAll}
 use Rattle.dict_hub.specs.declared.kind.Kind.{Kind}
@@ -64,8 +65,9 @@ pub record TurnEach {T : Type 0} {G : Ghosts T} (taken coming : T → Option (Li
   pub last : new.last ≡ old.last
   pub has_moved : moved ≡ (by_departing || by_open)
 
--- no connection was opened, and all is as before; or one was, of this transport and with the next id, behind those that are open
+-- no connection was opened, and all is as before; or one was, of this transport and kind and with the next id, behind those that are
+-- open, and nothing was read of it yet
 abbrev pub Admits : {T : Type 0} {G : Ghosts T} → T → Kind → Connections T G → Connections T G → List Accepted → Type 0
 Admits {T} transport kind old new events = ((events ≡ []) × (new.opened.items ≡ old.opened.items) × (new.departing.items ≡ old.departing.items) × (new.last ≡ old.last))
     ⊎ ((one : Connection T) × IsOpened (old.last + 1) kind one events × (one.id ≡ old.last + 1) × (one.transport ≡ transport) × (one.may_receive ≡ true)
-    × (new.opened.items ≡ old.opened.items ++ one ∷ []) × (new.departing.items ≡ old.departing.items) × (new.last ≡ old.last + 1))
+    × (one.held.kind ≡ kind) × (held_in one.held ≡ []) × (new.opened.items ≡ old.opened.items ++ one ∷ []) × (new.departing.items ≡ old.departing.items) × (new.last ≡ old.last + 1))

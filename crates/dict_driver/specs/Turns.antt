@@ -9,9 +9,11 @@ use Rattle.dict_hub.specs.declared.kind.Kind.{Kind}
 use Rattle.dict_outlet.specs.Outlets.{Passes, is_sending}
 use Rattle.dict_outlet.specs.Queues.{waiting, is_clear}
 use Rattle.dict_driver.specs.Stages.{is_open, is_finishing, stage_of_new, answered, parted, finished, drained}
-use Rattle.dict_outlet.specs.Calls.{Call, sends, Makes, count_received, has_come, has_moved}
-use Rattle.dict_driver.specs.Calls.{sendings, endings, readings, is_dropped, calls_of_turn, has_departed}
+use Rattle.dict_outlet.specs.Calls.{Call, sends, Makes, count_received, has_come}
+use Rattle.dict_driver.specs.Calls.{sendings, endings, readings, is_dropped, calls_of_turn, has_departed, has_turned}
 use Rattle.dict_driver.specs.Events.{ArePut, AreOf, pieces_of}
+use Rattle.dict_driver.specs.Handing.{held_in, is_handed}
+use Rattle.dict_driver.specs.Pieces.{next_piece, behind_piece}
 use Rattle.dict_driver.specs.Ordering.{AreOfTurns, IsOnly}
 use Rattle.dict_driver.specs.Telling.{MayRefuse}
 use Rattle.dict_hub.specs.declared.hub.Hub.{Hub}
@@ -27,12 +29,21 @@ use Rattle.dict_driver.specs.declared.stage.Stage.TheVariants as stages
 abbrev pub BringAllOrNone : List ℕ → List Accepted → Type 0
 BringAllOrNone octets events = (pieces_of events ≡ octets) ⊎ (pieces_of events ≡ [])
 
+-- a reading is made: all that was read is handed, and a reading may give something
+abbrev pub may_read : {T : Type 0} → Connection T → Bool
+may_read one = is_handed one.held && one.may_receive
+
+-- nothing is to be done: all that was read is handed, and a reading gave nothing
+abbrev pub IsAtRest : {T : Type 0} → Connection T → Type 0
+IsAtRest one = (one.may_receive ≡ false) × (held_in one.held ≡ [])
+
 -- These octets were handed to the hub, or none, in events of this connection alone. What the events put waits behind what waited
--- before, and the transport was asked nothing
+-- before, what is held is as before, and the transport was asked nothing
 pub record Hands {T : Type 0} (octets : List ℕ) (old new : Connection T) (events : List Accepted) : Type 0 where
   pub id : new.id ≡ old.id
   pub transport : new.transport ≡ old.transport
   pub may_receive : new.may_receive ≡ old.may_receive
+  pub held : new.held ≡ old.held
   pub was_open : is_open new.stage ≡ true → is_open old.stage ≡ true
   pub own : AreOf old.id events
   pub are_turns : AreOfTurns events
@@ -42,36 +53,39 @@ pub record Hands {T : Type 0} (octets : List ℕ) (old new : Connection T) (even
   pub pieces : BringAllOrNone octets events
   pub handed : is_open new.stage ≡ true → pieces_of events ≡ octets
 
--- The same, where the transport may have taken a front of what waits at once
+-- Of these octets the first piece was handed to the hub, or none, in events of this connection alone, and the rest is held while the
+-- connection is open. What the events put waits behind what waited before, of which the transport may have taken a front at once
 pub record HandsOver {T : Type 0} (taken coming : T → Option (List ℕ)) (made : T → Option (List Call)) (octets : List ℕ) (old new : Connection T) (events : List Accepted) : Type 0 where
   pub id : new.id ≡ old.id
   pub may_receive : new.may_receive ≡ old.may_receive
+  pub kind : new.held.kind ≡ old.held.kind
   pub was_open : is_open new.stage ≡ true → is_open old.stage ≡ true
   pub own : AreOf old.id events
   pub are_turns : AreOfTurns events
   pub put : List ℕ
   pub are_put : ArePut events put
   pub passes : Passes taken coming made old.transport new.transport (waiting old.queue) (waiting new.queue) put
-  pub pieces : BringAllOrNone octets events
-  pub handed : is_open new.stage ≡ true → pieces_of events ≡ octets
+  pub pieces : BringAllOrNone (next_piece old.held.kind octets) events
+  pub handed : is_open new.stage ≡ true → pieces_of events ++ held_in new.held ≡ octets
 
--- the hub, as it was, was told these octets, and the stage is that of its answer; or it refused them, as it may, was told the end, and the
--- connection is over
+-- the hub, as it was, was told the first piece of these octets, the rest is held, and the stage is that of its answer; or it refused the
+-- piece, as it may, was told the end, and the connection is over
 abbrev pub LeadsByAnswer : {T : Type 0} → Hub → List ℕ → Connection T → Connection T → List Accepted → Type 0
 LeadsByAnswer hub octets old new events =
-    ((one : Accepted) × (events ≡ one ∷ []) × (one.what ≡ came old.id octets) × (new.stage ≡ answered one.out old.stage))
+    ((one : Accepted) × (events ≡ one ∷ []) × (one.what ≡ came old.id (next_piece old.held.kind octets)) × (held_in new.held ≡ behind_piece old.held.kind octets)
+    × (new.stage ≡ answered one.out old.stage))
     ⊎ (MayRefuse hub old.id × IsOnly (ended old.id) events × (new.stage ≡ stages.Over))
 
 -- the hub was told the end and nothing else, and this is the stage
 abbrev pub LeadsByEnd : {T : Type 0} → Stage → Connection T → Connection T → List Accepted → Type 0
 LeadsByEnd stage old new events = IsOnly (ended old.id) events × (new.stage ≡ stage)
 
--- the hub was told nothing, and the stage is as before
+-- the hub was told nothing, and the stage and what is held are as before
 abbrev pub LeadsNowhere : {T : Type 0} → Connection T → Connection T → List Accepted → Type 0
-LeadsNowhere old new events = (events ≡ []) × (new.stage ≡ old.stage)
+LeadsNowhere old new events = (events ≡ []) × (new.stage ≡ old.stage) × (held_in new.held ≡ held_in old.held)
 
--- Where a reading leads, by which these octets came: an answer leads on, or to a close; the end of the peer's side to one that is
--- over, once all is sent; a failure to one that is over
+-- Where a reading leads, by which these octets came: the answer to their first piece leads on, or to a close; the end of the peer's side
+-- to one that is over, once all is sent; a failure to one that is over
 abbrev pub LeadsByReading : {T : Type 0} → Hub → Received → List ℕ → Connection T → Connection T → List Accepted → Type 0
 LeadsByReading hub receiveds.Nothing octets old new events = LeadsNowhere old new events × (new.may_receive ≡ false)
 LeadsByReading hub receiveds.Interrupted octets old new events = LeadsNowhere old new events × (new.may_receive ≡ old.may_receive)
@@ -79,17 +93,24 @@ LeadsByReading hub (receiveds.Octets count) octets old new events = LeadsByAnswe
 LeadsByReading hub receiveds.End octets old new events = LeadsByEnd (parted (is_clear new.queue)) old new events
 LeadsByReading hub receiveds.Failed octets old new events = LeadsByEnd stages.Over old new events
 
--- where a turn leads: a sending that failed to a connection that is over, and each other where the reading does
+-- where what was read leads: where something of it was held before, the answer to the next piece of that, and nothing is read; and where
+-- all was handed, a reading
+abbrev pub LeadsFurther : {T : Type 0} → Bool → Hub → Received → List ℕ → Connection T → Connection T → List Accepted → Type 0
+LeadsFurther false hub received octets old new events = LeadsByAnswer hub (held_in old.held) old new events × (octets ≡ []) × (new.may_receive ≡ old.may_receive)
+LeadsFurther true hub received octets old new events = LeadsByReading hub received octets old new events
+
+-- where a turn leads: a sending that failed to a connection that is over, and each other where what was read does
 abbrev pub LeadsByTurn : {T : Type 0} → Hub → Sent → Received → List ℕ → Connection T → Connection T → List Accepted → Type 0
 LeadsByTurn hub sents.Failed received octets old new events = LeadsByEnd stages.Over old new events
-LeadsByTurn hub sents.Nothing received octets old new events = LeadsByReading hub received octets old new events
-LeadsByTurn hub sents.Some received octets old new events = LeadsByReading hub received octets old new events
+LeadsByTurn hub sents.Nothing received octets old new events = LeadsFurther (is_handed old.held) hub received octets old new events
+LeadsByTurn hub sents.Some received octets old new events = LeadsFurther (is_handed old.held) hub received octets old new events
 
 -- A front of what waits was sent, which the transport took, by one call where something waits; nothing was read
 pub record SendsOnce {T : Type 0} (taken coming : T → Option (List ℕ)) (made : T → Option (List Call)) (old new : Connection T) (sending : Sent) : Type 0 where
   pub id : new.id ≡ old.id
   pub stage : new.stage ≡ old.stage
   pub may_receive : new.may_receive ≡ old.may_receive
+  pub held : new.held ≡ old.held
   pub dropped : new.dropped ≡ old.dropped
   pub failures : new.queue.failures ≡ old.queue.failures
   pub sent : List ℕ
@@ -99,10 +120,12 @@ pub record SendsOnce {T : Type 0} (taken coming : T → Option (List ℕ)) (made
   pub calls : Makes (made old.transport) (made new.transport) (sendings (is_clear old.queue) sending)
   pub idle : is_clear old.queue ≡ true → sending ≡ sents.Nothing
 
--- What came was handed to the hub, or none of it, by one call where a reading may give something; and then the transport was asked no
--- more than to take octets, and not even that while fewer than 1,048,576 of them were there
+-- Of what came, by one call where a reading may give something, the first piece was handed to the hub, or none, and the rest is held
+-- while the connection is open; and then the transport was asked no more than to take octets, and not even that while fewer than
+-- 1,048,576 of them were there
 pub record ReadsOnce {T : Type 0} (taken coming : T → Option (List ℕ)) (made : T → Option (List Call)) (hub : Hub) (old new : Connection T) (reading : Received) (events : List Accepted) : Type 0 where
   pub id : new.id ≡ old.id
+  pub kind : new.held.kind ≡ old.held.kind
   pub was_open : is_open new.stage ≡ true → is_open old.stage ≡ true
   pub own : AreOf old.id events
   pub are_turns : AreOfTurns events
@@ -113,8 +136,8 @@ pub record ReadsOnce {T : Type 0} (taken coming : T → Option (List ℕ)) (made
   pub order : sent ++ waiting new.queue ≡ waiting old.queue ++ put
   pub received : List ℕ
   pub gives : Consumes (coming old.transport) (coming new.transport) received
-  pub pieces : BringAllOrNone received events
-  pub handed : is_open new.stage ≡ true → pieces_of events ≡ received
+  pub pieces : BringAllOrNone (next_piece old.held.kind received) events
+  pub handed : is_open new.stage ≡ true → pieces_of events ++ held_in new.held ≡ received
   pub within : List Call
   pub sendings : All (λ call. is_sending call ≡ true) within
   pub calls : Makes (made old.transport) (made new.transport) (readings old.may_receive reading ++ within)
@@ -123,12 +146,14 @@ pub record ReadsOnce {T : Type 0} (taken coming : T → Option (List ℕ)) (made
   pub leads : LeadsByReading hub reading received old new events
 
 -- A turn of an open connection. The events are of this connection alone. What waited and what they put: a front of it is sent, which
--- the transport took, and the rest waits. What came was handed to the hub, all of it while the connection is open, and else all or
--- none. The calls are a sending, where something waits, then a reading, where one may give something, and within the event sendings
--- again, once 1,048,576 octets are there; and what the first two came to, and the hub's answer, tells the stage. Whether anything
--- happened, or a call is to be made again at once, is told by what the two came to
+-- the transport took, and the rest waits. What was held and what came: its first piece was handed to the hub while the connection is
+-- open, and else that or none; and the rest is held while it is open. The calls are a sending, where something waits, then a reading,
+-- where one may give something and nothing was held, and within the event sendings again, once 1,048,576 octets are there; and what the
+-- first two came to, and the hub's answer, tells the stage. Something happened, or a turn is to be had again at once, where something
+-- was held, and else as it is told by what the two came to
 pub record Turns {T : Type 0} (taken coming : T → Option (List ℕ)) (made : T → Option (List Call)) (hub : Hub) (old new : Connection T) (moved : Bool) (events : List Accepted) : Type 0 where
   pub id : new.id ≡ old.id
+  pub kind : new.held.kind ≡ old.held.kind
   pub was_open : is_open new.stage ≡ true → is_open old.stage ≡ true
   pub own : AreOf old.id events
   pub are_turns : AreOfTurns events
@@ -139,18 +164,18 @@ pub record Turns {T : Type 0} (taken coming : T → Option (List ℕ)) (made : T
   pub order : sent ++ waiting new.queue ≡ waiting old.queue ++ put
   pub received : List ℕ
   pub gives : Consumes (coming old.transport) (coming new.transport) received
-  pub pieces : BringAllOrNone received events
-  pub handed : is_open new.stage ≡ true → pieces_of events ≡ received
+  pub pieces : BringAllOrNone (next_piece old.held.kind (held_in old.held ++ received)) events
+  pub handed : is_open new.stage ≡ true → pieces_of events ++ held_in new.held ≡ held_in old.held ++ received
   pub sending : Sent
   pub reading : Received
   pub within : List Call
   pub sendings : All (λ call. is_sending call ≡ true) within
-  pub calls : Makes (made old.transport) (made new.transport) (calls_of_turn (is_clear old.queue) old.may_receive sending reading ++ within)
+  pub calls : Makes (made old.transport) (made new.transport) (calls_of_turn (is_clear old.queue) (may_read old) sending reading ++ within)
   pub lazy : length (waiting old.queue) + length put < 1048576 → within ≡ []
   pub idle : is_clear old.queue ≡ true → sending ≡ sents.Nothing
-  pub unmarked : old.may_receive ≡ false → reading ≡ receiveds.Nothing
+  pub unmarked : may_read old ≡ false → reading ≡ receiveds.Nothing
   pub leads : LeadsByTurn hub sending reading received old new events
-  pub has_moved : moved ≡ has_moved sending reading
+  pub has_moved : moved ≡ has_turned (is_handed old.held) sending reading
 
 -- A connection was opened under this id: its stage is that of the hub's answer, and what the event put waits
 abbrev pub IsOpened : {T : Type 0} → ℕ → Kind → Connection T → List Accepted → Type 0

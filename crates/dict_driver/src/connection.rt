@@ -7,6 +7,7 @@ ghost use Rattle.dict_hub.specs.Runs.{Accepted};
 ghost use Rattle.dict_outlet.specs.Calls.{Makes, receives, count_received};
 ghost use Rattle.dict_driver.specs.Stages.{is_open, parted, stage_of_new};
 
+use crate::held::{Held, PIECE};
 use crate::stage::{Stage, answered, drained, has_departed, parted, stage_of_new, told};
 use crate::telling::{tell, tell_through};
 use dict_desk::Keeper;
@@ -14,17 +15,16 @@ use dict_hub::{Event, Hub, Kind};
 use dict_outlet::{Queue, Received, Sent, Transport, has_moved, received_by, sent_by};
 use std::alloc::Global;
 
-/// The most octets that one reading takes.
-pub const PIECE: usize = 4_096;
-
 // The most octets that are dropped of a connection once all is sent: the largest body of a request and 1 MiB.
 const MOST_DROPPED: usize = 84_934_656;
 
-/// One connection: its id, the octets that wait for its peer, and what carries them.
+/// One connection: its id, what was read and isn't handed to the hub yet, the octets that wait for its peer, and what
+/// carries them.
 #[derive(Drop)]
 pub struct Connection<T: Transport> {
     id: u64,
     stage: Stage,
+    held: Held,
     queue: Queue,
     // How many octets were dropped since all was sent.
     dropped: usize,
@@ -35,11 +35,12 @@ pub struct Connection<T: Transport> {
 
 impl<T: Transport> Connection<T> {
     ghost use Rattle.dict_outlet.specs.Queues.{waiting, is_clear};
-    ghost use Rattle.dict_driver.specs.Turns.{Departs, Drains, Finishes, Hands, HandsOver, IsOpened, LeadsByAnswer, LeadsByEnd, ReadsOnce, SendsOnce, Turns};
+    ghost use Rattle.dict_driver.specs.Handing.{held_in};
+    ghost use Rattle.dict_driver.specs.Turns.{Departs, Drains, Finishes, Hands, HandsOver, IsAtRest, IsOpened, LeadsByAnswer, LeadsByEnd, ReadsOnce, SendsOnce, Turns};
     ghost use Rattle.dict_driver.specs.Turning.{marked};
     ghost use Rattle.dict_driver.specs.Ordering.{IsOnly};
 
-    /// Tells the hub of a new connection. `None` where the hub refused it.
+    /// Tells the hub of a new connection. `None` where the hub refused it, or there is no memory for what is read.
     pub fn open<K: Keeper>(
         alloc: Global,
         id: u64,
@@ -54,12 +55,18 @@ impl<T: Transport> Connection<T> {
         ensures id { IfSome result (λ one. one.id ≡ id) }
         ensures transport { IfSome result (λ one. one.transport ≡ transport) }
         ensures may_receive { IfSome result (λ one. one.may_receive ≡ true) }
+        ensures kind { IfSome result (λ one. one.held.kind ≡ kind) }
+        ensures held { IfSome result (λ one. held_in one.held ≡ []) }
     {
+        let Ok(held) = Held::new(alloc, kind) else {
+            return None;
+        };
         let mut queue = Queue::new(alloc);
         match tell(hub, desk, Event::Opened(id, kind), &mut queue) {
             Some(out) => Some(Connection {
                 id,
                 stage: stage_of_new(out),
+                held,
                 queue,
                 dropped: 0,
                 may_receive: true,
@@ -107,18 +114,23 @@ impl<T: Transport> Connection<T> {
         }
     }
 
-    /// A turn of an open connection: sends what waits, reads once into the room, and hands what came to the hub, or that
-    /// nothing more comes. Whether anything happened.
+    /// A turn of an open connection: sends what waits, and hands the next piece of what was read to the hub, of a reader a
+    /// line. Where all of it was handed, it reads once into the room first; and where nothing more comes, the hub is told
+    /// so. Whether anything happened.
     pub fn turn<K: Keeper>(&mut self, hub: &mut Hub, desk: &mut K, room: &mut [u8; PIECE]) -> bool
         ensures led { HasLedOn (K.is_trusted desk.new) (K.shows desk.old) (K.leaves_one_of desk.old) (K.shows desk.new) (K.leaves_one_of desk.new) hub.old hub.new
             (λ events. Turns T.taken T.coming T.made hub.old self.old self.new result events) }
         ensures trust { K.is_trusted desk.new → K.is_trusted desk.old }
         ensures id { self.new.id ≡ self.old.id }
-        ensures idle { result ≡ false → self.new.may_receive ≡ false }
+        ensures idle { result ≡ false → IsAtRest self.new }
     {
         let sent = self.send();
         if sent.has_failed() {
             self.end(hub, desk);
+            return true;
+        }
+        if !self.held.is_empty() {
+            self.hand(hub, desk);
             return true;
         }
         let received = self.read(hub, desk, room);
@@ -162,13 +174,15 @@ impl<T: Transport> Connection<T> {
         received_by(&self.transport.receive(room))
     }
 
-    // Reads once where that may give something, and hands what came to the hub, or that nothing more comes.
+    // Reads once where that may give something, and hands the first piece of what came to the hub, or that nothing more
+    // comes.
     fn read<K: Keeper>(&mut self, hub: &mut Hub, desk: &mut K, room: &mut [u8; PIECE]) -> Received
+        requires { held_in self.old.held ≡ [] }
         ensures led { HasLedOn (K.is_trusted desk.new) (K.shows desk.old) (K.leaves_one_of desk.old) (K.shows desk.new) (K.leaves_one_of desk.new) hub.old hub.new
             (λ events. ReadsOnce T.taken T.coming T.made hub.old self.old self.new result events) }
         ensures trust { K.is_trusted desk.new → K.is_trusted desk.old }
         ensures id { self.new.id ≡ self.old.id }
-        ensures idle { result ≡ Received.Nothing → self.new.may_receive ≡ false }
+        ensures idle { result ≡ Received.Nothing → IsAtRest self.new }
     {
         if !self.may_receive {
             return Received::Nothing;
@@ -176,7 +190,8 @@ impl<T: Transport> Connection<T> {
         let received = self.receive(room);
         match received {
             Received::Octets(count) => {
-                self.take(hub, desk, &room[..count]);
+                self.held.fill(&room[..count]);
+                self.hand(hub, desk);
                 received
             }
             Received::End => {
@@ -195,16 +210,22 @@ impl<T: Transport> Connection<T> {
         }
     }
 
-    // Hands octets to the hub. Where the hub closes it, what waits is still sent; and where it refuses the octets, nothing is.
-    fn take<K: Keeper>(&mut self, hub: &mut Hub, desk: &mut K, piece: &[u8])
+    // Hands the next piece to the hub. Where the hub closes the connection, what waits is still sent; and where it refuses
+    // the octets, nothing is.
+    fn hand<K: Keeper>(&mut self, hub: &mut Hub, desk: &mut K)
         ensures led { HasLedOn (K.is_trusted desk.new) (K.shows desk.old) (K.leaves_one_of desk.old) (K.shows desk.new) (K.leaves_one_of desk.new) hub.old hub.new
-            (λ events. HandsOver T.taken T.coming T.made piece.now self.old self.new events × LeadsByAnswer hub.old piece.now self.old self.new events) }
+            (λ events. HandsOver T.taken T.coming T.made (held_in self.old.held) self.old self.new events × LeadsByAnswer hub.old (held_in self.old.held) self.old self.new events) }
         ensures trust { K.is_trusted desk.new → K.is_trusted desk.old }
         ensures id { self.new.id ≡ self.old.id }
     {
+        let piece = self.held.next_piece();
+        let count = piece.len();
         let event = Event::Bytes(self.id, piece);
         match tell_through(hub, desk, event, &mut self.queue, &mut self.transport) {
-            Some(out) => self.stage = answered(out, self.stage),
+            Some(out) => {
+                self.held.pass(count);
+                self.stage = answered(out, self.stage);
+            }
             None => self.end(hub, desk),
         }
     }

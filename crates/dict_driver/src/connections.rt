@@ -42,6 +42,7 @@ impl<T: Transport> Connections<T> {
     ghost use Rattle.std.specs.List.{remove};
     ghost use Rattle.dict_driver.specs.Rounds.{Admits, Moves, TurnEach, Waits, latest};
     ghost use Rattle.dict_driver.specs.Stages.{is_departing};
+    ghost use Rattle.dict_driver.specs.Turns.{IsAtRest};
     ghost use Rattle.dict_driver.specs.Turning.{MarkAll};
     ghost use Rattle.dict_driver.specs.Ordering.{AreOfTurns, ComeById, IsOpeningOf};
 
@@ -107,7 +108,7 @@ impl<T: Transport> Connections<T> {
         ensures led { HasLedOn (K.is_trusted desk.new) (K.shows desk.old) (K.leaves_one_of desk.old) (K.shows desk.new) (K.leaves_one_of desk.new) hub.old hub.new
             (λ events. Moves self.old self.new events × AreOfTurns events × ComeById events × TurnEach T.taken T.coming T.made self.old self.new result events) }
         ensures trust { K.is_trusted desk.new → K.is_trusted desk.old }
-        ensures idle { result ≡ false → All (λ one. one.may_receive ≡ false) self.new.opened.items }
+        ensures idle { result ≡ false → All IsAtRest self.new.opened.items }
     {
         let departed = depart_all(&mut self.departing);
         self.departing.retain(|one| one.stage().is_held());

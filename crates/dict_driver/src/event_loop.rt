@@ -83,9 +83,9 @@ impl<'h, T: Transport, S: Sockets<T>> EventLoop<'h, T, S> {
     }
 
     /// One round: the sockets are looked at, at most one connection is taken from that for readers, then at most one from that
-    /// for editors, and then each connection has a turn, the open ones in the order of their ids: what waits is sent, one read of
-    /// at most 4,096 octets is made, and what came goes to the hub. Whether anything happened; where nothing did, `wait` may
-    /// come before the next round.
+    /// for editors, and then each connection has a turn, the open ones in the order of their ids: what waits is sent, and the
+    /// next piece of what was read goes to the hub, of a reader one line; where none is left, one read of at most 4,096 octets
+    /// is made before. Whether anything happened; where nothing did, `wait` may come before the next round.
     pub fn round<K: Keeper>(&mut self, desk: &mut K) -> io::Result<bool>
         ensures led { HasLedOn (K.is_trusted desk.new) (K.shows desk.old) (K.leaves_one_of desk.old) (K.shows desk.new) (K.leaves_one_of desk.new) self.old.hub self.new.hub
             (λ events. Moves self.old.connections self.new.connections events × AreOfRound events × GoesRound T.taken T.coming T.made S.asked S.told result self.old self.new events) }

@@ -8,6 +8,7 @@ mod connections;
 mod driver;
 mod event_loop;
 mod fault;
+mod held;
 mod listening;
 mod serving;
 mod sockets;

@@ -3,8 +3,10 @@ ghost use Rattle.std.specs.Prelude.{◌≡◌, ◌<◌, ◌==◌, ℕ, false, Al
 ghost use Rattle.std.specs.List.{AllPairs};
 ghost use Rattle.dict_driver.specs.Leading.{HasLedOn};
 ghost use Rattle.dict_driver.specs.Turning.{DepartAll, MarkAll, TurnAll};
+ghost use Rattle.dict_driver.specs.Turns.{IsAtRest};
 
-use crate::connection::{Connection, PIECE};
+use crate::connection::Connection;
+use crate::held::PIECE;
 use dict_desk::Keeper;
 use dict_hub::Hub;
 use dict_outlet::Transport;
@@ -19,7 +21,7 @@ pub fn turn_all<T: Transport, K: Keeper>(
     ensures led { HasLedOn (K.is_trusted desk.new) (K.shows desk.old) (K.leaves_one_of desk.old) (K.shows desk.new) (K.leaves_one_of desk.new) hub.old hub.new
         (λ events. TurnAll T.taken T.coming T.made all.old.items all.new.items result events) }
     ensures trust { K.is_trusted desk.new → K.is_trusted desk.old }
-    ensures idle { result ≡ false → All (λ one. one.may_receive ≡ false) all.new.items }
+    ensures idle { result ≡ false → All IsAtRest all.new.items }
     ensures ids { (k : ℕ) (d : _) → k < vec_len all.old → (slice_index_or all.new.items k d).id ≡ (slice_index_or all.old.items k d).id }
     ensures len { vec_len all.new ≡ vec_len all.old }
     ensures capacity { vec_capacity all.new ≡ vec_capacity all.old }

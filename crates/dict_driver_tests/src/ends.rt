@@ -1,15 +1,15 @@
 // Peers that don't read, and peers that end their side early.
+use crate::files::short_desk;
 use crate::serving::{Part, Play, Step, run_all};
 use std::net::{Net, TcpStream};
 use std::test::Fail;
 
 const FIRST: &str = "220 localhost dictcat ready <1@localhost>\r\n";
 
-// So many lines of which each has an answer of 165 octets.
-const HELPS: &str =
-    "HELP\r\nHELP\r\nHELP\r\nHELP\r\nHELP\r\nHELP\r\nHELP\r\nHELP\r\nHELP\r\nHELP\r\nHELP\r\nHELP\r\nHELP\r\nHELP\r\nHELP\r\nHELP\r\n";
+// A line whose answer has 33,855 octets.
+const ASK: &str = "DEFINE gem opal\r\n";
 
-const ANSWERS: usize = 16 * 165;
+const ANSWER: usize = 33_855;
 
 // Client 1 asks and reads nothing until its connection is lost. How often it asked.
 fn drown(net: &impl Net<Stream = TcpStream>, play: &mut Play) -> Result<usize, Fail> {
@@ -17,7 +17,7 @@ fn drown(net: &impl Net<Stream = TcpStream>, play: &mut Play) -> Result<usize, F
         if play.driver.event_loop.open_count() < 2 {
             return Ok(asked);
         }
-        play.run(net, &[Step::Send(1, HELPS)])?;
+        play.run(net, &[Step::Send(1, ASK)])?;
     }
     Err(Fail::new("it isn't lost"))
 }
@@ -29,7 +29,7 @@ fn ask_to_the_end(
     asked: usize,
 ) -> Result<(), Fail> {
     for _ in 0..asked {
-        play.run(net, &[Step::Send(2, HELPS)])?;
+        play.run(net, &[Step::Send(2, ASK)])?;
     }
     play.run(net, &[Step::End(2), Step::Held(1, 2)])
 }
@@ -51,7 +51,7 @@ static TWO_READERS: [Step; 3] = [Step::Reader, Step::Got(0, FIRST), Step::Reader
 static ONE_IS_ANSWERED: [Step; 5] = [
     Step::Held(1, 1),
     Step::Send(0, "STATUS\r\n"),
-    Step::Got(0, "210 0 databases\r\n"),
+    Step::Got(0, "210 1 databases\r\n"),
     Step::Reader,
     Step::Got(2, "220 localhost dictcat ready <3@localhost>\r\n"),
 ];
@@ -65,14 +65,15 @@ fn drown_and_ask(
     play.run(net, &TWO_READERS)?;
     let asked = drown(net, play)?;
     play.run(net, &ONE_IS_ANSWERED)?;
-    let less = asked.saturating_sub(200);
+    let less = asked.saturating_sub(16);
     ask_to_the_end(net, play, less)?;
-    Ok((less.saturating_mul(ANSWERS), read_to_the_end(play)?))
+    Ok((less.saturating_mul(ANSWER), read_to_the_end(play)?))
 }
 
 #[test]
 fn a_peer_that_never_reads(rt: HostRuntime) -> Result<(), Fail> {
     let mut play = Play::new(&rt, rt.alloc())?;
+    play.desk = short_desk(rt.alloc())?;
     let asked = drown_and_ask(&rt, &mut play);
     drop(play);
     let (due, came) = asked?;

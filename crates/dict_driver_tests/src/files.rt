@@ -15,16 +15,29 @@ fn install(alloc: Global, desk: &mut PlainDesk, request: &[u8]) -> Result<(), Fa
 }
 
 const LONG_HEAD: &[u8] =
-    b"PUT /databases/gem HTTP/1.1\r\nRequest-Id: r1\r\nContent-Length: 5242942\r\n\r\n34\n00-database-short\tA\tZ\nopal\tZ\tUAAA\n00-database-short\n  Gems\n";
+    b"PUT /databases/gem HTTP/1.1\r\nRequest-Id: r1\r\nContent-Length: 2621502\r\n\r\n34\n00-database-short\tA\tZ\nopal\tZ\tKAAA\n00-database-short\n  Gems\n";
 
-// One of 81,920 lines of a text, of 64 octets.
+const SHORT_HEAD: &[u8] =
+    b"PUT /databases/gem HTTP/1.1\r\nRequest-Id: r1\r\nContent-Length: 32829\r\n\r\n33\n00-database-short\tA\tZ\nopal\tZ\tIAA\n00-database-short\n  Gems\n";
+
+// One of the lines of a text, of 64 octets.
 const LONG_LINE: &[u8] = b"..........................................a line of a long text\n";
 
-/// A desk over which `gem` was installed, whose one entry has a text of 5,242,880 octets.
+/// A desk over which `gem` was installed, whose one entry has a text of 2,621,440 octets.
 pub(crate) fn long_desk(alloc: Global) -> Result<PlainDesk, Fail> {
+    desk_of(alloc, LONG_HEAD, 40_960)
+}
+
+/// The same of a text of 32,768 octets. The answer to `DEFINE gem opal` has 33,855.
+pub(crate) fn short_desk(alloc: Global) -> Result<PlainDesk, Fail> {
+    desk_of(alloc, SHORT_HEAD, 512)
+}
+
+// A desk over which a request was made that begins so, and goes on with so many lines.
+fn desk_of(alloc: Global, head: &[u8], lines: u32) -> Result<PlainDesk, Fail> {
     let mut request = Vec::new(alloc);
-    request.extend_from_slice(LONG_HEAD)?;
-    for _ in 0..81_920u32 {
+    request.extend_from_slice(head)?;
+    for _ in 0..lines {
         request.extend_from_slice(LONG_LINE)?;
     }
     let mut desk = PlainDesk::new(alloc);

@@ -13,6 +13,8 @@ mod descriptors;
 #[cfg(test)]
 mod ends;
 #[cfg(test)]
+mod fair;
+#[cfg(test)]
 mod files;
 #[cfg(test)]
 mod limits;

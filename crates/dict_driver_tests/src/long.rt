@@ -16,7 +16,7 @@ const GREETING: usize = 43;
 
 const STATUS: usize = 17;
 
-const DEFINITION: usize = 5_406_783;
+const DEFINITION: usize = 2_703_423;
 
 const WHOLE: usize = GREETING + STATUS + DEFINITION;
 
@@ -158,8 +158,8 @@ fn come_of(alloc: Global, desk: &mut PlainDesk, left: usize, turns: u32) -> Resu
     Ok(outcome)
 }
 
-// One that takes all at once gets the answer whole, by calls that hand over 1 MiB each but the first, which hands over the
-// greeting.
+// One that takes all at once gets the answer whole, by calls that hand over 1 MiB each but the first two, which hand over the
+// greeting and the answer to STATUS.
 #[test]
 fn a_peer_that_takes_all(rt: HostRuntime) -> Result<(), Fail> {
     let mut desk = long_desk(rt.alloc())?;
@@ -171,21 +171,27 @@ fn a_peer_that_takes_all(rt: HostRuntime) -> Result<(), Fail> {
     Ok(())
 }
 
-// One that takes k octets and then none: once 1 MiB waits the connection is closing, and the octets that it took and those that
-// wait are the first ones, the answer to its STATUS among them. No call but that of the greeting handed over fewer than 1 MiB.
+// One that takes k octets and then none: once 1 MiB waits, in the turn of its second line, the connection is closing, and the
+// octets that it took and those that wait are the first ones, the answer to its STATUS among them. Where it takes the greeting,
+// the answer to STATUS is handed over by itself, and no other call handed over fewer octets.
 #[test]
 fn a_peer_that_takes_some(rt: HostRuntime) -> Result<(), Fail> {
     let mut desk = long_desk(rt.alloc())?;
     let mut outcomes = Vec::new(rt.alloc());
-    for left in [0, 1, 44, 1_048_576] {
-        outcomes.push((left, come_of(rt.alloc(), &mut desk, left, 1)?))?;
+    for (left, fewest) in [
+        (0, GREETING),
+        (1, GREETING),
+        (44, STATUS),
+        (1_048_576, STATUS),
+    ] {
+        outcomes.push((left, fewest, come_of(rt.alloc(), &mut desk, left, 2)?))?;
     }
     drop(desk);
-    for (left, outcome) in &outcomes {
+    for (left, fewest, outcome) in &outcomes {
         same(&rt, &outcome.0, &Stage::Closing);
         same(&rt, &outcome.1, left);
         same(&rt, &outcome.2, &MOST_WAITING);
-        same(&rt, &outcome.3, &GREETING);
+        same(&rt, &outcome.3, fewest);
     }
     Ok(())
 }
@@ -194,7 +200,7 @@ fn a_peer_that_takes_some(rt: HostRuntime) -> Result<(), Fail> {
 #[test]
 fn a_peer_for_which_as_much_waits_as_may(rt: HostRuntime) -> Result<(), Fail> {
     let mut desk = long_desk(rt.alloc())?;
-    let outcome = come_of(rt.alloc(), &mut desk, WHOLE - MOST_WAITING, 1)?;
+    let outcome = come_of(rt.alloc(), &mut desk, WHOLE - MOST_WAITING, 2)?;
     drop(desk);
     same(&rt, &outcome.0, &Stage::Open);
     same(&rt, &outcome.2, &MOST_WAITING);

@@ -107,7 +107,7 @@ fn an_octet_a_round(rt: HostRuntime) -> Result<(), Fail> {
     run_all(&rt, &[Part(1, &AN_OCTET_A_ROUND)])
 }
 
-// An edition of 25,157,738 octets, of an index of 65,508 lines and a text of almost 16 MiB, comes in pieces of 4,096, and a
+// An edition of 6,283,370 octets, of an index of 16,356 lines and a text of almost 4 MiB, comes in pieces of 4,096, and a
 // reader asks between them.
 static BEFORE_THE_PIECES: [Step; 4] = [
     Step::Reader,
@@ -115,7 +115,7 @@ static BEFORE_THE_PIECES: [Step; 4] = [
     Step::Editor,
     Step::Send(
         1,
-        "PUT /databases/gem HTTP/1.1\r\nRequest-Id: r1\r\nContent-Length: 25157738\r\n\r\n8384565\n00-database-short\tA\tZ\nopal\tZ\tP\nFire Opal\tZ\tP\ndot\to\tF\n",
+        "PUT /databases/gem HTTP/1.1\r\nRequest-Id: r1\r\nContent-Length: 6283370\r\n\r\n2093109\n00-database-short\tA\tZ\nopal\tZ\tP\nFire Opal\tZ\tP\ndot\to\tF\n",
     ),
 ];
 
@@ -148,9 +148,9 @@ fn an_install_in_pieces(rt: HostRuntime) -> Result<(), Fail> {
         &rt,
         &[
             Part(1, &BEFORE_THE_PIECES),
-            Part(2_047, &A_PIECE_OF_THE_INDEX),
+            Part(511, &A_PIECE_OF_THE_INDEX),
             Part(1, &BETWEEN_THE_PIECES),
-            Part(4_095, &A_PIECE_OF_THE_TEXT),
+            Part(1_023, &A_PIECE_OF_THE_TEXT),
             Part(1, &AFTER_THE_PIECES),
         ],
     )

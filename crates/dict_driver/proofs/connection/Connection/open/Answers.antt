@@ -1,7 +1,7 @@
-use Rattle.std.proofs.Common.{ap, sym, subst, ◌∙◌, ◌++◌}
+use Rattle.std.proofs.Common.{ap, refl, sym, subst, ◌∙◌, ◌++◌}
 use Rattle.dict_driver.specs.Events.{ArePut}
 use Rattle.dict_driver.specs.Stages.{stage_of_new}
-use Rattle.dict_driver.proofs.LeadLemmas.{led_as}
+use Rattle.dict_driver.proofs.LeadLemmas.{led_as, led_still}
 use Rattle.dict_driver.proofs.connection.Connection.open.Goals as goal
 
 pub returns-in-Some-clause-led : goal.returns-in-Some-clause-led
@@ -17,3 +17,6 @@ returns-in-Some-clause-led g c =
 
 pub returns-in-None-clause-led : goal.returns-in-None-clause-led
 returns-in-None-clause-led g c = led_as c.tell.ensures.led (λ events told. rw c.in-None.is at told.answered)
+
+pub returns-in_default-clause-led : goal.returns-in_default-clause-led
+returns-in_default-clause-led g c = led_still refl

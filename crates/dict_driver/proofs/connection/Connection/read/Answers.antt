@@ -1,53 +1,59 @@
 use Rattle.std.proofs.Common.{◌≡◌, ◌∙◌, refl, sym, ap, subst, [], take, true, false}
 use Rattle.std.proofs.KnownBytes.{Consumes-nil, Keeps-refl}
+use Rattle.dict_driver.specs.Handing.{held_in}
 use Rattle.dict_driver.specs.Turns.{ReadsOnce}
 use Rattle.dict_outlet.specs.declared.calls.Received.TheVariants as receiveds
 use Rattle.dict_outlet.proofs.CallLemmas.{makes_none}
 use Rattle.dict_driver.proofs.LeadLemmas.{led_as, led_still}
-use Rattle.dict_driver.proofs.TurnLemmas.{reads_handed, reads_none, reads_still}
+use Rattle.dict_driver.proofs.TurnLemmas.{reads_octets, reads_none, reads_still}
 use Rattle.dict_driver.proofs.connection.Connection.read.Goals as goal
 
 pub returns-then-not-self-clause-led : goal.returns-then-not-self-clause-led
 returns-then-not-self-clause-led g c =
     led_still
-    (reads_none g.T.Transport.taken g.T.Transport.coming g.T.Transport.made c.args.self.now c.args.self.now receiveds.Nothing refl refl refl (Keeps-refl _) (Consumes-nil _)
-    (rw c.if-not-self.true (makes_none _)) (λ isnt. refl) ((refl, refl), c.if-not-self.true))
+    (reads_none g.T.Transport.taken g.T.Transport.coming g.T.Transport.made c.args.self.now c.args.self.now receiveds.Nothing refl refl refl refl c.requires (Keeps-refl _) (Consumes-nil _)
+    (rw c.if-not-self.true (makes_none _)) (λ isnt. refl) ((refl, refl, refl), c.if-not-self.true))
 
 pub returns-in-Octets-clause-led : goal.returns-in-Octets-clause-led
 returns-in-Octets-clause-led g c =
-    led_as c.take.ensures.led
-    (λ events handed. reads_handed g.T.Transport.taken g.T.Transport.coming g.T.Transport.made c.args.self.now c.receive-received.new.self c.take.new.self (receiveds.Octets c.in-Octets.count)
-    (take c.in-Octets.count c.receive-received.new.room) events c.receive-received.ensures.same c.if-not-self.false c.receive-received.ensures.taken c.in-Octets.ensures.gives c.in-Octets.ensures.made
-    handed.0 (handed.1, handed.0.may_receive))
+    led_as c.hand.ensures.led
+    (λ events handed. reads_octets g.T.Transport.taken g.T.Transport.coming g.T.Transport.made c.args.self.now c.receive-received.new.self c.hand.new.self c.fill.new.self c.in-Octets.count
+    (take c.in-Octets.count c.receive-received.new.room) events c.receive-received.ensures.same c.if-not-self.false c.fill.ensures.kind c.fill.ensures.octets c.receive-received.ensures.taken
+    c.in-Octets.ensures.gives c.in-Octets.ensures.made handed)
 
 pub returns-in-End-clause-led : goal.returns-in-End-clause-led
 returns-in-End-clause-led g c =
     led_as c.part.ensures.led
     (λ events handed. subst (λ r. ReadsOnce g.T.Transport.taken g.T.Transport.coming g.T.Transport.made c.args.hub.now c.args.self.now c.part.new.self r events) (sym c.in-End.is)
-    (reads_still g.T.Transport.taken g.T.Transport.coming g.T.Transport.made c.args.self.now c.receive-received.new.self c.part.new.self receiveds.End [] events c.receive-received.ensures.same
+    (reads_still g.T.Transport.taken g.T.Transport.coming g.T.Transport.made c.args.self.now c.receive-received.new.self c.part.new.self receiveds.End events c.receive-received.ensures.same c.requires
     c.if-not-self.false c.receive-received.ensures.taken c.in-End.ensures.gives c.in-End.ensures.made handed.0 handed.1))
 
 pub returns-in-Failed-clause-led : goal.returns-in-Failed-clause-led
 returns-in-Failed-clause-led g c =
     led_as c.end.ensures.led
     (λ events handed. subst (λ r. ReadsOnce g.T.Transport.taken g.T.Transport.coming g.T.Transport.made c.args.hub.now c.args.self.now c.end.new.self r events) (sym c.in-Failed.is)
-    (reads_still g.T.Transport.taken g.T.Transport.coming g.T.Transport.made c.args.self.now c.receive-received.new.self c.end.new.self receiveds.Failed [] events c.receive-received.ensures.same
+    (reads_still g.T.Transport.taken g.T.Transport.coming g.T.Transport.made c.args.self.now c.receive-received.new.self c.end.new.self receiveds.Failed events c.receive-received.ensures.same c.requires
     c.if-not-self.false c.receive-received.ensures.taken c.in-Failed.ensures.gives c.in-Failed.ensures.made handed.0 (handed.1, c.end.ensures.over)))
 
 pub returns-in-Interrupted-clause-led : goal.returns-in-Interrupted-clause-led
 returns-in-Interrupted-clause-led g c =
     let same = c.receive-received.ensures.same in
+    let held = ap (λ it. it.held) same in
     led_still
     (subst (λ r. ReadsOnce g.T.Transport.taken g.T.Transport.coming g.T.Transport.made c.args.hub.now c.args.self.now c.receive-received.new.self r []) (sym c.in-Interrupted.is)
     (reads_none g.T.Transport.taken g.T.Transport.coming g.T.Transport.made c.args.self.now c.receive-received.new.self receiveds.Interrupted (ap (λ it. it.id) same) (ap (λ it. it.stage) same)
-    (ap (λ it. it.queue) same) c.receive-received.ensures.taken c.in-Interrupted.ensures.gives (rw c.if-not-self.false c.in-Interrupted.ensures.made)
-    (λ isnt. absurd (let never : true ≡ false = sym c.if-not-self.false ∙ isnt in cc)) ((refl, ap (λ it. it.stage) same), ap (λ it. it.may_receive) same)))
+    (ap (λ it. it.queue) same) held c.requires c.receive-received.ensures.taken c.in-Interrupted.ensures.gives (rw c.if-not-self.false c.in-Interrupted.ensures.made)
+    (λ isnt. absurd (let never : true ≡ false = sym c.if-not-self.false ∙ isnt in cc)) ((refl, ap (λ it. it.stage) same, ap (λ it. held_in it.held) same), ap (λ it. it.may_receive) same)))
 
 pub returns-in-Nothing-clause-led : goal.returns-in-Nothing-clause-led
 returns-in-Nothing-clause-led g c =
     let same = c.receive-received.ensures.same in
+    let held = ap (λ it. it.held) same in
     led_still
     (subst (λ r. ReadsOnce g.T.Transport.taken g.T.Transport.coming g.T.Transport.made c.args.hub.now c.args.self.now (record c.receive-received.new.self { may_receive = false }) r []) (sym c.in-Nothing.is)
     (reads_none g.T.Transport.taken g.T.Transport.coming g.T.Transport.made c.args.self.now (record c.receive-received.new.self { may_receive = false }) receiveds.Nothing (ap (λ it. it.id) same)
-    (ap (λ it. it.stage) same) (ap (λ it. it.queue) same) c.receive-received.ensures.taken c.in-Nothing.ensures.gives (rw c.if-not-self.false c.in-Nothing.ensures.made)
-    (λ isnt. refl) ((refl, ap (λ it. it.stage) same), refl)))
+    (ap (λ it. it.stage) same) (ap (λ it. it.queue) same) held c.requires c.receive-received.ensures.taken c.in-Nothing.ensures.gives (rw c.if-not-self.false c.in-Nothing.ensures.made)
+    (λ isnt. refl) ((refl, ap (λ it. it.stage) same, ap (λ it. held_in it.held) same), refl)))
+
+pub returns-in-Nothing-clause-idle : goal.returns-in-Nothing-clause-idle
+returns-in-Nothing-clause-idle g c = λ still. (refl, ap (λ it. held_in it.held) c.receive-received.ensures.same ∙ c.requires)

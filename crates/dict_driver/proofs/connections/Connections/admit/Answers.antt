@@ -43,7 +43,7 @@ returns-in-Some-open-clause-led g c =
       moves_opened c.args.self.now _ one events c.push_reserved.ensures.items refl (sym id) up (opened_own one.id c.args.kind one events (subst (λ i. IsOpened i c.args.kind one events) (sym id) opened))
           (opened_flows c.in-Some.id c.args.kind one events opened),
       opened_is c.in-Some.id c.args.kind one events opened,
-      inr (one, subst (λ i. IsOpened i c.args.kind one events) value opened, id ∙ value, c.in-Some-open.ensures.transport, c.in-Some-open.ensures.may_receive, c.push_reserved.ensures.items, refl, value),
+      inr (one, subst (λ i. IsOpened i c.args.kind one events) value opened, id ∙ value, c.in-Some-open.ensures.transport, c.in-Some-open.ensures.may_receive, c.in-Some-open.ensures.kind, c.in-Some-open.ensures.held, c.push_reserved.ensures.items, refl, value),
     ))
 
 pub returns-in_default-open-clause-led : goal.returns-in_default-open-clause-led

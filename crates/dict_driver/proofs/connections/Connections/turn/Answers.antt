@@ -3,6 +3,7 @@ use Rattle.std.proofs.lemmas.List.Elements.{All-filter, filter_from_retain}
 use Rattle.std.specs.List.{filter}
 use Rattle.dict_driver.specs.Stages.{is_departing, is_held, is_open}
 use Rattle.dict_driver.specs.Rounds.{TurnEach, latest}
+use Rattle.dict_driver.specs.Turns.{IsAtRest}
 use Rattle.dict_driver.proofs.LeadLemmas.{led_as}
 use Rattle.dict_driver.proofs.ListLemmas.{HaveSameIds, apart_kept, ids_kept, rising_kept}
 use Rattle.dict_driver.proofs.RoundLemmas.{depart_ids, departed_closed, moves_turned}
@@ -45,7 +46,7 @@ returns-else-departed-clause-led g c =
     (moves_turned c.args.self.now c.settle.new.self c.turn_all-turned.result events each, turned.are_turns, turned.by_id, each))
 
 pub returns-else-departed-clause-idle : goal.returns-else-departed-clause-idle
-returns-else-departed-clause-idle g c = λ still. rw c.settle.ensures.opened (All-filter (λ one. is_open one.stage) (λ one. one.may_receive ≡ false) c.turn_all-turned.new.all.items (c.turn_all-turned.ensures.idle still))
+returns-else-departed-clause-idle g c = λ still. rw c.settle.ensures.opened (All-filter (λ one. is_open one.stage) (λ one. IsAtRest one) c.turn_all-turned.new.all.items (c.turn_all-turned.ensures.idle still))
 
 -- the same ids in the same places
 ids_turned : (g : _) (c : goal.After-turn_all-turned g) → HaveSameIds c.args.self.now.opened.items c.turn_all-turned.new.all.items

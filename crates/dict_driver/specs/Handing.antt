@@ -1,0 +1,11 @@
+-- What was read of a connection and isn't handed to the hub yet.
+use Rattle.std.specs.Prelude.{ℕ, ◌==◌, Bool, List, drop, length}
+use Rattle.dict_driver.specs.declared.held.Held.{Held}
+
+-- these octets, in order
+abbrev pub held_in : Held → List ℕ
+held_in held = drop held.handed held.octets.items
+
+-- there are none
+abbrev pub is_handed : Held → Bool
+is_handed held = length (held_in held) == 0

@@ -1,0 +1,88 @@
+// What was read of a connection and isn't handed to the hub yet.
+ghost use Rattle.std.specs.Prelude.{◌≡◌, ◌≤◌, vec_len, vec_capacity};
+ghost use Rattle.dict_driver.specs.Pieces.{first_line, next_piece};
+
+use dict_hub::Kind;
+use memchr::memchr;
+use std::alloc::{AllocError, Global};
+
+/// The most octets that one reading takes.
+pub const PIECE: usize = 4_096;
+
+/// The octets of one reading that aren't handed to the hub yet, in order. A reader's are handed line by line, and an
+/// editor's as they came. Room for them is taken when it is made, and never grows.
+#[derive(Drop)]
+pub struct Held {
+    kind: Kind,
+    octets: Vec<u8>,
+    // How many of them were handed.
+    handed: usize,
+    ghost in_front: { handed ≤ vec_len octets },
+    ghost room: { 4096 ≤ vec_capacity octets },
+}
+
+impl Held {
+    ghost use Rattle.std.specs.Prelude.{[], IfOk, drop, length};
+    ghost use Rattle.dict_driver.specs.Handing.{held_in, is_handed};
+
+    /// Nothing was read yet of a connection of this kind.
+    pub fn new(alloc: Global, kind: Kind) -> Result<Self, AllocError>
+        ensures kind { IfOk result (λ held. held.kind ≡ kind) }
+        ensures none { IfOk result (λ held. held_in held ≡ []) }
+    {
+        Ok(Held {
+            kind,
+            octets: Vec::with_capacity(alloc, PIECE)?,
+            handed: 0,
+        })
+    }
+
+    /// Whether all was handed.
+    pub fn is_empty(&self) -> bool
+        ensures { result ≡ is_handed self.now }
+    {
+        self.handed == self.octets.len()
+    }
+
+    /// Takes the octets of a reading, in place of those of the last one.
+    pub fn fill(&mut self, octets: &[u8])
+        requires { length octets.now ≤ 4096 }
+        ensures octets { held_in self.new ≡ octets.now }
+        ensures kind { self.new.kind ≡ self.old.kind }
+    {
+        self.octets.clear();
+        self.handed = 0;
+        let _ = self.octets.extend_from_slice(octets);
+    }
+
+    /// What is handed next: of a reader's octets those up to and with the first LF, and all where there is none; of an
+    /// editor's all.
+    pub fn next_piece(&self) -> &[u8]
+        ensures { result.now ≡ next_piece self.now.kind (held_in self.now) }
+    {
+        let octets = self.octets.as_slice().split_at(self.handed).1;
+        match self.kind {
+            Kind::Dict => first_line(octets),
+            Kind::Http => octets,
+        }
+    }
+
+    /// So many octets were handed.
+    pub fn pass(&mut self, count: usize)
+        requires { count ≤ length (held_in self.old) }
+        ensures octets { held_in self.new ≡ drop count (held_in self.old) }
+        ensures kind { self.new.kind ≡ self.old.kind }
+    {
+        self.handed += count;
+    }
+}
+
+// The octets up to and with the first LF, or all of them.
+fn first_line(octets: &[u8]) -> &[u8]
+    ensures { result.now ≡ first_line octets.now }
+{
+    match memchr(b'\n', octets) {
+        Some(place) => &octets[..place + 1],
+        None => octets,
+    }
+}
