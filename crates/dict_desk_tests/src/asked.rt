@@ -1,5 +1,5 @@
 // Commands as rows have them, and what is answered, as text.
-use dict_catalogue::{Command, Item, Kept, Summary, Verb};
+use dict_catalogue::{Command, Item, Kept, Summary};
 use dict_index::Edition;
 use std::alloc::{AllocError, Global};
 
@@ -30,16 +30,6 @@ impl Asked {
     }
 }
 
-fn verb_name(verb: Verb) -> &'static str {
-    match verb {
-        Verb::Install => "Install",
-        Verb::Rollback => "Rollback",
-        Verb::Retire => "Retire",
-        Verb::Virtual => "Virtual",
-        Verb::Place => "Place",
-    }
-}
-
 /// Puts a number.
 fn push_number(alloc: Global, text: &mut String, number: u64) -> Result<(), AllocError> {
     let digits = format!(in alloc; "{number}")?;
@@ -49,9 +39,8 @@ fn push_number(alloc: Global, text: &mut String, number: u64) -> Result<(), Allo
 /// Puts a reply's number, verb and name, and its edition behind a `#`, if it has one.
 pub(crate) fn push_kept(alloc: Global, text: &mut String, kept: &Kept) -> Result<(), AllocError> {
     push_number(alloc, text, kept.number)?;
-    text.push(' ')?;
-    text.push_str(verb_name(kept.verb))?;
-    text.push(' ')?;
+    let verb = kept.verb;
+    text.push_str(format!(in alloc; " {verb:?} ")?.as_str())?;
     text.push_str(kept.name.as_str())?;
     match kept.edition {
         Some(number) => {
@@ -111,16 +100,11 @@ fn push_item(alloc: Global, text: &mut String, item: &Item) -> Result<(), AllocE
     text.push_str("; ")
 }
 
-fn push_items(alloc: Global, text: &mut String, items: &[Item]) -> Result<(), AllocError> {
-    for item in items {
-        push_item(alloc, text, item)?;
-    }
-    Ok(())
-}
-
 /// The items in order.
 pub(crate) fn listed(alloc: Global, summary: &Summary) -> Result<String, AllocError> {
     let mut text = String::new(alloc);
-    push_items(alloc, &mut text, summary.items.as_slice())?;
+    for item in &summary.items {
+        push_item(alloc, &mut text, item)?;
+    }
     Ok(text)
 }

@@ -251,22 +251,6 @@ fn check_headword(rt: &impl Abort, alloc: Global, headword: &str, key: &str) -> 
     Ok(())
 }
 
-// Whether so many letters are a headword.
-fn has_key(alloc: Global, count: usize) -> Result<bool, AllocError> {
-    let headword = repeated(alloc, b"", b"a", count, b"")?;
-    Ok(entry_key(alloc, as_text(&headword))?.is_some())
-}
-
-#[test]
-fn headwords_keep_their_limits(rt: HostRuntime) -> Result<(), Fail> {
-    for (headword, key) in &HEADWORDS {
-        check_headword(&rt, rt.alloc(), headword, key)?;
-    }
-    assert!(rt; has_key(rt.alloc(), 255)?);
-    assert!(rt; !has_key(rt.alloc(), 256)?);
-    Ok(())
-}
-
 static SHOWN: [(&str, bool); 8] = [
     ("Opal, fire", true),
     ("", false),
@@ -278,22 +262,6 @@ static SHOWN: [(&str, bool); 8] = [
     ("00-database-short", true),
 ];
 
-// Whether so many letters may be shown.
-fn may_be_shown(alloc: Global, count: usize) -> Result<bool, AllocError> {
-    let text = repeated(alloc, b"", b"a", count, b"")?;
-    Ok(is_shown(as_text(&text)))
-}
-
-#[test]
-fn what_is_shown_keeps_its_limits(rt: HostRuntime) -> Result<(), Fail> {
-    for (text, is_lawful) in &SHOWN {
-        same(&rt, &is_shown(text), is_lawful);
-    }
-    assert!(rt; may_be_shown(rt.alloc(), 255)?);
-    assert!(rt; !may_be_shown(rt.alloc(), 256)?);
-    Ok(())
-}
-
 static TEXTS: [(&[u8], bool); 6] = [
     (b"", true),
     (b"\n\ta\n\n", true),
@@ -303,19 +271,53 @@ static TEXTS: [(&[u8], bool); 6] = [
     (b"a\x80", false),
 ];
 
-// Whether a text with a line of so many letters is lawful.
-fn line_fits(alloc: Global, count: usize) -> Result<bool, AllocError> {
-    let text = repeated(alloc, b"x\n", b"a", count, b"\ny")?;
-    Ok(is_edition_text(&text))
-}
-
 #[test]
-fn texts_keep_their_limits(rt: HostRuntime) -> Result<(), Fail> {
+fn what_is_lawful(rt: HostRuntime) -> Result<(), Fail> {
+    for (headword, key) in &HEADWORDS {
+        check_headword(&rt, rt.alloc(), headword, key)?;
+    }
+    for (text, is_lawful) in &SHOWN {
+        same(&rt, &is_shown(text), is_lawful);
+    }
     for (text, is_lawful) in &TEXTS {
         same(&rt, &is_edition_text(text), is_lawful);
     }
-    assert!(rt; line_fits(rt.alloc(), 1021)?);
-    assert!(rt; !line_fits(rt.alloc(), 1022)?);
+    Ok(())
+}
+
+/// What letters may be.
+#[derive(Clone, Copy)]
+enum Place {
+    Headword,
+    Shown,
+    /// A line of a text, with others before and behind it.
+    Line,
+}
+
+// Whether so many letters are lawful there.
+fn may_be(alloc: Global, place: Place, count: usize) -> Result<bool, AllocError> {
+    let letters = repeated(alloc, b"", b"a", count, b"")?;
+    match place {
+        Place::Headword => Ok(entry_key(alloc, as_text(&letters))?.is_some()),
+        Place::Shown => Ok(is_shown(as_text(&letters))),
+        Place::Line => Ok(is_edition_text(&repeated(alloc, b"x\n", &letters, 1, b"\ny")?)),
+    }
+}
+
+// How many are lawful at most.
+static MOST: [(Place, usize, &str); 3] = [
+    (Place::Headword, 255, "a headword"),
+    (Place::Shown, 255, "what is shown"),
+    (Place::Line, 1021, "a line"),
+];
+
+#[test]
+fn lengths_keep_their_limits(rt: HostRuntime) -> Result<(), Fail> {
+    for (place, most, name) in &MOST {
+        holds(&rt, may_be(rt.alloc(), *place, *most)?, name);
+        let is_longer = may_be(rt.alloc(), *place, most.saturating_add(1))?;
+        holds(&rt, !is_longer, name);
+    }
     Ok(())
 }
 
@@ -470,34 +472,6 @@ fn tells_the_first_fault(rt: HostRuntime) -> Result<(), Fail> {
     Ok(())
 }
 
-// Indexes over the text of `gem`, with a fourth column in the second or the third line.
-static FOURTH: [(&[u8], Told); 4] = [
-    (
-        b"00-database-short\tA\tZ\nopal\tZ\tP\nFire Opal\tZ\tP\tOpal, fire\ndot\to\tF\n",
-        READ,
-    ),
-    (
-        b"00-database-short\tA\tZ\nopal\tZ\tP\t\nFire Opal\tZ\tP\ndot\to\tF\n",
-        Told("Shown", 2),
-    ),
-    (
-        b"00-database-short\tA\tZ\nopal\tZ\tP\ta\tb\nFire Opal\tZ\tP\ndot\to\tF\n",
-        Told("Columns", 2),
-    ),
-    (
-        b"00-database-short\tA\tZ\nopal\tZ\tZ\t\nFire Opal\tZ\tP\ndot\to\tF\n",
-        Told("Interval", 2),
-    ),
-];
-
-#[test]
-fn takes_a_fourth_column(rt: HostRuntime) -> Result<(), Fail> {
-    for (index, told) in &FOURTH {
-        check(&rt, rt.alloc(), index, GEM.2, *told)?;
-    }
-    Ok(())
-}
-
 fn told_of_index(len: usize) -> Told {
     match len {
         22 | 31 | 45 | 53 => READ,
@@ -537,10 +511,41 @@ fn refuses_files_that_are_cut_short(rt: HostRuntime) -> Result<(), Fail> {
 
 const SHORT: &[u8] = b"00-database-short\tA\tZ\n";
 
+const DOT: &[u8] = b"dot\to\tF\n";
+
 const OPAL: &[u8] = b"00-database-short\tA\tZ\nopal\tZ\tP\t";
 
-// The front, so many pieces and the end of an index over the text of `gem`, and what is told.
-static LIMITS: [(&[u8], &[u8], usize, &[u8], Told); 4] = [
+// The front, so many pieces and the end of an index over the text of `gem`, and what is told. A fourth column is in the second
+// or the third line.
+static LIMITS: [(&[u8], &[u8], usize, &[u8], Told); 8] = [
+    (
+        SHORT,
+        b"opal\tZ\tP\nFire Opal\tZ\tP\tOpal, fire\n",
+        1,
+        DOT,
+        READ,
+    ),
+    (
+        SHORT,
+        b"opal\tZ\tP\t\nFire Opal\tZ\tP\n",
+        1,
+        DOT,
+        Told("Shown", 2),
+    ),
+    (
+        SHORT,
+        b"opal\tZ\tP\ta\tb\nFire Opal\tZ\tP\n",
+        1,
+        DOT,
+        Told("Columns", 2),
+    ),
+    (
+        SHORT,
+        b"opal\tZ\tZ\t\nFire Opal\tZ\tP\n",
+        1,
+        DOT,
+        Told("Interval", 2),
+    ),
     (SHORT, b"h", 255, b"\tZ\tP\n", READ),
     (SHORT, b"h", 256, b"\tZ\tP\n", Told("Headword", 2)),
     (OPAL, b"h", 255, b"\n", READ),
@@ -548,7 +553,7 @@ static LIMITS: [(&[u8], &[u8], usize, &[u8], Told); 4] = [
 ];
 
 #[test]
-fn keeps_to_the_limits(rt: HostRuntime) -> Result<(), Fail> {
+fn keeps_to_columns_and_limits(rt: HostRuntime) -> Result<(), Fail> {
     for (front, piece, count, end, told) in &LIMITS {
         let index = repeated(rt.alloc(), front, piece, *count, end)?;
         check(&rt, rt.alloc(), &index, GEM.2, *told)?;

@@ -309,13 +309,6 @@ fn run_late(
     run(rt, alloc, &mut late, gem, &LAST)
 }
 
-#[test]
-fn the_last_commands(rt: HostRuntime) -> Result<(), Fail> {
-    let gem = read(rt.alloc(), GEM)?;
-    let mut summary = Summary::new(rt.alloc());
-    run_late(&rt, rt.alloc(), &mut summary, &gem)
-}
-
 // A command over 64 items, its answer, and how many items there are after it.
 static FULL: [(Asked, &str, usize); 11] = [
     (Asked::Install("ore"), "25 CatalogueFull", 64),
@@ -397,10 +390,12 @@ fn run_full(
 }
 
 #[test]
-fn where_64_items_stand(rt: HostRuntime) -> Result<(), Fail> {
+fn where_the_catalogue_is_full(rt: HostRuntime) -> Result<(), Fail> {
     let gem = read(rt.alloc(), GEM)?;
-    let mut summary = Summary::new(rt.alloc());
-    run_full(&rt, rt.alloc(), &mut summary, &gem)
+    let mut late = Summary::new(rt.alloc());
+    run_late(&rt, rt.alloc(), &mut late, &gem)?;
+    let mut full = Summary::new(rt.alloc());
+    run_full(&rt, rt.alloc(), &mut full, &gem)
 }
 
 static REFUSALS: [(Refusal, u8, &str); 13] = [

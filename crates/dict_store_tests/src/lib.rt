@@ -16,6 +16,8 @@ mod files;
 #[cfg(test)]
 mod full;
 #[cfg(test)]
+mod kept_texts;
+#[cfg(test)]
 mod looking;
 #[cfg(test)]
 mod many;

@@ -16,7 +16,8 @@ enum Question {
     Info(usize),
 }
 
-/// The edition's number, the question, a strategy and a text, what is told, and how many rows the statements hand over for it.
+/// The edition's number, the question, a strategy and a text, what is told, and how many rows the statements hand over for it. The first that hands out
+/// entries of an edition reads its text, which is kept from then on.
 #[derive(Clone, Copy)]
 struct Case(u64, Question, Strategy, &'static str, &'static str, u64);
 
@@ -36,16 +37,16 @@ static CASES: [Case; 66] = [
         Strategy::Exact,
         "Opal, fire",
         "opal fire=2!/;opal fire=/;1 1",
-        5,
+        4,
     ),
-    Case(3, Question::All, Strategy::Exact, "", ";;0 0", 1),
+    Case(3, Question::All, Strategy::Exact, "", ";;0 0", 0),
     Case(
         3,
         Question::All,
         Strategy::Exact,
         "ÉTÉ",
         "Été=3!/;Été=/;1 1",
-        5,
+        4,
     ),
     Case(
         3,
@@ -53,7 +54,7 @@ static CASES: [Case; 66] = [
         Strategy::Exact,
         "strasse",
         "Straße=7!/;Straße=/;1 1",
-        5,
+        4,
     ),
     Case(
         3,
@@ -61,16 +62,16 @@ static CASES: [Case; 66] = [
         Strategy::Exact,
         "+ +",
         "+ +=a!/;+ +=/;1 1",
-        5,
+        4,
     ),
-    Case(3, Question::All, Strategy::Exact, "-+", ";;0 0", 1),
+    Case(3, Question::All, Strategy::Exact, "-+", ";;0 0", 0),
     Case(
         3,
         Question::All,
         Strategy::Prefix,
         "o",
         "opal=0!/opal fire=2!/opal=6!/;opal=/opal fire=/;3 2",
-        13,
+        12,
     ),
     Case(
         3,
@@ -78,25 +79,25 @@ static CASES: [Case; 66] = [
         Strategy::Prefix,
         "a",
         "abcd=4!/a\u{3134a}=8!/a=b!/;abcd=/a\u{3134a}=/a=/;3 3",
-        13,
+        12,
     ),
-    Case(3, Question::All, Strategy::Prefix, "\u{3134a}", ";;0 0", 1),
+    Case(3, Question::All, Strategy::Prefix, "\u{3134a}", ";;0 0", 0),
     Case(
         3,
         Question::All,
         Strategy::Prefix,
         "STRASS",
         "Straße=7!/;Straße=/;1 1",
-        5,
+        4,
     ),
-    Case(3, Question::All, Strategy::Prefix, "", ";;0 0", 1),
+    Case(3, Question::All, Strategy::Prefix, "", ";;0 0", 0),
     Case(
         3,
         Question::All,
         Strategy::Suffix,
         "opal",
         "opal=0!/Opal, fire=1!/opal=6!/;opal=/Opal, fire=/;3 2",
-        13,
+        12,
     ),
     Case(
         3,
@@ -104,7 +105,7 @@ static CASES: [Case; 66] = [
         Strategy::Suffix,
         "é",
         "Été=3!/;Été=/;1 1",
-        5,
+        4,
     ),
     Case(
         3,
@@ -112,7 +113,7 @@ static CASES: [Case; 66] = [
         Strategy::Suffix,
         "\u{3134a}",
         "a\u{3134a}=8!/;a\u{3134a}=/;1 1",
-        5,
+        4,
     ),
     Case(
         3,
@@ -120,7 +121,7 @@ static CASES: [Case; 66] = [
         Strategy::Suffix,
         "e",
         "opal fire=2!/Straße=7!/;opal fire=/Straße=/;2 2",
-        9,
+        8,
     ),
     Case(
         3,
@@ -128,7 +129,7 @@ static CASES: [Case; 66] = [
         Strategy::Substring,
         "abcd",
         "abcd=4!/;abcd=/;1 1",
-        9,
+        8,
     ),
     Case(
         3,
@@ -136,7 +137,7 @@ static CASES: [Case; 66] = [
         Strategy::Substring,
         "al",
         "opal=0!/Opal, fire=1!/opal fire=2!/opal=6!/;opal=/Opal, fire=/opal fire=/;4 3",
-        49,
+        48,
     ),
     Case(
         3,
@@ -144,7 +145,7 @@ static CASES: [Case; 66] = [
         Strategy::Substring,
         "pal",
         "opal=0!/Opal, fire=1!/opal fire=2!/opal=6!/;opal=/Opal, fire=/opal fire=/;4 3",
-        17,
+        16,
     ),
     Case(
         3,
@@ -152,16 +153,16 @@ static CASES: [Case; 66] = [
         Strategy::Substring,
         "ét",
         "Été=3!/;Été=/;1 1",
-        5,
+        4,
     ),
-    Case(3, Question::All, Strategy::Substring, " ", ";;0 0", 1),
+    Case(3, Question::All, Strategy::Substring, " ", ";;0 0", 0),
     Case(
         3,
         Question::All,
         Strategy::Substring,
         "c",
         "abcd=4!/bcd abc=5!/c++=9!/;abcd=/bcd abc=/c++=/;3 3",
-        49,
+        48,
     ),
     Case(
         3,
@@ -169,7 +170,7 @@ static CASES: [Case; 66] = [
         Strategy::Word,
         "opal fire",
         "opal fire=2!/;opal fire=/;1 1",
-        17,
+        16,
     ),
     Case(
         3,
@@ -177,7 +178,7 @@ static CASES: [Case; 66] = [
         Strategy::Word,
         "fire opal",
         "Opal, fire=1!/;Opal, fire=/;1 1",
-        9,
+        8,
     ),
     Case(
         3,
@@ -185,16 +186,16 @@ static CASES: [Case; 66] = [
         Strategy::Word,
         "fire",
         "Opal, fire=1!/opal fire=2!/;Opal, fire=/opal fire=/;2 2",
-        9,
+        8,
     ),
-    Case(3, Question::All, Strategy::Word, "op", ";;0 0", 1),
+    Case(3, Question::All, Strategy::Word, "op", ";;0 0", 0),
     Case(
         3,
         Question::All,
         Strategy::First,
         "opal",
         "opal=0!/opal fire=2!/opal=6!/;opal=/opal fire=/;3 2",
-        17,
+        16,
     ),
     Case(
         3,
@@ -202,7 +203,7 @@ static CASES: [Case; 66] = [
         Strategy::Last,
         "opal",
         "opal=0!/Opal, fire=1!/opal=6!/;opal=/Opal, fire=/;3 2",
-        17,
+        16,
     ),
     Case(
         3,
@@ -210,7 +211,7 @@ static CASES: [Case; 66] = [
         Strategy::Last,
         "fire",
         "opal fire=2!/;opal fire=/;1 1",
-        9,
+        8,
     ),
     Case(
         3,
@@ -218,7 +219,7 @@ static CASES: [Case; 66] = [
         Strategy::First,
         "+",
         "+ +=a!/;+ +=/;1 1",
-        5,
+        4,
     ),
     Case(
         3,
@@ -226,19 +227,19 @@ static CASES: [Case; 66] = [
         Strategy::Substring,
         "e opa",
         "Opal, fire=1!/;Opal, fire=/;1 1",
-        5,
+        4,
     ),
-    Case(3, Question::All, Strategy::Substring, "opa e o", ";;0 0", 5),
-    Case(3, Question::All, Strategy::Word, "opal opal", ";;0 0", 17),
+    Case(3, Question::All, Strategy::Substring, "opa e o", ";;0 0", 4),
+    Case(3, Question::All, Strategy::Word, "opal opal", ";;0 0", 16),
     Case(
         3,
         Question::All,
         Strategy::Last,
         "fire opal",
         "Opal, fire=1!/;Opal, fire=/;1 1",
-        9,
+        8,
     ),
-    Case(3, Question::All, Strategy::First, "abc", ";;0 0", 5),
+    Case(3, Question::All, Strategy::First, "abc", ";;0 0", 4),
     // A sink that takes so many rows.
     Case(
         3,
@@ -246,7 +247,7 @@ static CASES: [Case; 66] = [
         Strategy::Prefix,
         "o",
         "opal=0!/ Stopped",
-        2,
+        1,
     ),
     Case(
         3,
@@ -254,7 +255,7 @@ static CASES: [Case; 66] = [
         Strategy::Prefix,
         "o",
         "opal=0!/opal fire=2!/ Stopped",
-        3,
+        2,
     ),
     Case(
         3,
@@ -262,7 +263,7 @@ static CASES: [Case; 66] = [
         Strategy::Prefix,
         "o",
         "opal=0!/opal fire=2!/opal=6!/ Stopped",
-        4,
+        3,
     ),
     Case(
         3,
@@ -270,7 +271,7 @@ static CASES: [Case; 66] = [
         Strategy::Prefix,
         "o",
         "opal=0!/opal fire=2!/opal=6!/ All",
-        4,
+        3,
     ),
     Case(
         3,
@@ -338,7 +339,7 @@ static CASES: [Case; 66] = [
         Strategy::Suffix,
         "opal",
         "opal=opal\n  a stone\n/ Stopped",
-        2,
+        1,
     ),
     Case(
         2,
@@ -346,7 +347,7 @@ static CASES: [Case; 66] = [
         Strategy::Exact,
         "DOT",
         "dot=.dot\n/ All",
-        2,
+        1,
     ),
     Case(
         1,
@@ -356,7 +357,7 @@ static CASES: [Case; 66] = [
         "iron=iron\n  ore\n/ All",
         2,
     ),
-    Case(2, Question::Found(9), Strategy::Prefix, "00", " All", 1),
+    Case(2, Question::Found(9), Strategy::Prefix, "00", " All", 0),
     Case(
         2,
         Question::Heads(9),
@@ -374,14 +375,14 @@ static CASES: [Case; 66] = [
         2,
     ),
     Case(1, Question::Heads(9), Strategy::First, "opal", " All", 0),
-    Case(2, Question::All, Strategy::Word, "opal fire", ";;0 0", 9),
+    Case(2, Question::All, Strategy::Word, "opal fire", ";;0 0", 8),
     Case(
         2,
         Question::All,
         Strategy::Word,
         "fire opal",
         "Fire Opal=opal\n  a stone\n/;Fire Opal=/;1 1",
-        5,
+        4,
     ),
     // One text is shown of two headwords, by which they are found.
     Case(
@@ -398,7 +399,7 @@ static CASES: [Case; 66] = [
         Strategy::Exact,
         "fire opal",
         "Opal=opal\n  a stone\n/;Opal=/;1 1",
-        5,
+        4,
     ),
     Case(
         4,
@@ -406,7 +407,7 @@ static CASES: [Case; 66] = [
         Strategy::Prefix,
         "fire",
         "Opal=opal\n  a stone\n/;Opal=/;1 1",
-        5,
+        4,
     ),
     Case(
         4,
@@ -414,7 +415,7 @@ static CASES: [Case; 66] = [
         Strategy::Suffix,
         "opal",
         "Opal=opal\n  a stone\n/Opal=opal\n  a stone\n/;Opal=/;2 1",
-        9,
+        8,
     ),
     Case(
         4,
@@ -422,7 +423,7 @@ static CASES: [Case; 66] = [
         Strategy::Substring,
         "opal",
         "Opal=opal\n  a stone\n/Opal=opal\n  a stone\n/;Opal=/;2 1",
-        9,
+        8,
     ),
     Case(
         4,
@@ -430,7 +431,7 @@ static CASES: [Case; 66] = [
         Strategy::Word,
         "opal",
         "Opal=opal\n  a stone\n/Opal=opal\n  a stone\n/;Opal=/;2 1",
-        9,
+        8,
     ),
     Case(
         4,
@@ -438,7 +439,7 @@ static CASES: [Case; 66] = [
         Strategy::First,
         "opal",
         "Opal=opal\n  a stone\n/;Opal=/;1 1",
-        9,
+        8,
     ),
     Case(
         4,
@@ -446,7 +447,7 @@ static CASES: [Case; 66] = [
         Strategy::Last,
         "opal",
         "Opal=opal\n  a stone\n/Opal=opal\n  a stone\n/;Opal=/;2 1",
-        9,
+        8,
     ),
 ];
 

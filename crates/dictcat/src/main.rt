@@ -1,23 +1,5 @@
-//! dictcat on the command line. Its tests run the program's commands: over files, over databases that were read, with
-//! words that aren't well, and of its servers.
+//! dictcat on the command line. The tests of its commands stand in `dictcat_tests`.
 #![tactic(auto)]
-
-#[cfg(test)]
-mod catalogues;
-#[cfg(test)]
-mod checks;
-#[cfg(test)]
-mod fixtures;
-#[cfg(test)]
-mod paths;
-#[cfg(test)]
-mod rows;
-#[cfg(test)]
-mod serving;
-#[cfg(test)]
-mod sessions;
-#[cfg(test)]
-mod usage;
 
 use dict_desk::PlainDesk;
 use dict_io::{OverRead, OverWrite};

@@ -1,0 +1,163 @@
+//! The text of an edition is read once, while the desk is open: by the first lookup that hands out its entries.
+
+use crate::asked::{Asked, Editions, Source, read_editions};
+use crate::checks::{holds, same_text};
+use crate::desks::accept_all;
+use crate::shown::Rows;
+use dict_desk::{Fault, Lookup};
+use dict_match::{Strategy, key_of};
+use dict_store::Desk;
+use sqlite::{Alter, Connection};
+use std::alloc::Global;
+use std::process::Abort;
+use std::test::Fail;
+
+/// Commands, and behind them lookups: the number of an edition, a headword, what is handed out, and how many rows the statements
+/// hand over for it: one of the edition where its text is read, and one of each entry.
+#[derive(Clone, Copy)]
+struct Case(
+    &'static [(&'static str, Asked)],
+    &'static [(u64, &'static str, &'static str, u64)],
+);
+
+static CASES: [Case; 7] = [
+    Case(
+        &[
+            ("a", Asked::Install("gem", Source::Gems)),
+            ("b", Asked::Install("ore", Source::Ores)),
+        ],
+        &[
+            (1, "opal", "opal=opal\n  a stone\n/", 2),
+            (1, "opal", "opal=opal\n  a stone\n/", 1),
+            (1, "dot", "dot=.dot\n/", 1),
+            (2, "iron", "iron=iron\n  ore\n/", 2),
+            (2, "iron", "iron=iron\n  ore\n/", 1),
+        ],
+    ),
+    // A command of one database leaves the texts of the others.
+    Case(
+        &[("c", Asked::Install("ore", Source::Words))],
+        &[
+            (1, "opal", "opal=opal\n  a stone\n/", 1),
+            (3, "été", "ÉTÉ=saison\n/", 2),
+            (3, "été", "ÉTÉ=saison\n/", 1),
+            (2, "iron", "iron=iron\n  ore\n/", 1),
+        ],
+    ),
+    // The former edition keeps its text, and the new one has its own.
+    Case(
+        &[("d", Asked::Install("gem", Source::More))],
+        &[
+            (1, "opal", "opal=opal\n  a stone\n/", 1),
+            (4, "opal", "opal=0!/opal=6!/", 3),
+            (4, "opal", "opal=0!/opal=6!/", 2),
+        ],
+    ),
+    Case(
+        &[("e", Asked::Rollback("gem"))],
+        &[
+            (4, "opal", "opal=0!/opal=6!/", 2),
+            (1, "opal", "opal=opal\n  a stone\n/", 1),
+        ],
+    ),
+    // The edition that is gone is told of no more: the first of `ore`.
+    Case(
+        &[("f", Asked::Install("ore", Source::Ores))],
+        &[
+            (2, "iron", "", 0),
+            (5, "iron", "iron=iron\n  ore\n/", 2),
+            (3, "été", "ÉTÉ=saison\n/", 1),
+        ],
+    ),
+    Case(
+        &[("g", Asked::Retire("gem"))],
+        &[(1, "opal", "", 0), (4, "opal", "", 0)],
+    ),
+    // A name that is given again gets a number that wasn't.
+    Case(
+        &[("h", Asked::Install("gem", Source::Alike))],
+        &[
+            (6, "dot", "dot=.dot\n/", 2),
+            (1, "opal", "", 0),
+            (3, "été", "ÉTÉ=saison\n/", 1),
+        ],
+    ),
+];
+
+fn found<L: Lookup>(
+    alloc: Global,
+    desk: &mut L,
+    number: u64,
+    headword: &str,
+) -> Result<String, Fault> {
+    let mut rows = Rows::new(alloc, usize::MAX);
+    desk.find(
+        number,
+        Strategy::Exact,
+        &key_of(alloc, headword)?,
+        &mut rows,
+    )?;
+    Ok(rows.text)
+}
+
+fn look<S: Alter + Drop>(
+    rt: &impl Abort,
+    alloc: Global,
+    desk: &mut Desk<S>,
+    asked: &[(u64, &str, &str, u64)],
+) -> Result<(), Fail> {
+    for (number, headword, wanted, rows) in asked {
+        let before = desk.rows_taken();
+        let text = found(alloc, desk, *number, *headword)?;
+        same_text(rt, text.as_str(), *wanted, *headword);
+        let taken = desk.rows_taken().saturating_sub(before);
+        holds(rt, taken == *rows, *headword);
+    }
+    Ok(())
+}
+
+fn done<S: Alter + Drop>(
+    rt: &impl Abort,
+    alloc: Global,
+    desk: &mut Desk<S>,
+    editions: &Editions,
+    case: &Case,
+) -> Result<(), Fail> {
+    accept_all(desk, editions, case.0)?;
+    look(rt, alloc, desk, case.1)
+}
+
+#[test]
+fn texts_are_read_once(rt: HostRuntime) -> Result<(), Fail> {
+    let alloc = rt.alloc();
+    let editions = read_editions(alloc)?;
+    let Ok(desk) = Desk::create(alloc, Connection::open_in_memory(alloc)?) else {
+        return Err(Fail::new("no desk"));
+    };
+    let mut desk = desk;
+    for case in &CASES {
+        done(&rt, alloc, &mut desk, &editions, case)?;
+    }
+    holds(&rt, desk.audit().is_ok(), "a sound desk");
+    Ok(())
+}
+
+// A desk that is opened again over what another one left begins with no texts.
+#[test]
+fn a_new_desk_has_no_texts(rt: HostRuntime) -> Result<(), Fail> {
+    let alloc = rt.alloc();
+    let editions = read_editions(alloc)?;
+    let Ok(desk) = Desk::create(alloc, Connection::open_in_memory(alloc)?) else {
+        return Err(Fail::new("no desk"));
+    };
+    let mut desk = desk;
+    let Some(case) = CASES.first() else {
+        return Ok(());
+    };
+    done(&rt, alloc, &mut desk, &editions, case)?;
+    let Ok(desk) = Desk::adopt(alloc, desk.into_connection()) else {
+        return Err(Fail::new("no desk"));
+    };
+    let mut desk = desk;
+    look(&rt, alloc, &mut desk, case.1)
+}
