@@ -5,6 +5,7 @@ sent at once (1, or 20), their answers awaited whole, and so on. Printed are ans
 and the processor's microseconds of the server for one answer; then what each server takes while nothing comes, with 64
 connections and with none.
 """
+import os
 import pathlib
 import selectors
 import shutil
@@ -16,8 +17,8 @@ import time
 
 from servers import Server, closed, install, opened, serve
 
-SECONDS = 2.0
-IDLE_SECONDS = 30.0
+SECONDS = float(os.environ.get("SECONDS_EACH", "2"))
+IDLE_SECONDS = float(os.environ.get("IDLE_SECONDS", "30"))
 MICRO = 1e6
 
 # a line, and what stands once in each answer to it

@@ -1,0 +1,344 @@
+"""dictcat beside dictd over real dictionaries: dictionaries.py PROGRAM CLIENT WORK [PART..]
+
+PARTS: `kept` (DEFINE over 65,536 lines of 5 and of 13 MB, first and again), `answers` (what both answer, compared), `requests` (the processor's time of a request), `slowest` (of 10,000 answers under 64
+connections), `memory`, `idle`, `install` (of the largest edition, while 32 readers ask), `growth` (the same finds over 65,536 and
+262,144 entries); without one it is all. The dictionaries are `wn`, `foldoc` and `freedict-ara-eng` of Debian's, mended for dictcat
+by contrib/import-dictd and as they came, but uncompressed, for dictd 1.13; and `made`, of 262,144 lines (make_words.py), over
+which both have the same files. dictd's limits are off. CLIENT is client.c, built. WORK is a folder that stays: what is in it is not
+made again.
+"""
+import collections
+import gzip
+import os
+import pathlib
+import signal
+import subprocess
+import sys
+import threading
+import time
+
+from lists import KINDS, write
+from serve import idle_all
+from servers import Server, install, opened, serve
+
+HERE = pathlib.Path(__file__).resolve().parent
+TOP = HERE.parent.parent
+NAMES = {"wn": "wn", "foldoc": "foldoc", "ara": "freedict-ara-eng"}
+LARGEST = (262_144, 67_108_864)
+PORT = 26281
+TURNS = [(count, at_once) for at_once in (1, 16) for count in (1, 8, 64)]   # connections, and lines at once
+BOUNDS = {"hits": 0.8, "misses": 0.8, "prefixes": 0.7, "suffixes": 0.05, "substrings": 0.05, "words": 0.05, "mix": 0.2}
+COMPARED = 400
+SLOW = 3000   # microseconds of a request from which on fewer are asked
+SECONDS = float(os.environ.get("SECONDS_EACH", "1"))
+ASKED = os.environ.get("KINDS", " ".join(KINDS)).split()   # the lists that `requests` and `growth` take
+
+
+def pairs(program, work):
+    """For each name the pair for dictcat and that for dictd."""
+    (work / "in").mkdir(parents=True, exist_ok=True)
+    (work / "dictd").mkdir(exist_ok=True)
+    found = {}
+    for name, debian in NAMES.items():
+        ours, theirs = ([work / folder / f"{name}.{end}" for end in ("index", "dict")] for folder in ("in", "dictd"))
+        if not ours[1].exists():
+            source = pathlib.Path("/usr/share/dictd") / debian
+            subprocess.run([TOP / "contrib/import-dictd", "--dictcat", program, "--dry-run", "--out", work / "in", work / "none.db",
+                            name, source], check=True, stdout=subprocess.DEVNULL)
+            theirs[0].write_bytes(source.with_suffix(".index").read_bytes())
+            theirs[1].write_bytes(gzip.decompress(source.with_suffix(".dict.dz").read_bytes()))
+        found[name] = ours, theirs
+    made = [work / "in" / f"made.{end}" for end in ("index", "dict")]
+    if not made[1].exists():
+        subprocess.run([sys.executable, TOP / "bench/make_words.py", *map(str, LARGEST), *made], check=True)
+    found["made"] = made, made
+    return found
+
+
+def dictcat(program, work, chosen, file="catalogue.db"):
+    """dictcat over a file into which the pairs were installed by the command line."""
+    path = work / file
+    if not path.exists():
+        subprocess.run([program, "create", path], check=True)
+        for name, (ours, _) in chosen.items():
+            subprocess.run([program, "install", path, name, f"r-{name}", *ours], check=True, stdout=subprocess.DEVNULL)
+    return serve(program, path)
+
+
+def dictd(work, chosen, port=PORT):
+    """dictd over the same dictionaries, its limits off."""
+    conf, rest = work / f"dictd-{port}.conf", "limit_childs 200\n limit_matches 0\n limit_definitions 0\n limit_queries 0\n limit_time 100000"
+    databases = "".join(f'database {name} {{ data "{theirs[1]}"\n index "{theirs[0]}" }}\n' for name, (_, theirs) in chosen.items())
+    conf.write_text(f"global {{ listen_to 127.0.0.1\n port {port}\n {rest} }}\naccess {{ allow * }}\n{databases}")
+    for path in (work, *work.parents):
+        if not os.stat(path).st_mode & 0o001:
+            path.chmod(os.stat(path).st_mode | 0o055)
+    process = subprocess.Popen(["dictd", "-d", "nodetach", "--locale", "C.UTF-8", "-c", conf, "--pid-file", work / f"pid-{port}"],
+                               stdout=subprocess.DEVNULL, stderr=subprocess.DEVNULL)
+    for _ in range(300):
+        time.sleep(0.1)
+        assert process.poll() is None, "dictd has ended"
+        try:
+            opened(("127.0.0.1", port)).close()
+            break
+        except (OSError, AssertionError):
+            continue
+    return Server(process, ("127.0.0.1", port))
+
+
+Taken = collections.namedtuple("Taken", "answers seconds median most found spent")
+
+
+class Client:
+    """client.c, connected and ready."""
+
+    def __init__(self, client, server, count, at_once, path, seconds, answers):
+        words = [client, server.dict_address[1], count, at_once, seconds, answers, path]
+        self.server, self.process = server, subprocess.Popen([*map(str, words)], stdin=subprocess.PIPE, stdout=subprocess.PIPE, text=True)
+        assert self.process.stdout.readline() == "ready\n", "the client could not connect"
+
+    def begin(self):
+        self.before = self.server.times()
+        self.process.stdin.write("\n")
+        self.process.stdin.flush()
+
+    def end(self):
+        line = self.process.stdout.readline().split()
+        assert line, "the client has failed"
+        spent = self.server.spent_since(self.before)
+        self.process.stdin.write("\n")
+        self.process.stdin.close()
+        self.process.wait()
+        time.sleep(0.05)
+        answers, _, seconds, median, most, found = line
+        return Taken(int(answers), float(seconds), float(median), float(most), int(found), spent)
+
+
+def asked(client, server, count, at_once, path, seconds=SECONDS, answers=200):
+    it = Client(client, server, count, at_once, path, seconds, answers)
+    it.begin()
+    return it.end()
+
+
+class Line:
+    """One connection, for answers that are looked at."""
+
+    def __init__(self, server):
+        self.it = opened(server.dict_address)
+        self.file = self.it.makefile("rb")
+
+    def ask(self, line):
+        """What an answer has: its code, and its texts or its matches."""
+        self.it.sendall(line.encode() + b"\r\n")
+        found, code = [], None
+        while True:
+            got = self.file.readline().rstrip(b"\r\n")
+            code = code or got[:3]
+            if got[:3] in (b"151", b"152"):
+                found.append(self.text())
+            elif got[:3] != b"150":
+                return code, found
+
+    def text(self):
+        rows = []
+        while (row := self.file.readline().rstrip(b"\r\n")) != b".":
+            rows.append(row)
+        while rows and not rows[-1]:
+            rows.pop()
+        return rows
+
+
+def compare(servers, lists):
+    """How many of the first requests of each list both answer alike: the same texts, or the same matches."""
+    print("\n| Answers alike, of the first 400 requests | " + " | ".join(KINDS[:-1]) + " |\n|---" * 1 + "|---" * len(KINDS[:-1]) + "|")
+    examples = []
+    for name, paths in lists.items():
+        ours, theirs, row = Line(servers["dictcat"]), Line(servers["dictd"]), []
+        for kind in KINDS[:-1]:
+            same, lines = 0, paths[kind].read_text().splitlines()[:COMPARED]
+            for line in lines:
+                one, other = ours.ask(line), theirs.ask(line)
+                alike = one[0] == other[0] and sorted(map(sorted, one[1])) == sorted(map(sorted, other[1]))
+                same += alike
+                if not alike and len([it for it in examples if it[:2] == (name, kind)]) < 2:
+                    examples.append((name, kind, line, summary(one), summary(other)))
+            row.append(f"{same}")
+        print(f"| `{name}` | " + " | ".join(row) + " |", flush=True)
+    print("\nSome of those that differ:\n")
+    for name, kind, line, one, other in examples:
+        print(f"- `{line}`: dictcat {one}; dictd {other}")
+
+
+def summary(answer):
+    code, found = answer
+    if code == b"152":
+        rows = {it.split(b" ", 1)[1].decode("utf-8", "replace") for it in found[0]}
+        return f"{len(rows)} matches ({', '.join(sorted(rows)[:3])})"
+    return f"{code.decode()} with {len(found)} texts"
+
+
+def taken(client, servers, count, at_once, path, answers=200):
+    """What the requests of a list take of each server: by its name what the client tells, and microseconds of a request."""
+    took = {who: asked(client, server, count, at_once, path, answers=answers) for who, server in servers.items()}
+    return took, {who: it.spent / it.answers * 1e6 for who, it in took.items()}
+
+
+def requests(client, servers, lists):
+    """The table of each dictionary. Where one answer of dictcat takes milliseconds, only one line at a time is asked."""
+    for name, paths in lists.items():
+        heads = [f"{count} × {at_once}" for count, at_once in TURNS]
+        print(f"\n`{name}`: microseconds of the processor for a request, dictcat / dictd (answers in a second of both), by connections × lines at once\n")
+        print("| | " + " | ".join(heads) + " | ours to dictd's, all of them | at most | met |\n" + "|---" * (len(heads) + 4) + "|")
+        for kind in ASKED:
+            cells, sums = [], collections.Counter()
+            slow = taken(client, servers, 1, 1, paths[kind], 5)[1]["dictcat"] > SLOW
+            for count, at_once in TURNS:
+                if slow and at_once > 1:
+                    cells.append("")
+                    continue
+                took, each = taken(client, servers, count, at_once, paths[kind], 20 if slow else 100)
+                sums.update(each)
+                cells.append(" / ".join(f"{each[who]:.1f}" for who in servers) + " (" + ", ".join(f"{it.answers / it.seconds:,.0f}" for it in took.values()) + ")")
+            ratio = sums["dictcat"] / sums["dictd"] if "dictd" in sums else 0
+            print(f"| {kind} | " + " | ".join(cells) + f" | {ratio:.3f} | {BOUNDS[kind]} | {'yes' if ratio <= BOUNDS[kind] else '**no**'} |", flush=True)
+
+
+def slowest(client, servers, lists):
+    """Of 10,000 answers; of fewer, which is told, where these would take more than ten seconds of the processor."""
+    print("\n| 10,000 answers under 64 connections, one line at a time: the median and the longest, ms | " + " | ".join(servers) + " |\n|---" + "|---" * len(servers) + "|")
+    for name, paths in lists.items():
+        for kind in ("hits", "mix"):
+            each = taken(client, servers, 1, 1, paths[kind], 20)[1]
+            counts = {who: min(10_000, max(200, int(10e6 / each[who]))) for who in servers}
+            took = {who: asked(client, server, 64, 1, paths[kind], 0, counts[who]) for who, server in servers.items()}
+            few = "".join(f" ({it.answers:,} answers of {who})" for who, it in took.items() if counts[who] < 10_000)
+            print(f"| `{name}`, {kind}{few} | " + " | ".join(f"{it.median / 1000:.2f}, {it.most / 1000:.1f}" for it in took.values()) + " |", flush=True)
+
+
+def memory(client, servers, lists):
+    print("\n| Memory, resident (and of that shared with no other process), MB | " + " | ".join(servers) + " |\n|---" + "|---" * len(servers) + "|")
+    tell = lambda what: print(f"| {what} | " + " | ".join("{:.0f} ({:.0f})".format(*(it / 1024 for it in server.memory())) for server in servers.values()) + " |", flush=True)
+    tell("when they answer first")
+    for name, paths in lists.items():
+        for server in servers.values():
+            asked(client, server, 1, 1, paths["mix"], 0, 500)
+        tell(f"and `{name}` was asked")
+
+
+def largest_while_asked(program, client, work, chosen, lists):
+    """The longest wait of 32 readers while the largest edition is installed by HTTP."""
+    server = dictcat(program, work, {"wn": chosen["wn"]}, "asked.db")
+    shown = [work / "in" / f"largest.{end}" for end in ("index", "dict")]
+    if not shown[1].exists():
+        subprocess.run([sys.executable, TOP / "bench/make_words.py", *map(str, LARGEST), *shown, "shown"], check=True)
+    try:
+        quiet = asked(client, server, 32, 1, lists["wn"]["mix"], 2)
+        took, answer = {}, []
+
+        def put():
+            start, before = time.monotonic(), server.times()
+            answer.append(install(server.http_address, b"largest", b"r%d" % time.time_ns(), *(it.read_bytes() for it in shown)))
+            took.update(clock=time.monotonic() - start, processor=server.spent_since(before))
+
+        readers, editor = Client(client, server, 32, 1, lists["wn"]["mix"], 1e6, 0), threading.Thread(target=put)
+        readers.begin()
+        time.sleep(1)
+        editor.start()
+        editor.join()
+        time.sleep(1)
+        readers.process.send_signal(signal.SIGINT)
+        it = readers.end()
+        assert answer[0][0] == 200, answer
+        print(f"\nThe largest edition by HTTP, while 32 readers ask: answered after {took['clock']:.1f} s by the clock ({took['processor']:.1f} s of the "
+              f"processor, with the readers' answers); the longest wait of a reader {it.most / 1e6:.1f} s, the median {it.median:.0f} µs; "
+              f"without an install the longest {quiet.most / 1000:.1f} ms, the median {quiet.median:.0f} µs", flush=True)
+    finally:
+        server.kill()
+
+
+def growth(program, client, work):
+    """The same finds over 65,536 and over 262,144 lines: what a request takes of both servers."""
+    sizes, servers, made = ((65_536, LARGEST[1] // 4), LARGEST), {}, {}
+    for number, (lines, octets) in enumerate(sizes):
+        files = [work / "in" / f"made{lines}.{end}" for end in ("index", "dict")]
+        if not files[1].exists():
+            subprocess.run([sys.executable, TOP / "bench/make_words.py", str(lines), str(octets), *map(str, files)], check=True)
+        made[lines] = files
+        servers["dictcat", lines] = dictcat(program, work, {"made": (files, files)}, f"made{lines}.db")
+        servers["dictd", lines] = dictd(work, {"made": (files, files)}, PORT + 1 + number)
+    (work / "growth").mkdir(exist_ok=True)
+    paths = write(made[65_536][0], "made", work / "growth")
+    print("\n| The same finds, one connection, 16 lines at once: microseconds of the processor | dictcat, 65,536 lines | 262,144 lines | times | dictd, 65,536 lines | 262,144 lines | times |\n" + "|---" * 7 + "|")
+    try:
+        for server in servers.values():
+            asked(client, server, 1, 1, paths["hits"], 0, 1)   # the text is kept from now on
+        for kind in ASKED:
+            cells = []
+            for who in ("dictcat", "dictd"):
+                slow = kind in ("hits", "mix") and asked(client, servers[who, sizes[1][0]], 1, 1, paths[kind], 0, 5).spent > 5 * SLOW / 1e6
+                count = 160 if slow else 4000 if who == "dictcat" else 160
+                took = {lines: [asked(client, servers[who, lines], 1, 16, paths[kind], 0, count) for _ in range(1 if slow or who == "dictd" else 3)] for lines, _ in sizes}
+                if who == "dictcat":
+                    assert len({it.found for both in took.values() for it in both}) == 1, (kind, took)
+                each = [min(it.spent / it.answers * 1e6 for it in took[lines]) for lines, _ in sizes]
+                cells += [f"{each[0]:.1f}", f"{each[1]:.1f}", f"{each[1] / each[0]:.2f}"]
+            print(f"| {kind} | " + " | ".join(cells) + " |", flush=True)
+    finally:
+        for server in servers.values():
+            server.kill()
+
+
+def kept(program, client, work):
+    """DEFINE that finds, over one database: the first, for which its text is read, and those behind it."""
+    print("\n| DEFINE, found, one connection, one line at a time: of the processor | dictcat, the first | those behind it | dictd |\n|---|---|---|---|")
+    for number, octets in enumerate((5_000_000, 13_000_000)):
+        name = f"kept{octets // 1_000_000}"
+        files = [work / "in" / f"{name}.{end}" for end in ("index", "dict")]
+        if not files[1].exists():
+            subprocess.run([sys.executable, TOP / "bench/make_words.py", "65536", str(octets), *map(str, files)], check=True)
+        pair = {name: (files, files)}
+        ours, theirs, path = dictcat(program, work, pair, f"{name}.db"), dictd(work, pair, PORT + 3 + number), write(files[0], name, work)["hits"]
+        try:
+            first = asked(client, ours, 1, 1, path, 0, 1)
+            took = [asked(client, it, 1, 1, path) for it in (ours, theirs)]
+            each = [f"{it.spent / it.answers * 1e6:,.1f} µs ({it.answers / it.seconds:,.0f} a second)" for it in took]
+            print(f"| 65,536 lines, {octets / 1e6:.0f} MB | {first.spent / first.answers * 1000:.1f} ms | {each[0]} | {each[1]} |", flush=True)
+        finally:
+            ours.kill()
+            theirs.kill()
+
+
+PARTS = ("kept", "answers", "requests", "slowest", "memory", "idle", "install", "growth")
+
+
+def main():
+    program, client, work = os.path.realpath(sys.argv[1]), sys.argv[2], pathlib.Path(sys.argv[3]).resolve()
+    wanted = sys.argv[4:] or PARTS
+    assert all(it in PARTS for it in wanted), f"the parts are {' '.join(PARTS)}"
+    work.mkdir(exist_ok=True)
+    print(f"On {time.strftime('%d %B %Y, %H:%M')}, load {' '.join(f'{it:.1f}' for it in os.getloadavg())}")
+    chosen = pairs(program, work) if set(wanted) - {"kept", "growth"} else {}
+    (work / "in").mkdir(exist_ok=True)
+    lists = {name: write(ours[0], name, work) for name, (ours, _) in chosen.items()}
+    beside = [it for it in ("memory", "answers", "requests", "slowest", "idle") if it in wanted]
+    if beside:
+        servers = {"dictcat": dictcat(program, work, chosen), "dictd": dictd(work, chosen)}
+        try:
+            for part in beside:
+                {"memory": lambda: memory(client, servers, lists), "answers": lambda: compare(servers, lists),
+                 "requests": lambda: requests(client, servers, lists), "slowest": lambda: slowest(client, servers, lists),
+                 "idle": lambda: idle_all(servers)}[part]()
+        finally:
+            for server in servers.values():
+                server.kill()
+    if "kept" in wanted:
+        kept(program, client, work)
+    if "install" in wanted:
+        largest_while_asked(program, client, work, chosen, lists)
+    if "growth" in wanted:
+        growth(program, client, work)
+    print(f"\nLoad at the end {' '.join(f'{it:.1f}' for it in os.getloadavg())}")
+
+
+if __name__ == "__main__":
+    main()
