@@ -32,7 +32,7 @@ OLD_COLUMNS = {"mark": "id, magic, 1, installs", "entry": "edition, ord, headwor
 
 
 def run(*words, status=0):
-    """Seconds by the clock and by the processor, the peak of memory in MB, and what was printed."""
+    """Seconds by the clock and by the processor, the peak of memory in MB (at least what this program has), and what was printed."""
     start = time.monotonic()
     process = subprocess.Popen([*map(str, words)], stdout=subprocess.PIPE, text=True)
     told = process.stdout.read()
