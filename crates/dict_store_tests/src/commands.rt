@@ -2,15 +2,57 @@
 
 use crate::asked::{Asked, Source};
 use crate::steps::{Row, Step, over_memory};
+use std::alloc::Global;
+use std::process::Abort;
 use std::test::Fail;
 
+// Commands by which several catalogues begin.
+const GEM: Row = Row(
+    "a",
+    Asked::Install("gem", Source::Gems),
+    "1 Install gem Some(1)",
+    "gem Gems 1; ",
+);
+
+const ORES_OVER_GEM: Row = Row(
+    "b",
+    Asked::Install("gem", Source::Ores),
+    "2 Install gem Some(2)",
+    "gem Ores 2/1; ",
+);
+
+const GEM_AGAIN: Row = Row(
+    "c",
+    Asked::Rollback("gem"),
+    "3 Rollback gem Some(1)",
+    "gem Gems 1/2; ",
+);
+
+const ORE: Row = Row(
+    "a",
+    Asked::Install("ore", Source::Ores),
+    "1 Install ore Some(1)",
+    "ore Ores 1; ",
+);
+
+const GEM_BEHIND_ORE: Row = Row(
+    "b",
+    Asked::Install("gem", Source::Gems),
+    "2 Install gem Some(2)",
+    "ore Ores 1; gem Gems 2; ",
+);
+
+const LIST: Row = Row(
+    "c",
+    Asked::Put("all", "All", &["ore", "gem"]),
+    "3 Virtual all None",
+    UNCHANGED,
+);
+
+const UNCHANGED: &str = "ore Ores 1; gem Gems 2; all All +ore +gem; ";
+
 const SWAPPED: &[Row] = &[
-    Row(
-        "a",
-        Asked::Install("gem", Source::Gems),
-        "1 Install gem Some(1)",
-        "gem Gems 1; ",
-    ),
+    GEM,
     Row("x", Asked::Rollback("gem"), "23", "gem Gems 1; "),
     Row(
         "b",
@@ -18,12 +60,7 @@ const SWAPPED: &[Row] = &[
         "2 Install gem Some(2)",
         "gem Gems 2/1; ",
     ),
-    Row(
-        "c",
-        Asked::Rollback("gem"),
-        "3 Rollback gem Some(1)",
-        "gem Gems 1/2; ",
-    ),
+    GEM_AGAIN,
     Row(
         "d",
         Asked::Rollback("gem"),
@@ -57,12 +94,7 @@ const SWAPPED: &[Row] = &[
 ];
 
 const ONCE: &[Row] = &[
-    Row(
-        "a",
-        Asked::Install("gem", Source::Gems),
-        "1 Install gem Some(1)",
-        "gem Gems 1; ",
-    ),
+    GEM,
     Row(
         "a",
         Asked::Install("ore", Source::Ores),
@@ -75,24 +107,9 @@ const ONCE: &[Row] = &[
 ];
 
 const ORDERED: &[Row] = &[
-    Row(
-        "a",
-        Asked::Install("ore", Source::Ores),
-        "1 Install ore Some(1)",
-        "ore Ores 1; ",
-    ),
-    Row(
-        "b",
-        Asked::Install("gem", Source::Gems),
-        "2 Install gem Some(2)",
-        "ore Ores 1; gem Gems 2; ",
-    ),
-    Row(
-        "c",
-        Asked::Put("all", "All", &["ore", "gem"]),
-        "3 Virtual all None",
-        "ore Ores 1; gem Gems 2; all All +ore +gem; ",
-    ),
+    ORE,
+    GEM_BEHIND_ORE,
+    LIST,
     Row(
         "d",
         Asked::Retire("gem"),
@@ -127,24 +144,9 @@ const ORDERED: &[Row] = &[
 ];
 
 const KEPT: &[Row] = &[
-    Row(
-        "a",
-        Asked::Install("gem", Source::Gems),
-        "1 Install gem Some(1)",
-        "gem Gems 1; ",
-    ),
-    Row(
-        "b",
-        Asked::Install("gem", Source::Ores),
-        "2 Install gem Some(2)",
-        "gem Ores 2/1; ",
-    ),
-    Row(
-        "c",
-        Asked::Rollback("gem"),
-        "3 Rollback gem Some(1)",
-        "gem Gems 1/2; ",
-    ),
+    GEM,
+    ORES_OVER_GEM,
+    GEM_AGAIN,
     Row(
         "d",
         Asked::Put("all", "All", &["gem"]),
@@ -165,45 +167,8 @@ const KEPT: &[Row] = &[
     ),
 ];
 
-// A database is made, and opened again after its commands.
-static PLAYED: [[Step; 3]; 4] = [
-    [Step::Make(SWAPPED), Step::Open(&[]), Step::Keep(&[])],
-    [Step::Make(ONCE), Step::Open(&[]), Step::Keep(&[])],
-    [Step::Make(ORDERED), Step::Open(&[]), Step::Keep(&[])],
-    [Step::Make(KEPT), Step::Open(&[]), Step::Keep(&[])],
-];
-
-#[test]
-fn commands_on_both_desks(rt: HostRuntime) -> Result<(), Fail> {
-    for steps in &PLAYED {
-        over_memory(&rt, rt.alloc(), steps.as_slice())?;
-    }
-    Ok(())
-}
-
 /// Two databases, and a list of both.
-pub(crate) const CATALOGUE: &[Row] = &[
-    Row(
-        "a",
-        Asked::Install("ore", Source::Ores),
-        "1 Install ore Some(1)",
-        "ore Ores 1; ",
-    ),
-    Row(
-        "b",
-        Asked::Install("gem", Source::Gems),
-        "2 Install gem Some(2)",
-        "ore Ores 1; gem Gems 2; ",
-    ),
-    Row(
-        "c",
-        Asked::Put("all", "All", &["ore", "gem"]),
-        "3 Virtual all None",
-        UNCHANGED,
-    ),
-];
-
-const UNCHANGED: &str = "ore Ores 1; gem Gems 2; all All +ore +gem; ";
+pub(crate) const CATALOGUE: &[Row] = &[ORE, GEM_BEHIND_ORE, LIST];
 
 // Commands that are refused, and ids that are kept.
 const NOTHING: &[Row] = &[
@@ -246,26 +211,7 @@ const NOTHING: &[Row] = &[
     Row("c", Asked::Retire("all"), "3 Virtual all None", UNCHANGED),
 ];
 
-static KEEPING: [Step; 2] = [Step::Make(CATALOGUE), Step::Keep(NOTHING)];
-
-#[test]
-fn what_acts_on_nothing_leaves_all_rows(rt: HostRuntime) -> Result<(), Fail> {
-    over_memory(&rt, rt.alloc(), &KEEPING)
-}
-
-const ONE: &[Row] = &[Row(
-    "a",
-    Asked::Install("gem", Source::Gems),
-    "1 Install gem Some(1)",
-    "gem Gems 1; ",
-)];
-
-static FILLED: [Step; 2] = [Step::Make(ONE), Step::Fill];
-
-#[test]
-fn sixty_four_items(rt: HostRuntime) -> Result<(), Fail> {
-    over_memory(&rt, rt.alloc(), &FILLED)
-}
+const ONE: &[Row] = &[GEM];
 
 // What a new catalogue has.
 const NEW: &[(&str, i64)] = &[
@@ -285,24 +231,9 @@ const NEW: &[(&str, i64)] = &[
 
 // An edition goes at the third install.
 const INSTALLED: &[Row] = &[
-    Row(
-        "a",
-        Asked::Install("gem", Source::Gems),
-        "1 Install gem Some(1)",
-        "gem Gems 1; ",
-    ),
-    Row(
-        "b",
-        Asked::Install("gem", Source::Ores),
-        "2 Install gem Some(2)",
-        "gem Ores 2/1; ",
-    ),
-    Row(
-        "c",
-        Asked::Rollback("gem"),
-        "3 Rollback gem Some(1)",
-        "gem Gems 1/2; ",
-    ),
+    GEM,
+    ORES_OVER_GEM,
+    GEM_AGAIN,
     Row(
         "d",
         Asked::Install("gem", Source::More),
@@ -341,31 +272,9 @@ const ROWS: &[(&str, i64)] = &[
     ("SELECT count(*) FROM kept", 4),
 ];
 
-static COUNTED: [Step; 4] = [
-    Step::Make(&[]),
-    Step::Numbers(NEW),
-    Step::Open(INSTALLED),
-    Step::Numbers(ROWS),
-];
-
-#[test]
-fn rows_of_editions(rt: HostRuntime) -> Result<(), Fail> {
-    over_memory(&rt, rt.alloc(), &COUNTED)
-}
-
 const FOUR: &[Row] = &[
-    Row(
-        "a",
-        Asked::Install("ore", Source::Ores),
-        "1 Install ore Some(1)",
-        "ore Ores 1; ",
-    ),
-    Row(
-        "b",
-        Asked::Install("gem", Source::Gems),
-        "2 Install gem Some(2)",
-        "ore Ores 1; gem Gems 2; ",
-    ),
+    ORE,
+    GEM_BEHIND_ORE,
     Row(
         "c",
         Asked::Install("more", Source::More),
@@ -380,20 +289,6 @@ const FOUR: &[Row] = &[
     ),
 ];
 
-static LOOKED: [Step; 3] = [Step::Make(FOUR), Step::Look, Step::Look];
-
-#[test]
-fn lookups_on_both_desks(rt: HostRuntime) -> Result<(), Fail> {
-    over_memory(&rt, rt.alloc(), &LOOKED)
-}
-
-static MANY: [Step; 2] = [Step::Make(&[]), Step::Many];
-
-#[test]
-fn lookups_in_many_entries(rt: HostRuntime) -> Result<(), Fail> {
-    over_memory(&rt, rt.alloc(), &MANY)
-}
-
 const WORDS: &[Row] = &[Row(
     "a",
     Asked::Install("ete", Source::Words),
@@ -401,8 +296,29 @@ const WORDS: &[Row] = &[Row(
     "ete Mots 1; ",
 )];
 
-static SPOKEN: [[Step; 4]; 3] = [
-    [
+// What is done in new databases, each run in one of its own.
+static COMMANDS: [&[Step]; 5] = [
+    // It is opened again after its commands.
+    &[Step::Make(SWAPPED), Step::Open(&[]), Step::Keep(&[])],
+    &[Step::Make(ONCE), Step::Open(&[]), Step::Keep(&[])],
+    &[Step::Make(ORDERED), Step::Open(&[]), Step::Keep(&[])],
+    &[Step::Make(KEPT), Step::Open(&[]), Step::Keep(&[])],
+    &[Step::Make(CATALOGUE), Step::Keep(NOTHING)],
+];
+
+static TABLES: [&[Step]; 3] = [
+    &[Step::Make(ONE), Step::Fill],
+    &[
+        Step::Make(&[]),
+        Step::Numbers(NEW),
+        Step::Open(INSTALLED),
+        Step::Numbers(ROWS),
+    ],
+    &[Step::Make(FOUR), Step::Look, Step::Look],
+];
+
+static SESSIONS: [&[Step]; 3] = [
+    &[
         Step::Make(ONE),
         Step::Speak(
             "DEFINE gem OPAL\r\nQUIT\r\n",
@@ -414,7 +330,7 @@ static SPOKEN: [[Step; 4]; 3] = [
         ),
         Step::Cut,
     ],
-    [
+    &[
         Step::Make(WORDS),
         Step::Speak(
             "DEFINE ete été\r\nMATCH ete suffix é\r\n",
@@ -423,7 +339,7 @@ static SPOKEN: [[Step; 4]; 3] = [
         Step::Open(&[]),
         Step::Open(&[]),
     ],
-    [
+    &[
         Step::Speak("SHOW DB\r\n", "no catalogue"),
         Step::Make(ONE),
         Step::Open(&[]),
@@ -431,10 +347,32 @@ static SPOKEN: [[Step; 4]; 3] = [
     ],
 ];
 
-#[test]
-fn sessions(rt: HostRuntime) -> Result<(), Fail> {
-    for steps in &SPOKEN {
-        over_memory(&rt, rt.alloc(), steps.as_slice())?;
+// Does the steps of each run in a new database of its own.
+fn over_each(rt: &impl Abort, alloc: Global, runs: &[&[Step]]) -> Result<(), Fail> {
+    for steps in runs {
+        over_memory(rt, alloc, *steps)?;
     }
     Ok(())
+}
+
+#[test]
+fn commands_one_after_another(rt: HostRuntime) -> Result<(), Fail> {
+    over_each(&rt, rt.alloc(), &COMMANDS)
+}
+
+#[test]
+fn tables_and_lookups(rt: HostRuntime) -> Result<(), Fail> {
+    over_each(&rt, rt.alloc(), &TABLES)
+}
+
+#[test]
+fn sessions_over_a_database(rt: HostRuntime) -> Result<(), Fail> {
+    over_each(&rt, rt.alloc(), &SESSIONS)
+}
+
+static MANY: [Step; 2] = [Step::Make(&[]), Step::Many];
+
+#[test]
+fn lookups_in_many_entries(rt: HostRuntime) -> Result<(), Fail> {
+    over_memory(&rt, rt.alloc(), &MANY)
 }

@@ -10,8 +10,6 @@ mod commands;
 #[cfg(test)]
 mod desks;
 #[cfg(test)]
-mod fails_once;
-#[cfg(test)]
 mod files;
 #[cfg(test)]
 mod full;

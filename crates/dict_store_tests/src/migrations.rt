@@ -104,28 +104,6 @@ const ANSWERED: &str =
      112 database information\r\nore \"Ores\"\r\ngem \"Gems\"\r\n.\r\n250 ok\r\n\
      112 database information\r\n.\r\n250 ok\r\ninput end";
 
-#[test]
-fn older_files(rt: HostRuntime) -> Result<(), Fail> {
-    for (texts, changed) in OLDER.iter().zip(CHANGED.iter()) {
-        let steps = [
-            Step::Batch(OTHERS),
-            Step::Batch(texts[0]),
-            Step::Batch(texts[1]),
-            Step::Batch(texts[2]),
-            Step::Batch(INDEXES),
-            Step::Batch(*changed),
-            Step::Made(MADE),
-            Step::Speak(LOOKED_UP, ANSWERED),
-            Step::Numbers(LEFT),
-            Step::Keep(&[]),
-            Step::Open(REPEATED),
-            Step::Keep(&[]),
-        ];
-        over_memory(&rt, rt.alloc(), steps.as_slice())?;
-    }
-    Ok(())
-}
-
 const ETE: &[Row] = &[Row(
     "r1",
     Asked::Install("ete", Source::Words),
@@ -176,7 +154,24 @@ const GEMS_TWICE: &[Row] = &[
 static KNOWN: [Step; 3] = [Step::Batch(SHOWN), Step::Made(GEMS_TWICE), Step::Keep(&[])];
 
 #[test]
-fn other_files_of_others(rt: HostRuntime) -> Result<(), Fail> {
+fn files_of_others(rt: HostRuntime) -> Result<(), Fail> {
+    for (texts, changed) in OLDER.iter().zip(CHANGED.iter()) {
+        let steps = [
+            Step::Batch(OTHERS),
+            Step::Batch(texts[0]),
+            Step::Batch(texts[1]),
+            Step::Batch(texts[2]),
+            Step::Batch(INDEXES),
+            Step::Batch(*changed),
+            Step::Made(MADE),
+            Step::Speak(LOOKED_UP, ANSWERED),
+            Step::Numbers(LEFT),
+            Step::Keep(&[]),
+            Step::Open(REPEATED),
+            Step::Keep(&[]),
+        ];
+        over_memory(&rt, rt.alloc(), steps.as_slice())?;
+    }
     over_memory(&rt, rt.alloc(), &CAPITAL)?;
     over_memory(&rt, rt.alloc(), &KNOWN)
 }

@@ -4,37 +4,34 @@ use crate::commands::CATALOGUE;
 use crate::steps::{Row, Step, over_memory};
 use crate::stored::{PLAIN, SHARED};
 use dict_desk::Fault;
+use std::alloc::Global;
+use std::process::Abort;
 use std::test::Fail;
 
 // Each of these takes a name, or refers to one, that a store needs.
-static IN_USE: [&str; 6] = [
-    "CREATE TABLE kept (a TEXT) STRICT",
-    "CREATE TABLE Word (a TEXT) STRICT",
-    "CREATE TABLE dictcat_more (a TEXT) STRICT",
-    "CREATE TABLE others (a TEXT) STRICT; CREATE INDEX entry ON others (a)",
-    "CREATE TABLE others (a TEXT REFERENCES item (name)) STRICT",
-    "CREATE TABLE others (a TEXT REFERENCES dictcat_entry (a)) STRICT",
+const IN_USE: &[(&str, Fault)] = &[
+    ("CREATE TABLE kept (a TEXT) STRICT", Fault::NotACatalogue),
+    ("CREATE TABLE Word (a TEXT) STRICT", Fault::NotACatalogue),
+    (
+        "CREATE TABLE dictcat_more (a TEXT) STRICT",
+        Fault::NotACatalogue,
+    ),
+    (
+        "CREATE TABLE others (a TEXT) STRICT; CREATE INDEX entry ON others (a)",
+        Fault::NotACatalogue,
+    ),
+    (
+        "CREATE TABLE others (a TEXT REFERENCES item (name)) STRICT",
+        Fault::NotACatalogue,
+    ),
+    (
+        "CREATE TABLE others (a TEXT REFERENCES dictcat_entry (a)) STRICT",
+        Fault::NotACatalogue,
+    ),
 ];
 
-#[test]
-fn no_store_is_made(rt: HostRuntime) -> Result<(), Fail> {
-    for text in &IN_USE {
-        let steps = [Step::Batch(*text), Step::Refuse(true, Fault::NotACatalogue)];
-        over_memory(&rt, rt.alloc(), steps.as_slice())?;
-    }
-    over_memory(
-        &rt,
-        rt.alloc(),
-        &[
-            Step::Refuse(false, Fault::NotACatalogue),
-            Step::Make(&[]),
-            Step::Refuse(true, Fault::NotACatalogue),
-        ],
-    )
-}
-
 // Each of these makes a file that is refused.
-static STATEMENTS: [(&str, Fault); 56] = [
+const STATEMENTS: &[(&str, Fault)] = &[
     // Its items and lists.
     ("UPDATE item SET place = 9 WHERE place = 2", Fault::Damaged),
     ("UPDATE item SET kind = 2 WHERE place = 0", Fault::Damaged),
@@ -179,42 +176,50 @@ static STATEMENTS: [(&str, Fault); 56] = [
     ("DROP TABLE mark", Fault::NotACatalogue),
 ];
 
-#[test]
-fn refused_files(rt: HostRuntime) -> Result<(), Fail> {
-    for (statement, wanted) in &STATEMENTS {
-        let steps = [
-            Step::Make(CATALOGUE),
-            Step::Batch(*statement),
-            Step::Refuse(false, *wanted),
-        ];
-        over_memory(&rt, rt.alloc(), steps.as_slice())?;
-    }
-    Ok(())
-}
-
 // Each of these, in a file of schema 1, takes a name that the new tables or the helper of their making need; or a table is gone.
-static OLDER: [&str; 8] = [
-    "CREATE TABLE word (a TEXT) STRICT",
-    "CREATE TABLE GRAM (a TEXT) STRICT",
-    "CREATE VIEW dictcat_entry AS SELECT 1",
-    "CREATE TABLE others (a TEXT) STRICT; CREATE INDEX dictcat_entry_key ON others (a)",
-    "CREATE INDEX dictcat_entry_rkey ON item (kind)",
-    "CREATE TABLE others (a TEXT REFERENCES gram (a)) STRICT",
-    "CREATE TABLE others (a TEXT REFERENCES dictcat_entry (a)) STRICT",
-    "DROP TABLE entry",
+const OLDER: &[(&str, Fault)] = &[
+    ("CREATE TABLE word (a TEXT) STRICT", Fault::Damaged),
+    ("CREATE TABLE GRAM (a TEXT) STRICT", Fault::Damaged),
+    ("CREATE VIEW dictcat_entry AS SELECT 1", Fault::Damaged),
+    (
+        "CREATE TABLE others (a TEXT) STRICT; CREATE INDEX dictcat_entry_key ON others (a)",
+        Fault::Damaged,
+    ),
+    (
+        "CREATE INDEX dictcat_entry_rkey ON item (kind)",
+        Fault::Damaged,
+    ),
+    (
+        "CREATE TABLE others (a TEXT REFERENCES gram (a)) STRICT",
+        Fault::Damaged,
+    ),
+    (
+        "CREATE TABLE others (a TEXT REFERENCES dictcat_entry (a)) STRICT",
+        Fault::Damaged,
+    ),
+    ("DROP TABLE entry", Fault::Damaged),
 ];
 
-#[test]
-fn refused_older_files(rt: HostRuntime) -> Result<(), Fail> {
-    for statement in &OLDER {
-        let steps = [
-            Step::Batch(SHARED),
-            Step::Batch(PLAIN),
-            Step::Batch("INSERT INTO mark VALUES (1, 'dictcat', 1, 2)"),
-            Step::Batch(*statement),
-            Step::Refuse(false, Fault::Damaged),
-        ];
-        over_memory(&rt, rt.alloc(), steps.as_slice())?;
+// A file of schema 1.
+const FIRST: &[Step] = &[
+    Step::Batch(SHARED),
+    Step::Batch(PLAIN),
+    Step::Batch("INSERT INTO mark VALUES (1, 'dictcat', 1, 2)"),
+];
+
+// After these steps and each of these statements no store is made, or the one that is there isn't opened, by this fault.
+fn refuse_each(
+    rt: &impl Abort,
+    alloc: Global,
+    first: &[Step],
+    is_new: bool,
+    rows: &[(&'static str, Fault)],
+) -> Result<(), Fail> {
+    for (statement, fault) in rows {
+        let mut steps = first.to_vec(alloc)?;
+        steps.push(Step::Batch(*statement))?;
+        steps.push(Step::Refuse(is_new, *fault))?;
+        over_memory(rt, alloc, steps.as_slice())?;
     }
     Ok(())
 }
@@ -245,7 +250,19 @@ static BESIDE: [Step; 6] = [
     Step::Numbers(OTHERS),
 ];
 
+// Where there is no store none is opened, and over one none is made.
+static TWICE: [Step; 3] = [
+    Step::Refuse(false, Fault::NotACatalogue),
+    Step::Make(&[]),
+    Step::Refuse(true, Fault::NotACatalogue),
+];
+
 #[test]
-fn other_tables_stay(rt: HostRuntime) -> Result<(), Fail> {
-    over_memory(&rt, rt.alloc(), &BESIDE)
+fn nothing_changes(rt: HostRuntime) -> Result<(), Fail> {
+    let alloc = rt.alloc();
+    over_memory(&rt, alloc, &TWICE)?;
+    over_memory(&rt, alloc, &BESIDE)?;
+    refuse_each(&rt, alloc, &[], true, IN_USE)?;
+    refuse_each(&rt, alloc, &[Step::Make(CATALOGUE)], false, STATEMENTS)?;
+    refuse_each(&rt, alloc, FIRST, false, OLDER)
 }

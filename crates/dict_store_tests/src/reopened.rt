@@ -2,9 +2,10 @@
 use crate::asked::{Asked, Editions, Source, read_editions};
 use crate::checks::holds;
 use crate::desks::desk_over;
-use crate::files::{Octets, disk, opened, options};
+use crate::files::{Octets, opened, options};
 use crate::stops::made;
 use dict_desk::{Fault, Keeper, Lookup};
+use dict_failing_disk::failing_disk;
 use dict_store::{Desk, Unopened};
 use sqlite::{Alter, Connection, FileStore, Files};
 use sqlite_disk::{Crash, Disk};
@@ -115,8 +116,8 @@ fn met_at(
     is_new: bool,
 ) -> Result<Met, Fail> {
     let files = Files {
-        log: disk(alloc, octets.log.as_slice(), call, true)?,
-        db: disk(alloc, octets.db.as_slice(), u64::MAX, true)?,
+        log: failing_disk(alloc, octets.log.as_slice(), call, true)?,
+        db: failing_disk(alloc, octets.db.as_slice(), u64::MAX, true)?,
     };
     Ok(met_over(alloc, editions, files, is_new))
 }

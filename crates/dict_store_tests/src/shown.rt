@@ -115,24 +115,13 @@ pub(crate) fn listed(alloc: Global, summary: &Summary) -> Result<String, AllocEr
     Ok(text)
 }
 
-// The info of an edition, and its entries that have an `o` or an `é` in their headwords.
-fn push_edition<L: Lookup>(
-    alloc: Global,
-    rows: &mut Rows,
-    desk: &mut L,
-    number: u64,
-) -> Result<(), Fault> {
-    desk.info(number, rows)?;
-    desk.find(number, Strategy::Substring, &key_of(alloc, "o")?, rows)?;
-    desk.find(number, Strategy::Prefix, &key_of(alloc, "é")?, rows)?;
-    Ok(())
-}
-
-// The editions of a catalogue.
+// Of each edition of a catalogue its info, and its entries that have an `o` or an `é` in their headwords.
 fn push_editions<L: Lookup>(alloc: Global, rows: &mut Rows, desk: &mut L) -> Result<(), Fault> {
     let numbers = edition_numbers(alloc, &desk.summary()?.items)?;
     for number in &numbers {
-        push_edition(alloc, rows, desk, *number)?;
+        desk.info(*number, rows)?;
+        desk.find(*number, Strategy::Substring, &key_of(alloc, "o")?, rows)?;
+        desk.find(*number, Strategy::Prefix, &key_of(alloc, "é")?, rows)?;
     }
     Ok(())
 }

@@ -5,11 +5,12 @@
 use crate::asked::{Asked, Editions, Source, read_editions, requests, told, told_outcome};
 use crate::checks::{holds, same_text};
 use crate::desks::{accept_all, batched, desk_over};
-use crate::files::{Failing, Octets, closed, crashed, disk, opened};
+use crate::files::{Octets, closed, opened};
 use crate::migrations::{OLDER, Older};
 use crate::shown::{Rows, shown};
 use dict_catalogue::{Command, Kept, Refusal};
 use dict_desk::{Fault, Keeper, Lookup, PlainDesk, What};
+use dict_failing_disk::{Failing, crashed, failing_disk};
 use dict_match::{Strategy, key_of};
 use dict_store::{Desk, apply_to_file};
 use sqlite::{Alter, Connection, Files};
@@ -388,8 +389,8 @@ fn made_by(
     work: &Work<'_>,
 ) -> Result<Octets, Fail> {
     let files = Files {
-        log: disk(alloc, log, u64::MAX, true)?,
-        db: disk(alloc, db, u64::MAX, true)?,
+        log: failing_disk(alloc, log, u64::MAX, true)?,
+        db: failing_disk(alloc, db, u64::MAX, true)?,
     };
     let (files, ended) = over_failing(rt, alloc, files, work);
     let _ended = ended?;
@@ -439,8 +440,8 @@ fn fails_at(
         (u64::MAX, call)
     };
     let files = Files {
-        log: disk(alloc, sweep.log, log_call, mode.goes_on)?,
-        db: disk(alloc, sweep.db, db_call, mode.goes_on)?,
+        log: failing_disk(alloc, sweep.log, log_call, mode.goes_on)?,
+        db: failing_disk(alloc, sweep.db, db_call, mode.goes_on)?,
     };
     let (files, ended) = over_failing(rt, alloc, files, &Work::Run(sweep));
     let has_failed = files.log.calls > log_call || files.db.calls > db_call;

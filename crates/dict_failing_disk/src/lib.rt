@@ -1,25 +1,29 @@
-//! A disk that fails one call, and goes on. It counts its calls.
-ghost use Rattle.std.specs.Prelude.{◌≡◌, ◌+◌, ◌&&◌, false, not};
+//! A disk in memory that fails at one of its calls, or from it on, for runs of what stands over two of them.
+#![tactic(auto)]
+
+ghost use Rattle.std.specs.Prelude.{◌≡◌, ◌+◌, ◌&&◌, ◌↔◌, false, not, IsErr};
 ghost use Rattle.sqlite_disk.specs.Disk.{CountsFault};
 ghost use Rattle.sqlite_disk.specs.Refusal.{finds_no_room};
 
-use sqlite_disk::{Crash, Disk, Tally};
+use sqlite_disk::{Crash, Disk, Files, Fuse, Memory, Tally};
+use std::alloc::Global;
 use std::io;
 
+/// A disk that fails one call, and goes on. It counts its calls.
 #[derive(Drop)]
 pub struct FailsOnce<D: Disk> {
     /// The disk below.
-    pub(crate) inner: D,
+    pub inner: D,
     fails_at: u64,
     /// How many calls there were, the one that failed counted.
-    pub(crate) calls: u64,
+    pub calls: u64,
     refused: u64,
     sync_refused: bool,
 }
 
 impl<D: Disk> FailsOnce<D> {
-    /// Calls are counted from 0.
-    pub(crate) fn new(inner: D, fails_at: u64) -> FailsOnce<D>
+    /// The disk fails at this call, counted from 0.
+    pub fn new(inner: D, fails_at: u64) -> FailsOnce<D>
         ensures inner { result.inner ≡ inner }
         ensures fresh { (result.refused ≡ 0) × (result.sync_refused ≡ false) }
     {
@@ -33,9 +37,11 @@ impl<D: Disk> FailsOnce<D> {
     }
 }
 
+// One more call: it may go on, or it is the one that fails.
 fn count(fails_at: u64, calls: &mut u64, refused: &mut u64) -> io::Result<()>
     ensures faults { CountsFault result refused.old refused.new }
     ensures kind { finds_no_room result ≡ false }
+    ensures fails { IsErr result ↔ (calls.old ≡ fails_at) }
 {
     let call = *calls;
     *calls = call.saturating_add(1);
@@ -127,4 +133,38 @@ impl<D: Crash> Crash for FailsOnce<D> {
         self.fails_at = u64::MAX;
         self.sync_refused = false;
     }
+}
+
+/// A disk in memory that fails at one call, or from one on.
+pub type Failing = FailsOnce<Fuse<Memory>>;
+
+// Puts these octets on a new disk.
+fn fill<D: Disk>(disk: &mut D, octets: &[u8]) -> io::Result<()> {
+    if !disk.may_be_used() {
+        return Err(io::Error::other("a new disk that may not be used"));
+    }
+    disk.write_at(0, octets)?;
+    if !disk.may_be_used() {
+        return Err(io::Error::other("a disk that may not be used any more"));
+    }
+    disk.sync()
+}
+
+/// A disk of these octets that fails at this call, or from it on. An error where there is no memory for them.
+pub fn failing_disk(alloc: Global, octets: &[u8], call: u64, goes_on: bool) -> io::Result<Failing> {
+    let mut file = Memory::new(alloc);
+    fill(&mut file, octets)?;
+    Ok(if goes_on {
+        FailsOnce::new(Fuse::new(file, u64::MAX), call)
+    } else {
+        FailsOnce::new(Fuse::new(file, call), u64::MAX)
+    })
+}
+
+/// What a crash of the machine leaves of two files.
+pub fn crashed<D: Crash + Drop>(files: Files<D>) -> Files<D> {
+    let mut files = files;
+    files.log.crash();
+    files.db.crash();
+    files
 }
