@@ -1,3 +1,6 @@
+pub mod TableLemmas
+pub mod SelectLemmas
+pub mod SelectedLemmas
 pub mod LayoutLemmas
 pub mod FindLemmas
 pub mod FaultLemmas

@@ -15,8 +15,6 @@ use Rattle.dict_records.specs.Records as spec
 use Rattle.dict_records.specs.Typed.{owned_mark}
 use Rattle.dict_records.specs.declared.records as typed
 use Rattle.dict_records.specs.declared.records.Stored.{Stored}
-use Rattle.dict_tables.specs.Found.{HasOwn}
-use Rattle.dict_tables.specs.Tables.{mark}
 use Rattle.dict_sql.specs.Columns.{HasColumns, mark_columns}
 use Rattle.dict_sql.specs.Effects.{rows_of}
 use Rattle.dict_sql.specs.Encodings.{mark_row, stored_mark}
@@ -25,6 +23,7 @@ use Rattle.dict_catalogue.specs.Steps.{Catalogue}
 use Rattle.dict_file.specs.Holds.{Holds, IsHeld}
 use Rattle.dict_rows.specs.Given.{marks_given}
 use Rattle.dict_rows.proofs.OrderLemmas.{Same, same_from, one_once}
+use Rattle.dict_opening.specs.Marks.{HasMarkTable}
 use Rattle.dict_opening.specs.Opens.{HasMark, HasKnownMark, HoldsNone, HoldsNoneAs, IsMarked, marked}
 use Rattle.dict_desk.specs.declared.fault.Fault.TheVariants as desk
 use Rattle.dict_scans.specs.declared.fault.ReadingFault.{ReadingFault}
@@ -32,6 +31,7 @@ use Rattle.dict_scans.specs.declared.fault.ReadingFault.TheVariants.{Damaged, Me
 use Rattle.dict_scans.specs.Reading.{fault_told}
 use Rattle.dict_file.proofs.OneLemmas.{decode_mark, mark_back}
 use Rattle.dict_opening.proofs.NoneLemmas.{all_contains}
+use Rattle.dict_opening.proofs.TableLemmas.{own_mark}
 
 abbrev pub MarkRow : Type 0
 MarkRow = Stored (typed.Mark.Mark (String Global))
@@ -47,7 +47,7 @@ none_marked None marks m e h = λ v is. h v is.0 (first (sym e ∙ is.1)) is.2
     first : {a b : spec.Mark} → a ∷ [] ≡ b ∷ [] → a ≡ b
     first {a} {b} e = cc
 
-pub has_mark : (db : Database) (marks : List MarkRow) (v : ℕ) → HasOwn db.schema mark → IsListing (codes "mark") (1 ∷ []) db (map stored_mark marks) → IsMarked marks v → HasMark db v
+pub has_mark : (db : Database) (marks : List MarkRow) (v : ℕ) → HasMarkTable db.schema → IsListing (codes "mark") (1 ∷ []) db (map stored_mark marks) → IsMarked marks v → HasMark db v
 has_mark db [] v own l is = absurd (let e = is.1 in cc)
 has_mark db (r ∷ []) v own l is =
     let owned : owned_mark r.value ≡ marked v is.0 = let e = is.1 in cc in
@@ -105,7 +105,7 @@ held_mark version db M counted h =
     let written = subst (λ (ms : List spec.Mark). IsPermutation (map mark_row ms) (map (drop 1) (rows_of (codes "mark") db))) h.stands.marks h.keeps.0.rows in
     let only = one_once row (map (drop 1) (rows_of (codes "mark") db)) (same_from (row ∷ []) (map (drop 1) (rows_of (codes "mark") db)) written) in
     let found = one_row row (rows_of (codes "mark") db) (λ e. let wrong : ⊥ = cc in wrong) only h.keeps.0.apart.integers in
-    record { own = h.own.tables.0; rowid = found.0; installs = pos M.installs; rows = found.1; counted = counted }
+    record { own = own_mark db.schema h.own.tables.0; rowid = found.0; installs = pos M.installs; rows = found.1; counted = counted }
 
 pub known_mark : (db : Database) (M : Catalogue) → IsHeld db M → HasKnownMark db
 known_mark db M h = record { version = h.version; known = h.known; marked = held_mark h.version db M h.known.counted h.holds }

@@ -1,3 +1,4 @@
 pub mod Reading
 pub mod Layouts
+pub mod Marks
 pub mod Opens

@@ -7,7 +7,6 @@ use Rattle.std.specs.declared.alloc.Global.{Global}
 use Rattle.dict_records.specs.declared.records as typed
 use Rattle.dict_records.specs.declared.records.Stored.{Stored}
 use Rattle.dict_tables.specs.Found.{HasOwn}
-use Rattle.dict_tables.specs.Tables.{mark}
 use Rattle.dict_sql.specs.Encodings.{mark_row, item_row, member_row, edition_row, kept_row, stored_edition, stored_kept, stored_number}
 use Rattle.dict_sql.specs.Reads.{IsListing, IsSelection, HasNoRecord}
 use Rattle.dict_records.specs.Records.{Entry}
@@ -41,6 +40,7 @@ pub use Rattle.dict_file.specs.Readings.{HasReadableRows, HasRowidsApart}
 use Rattle.dict_scans.specs.Census.{one_of, AreNumberedApart}
 use Rattle.dict_scans.specs.Filing.{keys_of}
 use Rattle.dict_scans.specs.Entries.{behind, entry_cells, HasEntries, HasWrongEntries}
+use Rattle.dict_opening.specs.Marks.{HasMarkTable}
 
 -- the database keeps tables with the members in this order, and they stand for the catalogue under this version
 pub record Keeping (version : ℕ) (db : Database) (members : List Member) (tables : Tables) (M : Catalogue) : Type 0 where
@@ -269,9 +269,9 @@ pub record HasSummary (version : ℕ) (db : Database) (holdings : Holdings (List
 abbrev pub marked : ℕ → ℤ → Mark
 marked version installs = record { id = pos 1; magic = codes "dictcat"; version = pos version; installs = installs }
 
--- There is one mark with the product's word and a version, and its table is the product's.
+-- There is one mark with the product's word and a version, and its table is the product's, whether or not a foreign key refers to it.
 pub record HasMark (db : Database) (version : ℕ) : Type 0 where
-  pub own : HasOwn db.schema mark
+  pub own : HasMarkTable db.schema
   pub rowid : ℤ
   pub installs : ℤ
   pub rows : rows_of (codes "mark") db ≡ (Int rowid ∷ mark_row (marked version installs)) ∷ []

@@ -4,6 +4,8 @@
 mod editions;
 mod laws;
 mod layout;
+mod mark_records;
+mod mark_table;
 mod opening;
 mod records;
 mod rowids;

@@ -13,6 +13,8 @@ ghost use Rattle.dict_opening.specs.Opens.{HoldsNone, HoldsNoneAs, HasMark, HasK
 ghost use Rattle.dict_rows.specs.Versions.{known, IsVersion};
 
 use crate::layout::has_layout;
+use crate::mark_records::marks;
+use crate::mark_table::has_mark_table;
 use crate::records::read_records;
 use crate::rowids::test_other_rowids;
 use dict_catalogue::Summary;
@@ -21,9 +23,7 @@ use dict_file::fault_of;
 use dict_records::{Mark, Stored};
 use dict_rows::KNOWN_VERSION;
 use dict_scans::ReadingFault;
-use dict_sql::read::marks;
 use dict_sql::records::ReadError;
-use dict_tables::{StoreTable, has_table};
 use sqlite::{Alter, Connection};
 use std::alloc::Global;
 
@@ -107,7 +107,7 @@ fn read_mark<S: Alter>(
     ensures sound { result ≡ Err Fault.Damaged → ⊥ }
     ensures kinds { IfErr result IsOfOpening }
 {
-    if !has_table(conn.schema(), StoreTable::Mark) {
+    if !has_mark_table(conn.schema()) {
         return Err(Fault::NotACatalogue);
     }
     let marks = match marks(alloc, conn) {
@@ -141,9 +141,9 @@ fn told(fault: ReadingFault) -> Fault
 /// largest edition, and not by their sum.
 ///
 /// `NotACatalogue` tells that there is no readable mark, `NewerSchema` that the mark is of a version above the known one,
-/// and `Damaged` that the mark is readable and of a known version, and the tables that this version has hold no catalogue, or, in a
-/// file of an older version, the names of the tables that come with the last one are in use by others: they are tested in
-/// this order. `Memory` tells that a growth was refused, and `Disk` that the disk failed, or that the limit on steps was met.
+/// and `Damaged` that the mark is readable and of a known version, and the tables that this version has hold no catalogue, or a foreign
+/// key of another table names one of them, or, in a file of an older version, the names of the tables that come with the last one
+/// are in use by others: they are tested in this order. `Memory` tells that a growth was refused, and `Disk` that the disk failed, or that the limit on steps was met.
 pub fn read_catalogue<S: Alter>(
     alloc: Global,
     conn: &mut Connection<S>,

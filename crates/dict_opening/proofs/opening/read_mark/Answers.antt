@@ -1,7 +1,6 @@
 use Rattle.std.proofs.Common.{◌≡◌, ℕ, ◌<◌, ◌≤◌, List, IfNone, IfSome, rules, arith, sym, subst, ◌∙◌, codes}
 use Rattle.sqlite.specs.Held.{state}
-use Rattle.dict_tables.specs.Found.{HasOwn}
-use Rattle.dict_tables.specs.Tables.{mark}
+use Rattle.dict_opening.specs.Marks.{HasMarkTable}
 use Rattle.dict_opening.specs.Opens.{IsMarked}
 use Rattle.dict_opening.proofs.MarkLemmas.{has_mark, is_marked, no_record, MarkRow}
 use Rattle.dict_opening.proofs.FaultLemmas.{desk_cause}
@@ -25,7 +24,7 @@ returns-in-None-clause-none g c clean is v h =
 pub returns-then-version-gt-KNOWN_VERSION-clause-newer : goal.returns-then-version-gt-KNOWN_VERSION-clause-newer
 returns-then-version-gt-KNOWN_VERSION-clause-newer g c clean is =
     let old = state g.S.Store c.args.conn.now in
-    let own : HasOwn old.now.schema mark = search rules in
+    let own : HasMarkTable old.now.schema = search rules in
     let told = subst (λ o. IfSome o (λ version. IsMarked c.deref.result.now version)) c.in-Some.is c.version_of.ensures.told in
     let marked = subst (λ (l : List MarkRow). IsMarked l c.in-Some.version) c.deref.ensures.value told in
     let above : known < c.in-Some.version = omega (arith, marked.2) in
@@ -34,7 +33,7 @@ returns-then-version-gt-KNOWN_VERSION-clause-newer g c clean is =
 pub returns-clause-marked : goal.returns-clause-marked
 returns-clause-marked g c clean =
     let old = state g.S.Store c.args.conn.now in
-    let own : HasOwn old.now.schema mark = search rules in
+    let own : HasMarkTable old.now.schema = search rules in
     let told = subst (λ o. IfSome o (λ version. IsMarked c.deref.result.now version)) c.in-Some.is c.version_of.ensures.told in
     let marked = subst (λ (l : List MarkRow). IsMarked l c.in-Some.version) c.deref.ensures.value told in
     ((c.in-Ok.ensures.listed clean).0, has_mark old.now c.in-Ok.marks.items c.in-Some.version own (c.in-Ok.ensures.listed clean).0 marked)
