@@ -13,7 +13,6 @@ use Rattle.sqlite.specs.declared.types.Value.{Value}
 use Rattle.sqlite.specs.declared.types.Value.TheVariants.{Int}
 use Rattle.dict_sql.specs.Effects.{IsRemoved, equals_number, same_value}
 use Rattle.dict_sql.specs.Encodings.{edition_row}
-use Rattle.dict_sql.specs.Keyed.{keyed_entry_row, piece_row}
 use Rattle.dict_records.specs.Records.{Edition}
 use Rattle.dict_records.specs.Keyed.{Piece}
 use Rattle.dict_rows.specs.Tables.{same_number}
@@ -26,7 +25,7 @@ use Rattle.dict_commands.specs.Kept.{HasRecords, IsStorable, Turns}
 use Rattle.dict_commands.specs.Statements.{taking}
 use Rattle.dict_commands.proofs.LoopLemmas.{Grows}
 use Rattle.dict_commands.proofs.RowLemmas.{keeps_removed, next_column, compared_values}
-use Rattle.dict_commands.proofs.TableLemmas.{editions_turned, entries_turned, words_turned, grams_turned, editions_kept, entries_kept, words_kept, grams_kept}
+use Rattle.dict_commands.proofs.TableLemmas.{editions_turned, editions_kept}
 
 -- a number that can be held is handed on as it is
 pub handed : (n : ℕ) → IsStorable n → to_z w64 n ≡ pos n
@@ -36,7 +35,7 @@ or_none : (b : Bool) → (b || false) ≡ b
 or_none true = refl
 or_none false = refl
 
-neither : (a b : Bool) → (not a && not b) ≡ not (a || b)
+pub neither : (a b : Bool) → (not a && not b) ≡ not (a || b)
 neither true b = refl
 neither false b = refl
 
@@ -46,7 +45,7 @@ one_gone n z = ap not (compared_values (pos n) z ∙ sym (or_none (same_number (
 -- ---- the records of one number, from a table whose first column it is
 
 module _ {R : Type 0} (name : List ℕ) (encode : R → Row) (number : R → ℤ) (first : (r : R) → column (encode r) 0 ≡ Int (number r)) where
-  tested : (n : ℕ) (r : R) → not (equals_number 0 (pos n) (encode r)) ≡ not (is_gone (n ∷ []) (number r))
+  pub tested : (n : ℕ) (r : R) → not (equals_number 0 (pos n) (encode r)) ≡ not (is_gone (n ∷ []) (number r))
   tested n r = ap (λ (v : Value). not (same_value v (Int (pos n)))) (first r) ∙ one_gone n (number r)
 
   keeps_gone : (old new : Database) (n : ℕ) (records : List R) → IsRemoved name (equals_number 1 (pos n)) old new → Keeps name encode old records → Keeps name encode new (filter (λ r. not (is_gone (n ∷ []) (number r))) records)
@@ -59,27 +58,12 @@ editions_gone n old new gone = λ all it.
     editions_turned old new all it gone.schema (filter (λ row. not (is_gone (n ∷ []) row.number)) all.editions) gone.others
     (keeps_gone (codes "edition") edition_row (λ (r : Edition). r.number) (λ r. refl) old new n all.editions gone (editions_kept old all it))
 
-pub entries_gone : (n : ℕ) (old new : Database) → IsRemoved (codes "entry") (equals_number 1 (pos n)) old new → Turns (λ all. record all { entries = filter (λ row. not (is_gone (n ∷ []) row.edition)) all.entries }) old new
-entries_gone n old new gone = λ all it.
-    entries_turned old new all it gone.schema (filter (λ row. not (is_gone (n ∷ []) row.edition)) all.entries) gone.others
-    (keeps_gone (codes "entry") keyed_entry_row (λ (r : Filed). r.edition) (λ r. refl) old new n all.entries gone (entries_kept old all it))
-
-pub words_gone : (n : ℕ) (old new : Database) → IsRemoved (codes "word") (equals_number 1 (pos n)) old new → Turns (λ all. record all { words = filter (λ row. not (is_gone (n ∷ []) row.edition)) all.words }) old new
-words_gone n old new gone = λ all it.
-    words_turned old new all it gone.schema (filter (λ row. not (is_gone (n ∷ []) row.edition)) all.words) gone.others
-    (keeps_gone (codes "word") piece_row (λ (r : Piece). r.edition) (λ r. refl) old new n all.words gone (words_kept old all it))
-
-pub grams_gone : (n : ℕ) (old new : Database) → IsRemoved (codes "gram") (equals_number 1 (pos n)) old new → Turns (λ all. record all { grams = filter (λ row. not (is_gone (n ∷ []) row.edition)) all.grams }) old new
-grams_gone n old new gone = λ all it.
-    grams_turned old new all it gone.schema (filter (λ row. not (is_gone (n ∷ []) row.edition)) all.grams) gone.others
-    (keeps_gone (codes "gram") piece_row (λ (r : Piece). r.edition) (λ r. refl) old new n all.grams gone (grams_kept old all it))
-
 -- ---- one number after another
 
 gone_more : (gone : List ℕ) (n : ℕ) (z : ℤ) → (not (is_gone gone z) && not (is_gone (n ∷ []) z)) ≡ not (is_gone (gone ++ n ∷ []) z)
 gone_more gone n z = neither (is_gone gone z) (is_gone (n ∷ []) z) ∙ sym (ap not (list_any-append (λ one. same_number (pos one) z) gone (n ∷ [])))
 
-all_stay : {X : Type 0} (xs : List X) → filter (λ (x : X). not false) xs ≡ xs
+pub all_stay : {X : Type 0} (xs : List X) → filter (λ (x : X). not false) xs ≡ xs
 all_stay [] = refl
 all_stay (x ∷ xs) = ap (λ l. x ∷ l) (all_stay xs)
 

@@ -26,6 +26,7 @@ use Rattle.dict_rows.specs.Written.{kept_record, verb_name}
 use Rattle.dict_rows.proofs.OrderLemmas.{IsIn, Same, same_from}
 use Rattle.dict_rows.proofs.OnceLemmas.{kept_same}
 use Rattle.dict_file.specs.Holds.{Holds, Keeps}
+use Rattle.dict_commands.specs.Kept.{HoldsReplies}
 use Rattle.dict_commands.proofs.RowLemmas.{filter_map}
 use Rattle.dict_file.proofs.ReadingLemmas.{replies_kept}
 use Rattle.dict_rows.specs.Versions.{known, layout_of}
@@ -177,9 +178,8 @@ module _ (id : List ℕ) where
       let it = in_map as_row (read_row x) (filter by_id kept) (same.back (read_row x) (inl refl)) in
       (it.0, row_same (owned_kept x.value) (kept_record it.0) it.2, found kept it.0 once it.1)
 
-  pub kept_told : (version : ℕ) (db : Database) (M : Catalogue) (all : List ReadKept) → Holds version db M → IsSelection (codes "kept") (equals_text 1 id) (2 ∷ []) db (map stored_kept all) → IsToldBy M.kept all
-  kept_told version db M all h selection =
-      told_by M.kept all h.stands.well_formed.ids (same_from _ _ (same_rows db h.tables.kept M.kept all h.stands.kept (replies_kept (layout_of version) db h.tables h.keeps) selection))
+  pub kept_alone : (db : Database) (kept : List KeptFor) (all : List ReadKept) → HoldsReplies db kept → IsSelection (codes "kept") (equals_text 1 id) (2 ∷ []) db (map stored_kept all) → IsToldBy kept all
+  kept_alone db kept all h selection = told_by kept all h.once (same_from _ _ (same_rows db (map kept_record kept) kept all refl h.keeps selection))
 
   pub none_told : (kept : List KeptFor) (all : List ReadKept) → length all ≤ 0 → IsToldBy kept all → kept_under kept id ≡ None
   none_told kept [] few h = h
@@ -192,6 +192,13 @@ module _ (id : List ℕ) where
   -- the reply that was read is the one that is kept
   pub reply_told : (kept : List KeptFor) (row : typed.Kept (String Global)) (one read : KeptFor) → owned_kept row ≡ kept_record read → owned_kept row ≡ kept_record one → kept_under kept id ≡ Some one.reply → Some read.reply ≡ kept_under kept id
   reply_told kept row one read is told there = ap (λ (k : KeptFor). Some k.reply) (kept_same read one (sym is ∙ told)) ∙ sym there
+
+-- a database that holds a catalogue has its replies
+pub holds_replies : (version : ℕ) (db : Database) (M : Catalogue) → Holds version db M → HoldsReplies db M.kept
+holds_replies version db M h = record {
+  keeps = subst (λ (l : List Kept). Keeps (codes "kept") kept_row db l) h.stands.kept (replies_kept (layout_of version) db h.tables h.keeps);
+  once = h.stands.well_formed.ids;
+}
 
 -- the record of a reply has the parts of one
 pub none_of : {X : Type 0} (parts : Option X) (row : typed.Kept (String Global)) → ((x : X) → parts ≡ Some x → ⊥)

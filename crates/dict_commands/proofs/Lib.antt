@@ -8,3 +8,4 @@ pub mod DecideLemmas
 pub mod KeptLemmas
 pub mod ApplyLemmas
 pub mod AboveLemmas
+pub mod PartLemmas

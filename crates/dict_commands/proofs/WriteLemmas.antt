@@ -12,7 +12,7 @@ use Rattle.sqlite.proofs.StateLemmas.{survives_then}
 use Rattle.sqlite.specs.Held.{Held, state}
 use Rattle.sqlite.specs.declared.error.Error.{Error}
 use Rattle.sqlite_trees.specs.declared.store.Store.{Ghosts}
-use Rattle.dict_sql.specs.Effects.{WhileOpen, IsAdded, IsRemoved, GoesOn, equals_number}
+use Rattle.dict_sql.specs.Effects.{WhileOpen, IsAdded, IsRemoved, GoesOn}
 use Rattle.dict_sql.specs.Inserts.{Inserts, FailsToInsert}
 use Rattle.dict_sql.specs.Deletes.{Removes, FailsToRemove}
 use Rattle.dict_sql.specs.Statements.{Statement, add, remove, Succeeds, FailsTo}
@@ -123,12 +123,12 @@ module _ {S : Type 0} (g : Ghosts S) where
     failed_record e h = subst (λ r. FailsToWrite g (add name (encode r) ∷ []) old new e) is (failed_one (add name (encode given)) old new survives e h)
 
   -- rows that were taken out by a number, as it is
-  module _ (name : List ℕ) (given wanted : ℤ) (is : given ≡ wanted) (old new : Held S) (survives : Survives (state g old) (state g new) (λ _. ⊥)) where
-    pub wrote_taken : (f : AllTables → AllTables) → ((a b : Database) → IsRemoved name (equals_number 1 wanted) a b → Turns f a b) → (HasCleanDisk (state g new) → Removes name (equals_number 1 given) (state g old) (state g new)) → Wrote g (remove name (equals_number 1 wanted) ∷ []) f old new
-    wrote_taken f turns did = wrote_removed name (equals_number 1 wanted) old new survives f turns (λ clean. subst (λ n. Removes name (equals_number 1 n) (state g old) (state g new)) is (did clean))
+  module _ (name : List ℕ) (test : ℤ → Row → Bool) (given wanted : ℤ) (is : given ≡ wanted) (old new : Held S) (survives : Survives (state g old) (state g new) (λ _. ⊥)) where
+    pub wrote_taken : (f : AllTables → AllTables) → ((a b : Database) → IsRemoved name (test wanted) a b → Turns f a b) → (HasCleanDisk (state g new) → Removes name (test given) (state g old) (state g new)) → Wrote g (remove name (test wanted) ∷ []) f old new
+    wrote_taken f turns did = wrote_removed name (test wanted) old new survives f turns (λ clean. subst (λ n. Removes name (test n) (state g old) (state g new)) is (did clean))
 
-    pub failed_taken : (e : Error) → (HasCleanDisk (state g new) → FailsToRemove name (equals_number 1 given) (state g old) (state g new) e) → FailsToWrite g (remove name (equals_number 1 wanted) ∷ []) old new e
-    failed_taken e h = subst (λ n. FailsToWrite g (remove name (equals_number 1 n) ∷ []) old new e) is (failed_one (remove name (equals_number 1 given)) old new survives e h)
+    pub failed_taken : (e : Error) → (HasCleanDisk (state g new) → FailsToRemove name (test given) (state g old) (state g new) e) → FailsToWrite g (remove name (test wanted) ∷ []) old new e
+    failed_taken e h = subst (λ n. FailsToWrite g (remove name (test n) ∷ []) old new e) is (failed_one (remove name (test given)) old new survives e h)
 
   -- ---- one call after another
 

@@ -1,5 +1,5 @@
 -- What each part of a command's change makes of the records.
-use Rattle.std.specs.Prelude.{ℕ, ◌≤◌, List, [], ◌∷◌, ◌++◌, Option, Some, None, IfSome}
+use Rattle.std.specs.Prelude.{ℕ, ◌≤◌, not, List, [], ◌∷◌, ◌++◌, filter, Option, Some, None, IfSome}
 use Rattle.std.specs.List.{AllByRecursion}
 use Rattle.dict_index.specs.Limits.{most_octets}
 use Rattle.dict_index.specs.Line.{Line}
@@ -15,7 +15,7 @@ use Rattle.dict_records.specs.Keyed.{Piece}
 use Rattle.dict_derived.specs.Entries.{Filed}
 use Rattle.dict_derived.specs.AllTables.{AllTables}
 use Rattle.dict_rows.specs.Written.{numbered, mark_record, item_record, kept_record}
-use Rattle.dict_rows.specs.After.{Installed, Change, all_members}
+use Rattle.dict_rows.specs.After.{Installed, Change, all_members, is_gone}
 use Rattle.dict_rows.specs.Versions.{known}
 use Rattle.dict_commands.specs.Kept.{IsStorable, AreStorable}
 
@@ -44,6 +44,16 @@ with_more_words more all = record all { words = all.words ++ more }
 
 abbrev pub with_more_grams : List Piece → AllTables → AllTables
 with_more_grams more all = record all { grams = all.grams ++ more }
+
+-- a table without the rows of one edition
+abbrev pub without_entries_of : ℕ → AllTables → AllTables
+without_entries_of number all = record all { entries = filter (λ row. not (is_gone (number ∷ []) row.edition)) all.entries }
+
+abbrev pub without_words_of : ℕ → AllTables → AllTables
+without_words_of number all = record all { words = filter (λ row. not (is_gone (number ∷ []) row.edition)) all.words }
+
+abbrev pub without_grams_of : ℕ → AllTables → AllTables
+without_grams_of number all = record all { grams = filter (λ row. not (is_gone (number ∷ []) row.edition)) all.grams }
 
 -- the mark, the items and the members written anew
 abbrev pub with_mark : ℕ → AllTables → AllTables

@@ -6,10 +6,14 @@ use Rattle.sqlite.specs.Schema.{Schema}
 use Rattle.sqlite.specs.Table.{Table}
 use Rattle.sqlite.specs.Order.{Row}
 use Rattle.dict_sql.specs.Effects.{equals_number, rows_of}
+use Rattle.dict_sql.specs.Encodings.{kept_row}
+use Rattle.dict_catalogue.specs.Steps.{KeptFor}
+use Rattle.dict_catalogue.specs.WellFormed.{IsEachOnce}
+use Rattle.dict_rows.specs.Written.{kept_record}
 use Rattle.dict_tables.specs.Found.{found_table}
 use Rattle.dict_rows.specs.Versions.{known, layout_of}
 use Rattle.dict_derived.specs.AllTables.{AllTables}
-use Rattle.dict_file.specs.Holds.{HasLayout}
+use Rattle.dict_file.specs.Holds.{HasLayout, Keeps}
 use Rattle.dict_file.specs.Readings.{name_of, readings, KeepsAll}
 
 -- the database has the product's tables, and they keep these records
@@ -42,6 +46,11 @@ edition_records number db = map (drop 1) (filter (equals_number 1 (pos number)) 
 -- twice, and an edition that stays is not written anew.
 abbrev pub AddsAbove : ℕ → Database → Database → Type 0
 AddsAbove installs old new = (number : ℕ) → number ≤ installs → AllByRecursion (Contains (edition_records number old)) (edition_records number new)
+
+-- the table of the replies has a row for each of these and no others, and no id is among them twice: whatever other tables have
+pub record HoldsReplies (db : Database) (kept : List KeptFor) : Type 0 where
+  pub keeps : Keeps (codes "kept") kept_row db (map kept_record kept)
+  pub once : IsEachOnce (map (λ (one : KeptFor). one.id) kept)
 
 -- a number that a column of integers can hold
 abbrev pub IsStorable : ℕ → Type 0

@@ -1,5 +1,7 @@
 -- The statements of a command that acts, in their order.
-use Rattle.std.specs.Prelude.{ℕ, pos, true, List, [], ◌∷◌, ◌++◌, codes, map, flat_map, Option, Some, None}
+use Rattle.std.specs.Prelude.{ℕ, ℤ, pos, true, List, [], ◌∷◌, ◌++◌, codes, map, flat_map, Option, Some, None}
+use Rattle.sqlite.specs.declared.types.Value.{Value}
+use Rattle.sqlite.specs.declared.types.Value.TheVariants.{Int, Blob as Bytes}
 use Rattle.dict_tables.specs.Tables.{table_of}
 use Rattle.dict_tables.specs.declared.tables.StoreTable.{StoreTable}
 use Rattle.dict_tables.specs.declared.tables.StoreTable.TheVariants as table
@@ -7,6 +9,7 @@ use Rattle.dict_sql.specs.Effects.{equals_number}
 use Rattle.dict_sql.specs.Encodings.{mark_row, item_row, member_row, edition_row, kept_row}
 use Rattle.dict_sql.specs.Keyed.{keyed_entry_row, piece_row}
 use Rattle.dict_sql.specs.Statements.{Statement, add, remove}
+use Rattle.dict_keyed_sql.specs.Bounds.{is_below}
 use Rattle.dict_records.specs.Records.{Mark, Item as ItemRecord, Member, Edition, Kept}
 use Rattle.dict_records.specs.Keyed.{Piece}
 use Rattle.dict_derived.specs.Entries.{Filed, filed}
@@ -58,12 +61,39 @@ members_anew items = clearing table.Member ∷ map adding_member (all_members it
 abbrev pub summary_anew : {A : Type 0} → ℕ → ℕ → List (Item A) → List Statement
 summary_anew version installs items = mark_anew version installs ++ (items_anew items ++ members_anew items)
 
--- the grams, the words and the entries of the edition of this number are taken out, and its own record
+-- the rows of the edition of this number are taken out of a table, those that are below a bound, or all
+abbrev pub taking_below : List ℕ → ℕ → Value → Statement
+taking_below name number bound = remove name (is_below (pos number) bound)
+
 abbrev pub taking_of : List ℕ → ℕ → Statement
 taking_of name number = remove name (equals_number 1 (pos number))
 
+-- part by part: those below each of these bounds, one after the other, and then the rest
+abbrev pub taking_parts : {X : Type 0} → List ℕ → ℕ → (X → Value) → List X → List Statement
+taking_parts name number bound parts = map (λ x. taking_below name number (bound x)) parts ++ taking_of name number ∷ []
+
+-- a word or a gram is below the text of one octet, an entry is below a place
+abbrev pub octet_bound : ℕ → Value
+octet_bound octet = Bytes (octet ∷ [])
+
+abbrev pub place_bound : ℤ → Value
+place_bound place = Int place
+
+-- the octets and the places by which every edition goes: letters, so that parts are about as large, and what is past ASCII
+abbrev pub gram_octets : List ℕ
+gram_octets = 97 ∷ 98 ∷ 101 ∷ 102 ∷ 105 ∷ 106 ∷ 109 ∷ 111 ∷ 112 ∷ 114 ∷ 115 ∷ 116 ∷ 117 ∷ 128 ∷ 160 ∷ 192 ∷ 208 ∷ 209 ∷ 224 ∷ []
+
+abbrev pub word_octets : List ℕ
+word_octets = 99 ∷ 102 ∷ 109 ∷ 112 ∷ 115 ∷ 116 ∷ 128 ∷ 208 ∷ []
+
+abbrev pub entry_places : List ℤ
+entry_places = pos 32768 ∷ pos 65536 ∷ pos 98304 ∷ pos 131072 ∷ pos 163840 ∷ pos 196608 ∷ pos 229376 ∷ []
+
+-- the grams, the words and the entries of the edition of this number are taken out part by part, and then its own record
 abbrev pub taking : ℕ → List Statement
-taking number = taking_of (codes "gram") number ∷ taking_of (codes "word") number ∷ taking_of (codes "entry") number ∷ taking_of (codes "edition") number ∷ []
+taking number =
+    taking_parts (codes "gram") number octet_bound gram_octets
+    ++ (taking_parts (codes "word") number octet_bound word_octets ++ (taking_parts (codes "entry") number place_bound entry_places ++ taking_of (codes "edition") number ∷ []))
 
 -- the entries of the edition that is installed are added, if there is one, its words and grams, and then its own record
 abbrev pub installing : Option Installed → Listed → List Statement

@@ -1,5 +1,5 @@
 // The editions that go, and the one that is installed, with what is derived of its entries.
-ghost use Rattle.std.specs.Prelude.{◌≡◌, [], ◌∷◌, IfErr, OnOk, Some, map, flat_map, pos, reverse};
+ghost use Rattle.std.specs.Prelude.{◌≡◌, [], ◌∷◌, IfErr, OnOk, Some, codes, map, flat_map, pos, reverse};
 ghost use Rattle.std.specs.List.{AllByRecursion};
 ghost use Rattle.sqlite.specs.Held.{state};
 ghost use Rattle.dict_sql.specs.Effects.{WhileOpen};
@@ -11,8 +11,8 @@ ghost use Rattle.dict_derived.specs.Entries.{filed, piece_at};
 ghost use Rattle.dict_derived.specs.Placed.{word_rows, gram_rows};
 ghost use Rattle.dict_derived.specs.AllTables.{without_editions, with_installed};
 ghost use Rattle.dict_commands.specs.Kept.{IsUsable, IsStorable, AreStorable};
-ghost use Rattle.dict_commands.specs.Statements.{taking, adding_entry, adding_word, adding_gram, installing};
-ghost use Rattle.dict_commands.specs.Changes.{with_more_entries, with_more_words, with_more_grams, installed_by, IsShort};
+ghost use Rattle.dict_commands.specs.Statements.{taking, taking_parts, octet_bound, place_bound, adding_entry, adding_word, adding_gram, installing};
+ghost use Rattle.dict_commands.specs.Changes.{without_entries_of, without_words_of, without_grams_of, with_more_entries, with_more_words, with_more_grams, installed_by, IsShort};
 ghost use Rattle.dict_commands.specs.Listed.{AreRowsOf, keys_by, keys_of_lines, listed_by};
 ghost use Rattle.dict_commands.specs.Writes.{Wrote, FailsToWrite, Spares};
 
@@ -21,7 +21,8 @@ use dict_catalogue::Command;
 use dict_derived::{PlacedGram, PlacedWord};
 use dict_index::{Edition, Entry};
 use dict_keyed_sql::{
-    delete_grams, delete_keyed_entries, delete_words, insert_gram, insert_keyed_entry, insert_word,
+    delete_entries_below, delete_grams, delete_grams_below, delete_keyed_entries, delete_words,
+    delete_words_below, insert_gram, insert_keyed_entry, insert_word,
 };
 use dict_records::{Gram, KeyedEntry, Word};
 use dict_rows::edition_row;
@@ -29,6 +30,78 @@ use dict_sql::delete::delete_edition;
 use dict_sql::insert::insert_edition;
 use dict_sql::transaction::OpenTransaction;
 use sqlite::{Alter, Error};
+
+// A statement has all rows that it takes out in memory, so an edition goes part by part. Its grams and its words go by the octets
+// that they begin with: letters, so that parts are about as large, and what is past ASCII.
+const GRAM_OCTETS: &[u8] = b"abefijmoprstu\x80\xa0\xc0\xd0\xd1\xe0";
+
+const WORD_OCTETS: &[u8] = b"cfmpst\x80\xd0";
+
+// Its entries go by their places, so many at a time.
+const ENTRY_PLACES: &[i64] = &[32_768, 65_536, 98_304, 131_072, 163_840, 196_608, 229_376];
+
+// Takes out the grams of the edition of this number: those that come before each of these octets, one part after the other, and then the rest.
+fn take_grams<S: Alter, T: OpenTransaction<S>>(
+    tx: &mut T,
+    number: u64,
+    octets: &[u8],
+) -> Result<(), Error>
+    requires number { IsStorable number }
+    requires usable { WhileOpen (state S.Store (T.held tx.old)) IsUsable }
+    ensures same_reference { T.reference tx.new ≡ T.reference tx.old }
+    ensures wrote { OnOk result (Wrote S.Store (taking_parts (codes "gram") number octet_bound octets.now) (without_grams_of number) (T.held tx.old) (T.held tx.new)) }
+    ensures usable { OnOk result (WhileOpen (state S.Store (T.held tx.new)) IsUsable) }
+    ensures failed { IfErr result (FailsToWrite S.Store (taking_parts (codes "gram") number octet_bound octets.now) (T.held tx.old) (T.held tx.new)) }
+    ensures spares { Spares S.Store (T.held tx.old) (T.held tx.new) }
+{
+    'each: for octet in octets {
+        delete_grams_below(tx, number as i64, &[*octet])?;
+    }
+    delete_grams(tx, number as i64)?;
+    Ok(())
+}
+
+// Takes out its words, in the same way.
+fn take_words<S: Alter, T: OpenTransaction<S>>(
+    tx: &mut T,
+    number: u64,
+    octets: &[u8],
+) -> Result<(), Error>
+    requires number { IsStorable number }
+    requires usable { WhileOpen (state S.Store (T.held tx.old)) IsUsable }
+    ensures same_reference { T.reference tx.new ≡ T.reference tx.old }
+    ensures wrote { OnOk result (Wrote S.Store (taking_parts (codes "word") number octet_bound octets.now) (without_words_of number) (T.held tx.old) (T.held tx.new)) }
+    ensures usable { OnOk result (WhileOpen (state S.Store (T.held tx.new)) IsUsable) }
+    ensures failed { IfErr result (FailsToWrite S.Store (taking_parts (codes "word") number octet_bound octets.now) (T.held tx.old) (T.held tx.new)) }
+    ensures spares { Spares S.Store (T.held tx.old) (T.held tx.new) }
+{
+    'each: for octet in octets {
+        delete_words_below(tx, number as i64, &[*octet])?;
+    }
+    delete_words(tx, number as i64)?;
+    Ok(())
+}
+
+// Takes out its entries: those below each of these places, and then the rest.
+fn take_entries<S: Alter, T: OpenTransaction<S>>(
+    tx: &mut T,
+    number: u64,
+    places: &[i64],
+) -> Result<(), Error>
+    requires number { IsStorable number }
+    requires usable { WhileOpen (state S.Store (T.held tx.old)) IsUsable }
+    ensures same_reference { T.reference tx.new ≡ T.reference tx.old }
+    ensures wrote { OnOk result (Wrote S.Store (taking_parts (codes "entry") number place_bound places.now) (without_entries_of number) (T.held tx.old) (T.held tx.new)) }
+    ensures usable { OnOk result (WhileOpen (state S.Store (T.held tx.new)) IsUsable) }
+    ensures failed { IfErr result (FailsToWrite S.Store (taking_parts (codes "entry") number place_bound places.now) (T.held tx.old) (T.held tx.new)) }
+    ensures spares { Spares S.Store (T.held tx.old) (T.held tx.new) }
+{
+    'each: for place in places {
+        delete_entries_below(tx, number as i64, *place)?;
+    }
+    delete_keyed_entries(tx, number as i64)?;
+    Ok(())
+}
 
 // Takes out the edition of this number, with its entries, their words and their grams.
 fn take_edition<S: Alter, T: OpenTransaction<S>>(tx: &mut T, number: u64) -> Result<(), Error>
@@ -40,9 +113,9 @@ fn take_edition<S: Alter, T: OpenTransaction<S>>(tx: &mut T, number: u64) -> Res
     ensures failed { IfErr result (FailsToWrite S.Store (taking number) (T.held tx.old) (T.held tx.new)) }
     ensures spares { Spares S.Store (T.held tx.old) (T.held tx.new) }
 {
-    delete_grams(tx, number as i64)?;
-    delete_words(tx, number as i64)?;
-    delete_keyed_entries(tx, number as i64)?;
+    take_grams(tx, number, GRAM_OCTETS)?;
+    take_words(tx, number, WORD_OCTETS)?;
+    take_entries(tx, number, ENTRY_PLACES)?;
     delete_edition(tx, number as i64)?;
     Ok(())
 }

@@ -1,5 +1,5 @@
 // The reply that is kept under an id.
-ghost use Rattle.std.specs.Prelude.{◌≡◌, ◌≢◌, ℕ, Option, false, pos, IfErr, IfOk, IfSome, IfNone, OnErr, OnOk, option_map, string_bytes};
+ghost use Rattle.std.specs.Prelude.{◌≡◌, ◌≢◌, ℕ, List, Option, false, pos, IfErr, IfOk, IfSome, IfNone, OnErr, OnOk, option_map, string_bytes};
 ghost use Rattle.sqlite.specs.State.{HasCleanDisk, IsUnchanged, Survives};
 ghost use Rattle.sqlite.specs.Held.{state};
 ghost use Rattle.dict_tables.specs.Tables.{kept as kept_table};
@@ -12,6 +12,7 @@ ghost use Rattle.dict_rows.specs.Written.{kept_record, verb_name};
 ghost use Rattle.dict_file.specs.Faults.{fault_of_read};
 ghost use Rattle.dict_file.specs.Faults.{FailsToLookUp};
 ghost use Rattle.dict_file.specs.Holds.{Holds};
+ghost use Rattle.dict_commands.specs.Kept.{HoldsReplies};
 ghost use Rattle.dict_commands.specs.Committed.{IsOfStore, Stays};
 
 use dict_catalogue::{Kept, Verb};
@@ -99,7 +100,7 @@ fn reply_of(alloc: Global, row: &KeptRow<String>) -> Result<Option<Kept>, AllocE
     }))
 }
 
-/// The reply that is kept under the id, if there is one. Nothing is written.
+/// The reply that is kept under the id, if there is one, by the rows of the kept replies alone. Nothing is written.
 ///
 /// `Memory` tells that a growth was refused. `Disk` tells that the store failed, or that the limit on steps was met; or that
 /// a record is none of a reply, which it never is in a database that holds a catalogue.
@@ -109,6 +110,7 @@ pub fn kept_reply<S: Alter>(
     id: &str,
 ) -> Result<Option<Kept>, Fault>
     requires { WhileOpen (state S.Store conn.old) (Has kept_table) }
+    ensures alone { HasCleanDisk (state S.Store conn.new) → IfOk result (λ reply. (kept : List KeptFor) → HoldsReplies (state S.Store conn.old).now kept → option_map kept_shown reply ≡ kept_under kept id.now) }
     ensures value { HasCleanDisk (state S.Store conn.new) → IfOk result (λ reply. (version : _) (M : Catalogue) → Holds version (state S.Store conn.old).now M → option_map kept_shown reply ≡ kept_under M.kept id.now) }
     ensures same { HasCleanDisk (state S.Store conn.new) → OnOk result (IsUnchanged (state S.Store conn.old) (state S.Store conn.new)) }
     ensures failed { HasCleanDisk (state S.Store conn.new) → IfErr result (FailsToLookUp (state S.Store conn.old) (state S.Store conn.new)) }

@@ -1,3 +1,4 @@
+pub mod BelowTexts
 pub mod ConditionLemmas
 pub mod CountLemmas
 pub mod CreateTexts

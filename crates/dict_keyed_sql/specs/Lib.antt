@@ -1,3 +1,4 @@
+pub mod Bounds
 pub mod Indexes
 pub mod Infos
 pub mod Joined

@@ -28,6 +28,12 @@ delete_text Entry = codes "DELETE FROM entry WHERE edition = ?1"
 delete_text Word = codes "DELETE FROM word WHERE edition = ?1"
 delete_text Gram = codes "DELETE FROM gram WHERE edition = ?1"
 
+-- those go that are below a bound in the second column of the table's key
+abbrev pub delete_below_text : KeyedTable → List ℕ
+delete_below_text Entry = codes "DELETE FROM entry WHERE edition = ?1 AND ord < ?2"
+delete_below_text Word = codes "DELETE FROM word WHERE edition = ?1 AND word < ?2"
+delete_below_text Gram = codes "DELETE FROM gram WHERE edition = ?1 AND gram < ?2"
+
 -- all rows, in the order of the table's key
 abbrev pub list_text : KeyedTable → List ℕ
 list_text Entry = codes "SELECT rowid, * FROM entry ORDER BY 2, 3"

@@ -15,7 +15,10 @@ mod scan;
 
 pub use count::count_rows;
 pub use create::{create_keyed_table, create_keyed_tables};
-pub use delete::{delete_grams, delete_keyed_entries, delete_words};
+pub use delete::{
+    delete_entries_below, delete_grams, delete_grams_below, delete_keyed_entries, delete_words,
+    delete_words_below,
+};
 pub use drop::drop_keyed_table;
 pub use found::has_keyed_table;
 pub use indexes::{create_key_index, has_key_index};

@@ -19,6 +19,7 @@ pub(crate) enum Part {
     WithoutKeys,
     OtherIndexes,
     Dropped,
+    Below,
     Old,
 }
 
@@ -78,6 +79,7 @@ fn run<S: Alter>(
         (Part::WithoutKeys, false) => keyed::inside::run(rt, alloc, conn),
         (Part::OtherIndexes, false) => keyed::indexes::others(rt, conn),
         (Part::Dropped, false) => keyed::drops::run(rt, conn),
+        (Part::Below, false) => keyed::below::run(rt, conn),
         (Part::Old, false) => keyed::old::run(rt, alloc, conn),
         (_, true) => Ok(()),
     }
@@ -144,12 +146,13 @@ fn over_files<D: Disk + Drop>(
     Ok(())
 }
 
-static PARTS: [Part; 6] = [
+static PARTS: [Part; 7] = [
     Part::Plain,
     Part::Keyed,
     Part::WithoutKeys,
     Part::OtherIndexes,
     Part::Dropped,
+    Part::Below,
     Part::Old,
 ];
 

@@ -7,6 +7,7 @@ use std::alloc::Global;
 use std::process::Abort;
 use std::test::Fail;
 
+pub(crate) mod below;
 pub(crate) mod drops;
 pub(crate) mod indexes;
 pub(crate) mod inside;

@@ -1,6 +1,6 @@
 use Rattle.std.proofs.Common.{arith, sym, string_bytes, ◌≤◌, length, subst, inl, inr}
 use Rattle.dict_catalogue.specs.Views.{kept_shown}
-use Rattle.dict_commands.proofs.KeptLemmas.{kept_told, none_told, first_told, reply_told}
+use Rattle.dict_commands.proofs.KeptLemmas.{kept_alone, holds_replies, none_told, first_told, reply_told}
 use Rattle.sqlite.specs.Held.{state}
 use Rattle.dict_sql.specs.Effects.{equals_text}
 use Rattle.dict_file.specs.Faults.{FailsToLookUp}
@@ -9,17 +9,23 @@ use Rattle.dict_file.proofs.FailLemmas.{refused_memory}
 use Rattle.dict_commands.proofs.replies.kept_reply.Goals as goal
 use Rattle.dict_rows.specs.Versions.{known}
 
-pub returns-in_default-clause-value : goal.returns-in_default-clause-value
-returns-in_default-clause-value g c = λ clean version M h.
+pub returns-in_default-clause-alone : goal.returns-in_default-clause-alone
+returns-in_default-clause-alone g c = λ clean kept h.
     let few : length c.deref.result.now ≤ 0 = grind arith in
-    sym (none_told c.args.id.now M.kept c.in-Ok.rows.items (rw c.deref.ensures.value at few) (kept_told c.args.id.now version _ M c.in-Ok.rows.items h (c.in-Ok.ensures.selected clean).0))
+    sym (none_told c.args.id.now kept c.in-Ok.rows.items (rw c.deref.ensures.value at few) (kept_alone c.args.id.now _ kept c.in-Ok.rows.items h (c.in-Ok.ensures.selected clean).0))
+
+pub returns-in_default-clause-value : goal.returns-in_default-clause-value
+returns-in_default-clause-value g c = λ clean version M h. returns-in_default-clause-alone g c clean M.kept (holds_replies version _ M h)
+
+pub returns-in-Some-2-clause-alone : goal.returns-in-Some-2-clause-alone
+returns-in-Some-2-clause-alone g c = λ clean kept h.
+    let row = c.in-Some.row.now in
+    let all = kept_alone c.args.id.now _ kept c.in-Ok.rows.items h (c.in-Ok.ensures.selected clean).0 in
+    let one = first_told c.args.id.now kept c.in-Ok.rows.items row (rw c.deref.ensures.value at (c.in-Some.ensures.item.3.0)) (rw c.deref.ensures.value at (c.in-Some.ensures.item.1)) all in
+    reply_told c.args.id.now kept row.value one.0 (record { id = string_bytes row.value.id; reply = kept_shown c.in-Some-2.reply }) (rw c.in-Some-2.is at c.in_ok-reply.ensures.told) one.1 one.2
 
 pub returns-in-Some-2-clause-value : goal.returns-in-Some-2-clause-value
-returns-in-Some-2-clause-value g c = λ clean version M h.
-    let row = c.in-Some.row.now in
-    let all = kept_told c.args.id.now version _ M c.in-Ok.rows.items h (c.in-Ok.ensures.selected clean).0 in
-    let one = first_told c.args.id.now M.kept c.in-Ok.rows.items row (rw c.deref.ensures.value at (c.in-Some.ensures.item.3.0)) (rw c.deref.ensures.value at (c.in-Some.ensures.item.1)) all in
-    reply_told c.args.id.now M.kept row.value one.0 (record { id = string_bytes row.value.id; reply = kept_shown c.in-Some-2.reply }) (rw c.in-Some-2.is at c.in_ok-reply.ensures.told) one.1 one.2
+returns-in-Some-2-clause-value g c = λ clean version M h. returns-in-Some-2-clause-alone g c clean M.kept (holds_replies version _ M h)
 
 pub returns-in-Err-clause-failed : goal.returns-in-Err-clause-failed
 returns-in-Err-clause-failed g c clean =
@@ -40,7 +46,7 @@ returns-clause-failed g c clean =
     inl (
       (c.in-Ok.ensures.selected clean).1,
       inr (λ M holds.
-          let all = kept_told c.args.id.now known _ M c.in-Ok.rows.items holds (c.in-Ok.ensures.selected clean).0 in
+          let all = kept_alone c.args.id.now _ M.kept c.in-Ok.rows.items (holds_replies known _ M holds) (c.in-Ok.ensures.selected clean).0 in
           let one = first_told c.args.id.now M.kept c.in-Ok.rows.items row (rw c.deref.ensures.value at (c.in-Some.ensures.item.3.0)) (rw c.deref.ensures.value at (c.in-Some.ensures.item.1)) all in
           (rw c.in-None.is at c.in_ok-reply.ensures.none) one.0 one.1),
     )
