@@ -1,3 +1,4 @@
+pub mod CountedLemmas
 pub mod FailLemmas
 pub mod FiledLemmas
 pub mod FoundLemmas

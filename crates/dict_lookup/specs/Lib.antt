@@ -1,4 +1,5 @@
 pub mod Searches
 pub mod Texts
 pub mod Handed
+pub mod Counts
 pub mod CountLemmas

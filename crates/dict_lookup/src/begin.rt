@@ -1,5 +1,5 @@
 // The reading of the entries that a query looks at begins.
-ghost use Rattle.std.specs.Prelude.{◌≡◌, false, ℕ, [], IfOk};
+ghost use Rattle.std.specs.Prelude.{◌≡◌, false, ℕ, [], IfOk, IfErr, IsErr, OnOk};
 ghost use Rattle.std.specs.Borrow.{sem, RestsIfErr};
 ghost use Rattle.sqlite.specs.State.{HasCleanDisk, IsUnchanged, Survives};
 ghost use Rattle.sqlite.specs.Held.{state};
@@ -61,5 +61,21 @@ pub(crate) fn refused_first<S: Alter>(conn: &mut Connection<S>) -> Fault
     match begin(conn, 0, &Selection::Nothing) {
         Ok(_rows) => Fault::Memory,
         Err(error) => fault_of_read(ReadError::Store(error)),
+    }
+}
+
+// Whether the store gives anything, which is told where nothing has to be read of it: a statement begins that finds nothing.
+pub(crate) fn wake<S: Alter>(conn: &mut Connection<S>) -> Result<(), Fault>
+    requires { WhileOpen (state S.Store conn.old) HasTables }
+    ensures same { HasCleanDisk (state S.Store conn.new) → OnOk result (IsUnchanged (state S.Store conn.old) (state S.Store conn.new)) }
+    ensures failed { HasCleanDisk (state S.Store conn.new) → IfErr result (λ fault. (number : ℕ) → FailsToLookUp number (state S.Store conn.old) (state S.Store conn.new) fault) }
+    ensures shut { HasCleanDisk (state S.Store conn.new) → (state S.Store conn.old).is_open ≡ false → IsErr result }
+    ensures kinds { IfErr result IsOfStore }
+    ensures mode { conn.old.in_transaction ≡ false → conn.new.in_transaction ≡ false }
+    ensures survives { Survives (state S.Store conn.old) (state S.Store conn.new) (λ _. ⊥) }
+{
+    match begin(conn, 0, &Selection::Nothing) {
+        Ok(_rows) => Ok(()),
+        Err(error) => Err(fault_of_read(ReadError::Store(error))),
     }
 }

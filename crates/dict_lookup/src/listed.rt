@@ -6,6 +6,7 @@ ghost use Rattle.dict_desk.specs.Shown.{Row as ShownRow};
 ghost use Rattle.dict_derived.specs.Entries.{Filed};
 ghost use Rattle.dict_desk.specs.Handing.{Hands};
 ghost use Rattle.dict_lookup.specs.Searches.{IsReading, IsToCome, FailsToLookUp, IsOfStore};
+ghost use Rattle.dict_lookup.specs.Counts.{kept_rows};
 ghost use Rattle.dict_lookup.specs.Handed.{shown_found, rows_listed, rows_new, headword_row, owned_filed, HasTexts};
 
 use crate::entries::next_entry;
@@ -90,4 +91,21 @@ pub(crate) fn hand_listed<S: Alter, T: RowSink>(
         }
     }
     Err(Fault::Disk)
+}
+
+// Hands out texts that are kept.
+pub(crate) fn hand_kept<T: RowSink>(shown: &[String], sink: &mut T) -> End
+    ensures all { result ≡ End.All → T.takes sink.old (kept_rows shown.now) sink.new }
+    ensures stopped { result ≡ End.Stopped → T.stops sink.old (kept_rows shown.now) sink.new }
+{
+    for text in shown {
+        let turn = sink.take(Row {
+            shown: text.as_str(),
+            text: b"",
+        });
+        if let Turn::Stop = turn {
+            return End::Stopped;
+        }
+    }
+    End::All
 }

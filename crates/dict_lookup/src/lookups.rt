@@ -1,6 +1,7 @@
 // What is asked of an edition by its number.
 ghost use Rattle.std.specs.Prelude.{◌≡◌, ◌≤◌, length, false, List, IfOk, IfErr, IsErr, OnOk};
 ghost use Rattle.dict_lookup.specs.Texts.{AreTextsOf, AreMade, MayKeep};
+ghost use Rattle.dict_lookup.specs.Counts.{AreHeadsOf, size_of_all, most_counted};
 ghost use Rattle.sqlite.specs.State.{HasCleanDisk, IsUnchanged, Survives};
 ghost use Rattle.sqlite.specs.Held.{state};
 ghost use Rattle.dict_sql.specs.Effects.{WhileOpen};
@@ -10,11 +11,12 @@ ghost use Rattle.dict_desk.specs.Shown.{Row as ShownRow, found_rows, headword_ro
 ghost use Rattle.dict_desk.specs.Handing.{Hands};
 ghost use Rattle.dict_lookup.specs.Searches.{HasTables, HoldsOne, IsReadable, FailsToLookUp, IsOfStore, column_of};
 
-use crate::begin::{begin, refused_first};
-use crate::counter::Counter;
+use crate::begin::{begin, refused_first, wake};
+use crate::counted::Counted;
+use crate::counting::{count_entries, count_heads};
 use crate::fault::fault_of_read;
 use crate::found::hand_found;
-use crate::listed::hand_listed;
+use crate::listed::{hand_kept, hand_listed};
 use crate::record::{column_number, edition_of_number, info_of_number};
 use dict_derived::select;
 use dict_desk::{End, Fault, Row, RowSink, Turn, What};
@@ -35,7 +37,7 @@ fn keep(texts: &mut Texts, installs: u64, number: u64, text: Vec<u8>)
 }
 
 // Hands out those of the edition's entries that the query finds, cut from this text.
-fn find_in<S: Alter, T: RowSink>(
+pub(crate) fn find_in<S: Alter, T: RowSink>(
     alloc: Global,
     conn: &mut Connection<S>,
     number: u64,
@@ -104,7 +106,7 @@ fn find_and_keep<S: Alter, T: RowSink>(
 }
 
 // Hands out those of the edition's headwords that the query finds, each once.
-fn heads_in<S: Alter, T: RowSink>(
+pub(crate) fn heads_in<S: Alter, T: RowSink>(
     alloc: Global,
     conn: &mut Connection<S>,
     number: u64,
@@ -224,14 +226,15 @@ pub fn find<S: Alter, T: RowSink>(
 }
 
 /// Hands the headwords shown of the entries that the query finds by the strategy to the sink, each once, in the order in which
-/// they first stand among these, as rows with the empty text, and counts the rows that its statement hands over. Of a
-/// number that no edition has nothing is told.
+/// they first stand among these, as rows with the empty text. They are those that a count of the same has kept, where they are
+/// kept; else they are read, and the rows that the statement hands over are counted. Of a number that no edition has nothing is told.
 ///
 /// `Memory` tells that a growth was refused, `Disk` that the store failed, or that the limit on steps was met. The database
 /// stays as it is.
 pub fn heads<S: Alter, T: RowSink>(
     alloc: Global,
     conn: &mut Connection<S>,
+    counted: &Counted,
     number: u64,
     strategy: Strategy,
     query: &Key,
@@ -239,7 +242,7 @@ pub fn heads<S: Alter, T: RowSink>(
     rows_taken: &mut u64,
 ) -> Result<End, Fault>
     requires { WhileOpen (state S.Store conn.old) HasTables }
-    ensures value { HasCleanDisk (state S.Store conn.new) → (reading : ReadEdition) → HoldsOne (state S.Store conn.old).now number reading → Hands T.takes T.stops sink.old sink.new (headword_rows strategy query.now (edition_of reading)) result }
+    ensures value { HasCleanDisk (state S.Store conn.new) → AreHeadsOf (state S.Store conn.old).now counted.now → (reading : ReadEdition) → HoldsOne (state S.Store conn.old).now number reading → Hands T.takes T.stops sink.old sink.new (headword_rows strategy query.now (edition_of reading)) result }
     ensures handed { (rows : List ShownRow) × Hands T.takes T.stops sink.old sink.new rows result }
     ensures same { HasCleanDisk (state S.Store conn.new) → OnOk result (IsUnchanged (state S.Store conn.old) (state S.Store conn.new)) }
     ensures failed { HasCleanDisk (state S.Store conn.new) → IfErr result (FailsToLookUp (column_of number) (state S.Store conn.old) (state S.Store conn.new)) }
@@ -248,17 +251,25 @@ pub fn heads<S: Alter, T: RowSink>(
     ensures mode { conn.old.in_transaction ≡ false → conn.new.in_transaction ≡ false }
     ensures survives { Survives (state S.Store conn.old) (state S.Store conn.new) (λ _. ⊥) }
 {
+    if let Some(shown) = counted.shown(number, strategy, query) {
+        wake(conn)?;
+        return Ok(hand_kept(shown, sink));
+    }
     heads_in(alloc, conn, number, strategy, query, sink, rows_taken)
 }
 
 /// How many entries of the edition the query finds by the strategy, or how many headwords are shown of them. It counts the rows
 /// that its statement hands over. Of a number that no edition has nothing is told.
 ///
+/// The headwords are kept from then on, as far as there is room and memory: those of the last strategy and query, so that neither
+/// `heads` nor `count` reads what is kept again. What is kept of a question is what is shown of all that it finds.
+///
 /// `Memory` tells that a growth was refused, `Disk` that the store failed, or that the limit on steps was met. The database
 /// stays as it is.
 pub fn count<S: Alter>(
     alloc: Global,
     conn: &mut Connection<S>,
+    counted: &mut Counted,
     number: u64,
     strategy: Strategy,
     query: &Key,
@@ -266,37 +277,19 @@ pub fn count<S: Alter>(
     rows_taken: &mut u64,
 ) -> Result<u64, Fault>
     requires { WhileOpen (state S.Store conn.old) HasTables }
-    ensures value { HasCleanDisk (state S.Store conn.new) → (reading : ReadEdition) → HoldsOne (state S.Store conn.old).now number reading → IfOk result (λ count. count ≡ count_of what strategy query.now (edition_of reading)) }
+    ensures value { HasCleanDisk (state S.Store conn.new) → AreHeadsOf (state S.Store conn.old).now counted.old → (reading : ReadEdition) → HoldsOne (state S.Store conn.old).now number reading → IfOk result (λ count. count ≡ count_of what strategy query.now (edition_of reading)) }
+    ensures counted { HasCleanDisk (state S.Store conn.new) → AreHeadsOf (state S.Store conn.old).now counted.old → AreHeadsOf (state S.Store conn.old).now counted.new }
+    ensures few { size_of_all counted.old ≤ most_counted → size_of_all counted.new ≤ most_counted }
     ensures same { HasCleanDisk (state S.Store conn.new) → OnOk result (IsUnchanged (state S.Store conn.old) (state S.Store conn.new)) }
     ensures failed { HasCleanDisk (state S.Store conn.new) → IfErr result (FailsToLookUp (column_of number) (state S.Store conn.old) (state S.Store conn.new)) }
     ensures kinds { IfErr result IsOfStore }
     ensures mode { conn.old.in_transaction ≡ false → conn.new.in_transaction ≡ false }
     ensures survives { Survives (state S.Store conn.old) (state S.Store conn.new) (λ _. ⊥) }
 {
-    let mut counter = Counter { count: 0 };
-    let end = match what {
-        What::Entries => find_in(
-            alloc,
-            conn,
-            number,
-            b"",
-            strategy,
-            query,
-            &mut counter,
-            rows_taken,
-        )?,
-        What::Headwords => heads_in(
-            alloc,
-            conn,
-            number,
-            strategy,
-            query,
-            &mut counter,
-            rows_taken,
-        )?,
-    };
-    match end {
-        End::All => Ok(counter.count),
-        End::Stopped => Err(Fault::Disk),
+    match what {
+        What::Entries => count_entries(alloc, conn, number, strategy, query, rows_taken),
+        What::Headwords => {
+            count_heads(alloc, conn, counted, number, strategy, query, rows_taken)
+        }
     }
 }
