@@ -4,14 +4,17 @@ use Rattle.std.specs.Prelude.{Option, Some, None, Ok, Err, option_map, vec_len}
 use Rattle.std.specs.IoError.{error_kind}
 use Rattle.std.specs.declared.io.Error.{Error}
 use Rattle.dict_hub.specs.Runs.{Accepted}
+use Rattle.dict_hub.specs.Hubs.{Has}
+use Rattle.dict_hub.specs.declared.fault.HubFault.{HubFault}
+use Rattle.dict_hub.specs.declared.hub.Hub.{Hub}
 use Rattle.dict_hub.specs.declared.kind.Kind.{Kind}
 use Rattle.dict_hub.specs.declared.kind.Kind.TheVariants.{Dict, Http}
 use Rattle.dict_outlet.specs.declared.transport.Transport as transport
-use Rattle.dict_driver.specs.Accepting.{Accepts, AcceptsOne, IsFull, Takes}
+use Rattle.dict_driver.specs.Accepting.{Accepts, AcceptsOne, Takes}
 use Rattle.dict_driver.specs.Asking.{Asking, Asks, accepts, watches}
 use Rattle.dict_driver.specs.Listening.{is_ready, listening_by, may_accept}
 use Rattle.dict_driver.specs.Looking.{listening_of}
-use Rattle.dict_driver.specs.Rounds.{Admits}
+use Rattle.dict_driver.specs.Rounds.{Admits, IsFull}
 use Rattle.dict_driver.specs.declared.connections.Connections.{Connections}
 use Rattle.dict_driver.specs.declared.event_loop.EventLoop.{EventLoop}
 use Rattle.dict_driver.specs.declared.listening.Listening.{Listening}
@@ -40,59 +43,70 @@ ready_by Quiet false is so = refl
 ready_by Failed true is so = let never : Failed ≡ Ready = is refl in cc
 ready_by Failed false is so = refl
 
-module _ {T : Type 0} {G : transport.Ghosts T} where
+module _ {T : Type 0} {G : transport.Ghosts T} (refuses : Hub → ℕ → Kind → Option HubFault → Type 0) where
   -- a socket that isn't asked
-  pub accepts_not : (kind : Kind) (before : Listening) (all : Connections T G) → may_accept before ≡ false → Accepts kind before before all all [] []
-  accepts_not kind Ready all isnt = absurd (let never : true ≡ false = isnt in cc)
-  accepts_not kind Quiet all isnt = (refl, refl, refl, refl)
-  accepts_not kind Failed all isnt = absurd (let never : true ≡ false = isnt in cc)
+  pub accepts_not : (kind : Kind) (before : Listening) (hub : Hub) (all : Connections T G) → may_accept before ≡ false → Accepts refuses kind before before hub hub all all [] []
+  accepts_not kind Ready hub all isnt = absurd (let never : true ≡ false = isnt in cc)
+  accepts_not kind Quiet hub all isnt = (refl, refl, refl, refl, λ other held has. has)
+  accepts_not kind Failed hub all isnt = absurd (let never : true ≡ false = isnt in cc)
 
-  accepts_one : (kind : Kind) (before after : Listening) (old new : Connections T G) (calls : List (Asking T)) (events : List Accepted) → may_accept before ≡ true
-      → AcceptsOne kind after old new calls events → Accepts kind before after old new calls events
-  accepts_one kind Ready after old new calls events may one = one
-  accepts_one kind Quiet after old new calls events may one = absurd (let never : true ≡ false = sym may in cc)
-  accepts_one kind Failed after old new calls events may one = one
+  accepts_one : (kind : Kind) (before after : Listening) (from to : Hub) (old new : Connections T G) (calls : List (Asking T)) (events : List Accepted) → may_accept before ≡ true
+      → AcceptsOne refuses kind after from to old new calls events → Accepts refuses kind before after from to old new calls events
+  accepts_one kind Ready after from to old new calls events may one = one
+  accepts_one kind Quiet after from to old new calls events may one = absurd (let never : true ≡ false = sym may in cc)
+  accepts_one kind Failed after from to old new calls events may one = one
 
   -- one that was asked, and gave a connection
-  pub accepted_one : (kind : Kind) (before after : Listening) (transport : T) (a b c : Option (List (Asking T))) (old between new : Connections T G) (events : List Accepted) → may_accept before ≡ true → after ≡ Ready
-      → between ≡ old → Asks a b (accepts kind (Ok transport) ∷ []) → (calls : List (Asking T)) × Asks b c calls × Takes transport kind between new calls events
-      → (calls : List (Asking T)) × Asks a c calls × Accepts kind before after old new calls events
-  accepted_one kind before after transport a b c old between new events may ready same asked (calls, more, takes) = (
+  pub accepted_one : (kind : Kind) (before after : Listening) (transport : T) (a b c : Option (List (Asking T))) (from by to : Hub) (old between new : Connections T G) (events : List Accepted) → may_accept before ≡ true
+      → after ≡ Ready → by ≡ from → between ≡ old → Asks a b (accepts kind (Ok transport) ∷ []) → (calls : List (Asking T)) × Asks b c calls × Takes refuses transport kind by to between new calls events
+      → (calls : List (Asking T)) × Asks a c calls × Accepts refuses kind before after from to old new calls events
+  accepted_one kind before after transport a b c from by to old between new events may ready still same asked (calls, more, takes) = (
     accepts kind (Ok transport) ∷ calls,
     asks_joined a b c (accepts kind (Ok transport) ∷ []) calls asked more,
-    accepts_one kind before after old new (accepts kind (Ok transport) ∷ calls) events may
-        (Ok transport, calls, refl, (ready, subst (λ (all : Connections T G). Takes transport kind all new calls events) same takes)),
+    accepts_one kind before after from to old new (accepts kind (Ok transport) ∷ calls) events may (
+      Ok transport,
+      calls,
+      refl,
+      (
+        ready,
+        subst (λ (h : Hub). Takes refuses transport kind h to old new calls events) still
+            (subst (λ (all : Connections T G). Takes refuses transport kind by to all new calls events) same takes),
+      ),
+    ),
   )
 
   -- and that gave an error
-  pub accepted_none : (kind : Kind) (before after : Listening) (error : Error) (a b : Option (List (Asking T))) (old new : Connections T G) → may_accept before ≡ true
-      → after ≡ listening_by (error_kind error) → new ≡ old → Asks a b (accepts kind (Err error) ∷ []) → (calls : List (Asking T)) × Asks a b calls × Accepts kind before after old new calls []
-  accepted_none kind before after error a b old new may after_is same asked = (
+  pub accepted_none : (kind : Kind) (before after : Listening) (error : Error) (a b : Option (List (Asking T))) (from to : Hub) (old new : Connections T G) → may_accept before ≡ true
+      → after ≡ listening_by (error_kind error) → to ≡ from → new ≡ old → Asks a b (accepts kind (Err error) ∷ [])
+      → (calls : List (Asking T)) × Asks a b calls × Accepts refuses kind before after from to old new calls []
+  accepted_none kind before after error a b from to old new may after_is still same asked = (
     accepts kind (Err error) ∷ [],
     asked,
-    accepts_one kind before after old new (accepts kind (Err error) ∷ []) [] may (Err error, [], refl, (after_is, refl, same, refl)),
+    accepts_one kind before after from to old new (accepts kind (Err error) ∷ []) [] may
+        (Err error, [], refl, (after_is, refl, same, refl, λ other held has. subst (λ (h : Hub). Has h other held) (sym still) has)),
   )
 
   -- there was no place for a connection
-  pub taken_not : (transport : T) (kind : Kind) (a : Option (List (Asking T))) (all : Connections T G) → IsFull all → (calls : List (Asking T)) × Asks a a calls × Takes transport kind all all calls []
-  taken_not transport kind a all full = ([], asks_none a, inl (full, refl, refl, refl))
+  pub taken_not : (transport : T) (kind : Kind) (a : Option (List (Asking T))) (hub : Hub) (all : Connections T G) → IsFull all → (calls : List (Asking T)) × Asks a a calls × Takes refuses transport kind hub hub all all calls []
+  taken_not transport kind a hub all full = ([], asks_none a, inl (full, refl, refl, refl, λ other held has. has))
 
   -- looks can't tell of it
-  pub taken_unwatched : (transport : T) (kind : Kind) (a b : Option (List (Asking T))) (all : Connections T G) (id : ℕ) (watched : Bool) → id ≡ all.last + 1 → vec_len all.opened < 64 → watched ≡ false
-      → Asks a b (watches id watched ∷ []) → (calls : List (Asking T)) × Asks a b calls × Takes transport kind all all calls []
-  taken_unwatched transport kind a b all id watched next room isnt asked = (
+  pub taken_unwatched : (transport : T) (kind : Kind) (a b : Option (List (Asking T))) (hub : Hub) (all : Connections T G) (id : ℕ) (watched : Bool) → id ≡ all.last + 1 → vec_len all.opened < 64 → watched ≡ false
+      → Asks a b (watches id watched ∷ []) → (calls : List (Asking T)) × Asks a b calls × Takes refuses transport kind hub hub all all calls []
+  taken_unwatched transport kind a b hub all id watched next room isnt asked = (
     watches id watched ∷ [],
     asked,
-    inr (room, inl (ap (λ (w : Bool). watches id w ∷ []) isnt ∙ ap (λ (i : ℕ). watches i false ∷ []) next, refl, refl)),
+    inr (room, inl (ap (λ (w : Bool). watches id w ∷ []) isnt ∙ ap (λ (i : ℕ). watches i false ∷ []) next, refl, refl, λ other held has. has)),
   )
 
   -- they do
-  pub taken_watched : (transport watched_one : T) (kind : Kind) (a b : Option (List (Asking T))) (old new : Connections T G) (id : ℕ) (watched : Bool) (events : List Accepted) → id ≡ old.last + 1 → vec_len old.opened < 64 → watched ≡ true
-      → watched_one ≡ transport → Asks a b (watches id watched ∷ []) → Admits watched_one kind old new events → (calls : List (Asking T)) × Asks a b calls × Takes transport kind old new calls events
-  taken_watched transport watched_one kind a b old new id watched events next room is same asked admits = (
+  pub taken_watched : (transport watched_one : T) (kind : Kind) (a b : Option (List (Asking T))) (from to : Hub) (old new : Connections T G) (id : ℕ) (watched : Bool) (events : List Accepted) → id ≡ old.last + 1
+      → vec_len old.opened < 64 → watched ≡ true → watched_one ≡ transport → Asks a b (watches id watched ∷ []) → Admits refuses watched_one kind from to old new events
+      → (calls : List (Asking T)) × Asks a b calls × Takes refuses transport kind from to old new calls events
+  taken_watched transport watched_one kind a b from to old new id watched events next room is same asked admits = (
     watches id watched ∷ [],
     asked,
-    inr (room, inr (ap (λ (w : Bool). watches id w ∷ []) is ∙ ap (λ (i : ℕ). watches i true ∷ []) next, subst (λ (t : T). Admits t kind old new events) same admits)),
+    inr (room, inr (ap (λ (w : Bool). watches id w ∷ []) is ∙ ap (λ (i : ℕ). watches i true ∷ []) next, subst (λ (t : T). Admits refuses t kind from to old new events) same admits)),
   )
 
 module _ {T S : Type 0} {G : transport.Ghosts T} where

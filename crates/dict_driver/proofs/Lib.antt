@@ -11,3 +11,4 @@ pub mod SettleLemmas
 pub mod LookLemmas
 pub mod AcceptLemmas
 pub mod LoopLemmas
+pub mod ServedLemmas

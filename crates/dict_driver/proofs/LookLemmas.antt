@@ -12,11 +12,11 @@ use Rattle.dict_driver.specs.declared.event_loop.EventLoop.{EventLoop}
 use Rattle.dict_driver.proofs.BoolLemmas.{or_assoc, or_false, or_swap, or_true}
 use Rattle.dict_driver.proofs.RoundLemmas.{moves_marked, moves_same}
 
-module _ {T S : Type 0} {G : transport.Ghosts T} {asked : S → Option (List (Asking T))} (told : List ℕ) (result : Result (Unit {0}) Error) (a b : EventLoop T S G) where
-  pub waits_looked : Looks asked told result a b → (id : ℕ) (octets : List ℕ) → Waits b.connections id octets → Waits a.connections id octets
+module _ {T S : Type 0} {G : transport.Ghosts T} {asked : S → Option (List (Asking T))} {most : ℕ} (told : List ℕ) (result : Result (Unit {0}) Error) (a b : EventLoop T S G) where
+  pub waits_looked : Looks asked most told result a b → (id : ℕ) (octets : List ℕ) → Waits b.connections id octets → Waits a.connections id octets
   waits_looked looks = moves_marked (tells told) a.connections b.connections looks.opened looks.departing
 
-  pub moves_looked : Looks asked told result a b → Moves a.connections b.connections []
+  pub moves_looked : Looks asked most told result a b → Moves a.connections b.connections []
   moves_looked looks = moves_same a.connections b.connections looks.last (waits_looked looks)
 
 -- one more

@@ -3,21 +3,25 @@ use Rattle.std.proofs.Common.{◌≡◌, ℕ, Bool, true, List, [], ◌∷◌, �
 use Rattle.std.specs.Prelude.{Option, Result, ◌||◌, is_ok}
 use Rattle.std.specs.declared.io.Error.{Error}
 use Rattle.dict_hub.specs.Runs.{Accepted}
+use Rattle.dict_hub.specs.declared.fault.HubFault.{HubFault}
+use Rattle.dict_hub.specs.declared.hub.Hub.{Hub}
+use Rattle.dict_hub.specs.declared.kind.Kind.{Kind}
 use Rattle.dict_hub.specs.declared.kind.Kind.TheVariants.{Dict, Http}
 use Rattle.dict_outlet.specs.Calls.{Call}
 use Rattle.dict_outlet.specs.declared.transport.Transport as transport
 use Rattle.dict_driver.specs.Accepting.{Accepts, HasAccepted}
 use Rattle.dict_driver.specs.Asking.{Asking, Asks, looks}
 use Rattle.dict_driver.specs.EventLoops.{HasRound}
-use Rattle.dict_driver.specs.Listening.{is_ready}
-use Rattle.dict_driver.specs.Looking.{Looks}
+use Rattle.dict_driver.specs.Listening.{is_ready, listening_told}
+use Rattle.dict_driver.specs.Looking.{Looks, tells}
 use Rattle.dict_driver.specs.Ordering.{IsOpeningOf}
 use Rattle.dict_driver.specs.Rounds.{TurnEach}
+use Rattle.dict_driver.specs.Turning.{KeepsAllBut}
 use Rattle.dict_driver.specs.declared.event_loop.EventLoop.{EventLoop}
 use Rattle.dict_driver.specs.declared.listening.Listening.{Listening}
 use Rattle.dict_driver.proofs.AcceptLemmas.{asks_joined}
 
-module _ {T S : Type 0} {G : transport.Ghosts T} (asked : S → Option (List (Asking T))) where
+module _ {T S : Type 0} {G : transport.Ghosts T} (refuses : Hub → ℕ → Kind → Option HubFault → Type 0) (asked : S → Option (List (Asking T))) where
   -- the listening sockets were asked, that for readers first
   pub record AreTaken (looked with_reader with_editor : EventLoop T S G) (events : List Accepted) : Type 0 where
     pub readers : List Accepted
@@ -25,15 +29,15 @@ module _ {T S : Type 0} {G : transport.Ghosts T} (asked : S → Option (List (As
     pub whole : events ≡ readers ++ editors
     pub dict : IsOpeningOf Dict readers
     pub http : IsOpeningOf Http editors
-    pub by_dict : HasAccepted asked Dict looked with_reader readers
-    pub by_http : HasAccepted asked Http with_reader with_editor editors
+    pub by_dict : HasAccepted refuses asked Dict looked with_reader readers
+    pub by_http : HasAccepted refuses asked Http with_reader with_editor editors
 
   -- what a look, two listening sockets and the turns come to
   pub round_made : (taken coming : T → Option (List ℕ)) (made : T → Option (List Call)) (told : List ℕ) (result : Result (Unit {0}) Error) (a b c d e : EventLoop T S G) (moved turned : Bool) (es fs : List Accepted)
-      → is_ok result ≡ true → Looks asked told result a b → AreTaken b c d es → TurnEach taken coming made d.connections e.connections turned fs → e.sockets ≡ d.sockets
+      → is_ok result ≡ true → Looks asked 0 told result a b → AreTaken b c d es → TurnEach taken coming made d.hub d.connections e.connections turned fs → KeepsAllBut d.connections.opened.items d.hub e.hub → e.sockets ≡ d.sockets
       → e.dict_listening ≡ c.dict_listening → e.http_listening ≡ d.http_listening → c.http_listening ≡ b.http_listening
-      → moved ≡ (is_ready c.dict_listening || (is_ready d.http_listening || turned)) → HasRound taken coming made asked a e moved (es ++ fs)
-  round_made taken coming made told result a b c d e moved turned es fs well looked taken_two turn sockets_same dict http other is =
+      → moved ≡ (is_ready c.dict_listening || (is_ready d.http_listening || turned)) → HasRound taken coming made refuses asked a e moved (es ++ fs)
+  round_made taken coming made told result a b c d e moved turned es fs well looked taken_two turn others sockets_same dict http other is =
       let calls_dict = taken_two.by_dict.0 in
       let calls_http = taken_two.by_http.0 in
       record {
@@ -45,20 +49,24 @@ module _ {T S : Type 0} {G : transport.Ghosts T} (asked : S → Option (List (As
         with_reader = c.connections;
         by_dict = calls_dict;
         readers = taken_two.readers;
-        dict = subst (λ (l : Listening). Accepts Dict l e.dict_listening b.connections c.connections calls_dict taken_two.readers) looked.dict
-            (subst (λ (l : Listening). Accepts Dict b.dict_listening l b.connections c.connections calls_dict taken_two.readers) (sym dict) taken_two.by_dict.2);
+        hub_with_reader = c.hub;
+        dict = subst (λ (h : Hub). Accepts refuses Dict (listening_told (tells told 0) a.dict_listening) e.dict_listening h c.hub b.connections c.connections calls_dict taken_two.readers) looked.hub
+            (subst (λ (l : Listening). Accepts refuses Dict l e.dict_listening b.hub c.hub b.connections c.connections calls_dict taken_two.readers) looked.dict
+            (subst (λ (l : Listening). Accepts refuses Dict b.dict_listening l b.hub c.hub b.connections c.connections calls_dict taken_two.readers) (sym dict) taken_two.by_dict.2));
         with_editor = d.connections;
         by_http = calls_http;
         editors = taken_two.editors;
-        http = subst (λ (l : Listening). Accepts Http l e.http_listening c.connections d.connections calls_http taken_two.editors) (other ∙ looked.http)
-            (subst (λ (l : Listening). Accepts Http c.http_listening l c.connections d.connections calls_http taken_two.editors) (sym http) taken_two.by_http.2);
+        hub_with_editor = d.hub;
+        http = subst (λ (l : Listening). Accepts refuses Http l e.http_listening c.hub d.hub c.connections d.connections calls_http taken_two.editors) (other ∙ looked.http)
+            (subst (λ (l : Listening). Accepts refuses Http c.http_listening l c.hub d.hub c.connections d.connections calls_http taken_two.editors) (sym http) taken_two.by_http.2);
         turned = turned;
         turns = fs;
         turn = turn;
+        others = others;
         whole = ap (λ (l : List Accepted). l ++ fs) taken_two.whole ∙ append_assoc taken_two.readers taken_two.editors fs;
-        calls = subst (λ (s : S). Asks (asked a.sockets) (asked s) ((looks told true ∷ []) ++ (calls_dict ++ calls_http))) (sym sockets_same)
-            (asks_joined (asked a.sockets) (asked b.sockets) (asked d.sockets) ((looks told true ∷ [])) (calls_dict ++ calls_http)
-            (subst (λ (w : Bool). Asks (asked a.sockets) (asked b.sockets) (looks told w ∷ [])) well looked.calls)
+        calls = subst (λ (s : S). Asks (asked a.sockets) (asked s) ((looks 0 told true ∷ []) ++ (calls_dict ++ calls_http))) (sym sockets_same)
+            (asks_joined (asked a.sockets) (asked b.sockets) (asked d.sockets) ((looks 0 told true ∷ [])) (calls_dict ++ calls_http)
+            (subst (λ (w : Bool). Asks (asked a.sockets) (asked b.sockets) (looks 0 told w ∷ [])) well looked.calls)
             (asks_joined (asked b.sockets) (asked c.sockets) (asked d.sockets) calls_dict calls_http taken_two.by_dict.1 taken_two.by_http.1));
         has_moved = is ∙ ap (λ (l : Listening). is_ready l || (is_ready d.http_listening || turned)) (sym dict) ∙ ap (λ (l : Listening). is_ready e.dict_listening || (is_ready l || turned)) (sym http);
       }

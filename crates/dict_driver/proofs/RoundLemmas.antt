@@ -1,12 +1,14 @@
 -- What a round does with the octets that wait.
-use Rattle.std.proofs.Common.{◌≡◌, ◌≢◌, ◌<◌, ◌≤◌, ◌+◌, ℕ, Bool, false, ◌-◌, All, List, [], ◌∷◌, ◌++◌, length, length-set, length-append, get_or, set, ◌||◌, refl, sym, ap, ◌∙◌, subst, inl, inr, arith, append_assoc, append-nil}
-use Rattle.std.specs.Prelude.{Option}
+use Rattle.std.proofs.Common.{◌≡◌, ◌≢◌, ◌<◌, ◌≤◌, ◌+◌, ℕ, Bool, true, false, ◌-◌, All, List, [], ◌∷◌, ◌++◌, length, length-set, length-append, get_or, set, ◌||◌, refl, sym, ap, ◌∙◌, subst, inl, inr, arith, append_assoc, append-nil}
+use Rattle.std.specs.Prelude.{Option, Some}
 use Rattle.std.specs.List.{AllPairs, filter}
 use Rattle.std.proofs.lemmas.Bool.{ne_eqb}
 use Rattle.std.proofs.lemmas.Bool.Decides.{eqb_tells}
 use Rattle.std.proofs.lemmas.List.{get_or-set_other}
 use Rattle.std.proofs.lemmas.Grind.{get_or-set_at}
 use Rattle.dict_hub.specs.Events.{id_of}
+use Rattle.dict_hub.specs.Holding.{Holding}
+use Rattle.dict_hub.specs.Hubs.{Has}
 use Rattle.dict_hub.specs.Runs.{Accepted, events_of}
 use Rattle.dict_hub.specs.declared.hub.Hub.{Hub}
 use Rattle.dict_outlet.specs.Queues.{waiting}
@@ -15,8 +17,14 @@ use Rattle.dict_driver.specs.Events.{AreOf}
 use Rattle.dict_outlet.specs.Calls.{Call}
 use Rattle.dict_driver.specs.Ordering.{AreOfTurns, ComeById, IsOpeningOf}
 use Rattle.dict_hub.specs.declared.kind.Kind.{Kind}
-use Rattle.dict_driver.specs.Turns.{Departs, IsOpened, Turns}
-use Rattle.dict_driver.specs.Turning.{DepartAll, MarkAll, TurnAll, any}
+use Rattle.dict_driver.specs.Handing.{held_in, is_handed}
+use Rattle.dict_driver.specs.Telling.{KeepsOthers}
+use Rattle.dict_driver.specs.Turns.{Departs, IsOpened, LeadsByAnswer, LeadsByReading, LeadsByTurn, LeadsFurther, Turns}
+use Rattle.dict_driver.specs.Turning.{DepartAll, KeepsAllBut, MarkAll, TurnAll, any}
+use Rattle.dict_outlet.specs.declared.calls.Received.{Received}
+use Rattle.dict_outlet.specs.declared.calls.Received.TheVariants as receiveds
+use Rattle.dict_outlet.specs.declared.calls.Sent.{Sent}
+use Rattle.dict_outlet.specs.declared.calls.Sent.TheVariants as sents
 use Rattle.dict_driver.specs.Rounds.{WaitsAmong, Waits, Flows, HasWaited, Moves, TurnEach}
 use Rattle.dict_driver.specs.declared.connection.Connection.{Connection}
 use Rattle.dict_driver.specs.declared.connections.Connections.{Connections}
@@ -67,23 +75,95 @@ below_none id (one ∷ events) (under, below) =
     let differs = ne_eqb id (id_of one.what) (λ same. absurd (omega (arith, under, same))) in
     rw differs (below_none id events below)
 
+-- where one hub has all of a connection that another has, what is said of a turn over the one is so over the other
+answer_kept : {T : Type 0} (from to : Hub) (octets : List ℕ) (old new : Connection T) (events : List Accepted) → ((held : Option Holding) → Has to old.id held → Has from old.id held)
+    → LeadsByAnswer from octets old new events → LeadsByAnswer to octets old new events
+answer_kept from to octets old new events keeps (inl told) = inl told
+answer_kept from to octets old new events keeps (inr (may, ends, over)) = inr ((λ held has. may held (keeps (Some held) has)), ends, over)
+
+reading_kept : {T : Type 0} (from to : Hub) (reading : Received) (octets : List ℕ) (old new : Connection T) (events : List Accepted) → ((held : Option Holding) → Has to old.id held → Has from old.id held)
+    → LeadsByReading from reading octets old new events → LeadsByReading to reading octets old new events
+reading_kept from to receiveds.Nothing octets old new events keeps leads = leads
+reading_kept from to receiveds.Interrupted octets old new events keeps leads = leads
+reading_kept from to (receiveds.Octets count) octets old new events keeps (leads, same) = (answer_kept from to octets old new events keeps leads, same)
+reading_kept from to receiveds.End octets old new events keeps leads = leads
+reading_kept from to receiveds.Failed octets old new events keeps leads = leads
+
+further_kept : {T : Type 0} (whole : Bool) (from to : Hub) (reading : Received) (octets : List ℕ) (old new : Connection T) (events : List Accepted) → ((held : Option Holding) → Has to old.id held → Has from old.id held)
+    → LeadsFurther whole from reading octets old new events → LeadsFurther whole to reading octets old new events
+further_kept true from to reading octets old new events keeps leads = reading_kept from to reading octets old new events keeps leads
+further_kept false from to reading octets old new events keeps (leads, none, same) = (answer_kept from to (held_in old.held) old new events keeps leads, none, same)
+
+leads_kept : {T : Type 0} (from to : Hub) (sending : Sent) (reading : Received) (octets : List ℕ) (old new : Connection T) (events : List Accepted) → ((held : Option Holding) → Has to old.id held → Has from old.id held)
+    → LeadsByTurn from sending reading octets old new events → LeadsByTurn to sending reading octets old new events
+leads_kept from to sents.Failed reading octets old new events keeps leads = leads
+leads_kept from to sents.Nothing reading octets old new events keeps leads = further_kept (is_handed old.held) from to reading octets old new events keeps leads
+leads_kept from to sents.Some reading octets old new events keeps leads = further_kept (is_handed old.held) from to reading octets old new events keeps leads
+
+turn_kept : {T : Type 0} (taken coming : T → Option (List ℕ)) (made : T → Option (List Call)) (from to : Hub) (old new : Connection T) (moved : Bool) (events : List Accepted) → ((held : Option Holding) → Has to old.id held → Has from old.id held)
+    → Turns taken coming made from old new moved events → Turns taken coming made to old new moved events
+turn_kept taken coming made from to old new moved events keeps turns = record {
+  id = turns.id;
+  kind = turns.kind;
+  was_open = turns.was_open;
+  own = turns.own;
+  are_turns = turns.are_turns;
+  sent = turns.sent;
+  takes = turns.takes;
+  put = turns.put;
+  are_put = turns.are_put;
+  order = turns.order;
+  received = turns.received;
+  gives = turns.gives;
+  pieces = turns.pieces;
+  handed = turns.handed;
+  sending = turns.sending;
+  reading = turns.reading;
+  within = turns.within;
+  sendings = turns.sendings;
+  calls = turns.calls;
+  lazy = turns.lazy;
+  idle = turns.idle;
+  unmarked = turns.unmarked;
+  leads = leads_kept from to turns.sending turns.reading turns.received old new events keeps turns.leads;
+  has_moved = turns.has_moved;
+}
+
+-- what a hub has of each connection but those before this place another has
+abbrev pub KeepsFrom : {T : Type 0} → List (Connection T) → ℕ → Hub → Hub → Type 0
+KeepsFrom {T} all i old new = (other : ℕ) (held : Option Holding) → ((k : ℕ) (d : Connection T) → k < i → k < length all → (get_or all k d).id ≢ other) → Has old other held → Has new other held
+
+pub keeps_more : {T : Type 0} (all : List (Connection T)) (i : ℕ) (one : Connection T) (a b c : Hub) → i < length all → ((d : Connection T) → (get_or all i d).id ≡ one.id) → KeepsFrom all i a b
+    → KeepsOthers one.id b c → KeepsFrom all (i + 1) a c
+keeps_more all i one a b c within is before here other held apart has =
+    here other held (λ same. apart i one (omega arith) within (is one ∙ sym same)) (before other held (λ k d under below. apart k d (omega (arith, under)) below) has)
+
+pub keeps_whole : {T : Type 0} (all : List (Connection T)) (i : ℕ) (a b : Hub) → length all ≤ i → KeepsFrom all i a b → KeepsAllBut all a b
+keeps_whole all i a b whole keeps other held apart has = keeps other held (λ k d under within. apart k d within) has
+
+-- a connection from this place on isn't among those before it
+keeps_own : {T : Type 0} (all : List (Connection T)) (i own : ℕ) (a b : Hub) → AllPairs (λ a b. a.id < b.id) all → i < length all → ((d : Connection T) → (get_or all i d).id ≡ own) → KeepsFrom all i a b
+    → (held : Option Holding) → Has a own held → Has b own held
+keeps_own all i own a b rising within is keeps held has =
+    keeps own held (λ k d under below same. (let lt = rising k i d under within in let e = is d in absurd (omega (arith, lt, e, same)))) has
+
 -- the connections before this place had their turns, and the others are as they were
-pub record TurnUpTo {T : Type 0} (taken coming : T → Option (List ℕ)) (made : T → Option (List Call)) (old now : List (Connection T)) (i : ℕ) (moved : Bool) (events : List Accepted) : Type 0 where
+pub record TurnUpTo {T : Type 0} (taken coming : T → Option (List ℕ)) (made : T → Option (List Call)) (hub : Hub) (old now : List (Connection T)) (i : ℕ) (moved : Bool) (events : List Accepted) : Type 0 where
   pub len : length now ≡ length old
   pub moves : List Bool
   pub count : length moves ≡ i
   pub within : i ≤ length old
   pub has_moved : moved ≡ any moves
   pub turns : (k : ℕ) (d : Connection T) → k < i → k < length old
-      → (hub : Hub) × Turns taken coming made hub (get_or old k d) (get_or now k d) (get_or moves k false) (events_of (get_or old k d).id events)
+      → Turns taken coming made hub (get_or old k d) (get_or now k d) (get_or moves k false) (events_of (get_or old k d).id events)
   pub rest : (k : ℕ) (d : Connection T) → i ≤ k → k < length old → get_or now k d ≡ get_or old k d
   pub below : AreBelowFrom old i events
   pub no_other : (id : ℕ) → ((k : ℕ) (d : Connection T) → k < length old → (get_or old k d).id ≢ id) → events_of id events ≡ []
   pub are_turns : AreOfTurns events
   pub by_id : ComeById events
 
-pub turn_none : {T : Type 0} (taken coming : T → Option (List ℕ)) (made : T → Option (List Call)) (all : List (Connection T)) → TurnUpTo taken coming made all all 0 false []
-turn_none taken coming made all = record {
+pub turn_none : {T : Type 0} (taken coming : T → Option (List ℕ)) (made : T → Option (List Call)) (hub : Hub) (all : List (Connection T)) → TurnUpTo taken coming made hub all all 0 false []
+turn_none taken coming made hub all = record {
   len = refl;
   moves = [];
   count = refl;
@@ -98,15 +178,16 @@ turn_none taken coming made all = record {
 }
 
 -- one more connection had its turn
-pub turn_more : {T : Type 0} (taken coming : T → Option (List ℕ)) (made : T → Option (List Call)) (old now : List (Connection T)) (i : ℕ) (one after : Connection T) (before here both : Bool) (es fs : List Accepted)
-    → AllPairs (λ a b. a.id < b.id) old → i < length old → get_or now i one ≡ one → both ≡ before || here → (hub : Hub) × Turns taken coming made hub one after here fs → TurnUpTo taken coming made old now i before es
-    → TurnUpTo taken coming made old (set now i after) (i + 1) both (es ++ fs)
-turn_more {T} taken coming made old now i one after before here both es fs rising within is moved (hub, turns) all =
+pub turn_more : {T : Type 0} (taken coming : T → Option (List ℕ)) (made : T → Option (List Call)) (hub between : Hub) (old now : List (Connection T)) (i : ℕ) (one after : Connection T) (before here both : Bool) (es fs : List Accepted)
+    → AllPairs (λ a b. a.id < b.id) old → i < length old → get_or now i one ≡ one → both ≡ before || here → KeepsFrom old i hub between → Turns taken coming made between one after here fs
+    → TurnUpTo taken coming made hub old now i before es → TurnUpTo taken coming made hub old (set now i after) (i + 1) both (es ++ fs)
+turn_more {T} taken coming made hub between old now i one after before here both es fs rising within is moved keeps over all =
     let len = all.len in
     let count = all.count in
     let in_now : i < length now = omega arith in
     let was : (d : Connection T) → get_or old i d ≡ one = λ d. sym (all.rest i d (omega arith) within) ∙ default_free now i d one in_now ∙ is in
     let own_id : (d : Connection T) → (get_or old i d).id ≡ one.id = λ d. ap (λ it. it.id) (was d) in
+    let turns : Turns taken coming made hub one after here fs = turn_kept taken coming made between hub one after here fs (keeps_own old i one.id hub between rising within own_id keeps) over in
     record {
       len = length-set now i after ∙ len;
       moves = all.moves ++ here ∷ [];
@@ -120,7 +201,7 @@ turn_more {T} taken coming made old now i one after before here both es fs risin
             let events : events_of one.id (es ++ fs) ≡ fs
             = events_joined one.id es fs ∙ ap (λ l. l ++ events_of one.id fs) (below_none one.id es less) ∙ own_all one.id fs turns.own in
             let last : get_or (all.moves ++ here ∷ []) k false ≡ here = last_move all.moves k here (same.1 ∙ sym count) in
-            rw (get_or-set_at now i k after d same.1 in_now, at, events, last) (hub, turns)
+            rw (get_or-set_at now i k after d same.1 in_now, at, events, last) turns
         | inr other ↦
             let earlier : k < i = omega (arith, under, other.1) in
             let front : get_or (all.moves ++ here ∷ []) k false ≡ get_or all.moves k false = front_move all.moves here k (omega (arith, earlier, count)) in
@@ -139,9 +220,9 @@ turn_more {T} taken coming made old now i one after before here both es fs risin
     }
 
 -- each had its turn
-pub turn_whole : {T : Type 0} (taken coming : T → Option (List ℕ)) (made : T → Option (List Call)) (old now : List (Connection T)) (i : ℕ) (moved : Bool) (events : List Accepted) → length old ≤ i
-    → TurnUpTo taken coming made old now i moved events → TurnAll taken coming made old now moved events
-turn_whole taken coming made old now i moved events whole all = record {
+pub turn_whole : {T : Type 0} (taken coming : T → Option (List ℕ)) (made : T → Option (List Call)) (hub : Hub) (old now : List (Connection T)) (i : ℕ) (moved : Bool) (events : List Accepted) → length old ≤ i
+    → TurnUpTo taken coming made hub old now i moved events → TurnAll taken coming made hub old now moved events
+turn_whole taken coming made hub old now i moved events whole all = record {
   len = all.len;
   moves = all.moves;
   count = let in_all = all.within in let count = all.count in omega (arith, whole, in_all, count);
@@ -152,8 +233,8 @@ turn_whole taken coming made old now i moved events whole all = record {
   by_id = all.by_id;
 }
 
-pub turn_ids : {T : Type 0} {moved : Bool} {taken coming : T → Option (List ℕ)} {made : T → Option (List Call)} (old new : List (Connection T)) (events : List Accepted) → TurnAll taken coming made old new moved events → HaveSameIds old new
-turn_ids old new events all = record { len = all.len; same = λ k d within. (all.turns k d within).1.id }
+pub turn_ids : {T : Type 0} {moved : Bool} {taken coming : T → Option (List ℕ)} {made : T → Option (List Call)} {hub : Hub} (old new : List (Connection T)) (events : List Accepted) → TurnAll taken coming made hub old new moved events → HaveSameIds old new
+turn_ids old new events all = record { len = all.len; same = λ k d within. (all.turns k d within).id }
 
 pub depart_ids : {T : Type 0} {moved : Bool} {taken coming : T → Option (List ℕ)} {made : T → Option (List Call)} (old new : List (Connection T)) → DepartAll taken coming made old new moved → HaveSameIds old new
 depart_ids old new all = record { len = all.len; same = λ k d within. (all.departs k d within).id }
@@ -227,8 +308,8 @@ moves_opened a b one events opened departing last above own flows =
     }
 
 -- each had its turn
-pub moves_turned : {T : Type 0} {G : Ghosts T} {taken coming : T → Option (List ℕ)} {made : T → Option (List Call)} (a b : Connections T G) (moved : Bool) (events : List Accepted) → TurnEach taken coming made a b moved events → Moves a b events
-moves_turned {T} {G} {taken} {coming} {made} a b moved events each =
+pub moves_turned : {T : Type 0} {G : Ghosts T} {taken coming : T → Option (List ℕ)} {made : T → Option (List Call)} {hub : Hub} (a b : Connections T G) (moved : Bool) (events : List Accepted) → TurnEach taken coming made hub a b moved events → Moves a b events
+moves_turned {T} {G} {taken} {coming} {made} {hub} a b moved events each =
     let last = each.last in
     let ids = turn_ids a.opened.items each.turned events each.turns in
     let same_len = ids.len in
@@ -243,7 +324,7 @@ moves_turned {T} {G} {taken} {coming} {made} a b moved events each =
       before = waiting old.queue;
       was = inl (inl (subst (λ (i : ℕ). WaitsAmong a.opened.items i (waiting old.queue)) same (place_among a.opened.items s.place s.one below)));
       flows = flows_as (waiting old.queue) (waiting old.queue) (events_of old.id events) (events_of id events) (waiting (get_or each.turned s.place s.one).queue) octets
-          refl (ap (λ (i : ℕ). events_of i events) same) (ap (λ it. waiting it.queue) (s.at s.one) ∙ s.waits) (flows_turn taken coming made _ _ _ (each.turns.turns s.place s.one below).1);
+          refl (ap (λ (i : ℕ). events_of i events) same) (ap (λ it. waiting it.queue) (s.at s.one) ∙ s.waits) (flows_turn taken coming made _ _ _ (each.turns.turns s.place s.one below));
     } in
     let has_departed : (id : ℕ) (octets : List ℕ) → WaitsAmong each.departed id octets → HasWaited a events id octets
     = λ id octets is.
@@ -283,14 +364,14 @@ moves_marked is_told a b opened departing id octets (inl is) = inl (marked_among
 moves_marked is_told a b opened departing id octets (inr is) = inr (marked_among is_told a.departing.items b.departing.items id octets departing is)
 
 -- what the opening of a connection is
-pub opened_own : {T : Type 0} (id : ℕ) (kind : Kind) (one : Connection T) (events : List Accepted) → IsOpened id kind one events → AreOf id events
-opened_own id kind one events (accepted, are, is, stage, put) = rw are (ap id_of is, tt)
+pub opened_own : {T : Type 0} (id : ℕ) (kind : Kind) (hub : Hub) (one : Connection T) (events : List Accepted) → IsOpened id kind hub one events → AreOf id events
+opened_own id kind hub one events (accepted, are, is, stage, has, put) = rw are (ap id_of is, tt)
 
-pub opened_is : {T : Type 0} (id : ℕ) (kind : Kind) (one : Connection T) (events : List Accepted) → IsOpened id kind one events → IsOpeningOf kind events
-opened_is id kind one events (accepted, are, is, stage, put) = rw are (id, is)
+pub opened_is : {T : Type 0} (id : ℕ) (kind : Kind) (hub : Hub) (one : Connection T) (events : List Accepted) → IsOpened id kind hub one events → IsOpeningOf kind events
+opened_is id kind hub one events (accepted, are, is, stage, has, put) = rw are (id, is)
 
-pub opened_flows : {T : Type 0} (id : ℕ) (kind : Kind) (one : Connection T) (events : List Accepted) → IsOpened id kind one events → Flows [] events (waiting one.queue)
-opened_flows id kind one events (accepted, are, is, stage, put) = record { sent = []; put = waiting one.queue; are_put = put; order = refl }
+pub opened_flows : {T : Type 0} (id : ℕ) (kind : Kind) (hub : Hub) (one : Connection T) (events : List Accepted) → IsOpened id kind hub one events → Flows [] events (waiting one.queue)
+opened_flows id kind hub one events (accepted, are, is, stage, has, put) = record { sent = []; put = waiting one.queue; are_put = put; order = refl }
 
 -- those that are no longer open stay so
 pub departed_closed : {T : Type 0} {moved : Bool} {taken coming : T → Option (List ℕ)} {made : T → Option (List Call)} (old new : List (Connection T)) → DepartAll taken coming made old new moved

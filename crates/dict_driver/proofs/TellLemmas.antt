@@ -1,13 +1,13 @@
 -- What one event puts in its connection's queue.
-use Rattle.std.proofs.Common.{◌≡◌, ◌+◌, ◌<◌, ℕ, true, List, [], ◌∷◌, ◌++◌, refl, sym, ap, ◌∙◌, subst, append-nil, length, length-append, take, inl, inr, arith}
+use Rattle.std.proofs.Common.{◌≡◌, ◌+◌, ◌<◌, ℕ, Bool, true, List, [], ◌∷◌, ◌++◌, refl, sym, ap, ◌∙◌, subst, append-nil, length, length-append, take, inl, inr, arith}
 use Rattle.std.proofs.Math.Dec.{ltb}
-use Rattle.std.proofs.lemmas.Bool.{ltb-true, lt-ltb}
-use Rattle.std.specs.Prelude.{Option, Some, None, Ok}
+use Rattle.std.proofs.lemmas.Bool.{eq-eqb, ltb-true, lt-ltb}
+use Rattle.std.specs.Prelude.{Option, Some, None, Ok, if◌then◌else◌}
 use Rattle.std.specs.Io.KnownBytes.{Appends}
 use Rattle.std.proofs.KnownBytes.{Appends-nil}
 use Rattle.dict_io.specs.Streams.{Change, Stream, AppendsFront}
 use Rattle.dict_catalogue.specs.Steps.{Catalogue}
-use Rattle.dict_hub.specs.Holding.{Holding}
+use Rattle.dict_hub.specs.Holding.{Holding, left_by}
 use Rattle.dict_hub.specs.Given.{Greets, Replies, Gets}
 use Rattle.dict_hub.specs.Events.{Happening, opened, came, ended, id_of, admitted, takes_memory, Serves}
 use Rattle.dict_hub.specs.Hubs.{Has, count_of, greatest_of}
@@ -93,6 +93,31 @@ led_accepted T S0 S1 L0 L1 a b what out desk old new P leads holds = record {
         shows = on.shows;
         leaves = on.leaves;
         holds = holds one refl refl refl (serves_grow _ _ _ _ _ _ _ _ _ _ _ step);
+      };
+}
+
+-- an opening that was accepted
+pub led_greeted : (T : Type 0) (S0 S1 : Catalogue → Type 0) (L0 L1 : List (Option Catalogue) → Type 0) (a b : Hub) (id : ℕ) (kind : Kind) (out : Out) (desk : Condition) (old new : Stream) (P : List Accepted → Type 0)
+    → (T → (origin : State) (start : Standing) (events : List Accepted) (state : State) (stands : Standing) → Leads origin start events state stands → IsAt a state → S0 stands.catalogue → L0 stands.leaves
+    → LeadsOn S1 L1 origin start events state stands (opened id kind) out desk (record { old = old; new = new }) b)
+    → ((one : Accepted) → one.what ≡ opened id kind → one.out ≡ out → one.put ≡ record { old = old; new = new } → Grows old.octets new.octets → Has b id (left_by kind [] out) → P (one ∷ []))
+    → HasLedOn T S0 L0 S1 L1 a b P
+led_greeted T S0 S1 L0 L1 a b id kind out desk old new P leads holds = record {
+  led = λ trusted origin start at shown left.
+      let on = leads trusted origin start [] origin start (refl, refl) at shown left in
+      let one : Accepted = record { what = opened id kind; out = out; desk = desk; put = record { old = old; new = new }; before = start; after = on.after } in
+      let step : IsStep origin one = on.leads.1 in
+      let is_at : IsAt b (state_after origin (opened id kind) out) = on.is_at in
+      let own : Has b id (left_by kind [] out) = subst (λ (t : Bool). Has b id (if t then left_by kind [] out else origin.held id)) (eq-eqb id id refl) (is_at.held id) in
+      record {
+        events = one ∷ [];
+        state = state_after origin (opened id kind) out;
+        stands = on.after;
+        leads = on.leads;
+        is_at = on.is_at;
+        shows = on.shows;
+        leaves = on.leaves;
+        holds = holds one refl refl refl (greets_grow origin.host id kind out old new step.0) own;
       };
 }
 

@@ -1,55 +1,57 @@
 -- What comes of a listening socket in a round.
-use Rattle.std.specs.Prelude.{◌≡◌, ◌⊎◌, ◌+◌, ◌<◌, ◌≤◌, ◌^◌, true, false, List, [], ◌∷◌, Option, Result, Ok, Err, vec_len}
+use Rattle.std.specs.Prelude.{◌≡◌, ◌⊎◌, ◌+◌, ◌<◌, ℕ, true, false, List, [], ◌∷◌, Option, Result, Ok, Err, vec_len}
 use Rattle.std.specs.IoError.{error_kind}
 use Rattle.std.specs.declared.io.Error.{Error}
 use Rattle.dict_hub.specs.Runs.{Accepted}
+use Rattle.dict_hub.specs.declared.fault.HubFault.{HubFault}
+use Rattle.dict_hub.specs.declared.hub.Hub.{Hub}
 use Rattle.dict_hub.specs.declared.kind.Kind.{Kind}
 use Rattle.dict_outlet.specs.declared.transport.Transport as transport
 use Rattle.dict_driver.specs.Asking.{Asking, Asks, accepts, watches}
 use Rattle.dict_driver.specs.Listening.{listening_by}
 use Rattle.dict_driver.specs.Looking.{listening_of}
-use Rattle.dict_driver.specs.Rounds.{Admits}
+use Rattle.dict_driver.specs.Rounds.{Admits, IsFull}
+use Rattle.dict_driver.specs.Telling.{KeepsEach}
 use Rattle.dict_driver.specs.declared.connections.Connections.{Connections}
 use Rattle.dict_driver.specs.declared.event_loop.EventLoop.{EventLoop}
 use Rattle.dict_driver.specs.declared.listening.Listening.{Listening}
 use Rattle.dict_driver.specs.declared.listening.Listening.TheVariants.{Ready, Quiet, Failed}
 
-module _ {T : Type 0} {G : transport.Ghosts T} where
-  -- 64 are open, or each id was given
-  abbrev pub IsFull : Connections T G → Type 0
-  IsFull all = (64 ≤ vec_len all.opened) ⊎ (2 ^ 64 ≤ all.last + 1)
-
+-- By for which cause no connection of an id and a kind was opened in a hub.
+module _ {T : Type 0} {G : transport.Ghosts T} (refuses : Hub → ℕ → Kind → Option HubFault → Type 0) where
   -- Of a connection that was taken, this was asked next: nothing, where there is no place for it; else that looks are to tell of it by the
-  -- next id. Where they are to, it is opened, and else all is as before
-  abbrev pub Takes : T → Kind → Connections T G → Connections T G → List (Asking T) → List Accepted → Type 0
-  Takes transport kind old new calls events =
-      (IsFull old × (calls ≡ []) × (new ≡ old) × (events ≡ []))
-      ⊎ ((vec_len old.opened < 64) × (((calls ≡ watches (old.last + 1) false ∷ []) × (new ≡ old) × (events ≡ []))
-      ⊎ ((calls ≡ watches (old.last + 1) true ∷ []) × Admits transport kind old new events)))
+  -- next id. Where they are to, it is opened in the hub, unless that is refused, and else all is as before
+  abbrev pub Takes : T → Kind → Hub → Hub → Connections T G → Connections T G → List (Asking T) → List Accepted → Type 0
+  Takes transport kind from to old new calls events =
+      (IsFull old × (calls ≡ []) × (new ≡ old) × (events ≡ []) × KeepsEach from to)
+      ⊎ ((vec_len old.opened < 64) × (((calls ≡ watches (old.last + 1) false ∷ []) × (new ≡ old) × (events ≡ []) × KeepsEach from to)
+      ⊎ ((calls ≡ watches (old.last + 1) true ∷ []) × Admits refuses transport kind from to old new events)))
 
   -- what a call tells that was to take a connection, and what comes of it: one that was taken, or an error, by which all is as before
-  abbrev pub TakesBy : Result T Error → Kind → Listening → Connections T G → Connections T G → List (Asking T) → List Accepted → Type 0
-  TakesBy (Ok transport) kind after old new calls events = (after ≡ Ready) × Takes transport kind old new calls events
-  TakesBy (Err error) kind after old new calls events = (after ≡ listening_by (error_kind error)) × (calls ≡ []) × (new ≡ old) × (events ≡ [])
+  abbrev pub TakesBy : Result T Error → Kind → Listening → Hub → Hub → Connections T G → Connections T G → List (Asking T) → List Accepted → Type 0
+  TakesBy (Ok transport) kind after from to old new calls events = (after ≡ Ready) × Takes transport kind from to old new calls events
+  TakesBy (Err error) kind after from to old new calls events =
+      (after ≡ listening_by (error_kind error)) × (calls ≡ []) × (new ≡ old) × (events ≡ []) × KeepsEach from to
 
   -- the listening socket is asked for a connection
-  abbrev pub AcceptsOne : Kind → Listening → Connections T G → Connections T G → List (Asking T) → List Accepted → Type 0
-  AcceptsOne kind after old new calls events =
-      (result : Result T Error) × (more : List (Asking T)) × (calls ≡ accepts kind result ∷ more) × TakesBy result kind after old new more events
+  abbrev pub AcceptsOne : Kind → Listening → Hub → Hub → Connections T G → Connections T G → List (Asking T) → List Accepted → Type 0
+  AcceptsOne kind after from to old new calls events =
+      (result : Result T Error) × (more : List (Asking T)) × (calls ≡ accepts kind result ∷ more) × TakesBy result kind after from to old new more events
 
   -- it is asked where a connection may wait there, or the last call failed
-  abbrev pub Accepts : Kind → Listening → Listening → Connections T G → Connections T G → List (Asking T) → List Accepted → Type 0
-  Accepts kind Ready after old new calls events = AcceptsOne kind after old new calls events
-  Accepts kind Failed after old new calls events = AcceptsOne kind after old new calls events
-  Accepts kind Quiet after old new calls events = (after ≡ Quiet) × (calls ≡ []) × (new ≡ old) × (events ≡ [])
+  abbrev pub Accepts : Kind → Listening → Listening → Hub → Hub → Connections T G → Connections T G → List (Asking T) → List Accepted → Type 0
+  Accepts kind Ready after from to old new calls events = AcceptsOne kind after from to old new calls events
+  Accepts kind Failed after from to old new calls events = AcceptsOne kind after from to old new calls events
+  Accepts kind Quiet after from to old new calls events = (after ≡ Quiet) × (calls ≡ []) × (new ≡ old) × (events ≡ []) × KeepsEach from to
 
-module _ {T S : Type 0} {G : transport.Ghosts T} (asked : S → Option (List (Asking T))) where
+module _ {T S : Type 0} {G : transport.Ghosts T} (refuses : Hub → ℕ → Kind → Option HubFault → Type 0) (asked : S → Option (List (Asking T))) where
   -- this was asked of the sockets
   abbrev pub HasTaken : T → Kind → EventLoop T S G → EventLoop T S G → List Accepted → Type 0
   HasTaken transport kind old new events =
-      (calls : List (Asking T)) × Asks (asked old.sockets) (asked new.sockets) calls × Takes transport kind old.connections new.connections calls events
+      (calls : List (Asking T)) × Asks (asked old.sockets) (asked new.sockets) calls
+      × Takes refuses transport kind old.hub new.hub old.connections new.connections calls events
 
   abbrev pub HasAccepted : Kind → EventLoop T S G → EventLoop T S G → List Accepted → Type 0
   HasAccepted kind old new events =
       (calls : List (Asking T)) × Asks (asked old.sockets) (asked new.sockets) calls
-      × Accepts kind (listening_of kind old) (listening_of kind new) old.connections new.connections calls events
+      × Accepts refuses kind (listening_of kind old) (listening_of kind new) old.hub new.hub old.connections new.connections calls events

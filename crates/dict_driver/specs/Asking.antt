@@ -3,11 +3,11 @@ use Rattle.std.specs.Prelude.{◌≡◌, ℕ, Bool, List, ◌++◌, Option, opti
 use Rattle.std.specs.declared.io.Error.{Error}
 use Rattle.dict_hub.specs.declared.kind.Kind.{Kind}
 
--- They were looked at, which told of these ones (0 is a listening one, and each other the id of a connection), and succeeded or didn't; a
--- connection was to be taken that waits at the listening socket for a kind; or looks were to tell of a connection, by its id, which
+-- They were looked at, and waited for so many nanoseconds at most, which told of these ones (0 is a listening one, and each other the id
+-- of a connection), and succeeded or didn't; a connection was to be taken that waits at the listening socket for a kind; or looks were to tell of a connection, by its id, which
 -- succeeded or didn't
 pub data Asking (T : Type 0) : Type 0 where
-  looks : List ℕ → Bool → Asking T
+  looks : ℕ → List ℕ → Bool → Asking T
   accepts : Kind → Result T Error → Asking T
   watches : ℕ → Bool → Asking T
 

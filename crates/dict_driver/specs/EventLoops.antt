@@ -2,6 +2,9 @@
 use Rattle.std.specs.Prelude.{◌≡◌, ◌||◌, ℕ, Bool, true, List, [], ◌∷◌, ◌++◌, Option, Result, Ok, Err}
 use Rattle.std.specs.declared.io.Error.{Error}
 use Rattle.dict_hub.specs.Runs.{Accepted}
+use Rattle.dict_hub.specs.declared.fault.HubFault.{HubFault}
+use Rattle.dict_hub.specs.declared.hub.Hub.{Hub}
+use Rattle.dict_hub.specs.declared.kind.Kind.{Kind}
 use Rattle.dict_hub.specs.declared.kind.Kind.TheVariants.{Dict, Http}
 use Rattle.dict_outlet.specs.Calls.{Call}
 use Rattle.dict_outlet.specs.declared.transport.Transport as transport
@@ -10,16 +13,16 @@ use Rattle.dict_driver.specs.Asking.{Asking, Asks, looks}
 use Rattle.dict_driver.specs.Listening.{is_ready, listening_told}
 use Rattle.dict_driver.specs.Looking.{Looks, tells}
 use Rattle.dict_driver.specs.Rounds.{TurnEach}
-use Rattle.dict_driver.specs.Turning.{MarkAll}
+use Rattle.dict_driver.specs.Turning.{KeepsAllBut, MarkAll}
 use Rattle.dict_driver.specs.declared.connections.Connections.{Connections}
 use Rattle.dict_driver.specs.declared.event_loop.EventLoop.{EventLoop}
 
 module _ {T S : Type 0} {G : transport.Ghosts T} (taken coming : T → Option (List ℕ)) (made : T → Option (List Call))
-    (asked : S → Option (List (Asking T))) where
+    (refuses : Hub → ℕ → Kind → Option HubFault → Type 0) (asked : S → Option (List (Asking T))) where
   -- The sockets are looked at without a wait, and those connections are marked of which the look told. Then the socket for readers is asked,
-  -- where a connection may wait there, and then that for editors; and then each connection has its turn. The events are those of these, in
-  -- this order, and nothing else was asked of the sockets. Something happened where a connection was taken, a call is to be made again, or
-  -- something happened in a turn
+  -- where a connection may wait there, and then that for editors; and then each connection has its turn, over what the hub has of it by
+  -- then, which has of each that isn't open what it had. The events are those of these, in this order, and nothing else was asked of the
+  -- sockets. Something happened where a connection was taken, a call is to be made again, or something happened in a turn
   pub record HasRound (old new : EventLoop T S G) (moved : Bool) (events : List Accepted) : Type 0 where
     pub told : List ℕ
     pub looked : Connections T G
@@ -29,19 +32,22 @@ module _ {T S : Type 0} {G : transport.Ghosts T} (taken coming : T → Option (L
     pub with_reader : Connections T G
     pub by_dict : List (Asking T)
     pub readers : List Accepted
-    pub dict : Accepts Dict (listening_told (tells told 0) old.dict_listening) new.dict_listening looked with_reader by_dict readers
+    pub hub_with_reader : Hub
+    pub dict : Accepts refuses Dict (listening_told (tells told 0) old.dict_listening) new.dict_listening old.hub hub_with_reader looked with_reader by_dict readers
     pub with_editor : Connections T G
     pub by_http : List (Asking T)
     pub editors : List Accepted
-    pub http : Accepts Http (listening_told (tells told 0) old.http_listening) new.http_listening with_reader with_editor by_http editors
+    pub hub_with_editor : Hub
+    pub http : Accepts refuses Http (listening_told (tells told 0) old.http_listening) new.http_listening hub_with_reader hub_with_editor with_reader with_editor by_http editors
     pub turned : Bool
     pub turns : List Accepted
-    pub turn : TurnEach taken coming made with_editor new.connections turned turns
+    pub turn : TurnEach taken coming made hub_with_editor with_editor new.connections turned turns
+    pub others : KeepsAllBut with_editor.opened.items hub_with_editor new.hub
     pub whole : events ≡ readers ++ (editors ++ turns)
-    pub calls : Asks (asked old.sockets) (asked new.sockets) (looks told true ∷ (by_dict ++ by_http))
+    pub calls : Asks (asked old.sockets) (asked new.sockets) (looks 0 told true ∷ (by_dict ++ by_http))
     pub has_moved : moved ≡ (is_ready new.dict_listening || (is_ready new.http_listening || turned))
 
   -- a round was made; or the sockets couldn't be looked at, and no event was handed out
   abbrev pub GoesRound : (S → List ℕ) → Result Bool Error → EventLoop T S G → EventLoop T S G → List Accepted → Type 0
   GoesRound told (Ok moved) old new events = HasRound old new moved events
-  GoesRound told (Err error) old new events = (events ≡ []) × Looks asked (told new.sockets) (Err error) old new
+  GoesRound told (Err error) old new events = (events ≡ []) × Looks asked 0 (told new.sockets) (Err error) old new

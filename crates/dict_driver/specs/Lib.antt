@@ -5,6 +5,7 @@ pub mod Events
 pub mod Leading
 pub mod Ordering
 pub mod Telling
+pub mod Opening
 pub mod Pieces
 pub mod Handing
 pub mod Turns
@@ -15,4 +16,6 @@ pub mod Asking
 pub mod Looking
 pub mod Accepting
 pub mod EventLoops
+pub mod Served
+pub mod Driving
 pub mod Serving

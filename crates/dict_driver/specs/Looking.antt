@@ -1,5 +1,5 @@
 -- What a look at the sockets changes, and a round in which nothing happened.
-use Rattle.std.specs.Prelude.{◌≡◌, ◌≢◌, ◌==◌, ◌||◌, ℕ, Bool, false, List, [], ◌∷◌, All, Option, None, Some, Result, MatchResult, is_ok}
+use Rattle.std.specs.Prelude.{◌≡◌, ◌≢◌, ◌==◌, ◌||◌, ℕ, Bool, true, false, List, [], ◌∷◌, All, Option, None, Some, Result, Ok, MatchResult, is_ok}
 use Rattle.std.specs.IoError.{error_kind}
 use Rattle.std.specs.declared.io.Error.{Error}
 use Rattle.dict_hub.specs.declared.kind.Kind.{Kind}
@@ -19,9 +19,9 @@ tells [] id = false
 tells (one ∷ told) id = (id == one) || tells told id
 
 module _ {T S : Type 0} {G : transport.Ghosts T} where
-  -- The sockets were looked at, or an error tells why they couldn't be. Where the look told of the listening sockets, by a 0, a
+  -- The sockets were looked at, and waited for so many nanoseconds at most, or an error tells why they couldn't be. Where the look told of the listening sockets, by a 0, a
   -- connection may wait at both; and a reading of a connection may give something of whose id it told. All else stays
-  pub record Looks (asked : S → Option (List (Asking T))) (told : List ℕ) (result : Result (Unit {0}) Error) (old new : EventLoop T S G) : Type 0 where
+  pub record Looks (asked : S → Option (List (Asking T))) (most : ℕ) (told : List ℕ) (result : Result (Unit {0}) Error) (old new : EventLoop T S G) : Type 0 where
     pub hub : new.hub ≡ old.hub
     pub rounds : new.rounds ≡ old.rounds
     pub last : new.connections.last ≡ old.connections.last
@@ -30,7 +30,12 @@ module _ {T S : Type 0} {G : transport.Ghosts T} where
     pub dict : new.dict_listening ≡ listening_told (tells told 0) old.dict_listening
     pub http : new.http_listening ≡ listening_told (tells told 0) old.http_listening
     pub failure : MatchResult result (λ _. new.failure ≡ None) (λ error. new.failure ≡ Some (error_kind error))
-    pub calls : Asks (asked old.sockets) (asked new.sockets) (looks told (is_ok result) ∷ [])
+    pub calls : Asks (asked old.sockets) (asked new.sockets) (looks most told (is_ok result) ∷ [])
+
+  -- the sockets were waited for, where that was asked for, and else nothing was done
+  abbrev pub WaitsIf : (S → Option (List (Asking T))) → ℕ → List ℕ → Bool → Result (Unit {0}) Error → EventLoop T S G → EventLoop T S G → Type 0
+  WaitsIf asked most told true result old new = Looks asked most told result old new
+  WaitsIf asked most told false result old new = (new ≡ old) × (result ≡ Ok tt)
 
   -- whether a connection waits at the socket for this kind
   abbrev pub listening_of : Kind → EventLoop T S G → Listening

@@ -1,13 +1,17 @@
 -- What a round does with the octets that wait for each connection.
-use Rattle.std.specs.Prelude.{◌≡◌, ◌⊎◌, ◌||◌, Bool, ◌<◌, ◌≤◌, ◌-◌, ◌+◌, ℕ, true, List, [], ◌∷◌, ◌++◌, drop, filter, length, Option}
+use Rattle.std.specs.Prelude.{◌≡◌, ◌⊎◌, ◌||◌, Bool, ◌<◌, ◌≤◌, ◌-◌, ◌+◌, ◌^◌, ℕ, true, List, [], ◌∷◌, ◌++◌, drop, filter, length, Option, vec_len}
 use Rattle.dict_hub.specs.Runs.{Accepted, events_of}
 use Rattle.dict_outlet.specs.Queues.{waiting}
 use Rattle.dict_outlet.specs.Calls.{Call}
 use Rattle.dict_driver.specs.Stages.{is_open, is_held, is_departing}
 use Rattle.dict_driver.specs.Events.{ArePut}
 use Rattle.dict_driver.specs.Handing.{held_in}
+use Rattle.dict_driver.specs.Opening.{IsUnopened}
+use Rattle.dict_driver.specs.Telling.{KeepsEach, KeepsOthers}
 use Rattle.dict_driver.specs.Turns.{IsOpened}
 use Rattle.dict_driver.specs.Turning.{DepartAll, TurnAll}
+use Rattle.dict_hub.specs.declared.fault.HubFault.{HubFault}
+use Rattle.dict_hub.specs.declared.hub.Hub.{Hub}
 use Rattle.dict_hub.specs.declared.kind.Kind.{Kind}
 use Rattle.dict_driver.specs.declared.connection.Connection.{Connection}
 use Rattle.dict_driver.specs.declared.connections.Connections.{Connections}
@@ -50,24 +54,32 @@ pub record Moves {T : Type 0} {G : Ghosts T} (old new : Connections T G) (events
 abbrev pub latest : {A : Type 0} → ℕ → List A → List A
 latest most all = drop (length all - most) all
 
--- Each connection that is no longer open had its turn as such, and then each open one by its own events. Those that are open then are
--- the open ones; those that are held and no longer open, of which 128 are kept, stand behind those that were so before; and no other is
--- held. Something happened where it did in a turn of the one sort or the other
-pub record TurnEach {T : Type 0} {G : Ghosts T} (taken coming : T → Option (List ℕ)) (made : T → Option (List Call)) (old new : Connections T G) (moved : Bool) (events : List Accepted) : Type 0 where
+-- Each connection that is no longer open had its turn as such, and then each open one by its own events, over what the hub had of it as
+-- they began. Those that are open then are the open ones; those that are held and no longer open, of which 128 are kept, stand behind
+-- those that were so before; and no other is held. Something happened where it did in a turn of the one sort or the other
+pub record TurnEach {T : Type 0} {G : Ghosts T} (taken coming : T → Option (List ℕ)) (made : T → Option (List Call)) (hub : Hub) (old new : Connections T G) (moved : Bool) (events : List Accepted) : Type 0 where
   pub departed : List (Connection T)
   pub by_departing : Bool
   pub departs : DepartAll taken coming made old.departing.items departed by_departing
   pub turned : List (Connection T)
   pub by_open : Bool
-  pub turns : TurnAll taken coming made old.opened.items turned by_open events
+  pub turns : TurnAll taken coming made hub old.opened.items turned by_open events
   pub opened : new.opened.items ≡ filter (λ one. is_open one.stage) turned
   pub departing : new.departing.items ≡ latest 128 (filter (λ one. is_held one.stage) departed ++ filter (λ one. is_departing one.stage) turned)
   pub last : new.last ≡ old.last
   pub has_moved : moved ≡ (by_departing || by_open)
 
--- no connection was opened, and all is as before; or one was, of this transport and kind and with the next id, behind those that are
--- open, and nothing was read of it yet
-abbrev pub Admits : {T : Type 0} {G : Ghosts T} → T → Kind → Connections T G → Connections T G → List Accepted → Type 0
-Admits {T} transport kind old new events = ((events ≡ []) × (new.opened.items ≡ old.opened.items) × (new.departing.items ≡ old.departing.items) × (new.last ≡ old.last))
-    ⊎ ((one : Connection T) × IsOpened (old.last + 1) kind one events × (one.id ≡ old.last + 1) × (one.transport ≡ transport) × (one.may_receive ≡ true)
-    × (one.held.kind ≡ kind) × (held_in one.held ≡ []) × (new.opened.items ≡ old.opened.items ++ one ∷ []) × (new.departing.items ≡ old.departing.items) × (new.last ≡ old.last + 1))
+-- 64 are open, or each id was given
+abbrev pub IsFull : {T : Type 0} {G : Ghosts T} → Connections T G → Type 0
+IsFull all = (64 ≤ vec_len all.opened) ⊎ (2 ^ 64 ≤ all.last + 1)
+
+-- No connection was opened, since there is no place for it, or for a cause by which it was refused, and all is as before, what the hub
+-- has of each connection too; or one was, of this transport and kind and with the next id, behind those that are open, nothing was
+-- read of it yet, and what the hub has of each other is as before
+abbrev pub Admits : {T : Type 0} {G : Ghosts T} → (Hub → ℕ → Kind → Option HubFault → Type 0) → T → Kind → Hub → Hub → Connections T G → Connections T G → List Accepted → Type 0
+Admits {T} refuses transport kind from to old new events =
+    ((events ≡ []) × (new.opened.items ≡ old.opened.items) × (new.departing.items ≡ old.departing.items) × (new.last ≡ old.last)
+    × KeepsEach from to × (IsFull old ⊎ IsUnopened refuses from (old.last + 1) kind))
+    ⊎ ((one : Connection T) × IsOpened (old.last + 1) kind to one events × (one.id ≡ old.last + 1) × (one.transport ≡ transport) × (one.may_receive ≡ true)
+    × (one.held.kind ≡ kind) × (held_in one.held ≡ []) × (new.opened.items ≡ old.opened.items ++ one ∷ []) × (new.departing.items ≡ old.departing.items) × (new.last ≡ old.last + 1)
+    × KeepsOthers (old.last + 1) from to)

@@ -1,5 +1,5 @@
 -- What one event leaves of its connection's queue.
-use Rattle.std.specs.Prelude.{true, ◌≡◌, ℕ, List, [], ◌∷◌, ◌++◌, Option, None, Some}
+use Rattle.std.specs.Prelude.{true, ◌≡◌, ◌≢◌, ℕ, List, [], ◌∷◌, ◌++◌, Option, None, Some}
 use Rattle.dict_hub.specs.Events.{Happening, is_of_editor}
 use Rattle.dict_hub.specs.Holding.{Holding}
 use Rattle.dict_hub.specs.Hubs.{Has}
@@ -15,6 +15,14 @@ use Rattle.dict_outlet.specs.declared.queue.Queue.{Queue}
 -- the hub may refuse octets of this connection: it holds none of its id, or an editor's, whose octets take memory
 abbrev pub MayRefuse : Hub → ℕ → Type 0
 MayRefuse hub id = (held : Holding) → Has hub id (Some held) → is_of_editor held.kind ≡ true
+
+-- what the hub has of each connection but that of this id it has still
+abbrev pub KeepsOthers : ℕ → Hub → Hub → Type 0
+KeepsOthers id old new = (other : ℕ) (held : Option Holding) → other ≢ id → Has old other held → Has new other held
+
+-- and of each
+abbrev pub KeepsEach : Hub → Hub → Type 0
+KeepsEach old new = (other : ℕ) (held : Option Holding) → Has old other held → Has new other held
 
 -- it is this event alone, which the hub answered so; or the hub refused it, and there is none
 abbrev pub IsAnswered : Happening → Option Out → List Accepted → Type 0

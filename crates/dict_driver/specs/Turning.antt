@@ -1,5 +1,7 @@
 -- What is done to each connection of a list, place by place.
 use Rattle.std.specs.Prelude.{◌≡◌, ◌≢◌, ◌<◌, ◌||◌, ℕ, Bool, false, List, [], ◌∷◌, Option, length, slice_index_or}
+use Rattle.dict_hub.specs.Holding.{Holding}
+use Rattle.dict_hub.specs.Hubs.{Has}
 use Rattle.dict_hub.specs.Runs.{Accepted, events_of}
 use Rattle.dict_hub.specs.declared.hub.Hub.{Hub}
 use Rattle.dict_outlet.specs.Calls.{Call}
@@ -16,6 +18,11 @@ pub record MarkAll {T : Type 0} (is_told : ℕ → Bool) (old new : List (Connec
   pub len : length new ≡ length old
   pub marks : (k : ℕ) (d : Connection T) → k < length old → slice_index_or new k d ≡ marked (is_told (slice_index_or old k d).id) (slice_index_or old k d)
 
+-- what the hub has of each connection that is none of these it has still
+abbrev pub KeepsAllBut : {T : Type 0} → List (Connection T) → Hub → Hub → Type 0
+KeepsAllBut {T} all old new =
+    (other : ℕ) (held : Option Holding) → ((k : ℕ) (d : Connection T) → k < length all → (slice_index_or all k d).id ≢ other) → Has old other held → Has new other held
+
 -- one of these is so
 abbrev pub any : List Bool → Bool
 any [] = false
@@ -29,14 +36,14 @@ pub record DepartAll {T : Type 0} (taken coming : T → Option (List ℕ)) (made
   pub departs : (k : ℕ) (d : Connection T) → k < length old → Departs taken coming made (slice_index_or old k d) (slice_index_or new k d) (slice_index_or moves k false)
   pub has_moved : moved ≡ any moves
 
--- Each connection had its turn, by its own events; and each event is of one of these connections, in the order of their ids. Something
--- happened where it did in one of the turns
-pub record TurnAll {T : Type 0} (taken coming : T → Option (List ℕ)) (made : T → Option (List Call)) (old new : List (Connection T)) (moved : Bool) (events : List Accepted) : Type 0 where
+-- Each connection had its turn, by its own events, over what the hub had of it as they began; and each event is of one of these
+-- connections, in the order of their ids. Something happened where it did in one of the turns
+pub record TurnAll {T : Type 0} (taken coming : T → Option (List ℕ)) (made : T → Option (List Call)) (hub : Hub) (old new : List (Connection T)) (moved : Bool) (events : List Accepted) : Type 0 where
   pub len : length new ≡ length old
   pub moves : List Bool
   pub count : length moves ≡ length old
   pub turns : (k : ℕ) (d : Connection T) → k < length old
-      → (hub : Hub) × Turns taken coming made hub (slice_index_or old k d) (slice_index_or new k d) (slice_index_or moves k false) (events_of (slice_index_or old k d).id events)
+      → Turns taken coming made hub (slice_index_or old k d) (slice_index_or new k d) (slice_index_or moves k false) (events_of (slice_index_or old k d).id events)
   pub has_moved : moved ≡ any moves
   pub no_other : (id : ℕ) → ((k : ℕ) (d : Connection T) → k < length old → (slice_index_or old k d).id ≢ id) → events_of id events ≡ []
   pub are_turns : AreOfTurns events

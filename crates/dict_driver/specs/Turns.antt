@@ -4,6 +4,8 @@
 use Rattle.std.specs.Prelude.{◌≡◌, ◌⊎◌, ◌&&◌, ◌<◌, ◌+◌, ◌-◌, ◌^◌, ℕ, min, Bool, true, false, All, length, List, [], ◌∷◌, ◌++◌, Option, if◌then◌else◌}
 use Rattle.std.specs.Io.KnownBytes.{Appends, Consumes, Keeps}
 use Rattle.dict_hub.specs.Events.{opened, came, ended}
+use Rattle.dict_hub.specs.Holding.{left_by}
+use Rattle.dict_hub.specs.Hubs.{Has}
 use Rattle.dict_hub.specs.Runs.{Accepted}
 use Rattle.dict_hub.specs.declared.kind.Kind.{Kind}
 use Rattle.dict_outlet.specs.Outlets.{Passes, is_sending}
@@ -177,10 +179,11 @@ pub record Turns {T : Type 0} (taken coming : T → Option (List ℕ)) (made : T
   pub leads : LeadsByTurn hub sending reading received old new events
   pub has_moved : moved ≡ has_turned (is_handed old.held) sending reading
 
--- A connection was opened under this id: its stage is that of the hub's answer, and what the event put waits
-abbrev pub IsOpened : {T : Type 0} → ℕ → Kind → Connection T → List Accepted → Type 0
-IsOpened id kind one events = (accepted : Accepted) × (events ≡ accepted ∷ []) × (accepted.what ≡ opened id kind) × (one.stage ≡ stage_of_new accepted.out)
-    × ArePut events (waiting one.queue)
+-- A connection was opened under this id: its stage is that of the hub's answer, the hub has it then as one of which nothing came,
+-- unless it is closed, and what the event put waits
+abbrev pub IsOpened : {T : Type 0} → ℕ → Kind → Hub → Connection T → List Accepted → Type 0
+IsOpened id kind hub one events = (accepted : Accepted) × (events ≡ accepted ∷ []) × (accepted.what ≡ opened id kind) × (one.stage ≡ stage_of_new accepted.out)
+    × Has hub id (left_by kind [] accepted.out) × ArePut events (waiting one.queue)
 
 -- the stage once nothing waits, and before that the same
 abbrev pub stage_between : Bool → Stage → Bool → Stage

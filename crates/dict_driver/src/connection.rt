@@ -1,5 +1,5 @@
 // One connection.
-ghost use Rattle.std.specs.Prelude.{◌≡◌, ◌≤◌, ◌==◌, ◌||◌, ℕ, List, [], ◌∷◌, take, length, IfSome, MatchOption, true, false};
+ghost use Rattle.std.specs.Prelude.{◌≡◌, ◌≤◌, ◌==◌, ◌||◌, ℕ, List, [], ◌∷◌, take, length, IfSome, MatchOption, true, false, ⊤};
 ghost use Rattle.std.specs.Io.KnownBytes.{Consumes, Keeps};
 ghost use Rattle.dict_driver.specs.Leading.{HasLedOn};
 ghost use Rattle.dict_hub.specs.Events.{opened, ended};
@@ -8,6 +8,7 @@ ghost use Rattle.dict_outlet.specs.Calls.{Makes, receives, count_received};
 ghost use Rattle.dict_driver.specs.Stages.{is_open, parted, stage_of_new};
 
 use crate::held::{Held, PIECE};
+use crate::opening::Opening;
 use crate::stage::{Stage, answered, drained, has_departed, parted, stage_of_new, told};
 use crate::telling::{tell, tell_through};
 use dict_desk::Keeper;
@@ -36,12 +37,15 @@ pub struct Connection<T: Transport> {
 impl<T: Transport> Connection<T> {
     ghost use Rattle.dict_outlet.specs.Queues.{waiting, is_clear};
     ghost use Rattle.dict_driver.specs.Handing.{held_in};
+    ghost use Rattle.dict_driver.specs.Opening.{IsUnopened};
+    ghost use Rattle.dict_driver.specs.Telling.{KeepsEach, KeepsOthers};
     ghost use Rattle.dict_driver.specs.Turns.{Departs, Drains, Finishes, Hands, HandsOver, IsAtRest, IsOpened, LeadsByAnswer, LeadsByEnd, ReadsOnce, SendsOnce, Turns};
     ghost use Rattle.dict_driver.specs.Turning.{marked};
     ghost use Rattle.dict_driver.specs.Ordering.{IsOnly};
 
     /// Tells the hub of a new connection. `None` where the hub refused it, or there is no memory for what is read.
-    pub fn open<K: Keeper>(
+    pub fn open<K: Keeper, O: Opening>(
+        opening: &O,
         alloc: Global,
         id: u64,
         kind: Kind,
@@ -50,20 +54,23 @@ impl<T: Transport> Connection<T> {
         desk: &mut K,
     ) -> Option<Connection<T>>
         ensures led { HasLedOn (K.is_trusted desk.new) (K.shows desk.old) (K.leaves_one_of desk.old) (K.shows desk.new) (K.leaves_one_of desk.new) hub.old hub.new
-            (λ events. MatchOption result (events ≡ []) (λ one. IsOpened id kind one events)) }
+            (λ events. MatchOption result (events ≡ []) (λ one. IsOpened id kind hub.new one events)) }
         ensures trust { K.is_trusted desk.new → K.is_trusted desk.old }
+        ensures others { KeepsOthers id hub.old hub.new }
+        ensures unopened { MatchOption result (IsUnopened O.refuses hub.old id kind × KeepsEach hub.old hub.new) (λ _. ⊤) }
         ensures id { IfSome result (λ one. one.id ≡ id) }
         ensures transport { IfSome result (λ one. one.transport ≡ transport) }
         ensures may_receive { IfSome result (λ one. one.may_receive ≡ true) }
         ensures kind { IfSome result (λ one. one.held.kind ≡ kind) }
         ensures held { IfSome result (λ one. held_in one.held ≡ []) }
     {
-        let Ok(held) = Held::new(alloc, kind) else {
+        let Ok(octets) = opening.room(alloc, hub, id, kind) else {
             return None;
         };
+        let held = Held::new(kind, octets);
         let mut queue = Queue::new(alloc);
-        match tell(hub, desk, Event::Opened(id, kind), &mut queue) {
-            Some(out) => Some(Connection {
+        match opening.greet(hub, desk, id, kind, &mut queue) {
+            Ok(out) => Some(Connection {
                 id,
                 stage: stage_of_new(out),
                 held,
@@ -72,7 +79,7 @@ impl<T: Transport> Connection<T> {
                 may_receive: true,
                 transport,
             }),
-            None => None,
+            Err(_) => None,
         }
     }
 
@@ -121,6 +128,7 @@ impl<T: Transport> Connection<T> {
         ensures led { HasLedOn (K.is_trusted desk.new) (K.shows desk.old) (K.leaves_one_of desk.old) (K.shows desk.new) (K.leaves_one_of desk.new) hub.old hub.new
             (λ events. Turns T.taken T.coming T.made hub.old self.old self.new result events) }
         ensures trust { K.is_trusted desk.new → K.is_trusted desk.old }
+        ensures others { KeepsOthers self.old.id hub.old hub.new }
         ensures id { self.new.id ≡ self.old.id }
         ensures idle { result ≡ false → IsAtRest self.new }
     {
@@ -181,6 +189,7 @@ impl<T: Transport> Connection<T> {
         ensures led { HasLedOn (K.is_trusted desk.new) (K.shows desk.old) (K.leaves_one_of desk.old) (K.shows desk.new) (K.leaves_one_of desk.new) hub.old hub.new
             (λ events. ReadsOnce T.taken T.coming T.made hub.old self.old self.new result events) }
         ensures trust { K.is_trusted desk.new → K.is_trusted desk.old }
+        ensures others { KeepsOthers self.old.id hub.old hub.new }
         ensures id { self.new.id ≡ self.old.id }
         ensures idle { result ≡ Received.Nothing → IsAtRest self.new }
     {
@@ -216,6 +225,7 @@ impl<T: Transport> Connection<T> {
         ensures led { HasLedOn (K.is_trusted desk.new) (K.shows desk.old) (K.leaves_one_of desk.old) (K.shows desk.new) (K.leaves_one_of desk.new) hub.old hub.new
             (λ events. HandsOver T.taken T.coming T.made (held_in self.old.held) self.old self.new events × LeadsByAnswer hub.old (held_in self.old.held) self.old self.new events) }
         ensures trust { K.is_trusted desk.new → K.is_trusted desk.old }
+        ensures others { KeepsOthers self.old.id hub.old hub.new }
         ensures id { self.new.id ≡ self.old.id }
     {
         let piece = self.held.next_piece();
@@ -235,6 +245,7 @@ impl<T: Transport> Connection<T> {
         ensures led { HasLedOn (K.is_trusted desk.new) (K.shows desk.old) (K.leaves_one_of desk.old) (K.shows desk.new) (K.leaves_one_of desk.new) hub.old hub.new
             (λ events. Hands [] self.old self.new events × LeadsByEnd (parted (is_clear self.new.queue)) self.old self.new events) }
         ensures trust { K.is_trusted desk.new → K.is_trusted desk.old }
+        ensures others { KeepsOthers self.old.id hub.old hub.new }
         ensures id { self.new.id ≡ self.old.id }
     {
         self.end(hub, desk);
@@ -246,6 +257,7 @@ impl<T: Transport> Connection<T> {
         ensures led { HasLedOn (K.is_trusted desk.new) (K.shows desk.old) (K.leaves_one_of desk.old) (K.shows desk.new) (K.leaves_one_of desk.new) hub.old hub.new
             (λ events. Hands [] self.old self.new events × IsOnly (ended self.old.id) events) }
         ensures trust { K.is_trusted desk.new → K.is_trusted desk.old }
+        ensures others { KeepsOthers self.old.id hub.old hub.new }
         ensures id { self.new.id ≡ self.old.id }
         ensures over { self.new.stage ≡ Stage.Over }
     {

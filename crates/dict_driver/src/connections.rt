@@ -4,6 +4,7 @@ ghost use Rattle.std.specs.List.{AllPairs};
 ghost use Rattle.dict_driver.specs.Stages.{is_open};
 
 use crate::connection::Connection;
+use crate::opening::Opening;
 use crate::turning::{depart_all, mark_one, turn_all};
 use dict_desk::Keeper;
 use dict_hub::{Hub, Kind};
@@ -41,9 +42,10 @@ impl<T: Transport> Connections<T> {
     ghost use Rattle.std.specs.Prelude.{◌++◌, ◌∷◌, ◌==◌, ◌||◌, ◌^◌, true, MatchOption, filter, if◌then◌else◌};
     ghost use Rattle.std.specs.List.{remove};
     ghost use Rattle.dict_driver.specs.Rounds.{Admits, Moves, TurnEach, Waits, latest};
+    ghost use Rattle.dict_driver.specs.Telling.{KeepsOthers};
     ghost use Rattle.dict_driver.specs.Stages.{is_departing};
     ghost use Rattle.dict_driver.specs.Turns.{IsAtRest};
-    ghost use Rattle.dict_driver.specs.Turning.{MarkAll};
+    ghost use Rattle.dict_driver.specs.Turning.{KeepsAllBut, MarkAll};
     ghost use Rattle.dict_driver.specs.Ordering.{AreOfTurns, ComeById, IsOpeningOf};
 
     /// No connection was there yet.
@@ -88,15 +90,23 @@ impl<T: Transport> Connections<T> {
 
     /// Opens a connection, or drops its transport where there is no place for it or the hub refuses it. Its id is then
     /// that of the next one.
-    pub fn admit<K: Keeper>(&mut self, transport: T, kind: Kind, hub: &mut Hub, desk: &mut K)
+    pub fn admit<K: Keeper, O: Opening>(
+        &mut self,
+        opening: &O,
+        transport: T,
+        kind: Kind,
+        hub: &mut Hub,
+        desk: &mut K,
+    )
         ensures led { HasLedOn (K.is_trusted desk.new) (K.shows desk.old) (K.leaves_one_of desk.old) (K.shows desk.new) (K.leaves_one_of desk.new) hub.old hub.new
-            (λ events. Moves self.old self.new events × IsOpeningOf kind events × Admits transport kind self.old self.new events) }
+            (λ events. Moves self.old self.new events × IsOpeningOf kind events × Admits O.refuses transport kind hub.old hub.new self.old self.new events) }
         ensures trust { K.is_trusted desk.new → K.is_trusted desk.old }
+        ensures others { KeepsOthers (self.old.last + 1) hub.old hub.new }
     {
         let Some(id) = self.next_id() else {
             return;
         };
-        if let Some(one) = Connection::open(self.alloc, id, kind, transport, hub, desk) {
+        if let Some(one) = Connection::open(opening, self.alloc, id, kind, transport, hub, desk) {
             self.last = id;
             self.opened.push_reserved(one);
         }
@@ -106,8 +116,9 @@ impl<T: Transport> Connections<T> {
     /// that are over are dropped. Whether anything happened.
     pub fn turn<K: Keeper>(&mut self, hub: &mut Hub, desk: &mut K) -> bool
         ensures led { HasLedOn (K.is_trusted desk.new) (K.shows desk.old) (K.leaves_one_of desk.old) (K.shows desk.new) (K.leaves_one_of desk.new) hub.old hub.new
-            (λ events. Moves self.old self.new events × AreOfTurns events × ComeById events × TurnEach T.taken T.coming T.made self.old self.new result events) }
+            (λ events. Moves self.old self.new events × AreOfTurns events × ComeById events × TurnEach T.taken T.coming T.made hub.old self.old self.new result events) }
         ensures trust { K.is_trusted desk.new → K.is_trusted desk.old }
+        ensures others { KeepsAllBut self.old.opened.items hub.old hub.new }
         ensures idle { result ≡ false → All IsAtRest self.new.opened.items }
     {
         let departed = depart_all(&mut self.departing);

@@ -1,5 +1,5 @@
 // The driver of the program.
-ghost use Rattle.std.specs.Prelude.{◌≡◌, IfOk};
+ghost use Rattle.std.specs.Prelude.{◌≡◌, IfOk, None};
 ghost use Rattle.dict_driver.specs.Binding.{AreTold, Binds};
 
 use crate::binding::{System, bind_both};
@@ -35,6 +35,7 @@ impl<'h> Driver<'h> {
         ensures binds { Binds dict.now http.now result }
         ensures told { IfOk result (λ driver. AreTold dict.now http.now driver.addresses) }
         ensures rounds { IfOk result (λ driver. driver.event_loop.rounds ≡ 0) }
+        ensures failure { IfOk result (λ driver. driver.event_loop.failure ≡ None) }
     {
         let (sockets, addresses) = match bind_both(&System, net, alloc, dict, http) {
             Ok(bound) => bound,

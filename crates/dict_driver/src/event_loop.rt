@@ -1,5 +1,6 @@
 // Rounds over sockets.
-ghost use Rattle.std.specs.Prelude.{◌≡◌, ◌≢◌, ◌==◌, ◌≤◌, ◌<◌, ℕ, IfOk, List, MatchResult, [], false, length};
+ghost use Rattle.std.specs.Prelude.{◌≡◌, ◌≢◌, ◌==◌, ◌≤◌, ◌<◌, ◌+◌, ℕ, IfOk, List, MatchResult, [], false, length};
+ghost use Rattle.std.specs.Duration.{as_nanos};
 ghost use Rattle.std.specs.IoError.{error_kind};
 ghost use Rattle.dict_driver.specs.Looking.{tells};
 ghost use Rattle.dict_driver.specs.Turning.{MarkAll};
@@ -38,6 +39,7 @@ impl<'h, T: Transport, S: Sockets<T>> EventLoop<'h, T, S> {
     ghost use Rattle.dict_driver.specs.Listening.{is_ready};
     ghost use Rattle.dict_driver.specs.Looking.{IsIdle, IsKept, Looks, listening_of, other_kind};
     ghost use Rattle.dict_driver.specs.Accepting.{HasAccepted, HasTaken};
+    ghost use Rattle.dict_driver.specs.Telling.{KeepsOthers};
     ghost use Rattle.dict_driver.specs.EventLoops.{GoesRound};
 
     /// No connection came by these sockets yet, the first one's id is 1, and no round was made. Replies name the server by
@@ -49,6 +51,7 @@ impl<'h, T: Transport, S: Sockets<T>> EventLoop<'h, T, S> {
         ensures last { IfOk result (λ event_loop. event_loop.connections.last ≡ 0) }
         ensures beginning { IfOk result (λ event_loop. IsAt event_loop.hub (beginning host.now)) }
         ensures rounds { IfOk result (λ event_loop. event_loop.rounds ≡ 0) }
+        ensures failure { IfOk result (λ event_loop. event_loop.failure ≡ None) }
     {
         Ok(EventLoop {
             sockets,
@@ -88,7 +91,7 @@ impl<'h, T: Transport, S: Sockets<T>> EventLoop<'h, T, S> {
     /// is made before. Whether anything happened; where nothing did, `wait` may come before the next round.
     pub fn round<K: Keeper>(&mut self, desk: &mut K) -> io::Result<bool>
         ensures led { HasLedOn (K.is_trusted desk.new) (K.shows desk.old) (K.leaves_one_of desk.old) (K.shows desk.new) (K.leaves_one_of desk.new) self.old.hub self.new.hub
-            (λ events. Moves self.old.connections self.new.connections events × AreOfRound events × GoesRound T.taken T.coming T.made S.asked S.told result self.old self.new events) }
+            (λ events. Moves self.old.connections self.new.connections events × AreOfRound events × GoesRound T.taken T.coming T.made S.refuses S.asked S.told result self.old self.new events) }
         ensures trust { K.is_trusted desk.new → K.is_trusted desk.old }
         ensures rounds { IsCounted result self.old.rounds self.new.rounds }
         ensures grown { self.old.rounds ≤ self.new.rounds }
@@ -108,14 +111,14 @@ impl<'h, T: Transport, S: Sockets<T>> EventLoop<'h, T, S> {
 
     /// Waits until a socket is ready, or as long as this.
     pub fn wait(&mut self, most: Duration) -> io::Result<()>
-        ensures { Looks S.asked (S.told self.new.sockets) result self.old self.new }
+        ensures { Looks S.asked (as_nanos most) (S.told self.new.sockets) result self.old self.new }
     {
         self.look(most)
     }
 
     // Notes which sockets are ready, and waits for one as long as this.
     fn look(&mut self, most: Duration) -> io::Result<()>
-        ensures { Looks S.asked (S.told self.new.sockets) result self.old self.new }
+        ensures { Looks S.asked (as_nanos most) (S.told self.new.sockets) result self.old self.new }
     {
         let looked = self.sockets.look(most);
         mark_told(&self.sockets, &mut self.connections);
@@ -130,8 +133,9 @@ impl<'h, T: Transport, S: Sockets<T>> EventLoop<'h, T, S> {
     // Takes a connection that waits at a listening socket. Whether one did, or the call is to be made again.
     fn accept<K: Keeper>(&mut self, kind: Kind, desk: &mut K) -> bool
         ensures led { HasLedOn (K.is_trusted desk.new) (K.shows desk.old) (K.leaves_one_of desk.old) (K.shows desk.new) (K.leaves_one_of desk.new) self.old.hub self.new.hub
-            (λ events. Moves self.old.connections self.new.connections events × IsOpeningOf kind events × HasAccepted S.asked kind self.old self.new events) }
+            (λ events. Moves self.old.connections self.new.connections events × IsOpeningOf kind events × HasAccepted S.refuses S.asked kind self.old self.new events) }
         ensures trust { K.is_trusted desk.new → K.is_trusted desk.old }
+        ensures others { KeepsOthers (self.old.connections.last + 1) self.old.hub self.new.hub }
         ensures kept { IsKept self.old self.new }
         ensures asked { result ≡ is_ready (listening_of kind self.new) }
         ensures other { listening_of (other_kind kind) self.new ≡ listening_of (other_kind kind) self.old }
@@ -181,8 +185,9 @@ impl<'h, T: Transport, S: Sockets<T>> EventLoop<'h, T, S> {
     // Opens the connection, or closes its socket where there is no place for it.
     fn admit<K: Keeper>(&mut self, transport: T, kind: Kind, desk: &mut K)
         ensures led { HasLedOn (K.is_trusted desk.new) (K.shows desk.old) (K.leaves_one_of desk.old) (K.shows desk.new) (K.leaves_one_of desk.new) self.old.hub self.new.hub
-            (λ events. Moves self.old.connections self.new.connections events × IsOpeningOf kind events × HasTaken S.asked transport kind self.old self.new events) }
+            (λ events. Moves self.old.connections self.new.connections events × IsOpeningOf kind events × HasTaken S.refuses S.asked transport kind self.old self.new events) }
         ensures trust { K.is_trusted desk.new → K.is_trusted desk.old }
+        ensures others { KeepsOthers (self.old.connections.last + 1) self.old.hub self.new.hub }
         ensures kept { IsKept self.old self.new }
         ensures dict { self.new.dict_listening ≡ self.old.dict_listening }
         ensures http { self.new.http_listening ≡ self.old.http_listening }
@@ -191,7 +196,8 @@ impl<'h, T: Transport, S: Sockets<T>> EventLoop<'h, T, S> {
             Some(id) => {
                 let mut transport = transport;
                 if self.sockets.watch(&mut transport, id).is_ok() {
-                    self.connections.admit(transport, kind, &mut self.hub, desk);
+                    self.connections
+                        .admit(&self.sockets, transport, kind, &mut self.hub, desk);
                 }
             }
             None => {}

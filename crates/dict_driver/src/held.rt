@@ -4,7 +4,6 @@ ghost use Rattle.dict_driver.specs.Pieces.{first_line, next_piece};
 
 use dict_hub::Kind;
 use memchr::memchr;
-use std::alloc::{AllocError, Global};
 
 /// The most octets that one reading takes.
 pub const PIECE: usize = 4_096;
@@ -22,19 +21,21 @@ pub struct Held {
 }
 
 impl Held {
-    ghost use Rattle.std.specs.Prelude.{[], IfOk, drop, length};
+    ghost use Rattle.std.specs.Prelude.{[], drop, length};
     ghost use Rattle.dict_driver.specs.Handing.{held_in, is_handed};
 
-    /// Nothing was read yet of a connection of this kind.
-    pub fn new(alloc: Global, kind: Kind) -> Result<Self, AllocError>
-        ensures kind { IfOk result (λ held. held.kind ≡ kind) }
-        ensures none { IfOk result (λ held. held_in held ≡ []) }
+    /// Nothing was read yet of a connection of this kind. This is the room for it.
+    pub fn new(kind: Kind, octets: Vec<u8>) -> Self
+        requires none { octets.items ≡ [] }
+        requires room { 4096 ≤ vec_capacity octets }
+        ensures kind { result.kind ≡ kind }
+        ensures none { held_in result ≡ [] }
     {
-        Ok(Held {
+        Held {
             kind,
-            octets: Vec::with_capacity(alloc, PIECE)?,
+            octets,
             handed: 0,
-        })
+        }
     }
 
     /// Whether all was handed.

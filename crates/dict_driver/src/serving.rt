@@ -1,8 +1,10 @@
 // Rounds, one after another.
-ghost use Rattle.std.specs.Prelude.{◌≡◌, ◌≤◌, ℕ, IfErr, List};
+ghost use Rattle.std.specs.Prelude.{◌≡◌, ◌≤◌, ℕ, false, IfErr, List, Ok};
 ghost use Rattle.std.specs.IoError.{error_kind};
 ghost use Rattle.dict_driver.specs.Leading.{HasLedOn};
+ghost use Rattle.dict_driver.specs.Looking.{WaitsIf};
 ghost use Rattle.dict_driver.specs.Rounds.{Waits, Moves};
+ghost use Rattle.dict_driver.specs.Served.{AreRounds, Round, is_waited};
 ghost use Rattle.dict_driver.specs.Serving.{AreCounted, IsClosedBy, longest_wait, rounds_of};
 ghost use Rattle.std.specs.Duration.{as_nanos};
 
@@ -39,15 +41,16 @@ pub fn pace(rounds: Option<u32>) -> (u64, Duration)
     }
 }
 
-/// So many rounds over a desk, fewer where it is closed. After a round in which nothing happened, and that isn't the
-/// last, the sockets are waited for, at most as long as `wait`. An error is one of waiting for sockets; the loop and
-/// the desk may be used again.
+/// So many rounds over a desk, fewer where it is closed; each goes on where the one before it ended. After a round in which
+/// nothing happened, and that isn't the last, the sockets are waited for, at most as long as `wait`. An error is one of
+/// waiting for sockets; the loop and the desk may be used again.
 pub fn serve<T: Transport, S: Sockets<T>, K: Keeper>(
     event_loop: &mut EventLoop<T, S>,
     desk: &mut K,
     rounds: u64,
     wait: Duration,
 ) -> io::Result<Served>
+    ensures by_rounds { (each : List (Round K T S _)) × AreRounds K.shows K.leaves_one_of K.is_trusted K.is_closed T.taken T.coming T.made S.refuses S.asked S.told (as_nanos wait) rounds event_loop.old desk.old event_loop.new desk.new each result }
     ensures led { HasLedOn (K.is_trusted desk.new) (K.shows desk.old) (K.leaves_one_of desk.old) (K.shows desk.new) (K.leaves_one_of desk.new) event_loop.old.hub event_loop.new.hub
         (λ events. Moves event_loop.old.connections event_loop.new.connections events) }
     ensures trust { K.is_trusted desk.new → K.is_trusted desk.old }
@@ -61,9 +64,19 @@ pub fn serve<T: Transport, S: Sockets<T>, K: Keeper>(
         if desk.summary().is_err() {
             return Ok(Served::Closed(rounds - made - 1));
         }
-        wait_if(event_loop, !has_moved && made + 1 < rounds, wait)?;
+        wait_if(event_loop, is_wait_due(has_moved, rounds - made), wait)?;
     }
     Ok(Served::Whole)
+}
+
+// Whether the sockets are waited for behind a round, of so many with it.
+fn is_wait_due(has_moved: bool, rounds: u64) -> bool
+    ensures { result ≡ is_waited (Ok has_moved) false rounds }
+{
+    if has_moved {
+        return false;
+    }
+    rounds > 1
 }
 
 // Waits for the sockets, where it is asked to.
@@ -72,6 +85,7 @@ fn wait_if<T: Transport, S: Sockets<T>>(
     is_asked: bool,
     most: Duration,
 ) -> io::Result<()>
+    ensures behind { WaitsIf S.asked (as_nanos most) (S.told event_loop.new.sockets) is_asked result event_loop.old event_loop.new }
     ensures hub { event_loop.new.hub ≡ event_loop.old.hub }
     ensures waits { (id : ℕ) (octets : List ℕ) → Waits event_loop.new.connections id octets → Waits event_loop.old.connections id octets }
     ensures last { event_loop.new.connections.last ≡ event_loop.old.connections.last }

@@ -1,19 +1,25 @@
 // What the system's sockets are asked.
-ghost use Rattle.std.specs.Prelude.{◌≡◌, ◌<◌, ℕ, List, Option, Result, [], ◌∷◌, length, slice_index_or, map, None, is_ok};
+ghost use Rattle.std.specs.Prelude.{◌≡◌, ◌<◌, ℕ, List, Option, Result, [], ◌∷◌, length, slice_index_or, map, None, is_ok, ⊤};
 ghost use Rattle.std.specs.declared.io.Error.{Error};
+ghost use Rattle.std.specs.Duration.{as_nanos};
 ghost use Rattle.mio.specs.Event.{event_token};
 ghost use Rattle.mio.specs.Events.{items};
 ghost use Rattle.dict_driver.specs.Asking.{Asking, Asks, looks, accepts, watches};
 
-use dict_hub::Kind;
-use dict_outlet::{Socket, Transport};
+use crate::held::PIECE;
+use crate::opening::{Opening, greet_by_hub};
+use dict_desk::Keeper;
+use dict_hub::{Hub, HubFault, Kind, Out};
+use dict_outlet::{Queue, Socket, Transport};
 use mio::net::TcpListener;
 use mio::{Events, Poll, Token};
+use std::alloc::{AllocError, Global};
 use std::io;
 use std::time::Duration;
 
-/// Two listening sockets, for readers and for editors, and a look at which sockets are ready.
-pub trait Sockets<T: Transport>: Drop {
+/// Two listening sockets, for readers and for editors, and a look at which sockets are ready; and what a connection takes that came
+/// by them.
+pub trait Sockets<T: Transport>: Drop + Opening {
     /// What was asked of them so far, in order, and what came of it, where it is known.
     ghost asked: { Self → Option (List (Asking T)) };
 
@@ -22,7 +28,7 @@ pub trait Sockets<T: Transport>: Drop {
 
     /// Looks which sockets are ready, and waits for one as long as this.
     fn look(&mut self, most: Duration) -> io::Result<()>
-        ensures asked { Asks (asked self.old) (asked self.new) (looks (told self.new) (is_ok result) ∷ []) };
+        ensures asked { Asks (asked self.old) (asked self.new) (looks (as_nanos most) (told self.new) (is_ok result) ∷ []) };
 
     /// Of how many sockets the last look told.
     fn told_count(&self) -> usize
@@ -67,6 +73,32 @@ impl SystemSockets {
             poll,
             events,
         }
+    }
+}
+
+// Which growths are refused isn't known.
+impl Opening for SystemSockets {
+    ghost refuses = { λ _ _ _ _. ⊤ };
+
+    fn room(
+        &self,
+        alloc: Global,
+        _hub: &Hub,
+        _id: u64,
+        _kind: Kind,
+    ) -> Result<Vec<u8>, AllocError> {
+        Vec::with_capacity(alloc, PIECE)
+    }
+
+    fn greet<K: Keeper>(
+        &self,
+        hub: &mut Hub,
+        desk: &mut K,
+        id: u64,
+        kind: Kind,
+        queue: &mut Queue,
+    ) -> Result<Out, HubFault> {
+        greet_by_hub(hub, desk, id, kind, queue)
     }
 }
 

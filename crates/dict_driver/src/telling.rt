@@ -1,8 +1,8 @@
 // One event for the hub.
 ghost use Rattle.std.specs.Prelude.{◌≡◌, ℕ, List, None};
-ghost use Rattle.dict_hub.specs.Events.{came, happening};
+ghost use Rattle.dict_hub.specs.Events.{came, happening, id_of};
 ghost use Rattle.dict_driver.specs.Leading.{HasLedOn};
-ghost use Rattle.dict_driver.specs.Telling.{IsTold, IsToldThrough, MayRefuse};
+ghost use Rattle.dict_driver.specs.Telling.{IsTold, IsToldThrough, KeepsOthers, MayRefuse};
 
 use dict_desk::Keeper;
 use dict_hub::{Event, Hub, Out};
@@ -15,6 +15,7 @@ pub fn tell<K: Keeper>(hub: &mut Hub, desk: &mut K, event: Event, queue: &mut Qu
     ensures led { HasLedOn (K.is_trusted desk.new) (K.shows desk.old) (K.leaves_one_of desk.old) (K.shows desk.new) (K.leaves_one_of desk.new) hub.old hub.new
         (λ events. IsTold (happening event.entry) result queue.old queue.new events) }
     ensures trust { K.is_trusted desk.new → K.is_trusted desk.old }
+    ensures others { KeepsOthers (id_of (happening event.entry)) hub.old hub.new }
 {
     match hub.event(desk, event, queue) {
         Ok(out) => Some(out),
@@ -33,6 +34,7 @@ pub fn tell_through<T: Transport, K: Keeper>(
     ensures led { HasLedOn (K.is_trusted desk.new) (K.shows desk.old) (K.leaves_one_of desk.old) (K.shows desk.new) (K.leaves_one_of desk.new) hub.old hub.new
         (λ events. IsToldThrough T.taken T.coming T.made (happening event.entry) result queue.old queue.new transport.old transport.new events) }
     ensures trust { K.is_trusted desk.new → K.is_trusted desk.old }
+    ensures others { KeepsOthers (id_of (happening event.entry)) hub.old hub.new }
     ensures refused { (id : ℕ) (piece : List ℕ) → happening event.entry ≡ came id piece → result ≡ None → MayRefuse hub.old id }
 {
     let absent = transport.absent();
@@ -63,6 +65,7 @@ fn tell_from<T: Transport, K: Keeper, B: Beginning>(
     ensures led { HasLedOn (K.is_trusted desk.new) (K.shows desk.old) (K.leaves_one_of desk.old) (K.shows desk.new) (K.leaves_one_of desk.new) hub.old hub.new
         (λ events. IsToldThrough T.taken T.coming T.made (happening event.entry) result.0 queue result.1 transport result.2 events) }
     ensures trust { K.is_trusted desk.new → K.is_trusted desk.old }
+    ensures others { KeepsOthers (id_of (happening event.entry)) hub.old hub.new }
     ensures refused { (id : ℕ) (piece : List ℕ) → happening event.entry ≡ came id piece → result.0 ≡ None → MayRefuse hub.old id }
 {
     let mut outlet = Outlet::<T, B>::new(queue, transport);

@@ -2,7 +2,7 @@
 ghost use Rattle.std.specs.Prelude.{◌≡◌, ◌<◌, ◌==◌, ℕ, false, All, slice_index_or, vec_len, vec_capacity};
 ghost use Rattle.std.specs.List.{AllPairs};
 ghost use Rattle.dict_driver.specs.Leading.{HasLedOn};
-ghost use Rattle.dict_driver.specs.Turning.{DepartAll, MarkAll, TurnAll};
+ghost use Rattle.dict_driver.specs.Turning.{DepartAll, KeepsAllBut, MarkAll, TurnAll};
 ghost use Rattle.dict_driver.specs.Turns.{IsAtRest};
 
 use crate::connection::Connection;
@@ -19,8 +19,9 @@ pub fn turn_all<T: Transport, K: Keeper>(
 ) -> bool
     requires { AllPairs (λ a b. a.id < b.id) all.old.items }
     ensures led { HasLedOn (K.is_trusted desk.new) (K.shows desk.old) (K.leaves_one_of desk.old) (K.shows desk.new) (K.leaves_one_of desk.new) hub.old hub.new
-        (λ events. TurnAll T.taken T.coming T.made all.old.items all.new.items result events) }
+        (λ events. TurnAll T.taken T.coming T.made hub.old all.old.items all.new.items result events) }
     ensures trust { K.is_trusted desk.new → K.is_trusted desk.old }
+    ensures others { KeepsAllBut all.old.items hub.old hub.new }
     ensures idle { result ≡ false → All IsAtRest all.new.items }
     ensures ids { (k : ℕ) (d : _) → k < vec_len all.old → (slice_index_or all.new.items k d).id ≡ (slice_index_or all.old.items k d).id }
     ensures len { vec_len all.new ≡ vec_len all.old }

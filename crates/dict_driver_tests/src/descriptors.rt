@@ -1,12 +1,12 @@
 // Descriptors that run out while one reader is busy, and come back.
-ghost use Rattle.std.specs.Prelude.{None};
+ghost use Rattle.std.specs.Prelude.{None, ⊤};
 
 use crate::checks::same;
-use dict_desk::PlainDesk;
-use dict_driver::{EventLoop, Sockets};
-use dict_hub::Kind;
-use dict_outlet::Transport;
-use std::alloc::Global;
+use dict_desk::{Keeper, PlainDesk};
+use dict_driver::{EventLoop, Opening, Sockets, greet_by_hub};
+use dict_hub::{Hub, HubFault, Kind, Out};
+use dict_outlet::{Queue, Transport};
+use std::alloc::{AllocError, Global};
 use std::io::{Error, ErrorKind, Result as IoResult};
 use std::test::Fail;
 use std::time::Duration;
@@ -49,6 +49,31 @@ struct Few {
     told: Vec<u64>,
     found: u32,
     missed: u32,
+}
+
+impl Opening for Few {
+    ghost refuses = { λ _ _ _ _. ⊤ };
+
+    fn room(
+        &self,
+        alloc: Global,
+        _hub: &Hub,
+        _id: u64,
+        _kind: Kind,
+    ) -> Result<Vec<u8>, AllocError> {
+        Vec::with_capacity(alloc, 4_096)
+    }
+
+    fn greet<K: Keeper>(
+        &self,
+        hub: &mut Hub,
+        desk: &mut K,
+        id: u64,
+        kind: Kind,
+        queue: &mut Queue,
+    ) -> Result<Out, HubFault> {
+        greet_by_hub(hub, desk, id, kind, queue)
+    }
 }
 
 impl Sockets<Busy> for Few {

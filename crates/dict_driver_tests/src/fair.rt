@@ -2,6 +2,7 @@
 ghost use Rattle.std.specs.Prelude.{Some, None};
 
 use crate::checks::same;
+use crate::rooms::Rooms;
 use crate::serving::{Play, Step};
 use dict_desk::PlainDesk;
 use dict_driver::{Connection, Stage};
@@ -87,7 +88,8 @@ fn turn(one: &mut Connection<Talker>, hub: &mut Hub, desk: &mut PlainDesk) -> Af
 fn comes_to(alloc: Global, peer: Talker, wanted: &[After]) -> Result<(), Fail> {
     let mut desk = PlainDesk::new(alloc);
     let mut hub = Hub::new(alloc, "localhost")?;
-    let Some(mut one) = Connection::open(alloc, 7, Kind::Dict, peer, &mut hub, &mut desk) else {
+    let Some(mut one) = Connection::open(&Rooms, alloc, 7, Kind::Dict, peer, &mut hub, &mut desk)
+    else {
         return Err(Fail::new("refused"));
     };
     for want in wanted {

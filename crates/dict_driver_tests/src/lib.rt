@@ -23,6 +23,8 @@ mod long;
 #[cfg(test)]
 mod memory;
 #[cfg(test)]
+mod rooms;
+#[cfg(test)]
 mod rounds;
 #[cfg(test)]
 mod serving;

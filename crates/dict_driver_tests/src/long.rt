@@ -3,6 +3,7 @@ ghost use Rattle.std.specs.Prelude.{Some, None};
 
 use super::files::long_desk;
 use crate::checks::same;
+use crate::rooms::Rooms;
 use dict_desk::PlainDesk;
 use dict_driver::{Connection, Stage};
 use dict_hub::{Hub, Kind};
@@ -111,7 +112,7 @@ struct Run {
 impl Run {
     fn new(alloc: Global, desk: &mut PlainDesk, peer: Peer) -> Result<Run, Fail> {
         let mut hub = Hub::new(alloc, "localhost")?;
-        match Connection::open(alloc, 7, Kind::Dict, peer, &mut hub, desk) {
+        match Connection::open(&Rooms, alloc, 7, Kind::Dict, peer, &mut hub, desk) {
             Some(one) => Ok(Run { hub, one }),
             None => Err(Fail::new("refused")),
         }
@@ -207,8 +208,8 @@ fn a_peer_for_which_as_much_waits_as_may(rt: HostRuntime) -> Result<(), Fail> {
     Ok(())
 }
 
-// One that takes 65,536 octets at a time, and then none until it is asked again, gets all that was put: what it took at once
-// and the 1 MiB that waited. Then it is told that nothing more is sent.
+// One that takes 65,536 octets at a time, and then none until it is asked again, gets the answer whole: it is asked again within
+// the event.
 #[test]
 fn a_slow_peer(rt: HostRuntime) -> Result<(), Fail> {
     let mut desk = long_desk(rt.alloc())?;
@@ -220,8 +221,8 @@ fn a_slow_peer(rt: HostRuntime) -> Result<(), Fail> {
     let (got, begins) = (taken.len(), taken.starts_with(FIRST.as_bytes()));
     let stage = run.one.stage();
     drop(run);
-    same(&rt, &got, &(MOST_AT_ONCE + MOST_WAITING));
+    same(&rt, &got, &WHOLE);
     same(&rt, &begins, &true);
-    same(&rt, &stage, &Stage::Draining);
+    same(&rt, &stage, &Stage::Open);
     Ok(())
 }

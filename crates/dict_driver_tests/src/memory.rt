@@ -2,6 +2,7 @@
 ghost use Rattle.std.specs.Prelude.{Some, None};
 
 use crate::checks::same;
+use crate::rooms::Rooms;
 use dict_desk::PlainDesk;
 use dict_driver::{Connection, Stage};
 use dict_hub::{Hub, Kind};
@@ -76,7 +77,7 @@ impl Run {
             taken: Vec::new(alloc),
             room,
         };
-        match Connection::open(alloc, 7, Kind::Dict, transport, &mut hub, &mut desk) {
+        match Connection::open(&Rooms, alloc, 7, Kind::Dict, transport, &mut hub, &mut desk) {
             Some(one) => Ok(Run { hub, desk, one }),
             None => Err(Fail::new("refused")),
         }

@@ -9,6 +9,21 @@ use crate::trail::Trail;
 use crate::transport::Transport;
 use dict_io::{Sink, SinkFault};
 use std::marker::{Brand, PhantomData};
+use std::thread::yield_now;
+
+// How often within one event a transport is asked in vain to take what waits, and then once more each time. A call takes a
+// microsecond or less.
+const MOST_TRIES: u16 = 4_096;
+
+// After how many of them another thread may run.
+const PAUSED_TRIES: u16 = 64;
+
+// Lets another thread run, after some of the tries of which so many are left.
+fn pause(tries: u16) {
+    if tries % PAUSED_TRIES == 0 {
+        yield_now();
+    }
+}
 
 /// What is known of a transport as an event begins.
 pub trait Beginning {
@@ -30,13 +45,16 @@ impl Beginning for Brand {
     ghost made = { None };
 }
 
-/// Where one event puts its octets: they wait in a queue, and where it is full the transport is asked to take them.
+/// Where one event puts its octets: they wait in a queue, and where it is full the transport is asked to take them, some
+/// thousand times where it takes none.
 #[derive(Drop)]
 pub struct Outlet<T: Transport, B: Beginning> {
     queue: Queue,
     transport: T,
     // What the transport took since the event began.
     taken: Trail,
+    // How often more it may be asked in vain before the event gives up.
+    tries: u16,
     of: PhantomData<B>,
     ghost takes: { HasTaken B.taken (T.taken transport) taken.octets },
     ghost keeps: { HasTaken B.coming (T.coming transport) [] },
@@ -61,6 +79,7 @@ impl<T: Transport, B: Beginning> Outlet<T, B> {
             queue,
             transport,
             taken: Trail::new(),
+            tries: MOST_TRIES,
             of: PhantomData,
         }
     }
@@ -75,6 +94,7 @@ impl<T: Transport, B: Beginning> Outlet<T, B> {
             queue,
             transport,
             taken: _,
+            tries: _,
             of: _,
         } = self;
         (answer, queue, transport)
@@ -98,9 +118,29 @@ impl<T: Transport, B: Beginning> Outlet<T, B> {
         self.queue.append(rest)
     }
 
-    // Asks the transport to take what waits. Whether it took any.
+    // Asks the transport to take what waits, and where it takes none again, as often as it may be asked in vain within an event: a
+    // peer that reads at once is given the time to. Whether it took any.
     fn send(&mut self) -> bool
         requires { length (waiting self.old.queue) ≡ 1048576 }
+        ensures carried { carried self.new.taken self.new.queue ≡ carried self.old.taken self.old.queue }
+        ensures took { result ≡ true → length (waiting self.new.queue) < 1048576 }
+        ensures none { result ≡ false → waiting self.new.queue ≡ waiting self.old.queue }
+        ensures failures { self.new.queue.failures ≡ self.old.queue.failures }
+    {
+        while self.tries > 0 {
+            if self.send_once() {
+                return true;
+            }
+            self.tries -= 1;
+            pause(self.tries);
+        }
+        self.send_once()
+    }
+
+    // Asks the transport once to take what waits. Whether it took any.
+    fn send_once(&mut self) -> bool
+        requires { length (waiting self.old.queue) ≡ 1048576 }
+        ensures tries { self.new.tries ≡ self.old.tries }
         ensures carried { carried self.new.taken self.new.queue ≡ carried self.old.taken self.old.queue }
         ensures took { result ≡ true → length (waiting self.new.queue) < 1048576 }
         ensures none { result ≡ false → waiting self.new.queue ≡ waiting self.old.queue }

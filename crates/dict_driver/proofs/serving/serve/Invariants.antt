@@ -1,10 +1,15 @@
-use Rattle.std.proofs.Common.{◌≡◌, ◌<◌, ◌≤◌, ◌+◌, ◌^◌, false}
+use Rattle.std.proofs.Common.{◌≡◌, ◌<◌, ◌≤◌, ◌+◌, ◌-◌, ◌^◌, List, false}
+use Rattle.std.specs.Duration.{as_nanos}
 use Rattle.dict_driver.specs.Leading.{HasLedOn}
 use Rattle.dict_driver.specs.Rounds.{Moves}
+use Rattle.dict_driver.specs.Served.{Round}
+use Rattle.dict_driver.proofs.ServedLemmas.{AreMade}
 use Rattle.dict_driver.proofs.serving.serve.Given as goal
 
 abbrev pub invariant-loop-made : goal.invariant-loop-made
 invariant-loop-made g l = record {
+  by_rounds : (each : List (Round _ _ _ _)) × AreMade g.K.Lookup.shows g.K.Lookup.leaves_one_of g.K.Lookup.is_trusted g.K.Lookup.is_closed g.T.Transport.taken g.T.Transport.coming g.T.Transport.made g.S.Opening.refuses
+      g.S.Sockets.asked g.S.Sockets.told (as_nanos l.fn.wait) l.fn.rounds l.fn.event_loop l.fn.desk l.event_loop l.desk each (l.fn.rounds - l.made);
   grown : l.fn.event_loop.rounds ≤ l.event_loop.rounds;
   counted : l.fn.event_loop.rounds + l.fn.rounds < 2 ^ 64 → l.event_loop.rounds ≡ l.fn.event_loop.rounds + l.made;
   is_open : 0 < l.made → g.K.Lookup.is_closed l.desk ≡ false;

@@ -2,7 +2,7 @@ use Rattle.std.proofs.Common.{◌≡◌, ◌<◌, ◌≤◌, true, false, rules,
 use Rattle.dict_driver.proofs.BoolLemmas.{so_still, so_then}
 use Rattle.dict_driver.proofs.LeadLemmas.{led_as, led_joined, led_still}
 use Rattle.dict_driver.proofs.ListLemmas.{default_free, idle_more, ids_more, ids_same, taken_whole}
-use Rattle.dict_driver.proofs.RoundLemmas.{turn_none, turn_more, turn_whole}
+use Rattle.dict_driver.proofs.RoundLemmas.{keeps_more, keeps_whole, turn_none, turn_more, turn_whole}
 use Rattle.dict_driver.proofs.turning.turn_all.Goals.{then-turn, else-turn}
 use Rattle.dict_driver.proofs.turning.turn_all.Goals as goal
 
@@ -12,7 +12,8 @@ loop-one-init g c =
       ids = ids_same c.args.all.now.items;
       idle = λ still k d before within. absurd (omega (arith, before));
       trust = λ trusted. trusted;
-      led = led_still (turn_none g.T.Transport.taken g.T.Transport.coming g.T.Transport.made c.args.all.now.items);
+      others = λ other held apart has. has;
+      led = led_still (turn_none g.T.Transport.taken g.T.Transport.coming g.T.Transport.made c.args.hub.now c.args.all.now.items);
     })
 
 pub loop-one-preserved : goal.loop-one-preserved
@@ -24,6 +25,7 @@ loop-one-preserved g c =
     let len : length now ≡ length c.args.all.now.items = ids.len in
     let in_now : i < length now = search rules in
     let within : i < length c.args.all.now.items = omega arith in
+    let was : (d : _) → (get_or c.args.all.now.items i d).id ≡ one.id = λ d. sym (ids.same i d within) ∙ ap (λ it. it.id) (default_free now i d c.one-item.result in_now) in
     record {
       ids = ids_more c.args.all.now.items now i c.turn.new.self c.one-item.result ids in_now c.turn.ensures.id;
       idle = elim c.if-turn.branch [
@@ -31,14 +33,15 @@ loop-one-preserved g c =
         | else-turn w ↦ λ still. idle_more now i c.turn.new.self in_now (c.loop-one.invariant.idle (sym w.has_moved-is ∙ still)) (c.turn.ensures.idle w.if-turn.false)
       ];
       trust = λ trusted. c.loop-one.invariant.trust (c.turn.ensures.trust trusted);
+      others = keeps_more c.args.all.now.items i one c.args.hub.now c.loop-one.hub c.turn.new.hub within was c.loop-one.invariant.others c.turn.ensures.others;
       led = led_joined c.loop-one.invariant.led c.turn.ensures.led c.turn.ensures.trust
-          (λ es fs all turns. turn_more g.T.Transport.taken g.T.Transport.coming g.T.Transport.made c.args.all.now.items now i one c.turn.new.self c.loop-one.has_moved c.turn.result _ es fs c.requires within
+          (λ es fs all turns. turn_more g.T.Transport.taken g.T.Transport.coming g.T.Transport.made c.args.hub.now c.loop-one.hub c.args.all.now.items now i one c.turn.new.self c.loop-one.has_moved c.turn.result _ es fs c.requires within
           (default_free now i one c.one-item.result in_now)
           (elim c.if-turn.branch [
             | then-turn w ↦ so_then _ c.loop-one.has_moved c.turn.result w.has_moved-is w.if-turn.true
             | else-turn w ↦ so_still _ c.loop-one.has_moved c.turn.result w.has_moved-is w.if-turn.false
           ])
-          (_, turns) all);
+          c.loop-one.invariant.others turns all);
     }
 
 pub returns-clause-led : goal.returns-clause-led
@@ -48,7 +51,13 @@ returns-clause-led g c =
     let done : length c.args.all.now.items ≤ c.loop-one.one-index = omega (arith, all, c.loop-one-test.false) in
     rw taken_whole
     (led_as c.loop-one.invariant.led
-    (λ events up_to. turn_whole g.T.Transport.taken g.T.Transport.coming g.T.Transport.made c.args.all.now.items c.loop-one.one-items c.loop-one.one-index c.loop-one.has_moved events done up_to))
+    (λ events up_to. turn_whole g.T.Transport.taken g.T.Transport.coming g.T.Transport.made c.args.hub.now c.args.all.now.items c.loop-one.one-items c.loop-one.one-index c.loop-one.has_moved events done up_to))
+
+pub returns-clause-others : goal.returns-clause-others
+returns-clause-others g c =
+    let all : length c.deref_mut-one-items.result.now ≡ length c.args.all.now.items = ap length c.deref_mut-one-items.ensures.value in
+    let done : length c.args.all.now.items ≤ c.loop-one.one-index = omega (arith, all, c.loop-one-test.false) in
+    keeps_whole c.args.all.now.items c.loop-one.one-index c.args.hub.now c.loop-one.hub done c.loop-one.invariant.others
 
 pub returns-clause-idle : goal.returns-clause-idle
 returns-clause-idle g c =

@@ -2,7 +2,7 @@ use Rattle.std.proofs.Common.{◌≡◌, ◌<◌, ℕ, false, length, get_or}
 use Rattle.dict_driver.specs.Leading.{HasLedOn}
 use Rattle.dict_driver.specs.Turns.{IsAtRest}
 use Rattle.dict_driver.proofs.ListLemmas.{HaveSameIds}
-use Rattle.dict_driver.proofs.RoundLemmas.{TurnUpTo}
+use Rattle.dict_driver.proofs.RoundLemmas.{KeepsFrom, TurnUpTo}
 use Rattle.dict_driver.proofs.turning.turn_all.Given as goal
 
 abbrev pub invariant-loop-one : goal.invariant-loop-one
@@ -10,6 +10,7 @@ invariant-loop-one g l = record {
   ids : HaveSameIds l.fn.all.items l.one-items;
   idle : l.has_moved ≡ false → (k : ℕ) (d : _) → k < l.one-index → k < length l.one-items → IsAtRest (get_or l.one-items k d);
   trust : g.K.Lookup.is_trusted l.desk → g.K.Lookup.is_trusted l.fn.desk;
+  others : KeepsFrom l.fn.all.items l.one-index l.fn.hub l.hub;
   led : HasLedOn (g.K.Lookup.is_trusted l.desk) (g.K.Lookup.shows l.fn.desk) (g.K.Lookup.leaves_one_of l.fn.desk) (g.K.Lookup.shows l.desk) (g.K.Lookup.leaves_one_of l.desk) l.fn.hub l.hub
-      (λ events. TurnUpTo g.T.Transport.taken g.T.Transport.coming g.T.Transport.made l.fn.all.items l.one-items l.one-index l.has_moved events);
+      (λ events. TurnUpTo g.T.Transport.taken g.T.Transport.coming g.T.Transport.made l.fn.hub l.fn.all.items l.one-items l.one-index l.has_moved events);
 }

@@ -35,3 +35,6 @@ returns-in-None-clause-led g c =
     (λ es fs told ended. hands_refused c.args.hub.now g.T.Transport.taken g.T.Transport.coming g.T.Transport.made old _ _ (held_in old.held) what es fs refl refl refl c.end.ensures.over
     (subst (λ a. IsToldThrough g.T.Transport.taken g.T.Transport.coming g.T.Transport.made what a old.queue c.tell_through.new.queue old.transport c.tell_through.new.transport es) c.in-None.is told)
     ended (c.tell_through.ensures.refused old.id c.next_piece-piece.result.now refl c.in-None.is))
+
+pub returns-in-None-clause-others : goal.returns-in-None-clause-others
+returns-in-None-clause-others g c = λ other held apart has. c.end.ensures.others other held apart (c.tell_through.ensures.others other held apart has)

@@ -57,3 +57,12 @@ returns-in-Nothing-clause-led g c =
 
 pub returns-in-Nothing-clause-idle : goal.returns-in-Nothing-clause-idle
 returns-in-Nothing-clause-idle g c = λ still. (refl, ap (λ it. held_in it.held) c.receive-received.ensures.same ∙ c.requires)
+
+pub returns-in-Octets-clause-others : goal.returns-in-Octets-clause-others
+returns-in-Octets-clause-others g c = λ other held apart has. c.hand.ensures.others other held (λ same. apart (same ∙ ap (λ it. it.id) c.receive-received.ensures.same)) has
+
+pub returns-in-End-clause-others : goal.returns-in-End-clause-others
+returns-in-End-clause-others g c = λ other held apart has. c.part.ensures.others other held (λ same. apart (same ∙ ap (λ it. it.id) c.receive-received.ensures.same)) has
+
+pub returns-in-Failed-clause-others : goal.returns-in-Failed-clause-others
+returns-in-Failed-clause-others g c = λ other held apart has. c.end.ensures.others other held (λ same. apart (same ∙ ap (λ it. it.id) c.receive-received.ensures.same)) has

@@ -27,3 +27,12 @@ returns-clause-led g c =
 
 pub returns-clause-idle : goal.returns-clause-idle
 returns-clause-idle g c = λ still. c.read-received.ensures.idle (nothing_came c.send-sent.result c.read-received.result (sym c.has_moved.ensures ∙ still))
+
+pub returns-then-has_failed-clause-others : goal.returns-then-has_failed-clause-others
+returns-then-has_failed-clause-others g c = λ other held apart has. c.end.ensures.others other held (λ same. apart (same ∙ c.send-sent.ensures.id)) has
+
+pub returns-then-not-is_empty-clause-others : goal.returns-then-not-is_empty-clause-others
+returns-then-not-is_empty-clause-others g c = λ other held apart has. c.hand.ensures.others other held (λ same. apart (same ∙ c.send-sent.ensures.id)) has
+
+pub returns-clause-others : goal.returns-clause-others
+returns-clause-others g c = λ other held apart has. c.read-received.ensures.others other held (λ same. apart (same ∙ c.send-sent.ensures.id)) has

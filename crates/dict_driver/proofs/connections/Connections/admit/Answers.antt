@@ -1,4 +1,5 @@
 use Rattle.std.proofs.Common.{◌≡◌, ◌<◌, ◌+◌, refl, sym, ◌∙◌, subst, inl, inr, arith}
+use Rattle.dict_driver.specs.Opening.{IsUnopened}
 use Rattle.dict_driver.specs.Rounds.{Moves}
 use Rattle.dict_driver.specs.Turns.{IsOpened}
 use Rattle.dict_driver.specs.Ordering.{IsOpeningOf}
@@ -8,7 +9,8 @@ use Rattle.dict_driver.proofs.RoundLemmas.{moves_same, moves_opened, opened_flow
 use Rattle.dict_driver.proofs.connections.Connections.admit.Goals as goal
 
 pub returns-in_default-clause-led : goal.returns-in_default-clause-led
-returns-in_default-clause-led g c = led_still (moves_same c.args.self.now c.args.self.now refl (λ id octets now. now), tt, inl (refl, refl, refl, refl))
+returns-in_default-clause-led g c =
+    led_still (moves_same c.args.self.now c.args.self.now refl (λ id octets now. now), tt, inl (refl, refl, refl, refl, (λ other held has. has), inl c.in_default.ensures))
 
 -- the new id is above all
 above : (g : _) (c : goal.After-push_reserved g) → c.args.self.now.last < c.in-Some-open.one.id
@@ -40,10 +42,23 @@ returns-in-Some-open-clause-led g c =
     let up : c.args.self.now.last < one.id = omega arith in
     led_as c.in-Some-open.ensures.led
     (λ events opened. (
-      moves_opened c.args.self.now _ one events c.push_reserved.ensures.items refl (sym id) up (opened_own one.id c.args.kind one events (subst (λ i. IsOpened i c.args.kind one events) (sym id) opened))
-          (opened_flows c.in-Some.id c.args.kind one events opened),
-      opened_is c.in-Some.id c.args.kind one events opened,
-      inr (one, subst (λ i. IsOpened i c.args.kind one events) value opened, id ∙ value, c.in-Some-open.ensures.transport, c.in-Some-open.ensures.may_receive, c.in-Some-open.ensures.kind, c.in-Some-open.ensures.held, c.push_reserved.ensures.items, refl, value),
+      moves_opened c.args.self.now _ one events c.push_reserved.ensures.items refl (sym id) up
+          (opened_own one.id c.args.kind c.open.new.hub one events (subst (λ i. IsOpened i c.args.kind c.open.new.hub one events) (sym id) opened))
+          (opened_flows c.in-Some.id c.args.kind c.open.new.hub one events opened),
+      opened_is c.in-Some.id c.args.kind c.open.new.hub one events opened,
+      inr (
+        one,
+        subst (λ i. IsOpened i c.args.kind c.open.new.hub one events) value opened,
+        id ∙ value,
+        c.in-Some-open.ensures.transport,
+        c.in-Some-open.ensures.may_receive,
+        c.in-Some-open.ensures.kind,
+        c.in-Some-open.ensures.held,
+        c.push_reserved.ensures.items,
+        refl,
+        value,
+        λ other held apart has. c.open.ensures.others other held (λ same. apart (same ∙ value)) has,
+      ),
     ))
 
 pub returns-in_default-open-clause-led : goal.returns-in_default-open-clause-led
@@ -52,5 +67,18 @@ returns-in_default-open-clause-led g c =
     (λ events none. (
       subst (λ es. Moves c.args.self.now c.args.self.now es) (sym none) (moves_same c.args.self.now c.args.self.now refl (λ id octets now. now)),
       subst (λ es. IsOpeningOf c.args.kind es) (sym none) tt,
-      inl (none, refl, refl, refl),
+      inl (
+        none,
+        refl,
+        refl,
+        refl,
+        c.in_default-open.ensures.unopened.1,
+        inr (subst (λ i. IsUnopened g.O.Opening.refuses c.args.hub.now i c.args.kind) c.in-Some.ensures.0 c.in_default-open.ensures.unopened.0),
+      ),
     ))
+
+pub returns-in-Some-open-clause-others : goal.returns-in-Some-open-clause-others
+returns-in-Some-open-clause-others g c = λ other held apart has. c.open.ensures.others other held (λ same. apart (same ∙ c.in-Some.ensures.0)) has
+
+pub returns-in_default-open-clause-others : goal.returns-in_default-open-clause-others
+returns-in_default-open-clause-others g c = λ other held apart has. c.open.ensures.others other held (λ same. apart (same ∙ c.in-Some.ensures.0)) has

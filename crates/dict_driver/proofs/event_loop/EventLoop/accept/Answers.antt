@@ -1,4 +1,5 @@
-use Rattle.std.proofs.Common.{◌≡◌, List, [], ◌∷◌, ◌++◌, refl, sym, ap, subst, ◌∙◌, Ok, Err}
+use Rattle.std.proofs.Common.{◌≡◌, ◌+◌, List, [], ◌∷◌, ◌++◌, refl, sym, ap, subst, ◌∙◌, Ok, Err}
+use Rattle.dict_hub.specs.Hubs.{Has}
 use Rattle.dict_hub.specs.Runs.{Accepted, IsAt}
 use Rattle.dict_driver.specs.Accepting.{HasAccepted}
 use Rattle.dict_driver.specs.Asking.{Asks, accepts}
@@ -15,7 +16,7 @@ pub returns-then-not-may_accept-clause-led : goal.returns-then-not-may_accept-cl
 returns-then-not-may_accept-clause-led g c =
     let self = c.args.self.now in
     let isnt = ap may_accept (sym c.listening.ensures) ∙ sym c.may_accept.ensures ∙ c.if-not-may_accept.true in
-    led_still (moves_same self.connections self.connections refl (λ id octets now. now), tt, ([], asks_none (g.S.Sockets.asked self.sockets), accepts_not c.args.kind (listening_of c.args.kind self) self.connections isnt))
+    led_still (moves_same self.connections self.connections refl (λ id octets now. now), tt, ([], asks_none (g.S.Sockets.asked self.sockets), accepts_not g.S.Opening.refuses c.args.kind (listening_of c.args.kind self) self.hub self.connections isnt))
 
 pub returns-then-not-may_accept-clause-asked : goal.returns-then-not-may_accept-clause-asked
 returns-then-not-may_accept-clause-asked g c =
@@ -31,11 +32,11 @@ returns-in-Ok-clause-led g c =
     (moves_as self.connections c.note.new.self.connections c.note.ensures.connections, refl))
     c.admit.ensures.led c.admit.ensures.trust
     (λ es fs before later. subst (λ (l : List Accepted). Moves self.connections c.admit.new.self.connections (l ++ fs) × IsOpeningOf c.args.kind (l ++ fs)
-    × HasAccepted g.S.Sockets.asked c.args.kind self c.admit.new.self (l ++ fs)) (sym before.1) (
+    × HasAccepted g.S.Opening.refuses g.S.Sockets.asked c.args.kind self c.admit.new.self (l ++ fs)) (sym before.1) (
       moves_joined self.connections c.note.new.self.connections c.admit.new.self.connections [] fs (subst (λ (l : List Accepted). Moves self.connections c.note.new.self.connections l) before.1 before.0) later.0,
       later.1,
-      accepted_one c.args.kind (listening_of c.args.kind self) (listening_of c.args.kind c.admit.new.self) c.in-Ok.transport (g.S.Sockets.asked self.sockets) (g.S.Sockets.asked c.note.new.self.sockets)
-          (g.S.Sockets.asked c.admit.new.self.sockets) self.connections c.note.new.self.connections c.admit.new.self.connections fs may ready c.note.ensures.connections
+      accepted_one g.S.Opening.refuses c.args.kind (listening_of c.args.kind self) (listening_of c.args.kind c.admit.new.self) c.in-Ok.transport (g.S.Sockets.asked self.sockets) (g.S.Sockets.asked c.note.new.self.sockets)
+          (g.S.Sockets.asked c.admit.new.self.sockets) self.hub c.note.new.self.hub c.admit.new.self.hub self.connections c.note.new.self.connections c.admit.new.self.connections fs may ready c.note.ensures.hub c.note.ensures.connections
           (subst (λ s. Asks (g.S.Sockets.asked self.sockets) (g.S.Sockets.asked s) (accepts c.args.kind (Ok c.in-Ok.transport) ∷ [])) (sym c.note.ensures.sockets)
           (subst (λ r. Asks (g.S.Sockets.asked self.sockets) (g.S.Sockets.asked c.accept.new.self) (accepts c.args.kind r ∷ [])) c.in-Ok.is c.accept.ensures.asked))
           later.2,
@@ -51,8 +52,15 @@ returns-in-Err-clause-led g c =
     led_none (λ state at. subst (λ h. IsAt h state) (sym c.note-in-Err.ensures.hub) at) (
       moves_as self.connections c.note-in-Err.new.self.connections c.note-in-Err.ensures.connections,
       tt,
-      accepted_none c.args.kind (listening_of c.args.kind self) (listening_of c.args.kind c.note-in-Err.new.self) c.in-Err.error (g.S.Sockets.asked self.sockets) (g.S.Sockets.asked c.note-in-Err.new.self.sockets)
-          self.connections c.note-in-Err.new.self.connections may (c.note-in-Err.ensures.noted ∙ c.listening_by-listening.ensures ∙ ap listening_by c.kind.ensures) c.note-in-Err.ensures.connections
+      accepted_none g.S.Opening.refuses c.args.kind (listening_of c.args.kind self) (listening_of c.args.kind c.note-in-Err.new.self) c.in-Err.error (g.S.Sockets.asked self.sockets) (g.S.Sockets.asked c.note-in-Err.new.self.sockets)
+          self.hub c.note-in-Err.new.self.hub self.connections c.note-in-Err.new.self.connections may (c.note-in-Err.ensures.noted ∙ c.listening_by-listening.ensures ∙ ap listening_by c.kind.ensures) c.note-in-Err.ensures.hub c.note-in-Err.ensures.connections
           (subst (λ s. Asks (g.S.Sockets.asked self.sockets) (g.S.Sockets.asked s) (accepts c.args.kind (Err c.in-Err.error) ∷ [])) (sym c.note-in-Err.ensures.sockets)
           (subst (λ r. Asks (g.S.Sockets.asked self.sockets) (g.S.Sockets.asked c.accept.new.self) (accepts c.args.kind r ∷ [])) c.in-Err.is c.accept.ensures.asked)),
     )
+
+pub returns-in-Ok-clause-others : goal.returns-in-Ok-clause-others
+returns-in-Ok-clause-others g c = λ other held apart has.
+    c.admit.ensures.others other held (λ same. apart (same ∙ ap (λ all. all.last + 1) c.note.ensures.connections)) (subst (λ h. Has h other held) (sym c.note.ensures.hub) has)
+
+pub returns-in-Err-clause-others : goal.returns-in-Err-clause-others
+returns-in-Err-clause-others g c = λ other held apart has. subst (λ h. Has h other held) (sym c.note-in-Err.ensures.hub) has

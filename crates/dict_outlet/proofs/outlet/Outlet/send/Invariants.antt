@@ -1,0 +1,14 @@
+use Rattle.std.proofs.Common.{◌≡◌}
+use Rattle.dict_outlet.specs.Outlets.{carried}
+use Rattle.dict_outlet.specs.Queues.{waiting}
+use Rattle.dict_outlet.proofs.outlet.Outlet.send.Given as goal
+
+abbrev pub invariant-loop-self : goal.invariant-loop-self
+invariant-loop-self g l = record {
+  carried : carried l.self.taken l.self.queue ≡ carried l.fn.self.taken l.fn.self.queue;
+  waits : waiting l.self.queue ≡ waiting l.fn.self.queue;
+  failures : l.self.queue.failures ≡ l.fn.self.queue.failures;
+}
+
+abbrev pub decreases-loop-self : goal.decreases-loop-self
+decreases-loop-self g l = l.self.tries
