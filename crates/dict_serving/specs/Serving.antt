@@ -1,5 +1,6 @@
 -- How serving goes: the stretches of rounds, one for each opening of the file.
-use Rattle.std.specs.Prelude.{◌≡◌, ◌⊎◌, ◌+◌, ℕ, Bool, true, false, List, [], ◌∷◌, Option, Some, Contains, Result, Ok, Err, codes, ⊤}
+use Rattle.std.specs.Prelude.{◌≡◌, ◌⊎◌, ◌+◌, ℕ, Bool, true, false, List, [], ◌∷◌, Option, None, Some, Contains, Result, Ok, Err, codes, ⊤}
+use Rattle.std.specs.declared.io.Error.{Error}
 use Rattle.std.specs.declared.io.ErrorKind.{ErrorKind}
 use Rattle.dict_catalogue.specs.Steps.{Catalogue}
 use Rattle.dict_io.specs.Streams.{Change, PutsAll}
@@ -8,17 +9,27 @@ use Rattle.dict_driver.specs.Leading.{HasLedOn}
 use Rattle.dict_driver.specs.Rounds.{Moves}
 use Rattle.dict_driver.specs.Binding.{IsAddress, AreTold}
 use Rattle.dict_driver.specs.Serving.{rounds_of}
+use Rattle.dict_driver.specs.Driving.{AreDriven}
 use Rattle.dict_driver.specs.declared.driver.Driver.{Driver}
+use Rattle.dict_driver.specs.declared.serving.Served.{Served}
+use Rattle.dict_driver.specs.declared.serving.Served.TheVariants.{Closed}
 use Rattle.dict_printed.specs.declared.fault.Fault.{Fault}
 use Rattle.dict_printed.specs.declared.fault.Fault.TheVariants as faults
 use Rattle.dict_serving.specs.Counting.{MakesAll}
 use Rattle.dict_serving.specs.Listening.{TellsKind, lines_of}
 
--- one opening of the file: its desk as it was opened, and as it was left, and how many rounds were made over it
+-- one opening of the file: its desk as it was opened, and as it was left, how many rounds were to be made over it, how many were, and how
+-- they ended
 pub record Stretch (K : Type 0) : Type 0 where
   pub opened : K
   pub left : K
+  pub asked : ℕ
   pub rounds : ℕ
+  pub ended : Result Served Error
+
+-- rounds ended since the store of the desk had failed, and so many were left
+abbrev pub AreLeft : Result Served Error → ℕ → Type 0
+AreLeft ended left = ended ≡ Ok (Closed left)
 
 -- the faults of a file and of its catalogue: the file can't be read, or its catalogue can't be had, or memory ran out. No refusal is one
 abbrev pub IsOfFile : Fault → Type 0
@@ -52,10 +63,10 @@ pub record IsNew {K : Type 0} (Shows : K → Catalogue → Type 0) (LeavesOneOf 
 abbrev pub IsOpen : {K : Type 0} → (K → Bool) → (K → Type 0) → K → Type 0
 IsOpen is_closed IsOpened desk = IsOpened desk ⊎ (is_closed desk ≡ false)
 
--- the first stretch, if there is one, is over this desk
-abbrev pub IsFirst : {K : Type 0} → K → List (Stretch K) → Type 0
-IsFirst desk [] = ⊤
-IsFirst desk (one ∷ others) = one.opened ≡ desk
+-- the first stretch, if there is one, is over this desk, and so many rounds were to be made over it
+abbrev pub IsFirst : {K : Type 0} → ℕ → K → List (Stretch K) → Type 0
+IsFirst rounds desk [] = ⊤
+IsFirst rounds desk (one ∷ others) = (one.opened ≡ desk) × (one.asked ≡ rounds)
 
 -- A desk shows one of the catalogues that a stop could have left of another: this is told where what it stands on has returned what was
 -- written to it
@@ -84,18 +95,21 @@ Ends is_closed Unreopened stretches driver (Err fault) = CannotWait driver fault
 module _ {K : Type 0} (Shows : K → Catalogue → Type 0) (LeavesOneOf : K → List (Option Catalogue) → Type 0) (IsTrusted : K → Type 0) (IsOpened : K → Type 0)
     (is_closed : K → Bool) where
   -- Over the desk of one opening events led the hub from where it was to where it is, and what waits for each connection is what
-  -- waited and what its own events put, without a front that was sent. So many rounds were made more than before
+  -- waited and what its own events put, without a front that was sent. So many rounds were made more than before, of those that were to be
+  -- made, each from where the one before it ended
   pub record IsOver (one : Stretch K) (old new : Driver) : Type 0 where
     pub opened : IsNew Shows LeavesOneOf IsTrusted IsOpened one.opened
     pub led : HasLedOn (IsTrusted one.left) (Shows one.opened) (LeavesOneOf one.opened) (Shows one.left) (LeavesOneOf one.left) old.event_loop.hub new.event_loop.hub
         (λ events. Moves old.event_loop.connections new.event_loop.connections events)
+    pub by_rounds : AreDriven Shows LeavesOneOf IsTrusted is_closed one.asked old one.opened new one.left one.ended
     pub trust : IsTrusted one.left → IsTrusted one.opened
     pub made : new.event_loop.rounds ≡ old.event_loop.rounds + one.rounds
 
-  -- where others follow a stretch, its store had failed, and the desk of the next shows one of the catalogues that a stop could have left of its desk
+  -- where others follow a stretch, its store had failed, the desk of the next shows one of the catalogues that a stop could have left of
+  -- its desk, and over it the rounds are to be made that were left
   abbrev pub GaveWay : Stretch K → List (Stretch K) → Type 0
   GaveWay one [] = ⊤
-  GaveWay one (other ∷ others) = (is_closed one.left ≡ true) × Follows Shows LeavesOneOf IsTrusted one.left other.opened
+  GaveWay one (other ∷ others) = (is_closed one.left ≡ true) × Follows Shows LeavesOneOf IsTrusted one.left other.opened × AreLeft one.ended other.asked
 
   -- one stretch after the other, each from where the one before it left the hub and the connections, and each but the first because
   -- the store of the one before it had failed
@@ -104,8 +118,8 @@ module _ {K : Type 0} (Shows : K → Catalogue → Type 0) (LeavesOneOf : K → 
   AreServed (one ∷ others) old new = (between : Driver) × IsOver one old between × GaveWay one others × AreServed others between new
 
   -- Both texts are addresses, and those that were bound for them were told. Stretches, the first over this desk, led from a hub with no
-  -- connection, of the host `localhost`, whose first id is to be 1, and from no round; and as many rounds as were asked for were made by
-  -- them, or at a fault no more
+  -- connection, of the host `localhost`, whose first id is to be 1, and from no round and no failed look; and as many rounds as were
+  -- asked for were made by them, or at a fault no more
   pub record HasServed (desk : K) (dict http : List ℕ) (rounds : Option ℕ) (result : Result (Unit {0}) Fault) (Unreopened : K → Fault → Type 0) (writer : Change) : Type 0 where
     pub first : Driver
     pub last : Driver
@@ -116,8 +130,9 @@ module _ {K : Type 0} (Shows : K → Catalogue → Type 0) (LeavesOneOf : K → 
     pub begins : IsAt first.event_loop.hub (beginning (codes "localhost"))
     pub no_id : first.event_loop.connections.last ≡ 0
     pub no_round : first.event_loop.rounds ≡ 0
+    pub no_failure : first.event_loop.failure ≡ None
     pub stretches : List (Stretch K)
-    pub over : IsFirst desk stretches
+    pub over : IsFirst (rounds_of rounds) desk stretches
     pub served : AreServed stretches first last
     pub made : MakesAll (rounds_of rounds) result last.event_loop.rounds
     pub ends : Ends is_closed Unreopened stretches last result

@@ -31,6 +31,9 @@ pub trait Desks<K: Keeper> {
     /// Whatever a stop now leaves of the file that was closed last, and of its log, is one of these.
     ghost still_leaves: { Self → List (Option Catalogue) → Type 0 };
 
+    /// The fault tells why the file of this desk, which was closed last, doesn't hold its catalogue alone.
+    ghost is_uncopied: { K → Self → PrintedFault → Type 0 };
+
     /// Opens the file with this path, and the desk of its catalogue, which shows a catalogue, and of which a stop leaves that one
     /// alone. A fault is one of the file or of its catalogue, and no refusal.
     fn open<'w>(&mut self, path: &'w str) -> Result<K, Fault<'w>>
@@ -48,6 +51,6 @@ pub trait Desks<K: Keeper> {
     /// Closes a desk and its file, which then holds the catalogue alone, without its log. At a fault, `Memory` or `Store(Disk)`, it
     /// holds it with its log.
     fn close(&mut self, desk: K) -> Result<(), Fault<'static>>
-        ensures shut { IsShut K.shows K.leaves_one_of K.is_trusted is_safe holds_alone still_leaves desk result self.new }
+        ensures shut { IsShut K.shows K.leaves_one_of K.is_trusted is_safe holds_alone still_leaves is_uncopied desk result self.new }
         ensures history { Does (history self.old) (history self.new) (Closes desk ∷ []) };
 }

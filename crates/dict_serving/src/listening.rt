@@ -1,5 +1,5 @@
 // Two addresses that are bound, and told.
-ghost use Rattle.std.specs.Prelude.{◌≡◌, IfOk, codes};
+ghost use Rattle.std.specs.Prelude.{◌≡◌, IfOk, None, codes};
 ghost use Rattle.dict_io.specs.Streams.{change};
 ghost use Rattle.dict_driver.specs.Binding.{AreTold};
 ghost use Rattle.dict_hub.specs.Runs.{IsAt, beginning};
@@ -37,6 +37,7 @@ pub(crate) fn listen<'w, W: Sink>(
     ensures last { IfOk result (λ driver. driver.event_loop.connections.last ≡ 0) }
     ensures bound { IfOk result (λ driver. AreTold wanted.now.dict.now wanted.now.http.now driver.addresses) }
     ensures rounds { IfOk result (λ driver. driver.event_loop.rounds ≡ 0) }
+    ensures failure { IfOk result (λ driver. driver.event_loop.failure ≡ None) }
 {
     let driver = match Driver::bind(net, alloc, wanted.dict, wanted.http, HOST) {
         Ok(driver) => driver,

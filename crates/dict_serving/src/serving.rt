@@ -1,8 +1,10 @@
 // Rounds over the desk of a file, which is opened again where its store failed.
-ghost use Rattle.std.specs.Prelude.{◌≡◌, ◌<◌, ◌-◌, true, IfOk, MatchResult, Option, Some, None, List, [], ◌∷◌};
+ghost use Rattle.std.specs.Prelude.{◌≡◌, ◌<◌, ◌-◌, true, IfOk, MatchResult, Option, Some, None, Result, List, [], ◌∷◌};
+ghost use Rattle.std.specs.declared.io.Error.{Error};
+ghost use Rattle.dict_driver.specs.declared.serving.Served.{Served};
 ghost use Rattle.dict_io.specs.Streams.{change};
 ghost use Rattle.dict_serving.specs.Counting.{AreMade, AreMadeTo};
-ghost use Rattle.dict_serving.specs.Serving.{AreServed, Ends, Follows, IsFirst, IsNew, IsOpen, IsOver, Stretch};
+ghost use Rattle.dict_serving.specs.Serving.{AreLeft, AreServed, Ends, Follows, IsFirst, IsNew, IsOpen, IsOver, Stretch};
 ghost use Rattle.dict_serving.specs.Deeds.{got};
 ghost use Rattle.dict_serving.specs.Done.{HasDone, HasReopened, HasTurned, ServeEnds};
 
@@ -65,7 +67,7 @@ pub fn serve_rounds<'w, K: Keeper + Drop, D: Desks<K>>(
 ) -> Result<K, Fault<'w>>
     requires { IsNew K.shows K.leaves_one_of K.is_trusted D.is_opened desk }
     ensures stands { IfOk result (IsOpen K.is_closed (IsNew K.shows K.leaves_one_of K.is_trusted D.is_opened)) }
-    ensures served { (stretches : List (Stretch K)) × AreServed K.shows K.leaves_one_of K.is_trusted D.is_opened K.is_closed stretches driver.old driver.new × IsFirst desk stretches
+    ensures served { (stretches : List (Stretch K)) × AreServed K.shows K.leaves_one_of K.is_trusted D.is_opened K.is_closed stretches driver.old driver.new × IsFirst rounds desk stretches
         × Ends K.is_closed (D.is_unreopened path.entry.now) stretches driver.new result
         × HasDone path.entry.now desk stretches (got result) (D.history desks.old) (D.history desks.new) }
     ensures made { AreMade rounds result driver.old.event_loop.rounds driver.new.event_loop.rounds }
@@ -95,10 +97,11 @@ fn serve_stretch<'w, K: Keeper + Drop, D: Desks<K>>(
 ) -> Result<Pending<K>, Fault<'w>>
     requires opened { IsNew K.shows K.leaves_one_of K.is_trusted D.is_opened pending.desk }
     requires some { 0 < pending.left }
-    ensures served { (left : K) × IsOver K.shows K.leaves_one_of K.is_trusted D.is_opened K.is_closed
-        (record { opened = pending.desk; left = left; rounds = driver.new.event_loop.rounds - driver.old.event_loop.rounds }) driver.old driver.new
-        × Ends K.is_closed (D.is_unreopened path.entry.now) (record { opened = pending.desk; left = left; rounds = driver.new.event_loop.rounds - driver.old.event_loop.rounds } ∷ []) driver.new result
-        × IfOk result (λ next. 0 < next.left → (K.is_closed left ≡ true) × Follows K.shows K.leaves_one_of K.is_trusted left next.desk × HasReopened path.entry.now left next.desk (D.history desks.old) (D.history desks.new))
+    ensures served { (left : K) × (ended : Result Served Error) × IsOver K.shows K.leaves_one_of K.is_trusted D.is_opened K.is_closed
+        (record { opened = pending.desk; left = left; asked = pending.left; rounds = driver.new.event_loop.rounds - driver.old.event_loop.rounds; ended = ended }) driver.old driver.new
+        × Ends K.is_closed (D.is_unreopened path.entry.now) (record { opened = pending.desk; left = left; asked = pending.left; rounds = driver.new.event_loop.rounds - driver.old.event_loop.rounds; ended = ended } ∷ []) driver.new result
+        × IfOk result (λ next. 0 < next.left → (K.is_closed left ≡ true) × Follows K.shows K.leaves_one_of K.is_trusted left next.desk × AreLeft ended next.left
+        × HasReopened path.entry.now left next.desk (D.history desks.old) (D.history desks.new))
         × MatchResult result (λ next. HasTurned path.entry.now left (Some next.desk) (D.history desks.old) (D.history desks.new)) (λ _. HasTurned path.entry.now left None (D.history desks.old) (D.history desks.new)) }
     ensures opened { IfOk result (λ next. 0 < next.left → IsNew K.shows K.leaves_one_of K.is_trusted D.is_opened next.desk) }
     ensures stands { IfOk result (λ next. IsOpen K.is_closed (IsNew K.shows K.leaves_one_of K.is_trusted D.is_opened) next.desk) }

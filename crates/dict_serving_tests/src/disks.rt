@@ -107,6 +107,8 @@ impl<D: Crash + Drop> Desks<Desk<FileStore<D>>> for Disks<D> {
 
     ghost still_leaves = { λ one ms. MatchOption one.closed ⊥ (λ desk. LeavesOneOf over_files desk ms) };
 
+    ghost is_uncopied = { λ _ _ _. ⊤ };
+
     fn open<'w>(&mut self, _path: &'w str) -> Result<Desk<FileStore<D>>, Fault<'w>> {
         match self.closed.take() {
             Some(desk) => adopt(self.alloc, desk),

@@ -17,8 +17,9 @@ use Rattle.dict_desk.proofs.HandingLemmas.{hands_front}
 use Rattle.dict_file.specs.Holds.{HasLayout, Holds, IsLeft}
 use Rattle.dict_lookup.specs.Searches.{FailsToLookUp}
 use Rattle.dict_store.specs.Desk.{IsAtRest, Shows, is_closed}
-use Rattle.dict_lookup.specs.Texts.{AreTextsOf, AreMade}
-use Rattle.dict_store.specs.Kept.{KeepsTexts, texts_after}
+use Rattle.dict_lookup.specs.Texts.{AreMade}
+use Rattle.dict_store.specs.Kept.{KeepsCache, IsCacheOf, cache_after}
+use Rattle.dict_store.specs.declared.kept.Cache.{Cache}
 use Rattle.dict_store.specs.declared.last.Last.{Last}
 use Rattle.dict_store.specs.declared.last.Last.TheVariants.{Fine, Failed, Closed}
 use Rattle.dict_rows.specs.Versions.{known, layout_of}
@@ -69,23 +70,23 @@ module _ {S : Type 0} (g : Ghosts S) (old new : Held S) (summary : Holdings (Lis
     own = λ fine clean live. subst (λ (db : Database). HasLayout (layout_of known) db.schema) (sym (now_same clean live)) (rest.own open_before (clean_first clean) ((stays clean).was_open live));
   }
 
-  -- the texts that are kept are of the same database
-  pub keeps_on : (kept : List (ℕ × List ℕ)) → AreMade summary.installs kept → (HasCleanDisk (state g new) → IsTrue (state g old).is_open → AreTextsOf (state g old).now kept) → KeepsTexts g after summary (texts_after after kept) new
+  -- what is kept is of the same database
+  pub keeps_on : (kept : Cache) → AreMade summary.installs kept.texts → (HasCleanDisk (state g new) → IsTrue (state g old).is_open → IsCacheOf (state g old).now kept) → KeepsCache g after summary (cache_after after kept) new
   keeps_on kept made are = by_last after
     where
-      by_last : (last : Last) → KeepsTexts g last summary (texts_after last kept) new
-      by_last Fine = record { made = made; are = λ fine clean live. subst (λ (db : Database). AreTextsOf db kept) (sym (now_same clean live)) (are clean ((stays clean).was_open live)) }
-      by_last Failed = record { made = tt; are = λ fine clean live. tt }
-      by_last Closed = record { made = tt; are = λ fine clean live. tt }
+      by_last : (last : Last) → KeepsCache g last summary (cache_after last kept) new
+      by_last Fine = record { made = made; are = λ fine clean live. subst (λ (db : Database). IsCacheOf db kept) (sym (now_same clean live)) (are clean ((stays clean).was_open live)) }
+      by_last Failed = record { made = tt; are = λ fine clean live. (tt, tt) }
+      by_last Closed = record { made = tt; are = λ fine clean live. (tt, tt) }
 
-  -- the desk, whose texts are these now
-  pub desk_on : (old.in_transaction ≡ false → new.in_transaction ≡ false) → (kept texts : List (ℕ × List ℕ)) → texts ≡ texts_after after kept → AreMade summary.installs kept
-      → (HasCleanDisk (state g new) → IsTrue (state g old).is_open → AreTextsOf (state g old).now kept) → IsAtRest g after summary new × KeepsTexts g after summary texts new
-  desk_on mode kept texts is made are = (rests_on mode, subst (λ (l : List (ℕ × List ℕ)). KeepsTexts g after summary l new) (sym is) (keeps_on kept made are))
+  -- the desk, which keeps this now
+  pub desk_on : (old.in_transaction ≡ false → new.in_transaction ≡ false) → (kept cache : Cache) → cache ≡ cache_after after kept → AreMade summary.installs kept.texts
+      → (HasCleanDisk (state g new) → IsTrue (state g old).is_open → IsCacheOf (state g old).now kept) → IsAtRest g after summary new × KeepsCache g after summary cache new
+  desk_on mode kept cache is made are = (rests_on mode, subst (λ (k : Cache). KeepsCache g after summary k new) (sym is) (keeps_on kept made are))
 
-  -- of texts that the call left as they were
-  pub desk_still : (old.in_transaction ≡ false → new.in_transaction ≡ false) → (kept texts : List (ℕ × List ℕ)) → texts ≡ texts_after after kept → KeepsTexts g before summary kept old → IsAtRest g after summary new × KeepsTexts g after summary texts new
-  desk_still mode kept texts is keeps = desk_on mode kept texts is keeps.made (λ clean live. keeps.are open_before (clean_first clean) live)
+  -- what the call left as it was
+  pub desk_still : (old.in_transaction ≡ false → new.in_transaction ≡ false) → (kept cache : Cache) → cache ≡ cache_after after kept → KeepsCache g before summary kept old → IsAtRest g after summary new × KeepsCache g after summary cache new
+  desk_still mode kept cache is keeps = desk_on mode kept cache is keeps.made (λ clean live. keeps.are open_before (clean_first clean) live)
 
   module _ (M : Catalogue) (shown : Shows g (record { conn = old; summary = summary; last = before }) M) where
     pub shows_on : Shows g (record { conn = new; summary = summary; last = after }) M

@@ -30,7 +30,8 @@ use Rattle.dict_commands.specs.declared.applied.Applied.TheVariants.{Before, Now
 use Rattle.dict_store.specs.Desk.{DeskState, IsAtRest, Shows, LeavesOneOf, StandsFor, is_closed, has_failed, last_by, reply_of}
 use Rattle.dict_commands.specs.Kept.{AddsAbove}
 use Rattle.dict_desk.specs.Faults.{is_failure}
-use Rattle.dict_store.specs.Kept.{KeepsTexts, texts_after}
+use Rattle.dict_store.specs.Kept.{KeepsCache, without_counts, cache_after}
+use Rattle.dict_store.specs.declared.kept.Cache.{Cache}
 use Rattle.dict_store.proofs.TextLemmas.{texts_applied}
 use Rattle.dict_store.specs.declared.last.Last.{Last}
 use Rattle.dict_store.proofs.DeskLemmas.{Stays}
@@ -239,18 +240,18 @@ module _ {S : Type 0} (g : Ghosts S) (old new : Held S) (summary : Holdings (Lis
     desk_is = ap {B = DeskState S} (λ (s : Holdings (List ℕ)). record { conn = new; summary = s; last = last_by result }) (sym after_is) ∙ ap {B = DeskState S} (λ (l : Last). record { conn = new; summary = after; last = l }) (sym last_is)
 
     -- what is true of it
-    pub told_rests : (kept texts : List (ℕ × List ℕ)) → texts ≡ texts_after last kept → KeepsTexts g before summary kept old → HoldsBy (summary_after summary result) (state g new) → IsInRange (summary_after summary result) → new.in_transaction ≡ false
+    pub told_rests : (kept cache : Cache) → cache ≡ cache_after last (without_counts kept) → KeepsCache g before summary kept old → HoldsBy (summary_after summary result) (state g new) → IsInRange (summary_after summary result) → new.in_transaction ≡ false
         → (HasCleanDisk (state g new) → OnOk result (AddsAbove summary.installs (state g old).now (state g new).now))
         → (HasCleanDisk (state g new) → IfErr result (λ fault. is_failure fault ≡ false → (state g new).now ≡ (state g old).now)) → summary.installs ≤ (summary_after summary result).installs
-        → IsAtRest g last after new × KeepsTexts g last after texts new
-    told_rests kept texts is keeps holds range mode above declined grows =
-        let both : IsAtRest g (last_by result) (summary_after summary result) new × KeepsTexts g (last_by result) (summary_after summary result) (texts_after (last_by result) kept) new = (
+        → IsAtRest g last after new × KeepsCache g last after cache new
+    told_rests kept cache is keeps holds range mode above declined grows =
+        let both : IsAtRest g (last_by result) (summary_after summary result) new × KeepsCache g (last_by result) (summary_after summary result) (cache_after (last_by result) (without_counts kept)) new = (
           rests_after holds range mode,
           texts_applied g old new summary before open_before kept keeps (rest.holds open_before) clean_first lives result above declined grows,
         ) in
-        subst (λ (l : List (ℕ × List ℕ)). IsAtRest g last after new × KeepsTexts g last after l new) (sym is)
-        (subst (λ (s : Holdings (List ℕ)). IsAtRest g last s new × KeepsTexts g last s (texts_after last kept) new) (sym after_is)
-        (subst (λ (l : Last). IsAtRest g l (summary_after summary result) new × KeepsTexts g l (summary_after summary result) (texts_after l kept) new) (sym last_is) both))
+        subst (λ (k : Cache). IsAtRest g last after new × KeepsCache g last after k new) (sym is)
+        (subst (λ (s : Holdings (List ℕ)). IsAtRest g last s new × KeepsCache g last s (cache_after last (without_counts kept)) new) (sym after_is)
+        (subst (λ (l : Last). IsAtRest g l (summary_after summary result) new × KeepsCache g l (summary_after summary result) (cache_after l (without_counts kept)) new) (sym last_is) both))
 
     pub told_applies : HasCleanDisk (state g new) → (M : Catalogue) → Shows g desk_before M → Applies (Shows g (record { conn = new; summary = after; last = last })) M (step M id command) told
     told_applies clean M shown = subst (λ (r : Result Kept Fault). Applies (Shows g (record { conn = new; summary = after; last = last })) M (step M id command) r) (sym told_is)

@@ -1,7 +1,7 @@
 -- What a close leaves of the two files of a desk.
-use Rattle.std.specs.Prelude.{◌≡◌, ◌⊎◌, Bool, true, false, List, [], Option, Contains}
+use Rattle.std.specs.Prelude.{◌≡◌, ◌⊎◌, true, List, [], Option, Contains}
 use Rattle.sqlite.specs.Recovery.{Image}
-use Rattle.sqlite.specs.Files.{image_of}
+use Rattle.sqlite.specs.Files.{image_of, FailsToClose}
 use Rattle.sqlite.specs.FileStore.{view, recovers}
 use Rattle.sqlite.specs.Tree.{Trees}
 use Rattle.sqlite.specs.View.{IsClean}
@@ -16,7 +16,7 @@ use Rattle.sqlite.specs.Files.{over_files}
 use Rattle.dict_catalogue.specs.Steps.{Catalogue}
 use Rattle.dict_desk.specs.declared.fault.Fault.{Fault}
 use Rattle.dict_desk.specs.declared.fault.Fault.TheVariants.{Memory, Disk}
-use Rattle.dict_store.specs.Desk.{StandsFor}
+use Rattle.dict_store.specs.Desk.{DeskState, StandsFor, is_closed}
 use Rattle.dict_store.specs.Reopened.{IsIn}
 
 -- memory ran out in the copy, or the store failed
@@ -39,3 +39,8 @@ module _ {D : Type 0} (d : disk.Ghosts D) where
 -- whatever a stop now leaves of a store that was let go of stands for one of these
 abbrev pub StoreLeaves : {D : Type 0} {d : disk.Ghosts D} → FileStore D d → List (Option Catalogue) → Type 0
 StoreLeaves {D} {d} store ms = IsClean (view store) → (trees : Trees) → recovers store trees → (m : Option Catalogue) × Contains ms m × StandsFor m trees
+
+-- Why the log of a desk wasn't copied: its store had failed in an earlier call; or it failed now, for the cause that its error names.
+abbrev pub IsUncopied : {D : Type 0} {d : disk.Ghosts D} → DeskState (FileStore D d) → FileStore D d → Fault → Type 0
+IsUncopied {D} {d} desk store fault =
+    ((is_closed desk.last ≡ true) × (fault ≡ Disk)) ⊎ ((error : Error) × (fault ≡ fault_of_copy error) × FailsToClose desk.conn store error)

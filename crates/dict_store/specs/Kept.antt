@@ -1,23 +1,36 @@
--- The texts of editions that a desk keeps in memory.
+-- What a desk keeps in memory for lookups.
 use Rattle.std.specs.Prelude.{◌≡◌, ℕ, false, IsTrue, List, []}
+use Rattle.sqlite.specs.Effect.{Database}
 use Rattle.sqlite.specs.State.{HasCleanDisk}
 use Rattle.sqlite.specs.Held.{Held, state}
 use Rattle.sqlite_trees.specs.declared.store.Store.{Ghosts}
 use Rattle.dict_catalogue.specs.Tests.{Holdings}
 use Rattle.dict_lookup.specs.Texts.{AreTextsOf, AreMade}
+use Rattle.dict_lookup.specs.Counts.{AreHeadsOf}
 use Rattle.dict_store.specs.Desk.{is_closed}
+use Rattle.dict_store.specs.declared.kept.Cache.{Cache}
 use Rattle.dict_store.specs.declared.last.Last.{Last}
 use Rattle.dict_store.specs.declared.last.Last.TheVariants.{Fine, Failed, Closed}
 
--- those that are kept after a call that ended so
-abbrev pub texts_after : Last → List (ℕ × List ℕ) → List (ℕ × List ℕ)
-texts_after Fine texts = texts
-texts_after Failed texts = []
-texts_after Closed texts = []
+abbrev pub no_cache : Cache
+no_cache = record { texts = []; counted = [] }
+
+abbrev pub without_counts : Cache → Cache
+without_counts cache = record { texts = cache.texts; counted = [] }
+
+-- what is kept after a call that ended so
+abbrev pub cache_after : Last → Cache → Cache
+cache_after Fine cache = cache
+cache_after Failed cache = no_cache
+cache_after Closed cache = no_cache
+
+-- what is kept under numbers is the text of the edition that the database holds under them, and what was counted in it
+abbrev pub IsCacheOf : Database → Cache → Type 0
+IsCacheOf db cache = AreTextsOf db cache.texts × AreHeadsOf db cache.counted
 
 module _ {S : Type 0} (g : Ghosts S) where
-  -- What is kept in memory under a number is the text of the edition that the database has under it, while the desk isn't closed and
-  -- the store is open; and the number is that of an install.
-  pub record KeepsTexts (last : Last) (summary : Holdings (List ℕ)) (texts : List (ℕ × List ℕ)) (h : Held S) : Type 0 where
-    pub made : AreMade summary.installs texts
-    pub are : is_closed last ≡ false → HasCleanDisk (state g h) → IsTrue (state g h).is_open → AreTextsOf (state g h).now texts
+  -- What is kept in memory is of the editions that the database has, while the desk isn't closed and the store is open; and each text is
+  -- kept under the number of an install.
+  pub record KeepsCache (last : Last) (summary : Holdings (List ℕ)) (cache : Cache) (h : Held S) : Type 0 where
+    pub made : AreMade summary.installs cache.texts
+    pub are : is_closed last ≡ false → HasCleanDisk (state g h) → IsTrue (state g h).is_open → IsCacheOf (state g h).now cache

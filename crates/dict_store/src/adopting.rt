@@ -218,7 +218,7 @@ impl<S: Alter + Drop> Desk<S> {
         }
         let outcome = read_again(self.alloc, &mut self.conn);
         self.last = last_by(&outcome);
-        forget_by(&mut self.texts, self.last);
+        forget_by(&mut self.cache, self.last);
         outcome
     }
 }

@@ -8,7 +8,7 @@ ghost use Rattle.sqlite.specs.View.{IsClean};
 ghost use Rattle.sqlite.specs.WalReads.{AreClean};
 ghost use Rattle.dict_catalogue.specs.Steps.{Catalogue};
 ghost use Rattle.dict_file.specs.Holds.{IsLeft};
-ghost use Rattle.dict_store.specs.Closed.{HoldsAlone, StoreLeaves, fault_of_copy};
+ghost use Rattle.dict_store.specs.Closed.{HoldsAlone, IsUncopied, StoreLeaves, fault_of_copy};
 ghost use Rattle.dict_store.specs.Desk.{LeavesOneOf, Shows, is_closed};
 
 use crate::adopting::is_whole;
@@ -54,6 +54,7 @@ impl<D: Disk + Drop> Desk<FileStore<D>> {
         ensures open { OnOk result (is_closed self.last ≡ false) }
         ensures left { IfErr result (λ left. (ms : List (Option Catalogue)) → LeavesOneOf over_files self ms → StoreLeaves left.0 ms) }
         ensures doubted { IfErr result (λ left. IsClean (view left.0) → HasCleanDisk (file_state self.conn)) }
+        ensures failed { IfErr result (λ left. IsClean (view left.0) → IsUncopied self left.0 left.1) }
         ensures kinds { IfErr result (λ left. (left.1 ≡ Fault.Memory) ⊎ (left.1 ≡ Fault.Disk)) }
     {
         let (conn, is_closed) = let_go(self);

@@ -14,25 +14,26 @@ ghost use Rattle.dict_commands.specs.Answers.{HoldsBy};
 ghost use Rattle.dict_store.specs.Desk.{Shows, LeavesOneOf, is_closed};
 ghost use Rattle.dict_rows.specs.Versions.{known};
 
+use crate::kept::Cache;
 use crate::last::Last;
 use dict_catalogue::Summary;
 use dict_desk::Fault;
 use dict_migration::create;
-use dict_texts::Texts;
 use sqlite::{Alter, Connection};
 use std::alloc::Global;
 use std::marker::Model;
 
 /// A desk over one database: the connection to it, and the summary of the catalogue that it holds. The texts of editions from which
-/// entries were handed out last are kept in memory, up to `dict_texts::MOST_OCTETS`; what is shown never rests on them.
+/// entries were handed out last are kept in memory, up to `dict_texts::MOST_OCTETS`, and the headwords that were counted last, up to
+/// `dict_lookup::MOST_COUNTED`; what is shown never rests on them.
 #[derive(Drop)]
 pub struct Desk<S: Alter + Drop> {
     pub(crate) alloc: Global,
     pub(crate) conn: Connection<S>,
     pub(crate) summary: Summary,
     pub(crate) last: Last,
-    // The texts of the editions that were asked last. Those of a database stay as a command changes another one.
-    pub(crate) texts: Texts,
+    // What lookups keep. The texts of a database stay as a command changes another one.
+    pub(crate) cache: Cache,
     // The rows that the statements of lookups have handed over. Nothing rests on it.
     pub(crate) rows_taken: u64,
 }
@@ -42,7 +43,7 @@ impl<S: Alter + Drop> Model for Desk<S> {
     ghost use Rattle.std.specs.Coded.{codes};
     ghost use Rattle.sqlite.specs.Held.{held_code};
     ghost use Rattle.dict_store.specs.Desk.{DeskState, IsAtRest};
-    ghost use Rattle.dict_store.specs.Kept.{KeepsTexts};
+    ghost use Rattle.dict_store.specs.Kept.{KeepsCache};
 
     ghost Value = { DeskState S };
 
@@ -50,7 +51,7 @@ impl<S: Alter + Drop> Model for Desk<S> {
 
     ghost view = { λ d. record { conn = d.conn; summary = summary_shown d.summary; last = d.last } };
 
-    ghost invariant = { λ d. IsAtRest S.Store d.last (summary_shown d.summary) d.conn × KeepsTexts S.Store d.last (summary_shown d.summary) d.texts d.conn };
+    ghost invariant = { λ d. IsAtRest S.Store d.last (summary_shown d.summary) d.conn × KeepsCache S.Store d.last (summary_shown d.summary) d.cache d.conn };
 }
 
 impl<S: Alter + Drop> Desk<S> {
@@ -68,7 +69,7 @@ impl<S: Alter + Drop> Desk<S> {
             conn,
             summary,
             last: Last::Fine,
-            texts: Texts::new(alloc),
+            cache: Cache::new(alloc),
             rows_taken: 0,
         }
     }

@@ -5,7 +5,7 @@ ghost use Rattle.dict_commands.specs.Answers.{summary_after};
 ghost use Rattle.dict_store.specs.Desk.{reply_of};
 
 use crate::desk::Desk;
-use crate::kept::forget_by;
+use crate::kept::{forget_by, forget_counts};
 use crate::last::{Last, last_by};
 use dict_catalogue::{Command, Kept, Summary};
 use dict_commands::{Applied, apply, kept_reply};
@@ -40,7 +40,7 @@ impl<S: Alter + Drop> Keeper for Desk<S> {
         }
         let outcome = kept_reply(self.alloc, &mut self.conn, id);
         self.last = last_by(&outcome);
-        forget_by(&mut self.texts, self.last);
+        forget_by(&mut self.cache, self.last);
         outcome
     }
 
@@ -50,7 +50,8 @@ impl<S: Alter + Drop> Keeper for Desk<S> {
         }
         let outcome = apply(self.alloc, &mut self.conn, &self.summary, id, command);
         self.last = last_by(&outcome);
-        forget_by(&mut self.texts, self.last);
+        forget_counts(&mut self.cache);
+        forget_by(&mut self.cache, self.last);
         take_over(&mut self.summary, outcome)
     }
 }

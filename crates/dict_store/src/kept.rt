@@ -1,17 +1,53 @@
-// The texts that a desk keeps, by how its last call ended.
+// What a desk keeps in memory for lookups, by how its last call ended.
 ghost use Rattle.std.specs.Prelude.{◌≡◌};
-ghost use Rattle.dict_store.specs.Kept.{texts_after};
+ghost use Rattle.dict_store.specs.Kept.{no_cache, without_counts, cache_after};
 
 use crate::last::Last;
+use dict_lookup::Counted;
 use dict_texts::Texts;
+use std::alloc::Global;
 
-// After a fault from 40 on nothing is kept: what memory the texts had is free then, and nothing rests on what a store has shown that
-// has failed.
-pub(crate) fn forget_by(texts: &mut Texts, last: Last)
-    ensures { texts.new ≡ texts_after last texts.old }
+// What lookups keep: the texts of the editions that were asked last, and the headwords that were counted last.
+#[derive(Drop)]
+pub(crate) struct Cache {
+    pub texts: Texts,
+    pub counted: Counted,
+}
+
+impl Cache {
+    // Nothing is kept.
+    pub(crate) fn new(alloc: Global) -> Cache
+        ensures { result ≡ no_cache }
+    {
+        Cache {
+            texts: Texts::new(alloc),
+            counted: Counted::new(alloc),
+        }
+    }
+
+    // Lets go of all.
+    fn forget_all(&mut self)
+        ensures { self.new ≡ no_cache }
+    {
+        self.texts.forget_all();
+        self.counted.forget_all();
+    }
+}
+
+// After a command nothing that was counted is kept.
+pub(crate) fn forget_counts(cache: &mut Cache)
+    ensures { cache.new ≡ without_counts cache.old }
+{
+    cache.counted.forget_all();
+}
+
+// After a fault from 40 on nothing is kept: what memory it had is free then, and nothing rests on what a store has shown that has
+// failed.
+pub(crate) fn forget_by(cache: &mut Cache, last: Last)
+    ensures { cache.new ≡ cache_after last cache.old }
 {
     match last {
         Last::Fine => {}
-        Last::Failed | Last::Closed => texts.forget_all(),
+        Last::Failed | Last::Closed => cache.forget_all(),
     }
 }

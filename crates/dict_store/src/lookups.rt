@@ -46,7 +46,7 @@ impl<S: Alter + Drop> Lookup for Desk<S> {
             &mut self.rows_taken,
         );
         self.last = last_by(&outcome);
-        forget_by(&mut self.texts, self.last);
+        forget_by(&mut self.cache, self.last);
         outcome
     }
 
@@ -63,6 +63,7 @@ impl<S: Alter + Drop> Lookup for Desk<S> {
         let outcome = dict_lookup::count(
             self.alloc,
             &mut self.conn,
+            &mut self.cache.counted,
             number,
             strategy,
             query,
@@ -70,7 +71,7 @@ impl<S: Alter + Drop> Lookup for Desk<S> {
             &mut self.rows_taken,
         );
         self.last = last_by(&outcome);
-        forget_by(&mut self.texts, self.last);
+        forget_by(&mut self.cache, self.last);
         outcome
     }
 
@@ -87,7 +88,7 @@ impl<S: Alter + Drop> Lookup for Desk<S> {
         let outcome = dict_lookup::find(
             self.alloc,
             &mut self.conn,
-            &mut self.texts,
+            &mut self.cache.texts,
             self.summary.installs,
             number,
             strategy,
@@ -96,7 +97,7 @@ impl<S: Alter + Drop> Lookup for Desk<S> {
             &mut self.rows_taken,
         );
         self.last = last_by(&outcome);
-        forget_by(&mut self.texts, self.last);
+        forget_by(&mut self.cache, self.last);
         outcome
     }
 
@@ -113,6 +114,7 @@ impl<S: Alter + Drop> Lookup for Desk<S> {
         let outcome = dict_lookup::heads(
             self.alloc,
             &mut self.conn,
+            &self.cache.counted,
             number,
             strategy,
             query,
@@ -120,7 +122,7 @@ impl<S: Alter + Drop> Lookup for Desk<S> {
             &mut self.rows_taken,
         );
         self.last = last_by(&outcome);
-        forget_by(&mut self.texts, self.last);
+        forget_by(&mut self.cache, self.last);
         outcome
     }
 

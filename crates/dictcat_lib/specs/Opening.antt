@@ -6,8 +6,9 @@ use Rattle.sqlite_trees.specs.declared.store.Store.{Ghosts}
 use Rattle.dict_catalogue.specs.Steps.{Catalogue, empty_catalogue}
 use Rattle.dict_desk.specs.Faults.{is_disk}
 use Rattle.dict_desk.specs.declared.fault.Fault.{Fault as DeskFault}
-use Rattle.dict_desk.specs.declared.fault.Fault.TheVariants.{NotACatalogue}
+use Rattle.dict_desk.specs.declared.fault.Fault.TheVariants.{NotACatalogue, Disk}
 use Rattle.dict_file.specs.Holds.{Rests, IsLeftAs, HasPlace}
+use Rattle.dict_opening.specs.Reading.{HasFailed}
 use Rattle.dict_rows.specs.Versions.{known}
 use Rattle.dict_io.specs.Streams.{Change}
 use Rattle.dict_session.specs.declared.session.run.End.{End}
@@ -70,10 +71,10 @@ module _ {S : Type 0} (g : Ghosts S) where
   abbrev pub IsSound : DeskState S → Type 0
   IsSound new = HasCleanDisk (state g new.conn) → (M : Catalogue) × Rests known (state g new.conn) M
 
-  -- it was read, and the fault, as the program tells it, is what it holds instead; or it couldn't be read
+  -- it was read, and the fault, as the program tells it, is what it holds instead; or it couldn't be read, since its store failed or memory ran out
   abbrev pub IsUnsound : DeskState S → DeskState S → Fault → Type 0
   IsUnsound old new fault =
-      (why : DeskFault) × (fault ≡ told_of why) × (HasCleanDisk (state g new.conn) → IsTold (state g old.conn).now why × IsNotHeld (state g old.conn).now why)
+      (why : DeskFault) × (fault ≡ told_of why) × (HasCleanDisk (state g new.conn) → IsTold (state g old.conn).now why × IsNotHeld (state g old.conn).now why × (why ≡ Disk → HasFailed (state g old.conn) (state g new.conn)))
 
   -- A session over the catalogue of an opened database ended so, and left this desk of it.
   pub record HasSpoken (conn : Held S) (desk : DeskState S) (end : Result End SessionFault) (reader writer : Change) : Type 0 where

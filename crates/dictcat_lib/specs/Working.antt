@@ -30,7 +30,7 @@ TellsSound (Ok _) (Ok _) result writer = Prints (codes "sound\n") result writer
 module _ {K D : Type 0} (k : lookup.Ghosts K) (d : desks.Ghosts D K) where
   -- a desk was closed
   abbrev pub IsShutBy : K → Result (Unit {0}) Fault → D → Type 0
-  IsShutBy = IsShut k.shows k.leaves_one_of k.is_trusted d.is_safe d.holds_alone d.still_leaves
+  IsShutBy = IsShut k.shows k.leaves_one_of k.is_trusted d.is_safe d.holds_alone d.still_leaves d.is_uncopied
 
   -- a desk was opened, and answers
   abbrev pub IsAnswering : K → Type 0

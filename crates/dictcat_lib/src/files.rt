@@ -26,7 +26,7 @@ impl<'r> CatalogueFiles<'r> {
 impl Desks<Desk<FileStore<File>>> for CatalogueFiles<'_> {
     ghost use Rattle.std.specs.Prelude.{None};
     ghost use Rattle.dictcat_lib.specs.Desks.{IsDesk, IsNoDesk, IsNoDeskAgain};
-    ghost use Rattle.dictcat_lib.specs.Files.{IsAloneIn, IsSafe, StillLeaves};
+    ghost use Rattle.dictcat_lib.specs.Files.{IsAloneIn, IsSafe, IsToldUncopied, StillLeaves};
 
     ghost history = { λ _. None };
 
@@ -41,6 +41,8 @@ impl Desks<Desk<FileStore<File>>> for CatalogueFiles<'_> {
     ghost holds_alone = { λ one M. IsAloneIn one.left M };
 
     ghost still_leaves = { λ one ms. StillLeaves one.left ms };
+
+    ghost is_uncopied = { λ desk one fault. IsToldUncopied desk one.left fault };
 
     fn open<'w>(&mut self, path: &'w str) -> Result<Desk<FileStore<File>>, Fault<'w>> {
         open_desk(self.rt, path)

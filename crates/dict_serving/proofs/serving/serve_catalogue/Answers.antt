@@ -1,7 +1,8 @@
-use Rattle.std.proofs.Common.{◌≡◌, ◌≤◌, inl, inr, refl, arith}
+use Rattle.std.proofs.Common.{◌≡◌, ◌≤◌, inl, inr, refl, subst, arith}
 use Rattle.std.specs.Prelude.{None, Some}
 use Rattle.dict_driver.specs.Serving.{rounds_of}
 use Rattle.std.proofs.lemmas.Result.{err_from_is_err_and}
+use Rattle.dict_serving.specs.Serving.{IsFirst}
 use Rattle.dict_serving.proofs.DeedLemmas.{does_both, does_none, was_done}
 use Rattle.dict_serving.proofs.serving.serve_catalogue.Goals as goal
 
@@ -47,8 +48,9 @@ returns-in_err-desk-2 g c =
           begins = c.in-Ok.ensures.beginning;
           no_id = c.in-Ok.ensures.last;
           no_round = c.in-Ok.ensures.rounds;
+          no_failure = c.in-Ok.ensures.failure;
           stretches = served.0;
-          over = served.2;
+          over = subst (λ n. IsFirst n c.in_ok-desk.desk served.0) asked served.2;
           served = served.1;
           made = made;
           ends = served.3;
@@ -82,8 +84,9 @@ returns g c =
           begins = c.in-Ok.ensures.beginning;
           no_id = c.in-Ok.ensures.last;
           no_round = c.in-Ok.ensures.rounds;
+          no_failure = c.in-Ok.ensures.failure;
           stretches = served.0;
-          over = served.2;
+          over = subst (λ n. IsFirst n c.in_ok-desk.desk served.0) asked served.2;
           served = served.1;
           made = made;
           ends = tt;

@@ -1,5 +1,6 @@
-use Rattle.std.proofs.Common.{◌≡◌, ◌∙◌, false, sym, subst}
+use Rattle.std.proofs.Common.{◌≡◌, ◌∙◌, false, inr, sym, subst}
 use Rattle.sqlite.specs.Closing.{IsCopied}
+use Rattle.sqlite.specs.Files.{FailsToClose}
 use Rattle.sqlite.specs.FileStore.{view, faults, recovers, is_shielded}
 use Rattle.sqlite.specs.Held.{Held}
 use Rattle.sqlite.specs.View.{IsQuiet}
@@ -29,3 +30,7 @@ returns-in-Err-clause-left g c ms leaves =
 
 pub returns-in-Err-clause-kinds : goal.returns-in-Err-clause-kinds
 returns-in-Err-clause-kinds g c = c.fault_of_copy.ensures.kinds
+
+pub returns-in-Err-clause-failed : goal.returns-in-Err-clause-failed
+returns-in-Err-clause-failed g c clean =
+    inr (c.in-Err.error, c.fault_of_copy.ensures.value, subst (λ (conn : Held (FileStore _ _)). FailsToClose conn c.in-Err.store c.in-Err.error) c.let_go-conn.ensures.same (c.in-Err.ensures.err.1 clean))

@@ -14,7 +14,7 @@ invariant_of-self g c =
     let before : is_closed c.self.inside.last ≡ false = search rules in
     desk_still g.S.Store c.self.inside.conn c.read_again-outcome.new.conn (summary_shown c.self.inside.summary) c.self.inside.last c.last_by-self-inside.result before c.self.invariant.0 c.read_again-outcome.ensures.survives
     (λ clean. record { was_open = c.read_again-outcome.ensures.lives clean; now = λ live settled. c.read_again-outcome.ensures.now clean live; committed = λ live. c.read_again-outcome.ensures.committed clean live }) (λ _. c.read_again-outcome.ensures.autocommit)
-    c.self.inside.texts c.forget_by.new.texts c.forget_by.ensures c.self.invariant.1
+    c.self.inside.cache c.forget_by.new.cache c.forget_by.ensures c.self.invariant.1
 
 pub returns-clause-shows : goal.returns-clause-shows
 returns-clause-shows g c = λ clean M shown.

@@ -1,6 +1,7 @@
-use Rattle.std.proofs.Common.{ℕ, List, sym, subst}
+use Rattle.std.proofs.Common.{sym, subst}
 use Rattle.dict_catalogue.specs.Views.{summary_shown}
-use Rattle.dict_store.specs.Kept.{KeepsTexts}
+use Rattle.dict_store.specs.Kept.{KeepsCache}
+use Rattle.dict_store.specs.declared.kept.Cache.{Cache}
 use Rattle.dict_store.specs.declared.last.Last.TheVariants.{Fine}
 use Rattle.sqlite.specs.Effect.{Database}
 use Rattle.dict_file.specs.Holds.{HasLayout, Holds}
@@ -17,7 +18,7 @@ invariant_of-result g c = (
     settled = λ fine clean live. (c.requires.holds clean live).1.settled;
     own = λ fine clean live. let rests = (c.requires.holds clean live).1 in subst (λ (db : Database). HasLayout (layout_of known) db.schema) (sym rests.settled) rests.holds.own;
   },
-  subst (λ (texts : List (ℕ × List ℕ)). KeepsTexts g.S.Store Fine (summary_shown c.args.summary) texts c.args.conn) (sym c.new.ensures) (record { made = tt; are = λ fine clean live. tt }),
+  subst (λ (cache : Cache). KeepsCache g.S.Store Fine (summary_shown c.args.summary) cache c.args.conn) (sym c.new.ensures) (record { made = tt; are = λ fine clean live. (tt, tt) }),
 )
 
 pub returns-clause-shows : goal.returns-clause-shows

@@ -5,6 +5,7 @@ use Rattle.dict_catalogue.specs.Views.{summary_shown, command_meant}
 use Rattle.dict_desk.specs.Faults.{has_failed_by, is_failure}
 use Rattle.dict_desk.specs.Applying.{Leaves}
 use Rattle.dict_store.specs.Causes.{FailsToApplyTo}
+use Rattle.dict_store.specs.Kept.{cache_after}
 use Rattle.dict_store.specs.Desk.{Shows, LeavesOneOf, is_closed, has_failed}
 use Rattle.dict_store.proofs.CauseLemmas.{fails_to_apply}
 use Rattle.dict_store.proofs.KeeperLemmas.{told_rests, told_applies, told_leaves, told_spares, failed_by}
@@ -16,7 +17,7 @@ invariant_of-self g c =
     told_rests g.S.Store c.self.inside.conn c.apply-outcome.new.conn (summary_shown c.self.inside.summary) c.self.inside.last c.args.id.now (command_meant c.args.command.now) c.apply-outcome.result before c.self.invariant.0
     c.apply-outcome.ensures.value c.apply-outcome.ensures.spares c.apply-outcome.ensures.crash c.apply-outcome.ensures.lives c.apply-outcome.ensures.shut
     (summary_shown c.take_over.new.summary) c.last_by-self-inside.result c.take_over.result c.take_over.ensures.after c.last_by-self-inside.ensures c.take_over.ensures.reply
-    c.self.inside.texts c.forget_by.new.texts c.forget_by.ensures c.self.invariant.1 c.apply-outcome.ensures.holds c.apply-outcome.ensures.range c.apply-outcome.ensures.autocommit c.apply-outcome.ensures.above c.apply-outcome.ensures.refused c.apply-outcome.ensures.grows
+    c.self.inside.cache c.forget_by.new.cache (c.forget_by.ensures ∙ ap (cache_after c.last_by-self-inside.result) c.forget_counts.ensures) c.self.invariant.1 c.apply-outcome.ensures.holds c.apply-outcome.ensures.range c.apply-outcome.ensures.autocommit c.apply-outcome.ensures.above c.apply-outcome.ensures.refused c.apply-outcome.ensures.grows
 
 pub returns-clause-value : goal.returns-clause-value
 returns-clause-value g c = λ clean M shown.

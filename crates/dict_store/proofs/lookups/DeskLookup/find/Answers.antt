@@ -16,8 +16,8 @@ invariant_of-self g c =
     let before : is_closed c.self.inside.last ≡ false = search rules in
     desk_on g.S.Store c.self.inside.conn c.find-outcome.new.conn (summary_shown c.self.inside.summary) c.self.inside.last c.last_by-self-inside.result before c.self.invariant.0 c.find-outcome.ensures.survives
     (λ clean. stays_by (column_of c.args.number) (state g.S.Store c.self.inside.conn) (state g.S.Store c.find-outcome.new.conn) c.find-outcome.result (c.find-outcome.ensures.same clean) (c.find-outcome.ensures.failed clean)) c.find-outcome.ensures.mode
-    c.find-outcome.new.texts c.forget_by.new.texts c.forget_by.ensures (c.find-outcome.ensures.made c.self.invariant.1.made)
-    (λ clean live. c.find-outcome.ensures.texts clean (c.self.invariant.1.are before (clean_behind (state g.S.Store c.self.inside.conn) (state g.S.Store c.find-outcome.new.conn) c.find-outcome.ensures.survives clean) live))
+    (record { texts = c.find-outcome.new.texts; counted = c.self.inside.cache.counted }) c.forget_by.new.cache c.forget_by.ensures (c.find-outcome.ensures.made c.self.invariant.1.made)
+    (λ clean live. let are = c.self.invariant.1.are before (clean_behind (state g.S.Store c.self.inside.conn) (state g.S.Store c.find-outcome.new.conn) c.find-outcome.ensures.survives clean) live in (c.find-outcome.ensures.texts clean are.0, are.1))
 
 pub returns-clause-shows : goal.returns-clause-shows
 returns-clause-shows g c = λ clean M shown.
@@ -33,7 +33,7 @@ returns-clause-value g c = λ clean M edition shown has.
     (λ clean. stays_by (column_of c.args.number) (state g.S.Store c.self.inside.conn) (state g.S.Store c.find-outcome.new.conn) c.find-outcome.result (c.find-outcome.ensures.same clean) (c.find-outcome.ensures.failed clean))
     M (subst (λ desk. Shows g.S.Store desk M) (sym c.self.view_is) shown) clean in
     handed_by g.T.RowSink.takes g.T.RowSink.stops c.args.sink.now c.find-outcome.new.sink (found_rows c.args.strategy c.args.query.now edition) c.find-outcome.result (state g.S.Store c.self.inside.conn).is_open
-    (λ live. let one = held_one (state g.S.Store c.self.inside.conn).now M c.args.number edition (holds live) has in subst (λ (e : Edition). Hands g.T.RowSink.takes g.T.RowSink.stops c.args.sink.now c.find-outcome.new.sink (found_rows c.args.strategy c.args.query.now e) c.find-outcome.result) (sym one.2) (c.find-outcome.ensures.value clean (c.self.invariant.1.are before (clean_behind (state g.S.Store c.self.inside.conn) (state g.S.Store c.find-outcome.new.conn) c.find-outcome.ensures.survives clean) live) one.0 one.1)) (c.find-outcome.ensures.shut clean) (g.met.T.RowSink.none c.args.sink.now)
+    (λ live. let one = held_one (state g.S.Store c.self.inside.conn).now M c.args.number edition (holds live) has in subst (λ (e : Edition). Hands g.T.RowSink.takes g.T.RowSink.stops c.args.sink.now c.find-outcome.new.sink (found_rows c.args.strategy c.args.query.now e) c.find-outcome.result) (sym one.2) (c.find-outcome.ensures.value clean (c.self.invariant.1.are before (clean_behind (state g.S.Store c.self.inside.conn) (state g.S.Store c.find-outcome.new.conn) c.find-outcome.ensures.survives clean) live).0 one.0 one.1)) (c.find-outcome.ensures.shut clean) (g.met.T.RowSink.none c.args.sink.now)
 
 pub returns-clause-caused : goal.returns-clause-caused
 returns-clause-caused g c =

@@ -7,7 +7,7 @@ use Rattle.dict_lookup.proofs.HeldLemmas.{held_one}
 use Rattle.dict_store.specs.Desk.{Shows, is_closed}
 use Rattle.dict_store.proofs.CauseLemmas.{lookup_gives_way}
 use Rattle.dict_desk.specs.Handing.{Hands}
-use Rattle.dict_store.proofs.DeskLemmas.{stays_by, desk_still, shows_on, held, handed_by}
+use Rattle.dict_store.proofs.DeskLemmas.{stays_by, clean_behind, desk_still, shows_on, held, handed_by}
 use Rattle.dict_desk.specs.Shown.{headword_rows}
 use Rattle.dict_store.proofs.lookups.DeskLookup.heads.Goals as goal
 
@@ -16,7 +16,7 @@ invariant_of-self g c =
     let before : is_closed c.self.inside.last ≡ false = search rules in
     desk_still g.S.Store c.self.inside.conn c.heads-outcome.new.conn (summary_shown c.self.inside.summary) c.self.inside.last c.last_by-self-inside.result before c.self.invariant.0 c.heads-outcome.ensures.survives
     (λ clean. stays_by (column_of c.args.number) (state g.S.Store c.self.inside.conn) (state g.S.Store c.heads-outcome.new.conn) c.heads-outcome.result (c.heads-outcome.ensures.same clean) (c.heads-outcome.ensures.failed clean)) c.heads-outcome.ensures.mode
-    c.self.inside.texts c.forget_by.new.texts c.forget_by.ensures c.self.invariant.1
+    c.self.inside.cache c.forget_by.new.cache c.forget_by.ensures c.self.invariant.1
 
 pub returns-clause-shows : goal.returns-clause-shows
 returns-clause-shows g c = λ clean M shown.
@@ -32,7 +32,7 @@ returns-clause-value g c = λ clean M edition shown has.
     (λ clean. stays_by (column_of c.args.number) (state g.S.Store c.self.inside.conn) (state g.S.Store c.heads-outcome.new.conn) c.heads-outcome.result (c.heads-outcome.ensures.same clean) (c.heads-outcome.ensures.failed clean))
     M (subst (λ desk. Shows g.S.Store desk M) (sym c.self.view_is) shown) clean in
     handed_by g.T.RowSink.takes g.T.RowSink.stops c.args.sink.now c.heads-outcome.new.sink (headword_rows c.args.strategy c.args.query.now edition) c.heads-outcome.result (state g.S.Store c.self.inside.conn).is_open
-    (λ live. let one = held_one (state g.S.Store c.self.inside.conn).now M c.args.number edition (holds live) has in subst (λ (e : Edition). Hands g.T.RowSink.takes g.T.RowSink.stops c.args.sink.now c.heads-outcome.new.sink (headword_rows c.args.strategy c.args.query.now e) c.heads-outcome.result) (sym one.2) (c.heads-outcome.ensures.value clean one.0 one.1)) (c.heads-outcome.ensures.shut clean) (g.met.T.RowSink.none c.args.sink.now)
+    (λ live. let one = held_one (state g.S.Store c.self.inside.conn).now M c.args.number edition (holds live) has in subst (λ (e : Edition). Hands g.T.RowSink.takes g.T.RowSink.stops c.args.sink.now c.heads-outcome.new.sink (headword_rows c.args.strategy c.args.query.now e) c.heads-outcome.result) (sym one.2) (c.heads-outcome.ensures.value clean (c.self.invariant.1.are before (clean_behind (state g.S.Store c.self.inside.conn) (state g.S.Store c.heads-outcome.new.conn) c.heads-outcome.ensures.survives clean) live).1 one.0 one.1)) (c.heads-outcome.ensures.shut clean) (g.met.T.RowSink.none c.args.sink.now)
 
 pub returns-clause-caused : goal.returns-clause-caused
 returns-clause-caused g c =

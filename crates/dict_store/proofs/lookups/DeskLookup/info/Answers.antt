@@ -16,7 +16,7 @@ invariant_of-self g c =
     let before : is_closed c.self.inside.last ≡ false = search rules in
     desk_still g.S.Store c.self.inside.conn c.info-outcome.new.conn (summary_shown c.self.inside.summary) c.self.inside.last c.last_by-self-inside.result before c.self.invariant.0 c.info-outcome.ensures.survives
     (λ clean. stays_by (column_of c.args.number) (state g.S.Store c.self.inside.conn) (state g.S.Store c.info-outcome.new.conn) c.info-outcome.result (c.info-outcome.ensures.same clean) (c.info-outcome.ensures.failed clean)) c.info-outcome.ensures.mode
-    c.self.inside.texts c.forget_by.new.texts c.forget_by.ensures c.self.invariant.1
+    c.self.inside.cache c.forget_by.new.cache c.forget_by.ensures c.self.invariant.1
 
 pub returns-clause-shows : goal.returns-clause-shows
 returns-clause-shows g c = λ clean M shown.
