@@ -2,6 +2,7 @@
 
 use dict_catalogue::{Command, Kept, Refusal};
 use dict_desk::Fault;
+use dict_examples::{GEM_INDEX, GEM_TEXT, ORE_INDEX, ORE_TEXT};
 use dict_index::{Edition, read_edition};
 use std::alloc::{AllocError, Global};
 use std::test::Fail;
@@ -21,19 +22,10 @@ pub(crate) enum Source {
     Alike,
 }
 
-/// The text of the first and of the last.
-pub(crate) const GEMS: &[u8] = b"00-database-short\n  Gems\nopal\n  a stone\n.dot\n";
-
 // The index and the text of each.
 static SOURCES: [(&[u8], &[u8]); 5] = [
-    (
-        b"00-database-short\tA\tZ\nopal\tZ\tP\nFire Opal\tZ\tP\ndot\to\tF\n",
-        GEMS,
-    ),
-    (
-        b"00-database-short\tA\tX\niron\tX\tL\n",
-        b"00-database-short\nOres\niron\n  ore\n",
-    ),
+    (GEM_INDEX, GEM_TEXT),
+    (ORE_INDEX, ORE_TEXT),
     (
         b"00-database-short\tA\tZ\n\xc3\x89T\xc3\x89\tZ\tH\n",
         b"00-database-short\n  Mots\nsaison\n",
@@ -44,7 +36,7 @@ static SOURCES: [(&[u8], &[u8]); 5] = [
     ),
     (
         b"00-database-short\tA\tZ\nopal\tZ\tP\tOpal\nfire opal\tZ\tP\tOpal\ndot\to\tF\n",
-        GEMS,
+        GEM_TEXT,
     ),
 ];
 

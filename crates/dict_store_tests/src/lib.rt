@@ -14,6 +14,8 @@ mod files;
 #[cfg(test)]
 mod full;
 #[cfg(test)]
+mod kept_counts;
+#[cfg(test)]
 mod kept_texts;
 #[cfg(test)]
 mod looking;
@@ -21,6 +23,8 @@ mod looking;
 mod many;
 #[cfg(test)]
 mod migrations;
+#[cfg(test)]
+mod referred;
 #[cfg(test)]
 mod refused;
 #[cfg(test)]

@@ -1,12 +1,12 @@
 //! Lookups in an edition of 65,535 entries: no more rows are read than are due, and each when it is due.
 
-use crate::asked::GEMS;
 use crate::checks::holds;
-use crate::shown::{Counted, Rows, taken_between};
+use crate::shown::{Counted, found, taken_between};
 use dict_catalogue::Command;
-use dict_desk::{Fault, Keeper, Lookup};
+use dict_desk::{Fault, Keeper};
+use dict_examples::GEM_TEXT;
 use dict_index::{Edition, read_edition};
-use dict_match::{Strategy, key_of};
+use dict_match::Strategy;
 use std::alloc::{AllocError, Global};
 use std::process::Abort;
 use std::test::Fail;
@@ -28,7 +28,7 @@ fn install_edition<K: Keeper>(desk: &mut K, edition: &Edition) -> Result<(), Fau
 }
 
 fn install<K: Keeper>(alloc: Global, desk: &mut K, index: &str) -> Result<(), Fail> {
-    let edition = read_edition(alloc, index.as_bytes(), GEMS)?;
+    let edition = read_edition(alloc, index.as_bytes(), GEM_TEXT)?;
     install_edition(desk, &edition)?;
     Ok(())
 }
@@ -47,18 +47,6 @@ static CASES: [Case; 6] = [
     Case(Strategy::Exact, "w00777", 100, 1, 1),
 ];
 
-// How many rows are handed to the sink.
-fn handed<L: Lookup>(
-    alloc: Global,
-    desk: &mut L,
-    number: u64,
-    case: &Case,
-) -> Result<usize, Fault> {
-    let mut rows = Rows::new(alloc, case.2);
-    desk.find(number, case.0, &key_of(alloc, case.1)?, &mut rows)?;
-    Ok(case.2.saturating_sub(rows.left))
-}
-
 /// Installs the edition, as the first of its catalogue, and looks it up.
 pub(crate) fn look<K: Keeper + Counted>(
     rt: &impl Abort,
@@ -68,9 +56,10 @@ pub(crate) fn look<K: Keeper + Counted>(
     install(alloc, desk, index_of_many(alloc)?.as_str())?;
     for case in &CASES {
         let before = desk.taken();
-        let found = handed(alloc, desk, 1, case)?;
+        let rows = found(alloc, desk, 1, case.0, case.1, case.2)?;
+        let handed = case.2.saturating_sub(rows.left);
         let taken = taken_between(before, desk.taken()).unwrap_or(case.4);
-        let is_so = found == case.3 && found as u64 <= taken && taken <= case.4;
+        let is_so = handed == case.3 && handed as u64 <= taken && taken <= case.4;
         holds(rt, is_so, case.1);
     }
     Ok(())

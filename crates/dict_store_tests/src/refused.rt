@@ -207,8 +207,8 @@ const FIRST: &[Step] = &[
     Step::Batch("INSERT INTO mark VALUES (1, 'dictcat', 1, 2)"),
 ];
 
-// After these steps and each of these statements no store is made, or the one that is there isn't opened, by this fault.
-fn refuse_each(
+/// After these steps and each of these statements no store is made, or the one that is there isn't opened, by this fault.
+pub(crate) fn refuse_each(
     rt: &impl Abort,
     alloc: Global,
     first: &[Step],

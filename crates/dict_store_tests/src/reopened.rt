@@ -2,7 +2,7 @@
 use crate::asked::{Asked, Editions, Source, read_editions};
 use crate::checks::holds;
 use crate::desks::desk_over;
-use crate::files::{Octets, opened, options};
+use crate::files::{opened, options};
 use crate::stops::made;
 use dict_desk::{Fault, Keeper, Lookup};
 use dict_failing_disk::failing_disk;
@@ -14,14 +14,6 @@ use std::test::Fail;
 
 // One command: gem is installed.
 static GEM: [(&str, Asked); 1] = [("gem", Asked::Install("gem", Source::Gems))];
-
-// Whether a desk is open and shows the one install.
-fn has_gem<S: Alter + Drop>(desk: &Desk<S>) -> bool {
-    match desk.summary() {
-        Ok(summary) => summary.installs == 1 && !desk.is_closed(),
-        Err(_) => false,
-    }
-}
 
 /// What comes of files that are opened again.
 #[derive(Clone, Copy, PartialEq, Eq)]
@@ -58,12 +50,17 @@ fn begun<S: Alter + Drop>(
     Some((desk, is_done))
 }
 
-// What a desk shows that was opened again.
+// Whether a desk that was opened again is open and shows the one install.
 fn met_by<S: Alter + Drop>(desk: Desk<S>) -> Met {
-    if has_gem(&desk) {
-        Met::Reopened
-    } else {
-        Met::Other
+    match desk.summary() {
+        Ok(summary) => {
+            if summary.installs == 1 && !desk.is_closed() {
+                Met::Reopened
+            } else {
+                Met::Other
+            }
+        }
+        Err(_) => Met::Other,
     }
 }
 
@@ -107,43 +104,34 @@ fn met_over<D: Crash + Drop>(
     }
 }
 
-// The same over files of these octets, where the log fails at this call.
+// The same over a log and a file of these octets, where the log fails at this call.
 fn met_at(
     alloc: Global,
     editions: &Editions,
-    octets: &Octets,
+    octets: (&[u8], &[u8]),
     call: u64,
     is_new: bool,
 ) -> Result<Met, Fail> {
     let files = Files {
-        log: failing_disk(alloc, octets.log.as_slice(), call, true)?,
-        db: failing_disk(alloc, octets.db.as_slice(), u64::MAX, true)?,
+        log: failing_disk(alloc, octets.0, call, true)?,
+        db: failing_disk(alloc, octets.1, u64::MAX, true)?,
     };
     Ok(met_over(alloc, editions, files, is_new))
 }
 
+// Two new files after a stop, and those that have the database after a failure of each call of the log.
 #[test]
-fn a_stop_leaves_the_catalogue(rt: HostRuntime) -> Result<(), Fail> {
+fn files_are_opened_again(rt: HostRuntime) -> Result<(), Fail> {
     let alloc = rt.alloc();
-    let nothing = Octets {
-        log: Vec::new(alloc),
-        db: Vec::new(alloc),
-    };
     let editions = read_editions(alloc)?;
-    let is_reopened = met_at(alloc, &editions, &nothing, u64::MAX, true)? == Met::Reopened;
+    let is_reopened = met_at(alloc, &editions, (&[], &[]), u64::MAX, true)? == Met::Reopened;
     holds(&rt, is_reopened, "two new files");
-    Ok(())
-}
-
-#[test]
-fn the_same_files_after_a_failure(rt: HostRuntime) -> Result<(), Fail> {
-    let alloc = rt.alloc();
-    let editions = read_editions(alloc)?;
     let octets = made(&rt, alloc, &editions, &GEM)?;
+    let both = (octets.log.as_slice(), octets.db.as_slice());
     let mut reopened = 0u64;
     let mut spent = 0u64;
     'calls: for call in 0..5_000u64 {
-        match met_at(alloc, &editions, &octets, call, false)? {
+        match met_at(alloc, &editions, both, call, false)? {
             Met::NoDesk => {}
             Met::Reopened => reopened = reopened.saturating_add(1),
             Met::Spent => spent = spent.saturating_add(1),

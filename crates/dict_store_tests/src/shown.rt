@@ -54,6 +54,20 @@ fn push_row(text: &mut String, shown: &str, body: &[u8]) -> Result<(), AllocErro
     text.push('/')
 }
 
+/// What is found in an edition, up to so many rows.
+pub(crate) fn found<L: Lookup>(
+    alloc: Global,
+    desk: &mut L,
+    number: u64,
+    strategy: Strategy,
+    text: &str,
+    most: usize,
+) -> Result<Rows, Fault> {
+    let mut rows = Rows::new(alloc, most);
+    desk.find(number, strategy, &key_of(alloc, text)?, &mut rows)?;
+    Ok(rows)
+}
+
 /// A desk that may tell how many rows its statements have handed over.
 pub(crate) trait Counted {
     fn taken(&self) -> Option<u64>;

@@ -8,7 +8,7 @@ use crate::{full, looking, many, spoken};
 use dict_desk::{Fault, Keeper, PlainDesk};
 use dict_store::Desk;
 use sqlite::{Alter, Connection};
-use std::alloc::{AllocError, Global};
+use std::alloc::Global;
 use std::process::Abort;
 use std::test::Fail;
 
@@ -49,18 +49,6 @@ pub(crate) enum Step {
     Cut,
 }
 
-// What the desk answers to a command under this id.
-fn answer<K: Keeper>(
-    alloc: Global,
-    desk: &mut K,
-    editions: &Editions,
-    id: &str,
-    asked: Asked,
-) -> Result<String, AllocError> {
-    let answer = desk.apply(id, &asked.command(editions));
-    told(alloc, &answer)
-}
-
 /// The commands are answered so.
 pub(crate) fn play<K: Keeper>(
     rt: &impl Abort,
@@ -70,8 +58,8 @@ pub(crate) fn play<K: Keeper>(
     rows: &[Row],
 ) -> Result<(), Fail> {
     for Row(id, asked, wanted, after) in rows {
-        let told = answer(alloc, desk, editions, id, *asked)?;
-        same_text(rt, told.as_str(), *wanted, id);
+        let answer = desk.apply(id, &asked.command(editions));
+        same_text(rt, told(alloc, &answer)?.as_str(), *wanted, id);
         let items = listed(alloc, desk.summary()?)?;
         same_text(rt, items.as_str(), *after, id);
     }

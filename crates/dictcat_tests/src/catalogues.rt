@@ -1,7 +1,8 @@
 //! Catalogues in files that are changed, listed, asked and read whole.
-use super::fixtures::{GEM_INDEX, GEM_TEXT, ROOM, Row, differing, is_so, outcome, remove, run};
+use super::fixtures::{ROOM, Row, differing, is_so, outcome, remove, run};
 use super::rows;
 use crate::checks::{holds, same_text};
+use dict_examples::{GEM_INDEX, GEM_TEXT};
 use dict_tasks::OverFiles;
 use std::fs;
 use std::process::Abort;

@@ -2,6 +2,7 @@
 ghost use Rattle.std.specs.Prelude.{None};
 
 use dict_desk::PlainDesk;
+use dict_examples::{GEM_INDEX, GEM_TEXT, ORE_INDEX, ORE_TEXT};
 use dict_io::{LimitedSink, OverRead};
 use dict_tasks::{InputFiles, ReadFault};
 use dictcat_lib::{CatalogueFiles, command};
@@ -9,17 +10,8 @@ use std::alloc::Global;
 use std::fs;
 use std::test::Fail;
 
-pub(crate) const GEM_INDEX: &[u8] =
-    b"00-database-short\tA\tZ\nopal\tZ\tP\nFire Opal\tZ\tP\ndot\to\tF\n";
-
-pub(crate) const GEM_TEXT: &[u8] = b"00-database-short\n  Gems\nopal\n  a stone\n.dot\n";
-
 // The index whose last line cuts one octet too many.
 const LONG_INDEX: &[u8] = b"00-database-short\tA\tZ\nopal\tZ\tP\nFire Opal\tZ\tP\ndot\to\tG\n";
-
-const ORE_INDEX: &[u8] = b"00-database-short\tA\tX\niron\tX\tL\n";
-
-const ORE_TEXT: &[u8] = b"00-database-short\nOres\niron\n  ore\n";
 
 /// The example databases in memory.
 #[derive(Drop)]

@@ -1,10 +1,97 @@
 //! Commands one after another: over catalogues in files, each list from nothing on, and over two files.
 use super::fixtures::Row;
 
+// A catalogue is made.
+const CREATE: Row = (&["create", "FILE"], "", 0, "", "");
+
+// The second command.
+const INSTALL_GEM_NEXT: Row = (
+    &["install", "FILE", "gem", "r2", "gem.index", "gem.dict"],
+    "",
+    0,
+    "{\"edition\":2,\"name\":\"gem\",\"number\":2,\"verb\":\"install\"}\n",
+    "",
+);
+
+// What is listed then.
+const ORE_FIRST: Row = (
+    &["list", "FILE"],
+    "",
+    0,
+    "0 ore regular 1 - \"Ores\"\n1 gem regular 2 - \"Gems\"\n2 all virtual ore,gem \"All\"\n",
+    "",
+);
+
+// The file is read whole.
+const SOUND: Row = (&["audit", "FILE"], "", 0, "sound\n", "");
+
+// The first command of two that fill a catalogue.
+const INSTALL_ORE: Row = (
+    &["install", "FILE", "ore", "r1", "ore.index", "ore.dict"],
+    "",
+    0,
+    "{\"edition\":1,\"name\":\"ore\",\"number\":1,\"verb\":\"install\"}\n",
+    "",
+);
+
+// The third.
+const GROUP_BOTH: Row = (
+    &["virtual", "FILE", "all", "r3", "All", "ore", "gem"],
+    "",
+    0,
+    "{\"edition\":null,\"name\":\"all\",\"number\":3,\"verb\":\"virtual\"}\n",
+    "",
+);
+
+// None is made where there is one.
+const CREATE_AGAIN: Row = (&["create", "FILE"], "", 3, "", "fault 43 NotACatalogue\n");
+
+// No item is listed.
+const NOTHING_LISTED: Row = (&["list", "FILE"], "", 0, "", "");
+
+// The first command of others.
+const INSTALL_GEM: Row = (
+    &["install", "FILE", "gem", "r1", "gem.index", "gem.dict"],
+    "",
+    0,
+    "{\"edition\":1,\"name\":\"gem\",\"number\":1,\"verb\":\"install\"}\n",
+    "",
+);
+
+// There is nothing to go back to.
+const NO_FORMER: Row = (
+    &["rollback", "FILE", "gem", "r5"],
+    "",
+    1,
+    "",
+    "refused 23 NoFormer\n",
+);
+
+// Two editions, of which the second is current.
+const SECOND_CURRENT: Row = (&["list", "FILE"], "", 0, "0 gem regular 2 1 \"Gems\"\n", "");
+
+// The same, once the second is put first.
+const GEM_FIRST: Row = (
+    &["list", "FILE"],
+    "",
+    0,
+    "0 gem regular 2 - \"Gems\"\n1 ore regular 1 - \"Ores\"\n2 all virtual ore,gem \"All\"\n",
+    "",
+);
+
+// A title with signs that are quoted.
+const QUOTED: Row = (
+    &["list", "FILE"],
+    "",
+    0,
+    "0 ore regular 1 - \"Ores\"\n1 gem regular 2 - \"Gems\"\n2 all virtual gem \"\\\"A\\\" \\\\ 'b'\"\n",
+    "",
+);
+
 /// A catalogue is made once, and has nothing at first.
 pub(crate) static MADE: [Row; 3] = [
-    (&["create", "FILE"], "", 0, "", ""),
-    (&["create", "FILE"], "", 3, "", "fault 43 NotACatalogue\n"),
+    CREATE,
+    CREATE_AGAIN,
     (
         &["session", "FILE"],
         "STATUS\r\nSHOW DB\r\nQUIT\r\n",
@@ -16,8 +103,8 @@ pub(crate) static MADE: [Row; 3] = [
 
 /// Editions are installed and taken back.
 pub(crate) static EDITIONS: [Row; 14] = [
-    (&["create", "FILE"], "", 0, "", ""),
-    (&["list", "FILE"], "", 0, "", ""),
+    CREATE,
+    NOTHING_LISTED,
     (
         &["rollback", "FILE", "gem", "r1"],
         "",
@@ -25,28 +112,10 @@ pub(crate) static EDITIONS: [Row; 14] = [
         "",
         "refused 21 Unknown\n",
     ),
-    (
-        &["install", "FILE", "gem", "r1", "gem.index", "gem.dict"],
-        "",
-        0,
-        "{\"edition\":1,\"name\":\"gem\",\"number\":1,\"verb\":\"install\"}\n",
-        "",
-    ),
+    INSTALL_GEM,
     (&["list", "FILE"], "", 0, "0 gem regular 1 - \"Gems\"\n", ""),
-    (
-        &["rollback", "FILE", "gem", "r5"],
-        "",
-        1,
-        "",
-        "refused 23 NoFormer\n",
-    ),
-    (
-        &["install", "FILE", "gem", "r2", "gem.index", "gem.dict"],
-        "",
-        0,
-        "{\"edition\":2,\"name\":\"gem\",\"number\":2,\"verb\":\"install\"}\n",
-        "",
-    ),
+    NO_FORMER,
+    INSTALL_GEM_NEXT,
     (
         &["rollback", "FILE", "gem", "r3"],
         "",
@@ -62,22 +131,16 @@ pub(crate) static EDITIONS: [Row; 14] = [
         "{\"edition\":2,\"name\":\"gem\",\"number\":4,\"verb\":\"rollback\"}\n",
         "",
     ),
-    (&["list", "FILE"], "", 0, "0 gem regular 2 1 \"Gems\"\n", ""),
-    (&["create", "FILE"], "", 3, "", "fault 43 NotACatalogue\n"),
-    (&["list", "FILE"], "", 0, "0 gem regular 2 1 \"Gems\"\n", ""),
-    (&["audit", "FILE"], "", 0, "sound\n", ""),
+    SECOND_CURRENT,
+    CREATE_AGAIN,
+    SECOND_CURRENT,
+    SOUND,
 ];
 
 /// An id that was accepted is answered again, and no file is read for it; one that was refused is free.
 pub(crate) static KEPT: [Row; 9] = [
-    (&["create", "FILE"], "", 0, "", ""),
-    (
-        &["install", "FILE", "gem", "r1", "gem.index", "gem.dict"],
-        "",
-        0,
-        "{\"edition\":1,\"name\":\"gem\",\"number\":1,\"verb\":\"install\"}\n",
-        "",
-    ),
+    CREATE,
+    INSTALL_GEM,
     (
         &["install", "FILE", "ore", "r1", "ore.index", "ore.dict"],
         "",
@@ -92,13 +155,7 @@ pub(crate) static KEPT: [Row; 9] = [
         "{\"edition\":1,\"name\":\"gem\",\"number\":1,\"verb\":\"install\"}\n",
         "",
     ),
-    (
-        &["rollback", "FILE", "gem", "r5"],
-        "",
-        1,
-        "",
-        "refused 23 NoFormer\n",
-    ),
+    NO_FORMER,
     (
         &["retire", "FILE", "gem", "r5"],
         "",
@@ -113,13 +170,13 @@ pub(crate) static KEPT: [Row; 9] = [
         "{\"edition\":1,\"name\":\"gem\",\"number\":1,\"verb\":\"install\"}\n",
         "",
     ),
-    (&["list", "FILE"], "", 0, "", ""),
-    (&["audit", "FILE"], "", 0, "sound\n", ""),
+    NOTHING_LISTED,
+    SOUND,
 ];
 
 /// Of several faults the first is told: FILE, INDEX, DICT, the edition, the command.
 pub(crate) static FIRST_FAULTS: [Row; 9] = [
-    (&["create", "FILE"], "", 0, "", ""),
+    CREATE,
     (
         &["install", "FILE", "9", "_", "nosuch", "empty"],
         "",
@@ -180,35 +237,11 @@ pub(crate) static FIRST_FAULTS: [Row; 9] = [
 
 /// Databases are asked in their order, and put at other places.
 pub(crate) static ORDER: [Row; 16] = [
-    (&["create", "FILE"], "", 0, "", ""),
-    (
-        &["install", "FILE", "ore", "r1", "ore.index", "ore.dict"],
-        "",
-        0,
-        "{\"edition\":1,\"name\":\"ore\",\"number\":1,\"verb\":\"install\"}\n",
-        "",
-    ),
-    (
-        &["install", "FILE", "gem", "r2", "gem.index", "gem.dict"],
-        "",
-        0,
-        "{\"edition\":2,\"name\":\"gem\",\"number\":2,\"verb\":\"install\"}\n",
-        "",
-    ),
-    (
-        &["virtual", "FILE", "all", "r3", "All", "ore", "gem"],
-        "",
-        0,
-        "{\"edition\":null,\"name\":\"all\",\"number\":3,\"verb\":\"virtual\"}\n",
-        "",
-    ),
-    (
-        &["list", "FILE"],
-        "",
-        0,
-        "0 ore regular 1 - \"Ores\"\n1 gem regular 2 - \"Gems\"\n2 all virtual ore,gem \"All\"\n",
-        "",
-    ),
+    CREATE,
+    INSTALL_ORE,
+    INSTALL_GEM_NEXT,
+    GROUP_BOTH,
+    ORE_FIRST,
     (
         &["session", "FILE"],
         "DEFINE ! opal\r\nDEFINE all opal\r\nMATCH ! substring o\r\nMATCH * substring o\r\nSHOW DB\r\nSHOW INFO all\r\n",
@@ -223,13 +256,7 @@ pub(crate) static ORDER: [Row; 16] = [
         "{\"edition\":null,\"name\":\"gem\",\"number\":4,\"verb\":\"place\"}\n",
         "",
     ),
-    (
-        &["list", "FILE"],
-        "",
-        0,
-        "0 gem regular 2 - \"Gems\"\n1 ore regular 1 - \"Ores\"\n2 all virtual ore,gem \"All\"\n",
-        "",
-    ),
+    GEM_FIRST,
     (
         &["session", "FILE"],
         "MATCH ! substring o\r\nMATCH all substring o\r\nMATCH * substring o\r\n",
@@ -265,13 +292,7 @@ pub(crate) static ORDER: [Row; 16] = [
         "",
         "error: invalid value '-1' for '<PLACE>': -1 is not in 0..=4294967295\n\nFor more information, try '--help'.\n",
     ),
-    (
-        &["list", "FILE"],
-        "",
-        0,
-        "0 gem regular 2 - \"Gems\"\n1 ore regular 1 - \"Ores\"\n2 all virtual ore,gem \"All\"\n",
-        "",
-    ),
+    GEM_FIRST,
     (
         &["place", "FILE", "gem", "r5", "01"],
         "",
@@ -279,46 +300,16 @@ pub(crate) static ORDER: [Row; 16] = [
         "{\"edition\":null,\"name\":\"gem\",\"number\":5,\"verb\":\"place\"}\n",
         "",
     ),
-    (
-        &["list", "FILE"],
-        "",
-        0,
-        "0 ore regular 1 - \"Ores\"\n1 gem regular 2 - \"Gems\"\n2 all virtual ore,gem \"All\"\n",
-        "",
-    ),
+    ORE_FIRST,
 ];
 
 /// A title with quote signs, words that begin with a hyphen, and of two refusals the first.
 pub(crate) static WORDS: [Row; 19] = [
-    (&["create", "FILE"], "", 0, "", ""),
-    (
-        &["install", "FILE", "ore", "r1", "ore.index", "ore.dict"],
-        "",
-        0,
-        "{\"edition\":1,\"name\":\"ore\",\"number\":1,\"verb\":\"install\"}\n",
-        "",
-    ),
-    (
-        &["install", "FILE", "gem", "r2", "gem.index", "gem.dict"],
-        "",
-        0,
-        "{\"edition\":2,\"name\":\"gem\",\"number\":2,\"verb\":\"install\"}\n",
-        "",
-    ),
-    (
-        &["virtual", "FILE", "all", "r3", "All", "ore", "gem"],
-        "",
-        0,
-        "{\"edition\":null,\"name\":\"all\",\"number\":3,\"verb\":\"virtual\"}\n",
-        "",
-    ),
-    (
-        &["list", "FILE"],
-        "",
-        0,
-        "0 ore regular 1 - \"Ores\"\n1 gem regular 2 - \"Gems\"\n2 all virtual ore,gem \"All\"\n",
-        "",
-    ),
+    CREATE,
+    INSTALL_ORE,
+    INSTALL_GEM_NEXT,
+    GROUP_BOTH,
+    ORE_FIRST,
     (
         &["virtual", "FILE", "all", "r4", "\"A\" \\ 'b'", "gem"],
         "",
@@ -326,13 +317,7 @@ pub(crate) static WORDS: [Row; 19] = [
         "{\"edition\":null,\"name\":\"all\",\"number\":4,\"verb\":\"virtual\"}\n",
         "",
     ),
-    (
-        &["list", "FILE"],
-        "",
-        0,
-        "0 ore regular 1 - \"Ores\"\n1 gem regular 2 - \"Gems\"\n2 all virtual gem \"\\\"A\\\" \\\\ 'b'\"\n",
-        "",
-    ),
+    QUOTED,
     (
         &["virtual", "FILE", "all", "_", "", "zz"],
         "",
@@ -403,13 +388,7 @@ pub(crate) static WORDS: [Row; 19] = [
         "",
         "refused 21 Unknown\n",
     ),
-    (
-        &["list", "FILE"],
-        "",
-        0,
-        "0 ore regular 1 - \"Ores\"\n1 gem regular 2 - \"Gems\"\n2 all virtual gem \"\\\"A\\\" \\\\ 'b'\"\n",
-        "",
-    ),
+    QUOTED,
     (
         &["session", "FILE"],
         "SHOW DB\r\n",
@@ -421,35 +400,11 @@ pub(crate) static WORDS: [Row; 19] = [
 
 /// A database that is listed stays, and without databases nothing is found.
 pub(crate) static RETIRED: [Row; 10] = [
-    (&["create", "FILE"], "", 0, "", ""),
-    (
-        &["install", "FILE", "ore", "r1", "ore.index", "ore.dict"],
-        "",
-        0,
-        "{\"edition\":1,\"name\":\"ore\",\"number\":1,\"verb\":\"install\"}\n",
-        "",
-    ),
-    (
-        &["install", "FILE", "gem", "r2", "gem.index", "gem.dict"],
-        "",
-        0,
-        "{\"edition\":2,\"name\":\"gem\",\"number\":2,\"verb\":\"install\"}\n",
-        "",
-    ),
-    (
-        &["virtual", "FILE", "all", "r3", "All", "ore", "gem"],
-        "",
-        0,
-        "{\"edition\":null,\"name\":\"all\",\"number\":3,\"verb\":\"virtual\"}\n",
-        "",
-    ),
-    (
-        &["list", "FILE"],
-        "",
-        0,
-        "0 ore regular 1 - \"Ores\"\n1 gem regular 2 - \"Gems\"\n2 all virtual ore,gem \"All\"\n",
-        "",
-    ),
+    CREATE,
+    INSTALL_ORE,
+    INSTALL_GEM_NEXT,
+    GROUP_BOTH,
+    ORE_FIRST,
     (
         &["retire", "FILE", "gem", "r4"],
         "",
@@ -505,7 +460,7 @@ pub(crate) static UNSERVED: [Row; 5] = [
         "",
         "error: invalid value '0' for '--rounds <N>': 0 is not in 1..=4294967295\n\nFor more information, try '--help'.\n",
     ),
-    (&["create", "FILE"], "", 0, "", ""),
+    CREATE,
     (
         &["serve", "FILE", "--dict", "localhost:0", "--http", "none"],
         "",
@@ -520,7 +475,7 @@ pub(crate) static UNSERVED: [Row; 5] = [
         "",
         "cannot bind none\n",
     ),
-    (&["audit", "FILE"], "", 0, "sound\n", ""),
+    SOUND,
 ];
 
 /// A session over two files, whose first fault is told: INDEX, DICT, the edition, the name.

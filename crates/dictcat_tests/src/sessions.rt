@@ -1,7 +1,8 @@
 //! Sessions over databases that were read, cut in any way.
-use super::fixtures::{GEM_INDEX, GEM_TEXT, taken};
+use super::fixtures::taken;
 use crate::checks::{holds, same, same_text};
 use dict_desk::PlainDesk;
+use dict_examples::{GEM_INDEX, GEM_TEXT};
 use dict_io::{LimitedSink, OverRead};
 use dictcat_lib::run_plain;
 use std::alloc::Global;
