@@ -20,12 +20,11 @@ pub(crate) const UNAVAILABLE: &[u8] = b"HTTP/1.1 503 ";
 
 const SEARCH: &[u8] = b"MATCH * substring o\r\nQUIT\r\n";
 
-const GREETING: &[u8] = b"220 localhost dictcat ready <1@localhost>\r\n";
-
 const FOUND: &[u8] =
     b"220 localhost dictcat ready <1@localhost>\r\n152 4 matches found\r\nore \"iron\"\r\ngem \"opal\"\r\ngem \"Fire Opal\"\r\ngem \"dot\"\r\n.\r\n250 ok\r\n221 closing connection\r\n";
 
-const NOT_FOUND_NOW: &[u8] = b"420 server temporarily unavailable\r\n";
+const NOT_FOUND_NOW: &[u8] =
+    b"220 localhost dictcat ready <1@localhost>\r\n420 server temporarily unavailable\r\n221 closing connection\r\n";
 
 // Makes the first three steps: `ore`, `gem`, and `all`, which lists both.
 fn prepare(desk: &mut PlainDesk, editions: &Editions) -> Result<(), Fault> {
@@ -40,8 +39,7 @@ fn looked_at(octets: &[u8]) -> Outcome {
     if octets == FOUND {
         return Outcome::Right;
     }
-    let rest = octets.strip_prefix(GREETING).unwrap_or(b"");
-    Outcome::right_where(rest.starts_with(NOT_FOUND_NOW)).again()
+    Outcome::right_where(octets == NOT_FOUND_NOW).again()
 }
 
 // A session that asks for all headwords with an `o`.

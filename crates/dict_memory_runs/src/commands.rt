@@ -5,30 +5,47 @@ use dict_catalogue::{PlanFault, Summary, plan};
 use dict_desk::{Fault, Keeper, Lookup, PlainDesk};
 use std::alloc::Global;
 
-// Whether a desk shows these items.
-fn shows(desk: &PlainDesk, items: Items) -> bool {
+/// Whether a desk shows these items.
+pub(crate) fn shows<L: Lookup>(desk: &L, items: Items) -> bool {
     match desk.summary() {
         Ok(summary) => has_items(summary, items),
         Err(_) => false,
     }
 }
 
-fn step_once(desk: &mut PlainDesk, editions: &Editions, step: &Step, place: usize) -> Outcome {
+/// A step; nothing where the store failed.
+pub(crate) fn step_once<K: Keeper>(
+    desk: &mut K,
+    editions: &Editions,
+    step: &Step,
+    place: usize,
+) -> Option<Outcome> {
     match desk.apply(step.id, &step.asked.command(editions)) {
-        Ok(kept) => Outcome::right_where(step.is_told_by(&kept, place) && shows(desk, step.items)),
-        Err(Fault::Memory) => Outcome::Memory,
-        Err(_) => Outcome::Wrong,
+        Ok(kept) => Some(Outcome::right_where(
+            step.is_told_by(&kept, place) && shows(&*desk, step.items),
+        )),
+        Err(Fault::Memory) => Some(Outcome::Memory),
+        Err(Fault::Disk) => None,
+        Err(_) => Some(Outcome::Wrong),
     }
 }
 
-// A step, and once more where memory was wanting, with the items as they were.
-fn step_over(desk: &mut PlainDesk, editions: &Editions, step: &Step, place: usize) -> Outcome {
-    match step_once(desk, editions, step, place) {
-        Outcome::Memory if shows(desk, items_before(place)) => {
-            step_once(desk, editions, step, place).again()
+/// A step, and once more where memory was wanting, with the items as they were; nothing where the store failed.
+pub(crate) fn step_over<K: Keeper>(
+    desk: &mut K,
+    editions: &Editions,
+    step: &Step,
+    place: usize,
+) -> Option<Outcome> {
+    match step_once(desk, editions, step, place)? {
+        Outcome::Memory => {
+            if shows(&*desk, items_before(place)) {
+                Some(step_once(desk, editions, step, place)?.again())
+            } else {
+                Some(Outcome::Wrong)
+            }
         }
-        Outcome::Memory => Outcome::Wrong,
-        other => other,
+        other => Some(other),
     }
 }
 
@@ -40,7 +57,8 @@ pub(crate) fn apply_each(alloc: Global) -> Outcome {
     let mut desk = PlainDesk::new(alloc);
     let mut outcome = Outcome::Right;
     for (place, step) in STEPS.iter().enumerate() {
-        outcome = outcome.and(step_over(&mut desk, &editions, step, place));
+        let came = step_over(&mut desk, &editions, step, place);
+        outcome = outcome.and(came.unwrap_or(Outcome::Wrong));
         if !outcome.goes_on() {
             return outcome;
         }

@@ -14,12 +14,12 @@ const OPAL: &[u8] =
 const NOT_FOUND_NOW: &[u8] = b"420 server temporarily unavailable\r\n";
 
 /// An event, what becomes of its connection, what is put for it, and how an answer begins that is put in its place where
-/// memory is wanting.
+/// memory is wanting, if there is one.
 #[derive(Clone, Copy)]
 struct Row(Event<'static>, Out, &'static [u8], &'static [u8]);
 
 static BEFORE: [Row; 3] = [
-    Row(Event::Opened(1, Kind::Dict), Out::More, GREETING, GREETING),
+    Row(Event::Opened(1, Kind::Dict), Out::More, GREETING, b""),
     Row(Event::Opened(2, Kind::Http), Out::More, b"", b""),
     Row(Event::Bytes(1, b"DEFINE gem op"), Out::More, b"", b""),
 ];
@@ -43,8 +43,9 @@ fn event_once(alloc: Global, hub: &mut Hub, desk: &mut PlainDesk, row: &Row) -> 
         return Outcome::Wanting;
     };
     match hub.event(desk, row.0, &mut sink) {
-        Ok(out) if sink.taken() == row.2 => Outcome::right_where(out == row.1),
-        Ok(_) => Outcome::right_where(sink.taken().starts_with(row.3))
+        Ok(out) if out != row.1 => Outcome::Wrong,
+        Ok(_) if sink.taken() == row.2 => Outcome::Right,
+        Ok(_) => Outcome::right_where(!row.3.is_empty() && sink.taken().starts_with(row.3))
             .again()
             .again(),
         Err(HubFault::Memory) => Outcome::right_where(sink.taken().is_empty()).again(),
