@@ -22,7 +22,7 @@ sys.path.append(str(pathlib.Path(__file__).resolve().parent.parent))
 from dictd import spelled
 
 WORDS = 200
-MOST_SECONDS = 0.12
+MAX_SECONDS = 0.12
 
 
 def edition(count):
@@ -148,7 +148,7 @@ def main():
             readers = [Reader(server.dict_address) for _ in range(2)]
             for it in readers:
                 it.start()
-            install_until_killed(server, editor, random.uniform(0, MOST_SECONDS))
+            install_until_killed(server, editor, random.uniform(0, MAX_SECONDS))
             for it in readers:
                 it.join()
                 assert not it.wrong, it.wrong[0]

@@ -8,8 +8,8 @@ use Rattle.dict_catalogue.specs.Commands.{Command}
 use Rattle.dict_catalogue.specs.Tests.{Test, wants, tests_of, first_failing, refusal_of}
 use Rattle.dict_catalogue.specs.Effects.{KeptReply}
 use Rattle.dict_catalogue.specs.Steps.{KeptFor, Catalogue, holdings, kept_under, refused, Outcome, with_effect, decided, answered, step, AllHold, FailsFirst, IsStep, id_unlawful, id_kept, test_failed, none_failed, Request, after, acts, acts_unless_kept, is_none_refused, acting}
-use Rattle.dict_catalogue.specs.declared.fault.Refusal.{Refusal}
-use Rattle.dict_catalogue.specs.declared.fault.Refusal.TheVariants.{BadRequestId}
+use Rattle.dict_catalogue.specs.declared.fault.CommandRefusal.{CommandRefusal}
+use Rattle.dict_catalogue.specs.declared.fault.CommandRefusal.TheVariants.{BadRequestId}
 
 -- the first test that fails
 
@@ -17,19 +17,19 @@ pub none_failing : (tests : List Test) → AllHold tests → first_failing tests
 none_failing [] h = refl
 none_failing (test ∷ tests) h = rw h.0 (none_failing tests h.1)
 
-failing_behind : (front : List Test) (refusal : Refusal) (back : List Test) → AllHold front → first_failing (front ++ wants false refusal ∷ back) ≡ Some refusal
+failing_behind : (front : List Test) (refusal : CommandRefusal) (back : List Test) → AllHold front → first_failing (front ++ wants false refusal ∷ back) ≡ Some refusal
 failing_behind [] refusal back h = refl
 failing_behind (test ∷ front) refusal back h = rw h.0 (failing_behind front refusal back h.1)
 
-pub failing_first : (tests : List Test) (refusal : Refusal) → FailsFirst tests refusal → first_failing tests ≡ Some refusal
+pub failing_first : (tests : List Test) (refusal : CommandRefusal) → FailsFirst tests refusal → first_failing tests ≡ Some refusal
 failing_first tests refusal h = ap first_failing h.split ∙ failing_behind h.front refusal h.back h.holds
 
 -- what the first failing test says of the tests
-Says : List Test → Option Refusal → Type 0
+Says : List Test → Option CommandRefusal → Type 0
 Says tests None = AllHold tests
 Says tests (Some refusal) = FailsFirst tests refusal
 
-one_more : (test : Test) (tests : List Test) (found : Option Refusal) → test.holds ≡ true → Says tests found → Says (test ∷ tests) found
+one_more : (test : Test) (tests : List Test) (found : Option CommandRefusal) → test.holds ≡ true → Says tests found → Says (test ∷ tests) found
 unfolding Says
 one_more test tests None e h = (e, h)
 one_more test tests (Some refusal) e h = record { front = test ∷ h.front; back = h.back; split = ap (λ ts. test ∷ ts) h.split; holds = (e, h.holds) }
@@ -49,11 +49,11 @@ says (test ∷ tests) = says_cons test tests test.holds refl (says tests)
 
 pub all_hold : (tests : List Test) → first_failing tests ≡ None → AllHold tests
 unfolding Says
-all_hold tests e = subst (λ (found : Option Refusal). Says tests found) e (says tests)
+all_hold tests e = subst (λ (found : Option CommandRefusal). Says tests found) e (says tests)
 
-pub fails_first : (tests : List Test) (refusal : Refusal) → first_failing tests ≡ Some refusal → FailsFirst tests refusal
+pub fails_first : (tests : List Test) (refusal : CommandRefusal) → first_failing tests ≡ Some refusal → FailsFirst tests refusal
 unfolding Says
-fails_first tests refusal e = subst (λ (found : Option Refusal). Says tests found) e (says tests)
+fails_first tests refusal e = subst (λ (found : Option CommandRefusal). Says tests found) e (says tests)
 
 -- the four cases of a step
 
@@ -63,7 +63,7 @@ is_step_gives M id command outcome (id_kept reply e k o) = rw (e, k) o
 is_step_gives M id command outcome (test_failed refusal e k f o) = rw (e, k, failing_first (tests_of (holdings M) command) refusal f) o
 is_step_gives M id command outcome (none_failed e k h o) = rw (e, k, none_failing (tests_of (holdings M) command) h) o
 
-step_decided : (M : Catalogue) (id : List ℕ) (command : Command Edition) (outcome : Outcome) (found : Option Refusal) → is_request_id id ≡ true → kept_under M.kept id ≡ None →
+step_decided : (M : Catalogue) (id : List ℕ) (command : Command Edition) (outcome : Outcome) (found : Option CommandRefusal) → is_request_id id ≡ true → kept_under M.kept id ≡ None →
     first_failing (tests_of (holdings M) command) ≡ found → outcome ≡ decided M id command found → IsStep M id command outcome
 step_decided M id command outcome None e k f o = none_failed e k (all_hold (tests_of (holdings M) command) f) o
 step_decided M id command outcome (Some refusal) e k f o = test_failed refusal e k (fails_first (tests_of (holdings M) command) refusal f) o
@@ -88,7 +88,7 @@ Leaves : Catalogue → List ℕ → Command Edition → Bool → Catalogue → T
 Leaves M id command true left = left ≡ with_effect M id command
 Leaves M id command false left = left ≡ M
 
-decided_leaves : (M : Catalogue) (id : List ℕ) (command : Command Edition) (found : Option Refusal) → Leaves M id command (is_none_refused found) (decided M id command found).catalogue
+decided_leaves : (M : Catalogue) (id : List ℕ) (command : Command Edition) (found : Option CommandRefusal) → Leaves M id command (is_none_refused found) (decided M id command found).catalogue
 unfolding Leaves
 decided_leaves M id command None = refl
 decided_leaves M id command (Some refusal) = refl

@@ -10,7 +10,7 @@ use Rattle.dict_catalogue.specs.Commands.{Command, install, rollback, retire, pu
 use Rattle.dict_catalogue.specs.Tests.{wants, Holdings, holdings_as, member_tests, has_turn, has_room, has_member_count, tests_of, refusal_of, first_failing}
 use Rattle.dict_index.specs.Edition.{Edition}
 use Rattle.dict_catalogue.specs.Steps.{Catalogue, holdings, summary_of, command_summary, with_effect}
-use Rattle.dict_catalogue.specs.declared.fault.Refusal.TheVariants.{BadName, Unknown, IsVirtual, NoFormer, Listed, CatalogueFull, BadMember, MemberTwice, MemberCount, BadTitle, BadPlace, IsRegular}
+use Rattle.dict_catalogue.specs.declared.fault.CommandRefusal.TheVariants.{BadName, Unknown, IsVirtual, NoFormer, Listed, CatalogueFull, BadMember, MemberTwice, MemberCount, BadTitle, BadPlace, IsRegular}
 use Rattle.dict_catalogue.specs.declared.reply.Verb.TheVariants.{Install, Rollback}
 use Rattle.dict_catalogue.specs.Effects.{installed, swapped, put_anew, changed, changed_in_place, others_than, moved, items_after, installs_after, effect, reply_to, editions_gone}
 

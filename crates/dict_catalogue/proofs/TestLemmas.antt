@@ -2,14 +2,14 @@
 use Rattle.std.proofs.Common.{◌≡◌, Bool, true, false, List, [], ◌∷◌, ◌++◌, refl}
 use Rattle.std.specs.Prelude.{Option, Some, None, if◌then◌else◌}
 use Rattle.dict_catalogue.specs.Tests.{Test, first_failing}
-use Rattle.dict_catalogue.specs.declared.fault.Refusal.{Refusal}
+use Rattle.dict_catalogue.specs.declared.fault.CommandRefusal.{CommandRefusal}
 
 -- what the two parts together refuse
-abbrev pub or_else : Option Refusal → Option Refusal → Option Refusal
+abbrev pub or_else : Option CommandRefusal → Option CommandRefusal → Option CommandRefusal
 or_else None later = later
 or_else (Some refusal) later = Some refusal
 
-either_way : (holds : Bool) (refusal : Refusal) (rest later : Option Refusal) →
+either_way : (holds : Bool) (refusal : CommandRefusal) (rest later : Option CommandRefusal) →
     (if holds then or_else rest later else Some refusal) ≡ or_else (if holds then rest else Some refusal) later
 either_way true refusal rest later = refl
 either_way false refusal rest later = refl

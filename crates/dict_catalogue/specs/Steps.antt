@@ -6,8 +6,8 @@ use Rattle.dict_catalogue.specs.Items.{Item}
 use Rattle.dict_catalogue.specs.Commands.{Command, command_as}
 use Rattle.dict_catalogue.specs.Tests.{Test, wants, Holdings, holdings_as, tests_of, refusal_of}
 use Rattle.dict_catalogue.specs.Effects.{KeptReply, effect, reply_to}
-use Rattle.dict_catalogue.specs.declared.fault.Refusal.{Refusal}
-use Rattle.dict_catalogue.specs.declared.fault.Refusal.TheVariants.{BadRequestId}
+use Rattle.dict_catalogue.specs.declared.fault.CommandRefusal.{CommandRefusal}
+use Rattle.dict_catalogue.specs.declared.fault.CommandRefusal.TheVariants.{BadRequestId}
 
 -- a kept reply, and the id of the request that it answered
 pub record KeptFor : Type 0 where
@@ -42,7 +42,7 @@ kept_under (one ∷ kept) id = if bytes_eq one.id id then Some one.reply else ke
 
 pub data Reply : Type 0 where
   accepted : KeptReply → Reply
-  refused : Refusal → Reply
+  refused : CommandRefusal → Reply
 
 -- a reply, and the catalogue after it
 pub record Outcome : Type 0 where
@@ -56,7 +56,7 @@ with_effect before id command =
     record { items = after.items; kept = before.kept ++ record { id = id; reply = reply_to command after } ∷ []; installs = after.installs }
 
 -- none of its tests fails, or the first one does
-abbrev pub decided : Catalogue → List ℕ → Command Edition → Option Refusal → Outcome
+abbrev pub decided : Catalogue → List ℕ → Command Edition → Option CommandRefusal → Outcome
 decided before id command (Some refusal) = record { reply = refused refusal; catalogue = before }
 decided before id command None = record { reply = accepted (reply_to command (effect command (holdings before))); catalogue = with_effect before id command }
 
@@ -78,7 +78,7 @@ AllHold [] = Unit {0}
 AllHold (test ∷ tests) = IsTrue test.holds × AllHold tests
 
 -- the first test that isn't passed has this refusal
-pub record FailsFirst (tests : List Test) (refusal : Refusal) : Type 0 where
+pub record FailsFirst (tests : List Test) (refusal : CommandRefusal) : Type 0 where
   pub front : List Test
   pub back : List Test
   pub split : tests ≡ front ++ wants false refusal ∷ back
@@ -91,7 +91,7 @@ pub data IsStep (before : Catalogue) (id : List ℕ) (command : Command Edition)
       outcome ≡ record { reply = refused BadRequestId; catalogue = before } → IsStep before id command outcome
   id_kept : (reply : KeptReply) → is_request_id id ≡ true → kept_under before.kept id ≡ Some reply →
       outcome ≡ record { reply = accepted reply; catalogue = before } → IsStep before id command outcome
-  test_failed : (refusal : Refusal) → is_request_id id ≡ true → kept_under before.kept id ≡ None →
+  test_failed : (refusal : CommandRefusal) → is_request_id id ≡ true → kept_under before.kept id ≡ None →
       FailsFirst (tests_of (holdings before) command) refusal →
       outcome ≡ record { reply = refused refusal; catalogue = before } → IsStep before id command outcome
   none_failed : is_request_id id ≡ true → kept_under before.kept id ≡ None →
@@ -110,7 +110,7 @@ after before [] = before
 after before (request ∷ requests) = after (step before request.id request.command).catalogue requests
 
 -- the command is accepted, and acts
-abbrev pub is_none_refused : Option Refusal → Bool
+abbrev pub is_none_refused : Option CommandRefusal → Bool
 is_none_refused None = true
 is_none_refused (Some refusal) = false
 

@@ -3,8 +3,8 @@ use Rattle.std.specs.Prelude.{ℕ, Bool, not, ◌&&◌, ◌||◌, nat_lt, nat_le
 use Rattle.dict_name.specs.Names.{is_name, is_title}
 use Rattle.dict_catalogue.specs.Items.{Item, is_known, names_regular, names_virtual, names_former, is_listed, is_among, item_as}
 use Rattle.dict_catalogue.specs.Commands.{Command, install, rollback, retire, put_virtual, place}
-use Rattle.dict_catalogue.specs.declared.fault.Refusal.{Refusal}
-use Rattle.dict_catalogue.specs.declared.fault.Refusal.TheVariants.{BadName, Unknown, IsVirtual, NoFormer, Listed, CatalogueFull, BadMember, MemberTwice, MemberCount, BadTitle, BadPlace, IsRegular}
+use Rattle.dict_catalogue.specs.declared.fault.CommandRefusal.{CommandRefusal}
+use Rattle.dict_catalogue.specs.declared.fault.CommandRefusal.TheVariants.{BadName, Unknown, IsVirtual, NoFormer, Listed, CatalogueFull, BadMember, MemberTwice, MemberCount, BadTitle, BadPlace, IsRegular}
 use Rattle.std.specs.Prelude.{map}
 
 -- what the commands read and change of a catalogue: its items, the count of installs and the count of all
@@ -21,13 +21,13 @@ holdings_as f before = record { items = map (item_as f) before.items; installs =
 -- whether a test is passed, and the refusal where it isn't
 pub record Test : Type 0 where
   pub holds : Bool
-  pub refusal : Refusal
+  pub refusal : CommandRefusal
 
-abbrev pub wants : Bool → Refusal → Test
+abbrev pub wants : Bool → CommandRefusal → Test
 wants holds refusal = record { holds = holds; refusal = refusal }
 
 -- the refusal of the first test that isn't passed
-abbrev pub first_failing : List Test → Option Refusal
+abbrev pub first_failing : List Test → Option CommandRefusal
 first_failing [] = None
 first_failing (test ∷ tests) = if test.holds then first_failing tests else Some test.refusal
 
@@ -96,5 +96,5 @@ tests_of before (put_virtual name title members) = put_virtual_tests before name
 tests_of before (place name at) = place_tests before name at
 
 -- why the command is refused, if it is
-abbrev pub refusal_of : {A : Type 0} → Holdings A → Command A → Option Refusal
+abbrev pub refusal_of : {A : Type 0} → Holdings A → Command A → Option CommandRefusal
 refusal_of before command = first_failing (tests_of before command)

@@ -14,7 +14,7 @@ use Rattle.dict_catalogue.specs.declared.summary.Summary.{Summary}
 use Rattle.dict_catalogue.specs.declared.commands.Command.{Command}
 use Rattle.dict_catalogue.specs.declared.commands.Command.TheVariants.{Install, Rollback, Retire, PutVirtual, Place}
 use Rattle.dict_catalogue.specs.declared.reply.Kept.{Kept}
-use Rattle.dict_catalogue.specs.declared.planning.Change.{Change}
+use Rattle.dict_catalogue.specs.declared.planning.PlannedChange.{PlannedChange}
 use Rattle.dict_catalogue.specs.declared.fault.PlanFault.{PlanFault}
 use Rattle.dict_catalogue.specs.declared.fault.PlanFault.TheVariants.{Refused, Memory}
 
@@ -58,13 +58,13 @@ kept_shown kept = record { number = kept.number; verb = kept.verb; name = string
 
 -- the change is what the command does to a summary: the summary after it is that of its effect, the editions that
 -- go are those that were there before and are not after, and the reply is the one to be kept
-pub record IsEffect (before : Holdings (List ℕ)) (command : ACommand (List ℕ)) (change : Change) : Type 0 where
+pub record IsEffect (before : Holdings (List ℕ)) (command : ACommand (List ℕ)) (change : PlannedChange) : Type 0 where
   pub after : summary_shown change.summary ≡ effect command before
   pub gone : change.gone.items ≡ editions_gone before.items (effect command before).items
   pub kept : kept_shown change.kept ≡ reply_to command (effect command before)
 
 -- and none of the command's tests fails
-abbrev pub IsChange : Holdings (List ℕ) → ACommand (List ℕ) → Change → Type 0
+abbrev pub IsChange : Holdings (List ℕ) → ACommand (List ℕ) → PlannedChange → Type 0
 IsChange before command change = (refusal_of before command ≡ None) × IsEffect before command change
 
 -- the refusal is that of the first test that fails. Want of memory says nothing of the command
@@ -74,7 +74,7 @@ IsFaultOf before command Memory = ⊤
 
 -- the change is what the command did to a catalogue, of which this is the outcome: the same reply, the summary of the
 -- catalogue after, and the editions that stood before and don't stand after
-pub record IsChangeOf (before : Catalogue) (outcome : Outcome) (change : Change) : Type 0 where
+pub record IsChangeOf (before : Catalogue) (outcome : Outcome) (change : PlannedChange) : Type 0 where
   pub reply : outcome.reply ≡ accepted (kept_shown change.kept)
   pub summary : summary_shown change.summary ≡ summary_of outcome.catalogue
   pub gone : change.gone.items ≡ editions_gone before.items outcome.catalogue.items
@@ -84,5 +84,5 @@ abbrev pub IsFaultFor : Catalogue → Outcome → PlanFault → Type 0
 IsFaultFor before outcome (Refused refusal) = outcome ≡ record { reply = refused refusal; catalogue = before }
 IsFaultFor before outcome Memory = ⊤
 
-abbrev pub IsPlanOf : Catalogue → Outcome → Result Change PlanFault → Type 0
+abbrev pub IsPlanOf : Catalogue → Outcome → Result PlannedChange PlanFault → Type 0
 IsPlanOf before outcome result = MatchResult result (IsChangeOf before outcome) (IsFaultFor before outcome)

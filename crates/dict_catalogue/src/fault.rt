@@ -7,7 +7,7 @@ use thiserror::Error;
 
 /// The test of a command that failed.
 #[derive(Clone, Copy, Debug, PartialEq, Eq)]
-pub enum Refusal {
+pub enum CommandRefusal {
     /// The name isn't 1 to 32 of `a-z 0-9 _ -` beginning with `a-z`.
     BadName,
     /// No item has the name.
@@ -36,26 +36,26 @@ pub enum Refusal {
     IsRegular,
 }
 
-impl Refusal {
+impl CommandRefusal {
     // What users see of the refusal: its number, 20 to 32, and its name.
     fn text(self) -> (u8, &'static str)
         ensures number { result.0 ≡ (text_of self).number }
         ensures name { result.1.now ≡ (text_of self).name }
     {
         match self {
-            Refusal::BadName => (20, "BadName"),
-            Refusal::Unknown => (21, "Unknown"),
-            Refusal::IsVirtual => (22, "IsVirtual"),
-            Refusal::NoFormer => (23, "NoFormer"),
-            Refusal::Listed => (24, "Listed"),
-            Refusal::CatalogueFull => (25, "CatalogueFull"),
-            Refusal::BadMember => (26, "BadMember"),
-            Refusal::MemberTwice => (27, "MemberTwice"),
-            Refusal::MemberCount => (28, "MemberCount"),
-            Refusal::BadTitle => (29, "BadTitle"),
-            Refusal::BadPlace => (30, "BadPlace"),
-            Refusal::BadRequestId => (31, "BadRequestId"),
-            Refusal::IsRegular => (32, "IsRegular"),
+            CommandRefusal::BadName => (20, "BadName"),
+            CommandRefusal::Unknown => (21, "Unknown"),
+            CommandRefusal::IsVirtual => (22, "IsVirtual"),
+            CommandRefusal::NoFormer => (23, "NoFormer"),
+            CommandRefusal::Listed => (24, "Listed"),
+            CommandRefusal::CatalogueFull => (25, "CatalogueFull"),
+            CommandRefusal::BadMember => (26, "BadMember"),
+            CommandRefusal::MemberTwice => (27, "MemberTwice"),
+            CommandRefusal::MemberCount => (28, "MemberCount"),
+            CommandRefusal::BadTitle => (29, "BadTitle"),
+            CommandRefusal::BadPlace => (30, "BadPlace"),
+            CommandRefusal::BadRequestId => (31, "BadRequestId"),
+            CommandRefusal::IsRegular => (32, "IsRegular"),
         }
     }
 
@@ -79,7 +79,7 @@ impl Refusal {
 pub enum PlanFault {
     /// The first of the command's tests that failed.
     #[error("the command is refused")]
-    Refused(Refusal),
+    Refused(CommandRefusal),
     /// A growth was refused.
     #[error("out of memory")]
     Memory,

@@ -17,9 +17,9 @@ mod reply;
 mod summary;
 
 pub use commands::Command;
-pub use fault::{PlanFault, Refusal};
+pub use fault::{CommandRefusal, PlanFault};
 pub use laws::{after_laws, step_law, summary_laws, well_formed_laws};
 pub use lookups::{is_among, is_known, names_regular};
-pub use planning::{Change, edition_numbers, plan};
+pub use planning::{PlannedChange, edition_numbers, plan};
 pub use reply::{Kept, Verb};
 pub use summary::{Item, StoredTitle, Summary};

@@ -18,7 +18,7 @@ use std::alloc::{AllocError, Global};
 
 /// What an accepted command does.
 #[derive(Debug, Drop)]
-pub struct Change {
+pub struct PlannedChange {
     /// The summary after the command.
     pub summary: Summary,
     /// The numbers of the editions that were there before and are not after.
@@ -33,14 +33,18 @@ pub struct Change {
 ///
 /// The request's id is not among what is planned: a caller has refused an unlawful id (`dict_name::is_request_id`) and
 /// answered a kept one before. Over every catalogue with this summary the plan then is what the command does there.
-pub fn plan(alloc: Global, summary: &Summary, command: &Command) -> Result<Change, PlanFault>
+pub fn plan(alloc: Global, summary: &Summary, command: &Command) -> Result<PlannedChange, PlanFault>
     ensures over_summary { MatchResult result (IsChange (summary_shown summary.now) (command_shown command.now)) (IsFaultOf (summary_shown summary.now) (command_shown command.now)) }
     ensures over_catalogue { (M : Catalogue) (id : List ℕ) → summary_of M ≡ summary_shown summary.now → IsTrue (is_request_id id) → kept_under M.kept id ≡ None → IsPlanOf M (step M id (command_meant command.now)) result }
 {
     plan_over(alloc, summary, command)
 }
 
-fn plan_over(alloc: Global, summary: &Summary, command: &Command) -> Result<Change, PlanFault>
+fn plan_over(
+    alloc: Global,
+    summary: &Summary,
+    command: &Command,
+) -> Result<PlannedChange, PlanFault>
     ensures { MatchResult result (IsChange (summary_shown summary.now) (command_shown command.now)) (IsFaultOf (summary_shown summary.now) (command_shown command.now)) }
 {
     match refusal_of(summary, command) {
@@ -50,7 +54,11 @@ fn plan_over(alloc: Global, summary: &Summary, command: &Command) -> Result<Chan
 }
 
 /// What the command does where none of its tests fails.
-fn change_by(alloc: Global, summary: &Summary, command: &Command) -> Result<Change, AllocError>
+fn change_by(
+    alloc: Global,
+    summary: &Summary,
+    command: &Command,
+) -> Result<PlannedChange, AllocError>
     requires { summary.now.accepted < 9223372036854775807 }
     ensures { IfOk result (IsEffect (summary_shown summary.now) (command_shown command.now)) }
 {
@@ -64,7 +72,7 @@ fn change_by(alloc: Global, summary: &Summary, command: &Command) -> Result<Chan
         edition: edition_told(command, &items),
     };
     let installs = installs_after(command, summary.installs);
-    Ok(Change {
+    Ok(PlannedChange {
         summary: Summary {
             items,
             installs,

@@ -5,7 +5,7 @@ ghost use Rattle.dict_catalogue.specs.Tests.{has_turn, has_member_count, has_roo
 ghost use Rattle.dict_catalogue.specs.Views.{item_shown, summary_shown, names_shown, command_shown};
 
 use crate::commands::Command;
-use crate::fault::Refusal;
+use crate::fault::CommandRefusal;
 use crate::lookups::{is_known, is_listed, names_former, names_regular, names_virtual};
 use crate::summary::{Item, Summary};
 use dict_name::{is_name, is_title};
@@ -20,7 +20,7 @@ const MAX_MEMBERS: usize = 64;
 const MAX_ACCEPTED: u64 = 9_223_372_036_854_775_807;
 
 /// Why the command is refused: the first of its tests that fails, if one does. No memory is taken.
-pub fn refusal_of(summary: &Summary, command: &Command) -> Option<Refusal>
+pub fn refusal_of(summary: &Summary, command: &Command) -> Option<CommandRefusal>
     ensures first { result ≡ refusal_of (summary_shown summary.now) (command_shown command.now) }
     ensures turn { IfNone result (summary.now.accepted < 9223372036854775807) }
 {
@@ -49,52 +49,52 @@ fn has_room(summary: &Summary, name: &str) -> bool
     (is_known(&summary.items, name) || summary.items.len() < MAX_ITEMS) && has_turn(summary)
 }
 
-fn install_refusal(summary: &Summary, name: &str) -> Option<Refusal>
+fn install_refusal(summary: &Summary, name: &str) -> Option<CommandRefusal>
     ensures first { result ≡ first_failing (install_tests (summary_shown summary.now) name.now) }
     ensures turn { IfNone result (summary.now.accepted < 9223372036854775807) }
 {
     if !is_name(name) {
-        Some(Refusal::BadName)
+        Some(CommandRefusal::BadName)
     } else if names_virtual(&summary.items, name) {
-        Some(Refusal::IsVirtual)
+        Some(CommandRefusal::IsVirtual)
     } else if !has_room(summary, name) {
-        Some(Refusal::CatalogueFull)
+        Some(CommandRefusal::CatalogueFull)
     } else {
         None
     }
 }
 
-fn rollback_refusal(summary: &Summary, name: &str) -> Option<Refusal>
+fn rollback_refusal(summary: &Summary, name: &str) -> Option<CommandRefusal>
     ensures first { result ≡ first_failing (rollback_tests (summary_shown summary.now) name.now) }
     ensures turn { IfNone result (summary.now.accepted < 9223372036854775807) }
 {
     if !is_name(name) {
-        Some(Refusal::BadName)
+        Some(CommandRefusal::BadName)
     } else if !is_known(&summary.items, name) {
-        Some(Refusal::Unknown)
+        Some(CommandRefusal::Unknown)
     } else if names_virtual(&summary.items, name) {
-        Some(Refusal::IsVirtual)
+        Some(CommandRefusal::IsVirtual)
     } else if !names_former(&summary.items, name) {
-        Some(Refusal::NoFormer)
+        Some(CommandRefusal::NoFormer)
     } else if !has_turn(summary) {
-        Some(Refusal::CatalogueFull)
+        Some(CommandRefusal::CatalogueFull)
     } else {
         None
     }
 }
 
-fn retire_refusal(summary: &Summary, name: &str) -> Option<Refusal>
+fn retire_refusal(summary: &Summary, name: &str) -> Option<CommandRefusal>
     ensures first { result ≡ first_failing (retire_tests (summary_shown summary.now) name.now) }
     ensures turn { IfNone result (summary.now.accepted < 9223372036854775807) }
 {
     if !is_name(name) {
-        Some(Refusal::BadName)
+        Some(CommandRefusal::BadName)
     } else if !is_known(&summary.items, name) {
-        Some(Refusal::Unknown)
+        Some(CommandRefusal::Unknown)
     } else if is_listed(&summary.items, name) {
-        Some(Refusal::Listed)
+        Some(CommandRefusal::Listed)
     } else if !has_turn(summary) {
-        Some(Refusal::CatalogueFull)
+        Some(CommandRefusal::CatalogueFull)
     } else {
         None
     }
@@ -105,27 +105,27 @@ fn put_virtual_refusal(
     name: &str,
     title: &str,
     members: &[&str],
-) -> Option<Refusal>
+) -> Option<CommandRefusal>
     ensures first { result ≡ first_failing (put_virtual_tests (summary_shown summary.now) name.now title.now (names_shown members.now)) }
     ensures turn { IfNone result (summary.now.accepted < 9223372036854775807) }
 {
     if !is_name(name) {
-        return Some(Refusal::BadName);
+        return Some(CommandRefusal::BadName);
     }
     if names_regular(&summary.items, name) {
-        return Some(Refusal::IsRegular);
+        return Some(CommandRefusal::IsRegular);
     }
     if !is_title(title) {
-        return Some(Refusal::BadTitle);
+        return Some(CommandRefusal::BadTitle);
     }
     if !has_member_count(members) {
-        return Some(Refusal::MemberCount);
+        return Some(CommandRefusal::MemberCount);
     }
     if let Some(refusal) = member_refusal(&summary.items, members) {
         return Some(refusal);
     }
     if !has_room(summary, name) {
-        return Some(Refusal::CatalogueFull);
+        return Some(CommandRefusal::CatalogueFull);
     }
     None
 }
@@ -137,15 +137,15 @@ fn has_member_count(members: &[&str]) -> bool
 }
 
 /// Each member in order has to name a regular item, and to be none of the earlier ones.
-fn member_refusal(items: &[Item], members: &[&str]) -> Option<Refusal>
+fn member_refusal(items: &[Item], members: &[&str]) -> Option<CommandRefusal>
     ensures { result ≡ first_failing (member_tests (map item_shown items.now) [] (names_shown members.now)) }
 {
     for (index, member) in members.iter().enumerate() {
         if !names_regular(items, member) {
-            return Some(Refusal::BadMember);
+            return Some(CommandRefusal::BadMember);
         }
         if is_among(&members[..index], member) {
-            return Some(Refusal::MemberTwice);
+            return Some(CommandRefusal::MemberTwice);
         }
     }
     None
@@ -162,18 +162,18 @@ fn is_among(names: &[&str], name: &str) -> bool
     false
 }
 
-fn place_refusal(summary: &Summary, name: &str, place: u64) -> Option<Refusal>
+fn place_refusal(summary: &Summary, name: &str, place: u64) -> Option<CommandRefusal>
     ensures first { result ≡ first_failing (place_tests (summary_shown summary.now) name.now place) }
     ensures turn { IfNone result (summary.now.accepted < 9223372036854775807) }
 {
     if !is_name(name) {
-        Some(Refusal::BadName)
+        Some(CommandRefusal::BadName)
     } else if !is_known(&summary.items, name) {
-        Some(Refusal::Unknown)
+        Some(CommandRefusal::Unknown)
     } else if place >= summary.items.len() as u64 {
-        Some(Refusal::BadPlace)
+        Some(CommandRefusal::BadPlace)
     } else if !has_turn(summary) {
-        Some(Refusal::CatalogueFull)
+        Some(CommandRefusal::CatalogueFull)
     } else {
         None
     }

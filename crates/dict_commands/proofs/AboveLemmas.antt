@@ -19,18 +19,18 @@ use Rattle.dict_catalogue.specs.Tests.{Holdings}
 use Rattle.dict_catalogue.specs.Views.{command_shown, IsChange}
 use Rattle.dict_catalogue.specs.declared.commands.Command.{Command}
 use Rattle.dict_catalogue.specs.declared.commands.Command.TheVariants.{Install, Rollback, Retire, PutVirtual, Place}
-use Rattle.dict_catalogue.specs.declared.planning.Change.{Change as Planned}
+use Rattle.dict_catalogue.specs.declared.planning.PlannedChange.{PlannedChange as Planned}
 use Rattle.dict_desk.specs.Faults.{is_failure}
 use Rattle.dict_desk.specs.declared.fault.Fault.{Fault}
 use Rattle.dict_desk.specs.declared.fault.Fault.TheVariants.{Refused, Memory, Disk, Closed, NotACatalogue, Damaged, NewerSchema}
-use Rattle.dict_rows.specs.After.{Change, Installed, is_gone, installed_editions}
+use Rattle.dict_rows.specs.After.{TableChange, Installed, is_gone, installed_editions}
 use Rattle.dict_rows.specs.Tables.{same_number}
 use Rattle.dict_rows.specs.Versions.{known}
 use Rattle.dict_rows.specs.Written.{edition_record}
 use Rattle.dict_rows.proofs.OrderLemmas.{all_same}
 use Rattle.dict_rows.proofs.TakenLemmas.{nat_same}
 use Rattle.dict_derived.specs.AllTables.{AllTables, with_derived, all_after}
-use Rattle.dict_file.specs.Holds.{Keeps}
+use Rattle.dict_holdings.specs.Holds.{Keeps}
 use Rattle.dict_commands.specs.Kept.{HasRecords, Turns, AddsAbove, edition_records}
 use Rattle.dict_commands.specs.Changes.{change_by, installed_by}
 use Rattle.dict_commands.specs.Committed.{IsCommitted, IsOfStore}

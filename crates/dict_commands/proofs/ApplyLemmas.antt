@@ -16,20 +16,20 @@ use Rattle.dict_catalogue.specs.Steps.{Catalogue, Outcome, accepted, refused, ho
 use Rattle.dict_catalogue.specs.Views.{command_shown, command_meant, IsChange}
 use Rattle.dict_catalogue.specs.WellFormed.{IsLawfulCommand}
 use Rattle.dict_catalogue.specs.declared.commands.Command as typed
-use Rattle.dict_catalogue.specs.declared.planning.Change.{Change as Planned}
-use Rattle.dict_catalogue.specs.declared.fault.Refusal.{Refusal}
+use Rattle.dict_catalogue.specs.declared.planning.PlannedChange.{PlannedChange as Planned}
+use Rattle.dict_catalogue.specs.declared.fault.CommandRefusal.{CommandRefusal}
 use Rattle.dict_catalogue.proofs.SummaryLemmas.{refusal_of_as, effect_with, reply_to_as}
 use Rattle.dict_desk.specs.declared.fault.Fault.{Fault}
 use Rattle.dict_desk.specs.declared.fault.Fault.TheVariants.{Refused, Memory, Disk, Closed, NotACatalogue, Damaged, NewerSchema}
-use Rattle.dict_rows.specs.After.{Change, IsChange as IsAChange, tables_after}
+use Rattle.dict_rows.specs.After.{TableChange, IsChange as IsAChange, tables_after}
 use Rattle.dict_rows.proofs.ChangeLemmas.{after_stands}
 use Rattle.dict_rows.specs.Versions.{known, layout_of}
 use Rattle.dict_derived.specs.AllTables.{AllTables, with_derived, all_after}
 use Rattle.dict_derived.proofs.AfterLemmas.{derived_after_is}
-use Rattle.dict_file.specs.Readings.{KeepsAll}
-use Rattle.dict_file.specs.Faults.{IsUnread}
-use Rattle.dict_file.specs.Holds.{Holds, Rests, IsLeftAs}
-use Rattle.dict_file.specs.Writing.{FailsToEnd}
+use Rattle.dict_holdings.specs.Readings.{KeepsAll}
+use Rattle.dict_holdings.specs.Faults.{IsUnread}
+use Rattle.dict_holdings.specs.Holds.{Holds, Rests, IsLeftAs}
+use Rattle.dict_holdings.specs.Writing.{FailsToEnd}
 use Rattle.dict_commands.specs.Kept.{SparesOthers, Turns}
 use Rattle.dict_commands.specs.Changes.{change_by}
 use Rattle.dict_commands.specs.Decided.{IsDeclined, LiesWithin}
@@ -38,12 +38,12 @@ use Rattle.dict_commands.specs.Answers.{Answers, HoldsBy, summary_after, IsOfShu
 use Rattle.dict_commands.specs.Statements.{statements_of}
 use Rattle.dict_sql.specs.Statements.{Statement}
 use Rattle.dict_commands.specs.declared.applied.Applied.{Applied}
-use Rattle.dict_commands.specs.declared.applied.Applied.TheVariants.{Before, Now}
+use Rattle.dict_commands.specs.declared.applied.Applied.TheVariants.{Repeated, Done}
 use Rattle.dict_commands.proofs.DecideLemmas.{change_is}
 
 -- ---- what a command makes of all records
 
-pub command_applied : (change : Change) (M : Catalogue) (id : List ℕ) (command : Command Edition) (old new : Database) → Turns (all_after known change) old new → Holds known old M → IsLawfulCommand command → IsTrue (is_request_id id) → kept_under M.kept id ≡ None → refusal_of (holdings M) command ≡ None
+pub command_applied : (change : TableChange) (M : Catalogue) (id : List ℕ) (command : Command Edition) (old new : Database) → Turns (all_after known change) old new → Holds known old M → IsLawfulCommand command → IsTrue (is_request_id id) → kept_under M.kept id ≡ None → refusal_of (holdings M) command ≡ None
     → IsAChange M id command change → Holds known new (with_effect M id command)
 command_applied change M id command old new turns h lawful named free allowed is =
     let after = (turns (with_derived h.tables) (record { own = h.own; keeps = h.keeps })).0 in
@@ -61,7 +61,7 @@ accepted_step : (M : Catalogue) (id : List ℕ) (command : Command Edition) → 
     step M id command ≡ record { reply = accepted (reply_to command (effect command (holdings M))); catalogue = with_effect M id command }
 accepted_step M id command lawful new none = rw (lawful, new, none) refl
 
-refused_step : (M : Catalogue) (id : List ℕ) (command : Command Edition) (refusal : Refusal) → is_request_id id ≡ true → kept_under M.kept id ≡ None → refusal_of (holdings M) command ≡ Some refusal →
+refused_step : (M : Catalogue) (id : List ℕ) (command : Command Edition) (refusal : CommandRefusal) → is_request_id id ≡ true → kept_under M.kept id ≡ None → refusal_of (holdings M) command ≡ Some refusal →
     step M id command ≡ record { reply = refused refusal; catalogue = M }
 refused_step M id command refusal lawful new some = rw (lawful, new, some) refl
 
@@ -146,7 +146,7 @@ module _ (M : Catalogue) (id : List ℕ) (command : typed.Command) (planned : Pl
   left_after old trees rests it = (it.0, it.1, it.2, holds_after old.now it.0 (holds_now old M rests) it.3)
 
   pub acted_answers : (old now : State) → Rests known old M → IsCommitted (Turns (all_after known (change_by id command planned)) old.now) now
-      → Answers now M id (step M id (command_meant command)) (Rattle.std.proofs.Common.Ok (Now planned.kept planned.summary))
+      → Answers now M id (step M id (command_meant command)) (Rattle.std.proofs.Common.Ok (Done planned.kept planned.summary))
   acted_answers old now rests done = (
     new,
     ap (λ (o : Outcome). o.reply) acted ∙ ap accepted (sym (planned_here.1.kept ∙ reply_to_as (λ (edition : Edition). edition.title) (command_meant command) (holdings M))),
@@ -170,8 +170,8 @@ others_committed summary old new f holds clean live done = subst (λ db. SparesO
 
 answered_by : (new : State) (M : Catalogue) (id : List ℕ) (outcome : Outcome) (summary : Holdings (List ℕ)) (result : Result Applied Fault) → IsTrue new.is_open → summary_of M ≡ summary → Answers new M id outcome result
     → (N : Catalogue) × Rests known new N × (summary_of N ≡ summary_after summary result)
-answered_by new M id outcome summary (Ok (Before kept)) lives is h = (M, h.2, is)
-answered_by new M id outcome summary (Ok (Now kept after)) lives is h = (outcome.catalogue, h.3, h.2)
+answered_by new M id outcome summary (Ok (Repeated kept)) lives is h = (M, h.2, is)
+answered_by new M id outcome summary (Ok (Done kept after)) lives is h = (outcome.catalogue, h.3, h.2)
 answered_by new M id outcome summary (Err (Refused refusal)) lives is h = (M, h.1, is)
 answered_by new M id outcome summary (Err Memory) lives is h = (M, h lives, is)
 answered_by new M id outcome summary (Err Disk) lives is h = (M, h lives, is)
@@ -204,7 +204,7 @@ module _ {S : Type 0} (g : Ghosts S) where
   ends_weaker statements P Q old new fault wider (inr h) = inr (record { told = h.told; last = h.last; ran = h.ran; before = h.before; written = wider (state g h.last).now h.written; error = h.error; fails = h.fails })
 
   -- what was planned is not committed
-  pub commit_fails : (summary : Holdings (List ℕ)) (id : List ℕ) (command : Command Edition) (change : Change) → (old : Held S) → IsPlanned summary (state g old) id command change → (P Q : Database → Type 0) → (new : Held S) → (fault : Fault) → ((db : Database) → P db → Q db)
+  pub commit_fails : (summary : Holdings (List ℕ)) (id : List ℕ) (command : Command Edition) (change : TableChange) → (old : Held S) → IsPlanned summary (state g old) id command change → (P Q : Database → Type 0) → (new : Held S) → (fault : Fault) → ((db : Database) → P db → Q db)
       → FailsToCommit g change P old new fault → ((fault ≡ Memory) × (new ≡ old)) ⊎ FailsToAct g summary id command Q old new fault
   commit_fails summary id command change old planned P Q new fault wider (inl h) = inl h
   commit_fails summary id command change old planned P Q new fault wider (inr h) = inr (change, planned, (h.0, h.1, ends_weaker (statements_of known change h.0) P Q old new fault wider h.2))

@@ -13,7 +13,7 @@ use Rattle.dict_rows.specs.Stands.{IsWithin}
 use Rattle.dict_catalogue.specs.Items.{Stored, Item, regular, virtual, is_named, is_known, names_regular, names_virtual, names_former, is_listed, editions_of, numbers_of, edition_numbers, current_of, current_number, item_as}
 use Rattle.dict_catalogue.specs.Commands.{Command, install, rollback, retire, put_virtual, place}
 use Rattle.dict_catalogue.specs.Tests.{Test, Holdings, wants, first_failing, refusal_of, has_turn, has_room, has_member_count, member_tests}
-use Rattle.dict_catalogue.specs.declared.fault.Refusal.TheVariants.{BadName, Unknown, IsVirtual, NoFormer, Listed, CatalogueFull, MemberCount, BadTitle, BadPlace, IsRegular}
+use Rattle.dict_catalogue.specs.declared.fault.CommandRefusal.TheVariants.{BadName, Unknown, IsVirtual, NoFormer, Listed, CatalogueFull, MemberCount, BadTitle, BadPlace, IsRegular}
 use Rattle.dict_name.specs.Names.{is_name, is_title}
 use Rattle.dict_catalogue.specs.Effects.{effect, items_after, installs_after, edition_told, editions_gone, reply_to}
 use Rattle.dict_catalogue.specs.Steps.{Catalogue, holdings, summary_of}
@@ -21,7 +21,7 @@ use Rattle.dict_catalogue.specs.WellFormed.{IsWellFormed}
 use Rattle.dict_catalogue.specs.Views.{item_shown, summary_shown, command_shown, command_meant, IsEffect, IsChange}
 use Rattle.dict_catalogue.specs.declared.commands.Command as typed
 use Rattle.dict_catalogue.specs.declared.commands.Command.TheVariants.{Install, Rollback, Retire, PutVirtual, Place}
-use Rattle.dict_catalogue.specs.declared.planning.Change.{Change as Planned}
+use Rattle.dict_catalogue.specs.declared.planning.PlannedChange.{PlannedChange as Planned}
 use Rattle.dict_catalogue.proofs.ListLemmas.{by_test}
 use Rattle.dict_catalogue.proofs.SummaryLemmas.{effect_with, editions_gone_as, reply_to_as}
 use Rattle.dict_catalogue.proofs.WellFormedLemmas.{EachEdition, IfInstalled, each_after}

@@ -20,7 +20,7 @@ use Rattle.dict_rows.specs.After.{is_gone}
 use Rattle.dict_rows.proofs.PartLemmas.{filter_filter, filter_alike}
 use Rattle.dict_derived.specs.Entries.{Filed}
 use Rattle.dict_derived.specs.AllTables.{AllTables, without_editions}
-use Rattle.dict_file.specs.Holds.{Keeps}
+use Rattle.dict_holdings.specs.Holds.{Keeps}
 use Rattle.dict_commands.specs.Kept.{HasRecords, IsStorable, Turns}
 use Rattle.dict_commands.specs.Statements.{taking}
 use Rattle.dict_commands.proofs.LoopLemmas.{Grows}

@@ -25,10 +25,10 @@ use Rattle.dict_catalogue.specs.declared.reply.Verb.{Verb}
 use Rattle.dict_rows.specs.Written.{kept_record, verb_name}
 use Rattle.dict_rows.proofs.OrderLemmas.{IsIn, Same, same_from}
 use Rattle.dict_rows.proofs.OnceLemmas.{kept_same}
-use Rattle.dict_file.specs.Holds.{Holds, Keeps}
+use Rattle.dict_holdings.specs.Holds.{Holds, Keeps}
 use Rattle.dict_commands.specs.Kept.{HoldsReplies}
 use Rattle.dict_commands.proofs.RowLemmas.{filter_map}
-use Rattle.dict_file.proofs.ReadingLemmas.{replies_kept}
+use Rattle.dict_holdings.proofs.ReadingLemmas.{replies_kept}
 use Rattle.dict_rows.specs.Versions.{known, layout_of}
 use Rattle.std.specs.Prelude.{Result, IfErr, IsErrAnd}
 use Rattle.std.specs.List.{AllByRecursion, Contains}
@@ -43,10 +43,10 @@ use Rattle.dict_sql.specs.declared.records.ReadError.TheVariants.{NoRecord, Stor
 use Rattle.dict_sql.proofs.StreamLemmas.{passed_on}
 use Rattle.dict_desk.specs.declared.fault.Fault.{Fault}
 use Rattle.dict_desk.specs.declared.fault.Fault.TheVariants.{Memory}
-use Rattle.dict_file.specs.Faults.{fault_of, fault_of_read}
-use Rattle.dict_file.proofs.FailLemmas.{list_fails}
-use Rattle.dict_file.proofs.ReadableLemmas.{held_replies}
-use Rattle.dict_file.specs.Faults.{IsUnread, FailsToLookUp}
+use Rattle.dict_holdings.specs.Faults.{fault_of, fault_of_read}
+use Rattle.dict_holdings.proofs.FailLemmas.{list_fails}
+use Rattle.dict_holdings.proofs.ReadableLemmas.{held_replies}
+use Rattle.dict_holdings.specs.Faults.{IsUnread, FailsToLookUp}
 
 abbrev ReadKept : Type 0
 ReadKept = Stored (typed.Kept (String Global))

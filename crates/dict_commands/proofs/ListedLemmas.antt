@@ -29,7 +29,7 @@ use Rattle.dict_commands.specs.Writes.{Wrote}
 use Rattle.dict_commands.proofs.WriteLemmas.{wrote_none, wrote_as}
 use Rattle.dict_commands.specs.Listed.{Listed, AreListed, AreRowsOf, keys_by, keys_of_lines, listed_by}
 use Rattle.dict_commands.specs.declared.derivation.DerivedRows.{DerivedRows}
-use Rattle.dict_file.proofs.ReadingLemmas.{map_twice}
+use Rattle.dict_holdings.proofs.ReadingLemmas.{map_twice}
 use Rattle.dict_commands.proofs.TableLemmas.{pieces_turned}
 
 -- what is derived of the keys of the edition that is installed is derived of its entries

@@ -15,7 +15,7 @@ use Rattle.dict_sql.specs.Effects.{HasApartRowids, same_value, IsRemoved, equals
 use Rattle.dict_sql.proofs.Callers.{apart_removed, apart_none}
 use Rattle.dict_rows.specs.Tables.{same_number}
 use Rattle.dict_rows.proofs.TakenLemmas.{same_number_is, same_itself}
-use Rattle.dict_file.specs.Holds.{Keeps}
+use Rattle.dict_holdings.specs.Holds.{Keeps}
 
 pub filter_map : {A B : Type 0} (f : A → B) (p : B → Bool) (q : A → Bool) → ((a : A) → q a ≡ p (f a)) → (xs : List A) → map f (filter q xs) ≡ filter p (map f xs)
 filter_map f p q same [] = refl

@@ -23,9 +23,9 @@ use Rattle.dict_records.specs.Keyed.{Piece}
 use Rattle.dict_rows.specs.Versions.{Shown}
 use Rattle.dict_derived.specs.Entries.{Filed}
 use Rattle.dict_derived.specs.AllTables.{AllTables}
-use Rattle.dict_file.specs.Readings.{Reading, name_of, readings, KeepsRows}
-use Rattle.dict_file.specs.Holds.{Keeps, HasLayout}
-use Rattle.dict_file.proofs.KeepLemmas.{unmoved, keeps_added}
+use Rattle.dict_holdings.specs.Readings.{Reading, name_of, readings, KeepsRows}
+use Rattle.dict_holdings.specs.Holds.{Keeps, HasLayout}
+use Rattle.dict_holdings.proofs.KeepLemmas.{unmoved, keeps_added}
 use Rattle.dict_commands.specs.Kept.{HasRecords, IsUsable, IsOther, SparesOthers, Turns}
 use Rattle.dict_commands.specs.Changes.{without_items, without_members, with_more_items, with_more_members, with_more_editions, with_more_entries, with_more_words, with_more_grams}
 use Rattle.dict_commands.proofs.RowLemmas.{keeps_cleared}

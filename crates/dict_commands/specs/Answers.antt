@@ -11,18 +11,18 @@ use Rattle.dict_name.specs.Names.{is_request_id}
 use Rattle.dict_catalogue.specs.Tests.{Holdings, refusal_of}
 use Rattle.dict_catalogue.specs.Steps.{Catalogue, Outcome, accepted, refused, holdings, summary_of, kept_under, step}
 use Rattle.dict_catalogue.specs.Views.{kept_shown, summary_shown}
-use Rattle.dict_catalogue.specs.declared.fault.Refusal.TheVariants.{BadRequestId}
+use Rattle.dict_catalogue.specs.declared.fault.CommandRefusal.TheVariants.{BadRequestId}
 use Rattle.dict_desk.specs.declared.fault.Fault.{Fault}
 use Rattle.dict_desk.specs.declared.fault.Fault.TheVariants.{Refused, Memory, Disk, Closed, NotACatalogue, Damaged, NewerSchema}
 use Rattle.dict_desk.specs.Faults.{is_disk}
-use Rattle.dict_file.specs.Faults.{FailsToLookUp}
+use Rattle.dict_holdings.specs.Faults.{FailsToLookUp}
 use Rattle.dict_commands.specs.Listed.{Listed, AreListed}
-use Rattle.dict_file.specs.Holds.{Holds, Rests, IsLeftAs}
-use Rattle.dict_file.specs.Writing.{FailsToEnd}
-use Rattle.dict_rows.specs.After.{Change, IsChange}
+use Rattle.dict_holdings.specs.Holds.{Holds, Rests, IsLeftAs}
+use Rattle.dict_holdings.specs.Writing.{FailsToEnd}
+use Rattle.dict_rows.specs.After.{TableChange, IsChange}
 use Rattle.dict_commands.specs.Statements.{statements_of}
 use Rattle.dict_commands.specs.declared.applied.Applied.{Applied}
-use Rattle.dict_commands.specs.declared.applied.Applied.TheVariants.{Before, Now}
+use Rattle.dict_commands.specs.declared.applied.Applied.TheVariants.{Repeated, Done}
 use Rattle.dict_rows.specs.Versions.{known}
 
 -- while the store is open, it holds a catalogue with this summary
@@ -34,8 +34,8 @@ HoldsBy summary s = HasCleanDisk s → IsTrue s.is_open → (M : Catalogue) × R
 -- holds, and which alone a stop may leave. A refusal is the outcome's, and the catalogue is held still; so it is where a
 -- growth was refused or the store failed, while the store is open.
 abbrev pub Answers : State → Catalogue → List ℕ → Outcome → Result Applied Fault → Type 0
-Answers new M id outcome (Ok (Before kept)) = (kept_under M.kept id ≡ Some (kept_shown kept)) × (outcome ≡ record { reply = accepted (kept_shown kept); catalogue = M }) × Rests known new M
-Answers new M id outcome (Ok (Now kept summary)) =
+Answers new M id outcome (Ok (Repeated kept)) = (kept_under M.kept id ≡ Some (kept_shown kept)) × (outcome ≡ record { reply = accepted (kept_shown kept); catalogue = M }) × Rests known new M
+Answers new M id outcome (Ok (Done kept summary)) =
     (kept_under M.kept id ≡ None) × (outcome.reply ≡ accepted (kept_shown kept)) × (summary_of outcome.catalogue ≡ summary_shown summary) × Rests known new outcome.catalogue
     × ((trees : Trees) → new.may_leave trees → IsLeftAs known outcome.catalogue trees)
 Answers new M id outcome (Err (Refused refusal)) = (outcome ≡ record { reply = refused refusal; catalogue = M }) × Rests known new M
@@ -48,8 +48,8 @@ Answers new M id outcome (Err NewerSchema) = ⊥
 
 -- a commit was begun: the command acted, or the store failed
 abbrev pub has_written : Result Applied Fault → Bool
-has_written (Ok (Before kept)) = false
-has_written (Ok (Now kept summary)) = true
+has_written (Ok (Repeated kept)) = false
+has_written (Ok (Done kept summary)) = true
 has_written (Err fault) = is_disk fault
 
 -- the faults of a command over an open store
@@ -64,8 +64,8 @@ IsOfApply NewerSchema = ⊥
 
 -- the summary after an answer
 abbrev pub summary_after : Holdings (List ℕ) → Result Applied Fault → Holdings (List ℕ)
-summary_after before (Ok (Before kept)) = before
-summary_after before (Ok (Now kept summary)) = summary_shown summary
+summary_after before (Ok (Repeated kept)) = before
+summary_after before (Ok (Done kept summary)) = summary_shown summary
 summary_after before (Err fault) = before
 
 -- the answers of a store that is shut: the command fails, or is refused for its id, which no store is asked for
@@ -84,13 +84,13 @@ abbrev pub HoldsAfter : Holdings (List ℕ) → State → List ℕ → Command E
 HoldsAfter summary old id command db = (M : Catalogue) → Rests known old M → summary_of M ≡ summary → Holds known db (step M id command).catalogue
 
 -- Over each catalogue with the summary that the store held, the command passes its tests, and this is what is written of it.
-abbrev pub IsPlanned : Holdings (List ℕ) → State → List ℕ → Command Edition → Change → Type 0
+abbrev pub IsPlanned : Holdings (List ℕ) → State → List ℕ → Command Edition → TableChange → Type 0
 IsPlanned summary old id command change = (M : Catalogue) → Rests known old M → summary_of M ≡ summary → (refusal_of (holdings M) command ≡ None) × IsChange M id command change
 
 -- A command that was planned is not made: one of its statements failed behind those before it, or its commit did.
 abbrev pub FailsToAct : {S : Type 0} → Ghosts S → Holdings (List ℕ) → List ℕ → Command Edition → (Database → Type 0) → Held S → Held S → Fault → Type 0
 FailsToAct {S} g summary id command P old new fault =
-    (change : Change) × IsPlanned summary (state g old) id command change
+    (change : TableChange) × IsPlanned summary (state g old) id command change
     × ((listed : Listed) × AreListed change.edition listed × FailsToEnd g (statements_of known change listed) P old new fault)
 
 -- A command fails that is not refused: what is kept under its id was not read; or nothing was kept, and the change was not

@@ -9,13 +9,13 @@ use Rattle.dict_catalogue.specs.Tests.{Holdings}
 use Rattle.dict_catalogue.specs.Views.{item_shown, summary_shown, kept_shown}
 use Rattle.dict_catalogue.specs.declared.commands.Command.{Command}
 use Rattle.dict_catalogue.specs.declared.commands.Command.TheVariants.{Install, Rollback, Retire, PutVirtual, Place}
-use Rattle.dict_catalogue.specs.declared.planning.Change.{Change as Planned}
+use Rattle.dict_catalogue.specs.declared.planning.PlannedChange.{PlannedChange as Planned}
 use Rattle.dict_records.specs.Records.{Item as ItemRecord, Member, Edition}
 use Rattle.dict_records.specs.Keyed.{Piece}
 use Rattle.dict_derived.specs.Entries.{Filed}
 use Rattle.dict_derived.specs.AllTables.{AllTables}
 use Rattle.dict_rows.specs.Written.{numbered, mark_record, item_record, kept_record}
-use Rattle.dict_rows.specs.After.{Installed, Change, all_members, is_gone}
+use Rattle.dict_rows.specs.After.{Installed, TableChange, all_members, is_gone}
 use Rattle.dict_rows.specs.Versions.{known}
 use Rattle.dict_commands.specs.Kept.{IsStorable, AreStorable}
 
@@ -78,7 +78,7 @@ installed_by number (PutVirtual name title members) = None
 installed_by number (Place name at) = None
 
 -- what is written where a command was planned so
-abbrev pub change_by : List ℕ → Command → Planned → Change
+abbrev pub change_by : List ℕ → Command → Planned → TableChange
 change_by id command planned = record {
   summary = summary_shown planned.summary;
   gone = planned.gone.items;

@@ -4,11 +4,11 @@ use Rattle.sqlite.specs.Effect.{Database, IsDatabase}
 use Rattle.sqlite.specs.Tree.{Trees}
 use Rattle.sqlite.specs.State.{State}
 use Rattle.dict_desk.specs.declared.fault.Fault.{Fault}
-pub use Rattle.dict_file.specs.Writing.{Stays}
-use Rattle.dict_file.specs.Writing.{FailsToEnd}
+pub use Rattle.dict_holdings.specs.Writing.{Stays}
+use Rattle.dict_holdings.specs.Writing.{FailsToEnd}
 use Rattle.sqlite.specs.Held.{Held}
 use Rattle.sqlite_trees.specs.declared.store.Store.{Ghosts}
-use Rattle.dict_rows.specs.After.{Change}
+use Rattle.dict_rows.specs.After.{TableChange}
 use Rattle.dict_rows.specs.Versions.{known}
 use Rattle.dict_commands.specs.Listed.{Listed, AreListed}
 use Rattle.dict_commands.specs.Statements.{statements_of}
@@ -37,6 +37,6 @@ IsOfStore NewerSchema = ⊥
 
 -- A planned command is not committed: a growth was refused before anything was written, and all is as it was; or one of its
 -- statements failed behind those before it, or its commit did.
-abbrev pub FailsToCommit : {S : Type 0} → Ghosts S → Change → (Database → Type 0) → Held S → Held S → Fault → Type 0
+abbrev pub FailsToCommit : {S : Type 0} → Ghosts S → TableChange → (Database → Type 0) → Held S → Held S → Fault → Type 0
 FailsToCommit {S} g change P old new fault =
     ((fault ≡ Memory) × (new ≡ old)) ⊎ ((listed : Listed) × AreListed change.edition listed × FailsToEnd g (statements_of known change listed) P old new fault)

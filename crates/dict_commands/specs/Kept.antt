@@ -13,8 +13,8 @@ use Rattle.dict_rows.specs.Written.{kept_record}
 use Rattle.dict_tables.specs.Found.{found_table}
 use Rattle.dict_rows.specs.Versions.{known, layout_of}
 use Rattle.dict_derived.specs.AllTables.{AllTables}
-use Rattle.dict_file.specs.Holds.{HasLayout, Keeps}
-use Rattle.dict_file.specs.Readings.{name_of, readings, KeepsAll}
+use Rattle.dict_holdings.specs.Holds.{HasLayout, Keeps}
+use Rattle.dict_holdings.specs.Readings.{name_of, readings, KeepsAll}
 
 -- the database has the product's tables, and they keep these records
 pub record HasRecords (db : Database) (all : AllTables) : Type 0 where

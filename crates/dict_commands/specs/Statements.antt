@@ -16,7 +16,7 @@ use Rattle.dict_derived.specs.Entries.{Filed, filed}
 use Rattle.dict_catalogue.specs.Items.{Item}
 use Rattle.dict_catalogue.specs.Steps.{KeptFor}
 use Rattle.dict_rows.specs.Written.{numbered, mark_record, item_record, edition_record, entry_record, kept_record}
-use Rattle.dict_rows.specs.After.{Installed, Change, all_members}
+use Rattle.dict_rows.specs.After.{Installed, TableChange, all_members}
 use Rattle.dict_commands.specs.Listed.{Listed}
 
 -- all records of a table are taken out
@@ -111,5 +111,5 @@ abbrev pub replying : KeptFor → List Statement
 replying kept = adding_kept (kept_record kept) ∷ []
 
 -- all of them
-abbrev pub statements_of : ℕ → Change → Listed → List Statement
+abbrev pub statements_of : ℕ → TableChange → Listed → List Statement
 statements_of version change listed = summary_anew version change.summary.installs change.summary.items ++ (exchanging change.gone change.edition listed ++ replying change.kept)

@@ -5,7 +5,7 @@ use dict_catalogue::{Kept, Summary};
 #[derive(Debug, Drop)]
 pub enum Applied {
     /// The id was kept: the reply that is kept under it. Nothing has changed.
-    Before(Kept),
+    Repeated(Kept),
     /// The command has done its effect, and its reply is kept: the reply, and the summary after it.
-    Now(Kept, Summary),
+    Done(Kept, Summary),
 }

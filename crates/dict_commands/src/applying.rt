@@ -6,7 +6,7 @@ ghost use Rattle.dict_name.specs.Names.{is_request_id};
 ghost use Rattle.dict_catalogue.specs.Steps.{Catalogue, summary_of, kept_under, step};
 ghost use Rattle.dict_catalogue.specs.Views.{summary_shown, command_meant};
 ghost use Rattle.dict_desk.specs.Faults.{is_failure};
-ghost use Rattle.dict_file.specs.Holds.{Holds, Rests, IsLeftAs};
+ghost use Rattle.dict_holdings.specs.Holds.{Holds, Rests, IsLeftAs};
 ghost use Rattle.dict_commands.specs.Kept.{SparesOthers, AddsAbove};
 ghost use Rattle.dict_commands.specs.Changes.{IsInRange};
 ghost use Rattle.dict_commands.specs.Committed.{IsTreesOf};
@@ -17,7 +17,7 @@ use crate::applied::Applied;
 use crate::committing::commit_change;
 use crate::deciding::{decide, lies_within};
 use crate::replies::kept_reply;
-use dict_catalogue::{Change, Command, Refusal, Summary};
+use dict_catalogue::{Command, CommandRefusal, PlannedChange, Summary};
 use dict_desk::Fault;
 use dict_name::is_request_id;
 use sqlite::{Alter, Connection};
@@ -55,8 +55,8 @@ fn apply_new<S: Alter>(
     command.is_lawful();
     lies_within(command);
     commit_change(alloc, conn, id, command, &change)?;
-    let Change { summary, kept, .. } = change;
-    Ok(Applied::Now(kept, summary))
+    let PlannedChange { summary, kept, .. } = change;
+    Ok(Applied::Done(kept, summary))
 }
 
 /// Applies a command under the id of its request to the catalogue that a database holds, of which this is the summary:
@@ -100,10 +100,10 @@ pub fn apply<S: Alter>(
     ensures autocommit { (state S.Store conn.new).in_transaction ≡ false }
 {
     if !is_request_id(id) {
-        return Err(Fault::Refused(Refusal::BadRequestId));
+        return Err(Fault::Refused(CommandRefusal::BadRequestId));
     }
     if let Some(kept) = kept_reply(alloc, conn, id)? {
-        return Ok(Applied::Before(kept));
+        return Ok(Applied::Repeated(kept));
     }
     apply_new(alloc, conn, summary, id, command)
 }

@@ -6,7 +6,7 @@ ghost use Rattle.dict_sql.specs.Effects.{WhileOpen};
 ghost use Rattle.dict_desk.specs.Faults.{is_disk};
 ghost use Rattle.dict_rows.specs.Versions.{known};
 ghost use Rattle.dict_derived.specs.AllTables.{all_after};
-ghost use Rattle.dict_file.specs.Writing.{FailsToEnd};
+ghost use Rattle.dict_holdings.specs.Writing.{FailsToEnd};
 ghost use Rattle.dict_commands.specs.Kept.{Turns, IsUsable};
 ghost use Rattle.dict_commands.specs.Changes.{change_by, IsWritable};
 ghost use Rattle.dict_commands.specs.Listed.{AreRowsOf, keys_by, listed_by};
@@ -15,9 +15,9 @@ ghost use Rattle.dict_commands.specs.Committed.{IsCommitted, IsTreesOf, Stays, I
 
 use crate::derivation::{DerivedRows, derive_rows, installed_keys};
 use crate::writing::write_all;
-use dict_catalogue::{Change, Command};
+use dict_catalogue::{Command, PlannedChange};
 use dict_desk::Fault;
-use dict_file::fault_of;
+use dict_holdings::fault_of;
 use dict_match::Key;
 use dict_sql::commit::commit;
 use sqlite::{Alter, Connection};
@@ -28,7 +28,7 @@ fn commit_rows<S: Alter>(
     conn: &mut Connection<S>,
     id: &str,
     command: &Command,
-    change: &Change,
+    change: &PlannedChange,
     rows: DerivedRows,
 ) -> Result<(), Fault>
     requires autocommit { conn.old.in_transaction ≡ false }
@@ -60,7 +60,7 @@ fn commit_keys<S: Alter>(
     conn: &mut Connection<S>,
     id: &str,
     command: &Command,
-    change: &Change,
+    change: &PlannedChange,
     keys: &[Key],
 ) -> Result<(), Fault>
     requires autocommit { conn.old.in_transaction ≡ false }
@@ -90,7 +90,7 @@ pub(crate) fn commit_change<S: Alter>(
     conn: &mut Connection<S>,
     id: &str,
     command: &Command,
-    change: &Change,
+    change: &PlannedChange,
 ) -> Result<(), Fault>
     requires autocommit { conn.old.in_transaction ≡ false }
     requires usable { WhileOpen (state S.Store conn.old) IsUsable }

@@ -4,13 +4,17 @@ ghost use Rattle.dict_catalogue.specs.Views.{summary_shown, command_shown, IsCha
 ghost use Rattle.dict_commands.specs.Changes.{IsWritable, IsInRange};
 ghost use Rattle.dict_commands.specs.Decided.{IsDeclined, LiesWithin};
 
-use dict_catalogue::{Change, Command, PlanFault, Summary, plan};
+use dict_catalogue::{Command, PlanFault, PlannedChange, Summary, plan};
 use dict_desk::Fault;
 use std::alloc::Global;
 
 /// What the command does over this summary, or the refusal of the first of its tests that fails. Its numbers can be
 /// written. `Memory` is answered only where a growth was refused.
-pub(crate) fn decide(alloc: Global, summary: &Summary, command: &Command) -> Result<Change, Fault>
+pub(crate) fn decide(
+    alloc: Global,
+    summary: &Summary,
+    command: &Command,
+) -> Result<PlannedChange, Fault>
     requires { IsInRange (summary_shown summary.now) }
     ensures planned { IfOk result (IsChange (summary_shown summary.now) (command_shown command.now)) }
     ensures writable { IfOk result (λ change. IsWritable change × IsInRange (summary_shown change.summary)) }

@@ -18,7 +18,7 @@ ghost use Rattle.dict_commands.specs.Writes.{Wrote, FailsToWrite, Spares};
 use crate::derivation::DerivedRows;
 use crate::editions::{add_installed, take_editions};
 use crate::small::{write_items, write_mark, write_members};
-use dict_catalogue::{Change, Command, Kept, Summary};
+use dict_catalogue::{Command, Kept, PlannedChange, Summary};
 use dict_rows::kept_row;
 use dict_sql::insert::insert_kept;
 use dict_sql::transaction::OpenTransaction;
@@ -94,7 +94,7 @@ pub(crate) fn write_all<S: Alter, T: OpenTransaction<S>>(
     tx: &mut T,
     id: &str,
     command: &Command,
-    change: &Change,
+    change: &PlannedChange,
     rows: DerivedRows,
 ) -> Result<(), Error>
     requires writable { IsWritable change.now }

@@ -13,7 +13,7 @@ use Rattle.dict_match.specs.Key.{key_of}
 use Rattle.dict_index.specs.Line.{Line}
 use Rattle.dict_rows.specs.Tables.{Tables, same_number, entries_of}
 use Rattle.dict_rows.specs.Written.{numbered, entry_record}
-use Rattle.dict_rows.specs.After.{Change, is_gone, installed_entries, tables_after}
+use Rattle.dict_rows.specs.After.{TableChange, is_gone, installed_entries, tables_after}
 use Rattle.dict_derived.specs.declared.reader.Pieces.{Pieces}
 use Rattle.dict_derived.specs.declared.reader.Pieces.TheVariants.{Words, Grams}
 use Rattle.dict_derived.specs.Entries.{pieces_of, piece_at, derived, derived_from, filed}
@@ -63,7 +63,7 @@ derived_filtered pieces gone xs ys =
     flat_map_filtered (derived pieces) (λ (row : Entry). not (is_gone gone row.edition)) (λ (row : Piece). not (is_gone gone row.edition))
     (λ e. of_edition (λ n. not (is_gone gone n)) e.edition e.ord (pieces_of pieces (key_of e.headword))) xs ys
 
-pub derived_after_is : (version : ℕ) (change : Change) (old : Tables) → with_derived (tables_after version change old) ≡ all_after version change (with_derived old)
+pub derived_after_is : (version : ℕ) (change : TableChange) (old : Tables) → with_derived (tables_after version change old) ≡ all_after version change (with_derived old)
 derived_after_is version change old =
     let entries = map_filtered filed (λ (row : Entry). not (is_gone change.gone row.edition)) (λ row. not (is_gone change.gone row.edition)) (λ x. refl) old.entries (installed_entries change.edition) in
     let words = derived_filtered Words change.gone old.entries (installed_entries change.edition) in

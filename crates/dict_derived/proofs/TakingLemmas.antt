@@ -11,16 +11,16 @@ use Rattle.dict_text.proofs.AllLemmas.{all_append}
 use Rattle.dict_records.specs.Keyed.{Piece}
 use Rattle.dict_derived.specs.Derived.{octets_cmp}
 use Rattle.dict_derived.specs.declared.reader.Pieces.{Pieces}
-use Rattle.dict_derived.specs.declared.reader.Last.{Last}
+use Rattle.dict_derived.specs.declared.reader.LastRow.{LastRow}
 use Rattle.dict_derived.specs.declared.reader.PieceReader.{PieceReader}
 use Rattle.dict_derived.specs.Exact.{IsDue, piece_cmp, AreDerived, HasMany, HasTaken, IsLast}
 use Rattle.dict_derived.proofs.ExactLemmas.{as_many, all_there, push_rising, last_below, same_edition}
 
 -- the row stands behind the last one
-abbrev pub IsBehind : Last → Piece → Type 0
+abbrev pub IsBehind : LastRow → Piece → Type 0
 IsBehind last row = ordering_then (octets_cmp last.piece.items row.piece) (int_cmp last.ord row.ord) ≡ Less
 
-goes_up : (number : ℤ) (last : Option Last) (rows : List Piece) (row : Piece) → row.edition ≡ number → IsLast number last rows → IfSome last (λ l. IsBehind l row)
+goes_up : (number : ℤ) (last : Option LastRow) (rows : List Piece) (row : Piece) → row.edition ≡ number → IsLast number last rows → IfSome last (λ l. IsBehind l row)
     → IsStrictlySortedBy piece_cmp rows → IsStrictlySortedBy piece_cmp (rows ++ row ∷ [])
 unfolding IsStrictlySortedBy
 goes_up number None rows row e is b up =
@@ -74,7 +74,7 @@ not_due pieces number keys old rows more row h none derived =
     none (subst D (sym h.of_table) (subst E (sym h.of_edition) (subst K (sym h.of_keys) due)))
 
 pub not_behind : (pieces : Pieces) (number : ℤ) (keys : List (List ℕ)) (old : PieceReader) (rows more : List Piece) (row : Piece) → HasTaken pieces number keys old rows
-    → (last : Last) → old.last ≡ Some last → (IsBehind last row → ⊥) → AreDerived pieces number keys (rows ++ row ∷ more) → ⊥
+    → (last : LastRow) → old.last ≡ Some last → (IsBehind last row → ⊥) → AreDerived pieces number keys (rows ++ row ∷ more) → ⊥
 not_behind pieces number keys old rows more row h last e none derived =
     let is = subst (λ o. IsLast number o rows) e h.last in
     let l : Piece = record { edition = number; piece = last.piece.items; ord = last.ord } in
@@ -98,7 +98,7 @@ too_few pieces number keys reader rows h derived = sym h.taken ∙ as_many (IsDu
 
 -- ---- the test of a row's place
 
-pub going : (last : Option Last) (row : Piece) (goes : Bool) → goes ≡ true → IfSome last (λ l. IsTrue goes ↔ IsBehind l row) → IfSome last (λ l. IsBehind l row)
+pub going : (last : Option LastRow) (row : Piece) (goes : Bool) → goes ≡ true → IfSome last (λ l. IsTrue goes ↔ IsBehind l row) → IfSome last (λ l. IsBehind l row)
 going None row goes e h = tt
 going (Some last) row goes e h = h.0 e
 
@@ -106,6 +106,6 @@ pub not_going : (pieces : Pieces) (number : ℤ) (keys : List (List ℕ)) (old :
     → (goes : Bool) → goes ≡ false → IfSome old.last (λ l. IsTrue goes ↔ IsBehind l row) → (old.last ≡ None → IsTrue goes) → AreDerived pieces number keys (rows ++ row ∷ more) → ⊥
 not_going pieces number keys old rows more row h goes e behind first derived = by old.last refl behind
   where
-    by : (last : Option Last) → old.last ≡ last → IfSome last (λ l. IsTrue goes ↔ IsBehind l row) → ⊥
+    by : (last : Option LastRow) → old.last ≡ last → IfSome last (λ l. IsTrue goes ↔ IsBehind l row) → ⊥
     by None is b = false≢true (sym e ∙ first is)
     by (Some last) is b = not_behind pieces number keys old rows more row h last is (λ up. false≢true (sym e ∙ b.1 up)) derived

@@ -6,7 +6,7 @@ use Rattle.dict_derived.specs.declared.reader.Pieces.TheVariants.{Words, Grams}
 use Rattle.dict_derived.specs.Entries.{Filed, filed, derived}
 use Rattle.dict_rows.specs.Tables.{Tables}
 use Rattle.dict_rows.specs.Written.{numbered, mark_record, item_record, kept_record}
-use Rattle.dict_rows.specs.After.{Installed, Change, is_gone, installed_editions, installed_entries, all_members}
+use Rattle.dict_rows.specs.After.{Installed, TableChange, is_gone, installed_editions, installed_entries, all_members}
 
 -- The records of all tables, each list by itself. While one statement of a command is done and the next isn't, they are no
 -- function of the entries.
@@ -58,7 +58,7 @@ with_installed edition t = record t {
 }
 
 -- all records after a command, from those before
-abbrev pub all_after : ℕ → Change → AllTables → AllTables
+abbrev pub all_after : ℕ → TableChange → AllTables → AllTables
 all_after version change old = record (with_installed change.edition (without_editions change.gone old)) {
   marks = mark_record version change.summary.installs ∷ [];
   items = numbered item_record 0 change.summary.items;

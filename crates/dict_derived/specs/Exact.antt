@@ -8,7 +8,7 @@ use Rattle.dict_records.specs.Keyed.{Piece}
 use Rattle.dict_derived.specs.Derived.{IsWordOf, IsGramOf, octets_cmp}
 use Rattle.dict_derived.specs.declared.reader.Pieces.{Pieces}
 use Rattle.dict_derived.specs.declared.reader.Pieces.TheVariants.{Words, Grams}
-use Rattle.dict_derived.specs.declared.reader.Last.{Last}
+use Rattle.dict_derived.specs.declared.reader.LastRow.{LastRow}
 use Rattle.dict_derived.specs.declared.reader.PieceReader.{PieceReader}
 
 -- what a table has of a key
@@ -44,7 +44,7 @@ pub record HasMany (P : Piece → Type 0) (many : ℕ) : Type 0 where
   pub size : length rows ≡ many
 
 -- the last of the rows
-abbrev pub IsLast : ℤ → Option Last → List Piece → Type 0
+abbrev pub IsLast : ℤ → Option LastRow → List Piece → Type 0
 IsLast edition None rows = rows ≡ []
 IsLast edition (Some last) rows = (front : List Piece) × (rows ≡ front ++ record { edition = edition; piece = last.piece.items; ord = last.ord } ∷ [])
 

@@ -26,7 +26,7 @@ pub struct NotDerived;
 
 /// What the last row had.
 #[derive(Debug, Drop)]
-pub(crate) struct Last {
+pub(crate) struct LastRow {
     pub(crate) piece: Vec<u8>,
     pub(crate) ord: i64,
 }
@@ -40,7 +40,7 @@ pub struct PieceReader<'a> {
     /// How many rows are due, and how many were taken.
     pub(crate) due: u128,
     pub(crate) taken: u128,
-    pub(crate) last: Option<Last>,
+    pub(crate) last: Option<LastRow>,
 }
 
 /// Whether the key has the word.
@@ -88,7 +88,7 @@ fn count_due(alloc: Global, pieces: Pieces, keys: &[Key]) -> Result<u128, AllocE
 }
 
 /// Whether a row stands behind the last one.
-fn is_behind(last: &Option<Last>, piece: &[u8], ord: i64) -> bool
+fn is_behind(last: &Option<LastRow>, piece: &[u8], ord: i64) -> bool
     ensures behind { IfSome last.now (λ l. IsTrue result ↔ ordering_then (octets_cmp l.piece.items piece.now) (int_cmp l.ord ord) ≡ Less) }
     ensures first { last.now ≡ Option.None → IsTrue result }
 {
@@ -150,7 +150,7 @@ impl<'a> PieceReader<'a> {
             return Err(NotDerived);
         }
         self.taken += 1;
-        self.last = Some(Last { piece, ord });
+        self.last = Some(LastRow { piece, ord });
         Ok(())
     }
 

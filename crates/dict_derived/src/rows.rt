@@ -11,7 +11,7 @@ ghost use Rattle.dict_records.specs.Keyed.{Piece};
 ghost use Rattle.dict_rows.specs.Tables.{Tables, same_number, entries_of};
 ghost use Rattle.dict_rows.specs.Written.{numbered, entry_record};
 ghost use Rattle.dict_rows.specs.Stands.{Stands};
-ghost use Rattle.dict_rows.specs.After.{Change, tables_after};
+ghost use Rattle.dict_rows.specs.After.{TableChange, tables_after};
 ghost use Rattle.dict_rows.specs.Order.{InOrder, is_of};
 ghost use Rattle.dict_derived.specs.Exact.{AreDerived, IsDue, piece_cmp};
 ghost use Rattle.dict_derived.specs.Entries.{derived, derived_from, pieces_of};
@@ -32,7 +32,7 @@ pub fn same_under_versions()
 ///
 /// It does nothing. Its clause is the law.
 pub fn derived_after()
-    ensures { (version : ℕ) (change : Change) (old : Tables) → with_derived (tables_after version change old) ≡ all_after version change (with_derived old) }
+    ensures { (version : ℕ) (change : TableChange) (old : Tables) → with_derived (tables_after version change old) ≡ all_after version change (with_derived old) }
 {}
 
 /// The rows that are due for the keys of an edition are those that `derived_from` gives, each once, in whatever order; read

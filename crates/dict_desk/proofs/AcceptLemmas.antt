@@ -14,7 +14,7 @@ use Rattle.dict_catalogue.specs.Tests.{Holdings}
 use Rattle.dict_catalogue.specs.Effects.{KeptReply, items_after, installs_after, effect, reply_to, editions_gone}
 use Rattle.dict_catalogue.specs.Steps.{KeptFor, Catalogue, Outcome, accepted, refused, holdings, summary_of, kept_under, with_effect, step, IsStep, id_unlawful, id_kept, test_failed, none_failed}
 use Rattle.dict_catalogue.specs.Views.{summary_shown, kept_shown, IsChangeOf}
-use Rattle.dict_catalogue.specs.declared.planning.Change.{Change}
+use Rattle.dict_catalogue.specs.declared.planning.PlannedChange.{PlannedChange}
 use Rattle.dict_catalogue.specs.WellFormed.{IsWellFormed, IsLawfulCommand}
 use Rattle.dict_text.proofs.AllLemmas.{all_weaker, all_append, all_filter}
 use Rattle.dict_catalogue.proofs.ListLemmas.{any_append_left, any_append_right}
@@ -236,7 +236,7 @@ module _ (summary after : Holdings (List ℕ)) (editions : List (Stored Edition)
       grows p = let more = installs_grow command summary.installs in let is = installs_are in omega arith
 
 -- the parts that are left, and the catalogue that they make
-pub accepted_parts : (summary : Holdings (List ℕ)) (editions left news : List (Stored Edition)) (replies replies_after : List Filed) (places places_after : List ℕ → Option ℕ) (before : Catalogue) (id : List ℕ) (command : Command Edition) (change : Change) (filed : Filed)
+pub accepted_parts : (summary : Holdings (List ℕ)) (editions left news : List (Stored Edition)) (replies replies_after : List Filed) (places places_after : List ℕ → Option ℕ) (before : Catalogue) (id : List ℕ) (command : Command Edition) (change : PlannedChange) (filed : Filed)
     → catalogue_from summary editions replies ≡ before → AreInStep summary editions replies places → IsLawfulCommand command → is_request_id id ≡ true → kept_under before.kept id ≡ None
     → IsChangeOf before (step before id command) change → filed_shown filed ≡ record { id = id; reply = kept_shown change.kept }
     → news ≡ newly_installed change.summary.installs command → left ≡ filter (stays change.gone.items) editions ++ news → replies_after ≡ replies ++ filed ∷ []

@@ -13,7 +13,7 @@ use Rattle.dict_catalogue.specs.Tests.{tests_of}
 use Rattle.dict_catalogue.specs.Effects.{KeptReply}
 use Rattle.dict_catalogue.specs.Steps.{Catalogue, holdings, Reply, accepted, refused, Outcome, Request, step, after, acts, acts_unless_kept, kept_under, IsStep, id_unlawful, id_kept, test_failed, none_failed}
 use Rattle.dict_catalogue.specs.declared.commands.Command as written
-use Rattle.dict_catalogue.specs.declared.fault.Refusal.{Refusal}
+use Rattle.dict_catalogue.specs.declared.fault.CommandRefusal.{CommandRefusal}
 use Rattle.dict_catalogue.specs.declared.reply.Kept.{Kept}
 use Rattle.dict_catalogue.proofs.StepLemmas.{failing_first, none_failing, step_is, idle_leaves}
 use Rattle.dict_desk.specs.Faults.{has_failed_by, has_closed_by}
@@ -115,17 +115,17 @@ refused_left Before Mid After acted at id command told leaves first ms h =
 
 -- a command was answered
 
-abbrev Answered : (Catalogue → Type 0) → Left → Left → Left → Catalogue → Bool → List ℕ → Command Edition → Result Kept Refusal → Type 0
+abbrev Answered : (Catalogue → Type 0) → Left → Left → Left → Catalogue → Bool → List ℕ → Command Edition → Result Kept CommandRefusal → Type 0
 Answered Shows Before Mid After at acted id command outcome =
     ((step at id command).reply ≡ reply_shown outcome) × Shows (step at id command).catalogue
     × (((ms : List (Option Catalogue)) → LeftBy Before acted at ms → Mid ms)
     → (ms : List (Option Catalogue)) → LeftBy Before (acted || acts at id command) (step at id command).catalogue ms → After ms)
 
-abbrev outcome_or : Result Kept Refusal → Result (Result Kept Refusal) Fault → Result Kept Refusal
+abbrev outcome_or : Result Kept CommandRefusal → Result (Result Kept CommandRefusal) Fault → Result Kept CommandRefusal
 outcome_or other (Ok outcome) = outcome
 outcome_or other (Err fault) = other
 
-answered_by : (Shows : Catalogue → Type 0) (Before Mid After : Left) (at : Catalogue) (acted : Bool) (id : List ℕ) (command : Command Edition) (answer : Result Kept Fault) (outcome : Result Kept Refusal)
+answered_by : (Shows : Catalogue → Type 0) (Before Mid After : Left) (at : Catalogue) (acted : Bool) (id : List ℕ) (command : Command Edition) (answer : Result Kept Fault) (outcome : Result Kept CommandRefusal)
     → settled_answer answer ≡ Ok outcome → Applies Shows at (step at id command) answer → Leaves Mid After (is_some (kept_under at.kept id)) (step at id command).catalogue answer
     → Answered Shows Before Mid After at acted id command outcome
 answered_by Shows Before Mid After at acted id command (Ok kept) outcome is applies leaves =
@@ -140,7 +140,7 @@ answered_by Shows Before Mid After at acted id command (Err Damaged) outcome is 
 answered_by Shows Before Mid After at acted id command (Err NewerSchema) outcome is applies leaves = absurd applies
 
 -- so all of one more are answered
-pub all_one_more : (First Shows : Catalogue → Type 0) (Before Mid After : Left) (M : Catalogue) (requests more : List Request) (one : Request) (outcomes : List (Result Kept Refusal)) (answer : Result Kept Fault) (outcome : Result Kept Refusal)
+pub all_one_more : (First Shows : Catalogue → Type 0) (Before Mid After : Left) (M : Catalogue) (requests more : List Request) (one : Request) (outcomes : List (Result Kept CommandRefusal)) (answer : Result Kept Fault) (outcome : Result Kept CommandRefusal)
     → more ≡ requests ++ one ∷ [] → settled_answer answer ≡ Ok outcome
     → Applies Shows (after M requests) (step (after M requests) one.id one.command) answer
     → Leaves Mid After (is_some (kept_under (after M requests).kept one.id)) (step (after M requests) one.id one.command).catalogue answer
@@ -158,7 +158,7 @@ all_one_more First Shows Before Mid After M requests more one outcomes answer ou
     })
 
 -- a command failed, and so many stand
-pub halts : (First Shows : Catalogue → Type 0) (Before Mid After : Left) (M : Catalogue) (all : List Request) (stand : ℕ) (one : Request) (outcomes : List (Result Kept Refusal)) (answer : Result Kept Fault) (fault : Fault)
+pub halts : (First Shows : Catalogue → Type 0) (Before Mid After : Left) (M : Catalogue) (all : List Request) (stand : ℕ) (one : Request) (outcomes : List (Result Kept CommandRefusal)) (answer : Result Kept Fault) (fault : Fault)
     → take (stand + 1) all ≡ take stand all ++ one ∷ [] → settled_answer answer ≡ Err fault
     → Applies Shows (after M (take stand all)) (step (after M (take stand all)) one.id one.command) answer
     → Leaves Mid After (is_some (kept_under (after M (take stand all)).kept one.id)) (step (after M (take stand all)) one.id one.command).catalogue answer
@@ -168,7 +168,7 @@ halts First Shows Before Mid After M all stand one outcomes (Err (Refused refusa
 halts First Shows Before Mid After M all stand one outcomes (Err Memory) fault is so applies leaves front =
     subst (λ r. HaltsBy r) so (record { shown = applies; left = λ ms h. leaves ms (front.left ms h) })
   where
-    HaltsBy : Result (Result Kept Refusal) Fault → Type 0
+    HaltsBy : Result (Result Kept CommandRefusal) Fault → Type 0
     HaltsBy (Ok outcome) = Unit {0}
     HaltsBy (Err f) = HaltsAt Shows Before After M all stand f
 halts First Shows Before Mid After M all stand one outcomes (Err Disk) fault is so applies leaves front =
@@ -177,7 +177,7 @@ halts First Shows Before Mid After M all stand one outcomes (Err Disk) fault is 
       left = λ ms h. subst (λ m. After (Some m ∷ ms)) (sym next) (leaves ms (front.left ms h));
     })
   where
-    HaltsBy : Result (Result Kept Refusal) Fault → Type 0
+    HaltsBy : Result (Result Kept CommandRefusal) Fault → Type 0
     HaltsBy (Ok outcome) = Unit {0}
     HaltsBy (Err f) = HaltsAt Shows Before After M all stand f
 
@@ -186,7 +186,7 @@ halts First Shows Before Mid After M all stand one outcomes (Err Disk) fault is 
 halts First Shows Before Mid After M all stand one outcomes (Err Closed) fault is so applies leaves front =
     subst (λ r. HaltsBy r) so (record { shown = applies; left = λ ms h. leaves ms (front.left ms h) })
   where
-    HaltsBy : Result (Result Kept Refusal) Fault → Type 0
+    HaltsBy : Result (Result Kept CommandRefusal) Fault → Type 0
     HaltsBy (Ok outcome) = Unit {0}
     HaltsBy (Err f) = HaltsAt Shows Before After M all stand f
 halts First Shows Before Mid After M all stand one outcomes (Err NotACatalogue) fault is so applies leaves front = absurd applies
@@ -205,7 +205,7 @@ front_and_next requests i one below is =
 
 -- an answer that isn't a failure
 
-pub none_failed_by : (answer : Result Kept Fault) (outcome : Result Kept Refusal) → settled_answer answer ≡ Ok outcome → has_failed_by answer ≡ false
+pub none_failed_by : (answer : Result Kept Fault) (outcome : Result Kept CommandRefusal) → settled_answer answer ≡ Ok outcome → has_failed_by answer ≡ false
 none_failed_by (Ok kept) outcome so = refl
 none_failed_by (Err (Refused refusal)) outcome so = refl
 none_failed_by (Err Memory) outcome so = absurd (false≢true (ap is_ok so))
@@ -215,7 +215,7 @@ none_failed_by (Err NotACatalogue) outcome so = absurd (false≢true (ap is_ok s
 none_failed_by (Err Damaged) outcome so = absurd (false≢true (ap is_ok so))
 none_failed_by (Err NewerSchema) outcome so = absurd (false≢true (ap is_ok so))
 
-pub none_closed_by : (answer : Result Kept Fault) (outcome : Result Kept Refusal) → settled_answer answer ≡ Ok outcome → has_closed_by answer ≡ false
+pub none_closed_by : (answer : Result Kept Fault) (outcome : Result Kept CommandRefusal) → settled_answer answer ≡ Ok outcome → has_closed_by answer ≡ false
 none_closed_by (Ok kept) outcome so = refl
 none_closed_by (Err (Refused refusal)) outcome so = refl
 none_closed_by (Err Memory) outcome so = absurd (false≢true (ap is_ok so))
@@ -229,14 +229,14 @@ pub still_so : (new old first by : Bool) → new ≡ (old || by) → by ≡ fals
 still_so new old first by e none same = e ∙ ap (λ b. old || b) none ∙ or_none old ∙ same
 
 -- a closed desk answers no command
-pub not_closed : (was : Bool) (answer : Result Kept Fault) (outcome : Result Kept Refusal) → settled_answer answer ≡ Ok outcome → (was ≡ true → answer ≡ Err Closed) → was ≡ false
+pub not_closed : (was : Bool) (answer : Result Kept Fault) (outcome : Result Kept CommandRefusal) → settled_answer answer ≡ Ok outcome → (was ≡ true → answer ≡ Err Closed) → was ≡ false
 not_closed false answer outcome so closed = refl
 not_closed true answer outcome so closed = absurd (false≢true (ap is_ok (sym (ap settled_answer (closed refl)) ∙ so)))
 
 -- ---- the calls themselves
 
 -- an answer that stands, and one that doesn't
-pub stands_by : (answer : Result Kept Fault) (outcome : Result Kept Refusal) → settled_answer answer ≡ Ok outcome → answer ≡ standing_answer outcome
+pub stands_by : (answer : Result Kept Fault) (outcome : Result Kept CommandRefusal) → settled_answer answer ≡ Ok outcome → answer ≡ standing_answer outcome
 stands_by (Ok kept) outcome so = ap (λ r. standing_answer (outcome_or outcome r)) so
 stands_by (Err (Refused refusal)) outcome so = ap (λ r. standing_answer (outcome_or outcome r)) so
 stands_by (Err Memory) outcome so = absurd (false≢true (ap is_ok so))
@@ -246,7 +246,7 @@ stands_by (Err NotACatalogue) outcome so = absurd (false≢true (ap is_ok so))
 stands_by (Err Damaged) outcome so = absurd (false≢true (ap is_ok so))
 stands_by (Err NewerSchema) outcome so = absurd (false≢true (ap is_ok so))
 
-abbrev fault_or : Fault → Result (Result Kept Refusal) Fault → Fault
+abbrev fault_or : Fault → Result (Result Kept CommandRefusal) Fault → Fault
 fault_or other (Ok outcome) = other
 fault_or other (Err fault) = fault
 
@@ -261,7 +261,7 @@ fails_by (Err Damaged) fault so = ap (λ r. Err (fault_or fault r)) so
 fails_by (Err NewerSchema) fault so = ap (λ r. Err (fault_or fault r)) so
 
 -- one more command was applied behind the others
-pub applied_one_more : {K : Type 0} (applies : K → Request → Result Kept Fault → K → Type 0) (old between new : K) (front : List Request) (outcomes : List (Result Kept Refusal)) (one : Request) (outcome : Result Kept Refusal)
+pub applied_one_more : {K : Type 0} (applies : K → Request → Result Kept Fault → K → Type 0) (old between new : K) (front : List Request) (outcomes : List (Result Kept CommandRefusal)) (one : Request) (outcome : Result Kept CommandRefusal)
     → AreApplied applies old front outcomes between → applies between one (standing_answer outcome) new → AreApplied applies old (front ++ one ∷ []) (outcomes ++ outcome ∷ []) new
 applied_one_more applies old between new [] [] one outcome all last = (new, subst (λ k. applies k one (standing_answer outcome) new) all last, refl)
 applied_one_more applies old between new [] (other ∷ outcomes) one outcome all last = absurd all

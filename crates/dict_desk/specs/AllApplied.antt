@@ -4,13 +4,13 @@ use Rattle.std.specs.Prelude.{◌≡◌, ◌⊎◌, ◌+◌, ℕ, Bool, false, �
 use Rattle.dict_catalogue.specs.Steps.{Catalogue, Reply, accepted, refused, Request, step, after, acts}
 use Rattle.dict_catalogue.specs.Views.{kept_shown}
 use Rattle.dict_catalogue.specs.declared.reply.Kept.{Kept}
-use Rattle.dict_catalogue.specs.declared.fault.Refusal.{Refusal}
+use Rattle.dict_catalogue.specs.declared.fault.CommandRefusal.{CommandRefusal}
 use Rattle.dict_desk.specs.declared.fault.Fault.{Fault}
 use Rattle.dict_desk.specs.declared.fault.Fault.TheVariants.{Refused, Memory, Disk, Closed, NotACatalogue, Damaged, NewerSchema}
 use Rattle.dict_desk.specs.Applying.{LeavesNoMore}
 
 -- an answer that lets the next command have its turn, or the failure that doesn't
-abbrev pub settled_answer : Result Kept Fault → Result (Result Kept Refusal) Fault
+abbrev pub settled_answer : Result Kept Fault → Result (Result Kept CommandRefusal) Fault
 settled_answer (Ok kept) = Ok (Ok kept)
 settled_answer (Err (Refused refusal)) = Ok (Err refusal)
 settled_answer (Err Memory) = Err Memory
@@ -20,7 +20,7 @@ settled_answer (Err NotACatalogue) = Err NotACatalogue
 settled_answer (Err Damaged) = Err Damaged
 settled_answer (Err NewerSchema) = Err NewerSchema
 
-abbrev pub reply_shown : Result Kept Refusal → Reply
+abbrev pub reply_shown : Result Kept CommandRefusal → Reply
 reply_shown (Ok kept) = accepted (kept_shown kept)
 reply_shown (Err refusal) = refused refusal
 
@@ -43,7 +43,7 @@ abbrev pub LeftAfter : (List (Option Catalogue) → Type 0) → Catalogue → Li
 LeftAfter Before before requests ms = MatchBool (has_acted before requests) (ms ≡ Some (after before requests) ∷ []) (Before ms)
 
 -- All commands were answered: these are the replies, and the catalogue after all of them is shown.
-pub record AllAnswered (Shows : Catalogue → Type 0) (Before After : List (Option Catalogue) → Type 0) (before : Catalogue) (requests : List Request) (outcomes : List (Result Kept Refusal)) : Type 0 where
+pub record AllAnswered (Shows : Catalogue → Type 0) (Before After : List (Option Catalogue) → Type 0) (before : Catalogue) (requests : List Request) (outcomes : List (Result Kept CommandRefusal)) : Type 0 where
   pub told : map reply_shown outcomes ≡ replies before requests
   pub shown : Shows (after before requests)
   pub left : LeavesNoMore (LeftAfter Before before requests) After
@@ -70,12 +70,12 @@ HaltsAt Shows Before After before requests stand NewerSchema = ⊥
 -- ---- the calls themselves, where `applies` tells of two states that between them a command was applied and answered so
 
 -- what a command was answered that stands
-abbrev pub standing_answer : Result Kept Refusal → Result Kept Fault
+abbrev pub standing_answer : Result Kept CommandRefusal → Result Kept Fault
 standing_answer (Ok kept) = Ok kept
 standing_answer (Err refusal) = Err (Refused refusal)
 
 -- From one state to another these commands were applied, each in its turn, and each was answered so.
-abbrev pub AreApplied : {K : Type 0} → (K → Request → Result Kept Fault → K → Type 0) → K → List Request → List (Result Kept Refusal) → K → Type 0
+abbrev pub AreApplied : {K : Type 0} → (K → Request → Result Kept Fault → K → Type 0) → K → List Request → List (Result Kept CommandRefusal) → K → Type 0
 AreApplied applies old [] [] new = new ≡ old
 AreApplied applies old [] (outcome ∷ outcomes) new = ⊥
 AreApplied applies old (request ∷ requests) [] new = ⊥
@@ -86,5 +86,5 @@ AreApplied {K} applies old (request ∷ requests) (outcome ∷ outcomes) new =
 abbrev pub HasHalted : {K : Type 0} → (K → Request → Result Kept Fault → K → Type 0) → K → List Request → ℕ → Fault → K → Type 0
 HasHalted {K} applies old requests stand fault new =
     ((stand ≡ 0) × (fault ≡ Memory) × (new ≡ old))
-    ⊎ ((outcomes : List (Result Kept Refusal)) × (between : K) × (request : Request) × (take (stand + 1) requests ≡ take stand requests ++ request ∷ [])
+    ⊎ ((outcomes : List (Result Kept CommandRefusal)) × (between : K) × (request : Request) × (take (stand + 1) requests ≡ take stand requests ++ request ∷ [])
     × AreApplied applies old (take stand requests) outcomes between × applies between request (Err fault) new)

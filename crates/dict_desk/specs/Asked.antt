@@ -32,9 +32,9 @@ abbrev pub databases_named : List (Item Edition) → List ℕ → List Database
 databases_named items name = filter (λ database. bytes_eq database.name name) (databases items)
 
 -- a regular item is asked alone; a virtual one asks its members, in their order
-abbrev pub asked_by : List (Item Edition) → Item Edition → List Database
-asked_by items (regular name current former) = record { name = name; edition = current.content } ∷ []
-asked_by items (virtual name title members) = flat_map (databases_named items) members
+abbrev pub databases_of : List (Item Edition) → Item Edition → List Database
+databases_of items (regular name current former) = record { name = name; edition = current.content } ∷ []
+databases_of items (virtual name title members) = flat_map (databases_named items) members
 
 -- the databases that are asked by this word: a star asks all regular items in their order, an exclamation mark the
 -- first of them in which an entry is found, a name its item. Another word names no database
@@ -42,7 +42,7 @@ unfoldable pub searched : Catalogue → List ℕ → Strategy → List ℕ → O
 searched catalogue word strategy query =
     if bytes_eq word (codes "*") then Some (databases catalogue.items)
     else if bytes_eq word (codes "!") then Some (first_finding strategy query (databases catalogue.items))
-    else option_map (asked_by catalogue.items) (find (is_named word) catalogue.items)
+    else option_map (databases_of catalogue.items) (find (is_named word) catalogue.items)
 
 -- what is shown of an entry that is found, and its text, with the name and the title of the database in which it stands
 pub record Definition : Type 0 where

@@ -8,9 +8,11 @@ ghost use Rattle.dict_desk.specs.PlainEntries.{LieWithin};
 ghost use Rattle.dict_desk.specs.declared.lookup.What.TheVariants.{Entries, Headwords};
 ghost use Rattle.dict_desk.specs.Shown.{found_rows, headword_rows, info_rows, count_of};
 
-use crate::entries::{Hits, OwnedEntry, Span, hand_found, hand_listed, hits_among, owned_entries};
+use crate::entries::{
+    Hits, OwnedEntry, Span, hand_found, hand_headwords, hits_among, owned_entries,
+};
 use crate::lookup::End;
-use crate::sink::{Row, RowSink, Turn};
+use crate::sink::{Demand, Row, RowSink};
 use dict_index::Edition;
 use dict_match::Strategy;
 use std::alloc::{AllocError, Global};
@@ -119,7 +121,7 @@ impl PlainEdition {
         ensures all { result ≡ End.All → T.takes sink.old (headword_rows strategy query.now self.now.content) sink.new }
         ensures stopped { result ≡ End.Stopped → T.stops sink.old (headword_rows strategy query.now self.now.content) sink.new }
     {
-        hand_listed(&self.entries, span, strategy, query, sink)
+        hand_headwords(&self.entries, span, strategy, query, sink)
     }
 
     // The span of all entries.
@@ -143,8 +145,8 @@ impl PlainEdition {
             text: self.info.as_bytes(),
         };
         match sink.take(row) {
-            Turn::More => End::All,
-            Turn::Stop => End::Stopped,
+            Demand::More => End::All,
+            Demand::Stop => End::Stopped,
         }
     }
 }

@@ -6,7 +6,7 @@ ghost use Rattle.dict_desk.specs.Shown.{row, row_of};
 ghost use Rattle.dict_desk.specs.PlainEntries.{line_of, entry_of, shown_by, HasItsKey, AreLinked, is_hit_of, is_shown, texts_listed, rows_found, rows_listed, LieWithin};
 
 use crate::lookup::End;
-use crate::sink::{Row, RowSink, Turn};
+use crate::sink::{Demand, Row, RowSink};
 use dict_index::Entry;
 use dict_match::{Key, Strategy, matches};
 use std::alloc::{AllocError, Global};
@@ -201,7 +201,7 @@ pub(crate) fn hand_found<T: RowSink>(
 {
     for entry in entries {
         if finds(strategy, query, entry) {
-            if let Turn::Stop = hand_entry(text, entry, sink) {
+            if let Demand::Stop = hand_entry(text, entry, sink) {
                 return End::Stopped;
             }
         }
@@ -210,9 +210,9 @@ pub(crate) fn hand_found<T: RowSink>(
 }
 
 // Hands out the entry.
-fn hand_entry<T: RowSink>(text: &[u8], entry: &OwnedEntry, sink: &mut T) -> Turn
-    ensures more { result ≡ Turn.More → T.takes sink.old (row_of (entry_of text.now entry.now) ∷ []) sink.new }
-    ensures stop { result ≡ Turn.Stop → T.stops sink.old (row_of (entry_of text.now entry.now) ∷ []) sink.new }
+fn hand_entry<T: RowSink>(text: &[u8], entry: &OwnedEntry, sink: &mut T) -> Demand
+    ensures more { result ≡ Demand.More → T.takes sink.old (row_of (entry_of text.now entry.now) ∷ []) sink.new }
+    ensures stop { result ≡ Demand.Stop → T.stops sink.old (row_of (entry_of text.now entry.now) ∷ []) sink.new }
 {
     let shown = entry.said.shown.as_str();
     let text = cut(text, entry.said.offset, entry.said.size);
@@ -228,7 +228,7 @@ fn cut(text: &[u8], offset: usize, size: usize) -> &[u8]
 }
 
 // Hands out what is shown of the entries that a query finds, all of which lie in the span, each text once.
-pub(crate) fn hand_listed<T: RowSink>(
+pub(crate) fn hand_headwords<T: RowSink>(
     entries: &[OwnedEntry],
     span: Span,
     strategy: Strategy,
@@ -243,7 +243,7 @@ pub(crate) fn hand_listed<T: RowSink>(
 {
     for place in span.first..span.end {
         if lists(entries, place, strategy, query) {
-            if let Turn::Stop = hand_shown(&entries[place], sink) {
+            if let Demand::Stop = hand_shown(&entries[place], sink) {
                 return End::Stopped;
             }
         }
@@ -252,9 +252,9 @@ pub(crate) fn hand_listed<T: RowSink>(
 }
 
 // Hands out what is shown of the entry.
-fn hand_shown<T: RowSink>(entry: &OwnedEntry, sink: &mut T) -> Turn
-    ensures more { result ≡ Turn.More → T.takes sink.old (row (shown_by entry.now) [] ∷ []) sink.new }
-    ensures stop { result ≡ Turn.Stop → T.stops sink.old (row (shown_by entry.now) [] ∷ []) sink.new }
+fn hand_shown<T: RowSink>(entry: &OwnedEntry, sink: &mut T) -> Demand
+    ensures more { result ≡ Demand.More → T.takes sink.old (row (shown_by entry.now) [] ∷ []) sink.new }
+    ensures stop { result ≡ Demand.Stop → T.stops sink.old (row (shown_by entry.now) [] ∷ []) sink.new }
 {
     let shown = entry.said.shown.as_str();
     sink.take(Row { shown, text: b"" })

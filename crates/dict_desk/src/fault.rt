@@ -2,7 +2,7 @@
 ghost use Rattle.std.specs.Prelude.{◌≡◌};
 ghost use Rattle.dict_desk.specs.Faults.{fault_number, fault_name, is_failure};
 
-use dict_catalogue::Refusal;
+use dict_catalogue::CommandRefusal;
 use std::alloc::{AllocError, AllocFailed};
 use thiserror::Error;
 
@@ -12,7 +12,7 @@ use thiserror::Error;
 pub enum Fault {
     /// The catalogue refuses the command. Nothing has changed.
     #[error("the command is refused")]
-    Refused(Refusal),
+    Refused(CommandRefusal),
     /// A growth was refused before anything was committed. Nothing has changed, and the desk goes on.
     #[error("out of memory")]
     Memory,

@@ -11,7 +11,7 @@ ghost use Rattle.dict_desk.specs.declared.fault.Fault.{Fault as Failure};
 
 use crate::fault::Fault;
 use crate::lookup::Lookup;
-use dict_catalogue::{Command, Kept, Refusal};
+use dict_catalogue::{Command, CommandRefusal, Kept};
 use std::alloc::Global;
 use thiserror::Error;
 
@@ -64,7 +64,7 @@ pub struct Halted {
 }
 
 // An answer that lets the next command have its turn, or the failure that doesn't.
-fn settled(answer: Result<Kept, Fault>) -> Result<Result<Kept, Refusal>, Fault>
+fn settled(answer: Result<Kept, Fault>) -> Result<Result<Kept, CommandRefusal>, Fault>
     ensures { result ≡ settled_answer answer }
 {
     match answer {
@@ -84,7 +84,7 @@ pub fn apply_all<K: Keeper>(
     alloc: Global,
     desk: &mut K,
     requests: &[(&str, Command)],
-) -> Result<Vec<Result<Kept, Refusal>>, Halted>
+) -> Result<Vec<Result<Kept, CommandRefusal>>, Halted>
     ensures value { K.is_trusted desk.new → (M : Catalogue) → K.shows desk.old M → IfOk result (λ outcomes. AllAnswered (K.shows desk.new) (K.leaves_one_of desk.old) (K.leaves_one_of desk.new) M (requests_meant requests.now) outcomes.items) }
     ensures halted { K.is_trusted desk.new → (M : Catalogue) → K.shows desk.old M → IfErr result (λ halted. HaltsAt (K.shows desk.new) (K.leaves_one_of desk.old) (K.leaves_one_of desk.new) M (requests_meant requests.now) halted.stand halted.fault) }
     ensures called { IfOk result (λ outcomes. AreApplied K.applies desk.old (requests_meant requests.now) outcomes.items desk.new) }

@@ -17,4 +17,4 @@ pub use keeper::{Halted, Keeper, apply_all};
 pub use laws::{distinct_law, worked_definitions, worked_matches};
 pub use lookup::{End, Lookup, What};
 pub use plain::PlainDesk;
-pub use sink::{Row, RowSink, Turn};
+pub use sink::{Demand, Row, RowSink};

@@ -19,7 +19,7 @@ use crate::keeper::Keeper;
 use crate::lookup::{End, Lookup, What};
 use crate::replies::{Filed, copied, file_under, note_place};
 use crate::sink::RowSink;
-use dict_catalogue::{Change, Command, Kept, PlanFault, Refusal, Summary, plan};
+use dict_catalogue::{Command, CommandRefusal, Kept, PlanFault, PlannedChange, Summary, plan};
 use dict_match::{Key, Strategy};
 use dict_name::is_request_id;
 use std::alloc::{AllocError, Global};
@@ -131,7 +131,12 @@ impl PlainDesk {
     ghost use Rattle.dict_desk.specs.Faults.{IsOfLists};
 
     // Does what the command was planned to do, and keeps its reply. All memory is taken before anything is changed.
-    fn accept(&mut self, id: &str, command: &Command, change: Change) -> Result<Kept, AllocError>
+    fn accept(
+        &mut self,
+        id: &str,
+        command: &Command,
+        change: PlannedChange,
+    ) -> Result<Kept, AllocError>
         requires id { is_request_id id.now ≡ true }
         requires unused { kept_under self.old.catalogue.kept id.now ≡ None }
         requires planned { IsChangeOf self.old.catalogue (step self.old.catalogue id.now (command_meant command.now)) change }
@@ -150,7 +155,7 @@ impl PlainDesk {
         self.replies.push_reserved(filed);
         take_out(&mut self.editions, change.gone.as_slice());
         put(&mut self.editions, edition);
-        let Change {
+        let PlannedChange {
             summary,
             gone: _,
             kept,
@@ -165,7 +170,7 @@ impl PlainDesk {
         ensures kinds { IfErr result IsOfLists }
     {
         if !is_request_id(id) {
-            return Err(Fault::Refused(Refusal::BadRequestId));
+            return Err(Fault::Refused(CommandRefusal::BadRequestId));
         }
         if let Some(reply) = self.reply(id)? {
             return Ok(reply);

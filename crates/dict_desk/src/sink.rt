@@ -4,7 +4,7 @@ ghost use Rattle.dict_desk.specs.Shown.{Row as ShownRow, row_handed};
 
 /// Whether a sink wants more rows.
 #[derive(Clone, Copy, Debug, PartialEq, Eq)]
-pub enum Turn {
+pub enum Demand {
     More,
     Stop,
 }
@@ -28,9 +28,9 @@ pub trait RowSink {
     ghost stops: { Self → List ShownRow → Self → Type 0 };
 
     /// Takes a row, and tells whether it wants more. After a stop nothing more is handed to it.
-    fn take(&mut self, row: Row) -> Turn
-        ensures more { result ≡ Turn.More → takes self.old (row_handed row.entry ∷ []) self.new }
-        ensures stop { result ≡ Turn.Stop → stops self.old (row_handed row.entry ∷ []) self.new };
+    fn take(&mut self, row: Row) -> Demand
+        ensures more { result ≡ Demand.More → takes self.old (row_handed row.entry ∷ []) self.new }
+        ensures stop { result ≡ Demand.Stop → stops self.old (row_handed row.entry ∷ []) self.new };
 
     ghost none: { (s : Self) → takes s [] s };
 

@@ -2,7 +2,7 @@
 use super::asked::{Asked, push_kept, push_refusal};
 use super::files::{GEM, read};
 use crate::checks::{same, same_text};
-use dict_catalogue::{Kept, Refusal};
+use dict_catalogue::{CommandRefusal, Kept};
 use dict_desk::{Fault, Halted, Lookup, PlainDesk, apply_all};
 use dict_index::Edition;
 use std::alloc::{AllocError, Global};
@@ -10,7 +10,7 @@ use std::process::Abort;
 use std::test::Fail;
 
 /// The answers in order.
-fn told_all(alloc: Global, answers: &[Result<Kept, Refusal>]) -> Result<String, AllocError> {
+fn told_all(alloc: Global, answers: &[Result<Kept, CommandRefusal>]) -> Result<String, AllocError> {
     let mut text = String::new(alloc);
     for answer in answers {
         match answer {

@@ -3,7 +3,7 @@ use super::files::GEM;
 use crate::checks::{holds, same, same_text, same_text_of};
 use bstr::ByteSlice;
 use dict_index::{
-    Edition, Entry, IndexFault, Refusal, entry_key, is_edition_text, is_shown, read_edition,
+    Edition, EditionRefusal, Entry, IndexFault, entry_key, is_edition_text, is_shown, read_edition,
 };
 use std::alloc::{AllocError, Global};
 use std::process::Abort;
@@ -198,22 +198,22 @@ fn reads_editions(rt: HostRuntime) -> Result<(), Fail> {
     Ok(())
 }
 
-static REFUSALS: [(Refusal, u8, &str); 15] = [
-    (Refusal::IndexNotUtf8, 1, "IndexNotUtf8"),
-    (Refusal::Columns, 2, "Columns"),
-    (Refusal::Number, 3, "Number"),
-    (Refusal::Interval, 4, "Interval"),
-    (Refusal::Headword, 5, "Headword"),
-    (Refusal::BodyText, 6, "BodyText"),
-    (Refusal::BodyLine, 7, "BodyLine"),
-    (Refusal::Reserved, 8, "Reserved"),
-    (Refusal::ReservedTwice, 9, "ReservedTwice"),
-    (Refusal::NoTitle, 10, "NoTitle"),
-    (Refusal::BadTitle, 11, "BadTitle"),
-    (Refusal::TooManyEntries, 12, "TooManyEntries"),
-    (Refusal::TextTooLong, 13, "TextTooLong"),
-    (Refusal::LastLine, 14, "LastLine"),
-    (Refusal::Shown, 15, "Shown"),
+static REFUSALS: [(EditionRefusal, u8, &str); 15] = [
+    (EditionRefusal::IndexNotUtf8, 1, "IndexNotUtf8"),
+    (EditionRefusal::Columns, 2, "Columns"),
+    (EditionRefusal::Number, 3, "Number"),
+    (EditionRefusal::Interval, 4, "Interval"),
+    (EditionRefusal::Headword, 5, "Headword"),
+    (EditionRefusal::BodyText, 6, "BodyText"),
+    (EditionRefusal::BodyLine, 7, "BodyLine"),
+    (EditionRefusal::Reserved, 8, "Reserved"),
+    (EditionRefusal::ReservedTwice, 9, "ReservedTwice"),
+    (EditionRefusal::NoTitle, 10, "NoTitle"),
+    (EditionRefusal::BadTitle, 11, "BadTitle"),
+    (EditionRefusal::TooManyEntries, 12, "TooManyEntries"),
+    (EditionRefusal::TextTooLong, 13, "TextTooLong"),
+    (EditionRefusal::LastLine, 14, "LastLine"),
+    (EditionRefusal::Shown, 15, "Shown"),
 ];
 
 #[test]

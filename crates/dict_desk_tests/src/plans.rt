@@ -2,7 +2,7 @@
 use super::asked::{Asked, listed, push_gone, push_kept, push_refusal};
 use super::files::{GEM, read};
 use crate::checks::{same, same_text};
-use dict_catalogue::{Change, Command, PlanFault, Refusal, Summary, Verb, plan};
+use dict_catalogue::{Command, CommandRefusal, PlanFault, PlannedChange, Summary, Verb, plan};
 use dict_index::Edition;
 use std::alloc::{AllocError, Global};
 use std::mem::swap;
@@ -17,7 +17,7 @@ struct Row(Asked, &'static str, &'static str);
 fn push_answer(
     alloc: Global,
     text: &mut String,
-    planned: &Result<Change, PlanFault>,
+    planned: &Result<PlannedChange, PlanFault>,
 ) -> Result<(), AllocError> {
     match planned {
         Ok(change) => {
@@ -398,20 +398,20 @@ fn where_the_catalogue_is_full(rt: HostRuntime) -> Result<(), Fail> {
     run_full(&rt, rt.alloc(), &mut full, &gem)
 }
 
-static REFUSALS: [(Refusal, u8, &str); 13] = [
-    (Refusal::BadName, 20, "BadName"),
-    (Refusal::Unknown, 21, "Unknown"),
-    (Refusal::IsVirtual, 22, "IsVirtual"),
-    (Refusal::NoFormer, 23, "NoFormer"),
-    (Refusal::Listed, 24, "Listed"),
-    (Refusal::CatalogueFull, 25, "CatalogueFull"),
-    (Refusal::BadMember, 26, "BadMember"),
-    (Refusal::MemberTwice, 27, "MemberTwice"),
-    (Refusal::MemberCount, 28, "MemberCount"),
-    (Refusal::BadTitle, 29, "BadTitle"),
-    (Refusal::BadPlace, 30, "BadPlace"),
-    (Refusal::BadRequestId, 31, "BadRequestId"),
-    (Refusal::IsRegular, 32, "IsRegular"),
+static REFUSALS: [(CommandRefusal, u8, &str); 13] = [
+    (CommandRefusal::BadName, 20, "BadName"),
+    (CommandRefusal::Unknown, 21, "Unknown"),
+    (CommandRefusal::IsVirtual, 22, "IsVirtual"),
+    (CommandRefusal::NoFormer, 23, "NoFormer"),
+    (CommandRefusal::Listed, 24, "Listed"),
+    (CommandRefusal::CatalogueFull, 25, "CatalogueFull"),
+    (CommandRefusal::BadMember, 26, "BadMember"),
+    (CommandRefusal::MemberTwice, 27, "MemberTwice"),
+    (CommandRefusal::MemberCount, 28, "MemberCount"),
+    (CommandRefusal::BadTitle, 29, "BadTitle"),
+    (CommandRefusal::BadPlace, 30, "BadPlace"),
+    (CommandRefusal::BadRequestId, 31, "BadRequestId"),
+    (CommandRefusal::IsRegular, 32, "IsRegular"),
 ];
 
 #[test]

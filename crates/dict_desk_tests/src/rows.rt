@@ -1,5 +1,5 @@
 // What is handed out, as text.
-use dict_desk::{End, Fault, Lookup, PlainDesk, Row, RowSink, Turn, What};
+use dict_desk::{Demand, End, Fault, Lookup, PlainDesk, Row, RowSink, What};
 use dict_match::{Key, Strategy, key_of};
 use std::alloc::{AllocError, Global};
 
@@ -15,12 +15,12 @@ impl RowSink for Rows {
 
     ghost stops = { λ _ _ _. Unit {0} };
 
-    fn take(&mut self, row: Row) -> Turn {
+    fn take(&mut self, row: Row) -> Demand {
         self.left = self.left.saturating_sub(1);
         if push_row(&mut self.text, row).is_err() || self.left == 0 {
-            Turn::Stop
+            Demand::Stop
         } else {
-            Turn::More
+            Demand::More
         }
     }
 

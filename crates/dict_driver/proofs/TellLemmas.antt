@@ -5,7 +5,7 @@ use Rattle.std.proofs.lemmas.Bool.{eq-eqb, ltb-true, lt-ltb}
 use Rattle.std.specs.Prelude.{Option, Some, None, Ok, if◌then◌else◌}
 use Rattle.std.specs.Io.KnownBytes.{Appends}
 use Rattle.std.proofs.KnownBytes.{Appends-nil}
-use Rattle.dict_io.specs.Streams.{Change, Stream, AppendsFront}
+use Rattle.dict_io.specs.Streams.{StreamChange, Stream, AppendsFront}
 use Rattle.dict_catalogue.specs.Steps.{Catalogue}
 use Rattle.dict_hub.specs.Holding.{Holding, left_by}
 use Rattle.dict_hub.specs.Given.{Greets, Replies, Gets}
@@ -16,8 +16,8 @@ use Rattle.dict_hub.specs.declared.fault.HubFault.TheVariants.{Memory}
 use Rattle.dict_hub.specs.Runs.{State, Standing, Accepted, IsAt, IsStep, Leads, LeadsOn, state_after}
 use Rattle.dict_hub.specs.declared.kind.Kind.{Kind}
 use Rattle.dict_hub.specs.declared.kind.Kind.TheVariants.{Dict, Http}
-use Rattle.dict_hub.specs.declared.asking.Out.{Out}
-use Rattle.dict_hub.specs.declared.asking.Out.TheVariants.{More, Close}
+use Rattle.dict_hub.specs.declared.incoming.Out.{Out}
+use Rattle.dict_hub.specs.declared.incoming.Out.TheVariants.{More, Close}
 use Rattle.dict_hub.specs.declared.hub.Hub.{Hub}
 use Rattle.dict_line.specs.Meaning.{Meaning}
 use Rattle.dict_session.specs.Answers.{answer_to}
@@ -126,7 +126,7 @@ pub told_one : (what : Happening) (out : Out) (old new : Queue) (one : Accepted)
 told_one what out old new one same answer put (octets, grows) = record {
   answered = (one, refl, same, answer);
   put = octets;
-  are_put = (octets, [], (waiting old, ap (λ (c : Change). c.old.octets) put, ap (λ (c : Change). c.new.octets) put ∙ ap Some grows), refl, sym (append-nil octets));
+  are_put = (octets, [], (waiting old, ap (λ (c : StreamChange). c.old.octets) put, ap (λ (c : StreamChange). c.new.octets) put ∙ ap Some grows), refl, sym (append-nil octets));
   order = grows;
 }
 
@@ -166,7 +166,7 @@ told_through taken coming made at_first gives calls what out old new from to tra
       are_put = (
         octets,
         [],
-        (waiting old, ap (λ (c : Change). c.old.octets) put ∙ began, ap (λ (c : Change). c.new.octets) put ∙ ap Some order),
+        (waiting old, ap (λ (c : StreamChange). c.old.octets) put ∙ began, ap (λ (c : StreamChange). c.new.octets) put ∙ ap Some order),
         refl,
         sym (append-nil octets),
       );

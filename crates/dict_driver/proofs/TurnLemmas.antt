@@ -12,8 +12,8 @@ use Rattle.std.proofs.KnownBytes.{Consumes-nil, Keeps-refl}
 use Rattle.std.specs.IoError.{error_kind}
 use Rattle.dict_hub.specs.Events.{Happening, came, ended}
 use Rattle.dict_hub.specs.Runs.{Accepted}
-use Rattle.dict_hub.specs.declared.asking.Out.{Out}
-use Rattle.dict_hub.specs.declared.asking.Out.TheVariants as outs
+use Rattle.dict_hub.specs.declared.incoming.Out.{Out}
+use Rattle.dict_hub.specs.declared.incoming.Out.TheVariants as outs
 use Rattle.dict_outlet.specs.Queues.{waiting, is_clear, Sends}
 use Rattle.dict_driver.specs.Stages.{is_open, is_finishing, answered, parted}
 use Rattle.dict_outlet.specs.Calls.{Call, Makes, sends, receives, sent_by, received_by, received_by_kind, has_come, has_failed, has_moved, count_received}

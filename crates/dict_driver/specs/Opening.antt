@@ -5,7 +5,7 @@ use Rattle.dict_hub.specs.Events.{opened}
 use Rattle.dict_hub.specs.Holding.{left_by}
 use Rattle.dict_hub.specs.Hubs.{Has, count_of, greatest_of}
 use Rattle.dict_hub.specs.Runs.{Accepted}
-use Rattle.dict_hub.specs.declared.asking.Out.{Out}
+use Rattle.dict_hub.specs.declared.incoming.Out.{Out}
 use Rattle.dict_hub.specs.declared.fault.HubFault.{HubFault}
 use Rattle.dict_hub.specs.declared.hub.Hub.{Hub}
 use Rattle.dict_hub.specs.declared.kind.Kind.{Kind}

@@ -1,7 +1,7 @@
 -- How far a connection has come, and what leads it on.
 use Rattle.std.specs.Prelude.{ℕ, nat_le, Bool, true, false, if◌then◌else◌}
-use Rattle.dict_hub.specs.declared.asking.Out.{Out}
-use Rattle.dict_hub.specs.declared.asking.Out.TheVariants as outs
+use Rattle.dict_hub.specs.declared.incoming.Out.{Out}
+use Rattle.dict_hub.specs.declared.incoming.Out.TheVariants as outs
 use Rattle.dict_driver.specs.declared.stage.Stage.{Stage}
 use Rattle.dict_driver.specs.declared.stage.Stage.TheVariants.{Open, Closing, Parting, Draining, Over}
 use Rattle.dict_outlet.specs.declared.calls.Received.{Received}

@@ -5,7 +5,7 @@ use Rattle.dict_hub.specs.Holding.{Holding}
 use Rattle.dict_hub.specs.Hubs.{Has}
 use Rattle.dict_hub.specs.declared.hub.Hub.{Hub}
 use Rattle.dict_hub.specs.Runs.{Accepted}
-use Rattle.dict_hub.specs.declared.asking.Out.{Out}
+use Rattle.dict_hub.specs.declared.incoming.Out.{Out}
 use Rattle.dict_outlet.specs.Calls.{Call}
 use Rattle.dict_outlet.specs.Outlets.{Passes}
 use Rattle.dict_outlet.specs.Queues.{waiting}

@@ -13,7 +13,7 @@ use std::io;
 use std::net::{Net, SocketAddr};
 
 // How many sockets one look tells of. Those of which it doesn't are told of by the next.
-const MOST_EVENTS: usize = 256;
+const MAX_EVENTS: usize = 256;
 
 /// Binds listening sockets, and has looks tell of two of them.
 pub trait Network<L: Drop, S: Drop> {
@@ -105,7 +105,7 @@ pub fn bind_both<L: Drop, S: Drop, B: Network<L, S>, N: Net>(
         Ok(bound) => bound,
         Err(fault) => return Err(BindFault::Http(fault)),
     };
-    let Ok(events) = Events::with_capacity(alloc, MOST_EVENTS) else {
+    let Ok(events) = Events::with_capacity(alloc, MAX_EVENTS) else {
         return Err(BindFault::Memory);
     };
     match network.watch(net, dict, http, events) {

@@ -7,17 +7,17 @@ ghost use Rattle.dict_hub.specs.Runs.{Accepted};
 ghost use Rattle.dict_outlet.specs.Calls.{Makes, receives, count_received};
 ghost use Rattle.dict_driver.specs.Stages.{is_open, parted, stage_of_new};
 
+use crate::delivering::{deliver, deliver_through};
 use crate::held::{Held, PIECE};
 use crate::opening::Opening;
 use crate::stage::{Stage, answered, drained, has_departed, parted, stage_of_new, told};
-use crate::telling::{tell, tell_through};
 use dict_desk::Keeper;
 use dict_hub::{Event, Hub, Kind};
 use dict_outlet::{Queue, Received, Sent, Transport, has_moved, received_by, sent_by};
 use std::alloc::Global;
 
 // The most octets that are dropped of a connection once all is sent: the largest body of a request and 1 MiB.
-const MOST_DROPPED: usize = 84_934_656;
+const MAX_DROPPED: usize = 84_934_656;
 
 /// One connection: its id, what was read and isn't handed to the hub yet, the octets that wait for its peer, and what
 /// carries them.
@@ -148,7 +148,7 @@ impl<T: Transport> Connection<T> {
     /// A turn of a connection that is no longer open: sends what waits; once nothing does, it is over where the peer
     /// ended its side, and else the peer is told so, and what comes is read into the room and dropped. Whether anything
     /// happened.
-    pub fn depart(&mut self, room: &mut [u8; PIECE]) -> bool
+    pub fn linger(&mut self, room: &mut [u8; PIECE]) -> bool
         ensures { Departs T.taken T.coming T.made self.old self.new result }
     {
         let sent = self.send();
@@ -204,7 +204,7 @@ impl<T: Transport> Connection<T> {
                 received
             }
             Received::End => {
-                self.part(hub, desk);
+                self.end_input(hub, desk);
                 received
             }
             Received::Failed => {
@@ -231,7 +231,7 @@ impl<T: Transport> Connection<T> {
         let piece = self.held.next_piece();
         let count = piece.len();
         let event = Event::Bytes(self.id, piece);
-        match tell_through(hub, desk, event, &mut self.queue, &mut self.transport) {
+        match deliver_through(hub, desk, event, &mut self.queue, &mut self.transport) {
             Some(out) => {
                 self.held.pass(count);
                 self.stage = answered(out, self.stage);
@@ -241,7 +241,7 @@ impl<T: Transport> Connection<T> {
     }
 
     // The peer ended its side. What waits is still sent.
-    fn part<K: Keeper>(&mut self, hub: &mut Hub, desk: &mut K)
+    fn end_input<K: Keeper>(&mut self, hub: &mut Hub, desk: &mut K)
         ensures led { HasLedOn (K.is_trusted desk.new) (K.shows desk.old) (K.leaves_one_of desk.old) (K.shows desk.new) (K.leaves_one_of desk.new) hub.old hub.new
             (λ events. Hands [] self.old self.new events × LeadsByEnd (parted (is_clear self.new.queue)) self.old self.new events) }
         ensures trust { K.is_trusted desk.new → K.is_trusted desk.old }
@@ -261,7 +261,7 @@ impl<T: Transport> Connection<T> {
         ensures id { self.new.id ≡ self.old.id }
         ensures over { self.new.stage ≡ Stage.Over }
     {
-        let _ = tell(hub, desk, Event::Ended(self.id), &mut self.queue);
+        let _ = deliver(hub, desk, Event::Ended(self.id), &mut self.queue);
         self.stage = Stage::Over;
     }
 
@@ -294,7 +294,7 @@ impl<T: Transport> Connection<T> {
             return false;
         }
         let received = self.receive(room);
-        self.stage = drained(MOST_DROPPED.saturating_sub(self.dropped), received);
+        self.stage = drained(MAX_DROPPED.saturating_sub(self.dropped), received);
         self.dropped = self.dropped.saturating_add(received.count());
         self.may_receive = received != Received::Nothing;
         self.may_receive

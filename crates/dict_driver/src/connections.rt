@@ -12,11 +12,11 @@ use dict_outlet::Transport;
 use std::alloc::{AllocError, Global};
 
 /// The most connections that are open at once.
-pub const MOST_OPEN: usize = 64;
+pub const MAX_OPEN: usize = 64;
 
 /// The most connections that are no longer open and still held, since octets wait for them or all that comes is not
 /// read yet.
-pub const MOST_DEPARTING: usize = 128;
+pub const MAX_DEPARTING: usize = 128;
 
 /// The connections of a driver, in the order of their ids. Its room is taken when it is made, and never grows.
 #[derive(Drop)]
@@ -56,8 +56,8 @@ impl<T: Transport> Connections<T> {
     {
         Ok(Connections {
             alloc,
-            opened: Vec::with_capacity(alloc, MOST_OPEN)?,
-            departing: Vec::with_capacity(alloc, MOST_DEPARTING)?,
+            opened: Vec::with_capacity(alloc, MAX_OPEN)?,
+            departing: Vec::with_capacity(alloc, MAX_DEPARTING)?,
             last: 0,
         })
     }
@@ -82,7 +82,7 @@ impl<T: Transport> Connections<T> {
     pub fn next_id(&self) -> Option<u64>
         ensures { MatchOption result ((64 ≤ vec_len self.now.opened) ⊎ (2 ^ 64 ≤ self.now.last + 1)) (λ id. (id ≡ self.now.last + 1) × (vec_len self.now.opened < 64)) }
     {
-        if self.opened.len() >= MOST_OPEN {
+        if self.opened.len() >= MAX_OPEN {
             return None;
         }
         self.last.checked_add(1)
@@ -129,7 +129,7 @@ impl<T: Transport> Connections<T> {
     }
 
     /// Notes that a reading of the connection of this id may give something, where it is held.
-    pub fn mark(&mut self, id: u64)
+    pub fn mark_readable(&mut self, id: u64)
         ensures opened { MarkAll (λ one. one == id) self.old.opened.items self.new.opened.items }
         ensures departing { MarkAll (λ one. one == id) self.old.departing.items self.new.departing.items }
         ensures last { self.new.last ≡ self.old.last }
@@ -188,7 +188,7 @@ impl<T: Transport> Connections<T> {
         ensures departing { self.new.departing.items ≡ latest 127 self.old.departing.items }
         ensures last { self.new.last ≡ self.old.last }
     {
-        if self.departing.len() >= MOST_DEPARTING {
+        if self.departing.len() >= MAX_DEPARTING {
             self.departing.remove(0);
         }
     }

@@ -98,7 +98,7 @@ impl<'h, T: Transport, S: Sockets<T>> EventLoop<'h, T, S> {
         ensures idle { IfOk result (λ has_moved. has_moved ≡ false → IsIdle self.new) }
         ensures failure { MatchResult result (λ _. self.new.failure ≡ None) (λ error. self.new.failure ≡ Some (error_kind error)) }
     {
-        match self.look(Duration::ZERO) {
+        match self.poll(Duration::ZERO) {
             Ok(()) => {}
             Err(error) => return Err(error),
         }
@@ -113,14 +113,14 @@ impl<'h, T: Transport, S: Sockets<T>> EventLoop<'h, T, S> {
     pub fn wait(&mut self, most: Duration) -> io::Result<()>
         ensures { Looks S.asked (as_nanos most) (S.told self.new.sockets) result self.old self.new }
     {
-        self.look(most)
+        self.poll(most)
     }
 
     // Notes which sockets are ready, and waits for one as long as this.
-    fn look(&mut self, most: Duration) -> io::Result<()>
+    fn poll(&mut self, most: Duration) -> io::Result<()>
         ensures { Looks S.asked (as_nanos most) (S.told self.new.sockets) result self.old self.new }
     {
-        let looked = self.sockets.look(most);
+        let looked = self.sockets.poll(most);
         mark_told(&self.sockets, &mut self.connections);
         if tells_listening::<T, S>(&self.sockets) {
             self.dict_listening = Listening::Ready;
@@ -222,7 +222,7 @@ fn mark_told<T: Transport, S: Sockets<T>>(sockets: &S, connections: &mut Connect
     ensures last { connections.new.last ≡ connections.old.last }
 {
     for place in 0..sockets.told_count() {
-        connections.mark(sockets.told_at(place));
+        connections.mark_readable(sockets.told_at(place));
     }
 }
 

@@ -5,6 +5,7 @@
 mod binding;
 mod connection;
 mod connections;
+mod delivering;
 mod driver;
 mod event_loop;
 mod fault;
@@ -14,7 +15,6 @@ mod opening;
 mod serving;
 mod sockets;
 mod stage;
-mod telling;
 mod turning;
 
 pub use binding::{Network, System, bind_both};

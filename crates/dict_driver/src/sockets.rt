@@ -27,7 +27,7 @@ pub trait Sockets<T: Transport>: Drop + Opening {
     ghost told: { Self → List ℕ };
 
     /// Looks which sockets are ready, and waits for one as long as this.
-    fn look(&mut self, most: Duration) -> io::Result<()>
+    fn poll(&mut self, most: Duration) -> io::Result<()>
         ensures asked { Asks (asked self.old) (asked self.new) (looks (as_nanos most) (told self.new) (is_ok result) ∷ []) };
 
     /// Of how many sockets the last look told.
@@ -108,7 +108,7 @@ impl Sockets<Socket> for SystemSockets {
 
     ghost told = { λ sockets. map (λ event. (event_token event).0) (items sockets.events) };
 
-    fn look(&mut self, most: Duration) -> io::Result<()> {
+    fn poll(&mut self, most: Duration) -> io::Result<()> {
         self.poll.poll(&mut self.events, Some(most))
     }
 

@@ -46,7 +46,7 @@ pub fn depart_all<T: Transport>(all: &mut Vec<Connection<T>>) -> bool
     let mut room = [0u8; PIECE];
     let mut has_moved = false;
     for one in all.iter_mut() {
-        if one.depart(&mut room) {
+        if one.linger(&mut room) {
             has_moved = true;
         }
     }

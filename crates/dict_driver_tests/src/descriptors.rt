@@ -81,7 +81,7 @@ impl Sockets<Busy> for Few {
 
     ghost told = { λ few. few.told.items };
 
-    fn look(&mut self, _most: Duration) -> IoResult<()> {
+    fn poll(&mut self, _most: Duration) -> IoResult<()> {
         Ok(())
     }
 

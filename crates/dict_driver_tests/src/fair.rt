@@ -79,7 +79,7 @@ fn turn(one: &mut Connection<Talker>, hub: &mut Hub, desk: &mut PlainDesk) -> Af
     if one.stage().is_open() {
         one.turn(hub, desk, &mut room);
     } else {
-        one.depart(&mut room);
+        one.linger(&mut room);
     }
     After(one.stage(), one.transport().taken, one.transport().given)
 }

@@ -7,7 +7,7 @@ use crate::rooms::Rooms;
 use dict_desk::PlainDesk;
 use dict_driver::{Connection, Stage};
 use dict_hub::{Hub, Kind};
-use dict_outlet::{MOST_WAITING, Transport};
+use dict_outlet::{MAX_WAITING, Transport};
 use std::alloc::Global;
 use std::io::{Error, ErrorKind, Result as IoResult};
 use std::test::Fail;
@@ -22,7 +22,7 @@ const DEFINITION: usize = 2_703_423;
 const WHOLE: usize = GREETING + STATUS + DEFINITION;
 
 // The most octets that one call takes.
-const MOST_AT_ONCE: usize = 65_536;
+const MAX_AT_ONCE: usize = 65_536;
 
 // A peer that asks, and takes so many octets and then no more, in pieces.
 #[derive(Drop)]
@@ -50,7 +50,7 @@ impl Transport for Peer {
 
     fn send(&mut self, octets: &[u8]) -> IoResult<usize> {
         self.fewest = self.fewest.min(octets.len());
-        let count = octets.len().min(self.left).min(MOST_AT_ONCE);
+        let count = octets.len().min(self.left).min(MAX_AT_ONCE);
         if count == 0 {
             self.left = self.each;
             return Err(Error::from(ErrorKind::WouldBlock));
@@ -123,7 +123,7 @@ impl Run {
         if self.one.stage().is_open() {
             self.one.turn(&mut self.hub, desk, &mut room);
         } else {
-            self.one.depart(&mut room);
+            self.one.linger(&mut room);
         }
     }
 
@@ -191,7 +191,7 @@ fn a_peer_that_takes_some(rt: HostRuntime) -> Result<(), Fail> {
     for (left, fewest, outcome) in &outcomes {
         same(&rt, &outcome.0, &Stage::Closing);
         same(&rt, &outcome.1, left);
-        same(&rt, &outcome.2, &MOST_WAITING);
+        same(&rt, &outcome.2, &MAX_WAITING);
         same(&rt, &outcome.3, fewest);
     }
     Ok(())
@@ -201,10 +201,10 @@ fn a_peer_that_takes_some(rt: HostRuntime) -> Result<(), Fail> {
 #[test]
 fn a_peer_for_which_as_much_waits_as_may(rt: HostRuntime) -> Result<(), Fail> {
     let mut desk = long_desk(rt.alloc())?;
-    let outcome = come_of(rt.alloc(), &mut desk, WHOLE - MOST_WAITING, 2)?;
+    let outcome = come_of(rt.alloc(), &mut desk, WHOLE - MAX_WAITING, 2)?;
     drop(desk);
     same(&rt, &outcome.0, &Stage::Open);
-    same(&rt, &outcome.2, &MOST_WAITING);
+    same(&rt, &outcome.2, &MAX_WAITING);
     Ok(())
 }
 
@@ -213,7 +213,7 @@ fn a_peer_for_which_as_much_waits_as_may(rt: HostRuntime) -> Result<(), Fail> {
 #[test]
 fn a_slow_peer(rt: HostRuntime) -> Result<(), Fail> {
     let mut desk = long_desk(rt.alloc())?;
-    let peer = Peer::slow(rt.alloc(), ASKS, MOST_AT_ONCE);
+    let peer = Peer::slow(rt.alloc(), ASKS, MAX_AT_ONCE);
     let mut run = Run::new(rt.alloc(), &mut desk, peer)?;
     run.turns(&mut desk, 60);
     drop(desk);

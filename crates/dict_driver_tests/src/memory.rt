@@ -7,7 +7,7 @@ use dict_desk::PlainDesk;
 use dict_driver::{Connection, Stage};
 use dict_hub::{Hub, Kind};
 use dict_io::Sink;
-use dict_outlet::{MOST_WAITING, Queue, Transport};
+use dict_outlet::{MAX_WAITING, Queue, Transport};
 use std::alloc::Global;
 use std::io::{Error, ErrorKind, Result as IoResult};
 use std::test::Fail;
@@ -89,7 +89,7 @@ impl Run {
         if self.one.stage().is_open() {
             self.one.turn(&mut self.hub, &mut self.desk, &mut room);
         } else {
-            self.one.depart(&mut room);
+            self.one.linger(&mut room);
         }
         if self.one.stage() == want {
             Ok(())
@@ -182,7 +182,7 @@ fn a_full_queue(rt: HostRuntime) -> Result<(), Fail> {
         queue.put(&block)?;
     }
     same(&rt, &queue.put(b"x").is_err(), &true);
-    same(&rt, &queue.len(), &MOST_WAITING);
+    same(&rt, &queue.len(), &MAX_WAITING);
     same(&rt, &queue.failures(), &1);
     Ok(())
 }

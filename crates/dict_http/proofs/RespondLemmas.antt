@@ -6,7 +6,7 @@ use Rattle.dict_catalogue.specs.Commands.{Command}
 use Rattle.dict_catalogue.specs.Effects.{KeptReply}
 use Rattle.dict_catalogue.specs.Steps.{Catalogue, step, kept_under}
 use Rattle.dict_catalogue.specs.Views.{kept_shown}
-use Rattle.dict_catalogue.specs.declared.fault.Refusal.{Refusal}
+use Rattle.dict_catalogue.specs.declared.fault.CommandRefusal.{CommandRefusal}
 use Rattle.dict_catalogue.specs.declared.reply.Kept.{Kept}
 use Rattle.dict_desk.specs.Applying.{Applies, Leaves, LeavesNoMore}
 use Rattle.dict_desk.specs.declared.fault.Fault.{Fault}
@@ -35,7 +35,7 @@ after_ok Shows Before After M id asked kept octets wide none applies leaves (inr
     let alone = subst (λ k. MatchBool (is_some k) (LeavesNoMore Before After) (After (Some (step M id asked).catalogue ∷ []))) none leaves in
     unknown text (inr applies.1) (λ ms left. wide (Some (step M id asked).catalogue ∷ []) (Some (step M id asked).catalogue ∷ ms) (λ m. contains_alone (Some (step M id asked).catalogue) m ms) alone)
 
-pub after_refusal : (Shows : Catalogue → Type 0) (Before After : List (Option Catalogue) → Type 0) (M : Catalogue) (id : List ℕ) (asked : Command Edition) (refusal : Refusal) (octets : List ℕ)
+pub after_refusal : (Shows : Catalogue → Type 0) (Before After : List (Option Catalogue) → Type 0) (M : Catalogue) (id : List ℕ) (asked : Command Edition) (refusal : CommandRefusal) (octets : List ℕ)
     → IsWide After → Applies Shows M (step M id asked) (Err (Refused refusal)) → LeavesNoMore Before After
     → IsAnswer octets (with_body statuses.Conflict (refused_command_text refusal)) → Ends Shows Before After M (applied M id asked) octets
 after_refusal Shows Before After M id asked refusal octets wide applies no_more (inl text) =
@@ -45,7 +45,7 @@ after_refusal Shows Before After M id asked refusal octets wide applies no_more 
     unknown text (inr applies.1) (λ ms left. wide ms (Some (step M id asked).catalogue ∷ ms) (λ m. contains_later (Some (step M id asked).catalogue) m ms) (no_more ms left))
 
 pub after_failure : (Shows : Catalogue → Type 0) (Before After : List (Option Catalogue) → Type 0) (M : Catalogue) (id : List ℕ) (asked : Command Edition) (fault : Fault) (octets : List ℕ)
-    → ((refusal : Refusal) → fault ≡ Refused refusal → ⊥) → Applies Shows M (step M id asked) (Err fault) → Leaves Before After (is_some (kept_under M.kept id)) (step M id asked).catalogue (Err fault)
+    → ((refusal : CommandRefusal) → fault ≡ Refused refusal → ⊥) → Applies Shows M (step M id asked) (Err fault) → Leaves Before After (is_some (kept_under M.kept id)) (step M id asked).catalogue (Err fault)
     → octets ≡ unavailable_text → Ends Shows Before After M (applied M id asked) octets
 after_failure Shows Before After M id asked (Refused refusal) octets other applies leaves text = absurd (other refusal refl)
 after_failure Shows Before After M id asked Memory octets other applies leaves text = unchanged text applies leaves

@@ -3,7 +3,7 @@ use Rattle.std.specs.Prelude.{◌≡◌, ◌<◌, ◌⊎◌, ◌++◌, ◌^◌, 
 use Rattle.std.specs.Str.{bytes_eq}
 use Rattle.dict_index.specs.Edition.{Edition}
 use Rattle.dict_index.specs.Meaning.{IsEdition, IsFault}
-use Rattle.dict_index.specs.declared.fault.Refusal.{Refusal}
+use Rattle.dict_index.specs.declared.fault.EditionRefusal.{EditionRefusal}
 use Rattle.dict_catalogue.specs.Commands.{Command, install, rollback, retire, put_virtual, place}
 use Rattle.dict_json.specs.Bodies.{IsPlace, IsVirtual}
 use Rattle.dict_route.specs.declared.kinds.Route.{Route}
@@ -30,14 +30,14 @@ pub record AreParts (body index text : List ℕ) : Type 0 where
 -- nothing, as it has not the form
 pub data Said : Type 0 where
   command : Command Edition → Said
-  no_edition : Refusal → Option ℕ → Said
+  no_edition : EditionRefusal → Option ℕ → Said
   unformed : Said
 
 -- of an install
 abbrev pub SaysEdition : List ℕ → List ℕ → List ℕ → Said → Type 0
 SaysEdition name index text said =
     ((edition : Edition) × IsEdition index text edition × (said ≡ command (install name edition)))
-    ⊎ ((refusal : Refusal) × (line : Option ℕ) × IsFault index text refusal line × (said ≡ no_edition refusal line))
+    ⊎ ((refusal : EditionRefusal) × (line : Option ℕ) × IsFault index text refusal line × (said ≡ no_edition refusal line))
 
 -- what a body says to an action, about a name
 abbrev pub Says : Action → List ℕ → List ℕ → Said → Type 0

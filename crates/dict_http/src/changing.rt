@@ -14,10 +14,10 @@ ghost use Rattle.dict_http.specs.declared.actions.Action.TheVariants as actions;
 use crate::actions::Action;
 use crate::answers::{Answer, bad_request, made, unavailable};
 use crate::parts::parts_of;
-use dict_catalogue::{Command, Kept, Refusal};
+use dict_catalogue::{Command, CommandRefusal, Kept};
 use dict_desk::{Fault, Keeper};
 use dict_head::Status;
-use dict_index::{Edition, IndexFault, Refusal as EditionRefusal, read_edition};
+use dict_index::{Edition, EditionRefusal, IndexFault, read_edition};
 use dict_json::{read_json, read_place, read_virtual, refused_command_json, refused_edition_json};
 use std::alloc::{AllocError, Global};
 
@@ -50,7 +50,7 @@ fn kept_answer(alloc: Global, kept: &Kept) -> Answer
 }
 
 // The answer to a command that is refused.
-fn refused_command(alloc: Global, refusal: Refusal) -> Answer
+fn refused_command(alloc: Global, refusal: CommandRefusal) -> Answer
     ensures { IsAnswer (octets_of result) (with_body statuses.Conflict (refused_command_text refusal)) }
 {
     match refused_command_json(alloc, refusal) {

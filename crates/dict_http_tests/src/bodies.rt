@@ -1,7 +1,7 @@
 //! What bodies are taken, and what is written.
 use crate::checks::{same_text, same_text_of};
-use dict_catalogue::{Item, Kept, Refusal, StoredTitle, Summary, Verb};
-use dict_index::Refusal as EditionRefusal;
+use dict_catalogue::{CommandRefusal, Item, Kept, StoredTitle, Summary, Verb};
+use dict_index::EditionRefusal;
 use dict_json::{
     kept_json, list_json, read_json, read_place, read_virtual, refused_command_json,
     refused_edition_json,
@@ -198,7 +198,7 @@ fn refusals(rt: HostRuntime) -> Result<(), Fail> {
     let alloc = rt.alloc();
     same_text(
         &rt,
-        refused_command_json(alloc, Refusal::NoFormer)?.as_str(),
+        refused_command_json(alloc, CommandRefusal::NoFormer)?.as_str(),
         "{\"reason\":\"NoFormer\",\"refusal\":23}",
     );
     same_text(

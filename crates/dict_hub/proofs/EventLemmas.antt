@@ -8,7 +8,7 @@ use Rattle.dict_hub.specs.Given.{Gets}
 use Rattle.dict_hub.specs.Hubs.{Has}
 use Rattle.dict_hub.specs.Events.{Happening, came, id_of, held_after, Serves}
 use Rattle.dict_hub.specs.declared.hub.Hub.{Hub}
-use Rattle.dict_hub.specs.declared.asking.Out.{Out}
+use Rattle.dict_hub.specs.declared.incoming.Out.{Out}
 use Rattle.dict_hub.specs.declared.fault.HubFault.{HubFault}
 use Rattle.dict_hub.specs.declared.fault.HubFault.TheVariants.{Memory, UnknownConnection}
 use Rattle.dict_hub.specs.Books.{IsRefusal}

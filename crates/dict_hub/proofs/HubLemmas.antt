@@ -13,9 +13,9 @@ use Rattle.dict_hub.specs.Books.{place_of, opening, is_given}
 use Rattle.dict_hub.specs.Holding.{Holding}
 use Rattle.dict_hub.specs.Lines.{Holds}
 use Rattle.dict_hub.specs.Hubs.{HoldsAt, IsAbsent, StandsAt}
-use Rattle.dict_hub.specs.declared.line.Line.{Line}
-use Rattle.dict_hub.specs.declared.asking.Out.{Out}
-use Rattle.dict_hub.specs.declared.asking.Out.TheVariants.{More, Close}
+use Rattle.dict_hub.specs.declared.exchange.Exchange.{Exchange}
+use Rattle.dict_hub.specs.declared.incoming.Out.{Out}
+use Rattle.dict_hub.specs.declared.incoming.Out.TheVariants.{More, Close}
 
 -- an id that is found stands at its place
 pub found_at : (ids : List ℕ) (id place : ℕ) → place_of id ids ≡ Some place → (place < length ids) × (get_or ids place 0 ≡ id)
@@ -41,21 +41,21 @@ only_place ids p q id rising in_p in_q at_p at_q =
     ]
 
 -- what stands beside an id is what is held
-pub holds_there : (host ids : List ℕ) (lines : List Line) (id : ℕ) (held : Holding) (p : ℕ) → AllPairs (λ a b. a < b) ids → p < length ids → get_or ids p 0 ≡ id
-    → HoldsAt host ids lines id held → (d : Line) → Holds host id (get_or lines p d) held
+pub holds_there : (host ids : List ℕ) (lines : List Exchange) (id : ℕ) (held : Holding) (p : ℕ) → AllPairs (λ a b. a < b) ids → p < length ids → get_or ids p 0 ≡ id
+    → HoldsAt host ids lines id held → (d : Exchange) → Holds host id (get_or lines p d) held
 holds_there host ids lines id held p rising in_p at_p at d =
     subst (λ q. Holds host id (get_or lines q d) held) (only_place ids at.place p id rising at.within in_p at.is at_p) (at.holds d)
 
 -- the same lists stand for the same
-pub stands_as : (host host' ids ids' : List ℕ) (lines lines' : List Line) (id : ℕ) (held : Option Holding) → host' ≡ host → ids' ≡ ids → lines' ≡ lines
+pub stands_as : (host host' ids ids' : List ℕ) (lines lines' : List Exchange) (id : ℕ) (held : Option Holding) → host' ≡ host → ids' ≡ ids → lines' ≡ lines
     → StandsAt host ids lines id held → StandsAt host' ids' lines' id held
 stands_as host host' ids ids' lines lines' id held eh ei el at =
     subst (λ (h : List ℕ). StandsAt h ids' lines' id held) (sym eh)
     (subst (λ (i : List ℕ). StandsAt host i lines' id held) (sym ei)
-    (subst (λ (l : List Line). StandsAt host ids l id held) (sym el) at))
+    (subst (λ (l : List Exchange). StandsAt host ids l id held) (sym el) at))
 
 -- one is changed
-pub set_others : (host ids : List ℕ) (lines : List Line) (p id : ℕ) (line : Line) → get_or ids p 0 ≡ id
+pub set_others : (host ids : List ℕ) (lines : List Exchange) (p id : ℕ) (line : Exchange) → get_or ids p 0 ≡ id
     → (other : ℕ) (held : Option Holding) → other ≢ id → StandsAt host ids lines other held → StandsAt host ids (slice_set lines p line) other held
 set_others host ids lines p id line at_p other None ne absent = absent
 set_others host ids lines p id line at_p other (Some held) ne at = record {
@@ -65,7 +65,7 @@ set_others host ids lines p id line at_p other (Some held) ne at = record {
   holds = λ d. subst (λ one. Holds host other one held) (sym (get_or-set_other lines p at.place line d (λ e. ne (sym at.is ∙ (ap (λ k. get_or ids k 0) e ∙ at_p))))) (at.holds d);
 }
 
-pub set_own : (host ids : List ℕ) (lines : List Line) (p id : ℕ) (line : Line) → length lines ≡ length ids → p < length ids → get_or ids p 0 ≡ id
+pub set_own : (host ids : List ℕ) (lines : List Exchange) (p id : ℕ) (line : Exchange) → length lines ≡ length ids → p < length ids → get_or ids p 0 ≡ id
     → (held : Holding) → Holds host id line held → HoldsAt host ids (slice_set lines p line) id held
 set_own host ids lines p id line even in_p at_p held h = record {
   place = p;
@@ -75,7 +75,7 @@ set_own host ids lines p id line even in_p at_p held h = record {
 }
 
 -- one is opened, last
-pub push_others : (host ids : List ℕ) (lines : List Line) (id : ℕ) (line : Line) → length lines ≡ length ids
+pub push_others : (host ids : List ℕ) (lines : List Exchange) (id : ℕ) (line : Exchange) → length lines ≡ length ids
     → (other : ℕ) (held : Option Holding) → other ≢ id → StandsAt host ids lines other held → StandsAt host (ids ++ id ∷ []) (lines ++ line ∷ []) other held
 push_others host ids lines id line even other None ne absent = λ place within is.
     let longer = length_push ids id in
@@ -90,7 +90,7 @@ push_others host ids lines id line even other (Some held) ne at = record {
   holds = λ d. subst (λ one. Holds host other one held) (sym (get_or_append_left lines (line ∷ []) d at.place (omega (arith, even, at.within)))) (at.holds d);
 }
 
-pub push_own : (host ids : List ℕ) (lines : List Line) (id : ℕ) (line : Line) → length lines ≡ length ids
+pub push_own : (host ids : List ℕ) (lines : List Exchange) (id : ℕ) (line : Exchange) → length lines ≡ length ids
     → (held : Holding) → Holds host id line held → HoldsAt host (ids ++ id ∷ []) (lines ++ line ∷ []) id held
 push_own host ids lines id line even held h = record {
   place = length ids;
@@ -100,7 +100,7 @@ push_own host ids lines id line even held h = record {
 }
 
 -- one is closed
-pub remove_others : (host ids : List ℕ) (lines : List Line) (p id : ℕ) → length lines ≡ length ids → p < length ids → get_or ids p 0 ≡ id
+pub remove_others : (host ids : List ℕ) (lines : List Exchange) (p id : ℕ) → length lines ≡ length ids → p < length ids → get_or ids p 0 ≡ id
     → (other : ℕ) (held : Option Holding) → other ≢ id → StandsAt host ids lines other held → StandsAt host (remove ids p) (remove lines p) other held
 remove_others host ids lines p id even in_p at_p other None ne absent = λ place within is.
     let shorter = length-remove ids p in_p in
@@ -159,7 +159,7 @@ err_passed (Ok done) e at Q h is q = tt
 err_passed (Err fault) e at Q h is q = (h ∙ is, q)
 
 -- one was greeted, and is kept or only its id is given
-pub keep_others : (host host' ids ids' : List ℕ) (lines mid lines' : List Line) (id : ℕ) (line : Line) (out : Out) → length lines ≡ length ids → mid ≡ lines → host' ≡ host
+pub keep_others : (host host' ids ids' : List ℕ) (lines mid lines' : List Exchange) (id : ℕ) (line : Exchange) (out : Out) → length lines ≡ length ids → mid ≡ lines → host' ≡ host
     → (out ≡ More → (ids' ≡ ids ++ id ∷ []) × (lines' ≡ mid ++ line ∷ [])) → (out ≡ Close → (ids' ≡ ids) × (lines' ≡ mid))
     → (other : ℕ) (held : Option Holding) → other ≢ id → StandsAt host ids lines other held → StandsAt host' ids' lines' other held
 keep_others host host' ids ids' lines mid lines' id line More even same eh more close other held ne at =
@@ -168,7 +168,7 @@ keep_others host host' ids ids' lines mid lines' id line Close even same eh more
     stands_as _ _ _ _ _ _ other held eh (close refl).0 ((close refl).1 ∙ same) at
 
 -- one is changed, and holds what it held
-pub set_same : (host ids : List ℕ) (lines : List Line) (p id : ℕ) (was line : Line) → AllPairs (λ a b. a < b) ids → length lines ≡ length ids → p < length ids → get_or ids p 0 ≡ id
+pub set_same : (host ids : List ℕ) (lines : List Exchange) (p id : ℕ) (was line : Exchange) → AllPairs (λ a b. a < b) ids → length lines ≡ length ids → p < length ids → get_or ids p 0 ≡ id
     → was ≡ get_or lines p was → ((held : Holding) → Holds host id was held → Holds host id line held)
     → (held : Option Holding) → StandsAt host ids lines id held → StandsAt host ids (slice_set lines p line) id held
 set_same host ids lines p id was line rising even in_p at_p is same None absent = absent

@@ -20,11 +20,11 @@ use Rattle.dict_hub.specs.Holding.{Holding}
 use Rattle.dict_hub.specs.Given.{Replies, Gets}
 use Rattle.dict_hub.specs.Events.{Happening, opened, came, ended, id_of, held_after, Serves}
 use Rattle.dict_hub.specs.Undisturbed.{Served, greeting, to_editor, IsServedOctets, IsServed, Lacks, IsDisturbed}
-use Rattle.dict_hub.specs.Runs.{State, Standing, Accepted, Asked, asked, state_after, IsStep, Leads, IsUndisturbed, HasDisturbance, GoWell, events_of, GotSame}
+use Rattle.dict_hub.specs.Runs.{State, Standing, Accepted, EventAt, asked, state_after, IsStep, Leads, IsUndisturbed, HasDisturbance, GoWell, events_of, GotSame}
 use Rattle.dict_hub.specs.declared.kind.Kind.{Kind}
 use Rattle.dict_hub.specs.declared.kind.Kind.TheVariants.{Dict, Http}
-use Rattle.dict_hub.specs.declared.asking.Out.{Out}
-use Rattle.dict_hub.specs.declared.asking.Out.TheVariants.{More, Close}
+use Rattle.dict_hub.specs.declared.incoming.Out.{Out}
+use Rattle.dict_hub.specs.declared.incoming.Out.TheVariants.{More, Close}
 use Rattle.dict_session.specs.Desks.{Condition}
 
 -- what answers lines is the answers, or has the 420 line in it
@@ -153,11 +153,11 @@ alone id a a' p p' (one ∷ events) leads well =
     (λ same. well.0 (sym same))
     (alone id (state_after a one.what one.out) a' one.after p' events leads.2 well.1)
 
-tail : List Asked → List Asked
+tail : List EventAt → List EventAt
 tail [] = []
 tail (x ∷ xs) = xs
 
-head : Asked → List Asked → Asked
+head : EventAt → List EventAt → EventAt
 head d [] = d
 head d (x ∷ xs) = x
 

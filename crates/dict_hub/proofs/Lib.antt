@@ -1,7 +1,7 @@
 pub mod BookLemmas
-pub mod LineLemmas
+pub mod ExchangeLemmas
 pub mod HubLemmas
 pub mod EventLemmas
 pub mod RunLemmas
 pub mod LawLemmas
-pub mod TurnLemmas
+pub mod ObservationLemmas

@@ -2,7 +2,7 @@
 use Rattle.std.proofs.Common.{◌≡◌, ◌≢◌, ◌==◌, ℕ, Bool, true, false, List, [], ◌∷◌, ◌++◌, refl, sym, ap, ◌∙◌, subst, inl, inr}
 use Rattle.std.specs.Prelude.{Option, Some, None, Result, Ok, Err, IfOk, OnOk, MatchBool, if◌then◌else◌}
 use Rattle.std.proofs.lemmas.Bool.{eqb-true, eq-eqb}
-use Rattle.dict_io.specs.Streams.{Stream, Change}
+use Rattle.dict_io.specs.Streams.{Stream, StreamChange}
 use Rattle.dict_catalogue.specs.Steps.{Catalogue}
 use Rattle.dict_desk.specs.Applying.{LeavesNoMore}
 use Rattle.dict_http.specs.Responding.{Ends, Responds}
@@ -17,8 +17,8 @@ use Rattle.dict_hub.specs.Runs.{State, Standing, Accepted, state_after, IsAt, Is
 use Rattle.dict_hub.specs.declared.kind.Kind.{Kind}
 use Rattle.dict_hub.specs.declared.kind.Kind.TheVariants.{Dict, Http}
 use Rattle.dict_hub.specs.declared.hub.Hub.{Hub}
-use Rattle.dict_hub.specs.declared.asking.Out.{Out}
-use Rattle.dict_hub.specs.declared.asking.Out.TheVariants.{More, Close}
+use Rattle.dict_hub.specs.declared.incoming.Out.{Out}
+use Rattle.dict_hub.specs.declared.incoming.Out.TheVariants.{More, Close}
 use Rattle.dict_hub.specs.declared.fault.HubFault.{HubFault}
 use Rattle.dict_session.specs.Desks.{Condition}
 
@@ -118,7 +118,7 @@ held_all hub state what out own others id =
 
 -- an event that was served so, of a hub at a state, leads on
 pub leads_on : (Shows : Catalogue → Type 0) (Before After : List (Option Catalogue) → Type 0) (origin : State) (start : Standing) (events : List Accepted) (state : State) (stands : Standing)
-    (what : Happening) (desk : Condition) (put : Change) (old hub : Hub) (result : Result Out HubFault)
+    (what : Happening) (desk : Condition) (put : StreamChange) (old hub : Hub) (result : Result Out HubFault)
     → Leads origin start events state stands → IsAt old state → Before stands.leaves
     → ((held : Option Holding) → Has old (id_of what) held → IfOk result (λ out. Serves (host_of old) desk Shows Before After stands.catalogue held what out put.old put.new))
     → ((held : Option Holding) → Has old (id_of what) held → IfOk result (λ out. Has hub (id_of what) (held_after held what out)))

@@ -15,8 +15,8 @@ use Rattle.dict_session.specs.Desks.{Condition}
 use Rattle.dict_hub.specs.Asking.{Answers}
 use Rattle.dict_hub.specs.declared.kind.Kind.{Kind}
 use Rattle.dict_hub.specs.declared.kind.Kind.TheVariants.{Dict, Http}
-use Rattle.dict_hub.specs.declared.asking.Out.{Out}
-use Rattle.dict_hub.specs.declared.asking.Out.TheVariants.{More, Close}
+use Rattle.dict_hub.specs.declared.incoming.Out.{Out}
+use Rattle.dict_hub.specs.declared.incoming.Out.TheVariants.{More, Close}
 
 -- a connection is opened: a reader is greeted, or where the sink fails gets a front of the greeting and is closed
 abbrev pub Greets : List ℕ → ℕ → Kind → Out → Stream → Stream → Type 0

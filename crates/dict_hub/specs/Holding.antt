@@ -3,8 +3,8 @@ use Rattle.std.specs.Prelude.{ℕ, List, [], Option, Some, None}
 use Rattle.dict_session.specs.Lines.{cut}
 use Rattle.dict_hub.specs.declared.kind.Kind.{Kind}
 use Rattle.dict_hub.specs.declared.kind.Kind.TheVariants.{Dict, Http}
-use Rattle.dict_hub.specs.declared.asking.Out.{Out}
-use Rattle.dict_hub.specs.declared.asking.Out.TheVariants.{More, Close}
+use Rattle.dict_hub.specs.declared.incoming.Out.{Out}
+use Rattle.dict_hub.specs.declared.incoming.Out.TheVariants.{More, Close}
 
 -- of a reader the octets behind the last line's end, of an editor all
 pub record Holding : Type 0 where

@@ -3,21 +3,21 @@ use Rattle.std.specs.Prelude.{◌≡◌, ◌<◌, ℕ, List, Option, Some, None,
 use Rattle.std.specs.List.{slice_index_or}
 use Rattle.dict_hub.specs.Holding.{Holding}
 use Rattle.dict_hub.specs.Lines.{Holds}
-use Rattle.dict_hub.specs.declared.line.Line.{Line}
+use Rattle.dict_hub.specs.declared.exchange.Exchange.{Exchange}
 use Rattle.dict_hub.specs.declared.hub.Hub.{Hub}
 
 -- at some place stands this id, and beside it what is held
-pub record HoldsAt (host ids : List ℕ) (lines : List Line) (id : ℕ) (held : Holding) : Type 0 where
+pub record HoldsAt (host ids : List ℕ) (lines : List Exchange) (id : ℕ) (held : Holding) : Type 0 where
   pub place : ℕ
   pub within : place < length ids
   pub is : slice_index ids place ≡ id
-  pub holds : (d : Line) → Holds host id (slice_index_or lines place d) held
+  pub holds : (d : Exchange) → Holds host id (slice_index_or lines place d) held
 
 -- the id stands at no place
 abbrev pub IsAbsent : List ℕ → ℕ → Type 0
 IsAbsent ids id = (place : ℕ) → place < length ids → slice_index ids place ≡ id → ⊥
 
-abbrev pub StandsAt : List ℕ → List ℕ → List Line → ℕ → Option Holding → Type 0
+abbrev pub StandsAt : List ℕ → List ℕ → List Exchange → ℕ → Option Holding → Type 0
 StandsAt host ids lines id None = IsAbsent ids id
 StandsAt host ids lines id (Some held) = HoldsAt host ids lines id held
 

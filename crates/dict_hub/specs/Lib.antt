@@ -7,4 +7,4 @@ pub mod Hubs
 pub mod Events
 pub mod Undisturbed
 pub mod Runs
-pub mod Turns
+pub mod Observations

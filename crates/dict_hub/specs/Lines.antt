@@ -5,10 +5,10 @@ use Rattle.dict_session.specs.declared.session.Session.{Session}
 use Rattle.dict_session.specs.declared.step.Step.TheVariants as steps
 use Rattle.dict_hub.specs.Asking.{IsAwaitedIn}
 use Rattle.dict_hub.specs.Holding.{Holding}
-use Rattle.dict_hub.specs.declared.asking.Incoming.{Incoming}
+use Rattle.dict_hub.specs.declared.incoming.Incoming.{Incoming}
 use Rattle.dict_hub.specs.declared.kind.Kind.TheVariants.{Dict, Http}
-use Rattle.dict_hub.specs.declared.line.Line.{Line}
-use Rattle.dict_hub.specs.declared.line.Line.TheVariants.{Reader, Editor}
+use Rattle.dict_hub.specs.declared.exchange.Exchange.{Exchange}
+use Rattle.dict_hub.specs.declared.exchange.Exchange.TheVariants.{Reader, Editor}
 
 -- a session under this host and number that goes on, and has read what is held
 pub record IsReader (host : List ℕ) (id : ℕ) (session : Session) (held : Holding) : Type 0 where
@@ -24,11 +24,11 @@ pub record IsEditor (incoming : Incoming) (held : Holding) : Type 0 where
   pub octets_held : incoming.octets.items ≡ held.octets
   pub awaited : IsAwaitedIn incoming.octets.items incoming.awaited
 
-abbrev pub Holds : List ℕ → ℕ → Line → Holding → Type 0
+abbrev pub Holds : List ℕ → ℕ → Exchange → Holding → Type 0
 Holds host id (Reader session) held = IsReader host id session held
 Holds host id (Editor incoming) held = IsEditor incoming held
 
 -- it holds this where it is still open
-abbrev pub IsLeft : List ℕ → ℕ → Line → Option Holding → Type 0
+abbrev pub IsLeft : List ℕ → ℕ → Exchange → Option Holding → Type 0
 IsLeft host id line None = Unit {0}
 IsLeft host id line (Some held) = Holds host id line held

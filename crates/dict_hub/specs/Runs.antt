@@ -1,13 +1,13 @@
 -- Runs of events: where a list of accepted events leads, from a state of a hub and what its desk stands at.
 use Rattle.std.specs.Prelude.{◌≡◌, ◌==◌, ℕ, List, [], ◌∷◌, ◌++◌, filter, Option, None, if◌then◌else◌}
-use Rattle.dict_io.specs.Streams.{Change, PutsAll}
+use Rattle.dict_io.specs.Streams.{StreamChange, PutsAll}
 use Rattle.dict_catalogue.specs.Steps.{Catalogue}
 use Rattle.dict_session.specs.Desks.{Condition}
 use Rattle.dict_hub.specs.Holding.{Holding}
 use Rattle.dict_hub.specs.Events.{Happening, id_of, greatest_after, held_after, Serves}
 use Rattle.dict_hub.specs.Undisturbed.{IsServed, IsDisturbed}
 use Rattle.dict_hub.specs.Hubs.{Has, host_of, greatest_of}
-use Rattle.dict_hub.specs.declared.asking.Out.{Out}
+use Rattle.dict_hub.specs.declared.incoming.Out.{Out}
 use Rattle.dict_hub.specs.declared.hub.Hub.{Hub}
 
 -- a state of a hub: the host's name, the greatest id that was given, and what is held of each id
@@ -45,7 +45,7 @@ pub record Accepted : Type 0 where
   pub what : Happening
   pub out : Out
   pub desk : Condition
-  pub put : Change
+  pub put : StreamChange
   pub before : Standing
   pub after : Standing
 
@@ -62,7 +62,7 @@ Leads state stands (one ∷ events) end ends =
 
 -- The events lead to `state` and `stands`, and with this one on to where the hub and its desk are now
 pub record LeadsOn (Shows : Catalogue → Type 0) (Leaves : List (Option Catalogue) → Type 0) (origin : State) (start : Standing) (events : List Accepted)
-    (state : State) (stands : Standing) (what : Happening) (out : Out) (desk : Condition) (put : Change) (hub : Hub) : Type 0 where
+    (state : State) (stands : Standing) (what : Happening) (out : Out) (desk : Condition) (put : StreamChange) (hub : Hub) : Type 0 where
   pub after : Standing
   pub leads : Leads origin start (events ++ record { what = what; out = out; desk = desk; put = put; before = stands; after = after } ∷ []) (state_after state what out) after
   pub is_at : IsAt hub (state_after state what out)
@@ -89,11 +89,11 @@ abbrev pub events_of : ℕ → List Accepted → List Accepted
 events_of id events = filter (λ one. id == id_of one.what) events
 
 -- an event, and the catalogue before it
-pub record Asked : Type 0 where
+pub record EventAt : Type 0 where
   pub what : Happening
   pub catalogue : Catalogue
 
-abbrev pub asked : Accepted → Asked
+abbrev pub asked : Accepted → EventAt
 asked one = record { what = one.what; catalogue = one.before.catalogue }
 
 -- one by one the events were answered alike, put the same octets, and left the same catalogue

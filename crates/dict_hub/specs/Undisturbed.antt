@@ -16,8 +16,8 @@ use Rattle.dict_hub.specs.Holding.{Holding}
 use Rattle.dict_hub.specs.Events.{Happening, opened, came, ended}
 use Rattle.dict_hub.specs.declared.kind.Kind.{Kind}
 use Rattle.dict_hub.specs.declared.kind.Kind.TheVariants.{Dict, Http}
-use Rattle.dict_hub.specs.declared.asking.Out.{Out}
-use Rattle.dict_hub.specs.declared.asking.Out.TheVariants.{More, Close}
+use Rattle.dict_hub.specs.declared.incoming.Out.{Out}
+use Rattle.dict_hub.specs.declared.incoming.Out.TheVariants.{More, Close}
 
 -- how an event is answered, what it puts on its connection, and the catalogue after it
 pub record Served : Type 0 where

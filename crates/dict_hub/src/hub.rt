@@ -7,15 +7,15 @@ ghost use Rattle.dict_hub.specs.Holding.{Holding, left_by};
 ghost use Rattle.dict_hub.specs.Given.{Greets, Gets};
 ghost use Rattle.dict_hub.specs.declared.kind.Kind.{Kind};
 ghost use Rattle.dict_hub.specs.declared.kind.Kind.TheVariants.{Http};
-ghost use Rattle.dict_hub.specs.declared.asking.Out.TheVariants as outs;
+ghost use Rattle.dict_hub.specs.declared.incoming.Out.TheVariants as outs;
 ghost use Rattle.dict_hub.specs.declared.fault.HubFault.{HubFault};
 ghost use Rattle.dict_hub.specs.declared.fault.HubFault.TheVariants.{UnknownConnection, Memory};
 
-use crate::asking::Out;
-use crate::book::Book;
+use crate::connection_table::ConnectionTable;
+use crate::exchange::Exchange;
 use crate::fault::HubFault;
+use crate::incoming::Out;
 use crate::kind::Kind;
-use crate::line::Line;
 use dict_desk::Keeper;
 use dict_http::Service;
 use dict_io::Sink;
@@ -38,8 +38,8 @@ pub struct Hub<'h> {
     alloc: Global,
     host: &'h str,
     service: Service,
-    book: Book,
-    lines: Vec<Line<'h>>,
+    book: ConnectionTable,
+    lines: Vec<Exchange<'h>>,
     ghost even: { vec_len lines ≡ vec_len book.ids },
 }
 
@@ -60,7 +60,7 @@ impl<'h> Hub<'h> {
             alloc,
             host,
             service: Service::new(alloc)?,
-            book: Book::new(alloc)?,
+            book: ConnectionTable::new(alloc)?,
             lines: Vec::new(alloc),
         })
     }
@@ -121,7 +121,7 @@ impl<'h> Hub<'h> {
         if self.lines.reserve(1).is_err() {
             return Err(HubFault::Memory);
         }
-        let Ok(mut line) = Line::new(self.alloc, self.host, id, kind) else {
+        let Ok(mut line) = Exchange::new(self.alloc, self.host, id, kind) else {
             return Err(HubFault::Memory);
         };
         let out = line.greet(sink);
@@ -130,7 +130,7 @@ impl<'h> Hub<'h> {
     }
 
     // Keeps a connection that was greeted, or only its id.
-    fn keep(&mut self, id: u64, line: Line<'h>, out: Out)
+    fn keep(&mut self, id: u64, line: Exchange<'h>, out: Out)
         requires admitted { opening id (greatest_of self.old) (count_of self.old) ≡ Ok tt }
         requires room { vec_len self.old.lines < vec_capacity self.old.lines }
         ensures more { out ≡ outs.More → (self.new.book.ids.items ≡ self.old.book.ids.items ++ id ∷ []) × (self.new.lines.items ≡ self.old.lines.items ++ line.entry ∷ []) }
@@ -143,7 +143,7 @@ impl<'h> Hub<'h> {
                 let _ = self.book.open(id);
                 self.lines.push_reserved(line);
             }
-            Out::Close => self.book.pass(id),
+            Out::Close => self.book.skip(id),
         }
     }
 

@@ -6,7 +6,7 @@ ghost use Rattle.dict_hub.specs.Holding.{Holding};
 ghost use Rattle.dict_hub.specs.Events.{Happening};
 ghost use Rattle.dict_hub.specs.Undisturbed.{Served, IsServed};
 ghost use Rattle.dict_hub.specs.Runs.{State, Standing, Accepted, Leads, IsStep, IsUndisturbed, HasDisturbance, GoWell, GotSame, asked, events_of};
-ghost use Rattle.dict_hub.specs.Turns.{Turn, AreTurns};
+ghost use Rattle.dict_hub.specs.Observations.{Observation, AreObservations};
 
 use dict_http::one_answer;
 use dict_session::spoken_or_unavailable;
@@ -46,13 +46,13 @@ pub fn same_for_both()
 /// sees as the same turns, and in which nothing disturbs it, ask it the same at the same catalogues. So it is answered
 /// alike, and gets the same octets.
 pub fn same_by_turns()
-    ensures some { (id : ℕ) (a a' : State) (p p' : Standing) (events : List Accepted) → Leads a p events a' p' → (turns : List Turn) × AreTurns id events turns }
-    ensures asked { (id : ℕ) (a b a' b' : State) (p q p' q' : Standing) (events others : List Accepted) (turns : List Turn) → Leads a p events a' p' → Leads b q others b' q'
+    ensures some { (id : ℕ) (a a' : State) (p p' : Standing) (events : List Accepted) → Leads a p events a' p' → (turns : List Observation) × AreObservations id events turns }
+    ensures asked { (id : ℕ) (a b a' b' : State) (p q p' q' : Standing) (events others : List Accepted) (turns : List Observation) → Leads a p events a' p' → Leads b q others b' q'
         → a.host ≡ b.host → a.held id ≡ b.held id → p.catalogue ≡ q.catalogue → GoWell id a events → GoWell id b others
-        → AreTurns id events turns → AreTurns id others turns → map asked (events_of id events) ≡ map asked (events_of id others) }
-    ensures got { (id : ℕ) (a b a' b' : State) (p q p' q' : Standing) (events others : List Accepted) (turns : List Turn) → Leads a p events a' p' → Leads b q others b' q'
+        → AreObservations id events turns → AreObservations id others turns → map asked (events_of id events) ≡ map asked (events_of id others) }
+    ensures got { (id : ℕ) (a b a' b' : State) (p q p' q' : Standing) (events others : List Accepted) (turns : List Observation) → Leads a p events a' p' → Leads b q others b' q'
         → a.host ≡ b.host → a.held id ≡ b.held id → p.catalogue ≡ q.catalogue → GoWell id a events → GoWell id b others
-        → AreTurns id events turns → AreTurns id others turns → GotSame (events_of id events) (events_of id others) }
+        → AreObservations id events turns → AreObservations id others turns → GotSame (events_of id events) (events_of id others) }
 {
     one_served();
     same_for_both();

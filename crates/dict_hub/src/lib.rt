@@ -1,16 +1,16 @@
 //! Many connections over one catalogue, without sockets: which are open, and what each gets.
 #![tactic(auto)]
 
-mod asking;
-mod book;
+mod connection_table;
+mod exchange;
 mod fault;
 mod hub;
+mod incoming;
 mod kind;
 mod laws;
-mod line;
 
-pub use asking::Out;
 pub use fault::HubFault;
 pub use hub::{Event, Hub};
+pub use incoming::Out;
 pub use kind::Kind;
 pub use laws::{one_served, same_by_turns, same_for_both, undisturbed_or_not};

@@ -11,8 +11,8 @@ use Rattle.dict_index.specs.Tests.{PassesWhole, PassesLine, IsTitle, line_at}
 use Rattle.dict_index.specs.Refusals.{whole_tests, line_tests}
 use Rattle.dict_index.specs.Meaning.{IsReadEdition, IsFault, entry_lines}
 use Rattle.dict_index.specs.Refused.{PassesEach, FailsFirst, PassLines, StopsAt, PassWholes, FailsWhole}
-use Rattle.dict_index.specs.declared.fault.Refusal.{Refusal}
-use Rattle.dict_index.specs.declared.fault.Refusal.TheVariants.{NoTitle, BadTitle}
+use Rattle.dict_index.specs.declared.fault.EditionRefusal.{EditionRefusal}
+use Rattle.dict_index.specs.declared.fault.EditionRefusal.TheVariants.{NoTitle, BadTitle}
 use Rattle.dict_text.proofs.AllLemmas.{all_of}
 use Rattle.dict_index.proofs.OrderLemmas.{try_each}
 use Rattle.dict_index.proofs.PassLemmas.{pass_more}
@@ -22,14 +22,14 @@ use Rattle.dict_index.proofs.DecideLemmas.{Decided, at_most, utf8, ends, line_te
 -- the first line that a test stops at, if one does
 module _ (index text : List ℕ) where
   abbrev FirstStop : Type 0
-  FirstStop = (refusal : Refusal) × (k : ℕ) × StopsAt index text refusal k
+  FirstStop = (refusal : EditionRefusal) × (k : ℕ) × StopsAt index text refusal k
 
   next_line : (n : ℕ) → n < length (text_lines index) → PassLines index text n → FirstStop ⊎ PassLines index text (n + 1)
   next_line n there passes =
       by_tests (try_each (λ f. PassesLine f text (take n (text_lines index)) (line_at index n)) line_tests
       (all_of (λ f. Decided (PassesLine f text (take n (text_lines index)) (line_at index n))) (λ f. line_test f text (take n (text_lines index)) (line_at index n)) line_tests))
     where
-      by_tests : ((f : Refusal) × FailsFirst line_tests f text (take n (text_lines index)) (line_at index n)) ⊎ PassesEach line_tests text (take n (text_lines index)) (line_at index n) → FirstStop ⊎ PassLines index text (n + 1)
+      by_tests : ((f : EditionRefusal) × FailsFirst line_tests f text (take n (text_lines index)) (line_at index n)) ⊎ PassesEach line_tests text (take n (text_lines index)) (line_at index n) → FirstStop ⊎ PassLines index text (n + 1)
       by_tests (inl failing) = inl (failing.0, n, record { there = there; before = passes; first = failing.1 })
       by_tests (inr all) = inr (pass_more index text n (line_at index n) passes refl all)
 
@@ -45,7 +45,7 @@ module _ (index text : List ℕ) where
       by_earlier (inr passes) = rw (← one_more) (next_line n (omega arith) passes)
 
   -- the first test of the whole files that fails, if one does
-  try_wholes : ((f : Refusal) × FailsWhole f index text) ⊎ PassWholes index text
+  try_wholes : ((f : EditionRefusal) × FailsWhole f index text) ⊎ PassWholes index text
   try_wholes = try_each (λ f. PassesWhole f index text) whole_tests (at_most (length text) most_octets, (utf8 index, (ends index, (at_most (length (text_lines index)) most_lines, tt))))
 
 -- what lines say that each say something
@@ -59,7 +59,7 @@ all_say (line ∷ lines) h =
 -- the title is good, or it isn't there, or it is bad
 module _ (index text : List ℕ) where
   abbrev Meaning : Type 0
-  Meaning = ((reading : ReadEdition) × IsReadEdition index text reading) ⊎ ((refusal : Refusal) × (line : Option ℕ) × IsFault index text refusal line)
+  Meaning = ((reading : ReadEdition) × IsReadEdition index text reading) ⊎ ((refusal : EditionRefusal) × (line : Option ℕ) × IsFault index text refusal line)
 
   by_title : PassWholes index text → PassLines index text (length (text_lines index)) → (said : List Line) → AllZip IsLine (text_lines index) said → (title : Option (List ℕ)) → title_in text said ≡ title → Meaning
   by_title wholes passed said are None e = inr (NoTitle, None, no_title index text wholes passed said are e)
@@ -86,7 +86,7 @@ module _ (index text : List ℕ) where
       let found = all_say (text_lines index) (λ k lt. (passed k lt).1.0) in
       by_title wholes passed found.0 found.1 (title_in text found.0) refl
 
-  by_wholes : ((f : Refusal) × FailsWhole f index text) ⊎ PassWholes index text → Meaning
+  by_wholes : ((f : EditionRefusal) × FailsWhole f index text) ⊎ PassWholes index text → Meaning
   by_wholes (inl failing) = inr (failing.0, None, whole_fault failing.0 index text failing.1)
   by_wholes (inr wholes) = by_lines wholes (lines_until index text (length (text_lines index)) (omega arith))
 

@@ -15,8 +15,8 @@ use Rattle.dict_index.specs.Cuts.{AreLast, AreColumns}
 use Rattle.dict_index.specs.Line.{Line, IsLine, body_in}
 use Rattle.dict_index.specs.Reserved.{is_reserved, is_known}
 use Rattle.dict_index.specs.Tests.{PassesLine, IfSays, IfFourth, IsHeadword, IsShown, IsTextOctet, IsText, HasShortLines, NoneHasKey, IsTitle, EndsByLineFeed}
-use Rattle.dict_index.specs.declared.fault.Refusal.{Refusal}
-use Rattle.dict_index.specs.declared.fault.Refusal.TheVariants.{Columns, Number, Interval, Headword, Shown, BodyText, BodyLine, Reserved, ReservedTwice}
+use Rattle.dict_index.specs.declared.fault.EditionRefusal.{EditionRefusal}
+use Rattle.dict_index.specs.declared.fault.EditionRefusal.TheVariants.{Columns, Number, Interval, Headword, Shown, BodyText, BodyLine, Reserved, ReservedTwice}
 use Rattle.dict_index.proofs.CutLemmas.{count_none, count_cut, count_columns}
 use Rattle.dict_index.proofs.TextLemmas.{cut_or_none}
 use Rattle.dict_index.proofs.LineLemmas.{columns_of_line, columns_from_line, if_says, if_fourth}
@@ -237,7 +237,7 @@ none_has_key lines key = all (λ line. IfSays line (λ said. reserved_key_of sai
     (λ line. if_it_says line (λ said. reserved_key_of said.headword ≢ key) (λ said. opposite (reserved_key_of said.headword ≡ key) (same_list (reserved_key_of said.headword) key))) lines
 
 -- a test of a line
-pub line_test : (f : Refusal) (text : List ℕ) (before : List (List ℕ)) (line : List ℕ) → Decided (PassesLine f text before line)
+pub line_test : (f : EditionRefusal) (text : List ℕ) (before : List (List ℕ)) (line : List ℕ) → Decided (PassesLine f text before line)
 line_test Columns text before line = either (count_by (λ octet. octet == 9) line ≡ 2) (count_by (λ octet. octet == 9) line ≡ 3) (cases_eq (count_by (λ octet. octet == 9) line) 2) (cases_eq (count_by (λ octet. octet == 9) line) 3)
 line_test Number text before line = says line
 line_test Interval text before line = if_it_says line (λ said. said.offset + said.size ≤ length text) (λ said. at_most (said.offset + said.size) (length text))

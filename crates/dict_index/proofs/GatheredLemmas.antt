@@ -15,7 +15,7 @@ use Rattle.dict_index.specs.Views.{line_of, HasBodyIn, HasItsKey}
 use Rattle.dict_index.specs.Gathered.{HasGathered}
 use Rattle.dict_index.specs.declared.entry.Entry.{Entry}
 use Rattle.dict_index.specs.declared.gather.Gathered.{Gathered}
-use Rattle.dict_index.specs.declared.fault.Refusal.TheVariants.{Reserved, ReservedTwice}
+use Rattle.dict_index.specs.declared.fault.EditionRefusal.TheVariants.{Reserved, ReservedTwice}
 use Rattle.dict_text.proofs.AllLemmas.{all_push}
 use Rattle.dict_index.proofs.LineLemmas.{if_says}
 use Rattle.dict_index.proofs.GatherLemmas.{said_push, map_push, entry_lines_push, under_push, under_first, none_has_key, some_has_key, known_is_reserved}

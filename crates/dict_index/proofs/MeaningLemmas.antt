@@ -14,8 +14,8 @@ use Rattle.dict_index.specs.Meaning.{IsFault, IsMade, IsReadEdition}
 use Rattle.dict_index.specs.Refused.{PassesEach, PassLines, StopsAt, PassWholes, FailsWhole, IsTitleFault, IsIndexFault, IsLinesFault}
 use Rattle.dict_index.specs.Gathered.{HasGathered}
 use Rattle.dict_index.specs.Views.{line_of, octets_of}
-use Rattle.dict_index.specs.declared.fault.Refusal.{Refusal}
-use Rattle.dict_index.specs.declared.fault.Refusal.TheVariants.{IndexNotUtf8, NoTitle, BadTitle, TooManyEntries, TextTooLong, LastLine}
+use Rattle.dict_index.specs.declared.fault.EditionRefusal.{EditionRefusal}
+use Rattle.dict_index.specs.declared.fault.EditionRefusal.TheVariants.{IndexNotUtf8, NoTitle, BadTitle, TooManyEntries, TextTooLong, LastLine}
 use Rattle.dict_index.specs.declared.fault.IndexFault.{IndexFault}
 use Rattle.dict_index.specs.declared.fault.IndexFault.TheVariants.{Refused, Memory}
 use Rattle.dict_index.specs.declared.gather.Gathered.{Gathered}
@@ -23,7 +23,7 @@ use Rattle.dict_index.proofs.LineLemmas.{one_said}
 use Rattle.dict_index.proofs.OrderLemmas.{one_rank, whole_ranks, line_ranks, IsFirstInOrder, all_in_order, first_in_order}
 
 -- a test of a line asks nothing of the whole
-line_asks_no_whole : (f : Refusal) (index text : List ℕ) → IsOfLine f → PassesWhole f index text
+line_asks_no_whole : (f : EditionRefusal) (index text : List ℕ) → IsOfLine f → PassesWhole f index text
 unfolding rank
 line_asks_no_whole TextTooLong index text o = absurd (let low = o.0 in omega arith)
 line_asks_no_whole IndexNotUtf8 index text o = absurd (let low = o.0 in omega arith)
@@ -34,7 +34,7 @@ line_asks_no_whole BadTitle index text o = absurd (let high = o.1 in omega arith
 line_asks_no_whole _ index text o = tt
 
 -- a test of the whole that is made before the lines' asks nothing of a line
-whole_asks_no_line : (f : Refusal) (text : List ℕ) (before : List (List ℕ)) (line : List ℕ) → rank f < length whole_tests → PassesLine f text before line
+whole_asks_no_line : (f : EditionRefusal) (text : List ℕ) (before : List (List ℕ)) (line : List ℕ) → rank f < length whole_tests → PassesLine f text before line
 unfolding rank
 whole_asks_no_line TextTooLong text before line lt = tt
 whole_asks_no_line IndexNotUtf8 text before line lt = tt
@@ -54,22 +54,22 @@ unfolding rank
 rank_bad_title = refl
 
 -- a test of a line is one of the files at that line
-passes_line : (f : Refusal) (index text : List ℕ) (k : ℕ) → IsOfLine f → PassesLine f text (take k (text_lines index)) (line_at index k) → Passes f index text k
+passes_line : (f : EditionRefusal) (index text : List ℕ) (k : ℕ) → IsOfLine f → PassesLine f text (take k (text_lines index)) (line_at index k) → Passes f index text k
 passes_line f index text k o p = (line_asks_no_whole f index text o, p)
 
-passes_whole : (f : Refusal) (index text : List ℕ) (k : ℕ) → rank f < length whole_tests → PassesWhole f index text → Passes f index text k
+passes_whole : (f : EditionRefusal) (index text : List ℕ) (k : ℕ) → rank f < length whole_tests → PassesWhole f index text → Passes f index text k
 passes_whole f index text k lt p = (p, whole_asks_no_line f text (take k (text_lines index)) (line_at index k) lt)
 
 -- files that pass the tests of the whole, and lines that pass theirs, pass each of them
-whole_of : (f : Refusal) (index text : List ℕ) (k : ℕ) → PassWholes index text → rank f < length whole_tests → Passes f index text k
+whole_of : (f : EditionRefusal) (index text : List ℕ) (k : ℕ) → PassWholes index text → rank f < length whole_tests → Passes f index text k
 whole_of f index text k wholes lt = passes_whole f index text k lt (all_in_order (λ g. PassesWhole g index text) 0 whole_tests whole_ranks wholes f (omega arith) lt)
 
-line_of_all : (f : Refusal) (index text : List ℕ) (k : ℕ) → PassesEach line_tests text (take k (text_lines index)) (line_at index k) → IsOfLine f → Passes f index text k
+line_of_all : (f : EditionRefusal) (index text : List ℕ) (k : ℕ) → PassesEach line_tests text (take k (text_lines index)) (line_at index k) → IsOfLine f → Passes f index text k
 line_of_all f index text k passed o =
     passes_line f index text k o (all_in_order (λ g. PassesLine g text (take k (text_lines index)) (line_at index k)) (length whole_tests) line_tests line_ranks passed f o.0 o.1)
 
 -- a test of the whole that fails first
-pub whole_fault : (refusal : Refusal) (index text : List ℕ) → FailsWhole refusal index text → IsFault index text refusal None
+pub whole_fault : (refusal : EditionRefusal) (index text : List ℕ) → FailsWhole refusal index text → IsFault index text refusal None
 whole_fault refusal index text failing =
     let h = first_in_order (λ g. PassesWhole g index text) 0 whole_tests refusal whole_ranks failing in
     let high = h.high in
@@ -81,16 +81,16 @@ whole_fault refusal index text failing =
       earlier = λ f j p made. by_order h f j p;
     }
   where
-    by_order : IsFirstInOrder (λ g. PassesWhole g index text) 0 (length whole_tests) refusal → (f : Refusal) (j : ℕ) → Precedes f j refusal 0 → Passes f index text j
+    by_order : IsFirstInOrder (λ g. PassesWhole g index text) 0 (length whole_tests) refusal → (f : EditionRefusal) (j : ℕ) → Precedes f j refusal 0 → Passes f index text j
     by_order h f j (inl p) = passes_whole f index text j (let high = h.high in let lt = p.0 in omega arith) (h.earlier f (omega arith) p.0)
     by_order h f j (inr p) = absurd (let high = h.high in let low = p.1.0 in omega arith)
 
 -- a test before the title's is one of the whole or one of a line
-before_title : (f : Refusal) → rank f < length whole_tests + length line_tests → (rank f < length whole_tests) ⊎ IsOfLine f
+before_title : (f : EditionRefusal) → rank f < length whole_tests + length line_tests → (rank f < length whole_tests) ⊎ IsOfLine f
 before_title f lt = elim (cases_lt (rank f) (length whole_tests)) [ inl whole ↦ inl whole | inr line ↦ inr (line, lt) ]
 
 -- a line that a test stops at
-pub stop_fault : (refusal : Refusal) (index text : List ℕ) (k : ℕ) → PassWholes index text → StopsAt index text refusal k → IsFault index text refusal (Some (k + 1))
+pub stop_fault : (refusal : EditionRefusal) (index text : List ℕ) (k : ℕ) → PassWholes index text → StopsAt index text refusal k → IsFault index text refusal (Some (k + 1))
 stop_fault refusal index text k wholes s =
     let h = first_in_order (λ g. PassesLine g text (take k (text_lines index)) (line_at index k)) (length whole_tests) line_tests refusal line_ranks s.first in
     let of_line : IsOfLine refusal = (h.low, h.high) in
@@ -103,7 +103,7 @@ stop_fault refusal index text k wholes s =
     }
   where
     by_order : IsFirstInOrder (λ g. PassesLine g text (take k (text_lines index)) (line_at index k)) (length whole_tests) (length whole_tests + length line_tests) refusal
-        → (f : Refusal) (j : ℕ) → Precedes f j refusal k → Passes f index text j
+        → (f : EditionRefusal) (j : ℕ) → Precedes f j refusal k → Passes f index text j
     by_order h f j (inl p) = elim (before_title f (let lt = p.0 in let high = h.high in omega arith)) [
       | inl whole ↦ whole_of f index text j wholes whole
       | inr line ↦ absurd (p.1 (line, (h.low, h.high)))
@@ -124,7 +124,7 @@ all_said_one (l ∷ lines) (x ∷ a) (y ∷ b) h k = ap (λ z. z ∷ a) (one_sai
 
 module _ (index text : List ℕ) (wholes : PassWholes index text) (passed : PassLines index text (length (text_lines index))) where
   -- each test before the title's passes
-  before_no_title : (f : Refusal) (j : ℕ) → rank f < length whole_tests + length line_tests → IsMade f index j → Passes f index text j
+  before_no_title : (f : EditionRefusal) (j : ℕ) → rank f < length whole_tests + length line_tests → IsMade f index j → Passes f index text j
   before_no_title f j lt made = elim (before_title f lt) [
     | inl whole ↦ whole_of f index text j wholes whole
     | inr line ↦ line_of_all f index text j (passed j (made line)) line
@@ -144,7 +144,7 @@ module _ (index text : List ℕ) (wholes : PassWholes index text) (passed : Pass
       earlier = λ f j p made. by_order f j p made;
     }
       where
-        by_order : (f : Refusal) (j : ℕ) → Precedes f j NoTitle 0 → IsMade f index j → Passes f index text j
+        by_order : (f : EditionRefusal) (j : ℕ) → Precedes f j NoTitle 0 → IsMade f index j → Passes f index text j
         by_order f j (inl p) made = before_no_title f j (let lt = p.0 in omega (arith, rank_no_title)) made
         by_order f j (inr p) made = absurd (let high = p.1.1 in omega (arith, rank_no_title))
 
@@ -160,7 +160,7 @@ module _ (index text : List ℕ) (wholes : PassWholes index text) (passed : Pass
       earlier = λ f j p made. by_order f j p made;
     }
       where
-        by_order : (f : Refusal) (j : ℕ) → Precedes f j BadTitle 0 → IsMade f index j → Passes f index text j
+        by_order : (f : EditionRefusal) (j : ℕ) → Precedes f j BadTitle 0 → IsMade f index j → Passes f index text j
         by_order f j (inl p) made = elim (cases_lt (rank f) (length whole_tests + length line_tests)) [
           | inl before ↦ before_no_title f j before made
           | inr not_before ↦ (let lt = p.0 in let same : rank NoTitle ≡ rank f = omega (arith, rank_no_title, rank_bad_title) in subst (λ r. Passes r index text j) (one_rank NoTitle f same) (has_title found e j))
@@ -174,7 +174,7 @@ module _ (index text : List ℕ) (wholes : PassWholes index text) (passed : Pass
     title_fault Memory h = tt
 
     -- no test fails
-    pub all_pass : (found : List ℕ) → title_in text said ≡ Some found → IsTitle found → (f : Refusal) (j : ℕ) → IsMade f index j → Passes f index text j
+    pub all_pass : (found : List ℕ) → title_in text said ≡ Some found → IsTitle found → (f : EditionRefusal) (j : ℕ) → IsMade f index j → Passes f index text j
     unfolding rank
     all_pass found e good NoTitle j made = has_title found e j
     all_pass found e good BadTitle j made = ((λ all_said others. subst (λ t. IfSome t IsTitle) (sym (one_title all_said others ∙ e)) good), tt)

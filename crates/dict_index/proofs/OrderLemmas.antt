@@ -5,21 +5,21 @@ use Rattle.std.specs.Prelude.{◌==◌, ◌&&◌, slice_index_or}
 use Rattle.std.specs.List.{AllByRecursion}
 use Rattle.dict_index.specs.Refusals.{whole_tests, line_tests, tests_in_order}
 use Rattle.dict_index.specs.Order.{rank, IsFirstFailing}
-use Rattle.dict_index.specs.declared.fault.Refusal.{Refusal}
-use Rattle.dict_index.specs.declared.fault.Refusal.TheVariants.{Columns, TextTooLong}
+use Rattle.dict_index.specs.declared.fault.EditionRefusal.{EditionRefusal}
+use Rattle.dict_index.specs.declared.fault.EditionRefusal.TheVariants.{Columns, TextTooLong}
 
 -- each test stands at its place
-at_rank : (f : Refusal) → slice_index_or tests_in_order (rank f) Columns ≡ f
+at_rank : (f : EditionRefusal) → slice_index_or tests_in_order (rank f) Columns ≡ f
 unfolding rank
 at_rank TextTooLong = refl
 at_rank _ = refl
 
 -- two tests have different places
-pub one_rank : (f g : Refusal) → rank f ≡ rank g → f ≡ g
+pub one_rank : (f g : EditionRefusal) → rank f ≡ rank g → f ≡ g
 one_rank f g e = sym (at_rank f) ∙ (ap (λ n. slice_index_or tests_in_order n Columns) e ∙ at_rank g)
 
 -- these tests stand at the places from n on
-abbrev ranks_from : ℕ → List Refusal → Bool
+abbrev ranks_from : ℕ → List EditionRefusal → Bool
 ranks_from n [] = true
 ranks_from n (f ∷ fs) = (rank f == n) && ranks_from (n + 1) fs
 
@@ -32,15 +32,15 @@ unfolding rank
 line_ranks = refl
 
 -- this test fails, its place is from n up to m, and those from n up to it hold
-pub record IsFirstInOrder (Holds : Refusal → Type 0) (n m : ℕ) (f : Refusal) : Type 0 where
+pub record IsFirstInOrder (Holds : EditionRefusal → Type 0) (n m : ℕ) (f : EditionRefusal) : Type 0 where
   pub low : n ≤ rank f
   pub high : rank f < m
   pub fails : ¬ Holds f
-  pub earlier : (g : Refusal) → n ≤ rank g → rank g < rank f → Holds g
+  pub earlier : (g : EditionRefusal) → n ≤ rank g → rank g < rank f → Holds g
 
-module _ (Holds : Refusal → Type 0) where
+module _ (Holds : EditionRefusal → Type 0) where
   -- what holds of each test of a list holds of each that stands at its places
-  pub all_in_order : (n : ℕ) (fs : List Refusal) → ranks_from n fs ≡ true → AllByRecursion Holds fs → (f : Refusal) → n ≤ rank f → rank f < n + length fs → Holds f
+  pub all_in_order : (n : ℕ) (fs : List EditionRefusal) → ranks_from n fs ≡ true → AllByRecursion Holds fs → (f : EditionRefusal) → n ≤ rank f → rank f < n + length fs → Holds f
   all_in_order n [] ranks h f low high = absurd (omega arith)
   all_in_order n (g ∷ fs) ranks h f low high =
       let parts = and_parts (rank g == n) (ranks_from (n + 1) fs) ranks in
@@ -51,7 +51,7 @@ module _ (Holds : Refusal → Type 0) where
       ]
 
   -- the first of a list that fails is the first in order from the list's first place on
-  pub first_in_order : (n : ℕ) (fs : List Refusal) (f : Refusal) → ranks_from n fs ≡ true → IsFirstFailing Holds fs f → IsFirstInOrder Holds n (n + length fs) f
+  pub first_in_order : (n : ℕ) (fs : List EditionRefusal) (f : EditionRefusal) → ranks_from n fs ≡ true → IsFirstFailing Holds fs f → IsFirstInOrder Holds n (n + length fs) f
   first_in_order n [] f ranks h = absurd h
   first_in_order n (g ∷ fs) f ranks (inl h) =
       let parts = and_parts (rank g == n) (ranks_from (n + 1) fs) ranks in
@@ -77,21 +77,21 @@ module _ (Holds : Refusal → Type 0) where
       }
 
   -- the first of a list that fails is so of a longer one
-  pub first_of_more : (fs gs : List Refusal) (f : Refusal) → IsFirstFailing Holds fs f → IsFirstFailing Holds (fs ++ gs) f
+  pub first_of_more : (fs gs : List EditionRefusal) (f : EditionRefusal) → IsFirstFailing Holds fs f → IsFirstFailing Holds (fs ++ gs) f
   first_of_more [] gs f h = absurd h
   first_of_more (g ∷ fs) gs f (inl h) = inl h
   first_of_more (g ∷ fs) gs f (inr h) = inr (h.0, first_of_more fs gs f h.1)
 
-  pub first_behind : (fs gs : List Refusal) (f : Refusal) → AllByRecursion Holds fs → IsFirstFailing Holds gs f → IsFirstFailing Holds (fs ++ gs) f
+  pub first_behind : (fs gs : List EditionRefusal) (f : EditionRefusal) → AllByRecursion Holds fs → IsFirstFailing Holds gs f → IsFirstFailing Holds (fs ++ gs) f
   first_behind [] gs f all h = h
   first_behind (g ∷ fs) gs f all h = inr (all.0, first_behind fs gs f all.1 h)
 
   -- tests that can be decided all hold, or one is the first that fails
-  pub try_each : (fs : List Refusal) → AllByRecursion (λ f. Holds f ⊎ ¬ Holds f) fs → ((f : Refusal) × IsFirstFailing Holds fs f) ⊎ AllByRecursion Holds fs
+  pub try_each : (fs : List EditionRefusal) → AllByRecursion (λ f. Holds f ⊎ ¬ Holds f) fs → ((f : EditionRefusal) × IsFirstFailing Holds fs f) ⊎ AllByRecursion Holds fs
   try_each [] d = inr tt
   try_each (g ∷ fs) d = by_first d.0 (try_each fs d.1)
     where
-      by_first : Holds g ⊎ ¬ Holds g → ((f : Refusal) × IsFirstFailing Holds fs f) ⊎ AllByRecursion Holds fs → ((f : Refusal) × IsFirstFailing Holds (g ∷ fs) f) ⊎ AllByRecursion Holds (g ∷ fs)
+      by_first : Holds g ⊎ ¬ Holds g → ((f : EditionRefusal) × IsFirstFailing Holds fs f) ⊎ AllByRecursion Holds fs → ((f : EditionRefusal) × IsFirstFailing Holds (g ∷ fs) f) ⊎ AllByRecursion Holds (g ∷ fs)
       by_first (inr bad) rest = inl (g, inl (refl, bad))
       by_first (inl p) (inl failing) = inl (failing.0, inr (p, failing.1))
       by_first (inl p) (inr all) = inr (p, all)

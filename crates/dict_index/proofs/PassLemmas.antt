@@ -9,7 +9,7 @@ use Rattle.dict_index.specs.Refusals.{said_tests, reserved_tests, line_tests}
 use Rattle.dict_index.specs.Gathered.{IsGatherFault}
 use Rattle.dict_index.specs.Refused.{PassesEach, FailsFirst, IsLineFault, PassLines, IsFaultBehind, IsLinesFault, told_at}
 use Rattle.dict_index.specs.declared.fault.IndexFault.{IndexFault}
-use Rattle.dict_index.specs.declared.fault.Refusal.TheVariants.{Reserved, ReservedTwice}
+use Rattle.dict_index.specs.declared.fault.EditionRefusal.TheVariants.{Reserved, ReservedTwice}
 use Rattle.dict_index.specs.declared.line.LineFault.{LineFault}
 use Rattle.dict_index.specs.declared.line.LineFault.TheVariants.{Refused, Memory}
 use Rattle.dict_text.proofs.AllLemmas.{all_append}

@@ -6,7 +6,7 @@ use Rattle.dict_b64.specs.Number.{Spells}
 use Rattle.dict_index.specs.Cuts.{AreColumns}
 use Rattle.dict_index.specs.Line.{Line, IsLine, behind_tab}
 use Rattle.dict_index.specs.Tests.{IfSays, IfFourth, PassesLine}
-use Rattle.dict_index.specs.declared.fault.Refusal.TheVariants.{Number}
+use Rattle.dict_index.specs.declared.fault.EditionRefusal.TheVariants.{Number}
 use Rattle.dict_index.proofs.CutLemmas.{utf8_parts}
 use Rattle.dict_index.proofs.LineLemmas.{columns_of_line}
 

@@ -25,7 +25,7 @@ use Rattle.dict_index.specs.Meaning.{IsReadEdition, IsEdition, HaveThreeColumns,
 use Rattle.dict_index.specs.Views.{line_of, LiesIn}
 use Rattle.dict_index.specs.declared.entry.Entry.{Entry as ReadEntry}
 use Rattle.dict_index.specs.WellFormed.{IsEditionTitle, IsEditionText, IsEntryShown, IsWellFormedEntry, IsWellFormedEdition}
-use Rattle.dict_index.specs.declared.fault.Refusal.TheVariants.{IndexNotUtf8, Headword, Shown, BodyText, BodyLine, BadTitle, TooManyEntries, TextTooLong, Interval}
+use Rattle.dict_index.specs.declared.fault.EditionRefusal.TheVariants.{IndexNotUtf8, Headword, Shown, BodyText, BodyLine, BadTitle, TooManyEntries, TextTooLong, Interval}
 use Rattle.dict_text.proofs.AllLemmas.{all_at, all_weaker, all_filter, all_append_parts}
 use Rattle.dict_index.proofs.CutLemmas.{utf8_parts, count_fourth}
 use Rattle.dict_index.proofs.LineLemmas.{columns_from_line}

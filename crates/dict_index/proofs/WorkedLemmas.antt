@@ -20,8 +20,8 @@ use Rattle.dict_index.specs.Meaning.{IsReadEdition}
 use Rattle.dict_index.specs.Refused.{PassesEach, PassLines, PassWholes}
 use Rattle.dict_index.specs.Refusals.{line_tests}
 use Rattle.dict_index.specs.Worked.{worked_index, worked_text, worked_reading, opal, fire_opal, dot}
-use Rattle.dict_index.specs.declared.fault.Refusal.{Refusal}
-use Rattle.dict_index.specs.declared.fault.Refusal.TheVariants.{Columns, Number, Interval, Headword, Shown, BodyText, BodyLine, Reserved, ReservedTwice}
+use Rattle.dict_index.specs.declared.fault.EditionRefusal.{EditionRefusal}
+use Rattle.dict_index.specs.declared.fault.EditionRefusal.TheVariants.{Columns, Number, Interval, Headword, Shown, BodyText, BodyLine, Reserved, ReservedTwice}
 use Rattle.dict_text.proofs.AllLemmas.{all_of}
 use Rattle.dict_index.proofs.GatherLemmas.{known_is_reserved}
 use Rattle.dict_index.proofs.LineLemmas.{if_says, if_fourth}
@@ -81,7 +81,7 @@ good headword body text e =
 
 -- a line that passes
 passes_by : (text : List ℕ) (before : List (List ℕ)) (line : List ℕ) (said : Line) (l : IsLine line said) → l.fourth ≡ None → count_by (λ octet. octet == 9) line ≡ 2 → nat_le (said.offset + said.size) (length text) ≡ true
-    → Good said.headword (body_in text said) → reserved_key_of said.headword ≢ [] → PassesLine Reserved text before line → PassesLine ReservedTwice text before line → (f : Refusal) → PassesLine f text before line
+    → Good said.headword (body_in text said) → reserved_key_of said.headword ≢ [] → PassesLine Reserved text before line → PassesLine ReservedTwice text before line → (f : EditionRefusal) → PassesLine f text before line
 passes_by text before line said l three tabs within g key reserved twice Columns = inl tabs
 passes_by text before line said l three tabs within g key reserved twice Number = (said, l)
 passes_by text before line said l three tabs within g key reserved twice Interval = if_says line said (λ said. said.offset + said.size ≤ length text) l (leb-true _ _ within)
@@ -95,7 +95,7 @@ passes_by text before line said l three tabs within g key reserved twice _ = tt
 
 -- a line whose key isn't reserved
 entry_passes : (text : List ℕ) (before : List (List ℕ)) (line : List ℕ) (said : Line) (l : IsLine line said) → l.fourth ≡ None → count_by (λ octet. octet == 9) line ≡ 2 → nat_le (said.offset + said.size) (length text) ≡ true
-    → is_good said.headword (body_in text said) text ≡ true → reserved_key_of said.headword ≢ [] → is_reserved (reserved_key_of said.headword) ≡ false → (f : Refusal) → PassesLine f text before line
+    → is_good said.headword (body_in text said) text ≡ true → reserved_key_of said.headword ≢ [] → is_reserved (reserved_key_of said.headword) ≡ false → (f : EditionRefusal) → PassesLine f text before line
 entry_passes text before line said l three tabs within g key free f =
     passes_by text before line said l three tabs within (good _ _ text g) key
     (if_says line said (λ said. IsTrue (is_reserved (reserved_key_of said.headword)) → IsTrue (is_known (reserved_key_of said.headword))) l (λ e. absurd (reserved e)))
@@ -106,7 +106,7 @@ entry_passes text before line said l three tabs within g key free f =
 
 -- the first line, whose key is known
 first_passes : (text line : List ℕ) (said : Line) (l : IsLine line said) → l.fourth ≡ None → count_by (λ octet. octet == 9) line ≡ 2 → nat_le (said.offset + said.size) (length text) ≡ true
-    → is_good said.headword (body_in text said) text ≡ true → reserved_key_of said.headword ≢ [] → is_known (reserved_key_of said.headword) ≡ true → (f : Refusal) → PassesLine f text [] line
+    → is_good said.headword (body_in text said) text ≡ true → reserved_key_of said.headword ≢ [] → is_known (reserved_key_of said.headword) ≡ true → (f : EditionRefusal) → PassesLine f text [] line
 first_passes text line said l three tabs within g key known f =
     passes_by text [] line said l three tabs within (good _ _ text g) key
     (if_says line said (λ said. IsTrue (is_reserved (reserved_key_of said.headword)) → IsTrue (is_known (reserved_key_of said.headword))) l (λ e. known))
@@ -145,23 +145,23 @@ lines_are : text_lines worked_index ≡ worked_lines
 unfolding worked_lines
 lines_are = refl
 
-pass_short : (f : Refusal) → PassesLine f worked_text [] (codes "00-database-short\tA\tZ")
+pass_short : (f : EditionRefusal) → PassesLine f worked_text [] (codes "00-database-short\tA\tZ")
 unfolding keys chars encode is_utf8 short short_line says_digits is_good is_plain is_text_octet
 pass_short = first_passes worked_text (codes "00-database-short\tA\tZ") short short_line refl refl refl refl (λ e. cc) refl
 
-pass_opal : (before : List (List ℕ)) (f : Refusal) → PassesLine f worked_text before (codes "opal\tZ\tP")
+pass_opal : (before : List (List ℕ)) (f : EditionRefusal) → PassesLine f worked_text before (codes "opal\tZ\tP")
 unfolding keys chars encode is_utf8 opal_line says_digits is_good is_plain is_text_octet
 pass_opal before = entry_passes worked_text before (codes "opal\tZ\tP") opal opal_line refl refl refl refl (λ e. cc) refl
 
-pass_fire : (before : List (List ℕ)) (f : Refusal) → PassesLine f worked_text before (codes "Fire Opal\tZ\tP")
+pass_fire : (before : List (List ℕ)) (f : EditionRefusal) → PassesLine f worked_text before (codes "Fire Opal\tZ\tP")
 unfolding keys chars encode is_utf8 fire_line says_digits is_good is_plain is_text_octet
 pass_fire before = entry_passes worked_text before (codes "Fire Opal\tZ\tP") fire_opal fire_line refl refl refl refl (λ e. cc) refl
 
-pass_dot : (before : List (List ℕ)) (f : Refusal) → PassesLine f worked_text before (codes "dot\to\tF")
+pass_dot : (before : List (List ℕ)) (f : EditionRefusal) → PassesLine f worked_text before (codes "dot\to\tF")
 unfolding keys chars encode is_utf8 dot_line says_digits is_good is_plain is_text_octet
 pass_dot before = entry_passes worked_text before (codes "dot\to\tF") dot dot_line refl refl refl refl (λ e. cc) refl
 
-pass_each : (k : ℕ) → k < length worked_lines → (f : Refusal) → PassesLine f worked_text (take k worked_lines) (slice_index_or worked_lines k [])
+pass_each : (k : ℕ) → k < length worked_lines → (f : EditionRefusal) → PassesLine f worked_text (take k worked_lines) (slice_index_or worked_lines k [])
 unfolding worked_lines
 pass_each zero lt f = pass_short f
 pass_each (suc zero) lt f = pass_opal _ f
@@ -169,7 +169,7 @@ pass_each (suc (suc zero)) lt f = pass_fire _ f
 pass_each (suc (suc (suc zero))) lt f = pass_dot _ f
 pass_each (suc (suc (suc (suc k)))) lt f = absurd (omega arith)
 
-pass_lines : (index text : List ℕ) (lines : List (List ℕ)) → lines ≡ text_lines index → ((k : ℕ) → k < length lines → (f : Refusal) → PassesLine f text (take k lines) (slice_index_or lines k [])) → PassLines index text (length (text_lines index))
+pass_lines : (index text : List ℕ) (lines : List (List ℕ)) → lines ≡ text_lines index → ((k : ℕ) → k < length lines → (f : EditionRefusal) → PassesLine f text (take k lines) (slice_index_or lines k [])) → PassLines index text (length (text_lines index))
 pass_lines index text lines e h =
     subst (λ (ls : List (List ℕ)). (k : ℕ) → k < length ls → PassesEach line_tests text (take k ls) (slice_index_or ls k [])) e
     (λ k lt. all_of (λ f. PassesLine f text (take k lines) (slice_index_or lines k [])) (h k lt) line_tests)

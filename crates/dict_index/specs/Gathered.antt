@@ -9,7 +9,7 @@ use Rattle.dict_index.specs.Tests.{PassesLine}
 use Rattle.dict_index.specs.Meaning.{entry_lines}
 use Rattle.dict_index.specs.Views.{line_of, HasBodyIn, HasItsKey}
 use Rattle.dict_index.specs.declared.gather.Gathered.{Gathered}
-use Rattle.dict_index.specs.declared.fault.Refusal.TheVariants.{Reserved, ReservedTwice}
+use Rattle.dict_index.specs.declared.fault.EditionRefusal.TheVariants.{Reserved, ReservedTwice}
 use Rattle.dict_index.specs.declared.line.LineFault.{LineFault}
 use Rattle.dict_index.specs.declared.line.LineFault.TheVariants.{Refused, Memory}
 

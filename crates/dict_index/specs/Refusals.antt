@@ -1,13 +1,13 @@
 -- The refusals of an edition: the number and the name of each, as users see them, and the order of their tests.
 use Rattle.std.specs.Prelude.{ℕ, List, [], ◌∷◌, ◌++◌, codes}
-use Rattle.dict_index.specs.declared.fault.Refusal.{Refusal}
-use Rattle.dict_index.specs.declared.fault.Refusal.TheVariants.{IndexNotUtf8, Columns, Number, Interval, Headword, BodyText, BodyLine, Reserved, ReservedTwice, NoTitle, BadTitle, TooManyEntries, TextTooLong, LastLine, Shown}
+use Rattle.dict_index.specs.declared.fault.EditionRefusal.{EditionRefusal}
+use Rattle.dict_index.specs.declared.fault.EditionRefusal.TheVariants.{IndexNotUtf8, Columns, Number, Interval, Headword, BodyText, BodyLine, Reserved, ReservedTwice, NoTitle, BadTitle, TooManyEntries, TextTooLong, LastLine, Shown}
 
 pub record RefusalText : Type 0 where
   pub number : ℕ
   pub name : List ℕ
 
-abbrev pub text_of : Refusal → RefusalText
+abbrev pub text_of : EditionRefusal → RefusalText
 text_of IndexNotUtf8 = record { number = 1; name = codes "IndexNotUtf8" }
 text_of Columns = record { number = 2; name = codes "Columns" }
 text_of Number = record { number = 3; name = codes "Number" }
@@ -24,29 +24,29 @@ text_of TextTooLong = record { number = 13; name = codes "TextTooLong" }
 text_of LastLine = record { number = 14; name = codes "LastLine" }
 text_of Shown = record { number = 15; name = codes "Shown" }
 
-abbrev pub refusal_number : Refusal → ℕ
+abbrev pub refusal_number : EditionRefusal → ℕ
 refusal_number refusal = (text_of refusal).number
 
-abbrev pub refusal_name : Refusal → List ℕ
+abbrev pub refusal_name : EditionRefusal → List ℕ
 refusal_name refusal = (text_of refusal).name
 
 -- the tests in order: first those of the whole files
-abbrev pub whole_tests : List Refusal
+abbrev pub whole_tests : List EditionRefusal
 whole_tests = TextTooLong ∷ IndexNotUtf8 ∷ LastLine ∷ TooManyEntries ∷ []
 
 -- then for each line those of what it says, and of its reserved key
-abbrev pub said_tests : List Refusal
+abbrev pub said_tests : List EditionRefusal
 said_tests = Columns ∷ Number ∷ Interval ∷ Headword ∷ Shown ∷ BodyText ∷ BodyLine ∷ []
 
-abbrev pub reserved_tests : List Refusal
+abbrev pub reserved_tests : List EditionRefusal
 reserved_tests = Reserved ∷ ReservedTwice ∷ []
 
-abbrev pub line_tests : List Refusal
+abbrev pub line_tests : List EditionRefusal
 line_tests = said_tests ++ reserved_tests
 
 -- then those of the title
-abbrev pub title_tests : List Refusal
+abbrev pub title_tests : List EditionRefusal
 title_tests = NoTitle ∷ BadTitle ∷ []
 
-abbrev pub tests_in_order : List Refusal
+abbrev pub tests_in_order : List EditionRefusal
 tests_in_order = whole_tests ++ (line_tests ++ title_tests)

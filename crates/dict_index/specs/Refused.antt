@@ -6,8 +6,8 @@ use Rattle.dict_index.specs.Tests.{PassesWhole, PassesLine, IsTitle, line_at}
 use Rattle.dict_index.specs.Refusals.{whole_tests, said_tests, line_tests}
 use Rattle.dict_index.specs.Order.{IsFirstFailing}
 use Rattle.dict_index.specs.Meaning.{IsFault}
-use Rattle.dict_index.specs.declared.fault.Refusal.{Refusal}
-use Rattle.dict_index.specs.declared.fault.Refusal.TheVariants.{NoTitle, BadTitle}
+use Rattle.dict_index.specs.declared.fault.EditionRefusal.{EditionRefusal}
+use Rattle.dict_index.specs.declared.fault.EditionRefusal.TheVariants.{NoTitle, BadTitle}
 use Rattle.dict_index.specs.declared.line.LineFault.{LineFault}
 use Rattle.dict_index.specs.declared.line.LineFault.TheVariants as line_faults
 use Rattle.dict_index.specs.declared.fault.IndexFault.{IndexFault}
@@ -18,14 +18,14 @@ abbrev pub PassWholes : List ℕ → List ℕ → Type 0
 PassWholes index text = AllByRecursion (λ f. PassesWhole f index text) whole_tests
 
 -- this is the first of those that the files don't pass
-abbrev pub FailsWhole : Refusal → List ℕ → List ℕ → Type 0
+abbrev pub FailsWhole : EditionRefusal → List ℕ → List ℕ → Type 0
 FailsWhole refusal index text = IsFirstFailing (λ f. PassesWhole f index text) whole_tests refusal
 
 -- the line passes these tests, over this text and behind these lines; this is the first of them that it doesn't pass
-abbrev pub PassesEach : List Refusal → List ℕ → List (List ℕ) → List ℕ → Type 0
+abbrev pub PassesEach : List EditionRefusal → List ℕ → List (List ℕ) → List ℕ → Type 0
 PassesEach tests text before line = AllByRecursion (λ f. PassesLine f text before line) tests
 
-abbrev pub FailsFirst : List Refusal → Refusal → List ℕ → List (List ℕ) → List ℕ → Type 0
+abbrev pub FailsFirst : List EditionRefusal → EditionRefusal → List ℕ → List (List ℕ) → List ℕ → Type 0
 FailsFirst tests refusal text before line = IsFirstFailing (λ f. PassesLine f text before line) tests refusal
 
 -- what a line says is not read for memory, or because of the first test that it doesn't pass, whatever lines stand
@@ -44,7 +44,7 @@ abbrev pub PassLines : List ℕ → List ℕ → ℕ → Type 0
 PassLines index text n = (k : ℕ) → k < n → PassesEach line_tests text (take k (text_lines index)) (line_at index k)
 
 -- the test is the first that line k doesn't pass, and the lines before it pass
-pub record StopsAt (index text : List ℕ) (refusal : Refusal) (k : ℕ) : Type 0 where
+pub record StopsAt (index text : List ℕ) (refusal : EditionRefusal) (k : ℕ) : Type 0 where
   pub there : k < length (text_lines index)
   pub before : PassLines index text k
   pub first : FailsFirst line_tests refusal text (take k (text_lines index)) (line_at index k)

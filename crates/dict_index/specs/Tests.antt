@@ -8,8 +8,8 @@ use Rattle.dict_match.specs.Key.{reserved_key_of}
 use Rattle.dict_index.specs.Limits.{most_lines, most_octets}
 use Rattle.dict_index.specs.Line.{Line, IsLine, body_in, tab}
 use Rattle.dict_index.specs.Reserved.{is_reserved, is_known, title_in}
-use Rattle.dict_index.specs.declared.fault.Refusal.{Refusal}
-use Rattle.dict_index.specs.declared.fault.Refusal.TheVariants.{IndexNotUtf8, Columns, Number, Interval, Headword, BodyText, BodyLine, Reserved, ReservedTwice, NoTitle, BadTitle, TooManyEntries, TextTooLong, LastLine, Shown}
+use Rattle.dict_index.specs.declared.fault.EditionRefusal.{EditionRefusal}
+use Rattle.dict_index.specs.declared.fault.EditionRefusal.TheVariants.{IndexNotUtf8, Columns, Number, Interval, Headword, BodyText, BodyLine, Reserved, ReservedTwice, NoTitle, BadTitle, TooManyEntries, TextTooLong, LastLine, Shown}
 
 -- what the line says, where it says something, has the property
 abbrev pub IfSays : List ℕ → (Line → Type 0) → Type 0
@@ -60,7 +60,7 @@ abbrev pub line_at : List ℕ → ℕ → List ℕ
 line_at index k = slice_index_or (text_lines index) k []
 
 -- what a test asks of the files as a whole; a test of a line asks nothing of them
-abbrev pub PassesWhole : Refusal → List ℕ → List ℕ → Type 0
+abbrev pub PassesWhole : EditionRefusal → List ℕ → List ℕ → Type 0
 PassesWhole TextTooLong index text = length text ≤ most_octets
 PassesWhole IndexNotUtf8 index text = IsUtf8 index
 PassesWhole LastLine index text = EndsByLineFeed index
@@ -70,7 +70,7 @@ PassesWhole BadTitle index text = IfAllSay (text_lines index) (λ all_said. IfSo
 PassesWhole _ index text = Unit {0}
 
 -- what a test asks of a line, over this text and behind these lines; a test of the whole asks nothing of it
-abbrev pub PassesLine : Refusal → List ℕ → List (List ℕ) → List ℕ → Type 0
+abbrev pub PassesLine : EditionRefusal → List ℕ → List (List ℕ) → List ℕ → Type 0
 PassesLine Columns text before line = (count_by (λ octet. octet == tab) line ≡ 2) ⊎ (count_by (λ octet. octet == tab) line ≡ 3)
 PassesLine Number text before line = (said : Line) × IsLine line said
 PassesLine Interval text before line = IfSays line (λ said. said.offset + said.size ≤ length text)
@@ -83,5 +83,5 @@ PassesLine ReservedTwice text before line = IfSays line (λ said. IsTrue (is_kno
 PassesLine _ text before line = Unit {0}
 
 -- the index and the text pass the test; a test of a line is made at the line with this number, from 0
-abbrev pub Passes : Refusal → List ℕ → List ℕ → ℕ → Type 0
+abbrev pub Passes : EditionRefusal → List ℕ → List ℕ → ℕ → Type 0
 Passes refusal index text k = PassesWhole refusal index text × PassesLine refusal text (take k (text_lines index)) (line_at index k)

@@ -7,7 +7,7 @@ use thiserror::Error;
 
 /// The test of an edition that failed.
 #[derive(Clone, Copy, Debug, PartialEq, Eq)]
-pub enum Refusal {
+pub enum EditionRefusal {
     /// The index is not UTF-8.
     IndexNotUtf8,
     /// A line hasn't two or three tabs.
@@ -40,28 +40,28 @@ pub enum Refusal {
     Shown,
 }
 
-impl Refusal {
+impl EditionRefusal {
     // What users see of the refusal: its number, 1 to 15, and its name.
     fn text(self) -> (u8, &'static str)
         ensures number { result.0 ≡ (text_of self).number }
         ensures name { result.1.now ≡ (text_of self).name }
     {
         match self {
-            Refusal::IndexNotUtf8 => (1, "IndexNotUtf8"),
-            Refusal::Columns => (2, "Columns"),
-            Refusal::Number => (3, "Number"),
-            Refusal::Interval => (4, "Interval"),
-            Refusal::Headword => (5, "Headword"),
-            Refusal::BodyText => (6, "BodyText"),
-            Refusal::BodyLine => (7, "BodyLine"),
-            Refusal::Reserved => (8, "Reserved"),
-            Refusal::ReservedTwice => (9, "ReservedTwice"),
-            Refusal::NoTitle => (10, "NoTitle"),
-            Refusal::BadTitle => (11, "BadTitle"),
-            Refusal::TooManyEntries => (12, "TooManyEntries"),
-            Refusal::TextTooLong => (13, "TextTooLong"),
-            Refusal::LastLine => (14, "LastLine"),
-            Refusal::Shown => (15, "Shown"),
+            EditionRefusal::IndexNotUtf8 => (1, "IndexNotUtf8"),
+            EditionRefusal::Columns => (2, "Columns"),
+            EditionRefusal::Number => (3, "Number"),
+            EditionRefusal::Interval => (4, "Interval"),
+            EditionRefusal::Headword => (5, "Headword"),
+            EditionRefusal::BodyText => (6, "BodyText"),
+            EditionRefusal::BodyLine => (7, "BodyLine"),
+            EditionRefusal::Reserved => (8, "Reserved"),
+            EditionRefusal::ReservedTwice => (9, "ReservedTwice"),
+            EditionRefusal::NoTitle => (10, "NoTitle"),
+            EditionRefusal::BadTitle => (11, "BadTitle"),
+            EditionRefusal::TooManyEntries => (12, "TooManyEntries"),
+            EditionRefusal::TextTooLong => (13, "TextTooLong"),
+            EditionRefusal::LastLine => (14, "LastLine"),
+            EditionRefusal::Shown => (15, "Shown"),
         }
     }
 
@@ -86,7 +86,7 @@ pub enum IndexFault {
     /// A test failed, at the line with this number, from 1, where it is a test of a line.
     #[error("the files are refused")]
     Refused {
-        refusal: Refusal,
+        refusal: EditionRefusal,
         line: Option<usize>,
     },
     /// A growth was refused.

@@ -5,10 +5,10 @@ ghost use Rattle.dict_index.specs.Reserved.{is_reserved, is_known};
 ghost use Rattle.dict_index.specs.Line.{IsLine};
 ghost use Rattle.dict_index.specs.Views.{line_of, HasBodyIn, HasItsKey, HasReservedKey};
 ghost use Rattle.dict_index.specs.Tests.{PassesLine};
-ghost use Rattle.dict_index.specs.declared.fault.Refusal.TheVariants.{Reserved, ReservedTwice};
+ghost use Rattle.dict_index.specs.declared.fault.EditionRefusal.TheVariants.{Reserved, ReservedTwice};
 
 use crate::entry::Entry;
-use crate::fault::Refusal;
+use crate::fault::EditionRefusal;
 use crate::line::{LineFault, as_text, searched_key};
 use std::alloc::{AllocError, Global};
 use std::collections::BTreeMap;
@@ -91,11 +91,11 @@ impl<'a> Gathered<'a> {
             return Ok(());
         }
         if !is_known_key(read.key.as_bytes()) {
-            return Err(LineFault::Refused(Refusal::Reserved));
+            return Err(LineFault::Refused(EditionRefusal::Reserved));
         }
         let name = as_text(read.key.as_bytes());
         if self.reserved.contains_key(name) {
-            return Err(LineFault::Refused(Refusal::ReservedTwice));
+            return Err(LineFault::Refused(EditionRefusal::ReservedTwice));
         }
         let Ok(owned) = String::from_str(alloc, name) else {
             return Err(LineFault::Memory);

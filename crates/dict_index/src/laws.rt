@@ -7,18 +7,18 @@ ghost use Rattle.dict_index.specs.Meaning.{IsReadEdition, IsEdition, IsFault, Ha
 ghost use Rattle.dict_index.specs.Tests.{IsHeadword};
 ghost use Rattle.dict_index.specs.WellFormed.{IsWellFormedEdition};
 ghost use Rattle.dict_index.specs.Worked.{worked_index, worked_text, worked_reading};
-ghost use Rattle.dict_index.specs.declared.fault.Refusal.{Refusal};
+ghost use Rattle.dict_index.specs.declared.fault.EditionRefusal.{EditionRefusal};
 
 /// Each index and each text mean exactly one thing: one edition, or one refusal with its line.
 ///
 /// It does nothing. Its clauses are the law, of which `read_edition` finds out the side.
 pub fn one_meaning()
     ensures some { (index text : List ℕ) → ((reading : ReadEdition) × IsReadEdition index text reading)
-        ⊎ ((refusal : Refusal) × (line : Option ℕ) × IsFault index text refusal line) }
-    ensures not_both { (index text : List ℕ) (reading : ReadEdition) (refusal : Refusal) (line : Option ℕ) →
+        ⊎ ((refusal : EditionRefusal) × (line : Option ℕ) × IsFault index text refusal line) }
+    ensures not_both { (index text : List ℕ) (reading : ReadEdition) (refusal : EditionRefusal) (line : Option ℕ) →
         IsReadEdition index text reading → IsFault index text refusal line → ⊥ }
     ensures one_reading { (index text : List ℕ) (a b : ReadEdition) → IsReadEdition index text a → IsReadEdition index text b → a ≡ b }
-    ensures one_fault { (index text : List ℕ) (f g : Refusal) (k l : Option ℕ) →
+    ensures one_fault { (index text : List ℕ) (f g : EditionRefusal) (k l : Option ℕ) →
         IsFault index text f k → IsFault index text g l → (f ≡ g) × (k ≡ l) }
 {}
 

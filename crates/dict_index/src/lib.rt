@@ -16,7 +16,7 @@ mod whole;
 
 pub use edition::Edition;
 pub use entry::Entry;
-pub use fault::{IndexFault, Refusal};
+pub use fault::{EditionRefusal, IndexFault};
 pub use laws::{
     lawful_headwords, one_meaning, three_columns, well_formed_editions, worked_edition,
 };

@@ -12,7 +12,7 @@ ghost use Rattle.dict_index.specs.Tests.{IsHeadword, IsShown, IsText, IsTextOcte
 
 use crate::columns::{Columns, columns_of};
 use crate::entry::Entry;
-use crate::fault::Refusal;
+use crate::fault::EditionRefusal;
 use bstr::ByteSlice;
 use dict_b64::read_number;
 use dict_match::{Key, key_of, reserved_key_of};
@@ -150,7 +150,7 @@ pub(crate) fn as_text(octets: &[u8]) -> &str
 /// Why a line is no entry.
 #[derive(Clone, Copy, Debug, PartialEq, Eq)]
 pub(crate) enum LineFault {
-    Refused(Refusal),
+    Refused(EditionRefusal),
     Memory,
 }
 
@@ -169,28 +169,28 @@ pub(crate) fn read_line<'a>(
     ensures refused { IfErr result (λ fault. IsLineFault fault text.now line.now) }
 {
     let Some(columns) = columns_of(line) else {
-        return Err(LineFault::Refused(Refusal::Columns));
+        return Err(LineFault::Refused(EditionRefusal::Columns));
     };
     let Some((offset, size)) = interval_of(columns) else {
-        return Err(LineFault::Refused(Refusal::Number));
+        return Err(LineFault::Refused(EditionRefusal::Number));
     };
     let Some(body) = cut_out(text, offset, size) else {
-        return Err(LineFault::Refused(Refusal::Interval));
+        return Err(LineFault::Refused(EditionRefusal::Interval));
     };
     let headword = as_text(columns.headword);
     let key = match headword_key(alloc, headword) {
         Ok(Some(key)) => key,
-        Ok(None) => return Err(LineFault::Refused(Refusal::Headword)),
+        Ok(None) => return Err(LineFault::Refused(EditionRefusal::Headword)),
         Err(_) => return Err(LineFault::Memory),
     };
     let Some(shown) = shown_of(headword, columns.shown) else {
-        return Err(LineFault::Refused(Refusal::Shown));
+        return Err(LineFault::Refused(EditionRefusal::Shown));
     };
     let Some(body) = text_of(body) else {
-        return Err(LineFault::Refused(Refusal::BodyText));
+        return Err(LineFault::Refused(EditionRefusal::BodyText));
     };
     if !has_short_lines(body.as_bytes()) {
-        return Err(LineFault::Refused(Refusal::BodyLine));
+        return Err(LineFault::Refused(EditionRefusal::BodyLine));
     }
     Ok(Entry {
         headword,

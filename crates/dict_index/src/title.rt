@@ -12,7 +12,7 @@ ghost use Rattle.dict_index.specs.Reserved.{without_key_line, short_key, info_ke
 ghost use Rattle.dict_index.specs.Tests.{IsTitle};
 
 use crate::columns::cut_at;
-use crate::fault::{IndexFault, Refusal};
+use crate::fault::{EditionRefusal, IndexFault};
 use crate::line::as_text;
 use dict_match::reserved_key_of;
 use dict_text::{has_control, without_blanks_at_ends};
@@ -101,15 +101,15 @@ pub(crate) fn title_and_info<'a>(
     ensures refused { IfErr result (λ fault. IsTitleFault fault (title_from (octets_of (get_by_text reserved.now short_key)))) }
 {
     let Some(short) = text_at(reserved, "00databaseshort") else {
-        return Err(refused(Refusal::NoTitle));
+        return Err(refused(EditionRefusal::NoTitle));
     };
     let title = match title_of(alloc, short) {
         Ok(Some(title)) => title,
-        Ok(None) => return Err(refused(Refusal::NoTitle)),
+        Ok(None) => return Err(refused(EditionRefusal::NoTitle)),
         Err(_) => return Err(IndexFault::Memory),
     };
     if !is_title(title) {
-        return Err(refused(Refusal::BadTitle));
+        return Err(refused(EditionRefusal::BadTitle));
     }
     let Some(info) = text_at(reserved, "00databaseinfo") else {
         return Ok((title, ""));
@@ -121,7 +121,7 @@ pub(crate) fn title_and_info<'a>(
 }
 
 // A refusal without a line.
-pub(crate) fn refused(refusal: Refusal) -> IndexFault
+pub(crate) fn refused(refusal: EditionRefusal) -> IndexFault
     ensures { result ≡ IndexFault.Refused refusal None }
 {
     IndexFault::Refused {

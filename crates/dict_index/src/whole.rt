@@ -5,26 +5,26 @@ ghost use Rattle.dict_index.specs.Limits.{most_lines};
 ghost use Rattle.dict_index.specs.Tests.{EndsByLineFeed};
 ghost use Rattle.dict_index.specs.Refused.{FailsWhole, PassWholes};
 
-use crate::fault::Refusal;
+use crate::fault::EditionRefusal;
 use crate::limits::{MAX_LINES, MAX_TEXT};
 use bstr::ByteSlice;
 use dict_text::text_lines;
 
 // The first test of the whole files that fails.
-pub(crate) fn whole_refusal(index: &[u8], text: &[u8]) -> Option<Refusal>
+pub(crate) fn whole_refusal(index: &[u8], text: &[u8]) -> Option<EditionRefusal>
     ensures { MatchOption result (PassWholes index.now text.now) (λ refusal. FailsWhole refusal index.now text.now) }
 {
     if text.len() > MAX_TEXT {
-        return Some(Refusal::TextTooLong);
+        return Some(EditionRefusal::TextTooLong);
     }
     if !index.is_utf8() {
-        return Some(Refusal::IndexNotUtf8);
+        return Some(EditionRefusal::IndexNotUtf8);
     }
     if !ends_by_line_feed(index) {
-        return Some(Refusal::LastLine);
+        return Some(EditionRefusal::LastLine);
     }
     if !has_few_lines(index) {
-        return Some(Refusal::TooManyEntries);
+        return Some(EditionRefusal::TooManyEntries);
     }
     None
 }

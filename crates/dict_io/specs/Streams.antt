@@ -9,12 +9,12 @@ pub record Stream : Type 0 where
   pub failures : ℕ
 
 -- the same before and after some calls
-pub record Change : Type 0 where
+pub record StreamChange : Type 0 where
   pub old : Stream
   pub new : Stream
 
 -- what calls leave of a source or a sink, by what contracts see of its type
-abbrev pub change : {S : Type 0} → (S → Stream) → S → S → Change
+abbrev pub change : {S : Type 0} → (S → Stream) → S → S → StreamChange
 change stream old new = record { old = stream old; new = stream new }
 
 -- the count of failures has risen, or stood at its greatest value

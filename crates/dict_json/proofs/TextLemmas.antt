@@ -7,8 +7,8 @@ use Rattle.serde_json.specs.Written.{compact_text, items_text, has_float, items_
 use Rattle.serde_json.proofs.OnLiterals.{serde_json_on_literals}
 use Rattle.dict_catalogue.specs.Items.{Stored, Item, regular, virtual}
 use Rattle.dict_catalogue.specs.Effects.{KeptReply}
-use Rattle.dict_catalogue.specs.declared.fault.Refusal.{Refusal}
-use Rattle.dict_index.specs.declared.fault.Refusal as editions
+use Rattle.dict_catalogue.specs.declared.fault.CommandRefusal.{CommandRefusal}
+use Rattle.dict_index.specs.declared.fault.EditionRefusal as editions
 use Rattle.dict_json.specs.Texts.{with_commas, kept_text, refused_command_text, refused_edition_text, item_text, list_text}
 use Rattle.dict_json.specs.Values.{texts_value, kept_value, refused_command_value, refused_edition_value, item_value}
 
@@ -28,23 +28,23 @@ written d e s t is none text h = h (ap has_float is ∙ none) ∙ (ap compact_te
 pub kept_written : (kept : KeptReply) (d : Data) (s : List ℕ) → d ≡ kept_value kept → (has_float d ≡ false → s ≡ compact_text d) → s ≡ kept_text kept
 kept_written kept d s is h = written d (kept_value kept) s (kept_text kept) is (kept_no_float kept.edition kept) (kept_parts kept.edition kept) h
 
-command_parts : (refusal : Refusal) → compact_text (refused_command_value refusal) ≡ refused_command_text refusal
+command_parts : (refusal : CommandRefusal) → compact_text (refused_command_value refusal) ≡ refused_command_text refusal
 unfolding serde_json_on_literals
 command_parts refusal = refl
 
-pub command_written : (refusal : Refusal) (d : Data) (s : List ℕ) → d ≡ refused_command_value refusal → (has_float d ≡ false → s ≡ compact_text d) → s ≡ refused_command_text refusal
+pub command_written : (refusal : CommandRefusal) (d : Data) (s : List ℕ) → d ≡ refused_command_value refusal → (has_float d ≡ false → s ≡ compact_text d) → s ≡ refused_command_text refusal
 command_written refusal d s is h = written d (refused_command_value refusal) s (refused_command_text refusal) is refl (command_parts refusal) h
 
-edition_parts : (refusal : editions.Refusal) (line : Option ℕ) → compact_text (refused_edition_value refusal line) ≡ refused_edition_text refusal line
+edition_parts : (refusal : editions.EditionRefusal) (line : Option ℕ) → compact_text (refused_edition_value refusal line) ≡ refused_edition_text refusal line
 unfolding serde_json_on_literals
 edition_parts refusal (Some n) = refl
 edition_parts refusal None = refl
 
-edition_no_float : (refusal : editions.Refusal) (line : Option ℕ) → has_float (refused_edition_value refusal line) ≡ false
+edition_no_float : (refusal : editions.EditionRefusal) (line : Option ℕ) → has_float (refused_edition_value refusal line) ≡ false
 edition_no_float refusal (Some n) = refl
 edition_no_float refusal None = refl
 
-pub edition_written : (refusal : editions.Refusal) (line : Option ℕ) (d : Data) (s : List ℕ) → d ≡ refused_edition_value refusal line → (has_float d ≡ false → s ≡ compact_text d) → s ≡ refused_edition_text refusal line
+pub edition_written : (refusal : editions.EditionRefusal) (line : Option ℕ) (d : Data) (s : List ℕ) → d ≡ refused_edition_value refusal line → (has_float d ≡ false → s ≡ compact_text d) → s ≡ refused_edition_text refusal line
 edition_written refusal line d s is h = written d (refused_edition_value refusal line) s (refused_edition_text refusal line) is (edition_no_float refusal line) (edition_parts refusal line) h
 
 -- ---- arrays

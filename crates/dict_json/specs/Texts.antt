@@ -6,11 +6,11 @@ use Rattle.json.specs.Print.{quoted}
 use Rattle.dict_catalogue.specs.Items.{Item, regular, virtual}
 use Rattle.dict_catalogue.specs.Effects.{KeptReply}
 use Rattle.dict_catalogue.specs.Refusals.{refusal_number, refusal_name}
-use Rattle.dict_catalogue.specs.declared.fault.Refusal.{Refusal}
+use Rattle.dict_catalogue.specs.declared.fault.CommandRefusal.{CommandRefusal}
 use Rattle.dict_catalogue.specs.declared.reply.Verb.{Verb}
 use Rattle.dict_catalogue.specs.declared.reply.Verb.TheVariants.{Install, Rollback, Retire, Virtual, Place}
 use Rattle.dict_index.specs.Refusals.{refusal_number as edition_refusal_number, refusal_name as edition_refusal_name}
-use Rattle.dict_index.specs.declared.fault.Refusal as editions
+use Rattle.dict_index.specs.declared.fault.EditionRefusal as editions
 
 -- an octet that can't stand for itself in a string. RFC 8259, section 7: a quotation mark, a backslash, a control character
 abbrev pub needs_escape : ℕ → Bool
@@ -39,12 +39,12 @@ kept_text kept =
     ++ (codes ",\"number\":" ++ (decimal kept.number ++ (codes ",\"verb\":" ++ (quoted (verb_text kept.verb) ++ codes "}")))))))
 
 -- why a command is refused
-abbrev pub refused_command_text : Refusal → List ℕ
+abbrev pub refused_command_text : CommandRefusal → List ℕ
 refused_command_text refusal =
     codes "{\"reason\":" ++ (quoted (refusal_name refusal) ++ (codes ",\"refusal\":" ++ (decimal (refusal_number refusal) ++ codes "}")))
 
 -- why an edition is refused, and at which line
-abbrev pub refused_edition_text : editions.Refusal → Option ℕ → List ℕ
+abbrev pub refused_edition_text : editions.EditionRefusal → Option ℕ → List ℕ
 refused_edition_text refusal line =
     codes "{\"fault\":" ++ (decimal (edition_refusal_number refusal) ++ (codes ",\"line\":" ++ (number_or_null line
     ++ (codes ",\"reason\":" ++ (quoted (edition_refusal_name refusal) ++ codes "}")))))

@@ -5,9 +5,9 @@ use Rattle.serde_json.specs.View.{items_of}
 use Rattle.dict_catalogue.specs.Items.{Item, regular, virtual}
 use Rattle.dict_catalogue.specs.Effects.{KeptReply}
 use Rattle.dict_catalogue.specs.Refusals.{refusal_number, refusal_name}
-use Rattle.dict_catalogue.specs.declared.fault.Refusal.{Refusal}
+use Rattle.dict_catalogue.specs.declared.fault.CommandRefusal.{CommandRefusal}
 use Rattle.dict_index.specs.Refusals.{refusal_number as edition_refusal_number, refusal_name as edition_refusal_name}
-use Rattle.dict_index.specs.declared.fault.Refusal as editions
+use Rattle.dict_index.specs.declared.fault.EditionRefusal as editions
 use Rattle.dict_json.specs.Texts.{verb_text}
 
 abbrev pub maybe_number : Option ℕ → Data
@@ -22,11 +22,11 @@ kept_value kept =
     object (member (codes "edition") (maybe_number kept.edition) (member (codes "name") (string kept.name)
     (member (codes "number") (number (unsigned kept.number)) (member (codes "verb") (string (verb_text kept.verb)) no_members))))
 
-abbrev pub refused_command_value : Refusal → Data
+abbrev pub refused_command_value : CommandRefusal → Data
 refused_command_value refusal =
     object (member (codes "reason") (string (refusal_name refusal)) (member (codes "refusal") (number (unsigned (refusal_number refusal))) no_members))
 
-abbrev pub refused_edition_value : editions.Refusal → Option ℕ → Data
+abbrev pub refused_edition_value : editions.EditionRefusal → Option ℕ → Data
 refused_edition_value refusal line =
     object (member (codes "fault") (number (unsigned (edition_refusal_number refusal)))
     (member (codes "line") (maybe_number line) (member (codes "reason") (string (edition_refusal_name refusal)) no_members)))

@@ -5,8 +5,8 @@ ghost use Rattle.dict_catalogue.specs.Views.{kept_shown};
 ghost use Rattle.dict_json.specs.Texts.{kept_text, verb_text, refused_command_text, refused_edition_text};
 ghost use Rattle.dict_json.specs.Values.{kept_value, refused_command_value, refused_edition_value};
 
-use dict_catalogue::{Kept, Refusal, Verb};
-use dict_index::Refusal as EditionRefusal;
+use dict_catalogue::{CommandRefusal, Kept, Verb};
+use dict_index::EditionRefusal;
 use serde_json::{Value, json};
 use std::alloc::{AllocError, Global};
 
@@ -43,14 +43,14 @@ pub fn kept_json(alloc: Global, kept: &Kept) -> Result<String, AllocError>
     value.to_string(alloc)
 }
 
-fn refused_command_value(alloc: Global, refusal: Refusal) -> Result<Value, AllocError>
+fn refused_command_value(alloc: Global, refusal: CommandRefusal) -> Result<Value, AllocError>
     ensures { IfOk result (λ value. view value ≡ refused_command_value refusal) }
 {
     json!(in alloc; {"reason": refusal.name(), "refusal": refusal.number()})
 }
 
 /// The JSON of a command that is refused: the refusal's name and number.
-pub fn refused_command_json(alloc: Global, refusal: Refusal) -> Result<String, AllocError>
+pub fn refused_command_json(alloc: Global, refusal: CommandRefusal) -> Result<String, AllocError>
     ensures { IfOk result (λ text. string_bytes text ≡ refused_command_text refusal) }
 {
     let value = refused_command_value(alloc, refusal)?;

@@ -30,7 +30,7 @@ use Rattle.dict_sql.proofs.SilentLemmas.{commits_none, never_returns, shut_query
 use Rattle.dict_sql.proofs.StreamLemmas.{still}
 use Rattle.dict_tables.specs.Keyed.{entry, old_entry, word, gram}
 use Rattle.dict_keyed_sql.specs.Texts.{list_text, rowid_text, select_text, key_text, range_text, reversed_text, word_text, gram_text}
-use Rattle.dict_keyed_sql.specs.Scans.{Scan, HasTables, scan_table, scan_text, scan_values, scan_test, IsWhole, IsFront, HasGiven, GivesOn, FailsToGive}
+use Rattle.dict_keyed_sql.specs.Scans.{Scan, HasScanTables, scan_table, scan_text, scan_values, scan_test, IsWhole, IsFront, HasGiven, GivesOn, FailsToGive}
 use Rattle.dict_keyed_sql.specs.Scans.Scan.{All, ByRowid, Of, OldByRowid, OldOf, WithKey, Between, BetweenReversed, WithWord, WithGrams}
 use Rattle.dict_tables.specs.declared.keyed.KeyedTable.TheVariants as keyed
 use Rattle.dict_keyed_sql.proofs.GramAnswers.{gram_answers, asked_grams, gram_names, asks_grams}
@@ -43,7 +43,7 @@ use Rattle.dict_keyed_sql.proofs.RowidTexts.{read_entry_by_rowid, reads_entry_by
 use Rattle.dict_keyed_sql.proofs.WordAnswers.{word_answers, asked_word, word_names, asks_word}
 use Rattle.dict_keyed_sql.proofs.WordTexts.{word_select, read_word_text, reads_word_text}
 
-shows : (what : Scan) (old new : State) (rows : List Row) → HasTables what old.now → Shown (scan_text what) (scan_values what) old new rows → IsWhole what old.now rows
+shows : (what : Scan) (old new : State) (rows : List Row) → HasScanTables what old.now → Shown (scan_text what) (scan_values what) old new rows → IsWhole what old.now rows
 shows (All keyed.Entry) old new rows has h = (shown_selects (list_text keyed.Entry) read_all_entry entry _ _ _ _ _ _ _ _ reads_all_entry (λ tree. refl) [] (scan_test (All keyed.Entry)) (λ tree row. refl) old new rows has h).0
 shows (ByRowid keyed.Entry) old new rows has h = (shown_selects (rowid_text keyed.Entry) read_entry_by_rowid entry _ _ _ _ _ _ _ _ reads_entry_by_rowid (λ tree. refl) [] (scan_test (ByRowid keyed.Entry)) (λ tree row. refl) old new rows has h).0
 shows OldByRowid old new rows has h = (shown_selects (rowid_text keyed.Entry) read_old_by_rowid old_entry _ _ _ _ _ _ _ _ reads_old_by_rowid (λ tree. refl) [] (scan_test OldByRowid) (λ tree row. refl) old new rows has h).0
@@ -61,7 +61,7 @@ shows (BetweenReversed n low high) old new rows has h = (shown_selects reversed_
 shows (WithWord n w) old new rows has h = word_answers old.now.schema has.0.0 has.0.1 has.0.2 has.1.0 has.1.1 has.1.2 n w old.now.trees rows (asks_answer word_text read_word_text (asked_word old.now has.0 has.1) (word_names old.now has.0 has.1) (Int n ∷ Bytes w ∷ []) old new (asks_word old.now has.0 has.1 n w) rows h)
 shows (WithGrams n a b) old new rows has h = gram_answers old.now.schema has.0.0 has.0.1 has.0.2 has.1.0 has.1.1 has.1.2 n a b old.now.trees rows (asks_answer gram_text read_gram_text (asked_grams old.now has.0 has.1) (gram_names old.now has.0 has.1) (Int n ∷ Bytes a ∷ Bytes b ∷ []) old new (asks_grams old.now has.0 has.1 n a b) rows h)
 
-plainly : (what : Scan) (db : Database) → HasTables what db → IsPlain (understood db.schema (scan_text what))
+plainly : (what : Scan) (db : Database) → HasScanTables what db → IsPlain (understood db.schema (scan_text what))
 plainly (All keyed.Entry) db has = reads_plain (list_text keyed.Entry) read_all_entry entry _ _ _ _ _ _ _ _ reads_all_entry db.schema has.0 has.1 has.2
 plainly (ByRowid keyed.Entry) db has = reads_plain (rowid_text keyed.Entry) read_entry_by_rowid entry _ _ _ _ _ _ _ _ reads_entry_by_rowid db.schema has.0 has.1 has.2
 plainly OldByRowid db has = reads_plain (rowid_text keyed.Entry) read_old_by_rowid old_entry _ _ _ _ _ _ _ _ reads_old_by_rowid db.schema has.0 has.1 has.2
@@ -79,7 +79,7 @@ plainly (BetweenReversed n low high) db has = reads_plain reversed_text read_by_
 plainly (WithWord n w) db has = asks_plain word_text read_word_text (asked_word db has.0 has.1) (word_names db has.0 has.1) (Int n ∷ Bytes w ∷ []) db (asks_word db has.0 has.1 n w)
 plainly (WithGrams n a b) db has = asks_plain gram_text read_gram_text (asked_grams db has.0 has.1) (gram_names db has.0 has.1) (Int n ∷ Bytes a ∷ Bytes b ∷ []) db (asks_grams db has.0 has.1 n a b)
 
-ends : (what : Scan) (now : Database) → HasTables what now → (c : Compiled) → understood now.schema (scan_text what) ≡ Ok c → (db : Database) (params : Row) → EndsIn c.command db params
+ends : (what : Scan) (now : Database) → HasScanTables what now → (c : Compiled) → understood now.schema (scan_text what) ≡ Ok c → (db : Database) (params : Row) → EndsIn c.command db params
 ends (All keyed.Entry) now has = ends_at (list_text keyed.Entry) read_all_entry entry _ _ _ _ _ _ _ _ reads_all_entry now.schema has
 ends (ByRowid keyed.Entry) now has = ends_at (rowid_text keyed.Entry) read_entry_by_rowid entry _ _ _ _ _ _ _ _ reads_entry_by_rowid now.schema has
 ends OldByRowid now has = ends_at (rowid_text keyed.Entry) read_old_by_rowid old_entry _ _ _ _ _ _ _ _ reads_old_by_rowid now.schema has
@@ -110,7 +110,7 @@ module _ (old new : State) where
     | inr shut ↦ shut_query gram_text read_gram_text gram_select reads_gram_text.read reads_gram_text.statement old new (Int n ∷ Bytes a ∷ Bytes b ∷ []) e shut h
   ]
 
-pub fails_to_read : (what : Scan) (old new : State) → (IsTrue old.is_open → HasTables what old.now) → (e : Error) → FailsToQuery (scan_text what) (scan_values what) old new e → FailsToRead old new e
+pub fails_to_read : (what : Scan) (old new : State) → (IsTrue old.is_open → HasScanTables what old.now) → (e : Error) → FailsToQuery (scan_text what) (scan_values what) old new e → FailsToRead old new e
 fails_to_read (All keyed.Entry) old new has = fails_read (list_text keyed.Entry) read_all_entry entry _ _ _ _ _ _ _ _ reads_all_entry nothing takes_all_entry tt old new has
 fails_to_read (ByRowid keyed.Entry) old new has = fails_read (rowid_text keyed.Entry) read_entry_by_rowid entry _ _ _ _ _ _ _ _ reads_entry_by_rowid nothing takes_entry_by_rowid tt old new has
 fails_to_read OldByRowid old new has = fails_read (rowid_text keyed.Entry) read_old_by_rowid old_entry _ _ _ _ _ _ _ _ reads_old_by_rowid nothing takes_old_by_rowid tt old new has
@@ -167,7 +167,7 @@ none_returned (WithGrams n a b) = never_returns gram_text read_gram_text gram_se
 commits_nothing : (what : Scan) (old new : State) → Survives old new (CommitsShowing (scan_text what) (scan_values what) old) → Survives old new (λ _. ⊥)
 commits_nothing what old new s = survives_weaker old new _ _ (λ clean db. none_committed what (scan_values what) old db) s
 
-tables_stay : (what : Scan) (old new : Database) → new.schema ≡ old.schema → HasTables what old → HasTables what new
+tables_stay : (what : Scan) (old new : Database) → new.schema ≡ old.schema → HasScanTables what old → HasScanTables what new
 tables_stay (All t) old new same has = still_has (scan_table (All t)) old new same has
 tables_stay (ByRowid t) old new same has = still_has (scan_table (ByRowid t)) old new same has
 tables_stay (Of t n) old new same has = still_has (scan_table (Of t n)) old new same has
@@ -180,17 +180,17 @@ tables_stay (WithWord n w) old new same has = (still_has word old new same has.0
 tables_stay (WithGrams n a b) old new same has = (still_has gram old new same has.0, still_has entry old new same has.1)
 
 module _ {S : Type 0} (g : Ghosts S) (what : Scan) where
-  has_later : (old new : Held S) → IsUnchanged (state g old) (state g new) → HasTables what (state g old).now → HasTables what (state g new).now
+  has_later : (old new : Held S) → IsUnchanged (state g old) (state g new) → HasScanTables what (state g old).now → HasScanTables what (state g new).now
   has_later old new same = tables_stay what (state g old).now (state g new).now (ap (λ (d : Database). d.schema) same.0.now_is)
 
   -- what was given so far is a front of the whole
-  front : (old new : Held S) (given : List Row) → IsUnchanged (state g old) (state g new) → HasTables what (state g new).now → kit.HasGiven g (scan_text what) (scan_values what) new given → IsFront what (state g new).now given
+  front : (old new : Held S) (given : List Row) → IsUnchanged (state g old) (state g new) → HasScanTables what (state g new).now → kit.HasGiven g (scan_text what) (scan_values what) new given → IsFront what (state g new).now given
   front old new given same has runs =
       let s = state g new in
       let all = begins_shown (scan_text what) (scan_values what) s s given (given_begin g (scan_text what) (scan_values what) new given runs) (still (state g old) s same) (λ c db it source. ends what s.now has c it.is db (timed (scan_values what) c.formats it.now)) in
       (all.0, shows what s s (given ++ all.0) has all.1)
 
-  begun : (old new : Held S) → HasTables what (state g old).now → kit.HasBegun g (scan_text what) (scan_values what) old new → HasGiven g what new [] × IsUnchanged (state g old) (state g new)
+  begun : (old new : Held S) → HasScanTables what (state g old).now → kit.HasBegun g (scan_text what) (scan_values what) old new → HasGiven g what new [] × IsUnchanged (state g old) (state g new)
   begun old new has h =
       let it = begun_plain g (scan_text what) (scan_values what) old new (plainly what (state g old).now has) h in
       let later = has_later old new it.1 has in
@@ -210,7 +210,7 @@ module _ {S : Type 0} (g : Ghosts S) (what : Scan) where
 
 -- ---- how a reading begins
 
-module _ {S : Type 0} (g : Ghosts S) (what : Scan) (old : Held S) (has : WhileOpen (state g old) (HasTables what)) where
+module _ {S : Type 0} (g : Ghosts S) (what : Scan) (old : Held S) (has : WhileOpen (state g old) (HasScanTables what)) where
   began_open : (new : Held S) → kit.HasBegun g (scan_text what) (scan_values what) old new → IsTrue (state g old).is_open
   began_open new (inl h) = h.1.0.was_open
   began_open new (inr h) = absurd (none_returned what old.schema h.0)

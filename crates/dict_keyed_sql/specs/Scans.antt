@@ -56,10 +56,10 @@ abbrev pub scan_name : Scan → List ℕ
 scan_name what = (scan_table what 0).name
 
 -- the database has the tables that are read
-abbrev pub HasTables : Scan → Database → Type 0
-HasTables (WithWord edition w) db = Has word db × Has entry db
-HasTables (WithGrams edition a b) db = Has gram db × Has entry db
-HasTables what db = Has (scan_table what) db
+abbrev pub HasScanTables : Scan → Database → Type 0
+HasScanTables (WithWord edition w) db = Has word db × Has entry db
+HasScanTables (WithGrams edition a b) db = Has gram db × Has entry db
+HasScanTables what db = Has (scan_table what) db
 
 -- the text that is run, and the values that it is given
 abbrev pub scan_text : Scan → List ℕ
@@ -132,7 +132,7 @@ module _ {S : Type 0} (g : Ghosts S) where
   -- the connection reads this, and has given these rows
   pub record HasGiven (what : Scan) (h : Held S) (given : List Row) : Type 0 where
     pub runs : kit.HasGiven g (scan_text what) (scan_values what) h given
-    pub has : HasTables what (state g h).now
+    pub has : HasScanTables what (state g h).now
     pub front : IsFront what (state g h).now given
 
   -- one more row is given, or those so far are all

@@ -7,7 +7,7 @@ ghost use Rattle.dict_tables.specs.Tables.{column_of};
 ghost use Rattle.dict_tables.specs.Keyed.{entry, word, gram, table_of};
 
 use dict_tables::{
-    KeyedTable, find_table, is_alone, is_column, is_one_key, is_one_plain, is_plain,
+    KeyedTable, find_table, is_column, is_only_key, is_only_plain_order, is_plain, is_unshared,
 };
 use sqlite_schema::schema::{Column, Kind, Schema, Table};
 
@@ -45,8 +45,8 @@ fn are_entry_keys(t: &Table) -> bool
 {
     t.key.is_none()
         && t.primary.as_slice() == [1, 2].as_slice()
-        && is_one_key(t.uniques.as_slice(), &[1, 2])
-        && is_one_plain(t.orders.as_slice())
+        && is_only_key(t.uniques.as_slice(), &[1, 2])
+        && is_only_plain_order(t.orders.as_slice())
 }
 
 fn is_entry(t: &Table) -> bool
@@ -76,8 +76,8 @@ fn are_piece_keys(t: &Table) -> bool
 {
     t.key.is_none()
         && t.primary.as_slice() == [1, 2, 3].as_slice()
-        && is_one_key(t.uniques.as_slice(), &[1, 2, 3])
-        && is_one_plain(t.orders.as_slice())
+        && is_only_key(t.uniques.as_slice(), &[1, 2, 3])
+        && is_only_plain_order(t.orders.as_slice())
 }
 
 fn is_word(t: &Table) -> bool
@@ -114,7 +114,7 @@ pub fn has_keyed_table(schema: &Schema, table: KeyedTable) -> bool
     ensures { IsTrue result ↔ HasOwn schema.now (table_of table) }
 {
     match find_table(schema, table.name().as_bytes()) {
-        Some(found) => is_defined_as(found, table) && is_alone(schema, found),
+        Some(found) => is_defined_as(found, table) && is_unshared(schema, found),
         None => false,
     }
 }

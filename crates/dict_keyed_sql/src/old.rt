@@ -14,7 +14,7 @@ ghost use Rattle.dict_tables.specs.Keyed.{old_entry};
 ghost use Rattle.dict_keyed_sql.specs.Scans.{HasGiven};
 ghost use Rattle.dict_keyed_sql.specs.Scans.Scan.{OldByRowid, OldOf};
 
-use dict_tables::{find_table, is_alone, is_column, is_one_key, is_one_plain, is_plain};
+use dict_tables::{find_table, is_column, is_only_key, is_only_plain_order, is_plain, is_unshared};
 use sqlite::{Alter, Connection, Error, Rows, params};
 use sqlite_schema::schema::{Column, Kind, Schema, Table};
 
@@ -51,8 +51,8 @@ fn are_entry_keys(t: &Table) -> bool
 {
     t.key.is_none()
         && t.primary.as_slice() == [1, 2].as_slice()
-        && is_one_key(t.uniques.as_slice(), &[1, 2])
-        && is_one_plain(t.orders.as_slice())
+        && is_only_key(t.uniques.as_slice(), &[1, 2])
+        && is_only_plain_order(t.orders.as_slice())
 }
 
 fn is_old_entry(t: &Table) -> bool
@@ -69,7 +69,7 @@ pub fn has_old_entry(schema: &Schema) -> bool
     ensures { IsTrue result ↔ HasOwn schema.now old_entry }
 {
     match find_table(schema, b"entry") {
-        Some(found) => is_old_entry(found) && is_alone(schema, found),
+        Some(found) => is_old_entry(found) && is_unshared(schema, found),
         None => false,
     }
 }

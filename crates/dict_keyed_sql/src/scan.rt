@@ -13,7 +13,7 @@ ghost use Rattle.dict_sql.specs.Effects.{Has, WhileOpen};
 ghost use Rattle.dict_sql.specs.Streams.{IsNotBegun};
 ghost use Rattle.dict_tables.specs.Keyed.{table_of, entry};
 ghost use Rattle.dict_keyed_sql.specs.Texts.{list_text, rowid_text, select_text};
-ghost use Rattle.dict_keyed_sql.specs.Scans.{Scan, HasTables, HasGiven, GivesOn, FailsToGive};
+ghost use Rattle.dict_keyed_sql.specs.Scans.{Scan, HasScanTables, HasGiven, GivesOn, FailsToGive};
 ghost use Rattle.dict_keyed_sql.specs.Scans.Scan.{All, ByRowid, Of, WithKey, Between, BetweenReversed, WithWord, WithGrams};
 
 use dict_sql::records::{ReadError, Record};
@@ -176,7 +176,7 @@ pub fn read_with_word<'a, S: Alter>(
     edition: i64,
     word: &[u8],
 ) -> Result<Rows<'a, S>, Error>
-    requires { WhileOpen (state S.Store conn.old) (HasTables (WithWord edition word.now)) }
+    requires { WhileOpen (state S.Store conn.old) (HasScanTables (WithWord edition word.now)) }
     ensures* refused { sem 𝓛 (RestsIfErr (the_row S.row S.Store) conn.entry (λ rows. rows.conn.ghost_name) result (IsNotBegun S.Store conn.old result)) }
     ensures same_reference { IfOk result (λ rows. rows.conn.ghost_name ≡ conn.entry.ghost_name) }
     ensures begun { IfOk result (λ rows. HasCleanDisk (state S.Store rows.conn.now) → HasGiven S.Store (WithWord edition word.now) rows.conn.now [] × IsUnchanged (state S.Store conn.old) (state S.Store rows.conn.now)) }
@@ -198,7 +198,7 @@ pub fn read_with_grams<'a, S: Alter>(
     first: &[u8],
     last: &[u8],
 ) -> Result<Rows<'a, S>, Error>
-    requires { WhileOpen (state S.Store conn.old) (HasTables (WithGrams edition first.now last.now)) }
+    requires { WhileOpen (state S.Store conn.old) (HasScanTables (WithGrams edition first.now last.now)) }
     ensures* refused { sem 𝓛 (RestsIfErr (the_row S.row S.Store) conn.entry (λ rows. rows.conn.ghost_name) result (IsNotBegun S.Store conn.old result)) }
     ensures same_reference { IfOk result (λ rows. rows.conn.ghost_name ≡ conn.entry.ghost_name) }
     ensures begun { IfOk result (λ rows. HasCleanDisk (state S.Store rows.conn.now) → HasGiven S.Store (WithGrams edition first.now last.now) rows.conn.now [] × IsUnchanged (state S.Store conn.old) (state S.Store rows.conn.now)) }

@@ -90,14 +90,14 @@ command_of name parameters =
     else not_recognized)))))))
 
 -- what the words of a line ask for
-abbrev pub asked_by : List (List ℕ) → Meaning
-asked_by [] = not_recognized
-asked_by (name ∷ parameters) = command_of name parameters
+abbrev pub meaning_by_words : List (List ℕ) → Meaning
+meaning_by_words [] = not_recognized
+meaning_by_words (name ∷ parameters) = command_of name parameters
 
 -- the same, where the line can be cut into words; else it is 501
 abbrev pub asked : Option (List (List ℕ)) → Meaning
 asked None = illegal_parameters
-asked (Some words) = asked_by words
+asked (Some words) = meaning_by_words words
 
 -- the meaning of a line, without its CR LF; each word is told in octets
 unfoldable pub meaning : List ℕ → Meaning

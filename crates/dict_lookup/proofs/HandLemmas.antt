@@ -23,8 +23,8 @@ use Rattle.dict_desk.specs.Found.{distinct}
 use Rattle.dict_desk.specs.Handing.{Hands}
 use Rattle.dict_desk.specs.declared.fault.Fault.{Fault}
 use Rattle.dict_desk.specs.declared.fault.Fault.TheVariants.{Disk}
-use Rattle.dict_desk.specs.declared.sink.Turn.{Turn}
-use Rattle.dict_desk.specs.declared.sink.Turn.TheVariants.{More, Stop}
+use Rattle.dict_desk.specs.declared.sink.Demand.{Demand}
+use Rattle.dict_desk.specs.declared.sink.Demand.TheVariants.{More, Stop}
 use Rattle.dict_desk.specs.declared.lookup.End.TheVariants.{All, Stopped}
 use Rattle.dict_desk.proofs.HandingLemmas.{hands_all, hands_stopped, hands_front}
 use Rattle.dict_lookup.specs.Searches.{IsReading, IsToCome, FailsToLookUp}
@@ -161,7 +161,7 @@ pub by_err : {X E : Type 0} (result : Result X E) (Q : E → Type 0) (P : Result
 by_err (Ok x) Q P h each = absurd h
 by_err (Err e) Q P h each = each e
 
-abbrev pub ok_turn : {E : Type 0} → Turn → Result Turn E
+abbrev pub ok_turn : {E : Type 0} → Demand → Result Demand E
 ok_turn turn = Ok turn
 
 pub none_by : {X : Type 0} (o : Option X) (P : Type 0) (Q : X → Type 0) → ((x : X) → o ≡ Some x → ⊥) → MatchOption o P Q → P
@@ -171,10 +171,10 @@ none_by (Some x) P Q apart h = absurd (apart x refl)
 pub some_by : {X : Type 0} (o : Option X) (x : X) (P : Type 0) (Q : X → Type 0) → o ≡ Some x → MatchOption o P Q → Q x
 some_by o x P Q e h = subst (λ p. MatchOption p P Q) e h
 
-pub same_turn : {E : Type 0} (a b : Turn) → ok_turn {E = E} a ≡ ok_turn {E = E} b → a ≡ b
+pub same_turn : {E : Type 0} (a b : Demand) → ok_turn {E = E} a ≡ ok_turn {E = E} b → a ≡ b
 same_turn a b e = cc
 
-pub more_by : (turn : Turn) → (turn ≡ Stop → ⊥) → turn ≡ More
+pub more_by : (turn : Demand) → (turn ≡ Stop → ⊥) → turn ≡ More
 more_by More apart = refl
 more_by Stop apart = absurd (apart refl)
 

@@ -44,10 +44,10 @@ use Rattle.dict_derived.proofs.AfterLemmas.{derived_part, derived_due}
 use Rattle.dict_derived.proofs.SortedLemmas.{some_derived}
 use Rattle.dict_keyed_sql.specs.Pieces.{HasDerived, name_for}
 use Rattle.dict_desk.specs.Shown.{HasEdition}
-use Rattle.dict_file.specs.Readings.{KeepsAll}
-use Rattle.dict_file.specs.Holds.{HasLayout, Holds}
-use Rattle.dict_file.proofs.ReadableLemmas.{any_holds, item_name}
-use Rattle.dict_lookup.specs.Searches.{HasTables, HoldsLines, HoldsOne, IsReadable, rows_under, filed_lines, filed_of, keys_of, number_in, octets_in}
+use Rattle.dict_holdings.specs.Readings.{KeepsAll}
+use Rattle.dict_holdings.specs.Holds.{HasLayout, Holds}
+use Rattle.dict_holdings.proofs.ReadableLemmas.{any_holds, item_name}
+use Rattle.dict_lookup.specs.Searches.{HasLookupTables, HoldsLines, HoldsOne, IsReadable, rows_under, filed_lines, filed_of, keys_of, number_in, octets_in}
 use Rattle.dict_lookup.proofs.FailLemmas.{all_contains}
 use Rattle.dict_lookup.proofs.FiledLemmas.{IsRead, column_behind, selected, selected_read}
 use Rattle.dict_lookup.proofs.RecordLemmas.{decode_edition}
@@ -310,7 +310,7 @@ held_under db M number holds r there = by_known (has_number M.items (pos number)
 had : (table : ℕ → Table) (db : Database) → HasOwn db.schema table → Has table db
 had table db own = (own.at, own.tree, own.has)
 
-pub held_tables : (db : Database) → HasLayout (layout_of known) db.schema → HasTables db
+pub held_tables : (db : Database) → HasLayout (layout_of known) db.schema → HasLookupTables db
 held_tables db own =
     let all = own.tables in
     (had _ db all.1.1.1.0, had _ db all.1.1.1.1.0, had _ db all.1.1.1.1.1.1.0, had _ db all.1.1.1.1.1.1.1.0)

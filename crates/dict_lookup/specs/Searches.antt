@@ -28,13 +28,13 @@ use Rattle.dict_derived.specs.declared.reader.Pieces.TheVariants.{Words, Grams}
 use Rattle.dict_keyed_sql.specs.Pieces.{HasDerived}
 use Rattle.dict_keyed_sql.specs.Scans.{Scan, HasGiven, IsWhole}
 use Rattle.dict_keyed_sql.specs.Scans.Scan.{Of, WithKey as KeyScan, Between as KeysScan, BetweenReversed as ReversedScan, WithWord as WordScan, WithGrams as GramsScan}
-pub use Rattle.dict_file.specs.Faults.{fault_of, fault_of_read}
+pub use Rattle.dict_holdings.specs.Faults.{fault_of, fault_of_read}
 use Rattle.dict_desk.specs.declared.fault.Fault.{Fault}
 use Rattle.dict_desk.specs.declared.fault.Fault.TheVariants.{Refused, Memory, Disk, Closed, NotACatalogue, Damaged, NewerSchema}
 
 -- the tables that a lookup reads
-abbrev pub HasTables : Database → Type 0
-HasTables db = Has edition db × Has entry db × Has word db × Has gram db
+abbrev pub HasLookupTables : Database → Type 0
+HasLookupTables db = Has edition db × Has entry db × Has word db × Has gram db
 
 -- ---- what the database holds under the number of an edition
 

@@ -8,7 +8,7 @@ ghost use Rattle.dict_sql.specs.Effects.{WhileOpen};
 ghost use Rattle.dict_sql.specs.Streams.{IsNotBegun};
 ghost use Rattle.dict_derived.specs.Search.{rows_of};
 ghost use Rattle.dict_keyed_sql.specs.Scans.{HasGiven};
-ghost use Rattle.dict_lookup.specs.Searches.{HasTables, FailsToLookUp, IsOfStore, scan_for};
+ghost use Rattle.dict_lookup.specs.Searches.{HasLookupTables, FailsToLookUp, IsOfStore, scan_for};
 
 use crate::fault::fault_of_read;
 use dict_derived::Selection;
@@ -28,7 +28,7 @@ pub(crate) fn begin<'a, S: Alter>(
     number: i64,
     selection: &Selection,
 ) -> Result<Rows<'a, S>, Error>
-    requires { WhileOpen (state S.Store conn.old) HasTables }
+    requires { WhileOpen (state S.Store conn.old) HasLookupTables }
     ensures* refused { sem 𝓛 (RestsIfErr (the_row S.row S.Store) conn.entry (λ rows. rows.conn.ghost_name) result (IsNotBegun S.Store conn.old result)) }
     ensures same_reference { IfOk result (λ rows. rows.conn.ghost_name ≡ conn.entry.ghost_name) }
     ensures begun { IfOk result (λ rows. HasCleanDisk (state S.Store rows.conn.now) → HasGiven S.Store (scan_for number (rows_of selection.now)) rows.conn.now [] × IsUnchanged (state S.Store conn.old) (state S.Store rows.conn.now)) }
@@ -52,7 +52,7 @@ pub(crate) fn begin<'a, S: Alter>(
 
 // The fault where a growth was refused before anything was read: that, while the store is open; else the store's.
 pub(crate) fn refused_first<S: Alter>(conn: &mut Connection<S>) -> Fault
-    requires { WhileOpen (state S.Store conn.old) HasTables }
+    requires { WhileOpen (state S.Store conn.old) HasLookupTables }
     ensures failed { HasCleanDisk (state S.Store conn.new) → (number : ℕ) → FailsToLookUp number (state S.Store conn.old) (state S.Store conn.new) result }
     ensures kind { IsOfStore result }
     ensures mode { conn.old.in_transaction ≡ false → conn.new.in_transaction ≡ false }
@@ -66,7 +66,7 @@ pub(crate) fn refused_first<S: Alter>(conn: &mut Connection<S>) -> Fault
 
 // Whether the store gives anything, which is told where nothing has to be read of it: a statement begins that finds nothing.
 pub(crate) fn wake<S: Alter>(conn: &mut Connection<S>) -> Result<(), Fault>
-    requires { WhileOpen (state S.Store conn.old) HasTables }
+    requires { WhileOpen (state S.Store conn.old) HasLookupTables }
     ensures same { HasCleanDisk (state S.Store conn.new) → OnOk result (IsUnchanged (state S.Store conn.old) (state S.Store conn.new)) }
     ensures failed { HasCleanDisk (state S.Store conn.new) → IfErr result (λ fault. (number : ℕ) → FailsToLookUp number (state S.Store conn.old) (state S.Store conn.new) fault) }
     ensures shut { HasCleanDisk (state S.Store conn.new) → (state S.Store conn.old).is_open ≡ false → IsErr result }

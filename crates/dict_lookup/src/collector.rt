@@ -3,7 +3,7 @@ ghost use Rattle.std.specs.Prelude.{◌≡◌, ◌++◌, ◌∷◌, [], map, str
 ghost use Rattle.dict_lookup.specs.Counts.{texts_in};
 
 use crate::counted::EACH;
-use dict_desk::{Row, RowSink, Turn};
+use dict_desk::{Demand, Row, RowSink};
 use std::alloc::{AllocError, Global};
 
 // How many rows were taken; and what they showed, as long as there is room for all of it.
@@ -75,13 +75,13 @@ impl RowSink for Collector {
     // Only a count that is as high as a number goes stops it.
     ghost stops = { λ old rows new. 18446744073709551615 ≤ old.count + length rows };
 
-    fn take(&mut self, row: Row) -> Turn {
+    fn take(&mut self, row: Row) -> Demand {
         if self.count == u64::MAX {
-            return Turn::Stop;
+            return Demand::Stop;
         }
         self.count += 1;
         self.keep(row.shown);
-        Turn::More
+        Demand::More
     }
 
     ghost none = { collected_none };

@@ -8,7 +8,7 @@ use std::alloc::Global;
 use std::marker::Model;
 
 /// How many octets the headwords that are kept of counts have at most, all together, where each counts 64 more than its own.
-pub const MOST_COUNTED: usize = 2_097_152;
+pub const MAX_COUNTED: usize = 2_097_152;
 
 // How many octets a text counts besides its own: about what its place and its memory take.
 pub(crate) const EACH: usize = 64;
@@ -34,7 +34,7 @@ impl Listed {
 }
 
 /// The headwords that counts have found in the editions of numbers, by one strategy and query, that were counted last: up to
-/// `MOST_COUNTED` octets. No memory is taken before the first are kept.
+/// `MAX_COUNTED` octets. No memory is taken before the first are kept.
 #[derive(Drop)]
 pub struct Counted {
     alloc: Global,
@@ -120,7 +120,7 @@ impl Counted {
         Counted {
             alloc,
             lists: Vec::new(alloc),
-            room: MOST_COUNTED,
+            room: MAX_COUNTED,
         }
     }
 
@@ -129,7 +129,7 @@ impl Counted {
         ensures { self.new ≡ [] }
     {
         self.lists = Vec::new(self.alloc);
-        self.room = MOST_COUNTED;
+        self.room = MAX_COUNTED;
     }
 
     // What is kept of this question, if it is kept.

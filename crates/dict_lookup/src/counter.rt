@@ -1,5 +1,5 @@
 // A sink that counts rows.
-use dict_desk::{Row, RowSink, Turn};
+use dict_desk::{Demand, Row, RowSink};
 
 // How many rows were taken.
 #[derive(Drop)]
@@ -16,12 +16,12 @@ impl RowSink for Counter {
     // Only a count that is as high as a number goes stops it.
     ghost stops = { λ old rows new. 18446744073709551615 ≤ old.count + length rows };
 
-    fn take(&mut self, _: Row) -> Turn {
+    fn take(&mut self, _: Row) -> Demand {
         if self.count == u64::MAX {
-            return Turn::Stop;
+            return Demand::Stop;
         }
         self.count += 1;
-        Turn::More
+        Demand::More
     }
 
     ghost none = { λ s. counted_none s.count };

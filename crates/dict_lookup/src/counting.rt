@@ -7,7 +7,7 @@ ghost use Rattle.dict_index.specs.Edition.{ReadEdition, edition_of};
 ghost use Rattle.dict_desk.specs.Found.{found, headwords};
 ghost use Rattle.dict_desk.specs.Shown.{count_of};
 ghost use Rattle.dict_lookup.specs.Counts.{AreHeadsOf, HasHeads, size_of_all, most_counted};
-ghost use Rattle.dict_lookup.specs.Searches.{HasTables, HoldsOne, FailsToLookUp, IsOfStore, column_of};
+ghost use Rattle.dict_lookup.specs.Searches.{HasLookupTables, HoldsOne, FailsToLookUp, IsOfStore, column_of};
 
 use crate::begin::wake;
 use crate::collector::Collector;
@@ -28,7 +28,7 @@ pub(crate) fn count_entries<S: Alter>(
     query: &Key,
     rows_taken: &mut u64,
 ) -> Result<u64, Fault>
-    requires { WhileOpen (state S.Store conn.old) HasTables }
+    requires { WhileOpen (state S.Store conn.old) HasLookupTables }
     ensures value { HasCleanDisk (state S.Store conn.new) → (reading : ReadEdition) → HoldsOne (state S.Store conn.old).now number reading → IfOk result (λ count. count ≡ count_of What.Entries strategy query.now (edition_of reading)) }
     ensures same { HasCleanDisk (state S.Store conn.new) → OnOk result (IsUnchanged (state S.Store conn.old) (state S.Store conn.new)) }
     ensures failed { HasCleanDisk (state S.Store conn.new) → IfErr result (FailsToLookUp (column_of number) (state S.Store conn.old) (state S.Store conn.new)) }
@@ -63,7 +63,7 @@ fn collect_heads<S: Alter>(
     query: &Key,
     rows_taken: &mut u64,
 ) -> Result<Collector, Fault>
-    requires { WhileOpen (state S.Store conn.old) HasTables }
+    requires { WhileOpen (state S.Store conn.old) HasLookupTables }
     ensures value { HasCleanDisk (state S.Store conn.new) → (reading : ReadEdition) → HoldsOne (state S.Store conn.old).now number reading → IfOk result (HasHeads (headwords (found strategy query.now (edition_of reading)))) }
     ensures same { HasCleanDisk (state S.Store conn.new) → OnOk result (IsUnchanged (state S.Store conn.old) (state S.Store conn.new)) }
     ensures failed { HasCleanDisk (state S.Store conn.new) → IfErr result (FailsToLookUp (column_of number) (state S.Store conn.old) (state S.Store conn.new)) }
@@ -98,7 +98,7 @@ pub(crate) fn count_heads<S: Alter>(
     query: &Key,
     rows_taken: &mut u64,
 ) -> Result<u64, Fault>
-    requires { WhileOpen (state S.Store conn.old) HasTables }
+    requires { WhileOpen (state S.Store conn.old) HasLookupTables }
     ensures value { HasCleanDisk (state S.Store conn.new) → AreHeadsOf (state S.Store conn.old).now counted.old → (reading : ReadEdition) → HoldsOne (state S.Store conn.old).now number reading → IfOk result (λ count. count ≡ count_of What.Headwords strategy query.now (edition_of reading)) }
     ensures counted { HasCleanDisk (state S.Store conn.new) → AreHeadsOf (state S.Store conn.old).now counted.old → AreHeadsOf (state S.Store conn.old).now counted.new }
     ensures few { size_of_all counted.old ≤ most_counted → size_of_all counted.new ≤ most_counted }

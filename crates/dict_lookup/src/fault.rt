@@ -3,7 +3,7 @@ ghost use Rattle.std.specs.Prelude.{◌≡◌};
 ghost use Rattle.dict_lookup.specs.Searches.{fault_of_read, IsOfStore};
 
 use dict_desk::Fault;
-use dict_file::fault_of;
+use dict_holdings::fault_of;
 use dict_sql::records::ReadError;
 
 // The fault of a read. Where a row is no record, the store has not given what was written.

@@ -10,7 +10,7 @@ ghost use Rattle.dict_lookup.specs.Handed.{is_key_found, rows_found, owned_filed
 
 use crate::entries::{cut, next_entry};
 use dict_derived::is_tested;
-use dict_desk::{End, Fault, Row, RowSink, Turn};
+use dict_desk::{Demand, End, Fault, Row, RowSink};
 use dict_match::{Key, Strategy, matches};
 use dict_records::KeyedEntry;
 use sqlite::{Alter, Rows};
@@ -32,12 +32,12 @@ fn hand_if_found<T: RowSink>(
     strategy: Strategy,
     query: &Key,
     sink: &mut T,
-) -> Turn
-    ensures more { result ≡ Turn.More → T.takes sink.old (rows_found text.now strategy query.now (owned_filed entry.now ∷ [])) sink.new }
-    ensures stop { result ≡ Turn.Stop → T.stops sink.old (rows_found text.now strategy query.now (owned_filed entry.now ∷ [])) sink.new }
+) -> Demand
+    ensures more { result ≡ Demand.More → T.takes sink.old (rows_found text.now strategy query.now (owned_filed entry.now ∷ [])) sink.new }
+    ensures stop { result ≡ Demand.Stop → T.stops sink.old (rows_found text.now strategy query.now (owned_filed entry.now ∷ [])) sink.new }
 {
     if !is_found(strategy, query, entry.key.as_slice()) {
-        return Turn::More;
+        return Demand::More;
     }
     sink.take(Row {
         shown: entry.shown.as_str(),
@@ -69,7 +69,7 @@ pub(crate) fn hand_found<S: Alter, T: RowSink>(
             return Ok(End::All);
         };
         let turn = hand_if_found(&entry, text, strategy, query, sink);
-        if let Turn::Stop = turn {
+        if let Demand::Stop = turn {
             return Ok(End::Stopped);
         }
     }

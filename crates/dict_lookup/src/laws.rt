@@ -5,8 +5,8 @@ ghost use Rattle.dict_index.specs.Edition.{Edition, ReadEdition, edition_of};
 ghost use Rattle.dict_catalogue.specs.Steps.{Catalogue};
 ghost use Rattle.dict_desk.specs.Shown.{HasEdition};
 ghost use Rattle.dict_rows.specs.Versions.{layout_of, known};
-ghost use Rattle.dict_file.specs.Holds.{HasLayout, Holds};
-ghost use Rattle.dict_lookup.specs.Searches.{HasTables, HoldsOne, IsReadable};
+ghost use Rattle.dict_holdings.specs.Holds.{HasLayout, Holds};
+ghost use Rattle.dict_lookup.specs.Searches.{HasLookupTables, HoldsOne, IsReadable};
 
 /// A database of the version that has what is derived has the tables that lookups read. Where it holds a catalogue, it holds
 /// each edition of it under its number, with the words and the grams of its keys; and whatever stands under a number can be
@@ -14,7 +14,7 @@ ghost use Rattle.dict_lookup.specs.Searches.{HasTables, HoldsOne, IsReadable};
 ///
 /// It does nothing. Its clauses are the law.
 pub fn held_laws()
-    ensures tables { (db : Database) → HasLayout (layout_of known) db.schema → HasTables db }
+    ensures tables { (db : Database) → HasLayout (layout_of known) db.schema → HasLookupTables db }
     ensures one { (db : Database) (M : Catalogue) (number : ℕ) (edition : Edition) → Holds known db M → HasEdition M number edition → (reading : ReadEdition) × HoldsOne db number reading × (edition ≡ edition_of reading) }
     ensures readable { (db : Database) (M : Catalogue) (number : ℕ) → Holds known db M → IsReadable db number }
 {}

@@ -18,6 +18,6 @@ mod record;
 #[cfg(test)]
 mod tests;
 
-pub use counted::{Counted, MOST_COUNTED};
+pub use counted::{Counted, MAX_COUNTED};
 pub use laws::held_laws;
 pub use lookups::{count, find, heads, info};

@@ -11,7 +11,7 @@ ghost use Rattle.dict_lookup.specs.Handed.{shown_found, rows_listed, rows_new, h
 
 use crate::entries::next_entry;
 use crate::found::is_found;
-use dict_desk::{End, Fault, Row, RowSink, Turn, distinct_law};
+use dict_desk::{Demand, End, Fault, Row, RowSink, distinct_law};
 use dict_match::{Key, Strategy};
 use dict_records::KeyedEntry;
 use sqlite::{Alter, Rows};
@@ -44,15 +44,15 @@ fn hand_if_new<T: RowSink>(
     query: &Key,
     seen: &mut BTreeSet<String>,
     sink: &mut T,
-) -> Result<Turn, AllocError>
-    ensures more { result ≡ Ok Turn.More → (texts : List (List ℕ)) → HasTexts seen.old texts → HasTexts seen.new (texts ++ shown_found strategy query.now (owned_filed entry.now ∷ [])) × T.takes sink.old (rows_new texts (shown_found strategy query.now (owned_filed entry.now ∷ []))) sink.new }
-    ensures stop { result ≡ Ok Turn.Stop → (texts : List (List ℕ)) → HasTexts seen.old texts → T.stops sink.old (rows_new texts (shown_found strategy query.now (owned_filed entry.now ∷ []))) sink.new }
-    ensures taken { result ≡ Ok Turn.More → (rows : List ShownRow) × T.takes sink.old rows sink.new }
-    ensures stopped { result ≡ Ok Turn.Stop → (rows : List ShownRow) × T.stops sink.old rows sink.new }
+) -> Result<Demand, AllocError>
+    ensures more { result ≡ Ok Demand.More → (texts : List (List ℕ)) → HasTexts seen.old texts → HasTexts seen.new (texts ++ shown_found strategy query.now (owned_filed entry.now ∷ [])) × T.takes sink.old (rows_new texts (shown_found strategy query.now (owned_filed entry.now ∷ []))) sink.new }
+    ensures stop { result ≡ Ok Demand.Stop → (texts : List (List ℕ)) → HasTexts seen.old texts → T.stops sink.old (rows_new texts (shown_found strategy query.now (owned_filed entry.now ∷ []))) sink.new }
+    ensures taken { result ≡ Ok Demand.More → (rows : List ShownRow) × T.takes sink.old rows sink.new }
+    ensures stopped { result ≡ Ok Demand.Stop → (rows : List ShownRow) × T.stops sink.old rows sink.new }
     ensures refused { OnErr result (sink.new ≡ sink.old) }
 {
     if !is_new(alloc, entry, strategy, query, seen)? {
-        return Ok(Turn::More);
+        return Ok(Demand::More);
     }
     Ok(sink.take(Row {
         shown: entry.shown.as_str(),
@@ -61,7 +61,7 @@ fn hand_if_new<T: RowSink>(
 }
 
 // Hands out what is shown of those of the entries to come that the query finds, each text once.
-pub(crate) fn hand_listed<S: Alter, T: RowSink>(
+pub(crate) fn hand_headwords<S: Alter, T: RowSink>(
     alloc: Global,
     rows: &mut Rows<'_, S>,
     strategy: Strategy,
@@ -86,7 +86,7 @@ pub(crate) fn hand_listed<S: Alter, T: RowSink>(
             return Ok(End::All);
         };
         let turn = hand_if_new(alloc, &entry, strategy, query, &mut seen, sink)?;
-        if let Turn::Stop = turn {
+        if let Demand::Stop = turn {
             return Ok(End::Stopped);
         }
     }
@@ -103,7 +103,7 @@ pub(crate) fn hand_kept<T: RowSink>(shown: &[String], sink: &mut T) -> End
             shown: text.as_str(),
             text: b"",
         });
-        if let Turn::Stop = turn {
+        if let Demand::Stop = turn {
             return End::Stopped;
         }
     }

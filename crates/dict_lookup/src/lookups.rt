@@ -9,17 +9,17 @@ ghost use Rattle.dict_index.specs.Limits.{most_entries};
 ghost use Rattle.dict_index.specs.Edition.{ReadEdition, edition_of};
 ghost use Rattle.dict_desk.specs.Shown.{Row as ShownRow, found_rows, headword_rows, info_rows, count_of};
 ghost use Rattle.dict_desk.specs.Handing.{Hands};
-ghost use Rattle.dict_lookup.specs.Searches.{HasTables, HoldsOne, IsReadable, FailsToLookUp, IsOfStore, column_of};
+ghost use Rattle.dict_lookup.specs.Searches.{HasLookupTables, HoldsOne, IsReadable, FailsToLookUp, IsOfStore, column_of};
 
 use crate::begin::{begin, refused_first, wake};
 use crate::counted::Counted;
 use crate::counting::{count_entries, count_heads};
 use crate::fault::fault_of_read;
 use crate::found::hand_found;
-use crate::listed::{hand_kept, hand_listed};
+use crate::listed::{hand_headwords, hand_kept};
 use crate::record::{column_number, edition_of_number, info_of_number};
 use dict_derived::select;
-use dict_desk::{End, Fault, Row, RowSink, Turn, What};
+use dict_desk::{Demand, End, Fault, Row, RowSink, What};
 use dict_match::{Key, Strategy};
 use dict_sql::records::ReadError;
 use dict_texts::Texts;
@@ -47,7 +47,7 @@ pub(crate) fn find_in<S: Alter, T: RowSink>(
     sink: &mut T,
     rows_taken: &mut u64,
 ) -> Result<End, Fault>
-    requires { WhileOpen (state S.Store conn.old) HasTables }
+    requires { WhileOpen (state S.Store conn.old) HasLookupTables }
     ensures value { HasCleanDisk (state S.Store conn.new) → (reading : ReadEdition) → HoldsOne (state S.Store conn.old).now number reading → Hands T.takes T.stops sink.old sink.new (found_rows strategy query.now (edition_of (record reading { text = text.now }))) result }
     ensures handed { (rows : List ShownRow) × Hands T.takes T.stops sink.old sink.new rows result }
     ensures few { HasCleanDisk (state S.Store conn.new) → IsReadable (state S.Store conn.old).now (column_of number) → (rows : List ShownRow) × (length rows ≤ most_entries) × Hands T.takes T.stops sink.old sink.new rows result }
@@ -80,7 +80,7 @@ fn find_and_keep<S: Alter, T: RowSink>(
     sink: &mut T,
     rows_taken: &mut u64,
 ) -> Result<End, Fault>
-    requires { WhileOpen (state S.Store conn.old) HasTables }
+    requires { WhileOpen (state S.Store conn.old) HasLookupTables }
     ensures kept { MayKeep installs number text.items texts.old texts.new }
     ensures value { HasCleanDisk (state S.Store conn.new) → (reading : ReadEdition) → HoldsOne (state S.Store conn.old).now number reading → Hands T.takes T.stops sink.old sink.new (found_rows strategy query.now (edition_of (record reading { text = text.items }))) result }
     ensures handed { (rows : List ShownRow) × Hands T.takes T.stops sink.old sink.new rows result }
@@ -115,7 +115,7 @@ pub(crate) fn heads_in<S: Alter, T: RowSink>(
     sink: &mut T,
     rows_taken: &mut u64,
 ) -> Result<End, Fault>
-    requires { WhileOpen (state S.Store conn.old) HasTables }
+    requires { WhileOpen (state S.Store conn.old) HasLookupTables }
     ensures value { HasCleanDisk (state S.Store conn.new) → (reading : ReadEdition) → HoldsOne (state S.Store conn.old).now number reading → Hands T.takes T.stops sink.old sink.new (headword_rows strategy query.now (edition_of reading)) result }
     ensures handed { (rows : List ShownRow) × Hands T.takes T.stops sink.old sink.new rows result }
     ensures few { HasCleanDisk (state S.Store conn.new) → IsReadable (state S.Store conn.old).now (column_of number) → (rows : List ShownRow) × (length rows ≤ most_entries) × Hands T.takes T.stops sink.old sink.new rows result }
@@ -130,7 +130,7 @@ pub(crate) fn heads_in<S: Alter, T: RowSink>(
         return Err(refused_first(conn));
     };
     match begin(conn, column_number(number), &selection) {
-        Ok(mut rows) => hand_listed(alloc, &mut rows, strategy, query, sink, rows_taken),
+        Ok(mut rows) => hand_headwords(alloc, &mut rows, strategy, query, sink, rows_taken),
         Err(error) => Err(fault_of_read(ReadError::Store(error))),
     }
 }
@@ -147,7 +147,7 @@ pub fn info<S: Alter, T: RowSink>(
     sink: &mut T,
     rows_taken: &mut u64,
 ) -> Result<End, Fault>
-    requires { WhileOpen (state S.Store conn.old) HasTables }
+    requires { WhileOpen (state S.Store conn.old) HasLookupTables }
     ensures value { HasCleanDisk (state S.Store conn.new) → (reading : ReadEdition) → HoldsOne (state S.Store conn.old).now number reading → Hands T.takes T.stops sink.old sink.new (info_rows (edition_of reading)) result }
     ensures handed { (rows : List ShownRow) × Hands T.takes T.stops sink.old sink.new rows result }
     ensures same { HasCleanDisk (state S.Store conn.new) → OnOk result (IsUnchanged (state S.Store conn.old) (state S.Store conn.new)) }
@@ -165,8 +165,8 @@ pub fn info<S: Alter, T: RowSink>(
         text: info.as_bytes(),
     };
     match sink.take(row) {
-        Turn::More => Ok(End::All),
-        Turn::Stop => Ok(End::Stopped),
+        Demand::More => Ok(End::All),
+        Demand::Stop => Ok(End::Stopped),
     }
 }
 
@@ -191,7 +191,7 @@ pub fn find<S: Alter, T: RowSink>(
     sink: &mut T,
     rows_taken: &mut u64,
 ) -> Result<End, Fault>
-    requires { WhileOpen (state S.Store conn.old) HasTables }
+    requires { WhileOpen (state S.Store conn.old) HasLookupTables }
     ensures value { HasCleanDisk (state S.Store conn.new) → AreTextsOf (state S.Store conn.old).now texts.old → (reading : ReadEdition) → HoldsOne (state S.Store conn.old).now number reading → Hands T.takes T.stops sink.old sink.new (found_rows strategy query.now (edition_of reading)) result }
     ensures texts { HasCleanDisk (state S.Store conn.new) → AreTextsOf (state S.Store conn.old).now texts.old → AreTextsOf (state S.Store conn.old).now texts.new }
     ensures made { AreMade installs texts.old → AreMade installs texts.new }
@@ -241,7 +241,7 @@ pub fn heads<S: Alter, T: RowSink>(
     sink: &mut T,
     rows_taken: &mut u64,
 ) -> Result<End, Fault>
-    requires { WhileOpen (state S.Store conn.old) HasTables }
+    requires { WhileOpen (state S.Store conn.old) HasLookupTables }
     ensures value { HasCleanDisk (state S.Store conn.new) → AreHeadsOf (state S.Store conn.old).now counted.now → (reading : ReadEdition) → HoldsOne (state S.Store conn.old).now number reading → Hands T.takes T.stops sink.old sink.new (headword_rows strategy query.now (edition_of reading)) result }
     ensures handed { (rows : List ShownRow) × Hands T.takes T.stops sink.old sink.new rows result }
     ensures same { HasCleanDisk (state S.Store conn.new) → OnOk result (IsUnchanged (state S.Store conn.old) (state S.Store conn.new)) }
@@ -276,7 +276,7 @@ pub fn count<S: Alter>(
     what: What,
     rows_taken: &mut u64,
 ) -> Result<u64, Fault>
-    requires { WhileOpen (state S.Store conn.old) HasTables }
+    requires { WhileOpen (state S.Store conn.old) HasLookupTables }
     ensures value { HasCleanDisk (state S.Store conn.new) → AreHeadsOf (state S.Store conn.old).now counted.old → (reading : ReadEdition) → HoldsOne (state S.Store conn.old).now number reading → IfOk result (λ count. count ≡ count_of what strategy query.now (edition_of reading)) }
     ensures counted { HasCleanDisk (state S.Store conn.new) → AreHeadsOf (state S.Store conn.old).now counted.old → AreHeadsOf (state S.Store conn.old).now counted.new }
     ensures few { size_of_all counted.old ≤ most_counted → size_of_all counted.new ≤ most_counted }

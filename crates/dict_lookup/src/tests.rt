@@ -1,5 +1,5 @@
 use crate::collector::Collector;
-use crate::counted::{Counted, MOST_COUNTED};
+use crate::counted::{Counted, MAX_COUNTED};
 use dict_desk::{Row, RowSink};
 use dict_match::{Key, Strategy, key_of};
 use std::alloc::Global;
@@ -70,7 +70,7 @@ fn all_or_nothing_of_a_count_is_kept(rt: HostRuntime) -> Result<(), Fail> {
         "all",
     );
     counted.put(2, Strategy::Prefix, &query, collected(alloc, 70, &["ore"]));
-    assert_eq!(rt; counted.room(), MOST_COUNTED - 202);
+    assert_eq!(rt; counted.room(), MAX_COUNTED - 202);
     same(
         &rt,
         kept(&counted, 2, Strategy::Prefix, &query),

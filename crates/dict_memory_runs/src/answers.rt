@@ -4,7 +4,7 @@ use crate::outcome::Outcome;
 use dict_desk::{Fault, Keeper, Lookup, PlainDesk};
 use dict_http::{Need, Service, need};
 use dict_io::{LimitedSink, OverRead};
-use dict_session::{End, SessionFault, run};
+use dict_session::{SessionEnd, SessionFault, run};
 use std::alloc::Global;
 
 /// An install of `gem` by a request.
@@ -49,7 +49,7 @@ fn search_once(alloc: Global, desk: &mut PlainDesk) -> Outcome {
     };
     let mut reader = OverRead::new(SEARCH);
     match run(alloc, &mut reader, &mut writer, desk, "localhost", 1) {
-        Ok(End::Quit | End::InputEnd) => looked_at(writer.taken()),
+        Ok(SessionEnd::Quit | SessionEnd::InputEnd) => looked_at(writer.taken()),
         Err(SessionFault::Memory) => Outcome::right_where(writer.taken().is_empty()).again(),
         Err(SessionFault::Broken) => Outcome::right_where(FOUND.starts_with(
             writer.taken(),

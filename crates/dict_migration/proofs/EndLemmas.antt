@@ -15,7 +15,7 @@ use Rattle.dict_catalogue.specs.Tests.{Holdings}
 use Rattle.dict_tables.proofs.MadeLemmas.{differ}
 use Rattle.dict_sql.specs.Effects.{HasApartRowids, rows_of}
 use Rattle.dict_rows.specs.Versions.{Layout, Plain, Keyed, layout_of, known}
-use Rattle.dict_file.specs.Holds.{HasLayout, Holds, IsLeftAs, Rests}
+use Rattle.dict_holdings.specs.Holds.{HasLayout, Holds, IsLeftAs, Rests}
 use Rattle.dict_migration.specs.Migrated.{HoldsOlder, IsMigrated, MayMigrate}
 use Rattle.dict_migration.specs.Moved.{AreTreesOf, IsOutcome}
 use Rattle.dict_migration.specs.Older.{IsOld, layout_as}

@@ -13,7 +13,7 @@ use Rattle.dict_catalogue.specs.Items.{edition_numbers}
 use Rattle.dict_catalogue.specs.Tests.{Holdings}
 use Rattle.dict_desk.specs.declared.fault.Fault.{Fault}
 use Rattle.dict_desk.specs.declared.fault.Fault.TheVariants.{Memory, Disk}
-use Rattle.dict_file.specs.Faults.{fault_of_read}
+use Rattle.dict_holdings.specs.Faults.{fault_of_read}
 use Rattle.dict_migration_sql.specs.Copied.{FailsToCopy}
 use Rattle.dict_migration_sql.proofs.CopyLemmas.{none_more}
 use Rattle.dict_migration.specs.declared.aside.Older.{Older}

@@ -19,7 +19,7 @@ use Rattle.dict_rows.specs.Tables.{Tables, same_number}
 use Rattle.dict_rows.specs.Versions.{Shown}
 use Rattle.dict_rows.proofs.TakenLemmas.{same_itself}
 use Rattle.dict_derived.specs.AllTables.{with_derived}
-use Rattle.dict_file.specs.Readings.{KeepsRows, entries, words, grams}
+use Rattle.dict_holdings.specs.Readings.{KeepsRows, entries, words, grams}
 use Rattle.dict_migration.specs.Steps.{AreFiled, IsFiledOne, Spares}
 use Rattle.dict_migration.specs.UnderWay.{IsFiled, IsPutAside, only_of}
 use Rattle.dict_migration.proofs.NumberLemmas.{AreNumbered, AreFresh}

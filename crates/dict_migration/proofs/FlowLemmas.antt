@@ -17,7 +17,7 @@ use Rattle.dict_records.specs.declared.records.Stored.{Stored}
 use Rattle.dict_sql.specs.Effects.{Has, equals_number, rows_of}
 use Rattle.dict_sql.specs.Encodings.{entry_row, stored_entry}
 use Rattle.dict_sql.specs.Reads.{IsSelection, by_columns}
-use Rattle.dict_file.proofs.ReadLemmas.{sorted_order, one_le, records_order}
+use Rattle.dict_holdings.proofs.ReadLemmas.{sorted_order, one_le, records_order}
 use Rattle.dict_records.specs.Typed.{owned_entry}
 use Rattle.sqlite.specs.Effect.{IsDatabase}
 use Rattle.sqlite.specs.Schema.{Schema}
@@ -34,7 +34,7 @@ use Rattle.dict_keyed_sql.specs.Made.{AreKeyedMade, IsKeyedReady}
 use Rattle.dict_migration_sql.specs.Entries.{entry_of}
 use Rattle.dict_migration_sql.specs.declared.entries.EntryForm.TheVariants as form
 use Rattle.dict_migration_sql.proofs.DefinitionLemmas.{form_defined, helper_defined, word_defined, gram_defined}
-use Rattle.dict_file.specs.Holds.{HasLayout}
+use Rattle.dict_holdings.specs.Holds.{HasLayout}
 use Rattle.dict_migration.specs.declared.aside.Older.{Older}
 use Rattle.dict_migration.specs.declared.aside.Older.TheVariants.{Plain, Keyed}
 use Rattle.dict_migration.specs.Older.{AreGone, IsAside, IsOld, OwnsOld, form_of, layout_as}

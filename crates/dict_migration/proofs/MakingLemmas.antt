@@ -41,9 +41,9 @@ use Rattle.dict_rows.specs.Tables.{Tables}
 use Rattle.dict_rows.specs.Versions.{Shown, known}
 use Rattle.dict_rows.specs.Written.{mark_record}
 use Rattle.dict_derived.specs.AllTables.{with_derived}
-use Rattle.dict_file.specs.Readings.{Reading, KeepsRows, name_of, marks, items, members, editions, entries, kept_replies, words, grams}
-use Rattle.dict_file.specs.Holds.{HasLayout, HasPlace, Holds}
-use Rattle.dict_file.proofs.KeepLemmas.{keeps_added, keeps_none}
+use Rattle.dict_holdings.specs.Readings.{Reading, KeepsRows, name_of, marks, items, members, editions, entries, kept_replies, words, grams}
+use Rattle.dict_holdings.specs.Holds.{HasLayout, HasPlace, Holds}
+use Rattle.dict_holdings.proofs.KeepLemmas.{keeps_added, keeps_none}
 use Rattle.dict_migration.specs.Making.{Step, one, derived_tables, Succeeds, FailsTo, RunInTurn, FailsInTurn, lasting_tables}
 use Rattle.dict_migration.proofs.SpareLemmas.{apart_mark, others_rows, own_still}
 

@@ -40,9 +40,9 @@ use Rattle.dict_rows.specs.Written.{mark_record}
 use Rattle.dict_rows.proofs.PartLemmas.{filter_whole}
 use Rattle.dict_rows.specs.Order.{is_of, entries_of_numbers}
 use Rattle.dict_derived.specs.AllTables.{AllTables, with_derived, as_version}
-use Rattle.dict_file.specs.Readings.{Reading, KeepsAll, KeepsRows, name_of, marks, items, members, editions, entries, kept_replies, words, grams, AreShownIn}
-use Rattle.dict_file.specs.Holds.{HasLayout, Holds}
-use Rattle.dict_file.proofs.KeepLemmas.{keeps_added, keeps_none}
+use Rattle.dict_holdings.specs.Readings.{Reading, KeepsAll, KeepsRows, name_of, marks, items, members, editions, entries, kept_replies, words, grams, AreShownIn}
+use Rattle.dict_holdings.specs.Holds.{HasLayout, Holds}
+use Rattle.dict_holdings.proofs.KeepLemmas.{keeps_added, keeps_none}
 use Rattle.dict_migration.specs.Migrated.{IsMigrated}
 use Rattle.dict_migration.specs.Moved.{IsMarked, IsMoved, IsRefilled}
 use Rattle.dict_migration.specs.Older.{IsAside, IsOld, form_of, layout_as}
@@ -54,7 +54,7 @@ use Rattle.dict_migration.proofs.AsideLemmas.{copied_aside, none_aside, same_ent
 use Rattle.dict_migration.proofs.FiledLemmas.{Owns, all_filed, all_of_them, filed_schema, filed_sound, filed_spares, none_filed, owns_still}
 use Rattle.dict_migration.proofs.FlowLemmas.{aside_spares, copied_helper, keyed_owns, left_behind, made_entries, made_helper}
 use Rattle.dict_migration.proofs.NumberLemmas.{all_fresh, all_known, all_numbered}
-use Rattle.dict_file.proofs.OneLemmas.{same_version}
+use Rattle.dict_holdings.proofs.OneLemmas.{same_version}
 use Rattle.dict_migration.proofs.RowLemmas.{old_rows}
 use Rattle.dict_migration.proofs.SpareLemmas.{apart_mark, apart_names, away_helper, entry_helper, gram_helper, others_rows, own_still, spares_dropped, spares_keyed, spares_then, word_helper}
 

@@ -33,8 +33,8 @@ use Rattle.dict_migration_sql.specs.declared.entries.EntryForm.TheVariants as fo
 use Rattle.dict_migration_sql.proofs.DefinitionLemmas.{form_defined, word_defined, gram_defined}
 use Rattle.dict_migration_sql.proofs.GoneLemmas.{one_gone, three_gone}
 use Rattle.dict_rows.proofs.OrderLemmas.{all_with}
-use Rattle.dict_file.specs.Holds.{HasLayout}
-use Rattle.dict_file.proofs.PlaceLemmas.{one_named, three_named}
+use Rattle.dict_holdings.specs.Holds.{HasLayout}
+use Rattle.dict_holdings.proofs.PlaceLemmas.{one_named, three_named}
 use Rattle.dict_migration.specs.Older.{AreGone, OwnsOld, layout_as}
 use Rattle.dict_migration.specs.declared.aside.Older.{Older}
 use Rattle.dict_migration.specs.declared.aside.Older.TheVariants.{Plain, Keyed}

@@ -33,15 +33,15 @@ use Rattle.dict_derived.specs.AllTables.{with_derived}
 use Rattle.dict_derived.specs.declared.reader.Pieces.{Pieces}
 use Rattle.dict_derived.specs.declared.reader.Pieces.TheVariants.{Words, Grams}
 use Rattle.dict_derived.proofs.AfterLemmas.{flat_map_filtered, derived_part, derived_due}
-use Rattle.dict_file.specs.Readings.{Reading, KeepsRows, name_of, entries, words, grams, filed_row}
-use Rattle.dict_file.proofs.ReadingLemmas.{map_twice}
+use Rattle.dict_holdings.specs.Readings.{Reading, KeepsRows, name_of, entries, words, grams, filed_row}
+use Rattle.dict_holdings.proofs.ReadingLemmas.{map_twice}
 use Rattle.dict_migration.specs.Steps.{Wait, IsFiledOne, keys_of}
 use Rattle.dict_migration.specs.Older.{layout_as}
 use Rattle.dict_migration.specs.declared.aside.Older.{Older}
 use Rattle.dict_migration.specs.declared.aside.Older.TheVariants.{Plain, Keyed}
 use Rattle.dict_migration.specs.UnderWay.{only_of, IsPutAside, IsFiled}
 use Rattle.dict_migration.proofs.NumberLemmas.{AreNumbered}
-use Rattle.dict_file.proofs.OneLemmas.{both_where, decode_entry, entry_back}
+use Rattle.dict_holdings.proofs.OneLemmas.{both_where, decode_entry, entry_back}
 
 -- ---- rows of an edition
 

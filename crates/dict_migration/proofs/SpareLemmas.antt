@@ -23,7 +23,7 @@ use Rattle.dict_migration_sql.specs.Entries.{entry_of}
 use Rattle.dict_migration_sql.specs.declared.entries.EntryForm.{EntryForm}
 use Rattle.dict_migration_sql.specs.declared.entries.EntryForm.TheVariants as form
 use Rattle.dict_migration_sql.proofs.DefinitionLemmas.{form_defined, helper_defined, word_defined, gram_defined}
-use Rattle.dict_file.proofs.KeepLemmas.{unmoved}
+use Rattle.dict_holdings.proofs.KeepLemmas.{unmoved}
 use Rattle.dict_migration.specs.Steps.{IsBeside, Spares}
 
 -- ---- what one step leaves of another table

@@ -9,10 +9,10 @@ use Rattle.dict_catalogue.specs.Steps.{Catalogue}
 use Rattle.dict_rows.specs.Versions.{known, IsVersion}
 use Rattle.dict_derived.specs.AllTables.{as_version}
 use Rattle.dict_derived.proofs.VersionLemmas.{same_stands}
-use Rattle.dict_file.specs.Holds.{Holds, IsHeld, IsLeft, IsLeftAs}
+use Rattle.dict_holdings.specs.Holds.{Holds, IsHeld, IsLeft, IsLeftAs}
 use Rattle.dict_migration.specs.Migrated.{IsMigrated, HoldsOlder, MayMigrate}
 use Rattle.dict_migration.specs.Leaves.{StandsFor, LeavesOneOf}
-use Rattle.dict_file.proofs.OneLemmas.{one_catalogue, one_held, left_held, held_known, left_known}
+use Rattle.dict_holdings.proofs.OneLemmas.{one_catalogue, one_held, left_held, held_known, left_known}
 
 pub migrated : (version : ℕ) (old new : Database) (M : Catalogue) → IsMigrated version old new → Holds version old M → Holds known new M
 migrated version old new M m h = record {

@@ -4,7 +4,7 @@ use Rattle.std.specs.List.{Contains}
 use Rattle.sqlite.specs.Tree.{Trees}
 use Rattle.sqlite.specs.State.{State, HasCleanDisk}
 use Rattle.dict_catalogue.specs.Steps.{Catalogue}
-use Rattle.dict_file.specs.Holds.{IsLeft}
+use Rattle.dict_holdings.specs.Holds.{IsLeft}
 
 -- trees of which the catalogue is opened again, or of which none is
 abbrev pub StandsFor : Option Catalogue → Trees → Type 0

@@ -16,7 +16,7 @@ use Rattle.dict_keyed_sql.specs.Made.{AreKeyedMade, keyed_trees}
 use Rattle.dict_rows.specs.Written.{mark_record}
 use Rattle.dict_desk.specs.declared.fault.Fault.{Fault}
 use Rattle.dict_desk.specs.declared.fault.Fault.TheVariants.{Disk}
-use Rattle.dict_file.specs.Faults.{fault_of}
+use Rattle.dict_holdings.specs.Faults.{fault_of}
 
 -- the tables of which no version has another form
 abbrev pub lasting_tables : List StoreTable

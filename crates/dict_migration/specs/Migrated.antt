@@ -8,8 +8,8 @@ use Rattle.dict_rows.specs.Tables.{Tables}
 use Rattle.dict_rows.specs.Stands.{Stands}
 use Rattle.dict_rows.specs.Versions.{known, layout_of}
 use Rattle.dict_derived.specs.AllTables.{with_derived, as_version}
-use Rattle.dict_file.specs.Readings.{KeepsAll, AreShownIn}
-use Rattle.dict_file.specs.Holds.{Holds, HasLayout, IsLeftAs}
+use Rattle.dict_holdings.specs.Readings.{KeepsAll, AreShownIn}
+use Rattle.dict_holdings.specs.Holds.{Holds, HasLayout, IsLeftAs}
 
 -- Whatever records the tables of an older version keep that stand for a catalogue, those of the known one keep them, with what
 -- is derived of them. (Of records that stand for none nothing is said: entries of no edition aren't carried over.)

@@ -12,7 +12,7 @@ use Rattle.dict_migration_sql.specs.declared.entries.EntryForm.{EntryForm}
 use Rattle.dict_migration_sql.specs.declared.entries.EntryForm.TheVariants as form
 use Rattle.dict_rows.specs.Versions as layout
 use Rattle.dict_rows.specs.Versions.{Layout}
-use Rattle.dict_file.specs.Holds.{HasLayout}
+use Rattle.dict_holdings.specs.Holds.{HasLayout}
 use Rattle.dict_migration.specs.declared.aside.Older.{Older}
 use Rattle.dict_migration.specs.declared.aside.Older.TheVariants.{Plain, Keyed}
 use Rattle.dict_migration.specs.Steps.{AreCopied}

@@ -8,7 +8,7 @@ use Rattle.dict_rows.specs.Tables.{Tables}
 use Rattle.dict_rows.specs.Order.{entries_of_numbers}
 use Rattle.dict_rows.specs.Versions.{Shown}
 use Rattle.dict_derived.specs.AllTables.{with_derived}
-use Rattle.dict_file.specs.Readings.{KeepsRows, entries, words, grams}
+use Rattle.dict_holdings.specs.Readings.{KeepsRows, entries, words, grams}
 
 -- of all entries those of these numbers
 abbrev pub only_of : List ℤ → Tables → Tables

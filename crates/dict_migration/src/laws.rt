@@ -5,7 +5,7 @@ ghost use Rattle.sqlite.specs.Held.{Held, state};
 ghost use Rattle.sqlite.specs.State.{IsLive, Survives};
 ghost use Rattle.dict_catalogue.specs.Steps.{Catalogue};
 ghost use Rattle.dict_rows.specs.Versions.{known};
-ghost use Rattle.dict_file.specs.Holds.{Holds, IsHeld};
+ghost use Rattle.dict_holdings.specs.Holds.{Holds, IsHeld};
 ghost use Rattle.dict_migration.specs.Migrated.{IsMigrated, HoldsOlder, MayMigrate};
 ghost use Rattle.dict_migration.specs.Leaves.{LeavesOneOf};
 

@@ -10,12 +10,12 @@ ghost use Rattle.dict_sql.specs.Statements.{make};
 ghost use Rattle.dict_rows.specs.Versions.{known};
 ghost use Rattle.dict_catalogue.specs.Steps.{empty_catalogue};
 ghost use Rattle.dict_desk.specs.Faults.{is_disk};
-ghost use Rattle.dict_file.specs.Holds.{Holds, Rests, IsLeftAs, HasPlace};
-ghost use Rattle.dict_file.specs.Writing.{Stays, IsOfCreation};
+ghost use Rattle.dict_holdings.specs.Holds.{Holds, Rests, IsLeftAs, HasPlace};
+ghost use Rattle.dict_holdings.specs.Writing.{Stays, IsOfCreation};
 ghost use Rattle.dict_migration.specs.Making.{creation, FailsToEnd, RunInTurn, FailsInTurn};
 
 use dict_desk::Fault;
-use dict_file::{fault_of, has_place};
+use dict_holdings::{fault_of, has_place};
 use dict_keyed_sql::create_keyed_tables;
 use dict_rows::{KNOWN_VERSION, mark_row};
 use dict_sql::commit::commit;

@@ -12,7 +12,7 @@ use Rattle.dict_records.specs.Records as spec
 use Rattle.dict_sql.specs.Effects.{rows_of}
 use Rattle.dict_sql.specs.Encodings.{mark_row, item_row, member_row, edition_row, kept_row, stored_kept, stored_number}
 use Rattle.dict_sql.specs.Reads.{IsListing, numbered as numbered_of}
-use Rattle.dict_file.specs.Holds.{Keeps}
+use Rattle.dict_holdings.specs.Holds.{Keeps}
 use Rattle.dict_catalogue.specs.Items.{name_of, editions_of, edition_numbers, is_known}
 use Rattle.dict_catalogue.specs.Steps.{Catalogue}
 use Rattle.dict_catalogue.specs.WellFormed.{total, IsEachOnce}
@@ -27,7 +27,7 @@ use Rattle.dict_rows.proofs.OrderLemmas.{Same, same_from, same_passed, all_same}
 use Rattle.dict_rows.proofs.PartLemmas.{filter_whole}
 use Rattle.dict_rows.proofs.TakenLemmas.{holds_same}
 use Rattle.dict_rows.specs.Versions.{Layout, layout_of}
-use Rattle.dict_file.proofs.ReadingLemmas.{editions_kept, replies_kept}
+use Rattle.dict_holdings.proofs.ReadingLemmas.{editions_kept, replies_kept}
 use Rattle.dict_scans.specs.Census.{one_of}
 use Rattle.dict_scans.specs.Entries.{behind, entry_cells}
 use Rattle.dict_scans.specs.Takers.{KeptRow, number_given}

@@ -22,12 +22,12 @@ use Rattle.dict_rows.specs.Versions.{Layout, Plain, Keyed, Shown}
 use Rattle.dict_rows.proofs.OrderLemmas.{order_given, all_same}
 use Rattle.dict_derived.specs.Entries.{filed, plain}
 use Rattle.dict_derived.specs.AllTables.{with_derived}
-use Rattle.dict_file.specs.Readings.{KeepsRows, AreShownIn, entries, filed_row}
-use Rattle.dict_file.proofs.ReadLemmas.{sorted_order, one_le}
-use Rattle.dict_file.proofs.ReadingLemmas.{map_twice}
+use Rattle.dict_holdings.specs.Readings.{KeepsRows, AreShownIn, entries, filed_row}
+use Rattle.dict_holdings.proofs.ReadLemmas.{sorted_order, one_le}
+use Rattle.dict_holdings.proofs.ReadingLemmas.{map_twice}
 use Rattle.dict_scans.specs.Entries.{behind, entry_cells}
 use Rattle.dict_opening.specs.Opens.{AreReadableEntries}
-use Rattle.dict_file.proofs.OneLemmas.{decode_entry, decode_filed, entry_back, filed_back, both_where}
+use Rattle.dict_holdings.proofs.OneLemmas.{decode_entry, decode_filed, entry_back, filed_back, both_where}
 use Rattle.dict_scans.proofs.NumberLemmas.{same_int}
 use Rattle.dict_scans.proofs.RowidLemmas.{all_of_map}
 

@@ -9,7 +9,7 @@ use Rattle.dict_sql.specs.Columns.{Content}
 use Rattle.dict_sql.specs.Reads.{FailsToList}
 use Rattle.dict_sql.specs.declared.records.ReadError.TheVariants.{Store}
 use Rattle.dict_desk.specs.declared.fault.Fault.TheVariants as desk
-use Rattle.dict_file.specs.Faults.{fault_of}
+use Rattle.dict_holdings.specs.Faults.{fault_of}
 use Rattle.dict_scans.specs.declared.fault.ReadingFault.{ReadingFault}
 use Rattle.dict_scans.specs.declared.fault.ReadingFault.TheVariants.{Damaged, Memory, Disk}
 use Rattle.dict_scans.specs.Reading.{HasFailed, fault_told}

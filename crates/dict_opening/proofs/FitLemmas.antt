@@ -17,7 +17,7 @@ use Rattle.dict_sql.specs.Encodings.{item_row, edition_row, kept_row, stored_mar
 use Rattle.dict_sql.specs.Reads.{IsListing, IsSelection, by_columns}
 use Rattle.dict_sql.specs.Streams.{IsFront}
 use Rattle.dict_sql.specs.Streams.Scan.{AllKept}
-use Rattle.dict_file.proofs.ReadLemmas.{one_le}
+use Rattle.dict_holdings.proofs.ReadLemmas.{one_le}
 use Rattle.dict_catalogue.specs.Steps.{Catalogue}
 use Rattle.dict_rows.specs.Tables.{Tables, same_number, editions_numbered, entries_of}
 use Rattle.dict_rows.specs.Written.{numbered, item_record, entry_record}
@@ -30,7 +30,7 @@ use Rattle.dict_rows.proofs.OrderLemmas.{Same, Below, same_from, all_passed, ord
 use Rattle.dict_rows.proofs.TakenLemmas.{same_number_is, filter_passes, filter_passes_not}
 use Rattle.dict_opening.specs.Opens.{Keeping, KeepsNone, Fits}
 use Rattle.dict_rows.specs.Versions.{Layout, layout_of}
-use Rattle.dict_file.proofs.ReadingLemmas.{marks_kept, items_kept, editions_kept, replies_kept}
+use Rattle.dict_holdings.proofs.ReadingLemmas.{marks_kept, items_kept, editions_kept, replies_kept}
 use Rattle.dict_scans.specs.Entries.{BeginsWithEntries}
 use Rattle.dict_scans.specs.Takers.{EditionRow, KeptRow}
 use Rattle.dict_scans.proofs.CodecLemmas.{Codec, read, read_is, read_stored, rows_order, listed_records, selected_records, mark_codec, item_codec, edition_codec, kept_codec}

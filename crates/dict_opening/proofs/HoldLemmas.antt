@@ -16,8 +16,8 @@ use Rattle.dict_rows.proofs.StrayLemmas.{numbers_taken}
 use Rattle.dict_derived.specs.AllTables.{with_derived}
 use Rattle.dict_derived.specs.declared.reader.Pieces.TheVariants.{Words, Grams}
 use Rattle.dict_keyed_sql.specs.Pieces.{HasDerived}
-use Rattle.dict_file.specs.Holds.{Holds, HasLayout, HoldsNoneAs}
-use Rattle.dict_file.specs.Readings.{KeepsRows, entries, derived_readings, name_of}
+use Rattle.dict_holdings.specs.Holds.{Holds, HasLayout, HoldsNoneAs}
+use Rattle.dict_holdings.specs.Readings.{KeepsRows, entries, derived_readings, name_of}
 use Rattle.dict_scans.specs.Filing.{keys_of}
 use Rattle.dict_opening.specs.Opens.{HasRows, HasAll, HasSummary, HasOthersApart, HasPieces, ArePiecesKnown, numbers_in}
 use Rattle.dict_opening.proofs.EntryLemmas.{rows_entries}

@@ -5,8 +5,8 @@ use Rattle.sqlite.specs.Schema.{Schema}
 use Rattle.dict_tables.specs.Keyed.{old_entry, word, gram}
 use Rattle.dict_records.specs.Records.{Entry}
 use Rattle.dict_rows.specs.Versions.{Layout, Plain, Keyed, Shown}
-use Rattle.dict_file.specs.Holds.{HasLayout}
-use Rattle.dict_file.specs.Room.{AreThere, dropped}
+use Rattle.dict_holdings.specs.Holds.{HasLayout}
+use Rattle.dict_holdings.specs.Room.{AreThere, dropped}
 use Rattle.dict_scans.specs.Filing.{keys_of}
 use Rattle.dict_opening.specs.Opens.{HasKeys, HasBoth, HasNotBoth, IsKeyed, IsNotKeyed}
 

@@ -20,7 +20,7 @@ use Rattle.dict_sql.specs.Effects.{rows_of}
 use Rattle.dict_sql.specs.Encodings.{mark_row, stored_mark}
 use Rattle.dict_sql.specs.Reads.{IsListing, HasNoRecord}
 use Rattle.dict_catalogue.specs.Steps.{Catalogue}
-use Rattle.dict_file.specs.Holds.{Holds, IsHeld}
+use Rattle.dict_holdings.specs.Holds.{Holds, IsHeld}
 use Rattle.dict_rows.specs.Given.{marks_given}
 use Rattle.dict_rows.proofs.OrderLemmas.{Same, same_from, one_once}
 use Rattle.dict_opening.specs.Marks.{HasMarkTable}
@@ -29,7 +29,7 @@ use Rattle.dict_desk.specs.declared.fault.Fault.TheVariants as desk
 use Rattle.dict_scans.specs.declared.fault.ReadingFault.{ReadingFault}
 use Rattle.dict_scans.specs.declared.fault.ReadingFault.TheVariants.{Damaged, Memory, Disk}
 use Rattle.dict_scans.specs.Reading.{fault_told}
-use Rattle.dict_file.proofs.OneLemmas.{decode_mark, mark_back}
+use Rattle.dict_holdings.proofs.OneLemmas.{decode_mark, mark_back}
 use Rattle.dict_opening.proofs.NoneLemmas.{all_contains}
 use Rattle.dict_opening.proofs.TableLemmas.{own_mark}
 

@@ -21,7 +21,7 @@ use Rattle.dict_rows.specs.Whole.{AreOf}
 use Rattle.dict_rows.specs.declared.reader.Reader.{Reader}
 use Rattle.dict_rows.proofs.OrderLemmas.{Same, all_same, all_passed, one_once}
 use Rattle.dict_rows.proofs.TakenLemmas.{same_number_is}
-use Rattle.dict_file.specs.Readings.{entries}
+use Rattle.dict_holdings.specs.Readings.{entries}
 use Rattle.dict_scans.specs.Entries.{BeginsWithEntries, HasWrongEntries}
 use Rattle.dict_opening.specs.Opens.{Keeping, KeepsNone, Fits, CanReadOne, IsNotOne, IsWrongEdition}
 use Rattle.dict_scans.specs.Takers.{EditionRow}

@@ -35,8 +35,8 @@ use Rattle.dict_derived.proofs.AfterLemmas.{derived_part, derived_due, derived_m
 use Rattle.dict_derived.proofs.DueLemmas.{derived_same}
 use Rattle.dict_derived.proofs.SortedLemmas.{some_derived}
 use Rattle.dict_keyed_sql.specs.Pieces.{name_for, HasDerived}
-use Rattle.dict_file.specs.Holds.{Keeps}
-use Rattle.dict_file.specs.Readings.{KeepsAll}
+use Rattle.dict_holdings.specs.Holds.{Keeps}
+use Rattle.dict_holdings.specs.Readings.{KeepsAll}
 use Rattle.dict_scans.specs.Census.{one_of}
 use Rattle.dict_scans.proofs.CodecLemmas.{Codec, read, read_is, IsRow, selected_records}
 use Rattle.dict_scans.proofs.NumberLemmas.{first_number}

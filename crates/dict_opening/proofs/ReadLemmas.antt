@@ -23,7 +23,7 @@ use Rattle.dict_rows.specs.declared.reader.Reader.{Reader}
 use Rattle.dict_rows.proofs.OrderLemmas.{all_same, all_passed}
 use Rattle.dict_rows.proofs.StrayLemmas.{numbers_taken}
 use Rattle.dict_rows.proofs.TakenLemmas.{same_number_is, same_itself, filter_passes_not}
-use Rattle.dict_file.specs.Readings.{AreShownIn}
+use Rattle.dict_holdings.specs.Readings.{AreShownIn}
 use Rattle.dict_scans.specs.Entries.{behind, entry_cells, BeginsWithEntries}
 use Rattle.dict_scans.proofs.CodecLemmas.{edition_codec}
 use Rattle.dict_scans.proofs.NumberLemmas.{int_is}

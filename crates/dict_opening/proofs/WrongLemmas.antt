@@ -30,9 +30,9 @@ use Rattle.dict_sql.specs.Encodings.{stored_mark, stored_item, stored_member, st
 use Rattle.dict_sql.specs.Reads.{IsListing, by_columns, numbered}
 use Rattle.dict_sql.specs.Streams.Scan.{AllKept, KeptById, ByRowid, EditionNumbers}
 use Rattle.dict_sql.proofs.KitLemmas.{value_cmp_total}
-use Rattle.dict_file.specs.Holds.{Keeps}
-use Rattle.dict_file.specs.Readings.{KeepsRows, KeepsAll, entries, derived_readings}
-use Rattle.dict_file.proofs.ReadLemmas.{sorted_order, second_le, records_order}
+use Rattle.dict_holdings.specs.Holds.{Keeps}
+use Rattle.dict_holdings.specs.Readings.{KeepsRows, KeepsAll, entries, derived_readings}
+use Rattle.dict_holdings.proofs.ReadLemmas.{sorted_order, second_le, records_order}
 use Rattle.dict_catalogue.specs.Items.{Item, name_of, editions_of, edition_numbers, is_known}
 use Rattle.dict_catalogue.specs.Steps.{Catalogue}
 use Rattle.dict_catalogue.specs.WellFormed.{total, IsEachOnce}
@@ -50,8 +50,8 @@ use Rattle.dict_rows.proofs.LawfulLemmas.{once_true}
 use Rattle.dict_rows.proofs.FinishLemmas.{ids_same}
 use Rattle.dict_rows.proofs.OrderLemmas.{Same, same_from, all_same, members_same}
 use Rattle.dict_rows.proofs.TakenLemmas.{same_itself, holds_same}
-use Rattle.dict_file.proofs.ReadableLemmas.{held_readable}
-use Rattle.dict_file.proofs.ReadingLemmas.{members_kept, replies_kept}
+use Rattle.dict_holdings.proofs.ReadableLemmas.{held_readable}
+use Rattle.dict_holdings.proofs.ReadingLemmas.{members_kept, replies_kept}
 use Rattle.dict_match.specs.Key.{key_of}
 use Rattle.dict_records.specs.Keyed.{Piece}
 use Rattle.dict_sql.specs.Keyed.{piece_row}

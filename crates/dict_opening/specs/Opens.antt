@@ -34,9 +34,9 @@ use Rattle.dict_rows.specs.Tables.{Tables, editions_numbered, entries_of}
 use Rattle.dict_rows.specs.Stands.{Stands, has_number}
 use Rattle.dict_rows.specs.Taken.{GoesOn, HasTaken, HasIdsOnce, items_in, with_edition}
 use Rattle.dict_rows.specs.Versions.{Layout, Plain, Keyed, Shown, layout_of, IsVersion}
-use Rattle.dict_file.specs.Readings.{Reading, KeepsAll, AreShownIn, IsReadable, readings, derived_readings, tables_of, name_of, entries}
-pub use Rattle.dict_file.specs.Holds.{HoldsNone, HoldsNoneAs}
-pub use Rattle.dict_file.specs.Readings.{HasReadableRows, HasRowidsApart}
+use Rattle.dict_holdings.specs.Readings.{Reading, KeepsAll, AreShownIn, IsReadable, readings, derived_readings, tables_of, name_of, entries}
+pub use Rattle.dict_holdings.specs.Holds.{HoldsNone, HoldsNoneAs}
+pub use Rattle.dict_holdings.specs.Readings.{HasReadableRows, HasRowidsApart}
 use Rattle.dict_scans.specs.Census.{one_of, AreNumberedApart}
 use Rattle.dict_scans.specs.Filing.{keys_of}
 use Rattle.dict_scans.specs.Entries.{behind, entry_cells, HasEntries, HasWrongEntries}
@@ -151,8 +151,8 @@ IsNotOne db n =
 abbrev pub HasTablesOf : Layout → Database → Type 0
 HasTablesOf layout db = AllByRecursion (HasOwn db.schema) (tables_of layout)
 
-abbrev pub HasTables : ℕ → Database → Type 0
-HasTables version db = HasTablesOf (layout_of version) db
+abbrev pub HasVersionTables : ℕ → Database → Type 0
+HasVersionTables version db = HasTablesOf (layout_of version) db
 
 -- ---- the whole file
 

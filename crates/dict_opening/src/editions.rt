@@ -15,7 +15,7 @@ ghost use Rattle.dict_rows.specs.Versions.{layout_of as layout_at};
 ghost use Rattle.dict_scans.specs.Reading.{Same, OnlyReads, IsExcused};
 ghost use Rattle.dict_scans.specs.Entries.{HasWrongEntries, TakesEntries};
 ghost use Rattle.dict_opening.specs.Layouts.{layout_in};
-ghost use Rattle.dict_opening.specs.Opens.{KeepsNone, HasTables, HasTablesOf, IsNotOne, CanReadOne, HasReadOne, CanRead, HasRead, IsWrongEdition, HasKeys, HasBoth, HasNotBoth, HasPieces, IsKeyed, IsNotKeyed};
+ghost use Rattle.dict_opening.specs.Opens.{KeepsNone, HasVersionTables, HasTablesOf, IsNotOne, CanReadOne, HasReadOne, CanRead, HasRead, IsWrongEdition, HasKeys, HasBoth, HasNotBoth, HasPieces, IsKeyed, IsNotKeyed};
 
 use crate::layout::{TableLayout, layout_of};
 use dict_derived::Pieces;
@@ -144,7 +144,7 @@ fn read_number<S: Alter>(
     number: i64,
     reader: &mut EditionReader,
 ) -> Result<(), ReadingFault>
-    requires { WhileOpen (state S.Store conn.old) (HasTables version) }
+    requires { WhileOpen (state S.Store conn.old) (HasVersionTables version) }
     ensures reads { OnlyReads (state S.Store conn.old) (state S.Store conn.new) }
     ensures failed { HasCleanDisk (state S.Store conn.new) → IfErr result (IsExcused (state S.Store conn.old) (state S.Store conn.new)) }
     ensures same { HasCleanDisk (state S.Store conn.new) → OnOk result (Same (state S.Store conn.old) (state S.Store conn.new)) }
@@ -160,14 +160,14 @@ fn read_number<S: Alter>(
 }
 
 /// Takes the editions of these numbers, each with its entries.
-pub(crate) fn read_numbers<S: Alter>(
+pub(crate) fn read_numbered_editions<S: Alter>(
     alloc: Global,
     conn: &mut Connection<S>,
     version: u64,
     numbers: &[i64],
     reader: &mut EditionReader,
 ) -> Result<(), ReadingFault>
-    requires { WhileOpen (state S.Store conn.old) (HasTables version) }
+    requires { WhileOpen (state S.Store conn.old) (HasVersionTables version) }
     ensures reads { OnlyReads (state S.Store conn.old) (state S.Store conn.new) }
     ensures failed { HasCleanDisk (state S.Store conn.new) → IfErr result (IsExcused (state S.Store conn.old) (state S.Store conn.new)) }
     ensures same { HasCleanDisk (state S.Store conn.new) → OnOk result (Same (state S.Store conn.old) (state S.Store conn.new)) }

@@ -3,7 +3,7 @@ ghost use Rattle.std.specs.Prelude.{◌≡◌, ◌≤◌, ℕ};
 ghost use Rattle.sqlite.specs.Effect.{Database, IsDatabase};
 ghost use Rattle.sqlite.specs.Tree.{Trees};
 ghost use Rattle.dict_catalogue.specs.Steps.{Catalogue};
-ghost use Rattle.dict_file.specs.Holds.{Holds, IsHeld, IsLeft};
+ghost use Rattle.dict_holdings.specs.Holds.{Holds, IsHeld, IsLeft};
 ghost use Rattle.dict_opening.specs.Opens.{HasMark, HasKnownMark};
 
 /// A database that holds a catalogue has the readable mark of its version, and of no other: what the faults of an opening tell of

@@ -6,11 +6,11 @@ ghost use Rattle.dict_tables.specs.Indexes.{HasIndex};
 ghost use Rattle.dict_tables.specs.Keyed.{entry, old_entry, word, gram};
 ghost use Rattle.dict_tables.specs.Tables.{mark, item, member, edition, kept};
 ghost use Rattle.dict_rows.specs.Versions.{Plain, Keyed, Shown, layout_of};
-ghost use Rattle.dict_file.specs.Holds.{HasLayout};
-ghost use Rattle.dict_file.specs.Readings.{tables_of};
+ghost use Rattle.dict_holdings.specs.Holds.{HasLayout};
+ghost use Rattle.dict_holdings.specs.Readings.{tables_of};
 ghost use Rattle.dict_opening.specs.Layouts.{layout_in};
 
-use dict_file::{keyed_may_become_shown, may_become_shown};
+use dict_holdings::{keyed_may_become_shown, may_become_shown};
 use dict_keyed_sql::{has_key_index, has_keyed_table, has_old_entry};
 use dict_tables::{KeyIndex, KeyedTable, StoreTable, has_table};
 use sqlite_schema::schema::Schema;

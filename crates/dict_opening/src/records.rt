@@ -9,9 +9,9 @@ ghost use Rattle.dict_rows.specs.Tables.{Tables};
 ghost use Rattle.dict_rows.specs.Taken.{HasTaken};
 ghost use Rattle.dict_catalogue.specs.Views.{summary_shown};
 ghost use Rattle.dict_scans.specs.Reading.{Same, OnlyReads, IsExcused};
-ghost use Rattle.dict_opening.specs.Opens.{HasTables, KeepsNone, HoldsNoneAs, HasBegun, Fits, HasNamed, AreAllKnown, HasReplies, HasAll, HasSummary};
+ghost use Rattle.dict_opening.specs.Opens.{HasVersionTables, KeepsNone, HoldsNoneAs, HasBegun, Fits, HasNamed, AreAllKnown, HasReplies, HasAll, HasSummary};
 
-use crate::editions::read_numbers;
+use crate::editions::read_numbered_editions;
 use crate::strays::test_strays;
 use dict_catalogue::Summary;
 use dict_records::{Mark, Stored};
@@ -30,7 +30,7 @@ fn begin<S: Alter>(
     version: u64,
     marks: &[Stored<Mark<String>>],
 ) -> Result<Reader, ReadingFault>
-    requires { WhileOpen (state S.Store conn.old) (HasTables version) }
+    requires { WhileOpen (state S.Store conn.old) (HasVersionTables version) }
     ensures reads { OnlyReads (state S.Store conn.old) (state S.Store conn.new) }
     ensures failed { HasCleanDisk (state S.Store conn.new) → IfErr result (IsExcused (state S.Store conn.old) (state S.Store conn.new)) }
     ensures same { HasCleanDisk (state S.Store conn.new) → OnOk result (Same (state S.Store conn.old) (state S.Store conn.new)) }
@@ -58,7 +58,7 @@ fn read_named<S: Alter>(
     version: u64,
     reader: &mut EditionReader,
 ) -> Result<(), ReadingFault>
-    requires { WhileOpen (state S.Store conn.old) (HasTables version) }
+    requires { WhileOpen (state S.Store conn.old) (HasVersionTables version) }
     ensures reads { OnlyReads (state S.Store conn.old) (state S.Store conn.new) }
     ensures failed { HasCleanDisk (state S.Store conn.new) → IfErr result (IsExcused (state S.Store conn.old) (state S.Store conn.new)) }
     ensures same { HasCleanDisk (state S.Store conn.new) → OnOk result (Same (state S.Store conn.old) (state S.Store conn.new)) }
@@ -69,7 +69,7 @@ fn read_named<S: Alter>(
         Ok(numbers) => numbers,
         Err(fault) => return Err(fault_of_rows(fault)),
     };
-    read_numbers(alloc, conn, version, &numbers, reader)
+    read_numbered_editions(alloc, conn, version, &numbers, reader)
 }
 
 /// Takes all kept replies, no two of which have one id.
@@ -79,7 +79,7 @@ fn read_kept<S: Alter>(
     version: u64,
     reader: &mut Reader,
 ) -> Result<(), ReadingFault>
-    requires { WhileOpen (state S.Store conn.old) (HasTables version) }
+    requires { WhileOpen (state S.Store conn.old) (HasVersionTables version) }
     ensures reads { OnlyReads (state S.Store conn.old) (state S.Store conn.new) }
     ensures failed { HasCleanDisk (state S.Store conn.new) → IfErr result (IsExcused (state S.Store conn.old) (state S.Store conn.new)) }
     ensures same { HasCleanDisk (state S.Store conn.new) → OnOk result (Same (state S.Store conn.old) (state S.Store conn.new)) }
@@ -97,7 +97,7 @@ fn read_all<S: Alter>(
     version: u64,
     reader: &mut EditionReader,
 ) -> Result<(), ReadingFault>
-    requires { WhileOpen (state S.Store conn.old) (HasTables version) }
+    requires { WhileOpen (state S.Store conn.old) (HasVersionTables version) }
     ensures reads { OnlyReads (state S.Store conn.old) (state S.Store conn.new) }
     ensures failed { HasCleanDisk (state S.Store conn.new) → IfErr result (IsExcused (state S.Store conn.old) (state S.Store conn.new)) }
     ensures same { HasCleanDisk (state S.Store conn.new) → OnOk result (Same (state S.Store conn.old) (state S.Store conn.new)) }
@@ -116,7 +116,7 @@ pub(crate) fn read_records<S: Alter>(
     version: u64,
     marks: &[Stored<Mark<String>>],
 ) -> Result<Summary, ReadingFault>
-    requires { WhileOpen (state S.Store conn.old) (HasTables version) }
+    requires { WhileOpen (state S.Store conn.old) (HasVersionTables version) }
     ensures reads { OnlyReads (state S.Store conn.old) (state S.Store conn.new) }
     ensures failed { HasCleanDisk (state S.Store conn.new) → IfErr result (IsExcused (state S.Store conn.old) (state S.Store conn.new)) }
     ensures same { HasCleanDisk (state S.Store conn.new) → OnOk result (Same (state S.Store conn.old) (state S.Store conn.new)) }

@@ -5,7 +5,7 @@ ghost use Rattle.sqlite.specs.Held.{state};
 ghost use Rattle.dict_sql.specs.Effects.{WhileOpen};
 ghost use Rattle.dict_rows.specs.Versions.{layout_of};
 ghost use Rattle.dict_scans.specs.Reading.{Same, OnlyReads, IsExcused};
-ghost use Rattle.dict_opening.specs.Opens.{HasTables, HasReadableRows, HasOthersApart, IsApartFirst, IsApartLast};
+ghost use Rattle.dict_opening.specs.Opens.{HasVersionTables, HasReadableRows, HasOthersApart, IsApartFirst, IsApartLast};
 
 use dict_records::{Item, Kept, Mark, Member, Stored};
 use dict_scans::{ReadingFault, test_edition_rowids, test_rowids};
@@ -19,7 +19,7 @@ fn test_small<S: Alter>(
     conn: &mut Connection<S>,
     version: u64,
 ) -> Result<(), ReadingFault>
-    requires { WhileOpen (state S.Store conn.old) (HasTables version) }
+    requires { WhileOpen (state S.Store conn.old) (HasVersionTables version) }
     ensures reads { OnlyReads (state S.Store conn.old) (state S.Store conn.new) }
     ensures failed { HasCleanDisk (state S.Store conn.new) → IfErr result (IsExcused (state S.Store conn.old) (state S.Store conn.new)) }
     ensures same { HasCleanDisk (state S.Store conn.new) → OnOk result (Same (state S.Store conn.old) (state S.Store conn.new)) }
@@ -37,7 +37,7 @@ fn test_large<S: Alter>(
     conn: &mut Connection<S>,
     version: u64,
 ) -> Result<(), ReadingFault>
-    requires { WhileOpen (state S.Store conn.old) (HasTables version) }
+    requires { WhileOpen (state S.Store conn.old) (HasVersionTables version) }
     ensures reads { OnlyReads (state S.Store conn.old) (state S.Store conn.new) }
     ensures failed { HasCleanDisk (state S.Store conn.new) → IfErr result (IsExcused (state S.Store conn.old) (state S.Store conn.new)) }
     ensures same { HasCleanDisk (state S.Store conn.new) → OnOk result (Same (state S.Store conn.old) (state S.Store conn.new)) }
@@ -54,7 +54,7 @@ pub(crate) fn test_other_rowids<S: Alter>(
     conn: &mut Connection<S>,
     version: u64,
 ) -> Result<(), ReadingFault>
-    requires { WhileOpen (state S.Store conn.old) (HasTables version) }
+    requires { WhileOpen (state S.Store conn.old) (HasVersionTables version) }
     ensures reads { OnlyReads (state S.Store conn.old) (state S.Store conn.new) }
     ensures failed { HasCleanDisk (state S.Store conn.new) → IfErr result (IsExcused (state S.Store conn.old) (state S.Store conn.new)) }
     ensures same { HasCleanDisk (state S.Store conn.new) → OnOk result (Same (state S.Store conn.old) (state S.Store conn.new)) }

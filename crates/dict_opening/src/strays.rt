@@ -9,7 +9,7 @@ ghost use Rattle.dict_rows.specs.Taken.{HasTaken};
 ghost use Rattle.dict_scans.specs.Reading.{Same, OnlyReads, IsExcused};
 ghost use Rattle.dict_scans.specs.Census.{AreNumberedApart};
 ghost use Rattle.dict_opening.specs.Layouts.{layout_in};
-ghost use Rattle.dict_opening.specs.Opens.{HasTables, HasTablesOf, KeepsNone, Fits, AreAllKnown, ArePiecesKnown, AreBothKnown, AreBothReadable, AreReadablePieces, AreReadableEntries, AreRowsKnown, numbers_in};
+ghost use Rattle.dict_opening.specs.Opens.{HasVersionTables, HasTablesOf, KeepsNone, Fits, AreAllKnown, ArePiecesKnown, AreBothKnown, AreBothReadable, AreReadablePieces, AreReadableEntries, AreRowsKnown, numbers_in};
 
 use crate::layout::{TableLayout, layout_of};
 use dict_rows::Reader;
@@ -102,7 +102,7 @@ pub(crate) fn test_strays<S: Alter>(
     version: u64,
     reader: &Reader,
 ) -> Result<(), ReadingFault>
-    requires { WhileOpen (state S.Store conn.old) (HasTables version) }
+    requires { WhileOpen (state S.Store conn.old) (HasVersionTables version) }
     ensures reads { OnlyReads (state S.Store conn.old) (state S.Store conn.new) }
     ensures failed { HasCleanDisk (state S.Store conn.new) → IfErr result (IsExcused (state S.Store conn.old) (state S.Store conn.new)) }
     ensures same { HasCleanDisk (state S.Store conn.new) → OnOk result (Same (state S.Store conn.old) (state S.Store conn.new)) }

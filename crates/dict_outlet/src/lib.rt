@@ -9,6 +9,6 @@ mod transport;
 
 pub use calls::{Received, Sent, has_moved, received_by, sent_by};
 pub use outlet::{Beginning, Outlet};
-pub use queue::{MOST_WAITING, Queue};
+pub use queue::{MAX_WAITING, Queue};
 pub use trail::Trail;
 pub use transport::{Socket, Transport};

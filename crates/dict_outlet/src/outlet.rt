@@ -13,7 +13,7 @@ use std::thread::yield_now;
 
 // How often within one event a transport is asked in vain to take what waits, and then once more each time. A call takes a
 // microsecond or less.
-const MOST_TRIES: u16 = 4_096;
+const MAX_TRIES: u16 = 4_096;
 
 // After how many of them another thread may run.
 const PAUSED_TRIES: u16 = 64;
@@ -79,7 +79,7 @@ impl<T: Transport, B: Beginning> Outlet<T, B> {
             queue,
             transport,
             taken: Trail::new(),
-            tries: MOST_TRIES,
+            tries: MAX_TRIES,
             of: PhantomData,
         }
     }

@@ -8,12 +8,12 @@ use std::alloc::Global;
 use std::{io, mem};
 
 /// The most octets that wait for one peer.
-pub const MOST_WAITING: usize = 1_048_576;
+pub const MAX_WAITING: usize = 1_048_576;
 
 // A queue that is empty keeps room for this many octets.
 const KEPT_ROOM: usize = 16_384;
 
-/// The octets that were put for a peer and that its transport has not taken, in order: at most `MOST_WAITING`. Its room is
+/// The octets that were put for a peer and that its transport has not taken, in order: at most `MAX_WAITING`. Its room is
 /// that of as many octets at most.
 #[derive(Drop)]
 pub struct Queue {
@@ -64,7 +64,7 @@ impl Queue {
     pub fn room(&self) -> usize
         ensures { result + length (waiting self.now) ≡ 1048576 }
     {
-        MOST_WAITING - self.len()
+        MAX_WAITING - self.len()
     }
 
     /// Whether no octet waits.
@@ -119,7 +119,7 @@ impl Queue {
         self.octets.as_slice().split_at(self.sent).1
     }
 
-    /// Has all of the octets wait, or where more than `MOST_WAITING` would or memory is short none of them.
+    /// Has all of the octets wait, or where more than `MAX_WAITING` would or memory is short none of them.
     pub fn append(&mut self, bytes: &[u8]) -> Result<(), SinkFault>
         ensures all { OnOk result (waiting self.new ≡ waiting self.old ++ bytes.now) }
         ensures none { OnErr result (waiting self.new ≡ waiting self.old) }
@@ -131,7 +131,7 @@ impl Queue {
         if bytes.len() > self.room() {
             return Err(SinkFault);
         }
-        if bytes.len() > MOST_WAITING - self.octets.len() {
+        if bytes.len() > MAX_WAITING - self.octets.len() {
             self.compact();
         }
         self.reserve(bytes.len())?;
@@ -141,7 +141,7 @@ impl Queue {
         }
     }
 
-    // Takes room for so many octets more. It is doubled, up to that of `MOST_WAITING`.
+    // Takes room for so many octets more. It is doubled, up to that of `MAX_WAITING`.
     fn reserve(&mut self, count: usize) -> Result<(), SinkFault>
         requires { vec_len self.old.octets + count ≤ 1048576 }
         ensures octets { self.new.octets.items ≡ self.old.octets.items }
@@ -154,7 +154,7 @@ impl Queue {
         if count <= self.octets.capacity() - self.octets.len() {
             return Ok(());
         }
-        let doubled = self.octets.len().min(MOST_WAITING - self.octets.len());
+        let doubled = self.octets.len().min(MAX_WAITING - self.octets.len());
         match self.octets.reserve_exact(count.max(doubled)) {
             Ok(()) => Ok(()),
             Err(_) => Err(SinkFault),
@@ -199,7 +199,7 @@ impl Sink for Queue {
 
     ghost stream = { stream_of };
 
-    /// All of the octets wait then, or where it fails none of them: more than `MOST_WAITING` would wait, memory is short,
+    /// All of the octets wait then, or where it fails none of them: more than `MAX_WAITING` would wait, memory is short,
     /// or it failed too often before.
     fn put(&mut self, bytes: &[u8]) -> Result<(), SinkFault>
         ensures put { Puts result (stream_of self.old) (stream_of self.new) bytes.now }

@@ -12,8 +12,8 @@ use Rattle.dict_catalogue.proofs.ItemLemmas.{same_text, text_itself}
 use Rattle.dict_rows.specs.Tests.{has_once}
 use Rattle.dict_rows.specs.Order.{InOrder}
 use Rattle.dict_rows.specs.Apart.{last_of, HaveApartNeighbours, HasTakenIds, HasTakenRowids}
-use Rattle.dict_rows.specs.declared.apart.Ids.{Ids}
-use Rattle.dict_rows.specs.declared.apart.Rowids.{Rowids}
+use Rattle.dict_rows.specs.declared.apart.IdReader.{IdReader}
+use Rattle.dict_rows.specs.declared.apart.RowidReader.{RowidReader}
 use Rattle.dict_rows.proofs.LawfulLemmas.{some_same, once_true}
 
 -- ---- one more
@@ -28,10 +28,10 @@ apart_push [] x h new = tt
 apart_push (y ∷ []) x h new = ((λ e. new (ap Some e)), tt)
 apart_push (y ∷ z ∷ zs) x h new = (h.0, apart_push (z ∷ zs) x h.1 new)
 
-pub ids_more : (old new : Ids) (taken : List (List ℕ)) (id : List ℕ) → (option_map string_bytes old.last ≡ Some id → ⊥) → option_map string_bytes new.last ≡ Some id → HasTakenIds old taken → HasTakenIds new (taken ++ id ∷ [])
+pub ids_more : (old new : IdReader) (taken : List (List ℕ)) (id : List ℕ) → (option_map string_bytes old.last ≡ Some id → ⊥) → option_map string_bytes new.last ≡ Some id → HasTakenIds old taken → HasTakenIds new (taken ++ id ∷ [])
 ids_more old new taken id apart last h = record { last = last ∙ sym (last_push taken id); apart = apart_push taken id h.apart (λ e. apart (h.last ∙ e)) }
 
-pub rowids_more : (old new : Rowids) (taken : List ℤ) (rowid : ℤ) → (old.last ≡ Some rowid → ⊥) → new.last ≡ Some rowid → HasTakenRowids old taken → HasTakenRowids new (taken ++ rowid ∷ [])
+pub rowids_more : (old new : RowidReader) (taken : List ℤ) (rowid : ℤ) → (old.last ≡ Some rowid → ⊥) → new.last ≡ Some rowid → HasTakenRowids old taken → HasTakenRowids new (taken ++ rowid ∷ [])
 rowids_more old new taken rowid apart last h = record { last = last ∙ sym (last_push taken rowid); apart = apart_push taken rowid h.apart (λ e. apart (h.last ∙ e)) }
 
 -- ---- twice
@@ -77,11 +77,11 @@ pub apart_once : (xs : List (List ℕ)) → InOrder (λ a b. a ≡ b → ⊥) xs
 apart_once [] h = refl
 apart_once (x ∷ xs) h = and_from (not (is_among xs x)) (has_once xs) (not_from_false (is_among xs x) (absent x xs h.0)) (apart_once xs h.1)
 
-pub ids_once : (leq : List ℕ → List ℕ → Bool) → ((a b : List ℕ) → IsTrue (leq a b) → IsTrue (leq b a) → a ≡ b) → (ids : Ids) (taken : List (List ℕ)) → HasTakenIds ids taken → InOrder (λ a b. IsTrue (leq a b)) taken → IsEachOnce taken
+pub ids_once : (leq : List ℕ → List ℕ → Bool) → ((a b : List ℕ) → IsTrue (leq a b) → IsTrue (leq b a) → a ≡ b) → (ids : IdReader) (taken : List (List ℕ)) → HasTakenIds ids taken → InOrder (λ a b. IsTrue (leq a b)) taken → IsEachOnce taken
 ids_once leq both ids taken h order = once_true taken (apart_once taken (neighbours_apart (λ a b. IsTrue (leq a b)) both taken h.apart order))
 
 int_both : (m n : ℤ) → m ≤ℤ n → n ≤ℤ m → m ≡ n
 int_both m n h g = omega (arith, ints)
 
-pub rowids_apart : (rowids : Rowids) (taken : List ℤ) → HasTakenRowids rowids taken → InOrder (λ a b. a ≤ℤ b) taken → InOrder (λ a b. a ≡ b → ⊥) taken
+pub rowids_apart : (rowids : RowidReader) (taken : List ℤ) → HasTakenRowids rowids taken → InOrder (λ a b. a ≤ℤ b) taken → InOrder (λ a b. a ≡ b → ⊥) taken
 rowids_apart rowids taken h order = neighbours_apart (λ a b. a ≤ℤ b) int_both taken h.apart order

@@ -14,7 +14,7 @@ use Rattle.dict_catalogue.specs.Commands.{Command, install, rollback, retire, pu
 use Rattle.dict_catalogue.specs.Tests.{tests_of, refusal_of}
 use Rattle.dict_catalogue.specs.Effects.{items_after, effect, reply_to}
 use Rattle.dict_catalogue.specs.Steps.{Catalogue, holdings, with_effect, kept_under, answered, decided, refused, step}
-use Rattle.dict_catalogue.specs.declared.fault.Refusal.TheVariants.{BadRequestId}
+use Rattle.dict_catalogue.specs.declared.fault.CommandRefusal.TheVariants.{BadRequestId}
 use Rattle.dict_catalogue.specs.WellFormed.{IsLawfulCommand, IsWellFormed}
 use Rattle.dict_catalogue.proofs.ItemLemmas.{all_after}
 use Rattle.dict_catalogue.proofs.StepLemmas.{all_hold}
@@ -22,7 +22,7 @@ use Rattle.dict_catalogue.proofs.WellFormedLemmas.{step_well_formed}
 use Rattle.dict_rows.specs.Tables.{Tables, same_number, editions_numbered, entries_of}
 use Rattle.dict_rows.specs.Written.{numbered, mark_record, item_record, edition_record, entry_record, kept_record}
 use Rattle.dict_rows.specs.Stands.{HoldsMembers, IsWithin, HoldsEdition, HoldsEditions, has_number, Stands}
-use Rattle.dict_rows.specs.After.{all_members, Installed, Change, is_gone, installed_editions, installed_entries, tables_after, IsInstalledBy, IsChange}
+use Rattle.dict_rows.specs.After.{all_members, Installed, TableChange, is_gone, installed_editions, installed_entries, tables_after, IsInstalledBy, IsChange}
 use Rattle.dict_rows.proofs.TakenLemmas.{SameAt, holds_same, same_number_is, same_itself, nat_same, nat_itself}
 use Rattle.dict_rows.proofs.LawfulLemmas.{names_are, true_once}
 use Rattle.dict_rows.proofs.MemberLemmas.{all_with, own_members, own_owners, items_same, members_as}
@@ -64,7 +64,7 @@ entries_apart number n (Some new) fit lt =
 
 -- ---- each edition after
 
-same_at : (version : ℕ) (change : Change) (old : Tables) (number n : ℕ) → IsFit number change.edition → n < number → is_gone change.gone (pos n) ≡ false → SameAt n old (tables_after version change old)
+same_at : (version : ℕ) (change : TableChange) (old : Tables) (number n : ℕ) → IsFit number change.edition → n < number → is_gone change.gone (pos n) ≡ false → SameAt n old (tables_after version change old)
 same_at version change old number n fit lt stay = record {
   editions = filter-append (λ (row : spec.Edition). same_number row.number (pos n)) (filter (λ (row : spec.Edition). not (is_gone change.gone row.number)) old.editions) (installed_editions change.edition)
       ∙ (λ i. staying (λ (row : spec.Edition). row.number) change.gone (pos n) old.editions stay i ++ editions_apart number n change.edition fit lt i) ∙ append-nil (editions_numbered (pos n) old.editions);
@@ -76,7 +76,7 @@ same_at version change old number n fit lt stay = record {
 abbrev IsFree : ℕ → Tables → Type 0
 IsFree number old = AllByRecursion (λ (row : spec.Edition). same_number row.number (pos number) ≡ false) old.editions × AllByRecursion (λ (row : spec.Entry). same_number row.edition (pos number) ≡ false) old.entries
 
-new_holds : (version : ℕ) (change : Change) (old : Tables) (number : ℕ) (owner : List ℕ) (stored : Stored Edition) (edition : Option Installed) → change.edition ≡ edition → IsFit number edition → IsFree number old → IsNewOf edition owner stored → HoldsEdition (tables_after version change old) owner stored
+new_holds : (version : ℕ) (change : TableChange) (old : Tables) (number : ℕ) (owner : List ℕ) (stored : Stored Edition) (edition : Option Installed) → change.edition ≡ edition → IsFit number edition → IsFree number old → IsNewOf edition owner stored → HoldsEdition (tables_after version change old) owner stored
 new_holds version change old number owner stored None e fit free new = absurd new
 new_holds version change old number owner stored (Some one) e fit free new =
     let is : stored.number ≡ number = new.1 ∙ fit.0 in
@@ -181,7 +181,7 @@ acted M id command lawful new passed =
     ap (λ b. (cond b (answered M id command (kept_under M.kept id)) (record { reply = refused BadRequestId; catalogue = M })).catalogue) lawful
     ∙ ap (λ k. (answered M id command k).catalogue) new ∙ ap (λ r. (decided M id command r).catalogue) passed
 
-one_after : (version : ℕ) (change : Change) (old : Tables) (installs : ℕ) (owner : List ℕ) (stored : Stored Edition) → IsFit (installs + 1) change.edition → IsFree (installs + 1) old → is_gone change.gone (pos stored.number) ≡ false →
+one_after : (version : ℕ) (change : TableChange) (old : Tables) (installs : ℕ) (owner : List ℕ) (stored : Stored Edition) → IsFit (installs + 1) change.edition → IsFree (installs + 1) old → is_gone change.gone (pos stored.number) ≡ false →
     IsOld old installs owner stored ⊎ IsNewOf change.edition owner stored → HoldsEdition (tables_after version change old) owner stored
 one_after version change old installs owner stored fit free stay (inl p) = holds_same old (tables_after version change old) owner stored (same_at version change old (installs + 1) stored.number fit (let le : stored.number ≤ installs = p.few in omega arith) stay) p.holds
 one_after version change old installs owner stored fit free stay (inr p) = new_holds version change old (installs + 1) owner stored change.edition refl fit free p
@@ -243,7 +243,7 @@ unfolding IsThere
 entries_there after None h = tt
 entries_there after (Some new) h = numbered_all (λ (row : spec.Entry). IsTrue (list_any (λ one. same_number (pos one) row.edition) after)) (entry_record new.number) (λ n x. h) 0 new.reading.lines
 
-pub after_stands : (version : ℕ) (old : Tables) (M : Catalogue) (id : List ℕ) (command : Command Edition) (change : Change) → Stands version old M → IsLawfulCommand command → IsTrue (is_request_id id) → kept_under M.kept id ≡ None → refusal_of (holdings M) command ≡ None →
+pub after_stands : (version : ℕ) (old : Tables) (M : Catalogue) (id : List ℕ) (command : Command Edition) (change : TableChange) → Stands version old M → IsLawfulCommand command → IsTrue (is_request_id id) → kept_under M.kept id ≡ None → refusal_of (holdings M) command ≡ None →
     IsChange M id command change → Stands version (tables_after version change old) (with_effect M id command)
 after_stands version old M id command change h lawful named new passed is =
     let after = with_effect M id command in

@@ -23,7 +23,7 @@ pub record Installed : Type 0 where
   pub reading : ReadEdition
 
 -- what is written where a command acts: the summary after it, the editions that go, the one that is installed, and the reply
-pub record Change : Type 0 where
+pub record TableChange : Type 0 where
   pub summary : Holdings (List ℕ)
   pub gone : List ℕ
   pub edition : Option Installed
@@ -43,7 +43,7 @@ installed_entries (Some new) = numbered (entry_record new.number) 0 new.reading.
 
 -- The mark, the items and the members are written anew; the records of the editions that go are taken away, and those of
 -- the one that is installed come last; so does the reply.
-abbrev pub tables_after : ℕ → Change → Tables → Tables
+abbrev pub tables_after : ℕ → TableChange → Tables → Tables
 tables_after version change old = record {
   marks = mark_record version change.summary.installs ∷ [];
   items = numbered item_record 0 change.summary.items;
@@ -64,7 +64,7 @@ IsInstalledBy number (put_virtual name title members) new = new ≡ None
 IsInstalledBy number (place name at) new = new ≡ None
 
 -- this is what is written where the command acts on the catalogue
-pub record IsChange (M : Catalogue) (id : List ℕ) (command : Command Edition) (change : Change) : Type 0 where
+pub record IsChange (M : Catalogue) (id : List ℕ) (command : Command Edition) (change : TableChange) : Type 0 where
   pub summary : change.summary ≡ summary_of (with_effect M id command)
   pub gone : change.gone ≡ editions_gone M.items (with_effect M id command).items
   pub edition : IsInstalledBy (M.installs + 1) command change.edition

@@ -1,7 +1,7 @@
 -- What comes in order, where no two neighbours are the same.
 use Rattle.std.specs.Prelude.{◌≡◌, ℕ, ℤ, List, [], ◌∷◌, Option, Some, None, option_map, string_bytes}
-use Rattle.dict_rows.specs.declared.apart.Ids.{Ids}
-use Rattle.dict_rows.specs.declared.apart.Rowids.{Rowids}
+use Rattle.dict_rows.specs.declared.apart.IdReader.{IdReader}
+use Rattle.dict_rows.specs.declared.apart.RowidReader.{RowidReader}
 
 abbrev pub last_of : {X : Type 0} → List X → Option X
 last_of [] = None
@@ -15,11 +15,11 @@ HaveApartNeighbours (x ∷ []) = Unit {0}
 HaveApartNeighbours (x ∷ y ∷ ys) = (x ≡ y → ⊥) × HaveApartNeighbours (y ∷ ys)
 
 -- these ids were taken
-pub record HasTakenIds (ids : Ids) (taken : List (List ℕ)) : Type 0 where
+pub record HasTakenIds (ids : IdReader) (taken : List (List ℕ)) : Type 0 where
   pub last : option_map string_bytes ids.last ≡ last_of taken
   pub apart : HaveApartNeighbours taken
 
 -- these rowids were taken
-pub record HasTakenRowids (rowids : Rowids) (taken : List ℤ) : Type 0 where
+pub record HasTakenRowids (rowids : RowidReader) (taken : List ℤ) : Type 0 where
   pub last : rowids.last ≡ last_of taken
   pub apart : HaveApartNeighbours taken

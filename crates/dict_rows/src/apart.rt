@@ -7,7 +7,7 @@ use crate::fault::RowsFault;
 
 /// The ids of kept replies, which come in the order of ids. It holds the last one.
 #[derive(Drop)]
-pub struct Ids {
+pub struct IdReader {
     pub(crate) last: Option<String>,
 }
 
@@ -20,14 +20,14 @@ fn is_last(last: &Option<String>, id: &str) -> bool
     }
 }
 
-impl Ids {
+impl IdReader {
     ghost use Rattle.dict_rows.specs.Apart.{HasTakenIds};
 
     /// No id was taken yet. No memory is taken.
-    pub fn new() -> Ids
+    pub fn new() -> IdReader
         ensures { HasTakenIds result [] }
     {
-        Ids { last: None }
+        IdReader { last: None }
     }
 
     /// Takes the next id. `Damaged`, the only fault, tells that it came twice.
@@ -46,7 +46,7 @@ impl Ids {
 
 /// The rowids of a table, which come in their order. It holds the last one.
 #[derive(Drop)]
-pub struct Rowids {
+pub struct RowidReader {
     pub(crate) last: Option<i64>,
 }
 
@@ -59,14 +59,14 @@ fn is_last_rowid(last: &Option<i64>, rowid: i64) -> bool
     }
 }
 
-impl Rowids {
+impl RowidReader {
     ghost use Rattle.dict_rows.specs.Apart.{HasTakenRowids};
 
     /// No rowid was taken yet.
-    pub fn new() -> Rowids
+    pub fn new() -> RowidReader
         ensures { HasTakenRowids result [] }
     {
-        Rowids { last: None }
+        RowidReader { last: None }
     }
 
     /// Takes the next rowid. `Damaged`, the only fault, tells that it came twice.

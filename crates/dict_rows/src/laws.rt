@@ -8,14 +8,14 @@ ghost use Rattle.dict_catalogue.specs.Commands.{Command};
 ghost use Rattle.dict_catalogue.specs.Tests.{refusal_of};
 ghost use Rattle.dict_rows.specs.Written.{mark_record};
 ghost use Rattle.dict_rows.specs.Worked.{worked_tables, worked_catalogue};
-ghost use Rattle.dict_rows.specs.After.{Change, IsChange, tables_after};
+ghost use Rattle.dict_rows.specs.After.{TableChange, IsChange, tables_after};
 ghost use Rattle.dict_catalogue.specs.Steps.{Catalogue, empty_catalogue, holdings, kept_under, with_effect};
 ghost use Rattle.dict_rows.specs.Tables.{Tables, editions_numbered, entries_of};
 ghost use Rattle.dict_rows.specs.Stands.{Stands};
 ghost use Rattle.dict_catalogue.specs.WellFormed.{IsEachOnce, IsLawfulCommand};
 ghost use Rattle.dict_rows.specs.Apart.{HasTakenIds, HasTakenRowids};
-ghost use Rattle.dict_rows.specs.declared.apart.Ids.{Ids};
-ghost use Rattle.dict_rows.specs.declared.apart.Rowids.{Rowids};
+ghost use Rattle.dict_rows.specs.declared.apart.IdReader.{IdReader};
+ghost use Rattle.dict_rows.specs.declared.apart.RowidReader.{RowidReader};
 ghost use Rattle.dict_rows.specs.Order.{InOrder, HaveSame, AreOrdered, is_of, editions_of_numbers, entries_of_numbers};
 
 /// Tables stand for one catalogue at most.
@@ -47,8 +47,8 @@ pub fn records_by_number()
 ///
 /// It does nothing. Its clauses are the law.
 pub fn taken_in_order()
-    ensures ids { (leq : List ℕ → List ℕ → Bool) → ((a b : List ℕ) → IsTrue (leq a b) → IsTrue (leq b a) → a ≡ b) → (ids : Ids) (taken : List (List ℕ)) → HasTakenIds ids taken → InOrder (λ a b. IsTrue (leq a b)) taken → IsEachOnce taken }
-    ensures rowids { (rowids : Rowids) (taken : List ℤ) → HasTakenRowids rowids taken → InOrder (λ a b. a ≤ℤ b) taken → InOrder (λ a b. a ≡ b → ⊥) taken }
+    ensures ids { (leq : List ℕ → List ℕ → Bool) → ((a b : List ℕ) → IsTrue (leq a b) → IsTrue (leq b a) → a ≡ b) → (ids : IdReader) (taken : List (List ℕ)) → HasTakenIds ids taken → InOrder (λ a b. IsTrue (leq a b)) taken → IsEachOnce taken }
+    ensures rowids { (rowids : RowidReader) (taken : List ℤ) → HasTakenRowids rowids taken → InOrder (λ a b. a ≤ℤ b) taken → InOrder (λ a b. a ≡ b → ⊥) taken }
 {}
 
 /// Where tables stand for a catalogue, the records that a command changes stand for the catalogue after it: what is written
@@ -57,7 +57,7 @@ pub fn taken_in_order()
 ///
 /// It does nothing. Its clause is the law.
 pub fn records_after()
-    ensures { (version : ℕ) (old : Tables) (M : Catalogue) (id : List ℕ) (command : Command AnEdition) (change : Change) → Stands version old M → IsLawfulCommand command → IsTrue (is_request_id id) → kept_under M.kept id ≡ None → refusal_of (holdings M) command ≡ None →
+    ensures { (version : ℕ) (old : Tables) (M : Catalogue) (id : List ℕ) (command : Command AnEdition) (change : TableChange) → Stands version old M → IsLawfulCommand command → IsTrue (is_request_id id) → kept_under M.kept id ≡ None → refusal_of (holdings M) command ≡ None →
         IsChange M id command change → Stands version (tables_after version change old) (with_effect M id command) }
 {}
 

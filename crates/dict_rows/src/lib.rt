@@ -14,7 +14,7 @@ mod summary;
 mod titles;
 mod written;
 
-pub use apart::{Ids, Rowids};
+pub use apart::{IdReader, RowidReader};
 pub use fault::RowsFault;
 pub use laws::{
     empty_records, one_catalogue, ordered_records, records_after, records_by_number,

@@ -16,9 +16,9 @@ use Rattle.dict_records.specs.declared.records.Stored.{Stored}
 use Rattle.dict_sql.specs.Effects.{rows_of}
 use Rattle.dict_sql.specs.Encodings.{mark_row, item_row, member_row, edition_row, kept_row, stored_mark, stored_item, stored_member, stored_edition, stored_kept}
 use Rattle.dict_sql.specs.Reads.{by_columns}
-use Rattle.dict_file.specs.Holds.{Keeps}
-use Rattle.dict_file.proofs.ReadLemmas.{sorted_order}
-use Rattle.dict_file.proofs.OneLemmas.{decode_mark, decode_item, decode_member, decode_edition, decode_kept, mark_back, item_back, member_back, edition_back, kept_back}
+use Rattle.dict_holdings.specs.Holds.{Keeps}
+use Rattle.dict_holdings.proofs.ReadLemmas.{sorted_order}
+use Rattle.dict_holdings.proofs.OneLemmas.{decode_mark, decode_item, decode_member, decode_edition, decode_kept, mark_back, item_back, member_back, edition_back, kept_back}
 use Rattle.dict_rows.specs.Order.{InOrder}
 use Rattle.dict_rows.proofs.OrderLemmas.{order_given, all_same}
 use Rattle.dict_scans.proofs.RowidLemmas.{all_of_map}

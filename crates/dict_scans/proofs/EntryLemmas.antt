@@ -21,7 +21,7 @@ use Rattle.dict_rows.specs.Given.{entries_given}
 use Rattle.dict_rows.specs.Versions.{Layout, Plain, Keyed, Shown}
 use Rattle.dict_rows.specs.declared.reader.Reader.{Reader}
 use Rattle.dict_derived.specs.Entries.{Filed, filed, plain}
-use Rattle.dict_file.specs.Readings.{AreShownIn, filed_row}
+use Rattle.dict_holdings.specs.Readings.{AreShownIn, filed_row}
 use Rattle.dict_scans.specs.Cursors.{Cursor, IsWhole, IsFront}
 use Rattle.dict_scans.specs.Cursors.Cursor.{InStore, KeyedOf, OldEntriesOf}
 use Rattle.dict_scans.specs.Entries.{behind, entry_cells, HasEntries, BeginsWithEntries, IsNoEntryRow, TakesEntries, HasWrongEntries}

@@ -22,11 +22,11 @@ use Rattle.dict_sql.specs.Streams.Scan.{ByRowid, EditionNumbers}
 use Rattle.dict_scans.specs.Cursors.Cursor.{InStore}
 use Rattle.dict_sql.proofs.KitLemmas.{value_cmp_total}
 use Rattle.dict_sql.proofs.Callers.{apart_same, differs}
-use Rattle.dict_file.proofs.ReadLemmas.{sorted_order, one_le, records_order}
+use Rattle.dict_holdings.proofs.ReadLemmas.{sorted_order, one_le, records_order}
 use Rattle.dict_rows.specs.Order.{InOrder}
 use Rattle.dict_rows.specs.Apart.{HasTakenRowids}
 use Rattle.dict_rows.proofs.ApartLemmas.{rowids_apart}
-use Rattle.dict_rows.specs.declared.apart.Rowids.{Rowids}
+use Rattle.dict_rows.specs.declared.apart.RowidReader.{RowidReader}
 use Rattle.dict_scans.specs.Scans.{TakesAll, HasRefused}
 use Rattle.dict_scans.specs.Takers.{AreRowids, takes_rowids, refuses_rowids}
 
@@ -67,8 +67,8 @@ columns_of : {R : Type 0} (stored : R → Row) (given : List R) → map (λ (r :
 columns_of stored [] = refl
 columns_of stored (r ∷ given) = ap (λ l. column (stored r) 0 ∷ l) (columns_of stored given)
 
-module _ {R : Type 0} (stored : R → Row) (all : List Row) (first : Rowids) (none : HasTakenRowids first []) (given : List R) where
-  pub all_apart : (last : Rowids) → IsPermutation all (map stored given) → IsSorted (by_columns (0 ∷ [])) (map stored given) → takes_rowids stored first given last → HasApartRowids all
+module _ {R : Type 0} (stored : R → Row) (all : List Row) (first : RowidReader) (none : HasTakenRowids first []) (given : List R) where
+  pub all_apart : (last : RowidReader) → IsPermutation all (map stored given) → IsSorted (by_columns (0 ∷ [])) (map stored given) → takes_rowids stored first given last → HasApartRowids all
   all_apart last same sorted h =
       let ids = h.0 in
       let up = rising stored given ids h.1 (sorted_order (0 ∷ []) (map stored given) sorted) in
@@ -78,7 +78,7 @@ module _ {R : Type 0} (stored : R → Row) (all : List Row) (first : Rowids) (no
         apart = subst (IsDistinct same_value) (sym (columns_of stored given ∙ h.1)) (distinct ids apart);
       })
 
-pub rowids_whole : {R : Type 0} (stored : R → Row) (table : StoreTable) (db : Database) (first last : Rowids) → HasTakenRowids first [] → TakesAll stored (takes_rowids stored) (InStore (ByRowid table)) db first last → HasApartRowids (rows_of (table_of table 0).name db)
+pub rowids_whole : {R : Type 0} (stored : R → Row) (table : StoreTable) (db : Database) (first last : RowidReader) → HasTakenRowids first [] → TakesAll stored (takes_rowids stored) (InStore (ByRowid table)) db first last → HasApartRowids (rows_of (table_of table 0).name db)
 rowids_whole stored table db first last none h = all_apart stored (rows_of (table_of table 0).name db) first none h.0 last h.1.same h.1.sorted h.2
 
 -- ---- rowids that aren't
@@ -103,14 +103,14 @@ unfolding IsDistinct
 front_apart [] vs h = tt
 front_apart (n ∷ ids) vs h = (all_unlike n ids vs h.0, front_apart ids vs h.1)
 
-pub all_wrong : {R : Type 0} (stored : R → Row) (all : List Row) (first : Rowids) → HasTakenRowids first [] → (given : List R) (tail : List Row) → IsPermutation all (map stored given ++ tail) → refuses_rowids stored first given → HasApartRowids all → ⊥
+pub all_wrong : {R : Type 0} (stored : R → Row) (all : List Row) (first : RowidReader) → HasTakenRowids first [] → (given : List R) (tail : List Row) → IsPermutation all (map stored given ++ tail) → refuses_rowids stored first given → HasApartRowids all → ⊥
 all_wrong stored all first none given tail same h apart =
     let ids = h.0 in
     let there = apart_same all (map stored given ++ tail) same apart in
     let columns = map-append (λ (r : Row). column r 0) (map stored given) tail ∙ ap (λ l. l ++ map (λ (r : Row). column r 0) tail) (columns_of stored given ∙ h.1) in
     h.2 [] none (front_apart ids (map (λ (r : Row). column r 0) tail) (subst (IsDistinct same_value) columns there.apart))
 
-pub rowids_wrong : {R : Type 0} (stored : R → Row) (table : StoreTable) (db : Database) (first : Rowids) → HasTakenRowids first [] → HasRefused stored (refuses_rowids stored) (InStore (ByRowid table)) db first → HasApartRowids (rows_of (table_of table 0).name db) → ⊥
+pub rowids_wrong : {R : Type 0} (stored : R → Row) (table : StoreTable) (db : Database) (first : RowidReader) → HasTakenRowids first [] → HasRefused stored (refuses_rowids stored) (InStore (ByRowid table)) db first → HasApartRowids (rows_of (table_of table 0).name db) → ⊥
 rowids_wrong stored table db first none h = all_wrong stored (rows_of (table_of table 0).name db) first none h.0 h.1.0 h.1.1.same h.2
 
 -- ---- the rowids of the editions, of which the texts aren't read
@@ -126,13 +126,13 @@ pub all_numbered : (P Q : Row → Type 0) → ((r : Row) → P r → Q (numbered
 all_numbered P Q w [] h = tt
 all_numbered P Q w (r ∷ rows) h = (w r h.0, all_numbered P Q w rows h.1)
 
-pub numbers_whole : (db : Database) (first last : Rowids) → HasTakenRowids first [] → TakesAll stored_number (takes_rowids stored_number) (InStore EditionNumbers) db first last → HasApartRowids (rows_of (codes "edition") db)
+pub numbers_whole : (db : Database) (first last : RowidReader) → HasTakenRowids first [] → TakesAll stored_number (takes_rowids stored_number) (InStore EditionNumbers) db first last → HasApartRowids (rows_of (codes "edition") db)
 numbers_whole db first last none h =
     let rows = rows_of (codes "edition") db in
     let apart = all_apart stored_number (map numbered rows) first none h.0 last h.1.same h.1.sorted h.2 in
     record { integers = all_of_map numbered HasRowid HasRowid (λ r p. p) rows apart.integers; apart = subst (IsDistinct same_value) (firsts rows) apart.apart }
 
-pub numbers_wrong : (db : Database) (first : Rowids) → HasTakenRowids first [] → HasRefused stored_number (refuses_rowids stored_number) (InStore EditionNumbers) db first → HasApartRowids (rows_of (codes "edition") db) → ⊥
+pub numbers_wrong : (db : Database) (first : RowidReader) → HasTakenRowids first [] → HasRefused stored_number (refuses_rowids stored_number) (InStore EditionNumbers) db first → HasApartRowids (rows_of (codes "edition") db) → ⊥
 numbers_wrong db first none h apart =
     let rows = rows_of (codes "edition") db in
     all_wrong stored_number (map numbered rows) first none h.0 h.1.0 h.1.1.same h.2

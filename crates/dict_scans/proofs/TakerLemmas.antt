@@ -16,8 +16,8 @@ use Rattle.dict_rows.specs.Whole.{with_entries, with_replies, AreOf}
 use Rattle.dict_rows.specs.Order.{InOrder}
 use Rattle.dict_rows.specs.Apart.{HasTakenIds, HasTakenRowids}
 use Rattle.dict_rows.specs.declared.reader.Reader.{Reader}
-use Rattle.dict_rows.specs.declared.apart.Ids.{Ids}
-use Rattle.dict_rows.specs.declared.apart.Rowids.{Rowids}
+use Rattle.dict_rows.specs.declared.apart.IdReader.{IdReader}
+use Rattle.dict_rows.specs.declared.apart.RowidReader.{RowidReader}
 use Rattle.dict_rows.specs.declared.fault.RowsFault.{RowsFault}
 use Rattle.dict_rows.specs.declared.fault.RowsFault.TheVariants.{Damaged, Memory}
 use Rattle.dict_scans.specs.declared.takers.Strays.{Strays}
@@ -51,11 +51,11 @@ all_push P (y ∷ xs) x h p = (h.0, all_push P xs x h.1 p)
 
 -- ---- rowids
 
-module _ {R : Type 0} (stored : R → Row) (first : Rowids) (given : List R) (next : R) (id : ℤ) (old : Rowids) (is : column (stored next) 0 ≡ Int id) (h : takes_rowids stored first given old) where
+module _ {R : Type 0} (stored : R → Row) (first : RowidReader) (given : List R) (next : R) (id : ℤ) (old : RowidReader) (is : column (stored next) 0 ≡ Int id) (h : takes_rowids stored first given old) where
   one_more : AreRowids stored (given ++ next ∷ []) (h.0 ++ id ∷ [])
   one_more = map-append (λ r. column (stored r) 0) given (next ∷ []) ∙ (λ i. h.1 i ++ is i ∷ []) ∙ sym (map-append Int h.0 (id ∷ []))
 
-  pub rowids_next : (new : Rowids) → ((taken : List ℤ) → HasTakenRowids old taken → HasTakenRowids new (taken ++ id ∷ [])) → takes_rowids stored first (given ++ next ∷ []) new
+  pub rowids_next : (new : RowidReader) → ((taken : List ℤ) → HasTakenRowids old taken → HasTakenRowids new (taken ++ id ∷ [])) → takes_rowids stored first (given ++ next ∷ []) new
   rowids_next new more = (h.0 ++ id ∷ [], one_more, λ before b. subst (HasTakenRowids new) (append_assoc before h.0 (id ∷ [])) (more (before ++ h.0) (h.2 before b)))
 
   pub rowids_refused : ((taken : List ℤ) → HasTakenRowids old taken → InOrder (λ a b. a ≡ b → ⊥) (taken ++ id ∷ []) → ⊥) → refuses_rowids stored first (given ++ next ∷ [])
@@ -96,7 +96,7 @@ module _ (first : Reader) (given : List KeptRow) (next : KeptRow) (old : Reader)
 pub ids_push : (given : List KeptRow) (next : KeptRow) → ids_given (given ++ next ∷ []) ≡ ids_given given ++ string_bytes next.value.id ∷ []
 ids_push given next = ap (map (λ (row : spec.Kept). row.id)) (map-append (λ (row : KeptRow). owned_kept row.value) given (next ∷ [])) ∙ map-append (λ (row : spec.Kept). row.id) (kept_given given) (owned_kept next.value ∷ [])
 
-module _ (first : Ids) (given : List KeptRow) (next : KeptRow) (old : Ids) (t : takes_ids first given old) where
+module _ (first : IdReader) (given : List KeptRow) (next : KeptRow) (old : IdReader) (t : takes_ids first given old) where
   ids_are : (before : List (List ℕ)) → (before ++ ids_given given) ++ string_bytes next.value.id ∷ [] ≡ before ++ ids_given (given ++ next ∷ [])
   ids_are before = append_assoc before (ids_given given) (string_bytes next.value.id ∷ []) ∙ ap (λ l. before ++ l) (sym (ids_push given next))
 

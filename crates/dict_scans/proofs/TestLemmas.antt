@@ -11,8 +11,8 @@ use Rattle.dict_scans.specs.Cursors.{Cursor, IsFront}
 use Rattle.dict_sql.specs.Streams.Scan.{ByRowid, KeptById, EditionNumbers}
 use Rattle.dict_scans.specs.Cursors.Cursor.{InStore}
 use Rattle.dict_rows.specs.Apart.{HasTakenIds, HasTakenRowids}
-use Rattle.dict_rows.specs.declared.apart.Ids.{Ids}
-use Rattle.dict_rows.specs.declared.apart.Rowids.{Rowids}
+use Rattle.dict_rows.specs.declared.apart.IdReader.{IdReader}
+use Rattle.dict_rows.specs.declared.apart.RowidReader.{RowidReader}
 use Rattle.dict_scans.specs.declared.takers.Strays.{Strays}
 use Rattle.dict_scans.specs.Scans.{TakesAll, HasNoRecordIn, IsWrong}
 use Rattle.dict_scans.specs.Takers.{refuses_rowids, takes_ids, refuses_ids, takes_known, refuses_stray, AreKnown, HasStray, HasIdsApart, HasIdTwice}
@@ -26,19 +26,19 @@ pub stray_found : {R : Type 0} (stored : R → Row) (columns : List Content) (nu
 stray_found stored columns number what db first (inl h) = inl h
 stray_found stored columns number what db first (inr h) = inr (h.2.0, h.2.1, subst (λ given. IsFront what db (map stored given)) h.2.2 h.1, h.2.3)
 
-pub ids_whole : (db : Database) (first last : Ids) → HasTakenIds first [] → TakesAll stored_kept takes_ids (InStore KeptById) db first last → HasIdsApart db
+pub ids_whole : (db : Database) (first last : IdReader) → HasTakenIds first [] → TakesAll stored_kept takes_ids (InStore KeptById) db first last → HasIdsApart db
 ids_whole db first last none h = (h.0, h.1, (h.2 [] none).apart)
 
-pub ids_wrong : (db : Database) (first : Ids) → HasTakenIds first [] → IsWrong stored_kept kept_columns refuses_ids (InStore KeptById) db first → HasNoRecordIn stored_kept kept_columns (InStore KeptById) db ⊎ HasIdTwice db
+pub ids_wrong : (db : Database) (first : IdReader) → HasTakenIds first [] → IsWrong stored_kept kept_columns refuses_ids (InStore KeptById) db first → HasNoRecordIn stored_kept kept_columns (InStore KeptById) db ⊎ HasIdTwice db
 ids_wrong db first none (inl h) = inl h
 ids_wrong db first none (inr h) = inr (h.0, h.1, h.2 [] none)
 
-pub numbers_found : (db : Database) (first : Rowids) → HasTakenRowids first [] → IsWrong stored_number number_columns (refuses_rowids stored_number) (InStore EditionNumbers) db first →
+pub numbers_found : (db : Database) (first : RowidReader) → HasTakenRowids first [] → IsWrong stored_number number_columns (refuses_rowids stored_number) (InStore EditionNumbers) db first →
     HasNoRecordIn stored_number number_columns (InStore EditionNumbers) db ⊎ (HasApartRowids (rows_of (codes "edition") db) → ⊥)
 numbers_found db first none (inl h) = inl h
 numbers_found db first none (inr h) = inr (numbers_wrong db first none h)
 
-pub rowids_found : {R : Type 0} (stored : R → Row) (columns : List Content) (table : StoreTable) (db : Database) (first : Rowids) → HasTakenRowids first [] → IsWrong stored columns (refuses_rowids stored) (InStore (ByRowid table)) db first →
+pub rowids_found : {R : Type 0} (stored : R → Row) (columns : List Content) (table : StoreTable) (db : Database) (first : RowidReader) → HasTakenRowids first [] → IsWrong stored columns (refuses_rowids stored) (InStore (ByRowid table)) db first →
     HasNoRecordIn stored columns (InStore (ByRowid table)) db ⊎ (HasApartRowids (rows_of (table_of table 0).name db) → ⊥)
 rowids_found stored columns table db first none (inl h) = inl h
 rowids_found stored columns table db first none (inr h) = inr (rowids_wrong stored table db first none h)

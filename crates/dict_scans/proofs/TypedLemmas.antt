@@ -19,7 +19,7 @@ use Rattle.dict_sql.specs.Columns.{HasColumns, entry_columns}
 use Rattle.dict_sql.specs.Effects.{Has, rows_of, shown}
 use Rattle.dict_sql.specs.Keyed.{old_entry_columns}
 use Rattle.dict_rows.specs.Versions.{Keyed}
-use Rattle.dict_file.specs.Readings.{IsReadable, entries}
+use Rattle.dict_holdings.specs.Readings.{IsReadable, entries}
 use Rattle.dict_scans.proofs.NumberLemmas.{behind_column}
 
 octets : (v : Value) → is_of kind.Blob v ≡ true → is_null v ≡ false → (b : List ℕ) × (v ≡ Blob b)

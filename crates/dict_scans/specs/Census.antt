@@ -5,7 +5,7 @@ use Rattle.sqlite.specs.Order.{Row}
 use Rattle.sqlite.specs.Effect.{Database}
 use Rattle.dict_sql.specs.Effects.{HasApartRowids, rows_of, equals_number}
 use Rattle.dict_rows.specs.Versions.{Plain, Keyed, Shown}
-use Rattle.dict_file.specs.Readings.{Reading, entries, words, grams}
+use Rattle.dict_holdings.specs.Readings.{Reading, entries, words, grams}
 use Rattle.dict_scans.specs.Takers.{takes_rowids, refuses_rowids}
 use Rattle.dict_scans.specs.declared.census.Census.{Census}
 use Rattle.dict_scans.specs.declared.census.EditionTable.{EditionTable}

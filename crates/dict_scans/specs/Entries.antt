@@ -14,7 +14,7 @@ use Rattle.dict_rows.specs.Whole.{with_entries, AreOf}
 use Rattle.dict_rows.specs.Versions.{Layout, Plain, Keyed, Shown}
 use Rattle.dict_rows.specs.declared.reader.Reader.{Reader}
 use Rattle.dict_derived.specs.Entries.{filed}
-use Rattle.dict_file.specs.Readings.{AreShownIn, entries, filed_row}
+use Rattle.dict_holdings.specs.Readings.{AreShownIn, entries, filed_row}
 
 -- of a row of `entry`, the columns behind its rowid that are looked at
 abbrev pub behind : Layout → Row → Row

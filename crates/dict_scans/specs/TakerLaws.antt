@@ -5,8 +5,8 @@ use Rattle.dict_rows.specs.Apart.{HasTakenIds, HasTakenRowids}
 use Rattle.dict_rows.specs.Taken.{HasTaken}
 use Rattle.dict_records.specs.Records as spec
 use Rattle.dict_rows.specs.declared.reader.Reader.{Reader}
-use Rattle.dict_rows.specs.declared.apart.Ids.{Ids}
-use Rattle.dict_rows.specs.declared.apart.Rowids.{Rowids}
+use Rattle.dict_rows.specs.declared.apart.IdReader.{IdReader}
+use Rattle.dict_rows.specs.declared.apart.RowidReader.{RowidReader}
 use Rattle.dict_records.specs.Keyed.{Piece}
 use Rattle.dict_derived.specs.declared.reader.PieceReader.{PieceReader}
 use Rattle.dict_scans.specs.declared.census.Census.{Census}
@@ -17,7 +17,7 @@ use Rattle.dict_scans.specs.Filing.{takes_old, TakesFiled}
 use Rattle.dict_scans.specs.PieceRows.{takes_pieces}
 use Rattle.dict_scans.specs.Census.{TakesCensus}
 
-pub no_rowids : {R : Type 0} (stored : R → Row) (rowids : Rowids) → takes_rowids stored rowids [] rowids
+pub no_rowids : {R : Type 0} (stored : R → Row) (rowids : RowidReader) → takes_rowids stored rowids [] rowids
 no_rowids stored rowids = ([], refl, λ before h. subst (HasTakenRowids rowids) (sym (append-nil before)) h)
 
 pub no_taken : (reader : Reader) → AreTaken reader reader []
@@ -35,7 +35,7 @@ no_filed taker = record { filed = tt; keys = sym (append-nil taker.keys.items); 
 pub no_replies : (reader : Reader) → takes_replies reader [] reader
 no_replies reader version taken h = subst (λ (kept : List spec.Kept). HasTaken version reader (record taken { kept = kept })) (sym (append-nil taken.kept)) h
 
-pub no_ids : (ids : Ids) → takes_ids ids [] ids
+pub no_ids : (ids : IdReader) → takes_ids ids [] ids
 no_ids ids before h = subst (HasTakenIds ids) (sym (append-nil before)) h
 
 pub no_pieces : {R : Type 0} (piece : R → Piece) (reader : PieceReader) → takes_pieces piece reader [] reader

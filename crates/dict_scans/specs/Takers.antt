@@ -23,8 +23,8 @@ use Rattle.dict_scans.specs.Entries.{AreTaken, AreNotTaken}
 use Rattle.dict_rows.specs.Order.{InOrder}
 use Rattle.dict_rows.specs.Apart.{HasTakenIds, HasTakenRowids, HaveApartNeighbours}
 use Rattle.dict_rows.specs.declared.reader.Reader.{Reader}
-use Rattle.dict_rows.specs.declared.apart.Ids.{Ids}
-use Rattle.dict_rows.specs.declared.apart.Rowids.{Rowids}
+use Rattle.dict_rows.specs.declared.apart.IdReader.{IdReader}
+use Rattle.dict_rows.specs.declared.apart.RowidReader.{RowidReader}
 use Rattle.dict_scans.specs.declared.takers.Strays.{Strays}
 
 abbrev pub EditionRow : Type 0
@@ -46,10 +46,10 @@ KeptRow = Stored (typed.Kept.Kept (String Global))
 abbrev pub AreRowids : {R : Type 0} → (R → Row) → List R → List ℤ → Type 0
 AreRowids stored given ids = map (λ r. column (stored r) 0) given ≡ map Int ids
 
-abbrev pub takes_rowids : {R : Type 0} → (R → Row) → Rowids → List R → Rowids → Type 0
+abbrev pub takes_rowids : {R : Type 0} → (R → Row) → RowidReader → List R → RowidReader → Type 0
 takes_rowids stored first given last = (ids : List ℤ) × AreRowids stored given ids × ((before : List ℤ) → HasTakenRowids first before → HasTakenRowids last (before ++ ids))
 
-abbrev pub refuses_rowids : {R : Type 0} → (R → Row) → Rowids → List R → Type 0
+abbrev pub refuses_rowids : {R : Type 0} → (R → Row) → RowidReader → List R → Type 0
 refuses_rowids stored first given = (ids : List ℤ) × AreRowids stored given ids × ((before : List ℤ) → HasTakenRowids first before → InOrder (λ a b. a ≡ b → ⊥) (before ++ ids) → ⊥)
 
 -- ---- the entries of an edition, and the kept replies
@@ -71,10 +71,10 @@ refuses_replies first given = (version : ℕ) (taken : Tables) → HasTaken vers
 abbrev pub ids_given : List KeptRow → List (List ℕ)
 ids_given rows = map (λ row. row.id) (kept_given rows)
 
-abbrev pub takes_ids : Ids → List KeptRow → Ids → Type 0
+abbrev pub takes_ids : IdReader → List KeptRow → IdReader → Type 0
 takes_ids first given last = (before : List (List ℕ)) → HasTakenIds first before → HasTakenIds last (before ++ ids_given given)
 
-abbrev pub refuses_ids : Ids → List KeptRow → Type 0
+abbrev pub refuses_ids : IdReader → List KeptRow → Type 0
 refuses_ids first given = (before : List (List ℕ)) → HasTakenIds first before → IsEachOnce (before ++ ids_given given) → ⊥
 
 -- ---- strays

@@ -13,7 +13,7 @@ ghost use Rattle.dict_rows.specs.Apart.{HasTakenRowids};
 ghost use Rattle.dict_rows.specs.Order.{InOrder, is_of};
 ghost use Rattle.dict_rows.specs.Tables.{same_number};
 ghost use Rattle.dict_rows.specs.Versions.{Plain, Keyed};
-ghost use Rattle.dict_file.specs.Readings.{IsReadable, entries, name_of};
+ghost use Rattle.dict_holdings.specs.Readings.{IsReadable, entries, name_of};
 ghost use Rattle.dict_scans.specs.Reading.{Same, OnlyReads, IsExcused};
 ghost use Rattle.dict_scans.specs.Census.{AreNumberedApart, reading_of, TakesCensus, refuses_census};
 ghost use Rattle.dict_scans.specs.TakerLaws.{no_census};
@@ -23,7 +23,7 @@ use crate::fault::{ReadingFault, fault_of_store};
 use crate::scan::{Taker, take_all};
 use dict_keyed_sql::{read_by_rowid as read_keyed_by_rowid, read_old_by_rowid};
 use dict_records::{Entry, Gram, KeyedEntry, OldEntry, Stored, Word};
-use dict_rows::{Rowids, RowsFault};
+use dict_rows::{RowidReader, RowsFault};
 use dict_sql::records::Record;
 use dict_sql::stream::read_by_rowid;
 use dict_tables::{KeyedTable, StoreTable};
@@ -82,7 +82,7 @@ impl OfEdition for Stored<Gram<Vec<u8>>> {
 #[derive(Drop)]
 pub(crate) struct Census<'a> {
     pub(crate) numbers: &'a [i64],
-    pub(crate) rowids: Rowids,
+    pub(crate) rowids: RowidReader,
 }
 
 fn is_same(one: i64, other: i64) -> bool
@@ -148,7 +148,7 @@ fn test_plain_rows<S: Alter>(
     };
     let mut census = Census {
         numbers,
-        rowids: Rowids::new(),
+        rowids: RowidReader::new(),
     };
     take_all::<S, Stored<Entry<String>>, Census<'_>>(alloc, &mut rows, &mut census)
 }
@@ -173,7 +173,7 @@ fn test_old_rows<S: Alter>(
     };
     let mut census = Census {
         numbers,
-        rowids: Rowids::new(),
+        rowids: RowidReader::new(),
     };
     take_all::<S, Stored<OldEntry<String, Vec<u8>>>, Census<'_>>(alloc, &mut rows, &mut census)
 }
@@ -198,7 +198,7 @@ fn test_keyed_rows<S: Alter, R: OfEdition + Drop>(
     };
     let mut census = Census {
         numbers,
-        rowids: Rowids::new(),
+        rowids: RowidReader::new(),
     };
     take_all::<S, R, Census<'_>>(alloc, &mut rows, &mut census)
 }

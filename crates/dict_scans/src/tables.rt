@@ -16,7 +16,7 @@ use crate::fault::{ReadingFault, fault_of_store};
 use crate::scan::take_all;
 use crate::takers::Strays;
 use dict_records::{Kept, Stored};
-use dict_rows::{Ids, Reader, Rowids};
+use dict_rows::{IdReader, Reader, RowidReader};
 use dict_sql::records::{EditionNumber, Record};
 use dict_sql::stream::{read_by_rowid, read_edition_numbers, read_kept_by_id, read_kept_replies};
 use dict_tables::StoreTable;
@@ -59,7 +59,7 @@ pub fn test_edition_rowids<S: Alter>(
         Ok(rows) => rows,
         Err(error) => return Err(fault_of_store(error)),
     };
-    take_all::<S, Stored<EditionNumber>, Rowids>(alloc, &mut rows, &mut Rowids::new())
+    take_all::<S, Stored<EditionNumber>, RowidReader>(alloc, &mut rows, &mut RowidReader::new())
 }
 
 /// Tests that the number of each edition is one that an item has. The editions' texts aren't read.
@@ -95,7 +95,7 @@ pub fn test_ids<S: Alter>(alloc: Global, conn: &mut Connection<S>) -> Result<(),
         Ok(rows) => rows,
         Err(error) => return Err(fault_of_store(error)),
     };
-    take_all::<S, Stored<Kept<String>>, Ids>(alloc, &mut rows, &mut Ids::new())
+    take_all::<S, Stored<Kept<String>>, IdReader>(alloc, &mut rows, &mut IdReader::new())
 }
 
 /// Tests that no two rows of a table have one rowid.
@@ -115,5 +115,5 @@ pub fn test_rowids<S: Alter, R: Record + Drop>(
         Ok(rows) => rows,
         Err(error) => return Err(fault_of_store(error)),
     };
-    take_all::<S, R, Rowids>(alloc, &mut rows, &mut Rowids::new())
+    take_all::<S, R, RowidReader>(alloc, &mut rows, &mut RowidReader::new())
 }

@@ -5,12 +5,12 @@ ghost use Rattle.dict_scans.specs.TakerLaws.{no_rowids, no_entries, no_replies, 
 
 use crate::scan::Taker;
 use dict_records::{Entry, Kept, Stored};
-use dict_rows::{Ids, Reader, Rowids, RowsFault};
+use dict_rows::{IdReader, Reader, RowidReader, RowsFault};
 use dict_sql::records::{EditionNumber, Record};
 use std::alloc::Global;
 
 /// The rowids of a table, which come in their order, are to be apart.
-impl<R: Record + Drop> Taker<R> for Rowids {
+impl<R: Record + Drop> Taker<R> for RowidReader {
     ghost takes = { takes_rowids R.stored };
 
     ghost refuses = { refuses_rowids R.stored };
@@ -49,7 +49,7 @@ impl Taker<Stored<Kept<String>>> for Reader {
 }
 
 /// The ids of the kept replies, which come in their order, are to be apart.
-impl Taker<Stored<Kept<String>>> for Ids {
+impl Taker<Stored<Kept<String>>> for IdReader {
     ghost takes = { takes_ids };
 
     ghost refuses = { refuses_ids };

@@ -3,7 +3,7 @@ use Rattle.std.proofs.Common.{◌≡◌, ◌⊎◌, ℕ, List, [], ◌∷◌, �
 use Rattle.std.specs.Prelude.{Option, Bool, true}
 use Rattle.dict_catalogue.specs.Steps.{Catalogue}
 use Rattle.dict_driver.specs.declared.driver.Driver.{Driver}
-use Rattle.dict_printed.specs.declared.fault.Fault.{Fault}
+use Rattle.dict_messages.specs.declared.fault.ProgramFault.{ProgramFault}
 use Rattle.dict_serving.specs.Serving.{AreLeft, AreServed, CannotWait, Follows, HasGivenOut, IsFirst, IsOver, Stretch}
 
 module _ {K : Type 0} (Shows : K → Catalogue → Type 0) (Leaves : K → List (Option Catalogue) → Type 0) (Trusted : K → Type 0) (Opened : K → Type 0) (is_closed : K → Bool) where
@@ -34,14 +34,14 @@ module _ {K : Type 0} (Shows : K → Catalogue → Type 0) (Leaves : K → List 
   served_more rounds desk (other ∷ next ∷ stretches) one a b c (between, first, gave, served) goes over =
       (between, first, gave, served_more rounds desk (next ∷ stretches) one between b c served goes over)
 
-  given_out : (Unreopened : K → Fault → Type 0) (stretches : List (Stretch K)) (one : Stretch K) (fault : Fault) → HasGivenOut is_closed Unreopened (one ∷ []) fault
+  given_out : (Unreopened : K → ProgramFault → Type 0) (stretches : List (Stretch K)) (one : Stretch K) (fault : ProgramFault) → HasGivenOut is_closed Unreopened (one ∷ []) fault
       → HasGivenOut is_closed Unreopened (stretches ++ one ∷ []) fault
   given_out Unreopened [] one fault given = given
   given_out Unreopened (other ∷ []) one fault given = given
   given_out Unreopened (other ∷ another ∷ stretches) one fault given = given_out Unreopened (another ∷ stretches) one fault given
 
   -- how the last one ends is how all end
-  pub ends_more : (Unreopened : K → Fault → Type 0) (stretches : List (Stretch K)) (one : Stretch K) (driver : Driver) (fault : Fault)
+  pub ends_more : (Unreopened : K → ProgramFault → Type 0) (stretches : List (Stretch K)) (one : Stretch K) (driver : Driver) (fault : ProgramFault)
       → CannotWait driver fault ⊎ HasGivenOut is_closed Unreopened (one ∷ []) fault → CannotWait driver fault ⊎ HasGivenOut is_closed Unreopened (stretches ++ one ∷ []) fault
   ends_more Unreopened stretches one driver fault (inl cannot_wait) = inl cannot_wait
   ends_more Unreopened stretches one driver fault (inr given) = inr (given_out Unreopened stretches one fault given)

@@ -1,9 +1,9 @@
 -- What is done to files: which desks were opened of them, and which were closed.
 use Rattle.std.specs.Prelude.{◌≡◌, ◌⊎◌, ◌++◌, ℕ, List, Option, Some, None, option_map, Result, Ok, Err, IfOk, IfErr}
 use Rattle.dict_catalogue.specs.Steps.{Catalogue}
-use Rattle.dict_printed.specs.declared.fault.Fault.{Fault}
-use Rattle.dict_printed.specs.declared.fault.Fault.TheVariants as faults
-use Rattle.dict_printed.specs.declared.fault.StoreFault.TheVariants as store_faults
+use Rattle.dict_messages.specs.declared.fault.ProgramFault.{ProgramFault}
+use Rattle.dict_messages.specs.declared.fault.ProgramFault.TheVariants as faults
+use Rattle.dict_messages.specs.declared.fault.StoreFault.TheVariants as store_faults
 
 -- One thing that was done: a catalogue was made in the file at a path, and this is its desk, or there is none; the file was opened; a
 -- desk was closed and its file opened again, and this is the new desk, or there is none; a session was run over the file, which was
@@ -25,14 +25,14 @@ got (Ok desk) = Some desk
 got (Err fault) = None
 
 -- why a file doesn't hold its catalogue alone: memory ran out, or its store failed
-abbrev pub IsOfCopy : Fault → Type 0
+abbrev pub IsOfCopy : ProgramFault → Type 0
 IsOfCopy fault = (fault ≡ faults.Memory) ⊎ (fault ≡ faults.Store store_faults.Disk)
 
 module _ {K D : Type 0} (Shows : K → Catalogue → Type 0) (LeavesOneOf : K → List (Option Catalogue) → Type 0) (IsTrusted : K → Type 0)
-    (IsSafe : D → Type 0) (HoldsAlone : D → Catalogue → Type 0) (StillLeaves : D → List (Option Catalogue) → Type 0) (IsUncopied : K → D → Fault → Type 0) where
+    (IsSafe : D → Type 0) (HoldsAlone : D → Catalogue → Type 0) (StillLeaves : D → List (Option Catalogue) → Type 0) (IsUncopied : K → D → ProgramFault → Type 0) where
   -- A desk was closed: its file holds alone what was shown; or it doesn't, for a cause, and a stop may leave nothing of the file and
   -- its log together that it couldn't leave of the desk.
-  pub record IsShut (desk : K) (closed : Result (Unit {0}) Fault) (new : D) : Type 0 where
+  pub record IsShut (desk : K) (closed : Result (Unit {0}) ProgramFault) (new : D) : Type 0 where
     pub trust : IsSafe new → IsTrusted desk
     pub alone : IfOk closed (λ _. IsSafe new → (M : Catalogue) → Shows desk M → HoldsAlone new M)
     pub leaves : IfErr closed (λ _. (ms : List (Option Catalogue)) → LeavesOneOf desk ms → StillLeaves new ms)

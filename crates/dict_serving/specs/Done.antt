@@ -1,10 +1,10 @@
 -- What was done to the file whose catalogue was served.
 use Rattle.std.specs.Prelude.{◌≡◌, ◌⊎◌, ◌++◌, ℕ, Bool, List, [], ◌∷◌, Option, Some, None, Result, Err}
 use Rattle.dict_catalogue.specs.Steps.{Catalogue}
-use Rattle.dict_io.specs.Streams.{Change}
+use Rattle.dict_io.specs.Streams.{StreamChange}
 use Rattle.dict_driver.specs.declared.driver.Driver.{Driver}
-use Rattle.dict_printed.specs.Writing.{IsUntouched}
-use Rattle.dict_printed.specs.declared.fault.Fault.{Fault}
+use Rattle.dict_messages.specs.Writing.{IsUntouched}
+use Rattle.dict_messages.specs.declared.fault.ProgramFault.{ProgramFault}
 use Rattle.dict_serving.specs.Deeds.{Deed, Opens, Reopens, Closes, Does}
 use Rattle.dict_serving.specs.Listening.{Begins}
 use Rattle.dict_serving.specs.Serving.{HasServed, IsNew, IsNone, Stretch}
@@ -49,10 +49,10 @@ module _ {K : Type 0} (Shows : K → Catalogue → Type 0) (LeavesOneOf : K → 
     (is_closed : K → Bool) where
   -- There is no desk of the file; or there is, and no sockets were bound to both addresses, or they couldn't be told; or it was served,
   -- and the driver that is kept is the one that served it. Nothing else was done to any file
-  abbrev pub ServeEnds : (List ℕ → Fault → Type 0) → (List ℕ → K → Fault → Type 0) → Option (List (Deed K)) → Option (List (Deed K)) → List ℕ → List ℕ → List ℕ → Option ℕ → Result (Unit {0}) Fault → Change → Option Driver → Type 0
+  abbrev pub ServeEnds : (List ℕ → ProgramFault → Type 0) → (List ℕ → K → ProgramFault → Type 0) → Option (List (Deed K)) → Option (List (Deed K)) → List ℕ → List ℕ → List ℕ → Option ℕ → Result (Unit {0}) ProgramFault → StreamChange → Option Driver → Type 0
   ServeEnds IsUnopened IsUnreopened old new path dict http rounds result writer kept =
-      ((fault : Fault) × (result ≡ Err fault) × IsNone (IsUnopened path) fault × IsUntouched writer × Does old new (Opens path None ∷ []) × (kept ≡ None))
+      ((fault : ProgramFault) × (result ≡ Err fault) × IsNone (IsUnopened path) fault × IsUntouched writer × Does old new (Opens path None ∷ []) × (kept ≡ None))
       ⊎ ((desk : K) × IsNew Shows LeavesOneOf IsTrusted IsOpened desk
-      × (((fault : Fault) × (result ≡ Err fault) × Begins dict http (Err fault) writer × Does old new (Opens path (Some desk) ∷ Closes desk ∷ []) × (kept ≡ None))
+      × (((fault : ProgramFault) × (result ≡ Err fault) × Begins dict http (Err fault) writer × Does old new (Opens path (Some desk) ∷ Closes desk ∷ []) × (kept ≡ None))
       ⊎ ((served : HasServed Shows LeavesOneOf IsTrusted IsOpened is_closed desk dict http rounds result (IsUnreopened path) writer) × WasDone old new path desk served.stretches
       × (kept ≡ Some served.last))))

@@ -6,14 +6,14 @@ use Rattle.std.specs.declared.io.ErrorKind.{ErrorKind}
 use Rattle.std.specs.declared.io.ErrorKind.TheVariants.{OutOfMemory}
 use Rattle.std.specs.declared.net.socket_addr.SocketAddr.{SocketAddr}
 use Rattle.std.specs.Net.Text.{socket_text}
-use Rattle.dict_io.specs.Streams.{Change, PutsAll, PutsFront}
+use Rattle.dict_io.specs.Streams.{StreamChange, PutsAll, PutsFront}
 use Rattle.dict_driver.specs.Binding.{Binds}
 use Rattle.dict_driver.specs.declared.driver.Driver.{Driver}
 use Rattle.dict_driver.specs.declared.fault.BindFault.{BindFault}
 use Rattle.dict_driver.specs.declared.fault.BindFault.TheVariants as bind_faults
-use Rattle.dict_printed.specs.Writing.{IsUntouched}
-use Rattle.dict_printed.specs.declared.fault.Fault.{Fault}
-use Rattle.dict_printed.specs.declared.fault.Fault.TheVariants as faults
+use Rattle.dict_messages.specs.Writing.{IsUntouched}
+use Rattle.dict_messages.specs.declared.fault.ProgramFault.{ProgramFault}
+use Rattle.dict_messages.specs.declared.fault.ProgramFault.TheVariants as faults
 
 -- the addresses that were bound, for readers and for editors, as they are printed
 abbrev pub lines_of : SocketAddr → SocketAddr → List ℕ
@@ -21,19 +21,19 @@ lines_of dict http = codes "dict " ++ (socket_text dict ++ (codes "\nhttp " ++ (
 
 -- what is told of the kind of the system's error where sockets can't be waited for: that memory ran out, where it is that, and else that
 -- they can't be
-abbrev pub TellsKind : ErrorKind → Fault → Type 0
+abbrev pub TellsKind : ErrorKind → ProgramFault → Type 0
 TellsKind kind fault = (kind ≡ OutOfMemory → fault ≡ faults.Memory) × (kind ≢ OutOfMemory → fault ≡ faults.CannotWait)
 
 -- the same of the error
-abbrev pub TellsWaiting : Error → Fault → Type 0
+abbrev pub TellsWaiting : Error → ProgramFault → Type 0
 TellsWaiting why fault = TellsKind (error_kind why) fault
 
 -- no socket can be bound to this address
-abbrev pub IsUnbound : List ℕ → Fault → Type 0
+abbrev pub IsUnbound : List ℕ → ProgramFault → Type 0
 IsUnbound address fault = (told : _) × (fault ≡ faults.CannotBind told) × (told.now ≡ address)
 
 -- what is told where none is bound to the one or the other
-abbrev pub TellsOf : List ℕ → List ℕ → BindFault → Fault → Type 0
+abbrev pub TellsOf : List ℕ → List ℕ → BindFault → ProgramFault → Type 0
 TellsOf dict http (bind_faults.Dict why) fault = IsUnbound dict fault
 TellsOf dict http (bind_faults.Http why) fault = IsUnbound http fault
 TellsOf dict http (bind_faults.Wait why) fault = TellsWaiting why fault
@@ -41,7 +41,7 @@ TellsOf dict http bind_faults.Memory fault = fault ≡ faults.Memory
 
 -- Sockets are bound to both, and they are written. Where one is not, the first fault is told, and nothing is written; where the
 -- writer fails a front is written, and where memory runs out nothing
-abbrev pub Begins : List ℕ → List ℕ → Result Driver Fault → Change → Type 0
+abbrev pub Begins : List ℕ → List ℕ → Result Driver ProgramFault → StreamChange → Type 0
 Begins dict http (Ok driver) writer = Binds dict http (Ok driver) × PutsAll writer.old writer.new (lines_of driver.addresses.0 driver.addresses.1)
 Begins dict http (Err fault) writer =
     ((why : BindFault) × Binds {D = Unit {0}} dict http (Err why) × TellsOf dict http why fault × IsUntouched writer)

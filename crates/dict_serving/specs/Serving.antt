@@ -3,7 +3,7 @@ use Rattle.std.specs.Prelude.{◌≡◌, ◌⊎◌, ◌+◌, ℕ, Bool, true, fa
 use Rattle.std.specs.declared.io.Error.{Error}
 use Rattle.std.specs.declared.io.ErrorKind.{ErrorKind}
 use Rattle.dict_catalogue.specs.Steps.{Catalogue}
-use Rattle.dict_io.specs.Streams.{Change, PutsAll}
+use Rattle.dict_io.specs.Streams.{StreamChange, PutsAll}
 use Rattle.dict_hub.specs.Runs.{IsAt, beginning}
 use Rattle.dict_driver.specs.Leading.{HasLedOn}
 use Rattle.dict_driver.specs.Rounds.{Moves}
@@ -13,8 +13,8 @@ use Rattle.dict_driver.specs.Driving.{AreDriven}
 use Rattle.dict_driver.specs.declared.driver.Driver.{Driver}
 use Rattle.dict_driver.specs.declared.serving.Served.{Served}
 use Rattle.dict_driver.specs.declared.serving.Served.TheVariants.{Closed}
-use Rattle.dict_printed.specs.declared.fault.Fault.{Fault}
-use Rattle.dict_printed.specs.declared.fault.Fault.TheVariants as faults
+use Rattle.dict_messages.specs.declared.fault.ProgramFault.{ProgramFault}
+use Rattle.dict_messages.specs.declared.fault.ProgramFault.TheVariants as faults
 use Rattle.dict_serving.specs.Counting.{MakesAll}
 use Rattle.dict_serving.specs.Listening.{TellsKind, lines_of}
 
@@ -32,7 +32,7 @@ abbrev pub AreLeft : Result Served Error → ℕ → Type 0
 AreLeft ended left = ended ≡ Ok (Closed left)
 
 -- the faults of a file and of its catalogue: the file can't be read, or its catalogue can't be had, or memory ran out. No refusal is one
-abbrev pub IsOfFile : Fault → Type 0
+abbrev pub IsOfFile : ProgramFault → Type 0
 IsOfFile (faults.Line refusal line) = ⊥
 IsOfFile (faults.Edition refusal) = ⊥
 IsOfFile (faults.Refused refusal) = ⊥
@@ -45,19 +45,19 @@ IsOfFile faults.CannotWait = ⊥
 IsOfFile faults.Memory = ⊤
 
 -- there is no desk of the file, for a reason that is given, and by a fault of a file
-abbrev pub IsNone : (Fault → Type 0) → Fault → Type 0
+abbrev pub IsNone : (ProgramFault → Type 0) → ProgramFault → Type 0
 IsNone Unopened fault = Unopened fault × IsOfFile fault
 
 -- a catalogue is shown, and a stop leaves that one alone
-abbrev pub KeepsAlone : {K : Type 0} → (K → Catalogue → Type 0) → (K → List (Option Catalogue) → Type 0) → K → Type 0
-KeepsAlone Shows LeavesOneOf desk = (M : Catalogue) × Shows desk M × LeavesOneOf desk (Some M ∷ [])
+abbrev pub StandsAlone : {K : Type 0} → (K → Catalogue → Type 0) → (K → List (Option Catalogue) → Type 0) → K → Type 0
+StandsAlone Shows LeavesOneOf desk = (M : Catalogue) × Shows desk M × LeavesOneOf desk (Some M ∷ [])
 
 -- The desk was opened. It shows a catalogue, and a stop leaves that one alone: this is told where what it stands on has returned
 -- what was written to it
 pub record IsNew {K : Type 0} (Shows : K → Catalogue → Type 0) (LeavesOneOf : K → List (Option Catalogue) → Type 0) (IsTrusted : K → Type 0) (IsOpened : K → Type 0)
     (desk : K) : Type 0 where
   pub opened : IsOpened desk
-  pub alone : IsTrusted desk → KeepsAlone Shows LeavesOneOf desk
+  pub alone : IsTrusted desk → StandsAlone Shows LeavesOneOf desk
 
 -- the desk answers: it was opened just now, or its store didn't fail
 abbrev pub IsOpen : {K : Type 0} → (K → Bool) → (K → Type 0) → K → Type 0
@@ -74,19 +74,19 @@ abbrev pub Follows : {K : Type 0} → (K → Catalogue → Type 0) → (K → Li
 Follows Shows LeavesOneOf IsTrusted old new = IsTrusted new → (ms : List (Option Catalogue)) → LeavesOneOf old ms → ∥ ((M : Catalogue) × Contains ms (Some M) × Shows new M) ∥₁
 
 -- the driver couldn't wait for its sockets
-abbrev pub CannotWait : Driver → Fault → Type 0
+abbrev pub CannotWait : Driver → ProgramFault → Type 0
 CannotWait driver fault = (kind : ErrorKind) × (driver.event_loop.failure ≡ Some kind) × TellsKind kind fault
 
 -- the last of these stretches, and there is one, ended since the store of its desk had failed, and the fault tells why the file isn't
 -- opened again after that desk
-abbrev pub HasGivenOut : {K : Type 0} → (K → Bool) → (K → Fault → Type 0) → List (Stretch K) → Fault → Type 0
+abbrev pub HasGivenOut : {K : Type 0} → (K → Bool) → (K → ProgramFault → Type 0) → List (Stretch K) → ProgramFault → Type 0
 HasGivenOut is_closed Unreopened [] fault = ⊥
 HasGivenOut is_closed Unreopened (one ∷ []) fault = (is_closed one.left ≡ true) × IsNone (Unreopened one.left) fault
 HasGivenOut is_closed Unreopened (one ∷ other ∷ others) fault = HasGivenOut is_closed Unreopened (other ∷ others) fault
 
 -- all rounds were made; or the driver couldn't wait for its sockets; or the store of the last desk had failed, and the file isn't opened
 -- again
-abbrev pub Ends : {K A : Type 0} → (K → Bool) → (K → Fault → Type 0) → List (Stretch K) → Driver → Result A Fault → Type 0
+abbrev pub Ends : {K A : Type 0} → (K → Bool) → (K → ProgramFault → Type 0) → List (Stretch K) → Driver → Result A ProgramFault → Type 0
 Ends is_closed Unreopened stretches driver (Ok _) = ⊤
 Ends is_closed Unreopened stretches driver (Err fault) = CannotWait driver fault ⊎ HasGivenOut is_closed Unreopened stretches fault
 
@@ -120,7 +120,7 @@ module _ {K : Type 0} (Shows : K → Catalogue → Type 0) (LeavesOneOf : K → 
   -- Both texts are addresses, and those that were bound for them were told. Stretches, the first over this desk, led from a hub with no
   -- connection, of the host `localhost`, whose first id is to be 1, and from no round and no failed look; and as many rounds as were
   -- asked for were made by them, or at a fault no more
-  pub record HasServed (desk : K) (dict http : List ℕ) (rounds : Option ℕ) (result : Result (Unit {0}) Fault) (Unreopened : K → Fault → Type 0) (writer : Change) : Type 0 where
+  pub record HasServed (desk : K) (dict http : List ℕ) (rounds : Option ℕ) (result : Result (Unit {0}) ProgramFault) (Unreopened : K → ProgramFault → Type 0) (writer : StreamChange) : Type 0 where
     pub first : Driver
     pub last : Driver
     pub readers : IsAddress dict

@@ -1,15 +1,15 @@
 // What opens the desks of the catalogues in files.
 ghost use Rattle.std.specs.Prelude.{◌≡◌, ◌∷◌, [], ℕ, List, Option, false, IfOk, MatchResult};
 ghost use Rattle.dict_catalogue.specs.Steps.{Catalogue};
-ghost use Rattle.dict_printed.specs.declared.fault.Fault.{Fault as PrintedFault};
+ghost use Rattle.dict_messages.specs.declared.fault.ProgramFault.{ProgramFault as PrintedFault};
 ghost use Rattle.dict_serving.specs.Deeds.{Closes, Deed, Does, IsShut, Opens, Reopens, got};
 ghost use Rattle.dict_serving.specs.Serving.{Follows, IsNew, IsNone};
 
 use dict_desk::Keeper;
-use dict_printed::Fault;
+use dict_messages::ProgramFault;
 
 /// Opens the desks of the catalogues in files, by their paths, opens a file again where its store failed, and closes them.
-pub trait Desks<K: Keeper> {
+pub trait DeskOpener<K: Keeper> {
     /// What was done to files so far, in order, where it is known.
     ghost history: { Self → Option (List (Deed K)) };
 
@@ -36,21 +36,21 @@ pub trait Desks<K: Keeper> {
 
     /// Opens the file with this path, and the desk of its catalogue, which shows a catalogue, and of which a stop leaves that one
     /// alone. A fault is one of the file or of its catalogue, and no refusal.
-    fn open<'w>(&mut self, path: &'w str) -> Result<K, Fault<'w>>
+    fn open<'w>(&mut self, path: &'w str) -> Result<K, ProgramFault<'w>>
         ensures opened { MatchResult result (IsNew K.shows K.leaves_one_of K.is_trusted is_opened) (IsNone (is_unopened path.entry.now)) }
         ensures answers { IfOk result (λ desk. K.is_closed desk ≡ false) }
         ensures history { Does (history self.old) (history self.new) (Opens path.entry.now (got result) ∷ []) };
 
     /// Closes a desk whose store failed, and opens the same file again, which has this path. The new desk shows one of the catalogues
     /// that a stop could have left of the other. A fault is one of the file or of its catalogue, and no refusal.
-    fn reopen<'w>(&mut self, path: &'w str, desk: K) -> Result<K, Fault<'w>>
+    fn reopen<'w>(&mut self, path: &'w str, desk: K) -> Result<K, ProgramFault<'w>>
         ensures opened { MatchResult result (IsNew K.shows K.leaves_one_of K.is_trusted is_opened) (IsNone (is_unreopened path.entry.now desk)) }
         ensures follows { IfOk result (Follows K.shows K.leaves_one_of K.is_trusted desk) }
         ensures history { Does (history self.old) (history self.new) (Reopens path.entry.now desk (got result) ∷ []) };
 
     /// Closes a desk and its file, which then holds the catalogue alone, without its log. At a fault, `Memory` or `Store(Disk)`, it
     /// holds it with its log.
-    fn close(&mut self, desk: K) -> Result<(), Fault<'static>>
+    fn close(&mut self, desk: K) -> Result<(), ProgramFault<'static>>
         ensures shut { IsShut K.shows K.leaves_one_of K.is_trusted is_safe holds_alone still_leaves is_uncopied desk result self.new }
         ensures history { Does (history self.old) (history self.new) (Closes desk ∷ []) };
 }

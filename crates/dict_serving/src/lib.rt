@@ -6,6 +6,6 @@ mod desks;
 mod listening;
 mod serving;
 
-pub use desks::Desks;
+pub use desks::DeskOpener;
 pub use listening::ServerOptions;
 pub use serving::{serve_catalogue, serve_rounds};

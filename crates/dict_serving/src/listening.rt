@@ -3,12 +3,12 @@ ghost use Rattle.std.specs.Prelude.{◌≡◌, IfOk, None, codes};
 ghost use Rattle.dict_io.specs.Streams.{change};
 ghost use Rattle.dict_driver.specs.Binding.{AreTold};
 ghost use Rattle.dict_hub.specs.Runs.{IsAt, beginning};
-ghost use Rattle.dict_printed.specs.Writing.{Writes};
+ghost use Rattle.dict_messages.specs.Writing.{Writes};
 ghost use Rattle.dict_serving.specs.Listening.{Begins, TellsOf, TellsWaiting, lines_of};
 
 use dict_driver::{BindFault, Driver};
 use dict_io::Sink;
-use dict_printed::Fault;
+use dict_messages::ProgramFault;
 use std::alloc::Global;
 use std::io::{Error, ErrorKind};
 use std::net::{Net, SocketAddr};
@@ -31,7 +31,7 @@ pub(crate) fn listen<'w, W: Sink>(
     alloc: Global,
     wanted: &ServerOptions<'w>,
     writer: &mut W,
-) -> Result<Driver<'static>, Fault<'w>>
+) -> Result<Driver<'static>, ProgramFault<'w>>
     ensures begins { Begins wanted.now.dict.now wanted.now.http.now result (change W.stream writer.old writer.new) }
     ensures beginning { IfOk result (λ driver. IsAt driver.event_loop.hub (beginning (codes "localhost"))) }
     ensures last { IfOk result (λ driver. driver.event_loop.connections.last ≡ 0) }
@@ -54,36 +54,36 @@ fn put_addresses<W: Sink>(
     dict: SocketAddr,
     http: SocketAddr,
     writer: &mut W,
-) -> Result<(), Fault<'static>>
+) -> Result<(), ProgramFault<'static>>
     ensures { Writes (lines_of dict http) result (change W.stream writer.old writer.new) }
 {
     let Ok(text) = format!(in alloc; "dict {dict}\nhttp {http}\n") else {
-        return Err(Fault::Memory);
+        return Err(ProgramFault::Memory);
     };
     match writer.put(text.as_bytes()) {
         Ok(()) => Ok(()),
-        Err(_) => Err(Fault::CannotWrite),
+        Err(_) => Err(ProgramFault::CannotWrite),
     }
 }
 
 // What is told where no socket can be bound to an address.
-fn told_of<'w>(fault: BindFault, dict: &'w str, http: &'w str) -> Fault<'w>
+fn told_of<'w>(fault: BindFault, dict: &'w str, http: &'w str) -> ProgramFault<'w>
     ensures { TellsOf dict.entry.now http.entry.now fault result }
 {
     match fault {
-        BindFault::Dict(_) => Fault::CannotBind(dict),
-        BindFault::Http(_) => Fault::CannotBind(http),
+        BindFault::Dict(_) => ProgramFault::CannotBind(dict),
+        BindFault::Http(_) => ProgramFault::CannotBind(http),
         BindFault::Wait(error) => waiting_fault(&error),
-        BindFault::Memory => Fault::Memory,
+        BindFault::Memory => ProgramFault::Memory,
     }
 }
 
 /// What is told where sockets can't be waited for.
-pub(crate) fn waiting_fault(error: &Error) -> Fault<'static>
+pub(crate) fn waiting_fault(error: &Error) -> ProgramFault<'static>
     ensures { TellsWaiting error.now result }
 {
     if error.kind() == ErrorKind::OutOfMemory {
-        return Fault::Memory;
+        return ProgramFault::Memory;
     }
-    Fault::CannotWait
+    ProgramFault::CannotWait
 }

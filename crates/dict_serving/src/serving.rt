@@ -8,12 +8,12 @@ ghost use Rattle.dict_serving.specs.Serving.{AreLeft, AreServed, Ends, Follows, 
 ghost use Rattle.dict_serving.specs.Deeds.{got};
 ghost use Rattle.dict_serving.specs.Done.{HasDone, HasReopened, HasTurned, ServeEnds};
 
-use crate::desks::Desks;
+use crate::desks::DeskOpener;
 use crate::listening::{ServerOptions, listen, waiting_fault};
 use dict_desk::Keeper;
 use dict_driver::{Driver, Served, pace, serve};
 use dict_io::Sink;
-use dict_printed::Fault;
+use dict_messages::ProgramFault;
 use std::alloc::Global;
 use std::net::Net;
 use std::time::Duration;
@@ -25,7 +25,7 @@ use std::time::Duration;
 ///
 /// The faults come in this order: of the file and its catalogue, of the address for readers, of that for editors, of the
 /// writer, of waiting for sockets or of opening the file again. The driver is kept, where sockets were bound and told.
-pub fn serve_catalogue<'w, K: Keeper + Drop, D: Desks<K>, W: Sink>(
+pub fn serve_catalogue<'w, K: Keeper + Drop, D: DeskOpener<K>, W: Sink>(
     net: &impl Net,
     alloc: Global,
     desks: &mut D,
@@ -33,7 +33,7 @@ pub fn serve_catalogue<'w, K: Keeper + Drop, D: Desks<K>, W: Sink>(
     wanted: &ServerOptions<'w>,
     writer: &mut W,
     kept: &mut Option<Driver<'static>>,
-) -> Result<(), Fault<'w>>
+) -> Result<(), ProgramFault<'w>>
     ensures { ServeEnds K.shows K.leaves_one_of K.is_trusted D.is_opened K.is_closed D.is_unopened D.is_unreopened (D.history desks.old) (D.history desks.new) path.entry.now wanted.now.dict.now wanted.now.http.now wanted.now.rounds result
         (change W.stream writer.old writer.new) kept.new }
 {
@@ -57,14 +57,14 @@ pub fn serve_catalogue<'w, K: Keeper + Drop, D: Desks<K>, W: Sink>(
 /// So many rounds over a desk that was opened, and over those that are opened after it: where its store failed, it is
 /// closed, and the rounds that are left are made over the next. The desk that is open in the end is handed back; at a fault
 /// none is.
-pub fn serve_rounds<'w, K: Keeper + Drop, D: Desks<K>>(
+pub fn serve_rounds<'w, K: Keeper + Drop, D: DeskOpener<K>>(
     desks: &mut D,
     path: &'w str,
     driver: &mut Driver,
     desk: K,
     rounds: u64,
     wait: Duration,
-) -> Result<K, Fault<'w>>
+) -> Result<K, ProgramFault<'w>>
     requires { IsNew K.shows K.leaves_one_of K.is_trusted D.is_opened desk }
     ensures stands { IfOk result (IsOpen K.is_closed (IsNew K.shows K.leaves_one_of K.is_trusted D.is_opened)) }
     ensures served { (stretches : List (Stretch K)) × AreServed K.shows K.leaves_one_of K.is_trusted D.is_opened K.is_closed stretches driver.old driver.new × IsFirst rounds desk stretches
@@ -88,13 +88,13 @@ struct Pending<K: Drop> {
 }
 
 // Makes rounds over one opening of the file, which is opened again where its store failed.
-fn serve_stretch<'w, K: Keeper + Drop, D: Desks<K>>(
+fn serve_stretch<'w, K: Keeper + Drop, D: DeskOpener<K>>(
     desks: &mut D,
     path: &'w str,
     driver: &mut Driver,
     pending: Pending<K>,
     wait: Duration,
-) -> Result<Pending<K>, Fault<'w>>
+) -> Result<Pending<K>, ProgramFault<'w>>
     requires opened { IsNew K.shows K.leaves_one_of K.is_trusted D.is_opened pending.desk }
     requires some { 0 < pending.left }
     ensures served { (left : K) × (ended : Result Served Error) × IsOver K.shows K.leaves_one_of K.is_trusted D.is_opened K.is_closed

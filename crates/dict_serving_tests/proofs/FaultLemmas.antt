@@ -4,7 +4,7 @@ use Rattle.sqlite_store.specs.declared.store.FileStore.{FileStore}
 use Rattle.dict_desk.specs.declared.fault.Fault.{Fault}
 use Rattle.dict_desk.specs.declared.fault.Fault.TheVariants.{Refused, Memory, Disk, Closed, NotACatalogue, Damaged, NewerSchema}
 use Rattle.dict_opening.specs.Reading.{IsOfOpening}
-use Rattle.dict_printed.specs.Faults.{told_of}
+use Rattle.dict_messages.specs.Faults.{told_of}
 use Rattle.dict_serving.specs.Serving.{IsOfFile}
 use Rattle.dict_store.specs.Desk.{DeskState}
 use Rattle.dict_store.specs.Unopened.{IsUnrestarted}

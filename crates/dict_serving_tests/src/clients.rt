@@ -35,7 +35,7 @@ impl Client {
     }
 
     /// These octets alone have come.
-    pub(crate) fn look(&mut self, want: &[u8]) -> Result<(), Fail> {
+    pub(crate) fn poll(&mut self, want: &[u8]) -> Result<(), Fail> {
         let mut room = [0u8; 512];
         match self.stream.read(&mut room) {
             Ok(count) => self.got.extend_from_slice(&room[..count])?,

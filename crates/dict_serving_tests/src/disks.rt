@@ -6,8 +6,8 @@ ghost use Rattle.sqlite.specs.Held.{state};
 ghost use Rattle.dict_store.specs.Desk.{Shows, LeavesOneOf, is_closed};
 ghost use Rattle.dict_serving.specs.Serving.{Follows, IsNew, IsNone};
 
-use dict_printed::{Fault, StoreFault};
-use dict_serving::Desks;
+use dict_messages::{ProgramFault, StoreFault};
+use dict_serving::DeskOpener;
 use dict_store::Desk;
 use sqlite::{Alter, Connection, FileStore, Files, Options};
 use sqlite_disk::{Crash, Disk};
@@ -40,7 +40,7 @@ fn made<S: Alter + Drop>(alloc: Global, conn: Connection<S>) -> Option<Desk<S>> 
 }
 
 // The desk of the catalogue in the database of another.
-fn adopt<S: Alter + Drop>(alloc: Global, desk: Desk<S>) -> Result<Desk<S>, Fault<'static>>
+fn adopt<S: Alter + Drop>(alloc: Global, desk: Desk<S>) -> Result<Desk<S>, ProgramFault<'static>>
     ensures answers { IfOk result (λ desk. is_closed desk.last ≡ false) }
     ensures opened { MatchResult result
         (IsNew (Shows S.Store) (LeavesOneOf S.Store) (λ desk. HasCleanDisk (state S.Store desk.conn)) (λ _. ⊤))
@@ -48,12 +48,14 @@ fn adopt<S: Alter + Drop>(alloc: Global, desk: Desk<S>) -> Result<Desk<S>, Fault
 {
     match Desk::adopt(alloc, desk.into_connection()) {
         Ok(desk) => Ok(desk),
-        Err((_, fault)) => Err(Fault::from(fault)),
+        Err((_, fault)) => Err(ProgramFault::from(fault)),
     }
 }
 
 // The desk over what a stop leaves of the disks of another.
-fn restart<D: Crash + Drop>(desk: Desk<FileStore<D>>) -> Result<Desk<FileStore<D>>, Fault<'static>>
+fn restart<D: Crash + Drop>(
+    desk: Desk<FileStore<D>>,
+) -> Result<Desk<FileStore<D>>, ProgramFault<'static>>
     ensures opened { MatchResult result
         (IsNew (Shows over_files) (LeavesOneOf over_files) (λ desk. HasCleanDisk (file_state desk.conn)) (λ _. ⊤))
         (IsNone (λ _. ⊤)) }
@@ -61,7 +63,7 @@ fn restart<D: Crash + Drop>(desk: Desk<FileStore<D>>) -> Result<Desk<FileStore<D
 {
     match desk.restart(options()) {
         Ok(desk) => Ok(desk),
-        Err((_, fault)) => Err(Fault::from(fault)),
+        Err((_, fault)) => Err(ProgramFault::from(fault)),
     }
 }
 
@@ -87,7 +89,7 @@ impl<D: Crash + Drop> Disks<D> {
     }
 }
 
-impl<D: Crash + Drop> Desks<Desk<FileStore<D>>> for Disks<D> {
+impl<D: Crash + Drop> DeskOpener<Desk<FileStore<D>>> for Disks<D> {
     ghost use Rattle.std.specs.Prelude.{None, MatchOption, ⊤};
     ghost use Rattle.sqlite.specs.State.{HasCleanDisk};
     ghost use Rattle.sqlite.specs.Files.{file_state, over_files};
@@ -109,10 +111,10 @@ impl<D: Crash + Drop> Desks<Desk<FileStore<D>>> for Disks<D> {
 
     ghost is_uncopied = { λ _ _ _. ⊤ };
 
-    fn open<'w>(&mut self, _path: &'w str) -> Result<Desk<FileStore<D>>, Fault<'w>> {
+    fn open<'w>(&mut self, _path: &'w str) -> Result<Desk<FileStore<D>>, ProgramFault<'w>> {
         match self.closed.take() {
             Some(desk) => adopt(self.alloc, desk),
-            None => Err(Fault::Store(StoreFault::Closed)),
+            None => Err(ProgramFault::Store(StoreFault::Closed)),
         }
     }
 
@@ -121,13 +123,13 @@ impl<D: Crash + Drop> Desks<Desk<FileStore<D>>> for Disks<D> {
         &mut self,
         _path: &'w str,
         desk: Desk<FileStore<D>>,
-    ) -> Result<Desk<FileStore<D>>, Fault<'w>> {
+    ) -> Result<Desk<FileStore<D>>, ProgramFault<'w>> {
         self.reopened = self.reopened.saturating_add(1);
         restart(desk)
     }
 
     /// The desk is kept as it is.
-    fn close(&mut self, desk: Desk<FileStore<D>>) -> Result<(), Fault<'static>> {
+    fn close(&mut self, desk: Desk<FileStore<D>>) -> Result<(), ProgramFault<'static>> {
         self.closed = Some(desk);
         Ok(())
     }

@@ -1,65 +1,69 @@
 //! The lines of faults.
 use crate::checks::{holds, same};
-use dict_catalogue::Refusal as CommandRefusal;
-use dict_index::Refusal;
+use dict_catalogue::CommandRefusal;
+use dict_index::EditionRefusal;
 use dict_io::LimitedSink;
-use dict_printed::{Fault, StoreFault};
+use dict_messages::{ProgramFault, StoreFault};
 use std::alloc::Global;
 use std::test::Fail;
 
-static FAULTS: [(Fault<'static>, &str, u8); 14] = [
+static FAULTS: [(ProgramFault<'static>, &str, u8); 14] = [
     (
-        Fault::Line {
-            refusal: Refusal::ReservedTwice,
+        ProgramFault::Line {
+            refusal: EditionRefusal::ReservedTwice,
             line: 65536,
         },
         "refused 9 ReservedTwice line 65536\n",
         1,
     ),
     (
-        Fault::Line {
-            refusal: Refusal::Shown,
+        ProgramFault::Line {
+            refusal: EditionRefusal::Shown,
             line: 2,
         },
         "refused 15 Shown line 2\n",
         1,
     ),
     (
-        Fault::Edition(Refusal::TextTooLong),
+        ProgramFault::Edition(EditionRefusal::TextTooLong),
         "refused 13 TextTooLong\n",
         1,
     ),
     (
-        Fault::Refused(CommandRefusal::BadName),
+        ProgramFault::Refused(CommandRefusal::BadName),
         "refused 20 BadName\n",
         1,
     ),
-    (Fault::Store(StoreFault::Disk), "fault 41 Disk\n", 3),
+    (ProgramFault::Store(StoreFault::Disk), "fault 41 Disk\n", 3),
     (
-        Fault::Store(StoreFault::NotACatalogue),
+        ProgramFault::Store(StoreFault::NotACatalogue),
         "fault 43 NotACatalogue\n",
         3,
     ),
-    (Fault::Store(StoreFault::Damaged), "fault 44 Damaged\n", 3),
     (
-        Fault::Store(StoreFault::NewerSchema),
+        ProgramFault::Store(StoreFault::Damaged),
+        "fault 44 Damaged\n",
+        3,
+    ),
+    (
+        ProgramFault::Store(StoreFault::NewerSchema),
         "fault 45 NewerSchema\n",
         3,
     ),
-    (Fault::CannotRead("a b"), "cannot read a b\n", 3),
-    (Fault::SessionEnded, "session ended by a fault\n", 3),
-    (Fault::CannotWrite, "cannot write output\n", 3),
+    (ProgramFault::CannotRead("a b"), "cannot read a b\n", 3),
+    (ProgramFault::SessionEnded, "session ended by a fault\n", 3),
+    (ProgramFault::CannotWrite, "cannot write output\n", 3),
     (
-        Fault::CannotBind("localhost:1"),
+        ProgramFault::CannotBind("localhost:1"),
         "cannot bind localhost:1\n",
         3,
     ),
-    (Fault::CannotWait, "cannot wait for connections\n", 3),
-    (Fault::Memory, "fault 40 Memory\n", 4),
+    (ProgramFault::CannotWait, "cannot wait for connections\n", 3),
+    (ProgramFault::Memory, "fault 40 Memory\n", 4),
 ];
 
 // Whether this is a fault's line, and its text by `Display` with the line's end.
-fn is_told(alloc: Global, fault: &Fault<'static>, line: &str) -> Result<bool, Fail> {
+fn is_told(alloc: Global, fault: &ProgramFault<'static>, line: &str) -> Result<bool, Fail> {
     let text = format!(in alloc; "{fault}\n")?;
     let mut sink = LimitedSink::new(alloc, 100)?;
     fault.put_line(&mut sink)?;

@@ -8,7 +8,7 @@ use Rattle.dict_index.specs.Edition.{Edition}
 use Rattle.dict_catalogue.specs.Items.{Item, regular, virtual, name_of, is_named, is_regular, item_as}
 use Rattle.dict_catalogue.specs.Steps.{Catalogue}
 use Rattle.dict_catalogue.specs.WellFormed.{IsWellFormed, IsEachOnce, IsLawfulItem, how_many}
-use Rattle.dict_desk.specs.Asked.{Database, databases, databases_named, asked_by, first_finding, searched}
+use Rattle.dict_desk.specs.Asked.{Database, databases, databases_named, databases_of, first_finding, searched}
 use Rattle.dict_session.specs.Places.{places_from, places_named, places_by, places_under, asked_in, is_regular_named, Asking}
 use Rattle.dict_session.specs.Rows.{at_place, regular_as, answering}
 use Rattle.dict_session.specs.declared.query.Query.{Query}
@@ -135,19 +135,19 @@ members_stand items (member ∷ members) =
     flat_map-append (at_place items) (places_named items member) (flat_map (places_named items) members)
     ∙ (ap (λ l. l ++ at_places items (flat_map (places_named items) members)) (named_stand items member) ∙ ap (λ l. databases_named items member ++ l) (members_stand items members))
 
-item_stands : (items : List (Item Edition)) (n : ℕ) (item : Item Edition) → slice_get items n ≡ Some item → at_places items (places_by items n item) ≡ asked_by items item
+item_stands : (items : List (Item Edition)) (n : ℕ) (item : Item Edition) → slice_get items n ≡ Some item → at_places items (places_by items n item) ≡ databases_of items item
 item_stands items n (regular name current former) e = ap (λ o. regular_as o ++ []) e
 item_stands items n (virtual name title members) e = members_stand items members
 
 under_stands : (all : List (Item Edition)) (word : List ℕ) (n : ℕ) (items : List (Item Edition)) → items ≡ drop n all
-    → option_map (at_places all) (places_under all word n items) ≡ option_map (asked_by all) (find (is_named word) items)
+    → option_map (at_places all) (places_under all word n items) ≡ option_map (databases_of all) (find (is_named word) items)
 under_stands all word n [] e = refl
 under_stands all word n (item ∷ items) e =
     let at = tail_of all n item items e in
     by_test (is_named word item) (item_stands all n item at.0) (under_stands all word (n + 1) items at.1)
   where
-    by_test : (b : Bool) → at_places all (places_by all n item) ≡ asked_by all item → option_map (at_places all) (places_under all word (n + 1) items) ≡ option_map (asked_by all) (find (is_named word) items)
-        → option_map (at_places all) (if b then Some (places_by all n item) else places_under all word (n + 1) items) ≡ option_map (asked_by all) (if b then Some item else find (is_named word) items)
+    by_test : (b : Bool) → at_places all (places_by all n item) ≡ databases_of all item → option_map (at_places all) (places_under all word (n + 1) items) ≡ option_map (databases_of all) (find (is_named word) items)
+        → option_map (at_places all) (if b then Some (places_by all n item) else places_under all word (n + 1) items) ≡ option_map (databases_of all) (if b then Some item else find (is_named word) items)
     by_test true e f = ap Some e
     by_test false e f = f
 
@@ -223,7 +223,7 @@ searched_are M word query = by_tests (bytes_eq word (codes "*")) (bytes_eq word 
     named None = refl
     named (Some places) = refl
 
-    by_tests : (a b : Bool) → (if a then Some (databases M.items) else if b then Some (first_finding query.strategy query.key (databases M.items)) else option_map (asked_by M.items) (find (is_named word) M.items))
+    by_tests : (a b : Bool) → (if a then Some (databases M.items) else if b then Some (first_finding query.strategy query.key (databases M.items)) else option_map (databases_of M.items) (find (is_named word) M.items))
         ≡ option_map given (if a then Some (record { places = all; is_first = false }) else if b then Some (record { places = all; is_first = true }) else option_map (λ (places : List ℕ). let made : Asking = record { places = places; is_first = false } in made) (places_under M.items word 0 M.items))
     by_tests true b = ap Some (sym (all_stand M.items))
     by_tests false true = ap Some (ap (first_finding query.strategy query.key) (sym (all_stand M.items)) ∙ sym (first_over query M.items all))

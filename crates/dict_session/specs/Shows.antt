@@ -6,7 +6,7 @@ use Rattle.dict_match.specs.declared.strategy.Strategy.{Strategy}
 use Rattle.dict_index.specs.Edition.{Edition}
 use Rattle.dict_catalogue.specs.Items.{Item, regular, virtual, name_of, is_named}
 use Rattle.dict_catalogue.specs.Steps.{Catalogue}
-use Rattle.dict_desk.specs.Asked.{Database, asked_by}
+use Rattle.dict_desk.specs.Asked.{Database, databases_of}
 use Rattle.dict_proto.specs.Replies.{database_count_octets, strategy_count_octets, list_line_octets, list_end_octets, info_heading_octets, info_text_octets, help_octets, server_information_octets, status_octets, done_octets, invalid_database_octets, no_databases_octets}
 
 -- a database's title is its current edition's
@@ -44,7 +44,7 @@ database_line database = list_line_octets database.name database.edition.title
 -- what an item says of itself: a database what its current edition says, a virtual one its members, in their order
 abbrev pub info_of : List (Item Edition) → Item Edition → List ℕ
 info_of items (regular name current former) = info_text_octets current.content.info
-info_of items (virtual name title members) = flat_map database_line (asked_by items (virtual name title members)) ++ list_end_octets
+info_of items (virtual name title members) = flat_map database_line (databases_of items (virtual name title members)) ++ list_end_octets
 
 -- the answer to SHOW INFO where the name is this item's, or no item's
 abbrev pub info_found : List (Item Edition) → Option (Item Edition) → List ℕ

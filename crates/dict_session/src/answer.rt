@@ -11,7 +11,7 @@ ghost use Rattle.dict_session.specs.Desks.{Condition, condition, Stays};
 ghost use Rattle.dict_session.specs.Places.{asked_in, HoldsAsked};
 ghost use Rattle.dict_session.specs.Ending.{Finishes, PutsAnswer, PutsLine};
 
-use crate::asked::{Asked, asked_by};
+use crate::asked::{Asked, asked_places};
 use crate::found::put_found;
 use crate::query::Query;
 use crate::show::{put_databases, put_help, put_info, put_server, put_status, put_strategies};
@@ -165,7 +165,7 @@ fn asked_of<L: Lookup>(desk: &L, word: &str) -> Result<Option<Asked>, Fault>
     ensures open { OnOk result (L.is_closed desk.now ≡ false) }
 {
     match desk.summary() {
-        Ok(summary) => Ok(asked_by(&summary.items, word)),
+        Ok(summary) => Ok(asked_places(&summary.items, word)),
         Err(fault) => Err(fault),
     }
 }

@@ -33,7 +33,7 @@ pub(crate) struct Heading {
 }
 
 // Which databases the word asks: the star and the exclamation mark all, a name its item.
-pub(crate) fn asked_by(items: &[Item], word: &str) -> Option<Asked>
+pub(crate) fn asked_places(items: &[Item], word: &str) -> Option<Asked>
     ensures { HoldsAsked result (asked_in (map item_shown items.now) word.now) }
 {
     if word == "*" {

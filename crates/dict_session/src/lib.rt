@@ -25,7 +25,7 @@ mod step;
 
 pub use host::is_host;
 pub use session::Session;
-pub use session::run::{End, SessionFault, run};
+pub use session::run::{SessionEnd, SessionFault, run};
 pub use step::Step;
 
 /// The lines of octets are these, and no others; and those of a front and a piece are the front's, and then those that end in

@@ -6,7 +6,7 @@ ghost use Rattle.dict_session.specs.Rows.{row_octets, info_row, has_some};
 ghost use Rattle.dict_desk.specs.Shown.{row, row_handed};
 
 use crate::asked::Heading;
-use dict_desk::{Row, RowSink, Turn, What};
+use dict_desk::{Demand, Row, RowSink, What};
 use dict_io::{Sink, SinkFault};
 use dict_proto::{Reply, write_reply};
 
@@ -54,10 +54,10 @@ impl<'a, K: Sink> RowSink for FoundRows<'a, K> {
     ghost stops = { λ a rows b. PutsFront (K.stream a.sink.now) (K.stream b.sink.now) (flat_map (row_octets a.what a.heading.now.name.bytes a.heading.now.title.bytes) rows)
         × (b.sink.ghost_name ≡ a.sink.ghost_name) };
 
-    fn take(&mut self, row: Row) -> Turn {
+    fn take(&mut self, row: Row) -> Demand {
         match put_row(self.sink, self.what, self.heading, row) {
-            Ok(()) => Turn::More,
-            Err(_) => Turn::Stop,
+            Ok(()) => Demand::More,
+            Err(_) => Demand::Stop,
         }
     }
 
@@ -95,11 +95,11 @@ impl<'a, K: Sink> RowSink for InfoRow<'a, K> {
     ghost stops = { λ a rows b. PutsFront (K.stream a.sink.now) (K.stream b.sink.now) (flat_map info_row rows)
         × (b.sink.ghost_name ≡ a.sink.ghost_name) };
 
-    fn take(&mut self, row: Row) -> Turn {
+    fn take(&mut self, row: Row) -> Demand {
         self.has_begun = true;
         match put_info_row(self.sink, row.text) {
-            Ok(()) => Turn::More,
-            Err(_) => Turn::Stop,
+            Ok(()) => Demand::More,
+            Err(_) => Demand::Stop,
         }
     }
 

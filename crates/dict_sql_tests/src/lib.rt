@@ -1,4 +1,4 @@
-//! Runs of the statements over each table, plain and keyed, over memory and over files that memory holds. A library with tests alone.
+//! Runs of the statements over each table without keys, over memory and over files that memory holds. A library with tests alone.
 #![tactic(auto)]
 
 #[cfg(test)]
@@ -6,6 +6,6 @@ mod checks;
 #[cfg(test)]
 mod connections;
 #[cfg(test)]
-mod keyed;
+mod inside;
 #[cfg(test)]
 mod plain;

@@ -1,7 +1,7 @@
 //! The statements of each table on their happy path, with other tables before and after them. The tables are made by one transaction.
 
 use crate::checks::holds;
-use crate::connections::{compare_numbers, raw};
+use dict_sql_checks::{compare_numbers, raw};
 use dict_tables::{StoreTable, has_table, is_name_used};
 use rows::{drop_kept, make_all, put_all};
 use sqlite::{Alter, Connection};
@@ -53,7 +53,7 @@ pub(crate) fn drop_and_look<S: Alter>(
 ) -> Result<(), Fail> {
     drop_kept(conn)?;
     holds(rt, !is_name_used(conn.schema(), b"kept"), "kept");
-    compare_numbers(rt, conn, &COUNTS)?;
+    compare_numbers(conn, &COUNTS)?;
     raw(
         conn,
         "CREATE TABLE kept (id TEXT NOT NULL PRIMARY KEY, number INTEGER NOT NULL UNIQUE) STRICT",

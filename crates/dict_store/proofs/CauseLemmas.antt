@@ -16,23 +16,23 @@ use Rattle.dict_desk.specs.Faults.{is_failure}
 use Rattle.dict_desk.specs.declared.fault.Fault.{Fault}
 use Rattle.dict_desk.specs.declared.fault.Fault.TheVariants.{Refused, Memory, Disk, Closed, NotACatalogue, Damaged, NewerSchema}
 use Rattle.dict_rows.specs.Versions.{known}
-use Rattle.dict_file.specs.Faults.{fault_of, IsUnread, FailsToLookUp}
-use Rattle.dict_file.specs.Holds.{Holds}
+use Rattle.dict_holdings.specs.Faults.{fault_of, IsUnread, FailsToLookUp}
+use Rattle.dict_holdings.specs.Holds.{Holds}
 use Rattle.dict_lookup.specs.Searches as search
 use Rattle.dict_lookup.specs.Searches.{IsOfStore}
 use Rattle.dict_lookup.proofs.HeldLemmas.{held_readable}
 use Rattle.dict_commands.specs.Answers.{FailsToApply, IsOfApply}
 use Rattle.dict_commands.specs.declared.applied.Applied.{Applied}
-use Rattle.dict_commands.specs.declared.applied.Applied.TheVariants.{Before, Now}
+use Rattle.dict_commands.specs.declared.applied.Applied.TheVariants.{Repeated, Done}
 use Rattle.dict_store.specs.Desk.{DeskState, IsAtRest, is_closed, reply_of}
 use Rattle.dict_store.specs.Causes.{GivesWay, FailsToApplyTo}
-use Rattle.dict_store.specs.declared.last.Last.{Last}
+use Rattle.dict_store.specs.declared.last.LastCall.{LastCall}
 
 no_limit : (limit : Option ℕ) → limit ≡ None → IsSome limit → ⊥
 no_limit limit is some = false≢true (sym (ap is_some is) ∙ some)
 
 -- a lookup, or a reading of a kept reply
-module _ {S : Type 0} (g : Ghosts S) (old new : Held S) (summary : Holdings (List ℕ)) (before after : Last) (open_before : is_closed before ≡ false) (rest : IsAtRest g before summary old) (survives : Survives (state g old) (state g new) (λ _. ⊥)) where
+module _ {S : Type 0} (g : Ghosts S) (old new : Held S) (summary : Holdings (List ℕ)) (before after : LastCall) (open_before : is_closed before ≡ false) (rest : IsAtRest g before summary old) (survives : Survives (state g old) (state g new) (λ _. ⊥)) where
   -- what an open desk reads is a catalogue's, and it has no limit on steps
   read_holds : HasCleanDisk (state g new) → IsUnchanged (state g old) (state g new) → (M : Catalogue) × Holds known (state g old).now M
   read_holds clean same =
@@ -89,8 +89,8 @@ module _ {S : Type 0} (g : Ghosts S) (old : DeskState S) (id : List ℕ) (comman
 
   fails_by : (result : Result Applied Fault) → IfErr result IsOfApply → IfErr result (λ fault. is_failure fault ≡ true → FailsToApply g old.summary id command old.conn new.conn fault)
       → IfErr (reply_of result) (λ fault. is_failure fault ≡ true → FailsToApplyTo g old (record { id = id; command = command }) new fault)
-  fails_by (Ok (Before kept)) kind h = tt
-  fails_by (Ok (Now kept summary)) kind h = tt
+  fails_by (Ok (Repeated kept)) kind h = tt
+  fails_by (Ok (Done kept summary)) kind h = tt
   fails_by (Err fault) kind h = fails_as fault kind h
 
   pub fails_to_apply : (result : Result Applied Fault) (told : Result Kept Fault) → told ≡ reply_of result → IfErr result IsOfApply

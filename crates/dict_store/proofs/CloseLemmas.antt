@@ -18,16 +18,16 @@ use Rattle.sqlite_store.specs.declared.store.FileStore.{FileStore}
 use Rattle.sqlite_trees.specs.declared.store.Store as store
 use Rattle.dict_catalogue.specs.Steps.{Catalogue}
 use Rattle.dict_catalogue.specs.Tests.{Holdings}
-use Rattle.dict_file.specs.Holds.{Holds, IsLeft}
+use Rattle.dict_holdings.specs.Holds.{Holds, IsLeft}
 use Rattle.dict_store.specs.Closed.{HoldsAlone, IsInAlone, StoreLeaves}
 use Rattle.dict_store.specs.Desk.{DeskState, IsAtRest, LeavesOneOf, Shows, is_closed}
-use Rattle.dict_store.specs.declared.last.Last.{Last}
+use Rattle.dict_store.specs.declared.last.LastCall.{LastCall}
 use Rattle.std.proofs.Common.{ℕ}
 use Rattle.dict_rows.specs.Versions.{known}
-use Rattle.dict_file.proofs.OneLemmas.{held_known}
+use Rattle.dict_holdings.proofs.OneLemmas.{held_known}
 
 -- what is shown is committed
-pub committed_holds : {S : Type 0} (g : store.Ghosts S) (conn : Held S) (summary : Holdings (List ℕ)) (last : Last) → IsAtRest g last summary conn → IsLive (state g conn)
+pub committed_holds : {S : Type 0} (g : store.Ghosts S) (conn : Held S) (summary : Holdings (List ℕ)) (last : LastCall) → IsAtRest g last summary conn → IsLive (state g conn)
     → is_closed last ≡ false → HasCleanDisk (state g conn) → IsTrue (state g conn).is_open → (M : Catalogue) → Shows g (record { conn = conn; summary = summary; last = last }) M
     → IsLeft M (state g conn).committed.trees
 committed_holds g conn summary last rest whole fine clean live M shown =

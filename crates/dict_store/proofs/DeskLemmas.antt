@@ -14,16 +14,16 @@ use Rattle.dict_desk.specs.Handing.{Hands}
 use Rattle.dict_desk.specs.declared.fault.Fault.{Fault}
 use Rattle.dict_desk.specs.declared.lookup.End.{End}
 use Rattle.dict_desk.proofs.HandingLemmas.{hands_front}
-use Rattle.dict_file.specs.Holds.{HasLayout, Holds, IsLeft}
+use Rattle.dict_holdings.specs.Holds.{HasLayout, Holds, IsLeft}
 use Rattle.dict_lookup.specs.Searches.{FailsToLookUp}
 use Rattle.dict_store.specs.Desk.{IsAtRest, Shows, is_closed}
 use Rattle.dict_lookup.specs.Texts.{AreMade}
 use Rattle.dict_store.specs.Kept.{KeepsCache, IsCacheOf, cache_after}
 use Rattle.dict_store.specs.declared.kept.Cache.{Cache}
-use Rattle.dict_store.specs.declared.last.Last.{Last}
-use Rattle.dict_store.specs.declared.last.Last.TheVariants.{Fine, Failed, Closed}
+use Rattle.dict_store.specs.declared.last.LastCall.{LastCall}
+use Rattle.dict_store.specs.declared.last.LastCall.TheVariants.{Fine, Failed, Closed}
 use Rattle.dict_rows.specs.Versions.{known, layout_of}
-use Rattle.dict_file.proofs.OneLemmas.{held_known}
+use Rattle.dict_holdings.proofs.OneLemmas.{held_known}
 
 -- a store that is open was so before, and shows what it did, if that was committed
 pub record Stays (old new : State) : Type 0 where
@@ -45,7 +45,7 @@ stays_by number old new (Err fault) same failed = fails_stays number old new fau
 pub clean_behind : (old new : State) → Survives old new (λ _. ⊥) → HasCleanDisk new → HasCleanDisk old
 clean_behind old new survives clean = omega (arith, survives.clean)
 
-module _ {S : Type 0} (g : Ghosts S) (old new : Held S) (summary : Holdings (List ℕ)) (before after : Last) (open_before : is_closed before ≡ false) (rest : IsAtRest g before summary old) (survives : Survives (state g old) (state g new) (λ _. ⊥)) (stays : HasCleanDisk (state g new) → Stays (state g old) (state g new)) where
+module _ {S : Type 0} (g : Ghosts S) (old new : Held S) (summary : Holdings (List ℕ)) (before after : LastCall) (open_before : is_closed before ≡ false) (rest : IsAtRest g before summary old) (survives : Survives (state g old) (state g new) (λ _. ⊥)) (stays : HasCleanDisk (state g new) → Stays (state g old) (state g new)) where
   clean_first : HasCleanDisk (state g new) → HasCleanDisk (state g old)
   clean_first clean = omega (arith, survives.clean)
 
@@ -74,7 +74,7 @@ module _ {S : Type 0} (g : Ghosts S) (old new : Held S) (summary : Holdings (Lis
   pub keeps_on : (kept : Cache) → AreMade summary.installs kept.texts → (HasCleanDisk (state g new) → IsTrue (state g old).is_open → IsCacheOf (state g old).now kept) → KeepsCache g after summary (cache_after after kept) new
   keeps_on kept made are = by_last after
     where
-      by_last : (last : Last) → KeepsCache g last summary (cache_after last kept) new
+      by_last : (last : LastCall) → KeepsCache g last summary (cache_after last kept) new
       by_last Fine = record { made = made; are = λ fine clean live. subst (λ (db : Database). IsCacheOf db kept) (sym (now_same clean live)) (are clean ((stays clean).was_open live)) }
       by_last Failed = record { made = tt; are = λ fine clean live. (tt, tt) }
       by_last Closed = record { made = tt; are = λ fine clean live. (tt, tt) }

@@ -14,29 +14,29 @@ use Rattle.dict_catalogue.specs.Tests.{Holdings}
 use Rattle.dict_catalogue.specs.Effects.{KeptReply}
 use Rattle.dict_catalogue.specs.Steps.{Catalogue, Outcome, refused, summary_of, kept_under, step}
 use Rattle.dict_catalogue.specs.WellFormed.{IsWellFormed}
-use Rattle.dict_catalogue.specs.declared.fault.Refusal.TheVariants.{BadRequestId}
+use Rattle.dict_catalogue.specs.declared.fault.CommandRefusal.TheVariants.{BadRequestId}
 use Rattle.dict_catalogue.specs.declared.reply.Kept.{Kept}
 use Rattle.dict_desk.specs.Applying.{Applies, Leaves, LeavesNoMore}
 use Rattle.dict_desk.specs.Faults.{is_disk, has_failed_by, has_closed_by}
 use Rattle.dict_desk.specs.declared.fault.Fault.{Fault}
 use Rattle.dict_desk.specs.declared.fault.Fault.TheVariants.{Refused, Memory, Disk, Closed, NotACatalogue, Damaged, NewerSchema}
 use Rattle.dict_desk.proofs.LeavesLemmas.{contains_later}
-use Rattle.dict_file.specs.Holds.{HasLayout, Holds, Rests, IsLeftAs}
+use Rattle.dict_holdings.specs.Holds.{HasLayout, Holds, Rests, IsLeftAs}
 use Rattle.dict_commands.specs.Changes.{IsInRange}
 use Rattle.dict_commands.specs.Committed as committed
 use Rattle.dict_commands.specs.Answers.{HoldsBy, Answers, has_written, summary_after, IsOfShut}
 use Rattle.dict_commands.specs.declared.applied.Applied.{Applied}
-use Rattle.dict_commands.specs.declared.applied.Applied.TheVariants.{Before, Now}
+use Rattle.dict_commands.specs.declared.applied.Applied.TheVariants.{Repeated, Done}
 use Rattle.dict_store.specs.Desk.{DeskState, IsAtRest, Shows, LeavesOneOf, StandsFor, is_closed, has_failed, last_by, reply_of}
 use Rattle.dict_commands.specs.Kept.{AddsAbove}
 use Rattle.dict_desk.specs.Faults.{is_failure}
 use Rattle.dict_store.specs.Kept.{KeepsCache, without_counts, cache_after}
 use Rattle.dict_store.specs.declared.kept.Cache.{Cache}
 use Rattle.dict_store.proofs.TextLemmas.{texts_applied}
-use Rattle.dict_store.specs.declared.last.Last.{Last}
+use Rattle.dict_store.specs.declared.last.LastCall.{LastCall}
 use Rattle.dict_store.proofs.DeskLemmas.{Stays}
 use Rattle.dict_rows.specs.Versions.{known, layout_of}
-use Rattle.dict_file.proofs.OneLemmas.{left_known}
+use Rattle.dict_holdings.proofs.OneLemmas.{left_known}
 
 -- ---- kept replies
 
@@ -56,7 +56,7 @@ kept_value P Q (Err fault) old new then same h = tt
 
 -- what a command answers over a store that is open
 module _ {S : Type 0} (g : Ghosts S) (new : Held S) (M : Catalogue) (id : List ℕ) (outcome : Outcome) where
-  shown_by : (summary : Holdings (List ℕ)) (last : Last) (N : Catalogue) → summary ≡ summary_of N → IsWellFormed N → (IsTrue (state g new).is_open → Rests known (state g new) N) → Shows g (record { conn = new; summary = summary; last = last }) N
+  shown_by : (summary : Holdings (List ℕ)) (last : LastCall) (N : Catalogue) → summary ≡ summary_of N → IsWellFormed N → (IsTrue (state g new).is_open → Rests known (state g new) N) → Shows g (record { conn = new; summary = summary; last = last }) N
   shown_by summary last N is well rests = record {
     summary = is;
     well_formed = well;
@@ -65,11 +65,11 @@ module _ {S : Type 0} (g : Ghosts S) (new : Held S) (M : Catalogue) (id : List �
 
   pub applies_open : (summary : Holdings (List ℕ)) (result : Result Applied Fault) → summary ≡ summary_of M → IsWellFormed M → Answers (state g new) M id outcome result
       → Applies (Shows g (record { conn = new; summary = summary_after summary result; last = last_by result })) M outcome (reply_of result)
-  applies_open summary (Ok (Before kept)) is well h = (
+  applies_open summary (Ok (Repeated kept)) is well h = (
     ap (λ (o : Outcome). o.reply) h.1,
-    subst (λ (o : Outcome). Shows g (record { conn = new; summary = summary; last = last_by (Ok (Before kept)) }) o.catalogue) (sym h.1) (shown_by summary (last_by (Ok (Before kept))) M is well (λ live. h.2)),
+    subst (λ (o : Outcome). Shows g (record { conn = new; summary = summary; last = last_by (Ok (Repeated kept)) }) o.catalogue) (sym h.1) (shown_by summary (last_by (Ok (Repeated kept))) M is well (λ live. h.2)),
   )
-  applies_open summary (Ok (Now kept after)) is well h = (h.1, shown_by (summary_after summary (Ok (Now kept after))) (last_by (Ok (Now kept after))) outcome.catalogue (sym h.2) h.3.holds.stands.well_formed (λ live. h.3))
+  applies_open summary (Ok (Done kept after)) is well h = (h.1, shown_by (summary_after summary (Ok (Done kept after))) (last_by (Ok (Done kept after))) outcome.catalogue (sym h.2) h.3.holds.stands.well_formed (λ live. h.3))
   applies_open summary (Err (Refused refusal)) is well h = (
     ap (λ (o : Outcome). o.reply) h.0,
     subst (λ (o : Outcome). Shows g (record { conn = new; summary = summary; last = last_by {T = Applied} (Err (Refused refusal)) }) o.catalogue) (sym h.0) (shown_by summary (last_by {T = Applied} (Err (Refused refusal))) M is well (λ live. h.1)),
@@ -86,7 +86,7 @@ unlawful_step M id command unlawful = rw unlawful refl
 
 -- and over one that is shut
 pub applies_shut : {S : Type 0} (g : Ghosts S) (new : Held S) (M : Catalogue) (id : List ℕ) (command : Command Edition) (summary : Holdings (List ℕ)) (result : Result Applied Fault) → IsOfShut id result
-    → ((last : Last) → Shows g (record { conn = new; summary = summary; last = last }) M) → Applies (Shows g (record { conn = new; summary = summary_after summary result; last = last_by result })) M (step M id command) (reply_of result)
+    → ((last : LastCall) → Shows g (record { conn = new; summary = summary; last = last }) M) → Applies (Shows g (record { conn = new; summary = summary_after summary result; last = last_by result })) M (step M id command) (reply_of result)
 applies_shut g new M id command summary (Ok applied) h shown = absurd h
 applies_shut g new M id command summary (Err (Refused refusal)) h shown =
     let is = unlawful_step M id command h.0 in
@@ -106,8 +106,8 @@ Left = List (Option Catalogue) → Type 0
 pub leaves_open : (Old New : Left) (M : Catalogue) (id : List ℕ) (s : State) (outcome : Outcome) (result : Result Applied Fault) → Answers s M id outcome result → (has_written result ≡ false → LeavesNoMore Old New)
     → (((trees : Trees) → s.may_leave trees → IsLeftAs known outcome.catalogue trees) → New (Some outcome.catalogue ∷ [])) → ((ms : List (Option Catalogue)) → Old ms → New (Some outcome.catalogue ∷ ms))
     → Leaves Old New (is_some (kept_under M.kept id)) outcome.catalogue (reply_of result)
-leaves_open Old New M id s outcome (Ok (Before kept)) h none alone more = subst (λ (k : Option KeptReply). MatchBool (is_some k) (LeavesNoMore Old New) (New (Some outcome.catalogue ∷ []))) (sym h.0) (none refl)
-leaves_open Old New M id s outcome (Ok (Now kept summary)) h none alone more = subst (λ (k : Option KeptReply). MatchBool (is_some k) (LeavesNoMore Old New) (New (Some outcome.catalogue ∷ []))) (sym h.0) (alone h.4)
+leaves_open Old New M id s outcome (Ok (Repeated kept)) h none alone more = subst (λ (k : Option KeptReply). MatchBool (is_some k) (LeavesNoMore Old New) (New (Some outcome.catalogue ∷ []))) (sym h.0) (none refl)
+leaves_open Old New M id s outcome (Ok (Done kept summary)) h none alone more = subst (λ (k : Option KeptReply). MatchBool (is_some k) (LeavesNoMore Old New) (New (Some outcome.catalogue ∷ []))) (sym h.0) (alone h.4)
 leaves_open Old New M id s outcome (Err (Refused refusal)) h none alone more = none refl
 leaves_open Old New M id s outcome (Err Memory) h none alone more = none refl
 leaves_open Old New M id s outcome (Err Disk) h none alone more = more
@@ -128,15 +128,15 @@ leaves_shut Old New is_kept after id (Err Damaged) h none more = absurd h
 leaves_shut Old New is_kept after id (Err NewerSchema) h none more = absurd h
 
 pub spares_by : (Old New : Left) (result : Result Applied Fault) → (has_written result ≡ false → LeavesNoMore Old New) → (ms : List (Option Catalogue)) → Old ms → IfErr (reply_of result) (λ fault. is_disk fault ≡ false → New ms)
-spares_by Old New (Ok (Before kept)) none ms left = tt
-spares_by Old New (Ok (Now kept summary)) none ms left = tt
+spares_by Old New (Ok (Repeated kept)) none ms left = tt
+spares_by Old New (Ok (Done kept summary)) none ms left = tt
 spares_by Old New (Err fault) none ms left = λ other. none other ms left
 
 -- ---- how the call ended
 
 pub failed_by : (result : Result Applied Fault) → has_failed (last_by result) ≡ has_failed_by (reply_of result)
-failed_by (Ok (Before kept)) = refl
-failed_by (Ok (Now kept summary)) = refl
+failed_by (Ok (Repeated kept)) = refl
+failed_by (Ok (Done kept summary)) = refl
 failed_by (Err (Refused refusal)) = refl
 failed_by (Err Memory) = refl
 failed_by (Err Disk) = refl
@@ -146,8 +146,8 @@ failed_by (Err Damaged) = refl
 failed_by (Err NewerSchema) = refl
 
 pub closed_by : (result : Result Applied Fault) → is_closed (last_by result) ≡ has_closed_by (reply_of result)
-closed_by (Ok (Before kept)) = refl
-closed_by (Ok (Now kept summary)) = refl
+closed_by (Ok (Repeated kept)) = refl
+closed_by (Ok (Done kept summary)) = refl
 closed_by (Err (Refused refusal)) = refl
 closed_by (Err Memory) = refl
 closed_by (Err Disk) = refl
@@ -158,7 +158,7 @@ closed_by (Err NewerSchema) = refl
 
 -- ---- a desk
 
-module _ {S : Type 0} (g : Ghosts S) (old new : Held S) (summary : Holdings (List ℕ)) (before : Last) (id : List ℕ) (command : Command Edition) (result : Result Applied Fault)
+module _ {S : Type 0} (g : Ghosts S) (old new : Held S) (summary : Holdings (List ℕ)) (before : LastCall) (id : List ℕ) (command : Command Edition) (result : Result Applied Fault)
     (open_before : is_closed before ≡ false) (rest : IsAtRest g before summary old)
     (value : HasCleanDisk (state g new) → (M : Catalogue) → Rests known (state g old) M → summary_of M ≡ summary → Answers (state g new) M id (step M id command) result)
     (spares : has_written result ≡ false → Survives (state g old) (state g new) (λ _. ⊥))
@@ -175,7 +175,7 @@ module _ {S : Type 0} (g : Ghosts S) (old new : Held S) (summary : Holdings (Lis
   desk_after = record { conn = new; summary = summary_after summary result; last = last_by result }
 
   -- what is shown still
-  same_shown : (M : Catalogue) (after : Last) → Shows g desk_before M → (IsTrue (state g new).is_open → Rests known (state g new) M) → Shows g (record { conn = new; summary = summary; last = after }) M
+  same_shown : (M : Catalogue) (after : LastCall) → Shows g desk_before M → (IsTrue (state g new).is_open → Rests known (state g new) M) → Shows g (record { conn = new; summary = summary; last = after }) M
   same_shown M after shown rests = record {
     summary = shown.summary;
     well_formed = shown.well_formed;
@@ -235,9 +235,9 @@ module _ {S : Type 0} (g : Ghosts S) (old new : Held S) (summary : Holdings (Lis
   }
 
   -- the desk after the call, by what its fields became
-  module _ (after : Holdings (List ℕ)) (last : Last) (told : Result Kept Fault) (after_is : after ≡ summary_after summary result) (last_is : last ≡ last_by result) (told_is : told ≡ reply_of result) where
+  module _ (after : Holdings (List ℕ)) (last : LastCall) (told : Result Kept Fault) (after_is : after ≡ summary_after summary result) (last_is : last ≡ last_by result) (told_is : told ≡ reply_of result) where
     desk_is : desk_after ≡ record { conn = new; summary = after; last = last }
-    desk_is = ap {B = DeskState S} (λ (s : Holdings (List ℕ)). record { conn = new; summary = s; last = last_by result }) (sym after_is) ∙ ap {B = DeskState S} (λ (l : Last). record { conn = new; summary = after; last = l }) (sym last_is)
+    desk_is = ap {B = DeskState S} (λ (s : Holdings (List ℕ)). record { conn = new; summary = s; last = last_by result }) (sym after_is) ∙ ap {B = DeskState S} (λ (l : LastCall). record { conn = new; summary = after; last = l }) (sym last_is)
 
     -- what is true of it
     pub told_rests : (kept cache : Cache) → cache ≡ cache_after last (without_counts kept) → KeepsCache g before summary kept old → HoldsBy (summary_after summary result) (state g new) → IsInRange (summary_after summary result) → new.in_transaction ≡ false
@@ -251,7 +251,7 @@ module _ {S : Type 0} (g : Ghosts S) (old new : Held S) (summary : Holdings (Lis
         ) in
         subst (λ (k : Cache). IsAtRest g last after new × KeepsCache g last after k new) (sym is)
         (subst (λ (s : Holdings (List ℕ)). IsAtRest g last s new × KeepsCache g last s (cache_after last (without_counts kept)) new) (sym after_is)
-        (subst (λ (l : Last). IsAtRest g l (summary_after summary result) new × KeepsCache g l (summary_after summary result) (cache_after l (without_counts kept)) new) (sym last_is) both))
+        (subst (λ (l : LastCall). IsAtRest g l (summary_after summary result) new × KeepsCache g l (summary_after summary result) (cache_after l (without_counts kept)) new) (sym last_is) both))
 
     pub told_applies : HasCleanDisk (state g new) → (M : Catalogue) → Shows g desk_before M → Applies (Shows g (record { conn = new; summary = after; last = last })) M (step M id command) told
     told_applies clean M shown = subst (λ (r : Result Kept Fault). Applies (Shows g (record { conn = new; summary = after; last = last })) M (step M id command) r) (sym told_is)

@@ -8,7 +8,7 @@ use Rattle.sqlite.specs.State.{HasCleanDisk}
 use Rattle.sqlite.specs.Held.{state}
 use Rattle.sqlite_trees.specs.declared.store.Store.{Ghosts}
 use Rattle.dict_catalogue.specs.Steps.{Catalogue, Request, after, acts, step}
-use Rattle.dict_catalogue.specs.declared.fault.Refusal.{Refusal}
+use Rattle.dict_catalogue.specs.declared.fault.CommandRefusal.{CommandRefusal}
 use Rattle.dict_catalogue.specs.declared.reply.Kept.{Kept}
 use Rattle.dict_catalogue.proofs.StepLemmas.{idle_leaves}
 use Rattle.dict_desk.specs.AllApplied.{has_acted, LeftAfter, AllAnswered, HaltsAt, reply_shown, replies}
@@ -16,9 +16,9 @@ use Rattle.dict_desk.specs.Applying.{LeavesNoMore}
 use Rattle.dict_desk.specs.declared.fault.Fault.{Fault}
 use Rattle.dict_desk.specs.declared.fault.Fault.TheVariants as fault
 use Rattle.dict_desk.specs.declared.keeper.Halted.{Halted}
-use Rattle.dict_file.specs.Holds.{IsLeft}
+use Rattle.dict_holdings.specs.Holds.{IsLeft}
 use Rattle.dict_store.specs.Desk.{DeskState, Shows, LeavesOneOf, StandsFor}
-use Rattle.dict_file.proofs.OneLemmas.{one_left}
+use Rattle.dict_holdings.proofs.OneLemmas.{one_left}
 use Rattle.dict_store.specs.Promise.{IsLeftAlone, HoldsFront, KeepsAlone, KeepsFront, KeepsAt}
 
 -- commands of which none acts leave the catalogue
@@ -99,17 +99,17 @@ module _ {S : Type 0} (g : Ghosts S) (old new : DeskState S) (M : Catalogue) (re
   halts_at stand fault.Damaged h = absurd h
   halts_at stand fault.NewerSchema h = absurd h
 
-  pub all_alone : (outcomes : List (Result Kept Refusal)) → AllAnswered (Shows g new) (LeavesOneOf g old) (LeavesOneOf g new) M requests outcomes → KeepsAlone g new (after M requests)
+  pub all_alone : (outcomes : List (Result Kept CommandRefusal)) → AllAnswered (Shows g new) (LeavesOneOf g old) (LeavesOneOf g new) M requests outcomes → KeepsAlone g new (after M requests)
   all_alone outcomes h = record { shown = h.shown; alone = h.left (Some (after M requests) ∷ []) (left_after requests) }
 
-  pub all_keeps : (outcomes : List (Result Kept Refusal)) (answered : ℕ) → answered ≡ length requests → AllAnswered (Shows g new) (LeavesOneOf g old) (LeavesOneOf g new) M requests outcomes
+  pub all_keeps : (outcomes : List (Result Kept CommandRefusal)) (answered : ℕ) → answered ≡ length requests → AllAnswered (Shows g new) (LeavesOneOf g old) (LeavesOneOf g new) M requests outcomes
       → HasCleanDisk (state g new.conn) → (trees : Trees) → (state g new.conn).may_leave trees → HoldsFront M requests answered trees
   all_keeps outcomes answered is h clean trees may =
       let whole : take answered requests ≡ requests = ap (λ n. take n requests) is ∙ take-length requests in
       so_many answered (subst (λ front. LeavesOneOf g new (Some (after M front) ∷ [])) (sym whole) (all_alone outcomes h).alone) clean trees may
 
 -- the same, of a call
-module _ {S T : Type 0} (g : Ghosts S) (old new : DeskState S) (requests : List Request) (items : T → List (Result Kept Refusal)) (size : T → ℕ) where
+module _ {S T : Type 0} (g : Ghosts S) (old new : DeskState S) (requests : List Request) (items : T → List (Result Kept CommandRefusal)) (size : T → ℕ) where
   abbrev Answers : Result T Halted → Type 0
   Answers result = HasCleanDisk (state g new.conn) → (M : Catalogue) → Shows g old M → IfOk result (λ value. AllAnswered (Shows g new) (LeavesOneOf g old) (LeavesOneOf g new) M requests (items value))
 

@@ -11,7 +11,7 @@ use Rattle.dict_catalogue.specs.Tests.{Holdings}
 use Rattle.dict_desk.specs.Faults.{is_disk}
 use Rattle.dict_desk.specs.declared.fault.Fault.{Fault}
 use Rattle.dict_desk.specs.declared.fault.Fault.TheVariants.{Disk}
-use Rattle.dict_file.specs.Holds.{Holds}
+use Rattle.dict_holdings.specs.Holds.{Holds}
 use Rattle.dict_migration.specs.Failing.{FailsAtLast, FailsBefore, FailsToMigrate, FailsToMove, IsBeyond}
 use Rattle.dict_migration.specs.Places.{Place}
 use Rattle.dict_rows.specs.Versions.{known}

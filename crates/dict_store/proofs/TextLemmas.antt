@@ -17,7 +17,7 @@ use Rattle.dict_rows.specs.Versions.{known}
 use Rattle.dict_rows.specs.Written.{edition_record}
 use Rattle.dict_rows.proofs.OrderLemmas.{one_once, same_from}
 use Rattle.dict_sql.specs.Encodings.{edition_row}
-use Rattle.dict_file.specs.Holds.{Holds}
+use Rattle.dict_holdings.specs.Holds.{Holds}
 use Rattle.dict_lookup.specs.Searches.{HoldsOne, rows_under, octets_in}
 use Rattle.dict_lookup.specs.Texts.{IsTextOf, AreTextsOf, AreMade}
 use Rattle.dict_lookup.proofs.FailLemmas.{all_contains}
@@ -25,11 +25,11 @@ use Rattle.dict_lookup.proofs.HeldLemmas.{held_one, held_under}
 use Rattle.dict_commands.specs.Kept.{AddsAbove, edition_records}
 use Rattle.dict_commands.specs.Answers.{HoldsBy, summary_after}
 use Rattle.dict_commands.specs.declared.applied.Applied.{Applied}
-use Rattle.dict_commands.specs.declared.applied.Applied.TheVariants.{Before, Now}
+use Rattle.dict_commands.specs.declared.applied.Applied.TheVariants.{Repeated, Done}
 use Rattle.dict_store.specs.Desk.{is_closed, last_by}
 use Rattle.dict_store.specs.Kept.{KeepsCache, no_cache, without_counts, cache_after}
 use Rattle.dict_store.specs.declared.kept.Cache.{Cache}
-use Rattle.dict_store.specs.declared.last.Last.{Last}
+use Rattle.dict_store.specs.declared.last.LastCall.{LastCall}
 
 -- the one record that stands under a number
 one_record : (db : Database) (number : ℕ) (reading : ReadEdition) (one : HoldsOne db number reading) → edition_records number db ≡ edition_row (edition_record one.owner number reading) ∷ []
@@ -61,7 +61,7 @@ more_installs : (a b : ℕ) → a ≤ b → (texts : List (ℕ × List ℕ)) →
 more_installs a b low [] made = tt
 more_installs a b low (kept ∷ texts) made = (let first = made.0 in omega (arith, first, low), more_installs a b low texts made.1)
 
-module _ {S : Type 0} (g : Ghosts S) (old new : Held S) (summary : Holdings (List ℕ)) (before : Last) (open_before : is_closed before ≡ false) (cache : Cache) (keeps : KeepsCache g before summary cache old)
+module _ {S : Type 0} (g : Ghosts S) (old new : Held S) (summary : Holdings (List ℕ)) (before : LastCall) (open_before : is_closed before ≡ false) (cache : Cache) (keeps : KeepsCache g before summary cache old)
     (holds : HoldsBy summary (state g old)) (first : HasCleanDisk (state g new) → HasCleanDisk (state g old)) (lives : HasCleanDisk (state g new) → IsTrue (state g new).is_open → IsTrue (state g old).is_open) where
   -- the texts that are kept still
   still_are : HasCleanDisk (state g new) → IsTrue (state g new).is_open → AddsAbove summary.installs (state g old).now (state g new).now → AreTextsOf (state g new).now cache.texts
@@ -73,14 +73,14 @@ module _ {S : Type 0} (g : Ghosts S) (old new : Held S) (summary : Holdings (Lis
   more_made : (installs : ℕ) → summary.installs ≤ installs → AreMade installs cache.texts
   more_made installs grows = more_installs summary.installs installs grows cache.texts keeps.made
 
-  nothing : (last : Last) (after : Holdings (List ℕ)) → KeepsCache g last after no_cache new
+  nothing : (last : LastCall) (after : Holdings (List ℕ)) → KeepsCache g last after no_cache new
   nothing last after = record { made = tt; are = λ fine clean live. (tt, tt) }
 
   pub texts_applied : (result : Result Applied Fault) → (HasCleanDisk (state g new) → OnOk result (AddsAbove summary.installs (state g old).now (state g new).now))
       → (HasCleanDisk (state g new) → IfErr result (λ fault. is_failure fault ≡ false → (state g new).now ≡ (state g old).now)) → summary.installs ≤ (summary_after summary result).installs
       → KeepsCache g (last_by result) (summary_after summary result) (cache_after (last_by result) (without_counts cache)) new
-  texts_applied (Ok (Before kept)) above refused grows = record { made = more_made summary.installs grows; are = λ fine clean live. (still_are clean live (above clean), tt) }
-  texts_applied (Ok (Now kept after)) above refused grows = record { made = more_made (summary_after summary (Ok (Now kept after))).installs grows; are = λ fine clean live. (still_are clean live (above clean), tt) }
+  texts_applied (Ok (Repeated kept)) above refused grows = record { made = more_made summary.installs grows; are = λ fine clean live. (still_are clean live (above clean), tt) }
+  texts_applied (Ok (Done kept after)) above refused grows = record { made = more_made (summary_after summary (Ok (Done kept after))).installs grows; are = λ fine clean live. (still_are clean live (above clean), tt) }
   texts_applied (Err (Refused refusal)) above refused grows = record {
     made = keeps.made;
     are = λ fine clean live. (subst (λ (db : Database). AreTextsOf db cache.texts) (sym (refused clean refl)) (keeps.are open_before (first clean) (lives clean live)).0, tt);

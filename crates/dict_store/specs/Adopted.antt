@@ -7,13 +7,13 @@ use Rattle.dict_catalogue.specs.Steps.{Catalogue, summary_of}
 use Rattle.dict_desk.specs.Faults.{is_disk}
 use Rattle.dict_desk.specs.declared.fault.Fault.{Fault}
 use Rattle.dict_desk.specs.declared.fault.Fault.TheVariants.{Disk}
-use Rattle.dict_file.specs.Holds.{Holds, IsHeld, Rests}
+use Rattle.dict_holdings.specs.Holds.{Holds, IsHeld, Rests}
 use Rattle.dict_opening.specs.Reading.{IsOfOpening, HasFailed}
 use Rattle.dict_migration.specs.Failing.{IsBeyond, FailsToMove}
 use Rattle.dict_migration.specs.Migrated.{MayMigrate}
 use Rattle.dict_store.specs.Desk.{DeskState, Shows, LeavesOneOf}
 use Rattle.dict_store.specs.Opened.{IsTold, IsNotHeld}
-use Rattle.dict_store.specs.declared.last.Last.TheVariants.{Fine}
+use Rattle.dict_store.specs.declared.last.LastCall.TheVariants.{Fine}
 use Rattle.dict_rows.specs.Versions.{known}
 
 module _ {S : Type 0} (g : Ghosts S) where

@@ -10,7 +10,7 @@ use Rattle.dict_desk.specs.Applying.{Applies, Leaves}
 use Rattle.dict_desk.specs.Faults.{is_disk, is_failure}
 use Rattle.dict_desk.specs.declared.fault.Fault.{Fault}
 use Rattle.dict_desk.specs.declared.fault.Fault.TheVariants.{Refused, Memory, Disk, Closed, NotACatalogue, Damaged, NewerSchema}
-use Rattle.dict_file.specs.Faults.{fault_of, FailsToLookUp}
+use Rattle.dict_holdings.specs.Faults.{fault_of, FailsToLookUp}
 use Rattle.dict_commands.specs.Answers.{FailsToApply}
 use Rattle.dict_store.specs.Desk.{DeskState, Shows, LeavesOneOf, is_closed}
 

@@ -9,49 +9,49 @@ use Rattle.dict_catalogue.specs.Steps.{Catalogue, summary_of}
 use Rattle.dict_catalogue.specs.WellFormed.{IsWellFormed}
 use Rattle.dict_desk.specs.Faults.{is_disk, is_failure}
 use Rattle.dict_desk.specs.declared.fault.Fault.{Fault}
-use Rattle.dict_file.specs.Holds.{HasLayout, Holds}
+use Rattle.dict_holdings.specs.Holds.{HasLayout, Holds}
 pub use Rattle.dict_migration.specs.Leaves.{StandsFor}
 use Rattle.dict_commands.specs.Changes.{IsInRange}
 use Rattle.dict_commands.specs.Answers.{HoldsBy}
 use Rattle.dict_commands.specs.declared.applied.Applied.{Applied}
-use Rattle.dict_commands.specs.declared.applied.Applied.TheVariants.{Before, Now}
+use Rattle.dict_commands.specs.declared.applied.Applied.TheVariants.{Repeated, Done}
 use Rattle.dict_catalogue.specs.declared.reply.Kept.{Kept}
-use Rattle.dict_store.specs.declared.last.Last.{Last}
-use Rattle.dict_store.specs.declared.last.Last.TheVariants.{Fine, Failed, Closed}
+use Rattle.dict_store.specs.declared.last.LastCall.{LastCall}
+use Rattle.dict_store.specs.declared.last.LastCall.TheVariants.{Fine, Failed, Closed}
 use Rattle.dict_rows.specs.Versions.{known, layout_of}
 
 -- the connection, the summary in memory, and how the last call by `&mut` ended
 pub record DeskState (S : Type 0) : Type 0 where
   pub conn : Held S
   pub summary : Holdings (List ℕ)
-  pub last : Last
+  pub last : LastCall
 
-abbrev pub is_closed : Last → Bool
+abbrev pub is_closed : LastCall → Bool
 is_closed Fine = false
 is_closed Failed = false
 is_closed Closed = true
 
-abbrev pub has_failed : Last → Bool
+abbrev pub has_failed : LastCall → Bool
 has_failed Fine = false
 has_failed Failed = true
 has_failed Closed = true
 
 -- how a call of a desk that isn't closed ends
-abbrev pub last_by : {T : Type 0} → Result T Fault → Last
+abbrev pub last_by : {T : Type 0} → Result T Fault → LastCall
 last_by (Ok value) = Fine
 last_by (Err fault) = if is_disk fault then Closed else (if is_failure fault then Failed else Fine)
 
 -- the reply that a command is answered, kept before or now
 abbrev pub reply_of : Result Applied Fault → Result Kept Fault
-reply_of (Ok (Before kept)) = Ok kept
-reply_of (Ok (Now kept summary)) = Ok kept
+reply_of (Ok (Repeated kept)) = Ok kept
+reply_of (Ok (Done kept summary)) = Ok kept
 reply_of (Err fault) = Err fault
 
 module _ {S : Type 0} (g : Ghosts S) where
   -- What is true of every desk: its connection is in no transaction, and has no limit on steps; the numbers in its summary are those of installs; and
   -- where it isn't closed, and while the store is open and the disk gives what was written, a catalogue of this summary is
   -- committed, and what is shown is that, in the product's tables.
-  pub record IsAtRest (last : Last) (summary : Holdings (List ℕ)) (h : Held S) : Type 0 where
+  pub record IsAtRest (last : LastCall) (summary : Holdings (List ℕ)) (h : Held S) : Type 0 where
     pub autocommit : h.in_transaction ≡ false
     pub limit : h.step_limit ≡ None
     pub range : IsInRange summary

@@ -2,10 +2,10 @@
 use Rattle.std.proofs.Common.{◌≡◌, false, refl, sym}
 use Rattle.std.proofs.lemmas.Bool.{false≢true}
 use Rattle.dict_store.specs.Desk.{is_closed, has_failed}
-use Rattle.dict_store.specs.declared.last.Last.{Last}
-use Rattle.dict_store.specs.declared.last.Last.TheVariants.{Fine, Failed, Closed}
+use Rattle.dict_store.specs.declared.last.LastCall.{LastCall}
+use Rattle.dict_store.specs.declared.last.LastCall.TheVariants.{Fine, Failed, Closed}
 
-pub open_unless_failed : (last : Last) → has_failed last ≡ false → is_closed last ≡ false
+pub open_unless_failed : (last : LastCall) → has_failed last ≡ false → is_closed last ≡ false
 open_unless_failed Fine e = refl
 open_unless_failed Failed e = refl
 open_unless_failed Closed e = absurd (false≢true (sym e))

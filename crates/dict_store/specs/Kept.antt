@@ -9,8 +9,8 @@ use Rattle.dict_lookup.specs.Texts.{AreTextsOf, AreMade}
 use Rattle.dict_lookup.specs.Counts.{AreHeadsOf}
 use Rattle.dict_store.specs.Desk.{is_closed}
 use Rattle.dict_store.specs.declared.kept.Cache.{Cache}
-use Rattle.dict_store.specs.declared.last.Last.{Last}
-use Rattle.dict_store.specs.declared.last.Last.TheVariants.{Fine, Failed, Closed}
+use Rattle.dict_store.specs.declared.last.LastCall.{LastCall}
+use Rattle.dict_store.specs.declared.last.LastCall.TheVariants.{Fine, Failed, Closed}
 
 abbrev pub no_cache : Cache
 no_cache = record { texts = []; counted = [] }
@@ -19,7 +19,7 @@ abbrev pub without_counts : Cache → Cache
 without_counts cache = record { texts = cache.texts; counted = [] }
 
 -- what is kept after a call that ended so
-abbrev pub cache_after : Last → Cache → Cache
+abbrev pub cache_after : LastCall → Cache → Cache
 cache_after Fine cache = cache
 cache_after Failed cache = no_cache
 cache_after Closed cache = no_cache
@@ -31,6 +31,6 @@ IsCacheOf db cache = AreTextsOf db cache.texts × AreHeadsOf db cache.counted
 module _ {S : Type 0} (g : Ghosts S) where
   -- What is kept in memory is of the editions that the database has, while the desk isn't closed and the store is open; and each text is
   -- kept under the number of an install.
-  pub record KeepsCache (last : Last) (summary : Holdings (List ℕ)) (cache : Cache) (h : Held S) : Type 0 where
+  pub record KeepsCache (last : LastCall) (summary : Holdings (List ℕ)) (cache : Cache) (h : Held S) : Type 0 where
     pub made : AreMade summary.installs cache.texts
     pub are : is_closed last ≡ false → HasCleanDisk (state g h) → IsTrue (state g h).is_open → IsCacheOf (state g h).now cache

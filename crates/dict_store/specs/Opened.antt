@@ -6,7 +6,7 @@ use Rattle.sqlite.specs.Tree.{Trees}
 use Rattle.dict_catalogue.specs.Steps.{Catalogue}
 use Rattle.dict_desk.specs.declared.fault.Fault.{Fault}
 use Rattle.dict_desk.specs.declared.fault.Fault.TheVariants.{NotACatalogue, Damaged, NewerSchema}
-use Rattle.dict_file.specs.Holds.{IsHeld, IsLeft}
+use Rattle.dict_holdings.specs.Holds.{IsHeld, IsLeft}
 use Rattle.dict_opening.specs.Opens.{HasMark, HasKnownMark, HoldsNone}
 use Rattle.dict_rows.specs.Versions.{known}
 

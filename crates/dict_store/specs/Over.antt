@@ -6,33 +6,33 @@ use Rattle.sqlite.specs.Held.{Held, state}
 use Rattle.sqlite_trees.specs.declared.store.Store.{Ghosts}
 use Rattle.dict_catalogue.specs.Steps.{Catalogue}
 use Rattle.dict_desk.specs.declared.fault.Fault.{Fault}
-use Rattle.dict_file.specs.Holds.{IsHeld, IsLeft}
-use Rattle.dict_io.specs.Streams.{Change}
+use Rattle.dict_holdings.specs.Holds.{IsHeld, IsLeft}
+use Rattle.dict_io.specs.Streams.{StreamChange}
 use Rattle.dict_session.specs.Desks.{Condition}
 use Rattle.dict_session.specs.Run.{Ends}
-use Rattle.dict_session.specs.declared.session.run.End.{End}
+use Rattle.dict_session.specs.declared.session.run.SessionEnd.{SessionEnd}
 use Rattle.dict_session.specs.declared.session.run.SessionFault.{SessionFault}
 use Rattle.dict_store.specs.Desk.{DeskState, Shows, StandsFor, has_failed, is_closed}
 use Rattle.dict_store.specs.Opened.{IsNotLeft}
-use Rattle.dict_store.specs.declared.last.Last.{Last}
+use Rattle.dict_store.specs.declared.last.LastCall.{LastCall}
 
 -- a reader or a writer was left alone
-abbrev pub IsUntouched : Change → Type 0
+abbrev pub IsUntouched : StreamChange → Type 0
 IsUntouched change = change.new ≡ change.old
 
 -- how a desk stands whose last call ended so
-abbrev pub condition_by : Last → Condition
+abbrev pub condition_by : LastCall → Condition
 condition_by last = record { failed = has_failed last; closed = is_closed last }
 
 module _ {S : Type 0} (g : Ghosts S) where
   -- A session over this catalogue ended so, greeted under this host and number, and left the desk, which shows it still.
-  pub record EndsOver (desk : DeskState S) (host : List ℕ) (number : ℕ) (end : Result End SessionFault) (reader writer : Change) (M : Catalogue) : Type 0 where
+  pub record EndsOver (desk : DeskState S) (host : List ℕ) (number : ℕ) (end : Result SessionEnd SessionFault) (reader writer : StreamChange) (M : Catalogue) : Type 0 where
     pub ended : Ends M host number (condition_by desk.last) end reader writer
     pub shown : Shows g desk M
 
   -- The database that was committed holds a catalogue, and whichever it holds, the session is one over that; so it is where a
   -- stop left its trees.
-  pub record HasRun (conn : Held S) (desk : DeskState S) (host : List ℕ) (number : ℕ) (end : Result End SessionFault) (reader writer : Change) : Type 0 where
+  pub record HasRun (conn : Held S) (desk : DeskState S) (host : List ℕ) (number : ℕ) (end : Result SessionEnd SessionFault) (reader writer : StreamChange) : Type 0 where
     pub catalogue : Catalogue
     pub held : IsHeld (state g conn).committed catalogue
     pub over : (M : Catalogue) → IsHeld (state g conn).committed M → EndsOver desk host number end reader writer M

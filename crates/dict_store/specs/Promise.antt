@@ -7,7 +7,7 @@ use Rattle.sqlite_trees.specs.declared.store.Store.{Ghosts}
 use Rattle.dict_catalogue.specs.Steps.{Catalogue, Request, after}
 use Rattle.dict_desk.specs.declared.fault.Fault.{Fault}
 use Rattle.dict_desk.specs.declared.fault.Fault.TheVariants.{Refused, Memory, Disk, Closed, NotACatalogue, Damaged, NewerSchema}
-use Rattle.dict_file.specs.Holds.{IsLeft}
+use Rattle.dict_holdings.specs.Holds.{IsLeft}
 use Rattle.dict_store.specs.Desk.{DeskState, Shows, LeavesOneOf}
 
 -- these trees are of a database that holds this catalogue, and no other

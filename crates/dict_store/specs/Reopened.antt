@@ -16,7 +16,7 @@ use Rattle.sqlite_trees.specs.declared.store.Store.{Ghosts}
 use Rattle.dict_catalogue.specs.Steps.{Catalogue, Request, after}
 use Rattle.dict_desk.specs.declared.fault.Fault.{Fault}
 use Rattle.dict_desk.specs.declared.fault.Fault.TheVariants.{NotACatalogue, NewerSchema, Damaged}
-use Rattle.dict_file.specs.Holds.{IsLeft}
+use Rattle.dict_holdings.specs.Holds.{IsLeft}
 use Rattle.dict_store.specs.Desk.{DeskState, Shows}
 use Rattle.dict_store.specs.Adopted.{IsAdopted}
 use Rattle.dict_store.specs.Promise.{HoldsFront}

@@ -4,8 +4,8 @@ ghost use Rattle.sqlite.specs.State.{HasCleanDisk, IsLive, Survives};
 ghost use Rattle.sqlite.specs.Held.{state};
 ghost use Rattle.dict_catalogue.specs.Steps.{Catalogue, summary_of};
 ghost use Rattle.dict_catalogue.specs.Views.{summary_shown};
-ghost use Rattle.dict_file.specs.Holds.{Holds, IsHeld, IsLeft, Rests};
-ghost use Rattle.dict_file.specs.Writing.{Stays};
+ghost use Rattle.dict_holdings.specs.Holds.{Holds, IsHeld, IsLeft, Rests};
+ghost use Rattle.dict_holdings.specs.Writing.{Stays};
 ghost use Rattle.dict_migration.specs.Failing.{FailsToMigrate};
 ghost use Rattle.dict_migration.specs.Migrated.{MayMigrate};
 ghost use Rattle.dict_migration.specs.Moved.{IsOfMigration};
@@ -19,7 +19,7 @@ ghost use Rattle.dict_store.specs.Adopted.{FailsToOpen};
 
 use crate::desk::Desk;
 use crate::kept::forget_by;
-use crate::last::{Last, last_by};
+use crate::last::{LastCall, last_by};
 use dict_catalogue::{Summary, edition_numbers};
 use dict_commands::summaries_in_range;
 use dict_desk::Fault;
@@ -170,7 +170,7 @@ impl<S: Alter + Drop> Desk<S> {
         ensures held { IfOk result (λ desk. HasCleanDisk (state S.Store desk.conn) → (M : Catalogue) → IsHeld (state S.Store conn).committed M → Shows S.Store desk M) }
         ensures left { IfOk result (λ desk. HasCleanDisk (state S.Store desk.conn) → (M : Catalogue) → IsLeft M (state S.Store conn).committed.trees → Shows S.Store desk M) }
         ensures only { IfOk result (λ desk. (M : Catalogue) → Shows S.Store desk M → LeavesOneOf S.Store desk (Some M ∷ [])) }
-        ensures open { IfOk result (λ desk. (desk.last ≡ Last.Fine) × (desk.conn.in_transaction ≡ false)) }
+        ensures open { IfOk result (λ desk. (desk.last ≡ LastCall.Fine) × (desk.conn.in_transaction ≡ false)) }
         ensures same { IfOk result (λ desk. HasCleanDisk (state S.Store desk.conn) → (M : Catalogue) → IsHeld (state S.Store conn).committed M ↔ Holds known (state S.Store desk.conn).committed M) }
         ensures unwritten { IfOk result (λ desk. HasCleanDisk (state S.Store desk.conn) → (M : Catalogue) → Holds known (state S.Store conn).committed M → (state S.Store desk.conn).committed ≡ (state S.Store conn).committed) }
         ensures migrated { IfOk result (λ desk. Survives (state S.Store (record conn { step_limit = None })) (state S.Store desk.conn) (MayMigrate (state S.Store conn))) }
@@ -213,7 +213,7 @@ impl<S: Alter + Drop> Desk<S> {
         ensures closed { is_closed self.old.last ≡ true → result ≡ Err Fault.Closed }
         ensures kinds { is_closed self.old.last ≡ false → IfErr result IsOfOpening }
     {
-        if self.last == Last::Closed {
+        if self.last == LastCall::Closed {
             return Err(Fault::Closed);
         }
         let outcome = read_again(self.alloc, &mut self.conn);

@@ -7,13 +7,13 @@ ghost use Rattle.sqlite.specs.State.{HasCleanDisk};
 ghost use Rattle.sqlite.specs.View.{IsClean};
 ghost use Rattle.sqlite.specs.WalReads.{AreClean};
 ghost use Rattle.dict_catalogue.specs.Steps.{Catalogue};
-ghost use Rattle.dict_file.specs.Holds.{IsLeft};
+ghost use Rattle.dict_holdings.specs.Holds.{IsLeft};
 ghost use Rattle.dict_store.specs.Closed.{HoldsAlone, IsUncopied, StoreLeaves, fault_of_copy};
 ghost use Rattle.dict_store.specs.Desk.{LeavesOneOf, Shows, is_closed};
 
 use crate::adopting::is_whole;
 use crate::desk::Desk;
-use crate::last::Last;
+use crate::last::LastCall;
 use dict_desk::Fault;
 use sqlite::{Alter, Connection, Error, ErrorCode, FileStore, Files};
 use sqlite_disk::Disk;
@@ -36,7 +36,7 @@ fn let_go<S: Alter + Drop>(desk: Desk<S>) -> (Connection<S>, bool)
     ensures holds { is_closed desk.last ≡ false → HasCleanDisk (state S.Store desk.conn) → IsTrue (state S.Store desk.conn).is_open → (M : Catalogue) → Shows S.Store desk M
         → IsLeft M (state S.Store desk.conn).committed.trees }
 {
-    let is_closed = desk.last == Last::Closed;
+    let is_closed = desk.last == LastCall::Closed;
     let Desk { conn, .. } = desk;
     is_whole(&conn);
     (conn, is_closed)

@@ -6,8 +6,8 @@ ghost use Rattle.dict_catalogue.specs.Steps.{Catalogue, empty_catalogue, summary
 ghost use Rattle.dict_catalogue.specs.Views.{summary_shown};
 ghost use Rattle.dict_catalogue.specs.WellFormed.{IsWellFormed};
 ghost use Rattle.dict_desk.specs.Faults.{is_disk};
-ghost use Rattle.dict_file.specs.Holds.{Holds, Rests, IsLeftAs, HasPlace};
-ghost use Rattle.dict_file.specs.Writing.{Stays, IsOfCreation};
+ghost use Rattle.dict_holdings.specs.Holds.{Holds, Rests, IsLeftAs, HasPlace};
+ghost use Rattle.dict_holdings.specs.Writing.{Stays, IsOfCreation};
 ghost use Rattle.dict_migration.specs.Making.{creation, FailsToEnd};
 ghost use Rattle.dict_commands.specs.Changes.{IsInRange};
 ghost use Rattle.dict_commands.specs.Answers.{HoldsBy};
@@ -15,7 +15,7 @@ ghost use Rattle.dict_store.specs.Desk.{Shows, LeavesOneOf, is_closed};
 ghost use Rattle.dict_rows.specs.Versions.{known};
 
 use crate::kept::Cache;
-use crate::last::Last;
+use crate::last::LastCall;
 use dict_catalogue::Summary;
 use dict_desk::Fault;
 use dict_migration::create;
@@ -24,14 +24,14 @@ use std::alloc::Global;
 use std::marker::Model;
 
 /// A desk over one database: the connection to it, and the summary of the catalogue that it holds. The texts of editions from which
-/// entries were handed out last are kept in memory, up to `dict_texts::MOST_OCTETS`, and the headwords that were counted last, up to
-/// `dict_lookup::MOST_COUNTED`; what is shown never rests on them.
+/// entries were handed out last are kept in memory, up to `dict_texts::MAX_OCTETS`, and the headwords that were counted last, up to
+/// `dict_lookup::MAX_COUNTED`; what is shown never rests on them.
 #[derive(Drop)]
 pub struct Desk<S: Alter + Drop> {
     pub(crate) alloc: Global,
     pub(crate) conn: Connection<S>,
     pub(crate) summary: Summary,
-    pub(crate) last: Last,
+    pub(crate) last: LastCall,
     // What lookups keep. The texts of a database stay as a command changes another one.
     pub(crate) cache: Cache,
     // The rows that the statements of lookups have handed over. Nothing rests on it.
@@ -61,14 +61,14 @@ impl<S: Alter + Drop> Desk<S> {
         requires limit { conn.step_limit ≡ None }
         requires range { IsInRange (summary_shown summary) }
         requires holds { HoldsBy (summary_shown summary) (state S.Store conn) }
-        ensures is { result ≡ record { conn = conn; summary = summary_shown summary; last = Last.Fine } }
+        ensures is { result ≡ record { conn = conn; summary = summary_shown summary; last = LastCall.Fine } }
         ensures shows { (M : Catalogue) → summary_shown summary ≡ summary_of M → IsWellFormed M → (HasCleanDisk (state S.Store conn) → Rests known (state S.Store conn) M) → Shows S.Store result M }
     {
         Desk {
             alloc,
             conn,
             summary,
-            last: Last::Fine,
+            last: LastCall::Fine,
             cache: Cache::new(alloc),
             rows_taken: 0,
         }
@@ -83,7 +83,7 @@ impl<S: Alter + Drop> Desk<S> {
         requires { conn.in_transaction ≡ false }
         ensures shows { IfOk result (λ desk. Shows S.Store desk empty_catalogue) }
         ensures rests { IfOk result (λ desk. HasCleanDisk (state S.Store desk.conn) → Rests known (state S.Store desk.conn) empty_catalogue) }
-        ensures open { IfOk result (λ desk. (desk.last ≡ Last.Fine) × (desk.conn.in_transaction ≡ false)) }
+        ensures open { IfOk result (λ desk. (desk.last ≡ LastCall.Fine) × (desk.conn.in_transaction ≡ false)) }
         ensures only { IfOk result (λ desk. LeavesOneOf S.Store desk (Some empty_catalogue ∷ [])) }
         ensures made { IfOk result (λ desk. Survives (state S.Store (record conn { step_limit = None })) (state S.Store desk.conn) (IsLeftAs known empty_catalogue)) }
         ensures place { IfOk result (λ desk. HasPlace (state S.Store conn).now.schema) }
@@ -107,7 +107,7 @@ impl<S: Alter + Drop> Desk<S> {
     pub fn is_closed(&self) -> bool
         ensures { result ≡ is_closed self.now.last }
     {
-        self.last == Last::Closed
+        self.last == LastCall::Closed
     }
 
     /// How many rows the statements of this desk's lookups have handed over since it was opened, up to the greatest number of its

@@ -6,7 +6,7 @@ ghost use Rattle.dict_store.specs.Desk.{reply_of};
 
 use crate::desk::Desk;
 use crate::kept::{forget_by, forget_counts};
-use crate::last::{Last, last_by};
+use crate::last::{LastCall, last_by};
 use dict_catalogue::{Command, Kept, Summary};
 use dict_commands::{Applied, apply, kept_reply};
 use dict_desk::{Fault, Keeper};
@@ -18,8 +18,8 @@ fn take_over(summary: &mut Summary, outcome: Result<Applied, Fault>) -> Result<K
     ensures after { summary_shown summary.new ≡ summary_after (summary_shown summary.old) outcome }
 {
     match outcome {
-        Ok(Applied::Before(kept)) => Ok(kept),
-        Ok(Applied::Now(kept, after)) => {
+        Ok(Applied::Repeated(kept)) => Ok(kept),
+        Ok(Applied::Done(kept, after)) => {
             *summary = after;
             Ok(kept)
         }
@@ -35,7 +35,7 @@ impl<S: Alter + Drop> Keeper for Desk<S> {
     ghost fails_to_apply = { FailsToApplyTo S.Store };
 
     fn kept(&mut self, id: &str) -> Result<Option<Kept>, Fault> {
-        if self.last == Last::Closed {
+        if self.last == LastCall::Closed {
             return Err(Fault::Closed);
         }
         let outcome = kept_reply(self.alloc, &mut self.conn, id);
@@ -45,7 +45,7 @@ impl<S: Alter + Drop> Keeper for Desk<S> {
     }
 
     fn apply(&mut self, id: &str, command: &Command) -> Result<Kept, Fault> {
-        if self.last == Last::Closed {
+        if self.last == LastCall::Closed {
             return Err(Fault::Closed);
         }
         let outcome = apply(self.alloc, &mut self.conn, &self.summary, id, command);

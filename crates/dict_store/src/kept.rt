@@ -2,7 +2,7 @@
 ghost use Rattle.std.specs.Prelude.{◌≡◌};
 ghost use Rattle.dict_store.specs.Kept.{no_cache, without_counts, cache_after};
 
-use crate::last::Last;
+use crate::last::LastCall;
 use dict_lookup::Counted;
 use dict_texts::Texts;
 use std::alloc::Global;
@@ -43,11 +43,11 @@ pub(crate) fn forget_counts(cache: &mut Cache)
 
 // After a fault from 40 on nothing is kept: what memory it had is free then, and nothing rests on what a store has shown that has
 // failed.
-pub(crate) fn forget_by(cache: &mut Cache, last: Last)
+pub(crate) fn forget_by(cache: &mut Cache, last: LastCall)
     ensures { cache.new ≡ cache_after last cache.old }
 {
     match last {
-        Last::Fine => {}
-        Last::Failed | Last::Closed => cache.forget_all(),
+        LastCall::Fine => {}
+        LastCall::Failed | LastCall::Closed => cache.forget_all(),
     }
 }

@@ -7,20 +7,20 @@ use dict_desk::Fault;
 /// How the last call by `&mut` of a desk ended: it did what it was asked, or refused it; it answered a fault from 40 on; or
 /// the store failed, then or earlier, and the desk is closed.
 #[derive(Clone, Copy, Debug, PartialEq, Eq)]
-pub enum Last {
+pub enum LastCall {
     Fine,
     Failed,
     Closed,
 }
 
 // How a call ended that was asked of a desk that isn't closed.
-pub(crate) fn last_by<T>(outcome: &Result<T, Fault>) -> Last
+pub(crate) fn last_by<T>(outcome: &Result<T, Fault>) -> LastCall
     ensures { result ≡ last_by outcome.now }
 {
     match outcome {
-        Ok(_) => Last::Fine,
-        Err(Fault::Refused(_)) => Last::Fine,
-        Err(Fault::Disk) => Last::Closed,
-        Err(_) => Last::Failed,
+        Ok(_) => LastCall::Fine,
+        Err(Fault::Refused(_)) => LastCall::Fine,
+        Err(Fault::Disk) => LastCall::Closed,
+        Err(_) => LastCall::Failed,
     }
 }

@@ -14,7 +14,7 @@ mod reopening;
 mod session;
 
 pub use desk::Desk;
-pub use last::Last;
+pub use last::LastCall;
 pub use laws::committed_may_stay;
 pub use promise::apply_to_file;
 pub use reopening::{Unopened, stopped_files};

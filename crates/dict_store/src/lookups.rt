@@ -1,7 +1,7 @@
 // What readers ask of a desk.
 use crate::desk::Desk;
 use crate::kept::forget_by;
-use crate::last::{Last, last_by};
+use crate::last::{LastCall, last_by};
 use dict_catalogue::Summary;
 use dict_desk::{End, Fault, Lookup, RowSink, What};
 use dict_match::{Key, Strategy};
@@ -29,13 +29,13 @@ impl<S: Alter + Drop> Lookup for Desk<S> {
 
     fn summary(&self) -> Result<&Summary, Fault> {
         match self.last {
-            Last::Closed => Err(Fault::Closed),
-            Last::Fine | Last::Failed => Ok(&self.summary),
+            LastCall::Closed => Err(Fault::Closed),
+            LastCall::Fine | LastCall::Failed => Ok(&self.summary),
         }
     }
 
     fn info<T: RowSink>(&mut self, number: u64, sink: &mut T) -> Result<End, Fault> {
-        if self.last == Last::Closed {
+        if self.last == LastCall::Closed {
             return Err(Fault::Closed);
         }
         let outcome = dict_lookup::info(
@@ -57,7 +57,7 @@ impl<S: Alter + Drop> Lookup for Desk<S> {
         query: &Key,
         what: What,
     ) -> Result<u64, Fault> {
-        if self.last == Last::Closed {
+        if self.last == LastCall::Closed {
             return Err(Fault::Closed);
         }
         let outcome = dict_lookup::count(
@@ -82,7 +82,7 @@ impl<S: Alter + Drop> Lookup for Desk<S> {
         query: &Key,
         sink: &mut T,
     ) -> Result<End, Fault> {
-        if self.last == Last::Closed {
+        if self.last == LastCall::Closed {
             return Err(Fault::Closed);
         }
         let outcome = dict_lookup::find(
@@ -108,7 +108,7 @@ impl<S: Alter + Drop> Lookup for Desk<S> {
         query: &Key,
         sink: &mut T,
     ) -> Result<End, Fault> {
-        if self.last == Last::Closed {
+        if self.last == LastCall::Closed {
             return Err(Fault::Closed);
         }
         let outcome = dict_lookup::heads(

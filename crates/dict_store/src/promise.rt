@@ -11,7 +11,7 @@ ghost use Rattle.dict_store.specs.Causes.{IsAppliedTo};
 ghost use Rattle.dict_store.specs.Promise.{KeepsAlone, KeepsFront, KeepsAt};
 
 use crate::desk::Desk;
-use dict_catalogue::{Command, Kept, Refusal};
+use dict_catalogue::{Command, CommandRefusal, Kept};
 use dict_desk::{Fault, Halted, apply_all};
 use sqlite::Alter;
 use std::alloc::Global;
@@ -28,7 +28,7 @@ pub fn apply_to_file<S: Alter + Drop>(
     alloc: Global,
     desk: &mut Desk<S>,
     requests: &[(&str, Command)],
-) -> Result<Vec<Result<Kept, Refusal>>, Halted>
+) -> Result<Vec<Result<Kept, CommandRefusal>>, Halted>
     ensures answered { IfOk result (λ outcomes. KeepsFront S.Store desk.old desk.new (requests_meant requests.now) (vec_len outcomes)) }
     ensures halted { IfErr result (λ halted. KeepsFront S.Store desk.old desk.new (requests_meant requests.now) halted.stand) }
     ensures called { IfOk result (λ outcomes. AreApplied (IsAppliedTo S.Store) desk.old (requests_meant requests.now) outcomes.items desk.new) }

@@ -9,7 +9,7 @@ ghost use Rattle.sqlite.specs.Tree.{Trees};
 ghost use Rattle.sqlite_store.specs.declared.store.FileStore.{FileStore};
 ghost use Rattle.sqlite.specs.WalFiles.{image_at};
 ghost use Rattle.dict_catalogue.specs.Steps.{Catalogue, Request};
-ghost use Rattle.dict_file.specs.Holds.{Rests};
+ghost use Rattle.dict_holdings.specs.Holds.{Rests};
 ghost use Rattle.dict_store.specs.Desk.{Shows, LeavesOneOf};
 ghost use Rattle.dict_store.specs.Promise.{HoldsFront};
 ghost use Rattle.dict_store.specs.Adopted.{IsAdopted};

@@ -12,7 +12,7 @@ use crate::adopting::is_whole;
 use crate::desk::Desk;
 use dict_desk::Fault;
 use dict_io::{Sink, Source};
-use dict_session::{End, SessionFault, run};
+use dict_session::{SessionEnd, SessionFault, run};
 use sqlite::{Alter, Connection};
 use std::alloc::Global;
 
@@ -30,7 +30,7 @@ pub fn session_over<S: Alter + Drop, R: Source, K: Sink>(
     writer: &mut K,
     host: &str,
     number: u64,
-) -> Result<(Desk<S>, Result<End, SessionFault>), (Connection<S>, Fault)>
+) -> Result<(Desk<S>, Result<SessionEnd, SessionFault>), (Connection<S>, Fault)>
     requires { connection.in_transaction ≡ false }
     ensures ran { IfOk result (λ ran. HasCleanDisk (state S.Store ran.0.conn) → HasRun S.Store connection ran.0 host.now number ran.1
         (change R.stream reader.old reader.new) (change K.stream writer.old writer.new)) }

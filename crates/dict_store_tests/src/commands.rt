@@ -1,7 +1,7 @@
 //! The same commands over lists and over a database.
 
-use crate::asked::{Asked, Source};
 use crate::steps::{Row, Step, over_memory};
+use dict_store_fixtures::{Asked, Source};
 use std::alloc::Global;
 use std::process::Abort;
 use std::test::Fail;

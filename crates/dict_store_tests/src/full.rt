@@ -1,9 +1,9 @@
 //! A catalogue that is full.
 
-use crate::asked::{Asked, Editions, Source, told};
 use crate::checks::same_text;
 use dict_catalogue::Command;
 use dict_desk::Keeper;
+use dict_store_fixtures::{Asked, Editions, Source, told};
 use std::alloc::Global;
 use std::process::Abort;
 use std::test::Fail;

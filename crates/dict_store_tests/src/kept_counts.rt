@@ -1,12 +1,11 @@
 //! What a count has read isn't read again: not by the lookup of the same question behind it, while no command came between.
 
-use crate::asked::{Asked, Editions, Source, read_editions};
 use crate::checks::{holds, same_text};
-use crate::desks::accept_all;
-use crate::shown::{Counted, Rows, taken_between};
+use crate::taken::{Counted, taken_between};
 use dict_desk::{Fault, Keeper, Lookup, PlainDesk, What};
 use dict_match::{Strategy, key_of};
 use dict_store::Desk;
+use dict_store_fixtures::{Asked, Editions, Rows, Source, accept_all, read_editions};
 use sqlite::Connection;
 use std::alloc::Global;
 use std::process::Abort;

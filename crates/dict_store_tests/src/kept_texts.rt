@@ -1,11 +1,10 @@
 //! The text of an edition is read once, while the desk is open: by the first lookup that hands out its entries.
 
-use crate::asked::{Asked, Editions, Source, read_editions};
 use crate::checks::{holds, same_text};
-use crate::desks::accept_all;
-use crate::shown::found;
+use crate::taken::found;
 use dict_match::Strategy;
 use dict_store::Desk;
+use dict_store_fixtures::{Asked, Editions, Source, accept_all, read_editions};
 use sqlite::{Alter, Connection};
 use std::alloc::Global;
 use std::process::Abort;

@@ -1,16 +1,10 @@
-//! Runs of the store, over memory, over files that memory holds, and over disks that fail. A library with tests alone.
+//! Runs of the store over memory: commands, lookups, sessions, migrations and files that are refused. A library with tests alone.
 #![tactic(auto)]
 
-#[cfg(test)]
-mod asked;
 #[cfg(test)]
 mod checks;
 #[cfg(test)]
 mod commands;
-#[cfg(test)]
-mod desks;
-#[cfg(test)]
-mod files;
 #[cfg(test)]
 mod full;
 #[cfg(test)]
@@ -28,14 +22,10 @@ mod referred;
 #[cfg(test)]
 mod refused;
 #[cfg(test)]
-mod reopened;
-#[cfg(test)]
-mod shown;
-#[cfg(test)]
 mod spoken;
 #[cfg(test)]
 mod steps;
 #[cfg(test)]
-mod stops;
+mod tables;
 #[cfg(test)]
-mod stored;
+mod taken;

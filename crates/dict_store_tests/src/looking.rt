@@ -1,8 +1,9 @@
 //! What readers ask of a desk.
 use crate::checks::{holds, same_text};
-use crate::shown::{Counted, Rows, taken_between};
+use crate::taken::{Counted, taken_between};
 use dict_desk::{Fault, Lookup, What};
 use dict_match::{Key, Strategy, key_of};
+use dict_store_fixtures::Rows;
 use std::alloc::Global;
 use std::process::Abort;
 use std::test::Fail;

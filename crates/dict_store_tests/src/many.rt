@@ -1,7 +1,7 @@
 //! Lookups in an edition of 65,535 entries: no more rows are read than are due, and each when it is due.
 
 use crate::checks::holds;
-use crate::shown::{Counted, found, taken_between};
+use crate::taken::{Counted, found, taken_between};
 use dict_catalogue::Command;
 use dict_desk::{Fault, Keeper};
 use dict_examples::GEM_TEXT;

@@ -1,17 +1,7 @@
 //! Files that stock `sqlite3` wrote are opened, those of schemas 1 to 3 by making the tables of schema 4: they have the same catalogue.
-use crate::asked::{Asked, Source};
 use crate::steps::{Row, Step, over_memory};
-use crate::stored::{CAPITALS, KEYED, PLAIN, SHARED, SHOWN};
+use dict_store_fixtures::{Asked, CAPITALS, SHOWN, Source, older_files};
 use std::test::Fail;
-
-/// The mark and the entries of a file of schemas 1, 2 or 3.
-pub(crate) type Older = [&'static str; 3];
-
-pub(crate) static OLDER: [Older; 3] = [
-    [SHARED, "INSERT INTO mark VALUES(1,'dictcat',1,2)", PLAIN],
-    [SHARED, "INSERT INTO mark VALUES(1,'dictcat',2,2)", KEYED],
-    [SHARED, "INSERT INTO mark VALUES(1,'dictcat',3,2)", KEYED],
-];
 
 const LISTED: &str = "ore Ores 1; gem Gems 2; all All +ore +gem; ";
 
@@ -155,7 +145,7 @@ static KNOWN: [Step; 3] = [Step::Batch(SHOWN), Step::Made(GEMS_TWICE), Step::Kee
 
 #[test]
 fn files_of_others(rt: HostRuntime) -> Result<(), Fail> {
-    for (texts, changed) in OLDER.iter().zip(CHANGED.iter()) {
+    for (texts, changed) in older_files().iter().zip(CHANGED.iter()) {
         let steps = [
             Step::Batch(OTHERS),
             Step::Batch(texts[0]),

@@ -1,9 +1,8 @@
 //! Databases in which no store is made, and files that aren't opened: nothing of them changes.
-use crate::asked::Asked;
 use crate::commands::CATALOGUE;
 use crate::steps::{Row, Step, over_memory};
-use crate::stored::{PLAIN, SHARED};
 use dict_desk::Fault;
+use dict_store_fixtures::{Asked, PLAIN, SHARED};
 use std::alloc::Global;
 use std::process::Abort;
 use std::test::Fail;

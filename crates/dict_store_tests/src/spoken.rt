@@ -2,7 +2,7 @@
 use crate::checks::{holds, same_text};
 use dict_desk::{Fault, Lookup};
 use dict_io::{LimitedSink, OverRead};
-use dict_session::{End, Session, Step};
+use dict_session::{Session, SessionEnd, Step};
 use dict_store::session_over;
 use sqlite::{Alter, Connection};
 use std::alloc::{AllocError, Global};
@@ -23,8 +23,8 @@ fn spoken<S: Alter + Drop>(
     }
     let mut reader = OverRead::new(input.as_bytes());
     match session_over(alloc, conn, &mut reader, writer, "dict.example.org", 7) {
-        Ok((desk, Ok(End::Quit))) => (desk.into_connection(), "quit"),
-        Ok((desk, Ok(End::InputEnd))) => (desk.into_connection(), "input end"),
+        Ok((desk, Ok(SessionEnd::Quit))) => (desk.into_connection(), "quit"),
+        Ok((desk, Ok(SessionEnd::InputEnd))) => (desk.into_connection(), "input end"),
         Ok((desk, Err(_))) => (desk.into_connection(), "a failure"),
         Err((conn, Fault::NotACatalogue)) => (conn, "no catalogue"),
         Err((conn, _)) => (conn, "another fault"),

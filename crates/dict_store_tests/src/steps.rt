@@ -1,12 +1,14 @@
 //! What is done in one database, step after step, and over lists beside it: both answer and show the same.
 
-use crate::asked::{Asked, Editions, read_editions, told};
 use crate::checks::{holds, same_text};
-use crate::desks::{batched, desk_over, dumped, has_numbers};
-use crate::shown::{Counted, listed, shown};
+use crate::tables::{dumped, has_numbers};
+use crate::taken::Counted;
 use crate::{full, looking, many, spoken};
 use dict_desk::{Fault, Keeper, PlainDesk};
 use dict_store::Desk;
+use dict_store_fixtures::{
+    Asked, Editions, batched, desk_over, listed, read_editions, shown, told,
+};
 use sqlite::{Alter, Connection};
 use std::alloc::Global;
 use std::process::Abort;

@@ -14,7 +14,7 @@ ghost use Rattle.dict_tables.specs.Behind.{without_trees, LeavesRoomBehind};
 
 use crate::keyed::{KeyIndex, KeyedTable};
 use crate::keyed_room::own_index;
-use crate::names::{is_name_used, waits_for_counter};
+use crate::names::{is_name_used, lacks_counting_table};
 use crate::room::{is_name_referred, refers_to};
 use sqlite_schema::names::same_name;
 use sqlite_schema::schema::{Index, Schema, Table, View};
@@ -143,5 +143,5 @@ pub fn leaves_room_behind(schema: &Schema, gone: &[u32]) -> bool
         && has_room_for_behind(schema, gone, KeyedTable::Gram)
         && is_index_free_behind(schema, gone, KeyIndex::Key)
         && is_index_free_behind(schema, gone, KeyIndex::Reversed)
-        && !waits_for_counter(schema)
+        && !lacks_counting_table(schema)
 }

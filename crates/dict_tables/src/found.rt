@@ -47,7 +47,7 @@ fn is_key(places: &Items<usize>, key: &[usize]) -> bool
 }
 
 /// Whether the only UNIQUE key, the primary one among them, has these places of columns.
-pub fn is_one_key(keys: &[Items<usize>], key: &[usize]) -> bool
+pub fn is_only_key(keys: &[Items<usize>], key: &[usize]) -> bool
     ensures { IsTrue result ↔ keys.now ≡ key.now ∷ [] }
 {
     match keys {
@@ -66,7 +66,7 @@ fn are_two_keys(keys: &[Items<usize>], first: &[usize], second: &[usize]) -> boo
 }
 
 /// Whether there is one key, and it is in the plain order.
-pub fn is_one_plain(orders: &[Order]) -> bool
+pub fn is_only_plain_order(orders: &[Order]) -> bool
     ensures { IsTrue result ↔ orders.now ≡ plain ∷ [] }
 {
     match orders {
@@ -148,8 +148,8 @@ fn are_item_keys(t: &Table) -> bool
 {
     t.key == Some(0)
         && t.primary.as_slice() == [0].as_slice()
-        && is_one_key(t.uniques.as_slice(), &[2])
-        && is_one_plain(t.orders.as_slice())
+        && is_only_key(t.uniques.as_slice(), &[2])
+        && is_only_plain_order(t.orders.as_slice())
 }
 
 fn is_item(t: &Table) -> bool
@@ -245,8 +245,8 @@ fn are_entry_keys(t: &Table) -> bool
 {
     t.key.is_none()
         && t.primary.as_slice() == [1, 2].as_slice()
-        && is_one_key(t.uniques.as_slice(), &[1, 2])
-        && is_one_plain(t.orders.as_slice())
+        && is_only_key(t.uniques.as_slice(), &[1, 2])
+        && is_only_plain_order(t.orders.as_slice())
 }
 
 fn is_entry(t: &Table) -> bool
@@ -353,7 +353,7 @@ fn has_further_key(schema: &Schema, table: &Table) -> bool
 }
 
 /// Whether the table shares its tree with none, no foreign key leads into it, and it has no further unique index.
-pub fn is_alone(schema: &Schema, table: &Table) -> bool
+pub fn is_unshared(schema: &Schema, table: &Table) -> bool
     ensures { IsTrue result ↔ IsAlone schema.now table.now }
 {
     table.tree < 2_147_483_648
@@ -381,7 +381,7 @@ pub fn has_table(schema: &Schema, table: StoreTable) -> bool
     ensures { IsTrue result ↔ HasOwn schema.now (table_of table) }
 {
     match find_table(schema, table.name().as_bytes()) {
-        Some(found) => is_defined_as(found, table) && is_alone(schema, found),
+        Some(found) => is_defined_as(found, table) && is_unshared(schema, found),
         None => false,
     }
 }

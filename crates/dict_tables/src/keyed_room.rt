@@ -7,7 +7,7 @@ ghost use Rattle.dict_tables.specs.Room.{LeavesRoom, HasKeyedRoom};
 ghost use Rattle.dict_tables.specs.Keyed.{table_of};
 
 use crate::keyed::{KeyIndex, KeyedTable};
-use crate::names::{is_name_used, waits_for_counter};
+use crate::names::{is_name_used, lacks_counting_table};
 use crate::room::is_name_referred;
 use sqlite_schema::schema::Schema;
 
@@ -41,5 +41,5 @@ pub fn has_keyed_room(schema: &Schema) -> bool
         && has_room_for(schema, KeyedTable::Gram)
         && !is_name_used(schema, KeyIndex::Key.name().as_bytes())
         && !is_name_used(schema, KeyIndex::Reversed.name().as_bytes())
-        && !waits_for_counter(schema)
+        && !lacks_counting_table(schema)
 }

@@ -90,7 +90,7 @@ fn has_counter(schema: &Schema) -> bool
 }
 
 /// Whether a table with AUTOINCREMENT waits for the table that counts for it, so that the next CREATE TABLE makes that too.
-pub fn waits_for_counter(schema: &Schema) -> bool
+pub fn lacks_counting_table(schema: &Schema) -> bool
     ensures { result ≡ lacks_sequence schema.now }
 {
     has_counted_table(schema) && !has_counter(schema)

@@ -6,7 +6,7 @@ ghost use Rattle.sqlite_schema.specs.Names.{same_name};
 ghost use Rattle.sqlite_schema.specs.declared.schema.Reference.{Reference};
 ghost use Rattle.dict_tables.specs.Room.{is_referred, refers_to_own, uses_index_name, HasRoom};
 
-use crate::names::{is_name_used, is_table_name_used, waits_for_counter};
+use crate::names::{is_name_used, is_table_name_used, lacks_counting_table};
 use sqlite_schema::names::same_name;
 use sqlite_schema::schema::{Schema, Table};
 
@@ -61,5 +61,5 @@ pub fn has_room(schema: &Schema) -> bool
     !is_table_name_used(schema)
         && !is_own_name_referred(schema)
         && !is_own_index_name_used(schema)
-        && !waits_for_counter(schema)
+        && !lacks_counting_table(schema)
 }

@@ -4,7 +4,7 @@ use crate::checks::{holds, same_text};
 use dict_keyed_sql::{has_key_index, has_keyed_table, has_old_entry};
 use dict_tables::{
     KeyIndex, KeyedTable, StoreTable, has_room, has_table, is_name_used, is_own_index_name_used,
-    is_own_name_referred, is_own_name_used, waits_for_counter,
+    is_own_name_referred, is_own_name_used, lacks_counting_table,
 };
 use sqlite::{Alter, Connection, Error};
 use sqlite_schema::schema::Schema;
@@ -379,13 +379,13 @@ fn found_beside(schema: &mut Schema) -> Result<[bool; 2], AllocError> {
 // Whether the counter's name is in use and whether the schema waits for it, and both once the counter is gone.
 fn seen_counter(schema: &mut Schema) -> [bool; 4] {
     let is_used = is_name_used(schema, b"sqlite_sequence");
-    let waits = waits_for_counter(schema);
+    let waits = lacks_counting_table(schema);
     drop(schema.tables.pop());
     [
         is_used,
         waits,
         is_name_used(schema, b"sqlite_sequence"),
-        waits_for_counter(schema),
+        lacks_counting_table(schema),
     ]
 }
 
@@ -394,7 +394,7 @@ fn answer(schema: &mut Schema, asked: Asked) -> Result<bool, Error> {
         Asked::OwnName => is_own_name_used(schema),
         Asked::OwnNameReferred => is_own_name_referred(schema),
         Asked::OwnIndexName => is_own_index_name_used(schema),
-        Asked::Waiting => waits_for_counter(schema),
+        Asked::Waiting => lacks_counting_table(schema),
         Asked::Room => has_room(schema),
         Asked::Name(name) => is_name_used(schema, name.as_bytes()),
         Asked::TreeShared => found_beside(schema)? == [true, false],

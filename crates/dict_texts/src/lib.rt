@@ -5,4 +5,4 @@
 mod tests;
 mod texts;
 
-pub use texts::{MOST_OCTETS, MOST_TEXTS, Texts};
+pub use texts::{MAX_OCTETS, MAX_TEXTS, Texts};

@@ -1,4 +1,4 @@
-use crate::texts::{MOST_TEXTS, Texts};
+use crate::texts::{MAX_TEXTS, Texts};
 use std::alloc::Global;
 use std::process::Abort;
 use std::test::Fail;
@@ -47,7 +47,7 @@ fn a_text_is_kept_under_its_number(rt: HostRuntime) -> Result<(), Fail> {
 fn one_text_more_takes_the_place_of_the_last(rt: HostRuntime) -> Result<(), Fail> {
     let alloc = rt.alloc();
     let mut texts = Texts::new(alloc);
-    for number in 0..MOST_TEXTS as u64 {
+    for number in 0..MAX_TEXTS as u64 {
         texts.put(number, text(alloc, b"o")?)?;
     }
     same(&rt, &mut texts, 0, Some(b"o"))?;
@@ -55,6 +55,6 @@ fn one_text_more_takes_the_place_of_the_last(rt: HostRuntime) -> Result<(), Fail
     same(&rt, &mut texts, 1, None)?;
     same(&rt, &mut texts, 0, Some(b"o"))?;
     same(&rt, &mut texts, 2, Some(b"o"))?;
-    assert_eq!(rt; texts.octets, MOST_TEXTS + 1);
+    assert_eq!(rt; texts.octets, MAX_TEXTS + 1);
     Ok(())
 }

@@ -10,10 +10,10 @@ use std::marker::Model;
 use std::num::NonZeroUsize;
 
 /// How many octets the texts that are kept have at most, all together.
-pub const MOST_OCTETS: usize = 1_073_741_824;
+pub const MAX_OCTETS: usize = 1_073_741_824;
 
 /// How many texts are kept at most: as many as a catalogue has editions, of 64 databases a current and a former one.
-pub const MOST_TEXTS: usize = 128;
+pub const MAX_TEXTS: usize = 128;
 
 /// Texts by the numbers of their editions, those that were used last first. No memory is taken before the first is put.
 #[derive(Drop)]
@@ -38,7 +38,7 @@ impl Model for Texts {
 fn cache(alloc: Global) -> Result<LruCache<u64, Vec<u8>>, AllocError>
     ensures { IfOk result (λ kept. kept ≡ lru_cache [] most_texts) }
 {
-    let Some(most) = NonZeroUsize::new(MOST_TEXTS) else {
+    let Some(most) = NonZeroUsize::new(MAX_TEXTS) else {
         return Err(AllocError);
     };
     LruCache::sparse(alloc, most)
@@ -141,7 +141,7 @@ impl Texts {
     }
 
     /// Keeps a text under a number, first, in place of the one that was kept under it. Those that were used least recently go
-    /// until there are `MOST_TEXTS` at most, and all together have no more octets than `MOST_OCTETS`. A text that is longer
+    /// until there are `MAX_TEXTS` at most, and all together have no more octets than `MAX_OCTETS`. A text that is longer
     /// than that isn't kept.
     ///
     /// The error is that a growth was refused: the text isn't kept, and all is as it was.
@@ -149,7 +149,7 @@ impl Texts {
         ensures put { OnOk result (self.new ≡ with_text number text.items self.old) }
         ensures refused { OnErr result (self.new ≡ self.old) }
     {
-        if text.len() > MOST_OCTETS {
+        if text.len() > MAX_OCTETS {
             return Ok(());
         }
         make(self.alloc, &mut self.kept)?;
@@ -157,7 +157,7 @@ impl Texts {
             return Ok(());
         };
         put_new(kept, &mut self.octets, number, text)?;
-        let_go(kept, &mut self.octets, MOST_OCTETS);
+        let_go(kept, &mut self.octets, MAX_OCTETS);
         Ok(())
     }
 

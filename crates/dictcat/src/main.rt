@@ -1,9 +1,9 @@
 //! dictcat on the command line. The tests of its commands stand in `dictcat_tests`.
 #![tactic(auto)]
 
+use dict_actions::OverFiles;
 use dict_desk::PlainDesk;
 use dict_io::{OverRead, OverWrite};
-use dict_tasks::OverFiles;
 use dictcat_lib::{CatalogueFiles, command, refuse_words};
 use std::process::ExitCode;
 use std::rt::Env;

@@ -3,18 +3,18 @@ use Rattle.std.proofs.Common.{◌≡◌, ℕ, ◌≤◌, List, Option, Ok, Err, 
 use Rattle.std.specs.Prelude.{◌⊎◌}
 use Rattle.dict_desk.specs.Plain.{PlainState}
 use Rattle.dict_desk.specs.declared.lookup.Lookup as lookup
-use Rattle.dict_io.specs.Streams.{Change}
-use Rattle.dict_serving.specs.declared.desks.Desks as desks
-use Rattle.dict_words.specs.Asked.{Asks}
+use Rattle.dict_io.specs.Streams.{StreamChange}
+use Rattle.dict_serving.specs.declared.desks.DeskOpener as desks
+use Rattle.dict_arguments.specs.Asked.{Asks}
 use Rattle.dict_session.specs.Desks.{Stays as DeskStays}
-use Rattle.dict_words.specs.declared.task.Change.{Change as AskedChange}
-use Rattle.dict_words.specs.declared.task.Change.TheVariants as changes
-use Rattle.dict_words.specs.declared.task.Task.{Task}
-use Rattle.dict_words.specs.declared.task.Task.TheVariants.{Plain, Create, List as Lists, Audit, Session as SpeaksOver, Change as Changes, Serve as Serves}
-use Rattle.dict_printed.specs.Faults.{status_of}
-use Rattle.dict_printed.specs.declared.fault.Fault.{Fault}
-use Rattle.dict_printed.specs.declared.fault.Fault.TheVariants.{Line, Edition, Refused, Store, CannotRead, SessionEnded, CannotWrite, CannotBind, CannotWait, Memory}
-use Rattle.dict_printed.specs.Writing.{IsUntouched}
+use Rattle.dict_arguments.specs.declared.task.ItemChange.{ItemChange as AskedChange}
+use Rattle.dict_arguments.specs.declared.task.ItemChange.TheVariants as changes
+use Rattle.dict_arguments.specs.declared.task.Task.{Task}
+use Rattle.dict_arguments.specs.declared.task.Task.TheVariants.{Plain, Create, List as Lists, Audit, Session as SpeaksOver, Change as Changes, Serve as Serves}
+use Rattle.dict_messages.specs.Faults.{status_of}
+use Rattle.dict_messages.specs.declared.fault.ProgramFault.{ProgramFault}
+use Rattle.dict_messages.specs.declared.fault.ProgramFault.TheVariants.{Line, Edition, Refused, Store, CannotRead, SessionEnded, CannotWrite, CannotBind, CannotWait, Memory}
+use Rattle.dict_messages.specs.Writing.{IsUntouched}
 use Rattle.dictcat_lib.specs.Catalogues.{IsSpared}
 use Rattle.dictcat_lib.specs.Working.{EndsOn, SessionEnds}
 use Rattle.dictcat_lib.proofs.ServingLemmas.{memory_by_status}
@@ -22,7 +22,7 @@ use Rattle.dictcat_lib.proofs.WritingLemmas.{list_spoils, audit_spoils, task_spo
 use Rattle.dictcat_lib.specs.declared.catalogues.Catalogues as catalogues
 use Rattle.dictcat_lib.specs.Program.{ChangeTaskEnds, CommandEnds, IsCutOff, IsDone, IsExhausted, IsFailed, IsUnchanged, Shows, TaskEnds}
 
-status_at_most_4 : (fault : Fault) → status_of fault ≤ 4
+status_at_most_4 : (fault : ProgramFault) → status_of fault ≤ 4
 status_at_most_4 (Line refusal line) = omega arith
 status_at_most_4 (Edition refusal) = omega arith
 status_at_most_4 (Refused refusal) = omega arith
@@ -35,7 +35,7 @@ status_at_most_4 CannotWait = omega arith
 status_at_most_4 Memory = omega arith
 
 -- no fault has status 0 or 2
-never_0 : (fault : Fault) → 0 ≡ status_of fault → ⊥
+never_0 : (fault : ProgramFault) → 0 ≡ status_of fault → ⊥
 never_0 (Line refusal line) e = omega (arith, e)
 never_0 (Edition refusal) e = omega (arith, e)
 never_0 (Refused refusal) e = omega (arith, e)
@@ -47,7 +47,7 @@ never_0 (CannotBind address) e = omega (arith, e)
 never_0 CannotWait e = omega (arith, e)
 never_0 Memory e = omega (arith, e)
 
-never_2 : (fault : Fault) → 2 ≡ status_of fault → ⊥
+never_2 : (fault : ProgramFault) → 2 ≡ status_of fault → ⊥
 never_2 (Line refusal line) e = omega (arith, e)
 never_2 (Edition refusal) e = omega (arith, e)
 never_2 (Refused refusal) e = omega (arith, e)
@@ -60,7 +60,7 @@ never_2 CannotWait e = omega (arith, e)
 never_2 Memory e = omega (arith, e)
 
 -- no text that is shown is refused
-never_refused : (fault : Fault) (writer : Change) → Shows (Err fault) writer → 1 ≡ status_of fault → ⊥
+never_refused : (fault : ProgramFault) (writer : StreamChange) → Shows (Err fault) writer → 1 ≡ status_of fault → ⊥
 never_refused (Line refusal line) writer h e = h
 never_refused (Edition refusal) writer h e = h
 never_refused (Refused refusal) writer h e = h
@@ -73,7 +73,7 @@ never_refused CannotWait writer h e = h
 never_refused Memory writer h e = omega (arith, e)
 
 -- memory ran out before a text was shown
-shown_memory : (fault : Fault) (reader writer : Change) → IsUntouched reader → Shows (Err fault) writer → 4 ≡ status_of fault → IsUntouched reader × IsUntouched writer
+shown_memory : (fault : ProgramFault) (reader writer : StreamChange) → IsUntouched reader → Shows (Err fault) writer → 4 ≡ status_of fault → IsUntouched reader × IsUntouched writer
 shown_memory (Line refusal line) reader writer r h e = absurd h
 shown_memory (Edition refusal) reader writer r h e = absurd h
 shown_memory (Refused refusal) reader writer r h e = absurd h
@@ -86,7 +86,7 @@ shown_memory CannotWait reader writer r h e = absurd h
 shown_memory Memory reader writer r h e = (r, h)
 
 -- a session over a file that didn't end by its reader, its writer or its desk touched nothing
-spared_other : (fault : Fault) (reader writer : Change) → IsSpared (Err fault) reader writer → (3 ≡ status_of fault → ⊥) → IsUntouched reader × IsUntouched writer
+spared_other : (fault : ProgramFault) (reader writer : StreamChange) → IsSpared (Err fault) reader writer → (3 ≡ status_of fault → ⊥) → IsUntouched reader × IsUntouched writer
 spared_other (Line refusal line) reader writer h other = h
 spared_other (Edition refusal) reader writer h other = h
 spared_other (Refused refusal) reader writer h other = h
@@ -100,14 +100,14 @@ spared_other Memory reader writer h other = h
 
 module _ {K D : Type 0} (k : lookup.Ghosts K) (d : desks.Ghosts D K) (c : catalogues.Ghosts D K) (plain : PlainState) (old new : D) where
   -- a status is at most 4
-  pub statuses : (files : List ℕ → Option (List ℕ)) (words : List (List ℕ)) (status : ℕ) (reader writer faults : Change)
+  pub statuses : (files : List ℕ → Option (List ℕ)) (words : List (List ℕ)) (status : ℕ) (reader writer faults : StreamChange)
       → CommandEnds k d c files plain old new words status reader writer faults → status ≤ 4
   statuses files words status reader writer faults (inl (Ok end, h, closes)) = omega (arith, closes.0)
   statuses files words status reader writer faults (inl (Err fault, h, closes)) = omega (arith, closes.0, status_at_most_4 fault)
   statuses files words status reader writer faults (inr (h, same)) = omega (arith, h.0)
 
   -- with 0 it was done
-  pub done : (files : List ℕ → Option (List ℕ)) (words : List (List ℕ)) (reader writer faults : Change)
+  pub done : (files : List ℕ → Option (List ℕ)) (words : List (List ℕ)) (reader writer faults : StreamChange)
       → CommandEnds k d c files plain old new words 0 reader writer faults → IsDone k d c files plain old new words reader writer × IsUntouched faults
   done files words reader writer faults (inl (Ok end, inl task, closes)) = (inl task, closes.1)
   done files words reader writer faults (inl (Ok end, inr (inl (asks, r, (text, put)), same), closes)) = (inr (asks, r, (text, put), same), closes.1)
@@ -116,7 +116,7 @@ module _ {K D : Type 0} (k : lookup.Ghosts K) (d : desks.Ghosts D K) (c : catalo
   done files words reader writer faults (inr (h, same)) = absurd (omega (arith, h.0))
 
   -- a refused task touches nothing
-  task_refused : (files : List ℕ → Option (List ℕ)) (task : Task) (fault : Fault) (reader writer : Change)
+  task_refused : (files : List ℕ → Option (List ℕ)) (task : Task) (fault : ProgramFault) (reader writer : StreamChange)
       → TaskEnds k d c files plain old new task (Err fault) reader writer → 1 ≡ status_of fault → IsUntouched reader × IsUntouched writer
   unfolding Rattle.dictcat_lib.specs.Plain.FilesEnd
   task_refused files (Plain name index text) (Line refusal line) reader writer (inl h, same) e = (h.4.1, h.4.2)
@@ -140,7 +140,7 @@ module _ {K D : Type 0} (k : lookup.Ghosts K) (d : desks.Ghosts D K) (c : catalo
   task_refused files (SpeaksOver file) fault reader writer h e = spared_other fault reader writer h.1 (λ f. omega (arith, e, f))
 
   -- with 1 or 2 nothing was touched
-  pub refused : (files : List ℕ → Option (List ℕ)) (words : List (List ℕ)) (reader writer faults : Change)
+  pub refused : (files : List ℕ → Option (List ℕ)) (words : List (List ℕ)) (reader writer faults : StreamChange)
       → CommandEnds k d c files plain old new words 1 reader writer faults → IsUntouched reader × IsUntouched writer
   refused files words reader writer faults (inl (Ok end, h, closes)) = absurd (omega (arith, closes.0))
   refused files words reader writer faults (inl (Err fault, inl (task, asks, ends), closes)) = task_refused files task fault reader writer ends closes.0
@@ -148,14 +148,14 @@ module _ {K D : Type 0} (k : lookup.Ghosts K) (d : desks.Ghosts D K) (c : catalo
   refused files words reader writer faults (inl (Err fault, inr (inr memory, same), closes)) = (memory.1, memory.2)
   refused files words reader writer faults (inr (h, same)) = (h.2, h.3)
 
-  pub misread : (files : List ℕ → Option (List ℕ)) (words : List (List ℕ)) (reader writer faults : Change)
+  pub misread : (files : List ℕ → Option (List ℕ)) (words : List (List ℕ)) (reader writer faults : StreamChange)
       → CommandEnds k d c files plain old new words 2 reader writer faults → IsUntouched reader × IsUntouched writer
   misread files words reader writer faults (inl (Ok end, h, closes)) = absurd (omega (arith, closes.0))
   misread files words reader writer faults (inl (Err fault, h, closes)) = absurd (never_2 fault closes.0)
   misread files words reader writer faults (inr (h, same)) = (h.2, h.3)
 
   -- a session over a file that was told as broken
-  spoken_failed : (words : List (List ℕ)) (file : _) (fault : Fault) (reader writer : Change) → Asks words (SpeaksOver file) → SessionEnds k d c file.now old new (Err fault) reader writer → IsFailed k d c plain old new words reader writer
+  spoken_failed : (words : List (List ℕ)) (file : _) (fault : ProgramFault) (reader writer : StreamChange) → Asks words (SpeaksOver file) → SessionEnds k d c file.now old new (Err fault) reader writer → IsFailed k d c plain old new words reader writer
   spoken_failed words file (Line refusal line) reader writer asks h = inl h.1
   spoken_failed words file (Edition refusal) reader writer asks h = inl h.1
   spoken_failed words file (Refused refusal) reader writer asks h = inl h.1
@@ -168,7 +168,7 @@ module _ {K D : Type 0} (k : lookup.Ghosts K) (d : desks.Ghosts D K) (c : catalo
   spoken_failed words file Memory reader writer asks h = inl h.1
 
   -- a task that failed
-  task_failed : (files : List ℕ → Option (List ℕ)) (words : List (List ℕ)) (task : Task) (fault : Fault) (reader writer : Change)
+  task_failed : (files : List ℕ → Option (List ℕ)) (words : List (List ℕ)) (task : Task) (fault : ProgramFault) (reader writer : StreamChange)
       → Asks words task → TaskEnds k d c files plain old new task (Err fault) reader writer → 3 ≡ status_of fault → IsFailed k d c plain old new words reader writer
   unfolding Rattle.dictcat_lib.specs.Plain.FilesEnd
   task_failed files words (Plain name index text) (Line refusal line) reader writer asks h e = absurd (omega (arith, e))
@@ -196,7 +196,7 @@ module _ {K D : Type 0} (k : lookup.Ghosts K) (d : desks.Ghosts D K) (c : catalo
   task_failed files words (SpeaksOver file) fault reader writer asks h e = spoken_failed words file fault reader writer asks h
 
   -- a text that was not shown
-  shown_failed : (words : List (List ℕ)) (fault : Fault) (reader writer : Change) → IsUntouched reader → Shows (Err fault) writer → 3 ≡ status_of fault
+  shown_failed : (words : List (List ℕ)) (fault : ProgramFault) (reader writer : StreamChange) → IsUntouched reader → Shows (Err fault) writer → 3 ≡ status_of fault
       → IsFailed k d c plain old new words reader writer
   shown_failed words (Line refusal line) reader writer r h e = absurd h
   shown_failed words (Edition refusal) reader writer r h e = absurd h
@@ -210,7 +210,7 @@ module _ {K D : Type 0} (k : lookup.Ghosts K) (d : desks.Ghosts D K) (c : catalo
   shown_failed words Memory reader writer r h e = absurd (omega (arith, e))
 
   -- with 3 a file, an output or a session failed
-  pub failed : (files : List ℕ → Option (List ℕ)) (words : List (List ℕ)) (reader writer faults : Change)
+  pub failed : (files : List ℕ → Option (List ℕ)) (words : List (List ℕ)) (reader writer faults : StreamChange)
       → CommandEnds k d c files plain old new words 3 reader writer faults → IsFailed k d c plain old new words reader writer
   failed files words reader writer faults (inl (Ok end, h, closes)) = absurd (omega (arith, closes.0))
   failed files words reader writer faults (inl (Err fault, inl (task, asks, ends), closes)) =
@@ -220,7 +220,7 @@ module _ {K D : Type 0} (k : lookup.Ghosts K) (d : desks.Ghosts D K) (c : catalo
   failed files words reader writer faults (inr (h, same)) = absurd (omega (arith, h.0))
 
   -- memory ran out in a task
-  task_memory : (files : List ℕ → Option (List ℕ)) (words : List (List ℕ)) (task : Task) (fault : Fault) (reader writer : Change)
+  task_memory : (files : List ℕ → Option (List ℕ)) (words : List (List ℕ)) (task : Task) (fault : ProgramFault) (reader writer : StreamChange)
       → Asks words task → TaskEnds k d c files plain old new task (Err fault) reader writer → 4 ≡ status_of fault
       → (IsUntouched reader × IsUntouched writer) ⊎ IsCutOff k d c old new words Memory reader writer
   unfolding Rattle.dictcat_lib.specs.Plain.FilesEnd
@@ -246,7 +246,7 @@ module _ {K D : Type 0} (k : lookup.Ghosts K) (d : desks.Ghosts D K) (c : catalo
   task_memory files words (SpeaksOver file) fault reader writer asks h e = inl (spared_other fault reader writer h.1 (λ f. omega (arith, e, f)))
 
   -- a change for which memory ran out was not made
-  change_unchanged : (files : List ℕ → Option (List ℕ)) (path name id : List ℕ) (what : AskedChange) (writer : Change) → ChangeTaskEnds k d files old new path name id what (Err Memory) writer
+  change_unchanged : (files : List ℕ → Option (List ℕ)) (path name id : List ℕ) (what : AskedChange) (writer : StreamChange) → ChangeTaskEnds k d files old new path name id what (Err Memory) writer
       → EndsOn k d path (λ desk left closed. DeskStays k.shows k.leaves_one_of k.is_trusted k.is_closed desk left) old new (Err Memory) writer
   change_unchanged files path name id (changes.Install index text) writer (inl h) = inl h
   change_unchanged files path name id (changes.Install index text) writer (inr (desk, left, closed, is, does, shut, (made, spared))) = inr (desk, left, closed, is, does, shut, spared refl)
@@ -259,7 +259,7 @@ module _ {K D : Type 0} (k : lookup.Ghosts K) (d : desks.Ghosts D K) (c : catalo
   change_unchanged files path name id (changes.Place at) writer (inl h) = inl h
   change_unchanged files path name id (changes.Place at) writer (inr (desk, left, closed, is, does, shut, (made, spared))) = inr (desk, left, closed, is, does, shut, spared refl)
 
-  task_unchanged : (files : List ℕ → Option (List ℕ)) (task : Task) (reader writer : Change) → TaskEnds k d c files plain old new task (Err Memory) reader writer → IsUnchanged k d c old new task writer
+  task_unchanged : (files : List ℕ → Option (List ℕ)) (task : Task) (reader writer : StreamChange) → TaskEnds k d c files plain old new task (Err Memory) reader writer → IsUnchanged k d c old new task writer
   task_unchanged files (Plain name index text) reader writer h = tt
   task_unchanged files (Create file) reader writer h = tt
   task_unchanged files (Lists file) reader writer h = tt
@@ -268,7 +268,7 @@ module _ {K D : Type 0} (k : lookup.Ghosts K) (d : desks.Ghosts D K) (c : catalo
   task_unchanged files (Serves file dict http rounds) reader writer h = tt
   task_unchanged files (SpeaksOver file) reader writer h = tt
 
-  task_exhausted : (files : List ℕ → Option (List ℕ)) (words : List (List ℕ)) (task : Task) (fault : Fault) (reader writer : Change)
+  task_exhausted : (files : List ℕ → Option (List ℕ)) (words : List (List ℕ)) (task : Task) (fault : ProgramFault) (reader writer : StreamChange)
       → Asks words task → TaskEnds k d c files plain old new task (Err fault) reader writer → 4 ≡ status_of fault → IsExhausted k d c old new words reader writer
   task_exhausted files words task fault reader writer asks ends e = elim (task_memory files words task fault reader writer asks ends e) [
     | inl untouched ↦ inl (
@@ -278,14 +278,14 @@ module _ {K D : Type 0} (k : lookup.Ghosts K) (d : desks.Ghosts D K) (c : catalo
         task,
         asks,
         task_unchanged files task reader writer
-            (subst (λ (f : Fault). TaskEnds k d c files plain old new task (Err f) reader writer) (memory_by_status fault e) ends),
+            (subst (λ (f : ProgramFault). TaskEnds k d c files plain old new task (Err f) reader writer) (memory_by_status fault e) ends),
       ),
     )
     | inr cut ↦ inr cut
   ]
 
   -- with 4 nothing was touched and no change made, or memory ran out in a server
-  pub memory : (files : List ℕ → Option (List ℕ)) (words : List (List ℕ)) (reader writer faults : Change)
+  pub memory : (files : List ℕ → Option (List ℕ)) (words : List (List ℕ)) (reader writer faults : StreamChange)
       → CommandEnds k d c files plain old new words 4 reader writer faults → IsExhausted k d c old new words reader writer
   memory files words reader writer faults (inl (Ok end, h, closes)) = absurd (omega (arith, closes.0))
   memory files words reader writer faults (inl (Err fault, inl (task, asks, ends), closes)) =

@@ -5,17 +5,17 @@ use Rattle.sqlite.specs.State.{HasCleanDisk, Survives}
 use Rattle.sqlite.specs.Held.{state}
 use Rattle.sqlite_trees.specs.declared.store.Store.{Ghosts}
 use Rattle.dict_catalogue.specs.Steps.{Catalogue}
-use Rattle.dict_printed.specs.Writing.{IsUntouched}
-use Rattle.dict_printed.specs.declared.fault.Fault.{Fault}
-use Rattle.dict_printed.specs.declared.fault.Fault.TheVariants.{Line, Edition, Refused, Store, CannotRead, SessionEnded, CannotWrite, CannotBind, CannotWait}
-use Rattle.dict_printed.specs.declared.fault.Fault.TheVariants as told
-use Rattle.dict_io.specs.Streams.{Change}
+use Rattle.dict_messages.specs.Writing.{IsUntouched}
+use Rattle.dict_messages.specs.declared.fault.ProgramFault.{ProgramFault}
+use Rattle.dict_messages.specs.declared.fault.ProgramFault.TheVariants.{Line, Edition, Refused, Store, CannotRead, SessionEnded, CannotWrite, CannotBind, CannotWait}
+use Rattle.dict_messages.specs.declared.fault.ProgramFault.TheVariants as told
+use Rattle.dict_io.specs.Streams.{StreamChange}
 use Rattle.dictcat_lib.specs.Catalogues.{IsSpared, Stays}
-use Rattle.dictcat_lib.specs.Desks.{IsTrusted}
+use Rattle.dictcat_lib.specs.DeskOpener.{IsTrusted}
 use Rattle.dict_store.specs.Desk.{DeskState, LeavesOneOf, Shows}
 
 -- where nothing was read or written, whatever was told
-pub spared_all : (result : Result (Unit {0}) Fault) (reader writer : Change) → IsUntouched reader → IsUntouched writer → IsSpared result reader writer
+pub spared_all : (result : Result (Unit {0}) ProgramFault) (reader writer : StreamChange) → IsUntouched reader → IsUntouched writer → IsSpared result reader writer
 spared_all (Ok done) reader writer r w = tt
 spared_all (Err (Line refusal line)) reader writer r w = (r, w)
 spared_all (Err (Edition refusal)) reader writer r w = (r, w)

@@ -7,14 +7,14 @@ use Rattle.dict_desk.specs.declared.fault.Fault.{Fault as DeskFault}
 use Rattle.dict_desk.specs.declared.fault.Fault.TheVariants as desk
 use Rattle.dict_driver.specs.declared.driver.Driver.{Driver}
 use Rattle.dict_opening.specs.Reading.{IsOfOpening}
-use Rattle.dict_printed.specs.Faults.{status_of, told_of}
-use Rattle.dict_printed.specs.declared.fault.Fault.{Fault}
-use Rattle.dict_printed.specs.declared.fault.Fault.TheVariants.{Line, Edition, Refused, Store, CannotRead, SessionEnded, CannotWrite, CannotBind, CannotWait, Memory}
+use Rattle.dict_messages.specs.Faults.{status_of, told_of}
+use Rattle.dict_messages.specs.declared.fault.ProgramFault.{ProgramFault}
+use Rattle.dict_messages.specs.declared.fault.ProgramFault.TheVariants.{Line, Edition, Refused, Store, CannotRead, SessionEnded, CannotWrite, CannotBind, CannotWait, Memory}
 use Rattle.dict_serving.specs.Listening.{TellsKind}
 use Rattle.dict_serving.specs.Serving.{Ends, HasGivenOut, IsOfFile, Stretch}
-use Rattle.dictcat_lib.specs.Opening.{IsUnopened}
+use Rattle.dictcat_lib.specs.Opening.{IsUnavailable}
 
-pub unopened_of_file : (path : List ℕ) (fault : Fault) → IsUnopened path fault → IsOfFile fault
+pub unopened_of_file : (path : List ℕ) (fault : ProgramFault) → IsUnavailable path fault → IsOfFile fault
 unopened_of_file path (Line refusal line) h = h
 unopened_of_file path (Edition refusal) h = h
 unopened_of_file path (Refused refusal) h = h
@@ -36,7 +36,7 @@ opening_of_file desk.Damaged h = tt
 opening_of_file desk.NewerSchema h = tt
 
 -- no fault of a file is a refusal
-file_not_1 : (fault : Fault) → IsOfFile fault → 1 ≡ status_of fault → ⊥
+file_not_1 : (fault : ProgramFault) → IsOfFile fault → 1 ≡ status_of fault → ⊥
 file_not_1 (Line refusal line) h e = h
 file_not_1 (Edition refusal) h e = h
 file_not_1 (Refused refusal) h e = h
@@ -49,22 +49,22 @@ file_not_1 CannotWait h e = h
 file_not_1 Memory h e = omega (arith, e)
 
 -- and none of waiting for sockets
-waiting_not_1 : (kind : ErrorKind) (fault : Fault) → TellsKind kind fault → 1 ≡ status_of fault → ⊥
+waiting_not_1 : (kind : ErrorKind) (fault : ProgramFault) → TellsKind kind fault → 1 ≡ status_of fault → ⊥
 waiting_not_1 kind fault tells e =
     let other : kind ≢ OutOfMemory = λ is. omega (arith, e, ap status_of (tells.0 is)) in
     omega (arith, e, ap status_of (tells.1 other))
 
-module _ {K : Type 0} (is_closed : K → Bool) (Unreopened : K → Fault → Type 0) where
-  given_not_1 : (stretches : List (Stretch K)) (fault : Fault) → HasGivenOut is_closed Unreopened stretches fault → 1 ≡ status_of fault → ⊥
+module _ {K : Type 0} (is_closed : K → Bool) (Unreopened : K → ProgramFault → Type 0) where
+  given_not_1 : (stretches : List (Stretch K)) (fault : ProgramFault) → HasGivenOut is_closed Unreopened stretches fault → 1 ≡ status_of fault → ⊥
   given_not_1 [] fault h e = h
   given_not_1 (one ∷ []) fault h e = file_not_1 fault h.1.1 e
   given_not_1 (one ∷ other ∷ others) fault h e = given_not_1 (other ∷ others) fault h e
 
-  pub ends_not_1 : (stretches : List (Stretch K)) (driver : Driver) (fault : Fault) → Ends {A = Unit {0}} is_closed Unreopened stretches driver (Err fault) → 1 ≡ status_of fault → ⊥
+  pub ends_not_1 : (stretches : List (Stretch K)) (driver : Driver) (fault : ProgramFault) → Ends {A = Unit {0}} is_closed Unreopened stretches driver (Err fault) → 1 ≡ status_of fault → ⊥
   ends_not_1 stretches driver fault (inl (kind, is, tells)) e = waiting_not_1 kind fault tells e
   ends_not_1 stretches driver fault (inr given) e = given_not_1 stretches fault given e
 
-pub memory_by_status : (fault : Fault) → 4 ≡ status_of fault → fault ≡ Memory
+pub memory_by_status : (fault : ProgramFault) → 4 ≡ status_of fault → fault ≡ Memory
 memory_by_status (Line refusal line) e = absurd (omega (arith, e))
 memory_by_status (Edition refusal) e = absurd (omega (arith, e))
 memory_by_status (Refused refusal) e = absurd (omega (arith, e))

@@ -1,13 +1,13 @@
 -- What is known of a catalogue that was made, read whole or asked, whatever does it.
 use Rattle.std.specs.Prelude.{[], ◌∷◌, List, Option, Some, Result, Ok, Err, ⊤}
 use Rattle.dict_catalogue.specs.Steps.{Catalogue, empty_catalogue}
-use Rattle.dict_io.specs.Streams.{Change}
-use Rattle.dict_printed.specs.Writing.{IsUntouched}
-use Rattle.dict_printed.specs.declared.fault.Fault.{Fault}
-use Rattle.dict_printed.specs.declared.fault.Fault.TheVariants as faults
+use Rattle.dict_io.specs.Streams.{StreamChange}
+use Rattle.dict_messages.specs.Writing.{IsUntouched}
+use Rattle.dict_messages.specs.declared.fault.ProgramFault.{ProgramFault}
+use Rattle.dict_messages.specs.declared.fault.ProgramFault.TheVariants as faults
 
 -- a session that ended well, or by a fault of its own; else nothing was read or written
-abbrev pub IsSpared : Result (Unit {0}) Fault → Change → Change → Type 0
+abbrev pub IsSpared : Result (Unit {0}) ProgramFault → StreamChange → StreamChange → Type 0
 IsSpared (Ok _) reader writer = ⊤
 IsSpared (Err faults.SessionEnded) reader writer = ⊤
 IsSpared (Err fault) reader writer = IsUntouched reader × IsUntouched writer

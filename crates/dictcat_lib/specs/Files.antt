@@ -8,8 +8,8 @@ use Rattle.sqlite_disk.specs.declared.Files.{Files}
 use Rattle.sqlite_store.specs.declared.store.FileStore.{FileStore}
 use Rattle.dict_catalogue.specs.Steps.{Catalogue}
 use Rattle.dict_desk.specs.declared.fault.Fault.{Fault as DeskFault}
-use Rattle.dict_printed.specs.Faults.{told_of}
-use Rattle.dict_printed.specs.declared.fault.Fault.{Fault}
+use Rattle.dict_messages.specs.Faults.{told_of}
+use Rattle.dict_messages.specs.declared.fault.ProgramFault.{ProgramFault}
 use Rattle.dict_store.specs.Closed.{HoldsAlone, IsUncopied, StoreLeaves}
 use Rattle.dict_store.specs.Desk.{DeskState}
 
@@ -32,6 +32,6 @@ module _ {D : Type 0} {g : disk.Ghosts D} where
   StillLeaves (Some (Err store)) ms = StoreLeaves store ms
 
   -- why the log of a desk wasn't copied, of the store that is left, as the program tells it
-  abbrev pub IsToldUncopied : DeskState (FileStore D g) → Option (Result (Files D) (FileStore D g)) → Fault → Type 0
+  abbrev pub IsToldUncopied : DeskState (FileStore D g) → Option (Result (Files D) (FileStore D g)) → ProgramFault → Type 0
   IsToldUncopied desk (Some (Err store)) fault = (why : DeskFault) × (fault ≡ told_of why) × IsUncopied desk store why
   IsToldUncopied desk _ fault = ⊥

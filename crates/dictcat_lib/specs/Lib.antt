@@ -2,7 +2,7 @@ pub mod Catalogues
 pub mod Working
 pub mod Serving
 pub mod Opening
-pub mod Desks
+pub mod DeskOpener
 pub mod Files
 pub mod Plain
 pub mod Program

@@ -7,37 +7,37 @@ use Rattle.dict_catalogue.specs.Steps.{Catalogue, empty_catalogue}
 use Rattle.dict_desk.specs.Faults.{is_disk}
 use Rattle.dict_desk.specs.declared.fault.Fault.{Fault as DeskFault}
 use Rattle.dict_desk.specs.declared.fault.Fault.TheVariants.{NotACatalogue, Disk}
-use Rattle.dict_file.specs.Holds.{Rests, IsLeftAs, HasPlace}
+use Rattle.dict_holdings.specs.Holds.{Rests, IsLeftAs, HasPlace}
 use Rattle.dict_opening.specs.Reading.{HasFailed}
 use Rattle.dict_rows.specs.Versions.{known}
-use Rattle.dict_io.specs.Streams.{Change}
-use Rattle.dict_session.specs.declared.session.run.End.{End}
+use Rattle.dict_io.specs.Streams.{StreamChange}
+use Rattle.dict_session.specs.declared.session.run.SessionEnd.{SessionEnd}
 use Rattle.dict_session.specs.declared.session.run.SessionFault.{SessionFault}
 use Rattle.dict_session.specs.declared.session.run.SessionFault.TheVariants as session_faults
 use Rattle.dict_store.specs.Desk.{DeskState, Shows, LeavesOneOf}
 use Rattle.dict_store.specs.Opened.{IsTold, IsNotHeld}
 use Rattle.dict_store.specs.Adopted.{IsNotAdopted}
 use Rattle.dict_store.specs.Over.{HasRun, Leaves, TellsNoLeft}
-use Rattle.dict_printed.specs.Faults.{told_of}
-use Rattle.dict_printed.specs.declared.fault.Fault.{Fault}
-use Rattle.dict_printed.specs.declared.fault.Fault.TheVariants as faults
-use Rattle.dict_printed.specs.Writing.{IsUntouched}
+use Rattle.dict_messages.specs.Faults.{told_of}
+use Rattle.dict_messages.specs.declared.fault.ProgramFault.{ProgramFault}
+use Rattle.dict_messages.specs.declared.fault.ProgramFault.TheVariants as faults
+use Rattle.dict_messages.specs.Writing.{IsUntouched}
 
 -- the file with this path can't be had, or memory ran out
-abbrev pub IsUnopened : List ℕ → Fault → Type 0
-IsUnopened path (faults.CannotRead told) = told.now ≡ path
-IsUnopened path faults.Memory = ⊤
-IsUnopened path (faults.Line refusal line) = ⊥
-IsUnopened path (faults.Edition refusal) = ⊥
-IsUnopened path (faults.Refused refusal) = ⊥
-IsUnopened path (faults.Store fault) = ⊥
-IsUnopened path faults.SessionEnded = ⊥
-IsUnopened path faults.CannotWrite = ⊥
-IsUnopened path (faults.CannotBind address) = ⊥
-IsUnopened path faults.CannotWait = ⊥
+abbrev pub IsUnavailable : List ℕ → ProgramFault → Type 0
+IsUnavailable path (faults.CannotRead told) = told.now ≡ path
+IsUnavailable path faults.Memory = ⊤
+IsUnavailable path (faults.Line refusal line) = ⊥
+IsUnavailable path (faults.Edition refusal) = ⊥
+IsUnavailable path (faults.Refused refusal) = ⊥
+IsUnavailable path (faults.Store fault) = ⊥
+IsUnavailable path faults.SessionEnded = ⊥
+IsUnavailable path faults.CannotWrite = ⊥
+IsUnavailable path (faults.CannotBind address) = ⊥
+IsUnavailable path faults.CannotWait = ⊥
 
 -- what is told of a session over a database
-abbrev pub over_told : Result End SessionFault → Result (Unit {0}) Fault
+abbrev pub over_told : Result SessionEnd SessionFault → Result (Unit {0}) ProgramFault
 over_told (Ok end) = Ok tt
 over_told (Err session_faults.Memory) = Err faults.Memory
 over_told (Err session_faults.Read) = Err faults.SessionEnded
@@ -63,8 +63,8 @@ module _ {S : Type 0} (g : Ghosts S) where
   IsMadeDesk desk = (conn : Held S) × IsCreated conn desk
 
   -- why none was made in the file with a path, as the program tells it
-  abbrev pub IsUnmade : List ℕ → Fault → Type 0
-  IsUnmade path fault = IsUnopened path fault
+  abbrev pub IsUnmade : List ℕ → ProgramFault → Type 0
+  IsUnmade path fault = IsUnavailable path fault
       ⊎ ((conn : Held S) × ((left : Held S) × (why : DeskFault) × (fault ≡ told_of why) × IsNotCreated conn left why))
 
   -- the database of a desk was read whole, and holds a catalogue at rest
@@ -72,22 +72,22 @@ module _ {S : Type 0} (g : Ghosts S) where
   IsSound new = HasCleanDisk (state g new.conn) → (M : Catalogue) × Rests known (state g new.conn) M
 
   -- it was read, and the fault, as the program tells it, is what it holds instead; or it couldn't be read, since its store failed or memory ran out
-  abbrev pub IsUnsound : DeskState S → DeskState S → Fault → Type 0
+  abbrev pub IsUnsound : DeskState S → DeskState S → ProgramFault → Type 0
   IsUnsound old new fault =
       (why : DeskFault) × (fault ≡ told_of why) × (HasCleanDisk (state g new.conn) → IsTold (state g old.conn).now why × IsNotHeld (state g old.conn).now why × (why ≡ Disk → HasFailed (state g old.conn) (state g new.conn)))
 
   -- A session over the catalogue of an opened database ended so, and left this desk of it.
-  pub record HasSpoken (conn : Held S) (desk : DeskState S) (end : Result End SessionFault) (reader writer : Change) : Type 0 where
+  pub record HasSpoken (conn : Held S) (desk : DeskState S) (end : Result SessionEnd SessionFault) (reader writer : StreamChange) : Type 0 where
     pub ran : HasCleanDisk (state g desk.conn) → HasRun g conn desk (codes "localhost") 1 end reader writer
     pub leaves : (ms : List (Option Catalogue)) → Leaves g conn ms → LeavesOneOf g desk ms
 
   -- why there was no session: the file can't be had, or the database that it was opened as holds no catalogue, and the fault tells why
-  abbrev pub IsNoSession : List ℕ → Fault → Type 0
-  IsNoSession path fault = IsUnopened path fault
+  abbrev pub IsNoSession : List ℕ → ProgramFault → Type 0
+  IsNoSession path fault = IsUnavailable path fault
       ⊎ ((conn : Held S) × ((left : Held S) × (why : DeskFault) × (fault ≡ told_of why) × IsNotAdopted g conn left why × TellsNoLeft g conn left why))
 
   -- what comes of a session over the catalogue in the file with a path: in the database that it was opened as
-  abbrev pub HasSpokenOver : List ℕ → Option (DeskState S) → Result (Unit {0}) Fault → Change → Change → Type 0
-  HasSpokenOver path None result reader writer = ((fault : Fault) × (result ≡ Err fault) × IsNoSession path fault) × IsUntouched reader × IsUntouched writer
+  abbrev pub HasSpokenOver : List ℕ → Option (DeskState S) → Result (Unit {0}) ProgramFault → StreamChange → StreamChange → Type 0
+  HasSpokenOver path None result reader writer = ((fault : ProgramFault) × (result ≡ Err fault) × IsNoSession path fault) × IsUntouched reader × IsUntouched writer
   HasSpokenOver path (Some desk) result reader writer =
-      (conn : Held S) × (end : Result End SessionFault) × (result ≡ over_told end) × HasSpoken conn desk end reader writer
+      (conn : Held S) × (end : Result SessionEnd SessionFault) × (result ≡ over_told end) × HasSpoken conn desk end reader writer

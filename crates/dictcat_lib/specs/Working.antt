@@ -4,24 +4,24 @@ use Rattle.dict_catalogue.specs.Commands.{Command}
 use Rattle.dict_catalogue.specs.Steps.{Catalogue}
 use Rattle.dict_desk.specs.declared.lookup.Lookup as lookup
 use Rattle.dict_index.specs.Edition.{Edition}
-use Rattle.dict_io.specs.Streams.{Change}
-use Rattle.dict_printed.specs.Writing.{IsUntouched, Prints}
-use Rattle.dict_printed.specs.declared.fault.Fault.{Fault}
-use Rattle.dict_printed.specs.declared.fault.Fault.TheVariants as faults
+use Rattle.dict_io.specs.Streams.{StreamChange}
+use Rattle.dict_messages.specs.Writing.{IsUntouched, Prints}
+use Rattle.dict_messages.specs.declared.fault.ProgramFault.{ProgramFault}
+use Rattle.dict_messages.specs.declared.fault.ProgramFault.TheVariants as faults
 use Rattle.dict_session.specs.Desks.{Stays as DeskStays}
 use Rattle.dict_serving.specs.Deeds.{Makes, Opens, Speaks, Closes, Does, IsShut}
 use Rattle.dict_driver.specs.declared.driver.Driver.{Driver}
 use Rattle.dict_serving.specs.Done.{ServeEnds}
 use Rattle.dict_serving.specs.Serving.{IsNew, IsNone}
-use Rattle.dict_serving.specs.declared.desks.Desks as desks
-use Rattle.dict_tasks.specs.Changing.{IsChanged}
-use Rattle.dict_tasks.specs.Installing.{InstallEnds}
-use Rattle.dict_tasks.specs.Listed.{IsListed}
+use Rattle.dict_serving.specs.declared.desks.DeskOpener as desks
+use Rattle.dict_actions.specs.Changing.{IsChanged}
+use Rattle.dict_actions.specs.Installing.{InstallEnds}
+use Rattle.dict_actions.specs.Listed.{IsListed}
 use Rattle.dictcat_lib.specs.Catalogues.{IsSpared, IsMade, Stays}
 use Rattle.dictcat_lib.specs.declared.catalogues.Catalogues as catalogues
 
 -- a file was read whole, and then closed: that it is sound is told where both went well, and else the first fault
-abbrev pub TellsSound : Result (Unit {0}) Fault → Result (Unit {0}) Fault → Result (Unit {0}) Fault → Change → Type 0
+abbrev pub TellsSound : Result (Unit {0}) ProgramFault → Result (Unit {0}) ProgramFault → Result (Unit {0}) ProgramFault → StreamChange → Type 0
 TellsSound (Err fault) closed result writer = (result ≡ Err fault) × IsUntouched writer
 TellsSound (Ok _) (Err fault) result writer = (result ≡ Err fault) × IsUntouched writer
 TellsSound (Ok _) (Ok _) result writer = Prints (codes "sound\n") result writer
@@ -29,7 +29,7 @@ TellsSound (Ok _) (Ok _) result writer = Prints (codes "sound\n") result writer
 -- By what is known of desks, and of what opens and closes them.
 module _ {K D : Type 0} (k : lookup.Ghosts K) (d : desks.Ghosts D K) where
   -- a desk was closed
-  abbrev pub IsShutBy : K → Result (Unit {0}) Fault → D → Type 0
+  abbrev pub IsShutBy : K → Result (Unit {0}) ProgramFault → D → Type 0
   IsShutBy = IsShut k.shows k.leaves_one_of k.is_trusted d.is_safe d.holds_alone d.still_leaves d.is_uncopied
 
   -- a desk was opened, and answers
@@ -38,32 +38,32 @@ module _ {K D : Type 0} (k : lookup.Ghosts K) (d : desks.Ghosts D K) where
 
   -- There is no desk of the file with a path; or one was opened, this was done over it, and what it became was closed. Nothing else was
   -- done to any file
-  abbrev pub EndsOn : List ℕ → (K → K → Result (Unit {0}) Fault → Type 0) → D → D → Result (Unit {0}) Fault → Change → Type 0
+  abbrev pub EndsOn : List ℕ → (K → K → Result (Unit {0}) ProgramFault → Type 0) → D → D → Result (Unit {0}) ProgramFault → StreamChange → Type 0
   EndsOn path Done old new result writer =
-      ((fault : Fault) × (result ≡ Err fault) × IsNone (d.is_unopened path) fault × Does (d.history old) (d.history new) (Opens path None ∷ []) × IsUntouched writer)
-      ⊎ ((desk : K) × (left : K) × (closed : Result (Unit {0}) Fault) × IsAnswering desk
+      ((fault : ProgramFault) × (result ≡ Err fault) × IsNone (d.is_unopened path) fault × Does (d.history old) (d.history new) (Opens path None ∷ []) × IsUntouched writer)
+      ⊎ ((desk : K) × (left : K) × (closed : Result (Unit {0}) ProgramFault) × IsAnswering desk
       × Does (d.history old) (d.history new) (Opens path (Some desk) ∷ Closes left ∷ []) × IsShutBy left closed new × Done desk left closed)
 
   -- where memory is told to have run out, a desk shows what it showed, and a stop leaves nothing that it couldn't leave before
-  abbrev pub WasSpared : K → K → Result (Unit {0}) Fault → Type 0
+  abbrev pub WasSpared : K → K → Result (Unit {0}) ProgramFault → Type 0
   WasSpared desk left result = result ≡ Err faults.Memory → DeskStays k.shows k.leaves_one_of k.is_trusted k.is_closed desk left
 
   -- the items were listed
-  abbrev pub ListEnds : List ℕ → D → D → Result (Unit {0}) Fault → Change → Type 0
+  abbrev pub ListEnds : List ℕ → D → D → Result (Unit {0}) ProgramFault → StreamChange → Type 0
   ListEnds path old new result writer = EndsOn path (λ desk left closed. (left ≡ desk) × IsListed (k.shows desk) result writer) old new result writer
 
   -- a command was asked for
-  abbrev pub ChangeEnds : List ℕ → List ℕ → Command Edition → D → D → Result (Unit {0}) Fault → Change → Type 0
+  abbrev pub ChangeEnds : List ℕ → List ℕ → Command Edition → D → D → Result (Unit {0}) ProgramFault → StreamChange → Type 0
   ChangeEnds path id command old new result writer =
       EndsOn path (λ desk left closed. IsChanged k.shows k.leaves_one_of k.is_trusted desk left id command result writer × WasSpared desk left result) old new result writer
 
   -- an install of two files was asked for
-  abbrev pub InstallsOn : (List ℕ → Option (List ℕ)) → List ℕ → List ℕ → List ℕ → List ℕ → List ℕ → D → D → Result (Unit {0}) Fault → Change → Type 0
+  abbrev pub InstallsOn : (List ℕ → Option (List ℕ)) → List ℕ → List ℕ → List ℕ → List ℕ → List ℕ → D → D → Result (Unit {0}) ProgramFault → StreamChange → Type 0
   InstallsOn files path name id index text old new result writer =
       EndsOn path (λ desk left closed. InstallEnds k.shows k.leaves_one_of k.is_trusted k.is_closed files desk left name id index text result writer × WasSpared desk left result) old new result writer
 
   -- the catalogue of the file with a path was served at two addresses, for so many rounds, or wasn't
-  unfoldable pub ServesOn : List ℕ → List ℕ → List ℕ → Option ℕ → D → D → Result (Unit {0}) Fault → Change → Type 0
+  unfoldable pub ServesOn : List ℕ → List ℕ → List ℕ → Option ℕ → D → D → Result (Unit {0}) ProgramFault → StreamChange → Type 0
   ServesOn path dict http rounds old new result writer =
       (kept : Option Driver) × ServeEnds k.shows k.leaves_one_of k.is_trusted d.is_opened k.is_closed d.is_unopened d.is_unreopened (d.history old) (d.history new) path dict http rounds result writer kept
 
@@ -74,25 +74,25 @@ module _ {K D : Type 0} (k : lookup.Ghosts K) (d : desks.Ghosts D K) where
 
     -- The file was read whole, the desk shows what it showed, and the file was closed. It is sound, and that is told where it holds its
     -- catalogue alone
-    abbrev pub IsAudited : K → K → Result (Unit {0}) Fault → D → Result (Unit {0}) Fault → Change → Type 0
+    abbrev pub IsAudited : K → K → Result (Unit {0}) ProgramFault → D → Result (Unit {0}) ProgramFault → StreamChange → Type 0
     IsAudited desk left closed new result writer =
-        (audited : Result (Unit {0}) Fault) × MatchResult audited (λ _. c.is_sound desk left) (c.is_unsound desk left) × Stays k.shows k.leaves_one_of k.is_trusted desk left
+        (audited : Result (Unit {0}) ProgramFault) × MatchResult audited (λ _. c.is_sound desk left) (c.is_unsound desk left) × Stays k.shows k.leaves_one_of k.is_trusted desk left
         × TellsSound audited closed result writer × IfOk closed (λ _. IsAlone desk new)
 
     -- the catalogue was read whole
-    abbrev pub AuditEnds : List ℕ → D → D → Result (Unit {0}) Fault → Change → Type 0
+    abbrev pub AuditEnds : List ℕ → D → D → Result (Unit {0}) ProgramFault → StreamChange → Type 0
     AuditEnds path old new result writer = EndsOn path (λ desk left closed. IsAudited desk left closed new result writer) old new result writer
 
     -- a catalogue was made in the file with a path, and the file closed; or none was. Nothing else was done to any file
-    abbrev pub CreateEnds : List ℕ → D → D → Result (Unit {0}) Fault → Type 0
+    abbrev pub CreateEnds : List ℕ → D → D → Result (Unit {0}) ProgramFault → Type 0
     CreateEnds path old new result =
-        ((fault : Fault) × (result ≡ Err fault) × c.is_unmade path fault × Does (d.history old) (d.history new) (Makes path None ∷ []))
-        ⊎ ((desk : K) × (closed : Result (Unit {0}) Fault) × (result ≡ Ok tt) × IsMade k.shows k.leaves_one_of c.is_made desk
+        ((fault : ProgramFault) × (result ≡ Err fault) × c.is_unmade path fault × Does (d.history old) (d.history new) (Makes path None ∷ []))
+        ⊎ ((desk : K) × (closed : Result (Unit {0}) ProgramFault) × (result ≡ Ok tt) × IsMade k.shows k.leaves_one_of c.is_made desk
         × Does (d.history old) (d.history new) (Makes path (Some desk) ∷ Closes desk ∷ []) × IsShutBy desk closed new)
 
     -- a session was run over the catalogue of the file with a path, and the desk that it left was closed, if there was one. Nothing else was
     -- done to any file
-    abbrev pub SessionEnds : List ℕ → D → D → Result (Unit {0}) Fault → Change → Change → Type 0
+    abbrev pub SessionEnds : List ℕ → D → D → Result (Unit {0}) ProgramFault → StreamChange → StreamChange → Type 0
     SessionEnds path old new result reader writer =
         ((left : Option K) × c.has_spoken path left result reader writer × Does (d.history old) (d.history new) (Speaks path left ∷ [])
-        × MatchOption left ⊤ (λ desk. (closed : Result (Unit {0}) Fault) × IsShutBy desk closed new)) × IsSpared result reader writer
+        × MatchOption left ⊤ (λ desk. (closed : Result (Unit {0}) ProgramFault) × IsShutBy desk closed new)) × IsSpared result reader writer

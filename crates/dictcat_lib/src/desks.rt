@@ -1,15 +1,15 @@
 // The desk of a file's catalogue.
 ghost use Rattle.std.specs.Prelude.{◌≡◌, ◌⊎◌, false, IfOk, MatchResult};
-ghost use Rattle.dict_printed.specs.Faults.{told_of};
+ghost use Rattle.dict_messages.specs.Faults.{told_of};
 ghost use Rattle.dict_store.specs.Desk.{Shows, LeavesOneOf, is_closed};
 ghost use Rattle.dict_serving.specs.Serving.{Follows, IsNew, IsNone};
 ghost use Rattle.dictcat_lib.specs.Catalogues.{IsMade};
-ghost use Rattle.dictcat_lib.specs.Desks.{IsDesk, IsNoDesk, IsNoDeskAgain, IsTrusted};
-ghost use Rattle.dictcat_lib.specs.Opening.{IsMadeDesk, IsUnmade, IsUnopened};
+ghost use Rattle.dictcat_lib.specs.DeskOpener.{IsDesk, IsNoDesk, IsNoDeskAgain, IsTrusted};
+ghost use Rattle.dictcat_lib.specs.Opening.{IsMadeDesk, IsUnmade, IsUnavailable};
 
 use crate::stores::{close_file, make_file, open_file, options};
 use dict_desk::Fault as DeskFault;
-use dict_printed::Fault;
+use dict_messages::ProgramFault;
 use dict_store::{Desk, Unopened};
 use sqlite::{File, FileStore};
 use sqlite_disk::Disk;
@@ -19,7 +19,7 @@ use sqlite_trees::store::Store;
 pub(crate) fn make_desk<'w>(
     rt: &HostRuntime,
     file: &'w str,
-) -> Result<Desk<FileStore<File>>, Fault<'w>>
+) -> Result<Desk<FileStore<File>>, ProgramFault<'w>>
     ensures { MatchResult result
         (IsMade (Shows ⟦<FileStore<File> as Store>⟧) (LeavesOneOf ⟦<FileStore<File> as Store>⟧) (IsMadeDesk ⟦<FileStore<File> as Store>⟧))
         (IsUnmade ⟦<FileStore<File> as Store>⟧ file.entry.now) }
@@ -29,7 +29,7 @@ pub(crate) fn make_desk<'w>(
         Ok(desk) => Ok(desk),
         Err((conn, fault)) => {
             close_file(conn);
-            Err(Fault::from(fault))
+            Err(ProgramFault::from(fault))
         }
     }
 }
@@ -38,7 +38,7 @@ pub(crate) fn make_desk<'w>(
 pub(crate) fn open_desk<'w>(
     rt: &HostRuntime,
     file: &'w str,
-) -> Result<Desk<FileStore<File>>, Fault<'w>>
+) -> Result<Desk<FileStore<File>>, ProgramFault<'w>>
     ensures opened { MatchResult result
         (IsNew (Shows ⟦<FileStore<File> as Store>⟧) (LeavesOneOf ⟦<FileStore<File> as Store>⟧) (IsTrusted ⟦<FileStore<File> as Store>⟧) (IsDesk ⟦<FileStore<File> as Store>⟧))
         (IsNone (IsNoDesk ⟦<FileStore<File> as Store>⟧ file.entry.now)) }
@@ -49,7 +49,7 @@ pub(crate) fn open_desk<'w>(
         Ok(desk) => Ok(desk),
         Err((conn, fault)) => {
             close_file(conn);
-            Err(Fault::from(fault))
+            Err(ProgramFault::from(fault))
         }
     }
 }
@@ -59,7 +59,7 @@ pub(crate) fn reopen_desk<'w>(
     rt: &HostRuntime,
     file: &'w str,
     desk: Desk<FileStore<File>>,
-) -> Result<Desk<FileStore<File>>, Fault<'w>>
+) -> Result<Desk<FileStore<File>>, ProgramFault<'w>>
     ensures opened { MatchResult result
         (IsNew (Shows ⟦<FileStore<File> as Store>⟧) (LeavesOneOf ⟦<FileStore<File> as Store>⟧) (IsTrusted ⟦<FileStore<File> as Store>⟧) (IsDesk ⟦<FileStore<File> as Store>⟧))
         (IsNone (IsNoDeskAgain file.entry.now desk)) }
@@ -67,7 +67,7 @@ pub(crate) fn reopen_desk<'w>(
 {
     let Some(options) = options(rt) else {
         close_file(desk.into_connection());
-        return Err(Fault::CannotRead(file));
+        return Err(ProgramFault::CannotRead(file));
     };
     match desk.reopen(options) {
         Ok(desk) => Ok(desk),
@@ -76,18 +76,22 @@ pub(crate) fn reopen_desk<'w>(
 }
 
 // What is told of a file that isn't opened again, and that is closed.
-fn not_reopened<'w, D: Disk + Drop>(file: &'w str, left: Unopened<D>, fault: DeskFault) -> Fault<'w>
-    ensures { (result ≡ told_of fault) ⊎ IsUnopened file.entry.now result }
+fn not_reopened<'w, D: Disk + Drop>(
+    file: &'w str,
+    left: Unopened<D>,
+    fault: DeskFault,
+) -> ProgramFault<'w>
+    ensures { (result ≡ told_of fault) ⊎ IsUnavailable file.entry.now result }
 {
     match left {
         Unopened::Files(_) => match fault {
-            DeskFault::Memory => Fault::Memory,
-            _ => Fault::CannotRead(file),
+            DeskFault::Memory => ProgramFault::Memory,
+            _ => ProgramFault::CannotRead(file),
         },
-        Unopened::Spent(_) => Fault::from(fault),
+        Unopened::Spent(_) => ProgramFault::from(fault),
         Unopened::Database(conn) => {
             let _ = conn.close();
-            Fault::from(fault)
+            ProgramFault::from(fault)
         }
     }
 }

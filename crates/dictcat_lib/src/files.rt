@@ -3,8 +3,8 @@ use crate::catalogues::Catalogues;
 use crate::desks::{make_desk, open_desk, reopen_desk};
 use crate::session::{run_session, told_over};
 use dict_io::{Sink, Source};
-use dict_printed::Fault;
-use dict_serving::Desks;
+use dict_messages::ProgramFault;
+use dict_serving::DeskOpener;
 use dict_store::Desk;
 use sqlite::{File, FileStore, Files};
 use sqlite_trees::store::Store;
@@ -23,9 +23,9 @@ impl<'r> CatalogueFiles<'r> {
     }
 }
 
-impl Desks<Desk<FileStore<File>>> for CatalogueFiles<'_> {
+impl DeskOpener<Desk<FileStore<File>>> for CatalogueFiles<'_> {
     ghost use Rattle.std.specs.Prelude.{None};
-    ghost use Rattle.dictcat_lib.specs.Desks.{IsDesk, IsNoDesk, IsNoDeskAgain};
+    ghost use Rattle.dictcat_lib.specs.DeskOpener.{IsDesk, IsNoDesk, IsNoDeskAgain};
     ghost use Rattle.dictcat_lib.specs.Files.{IsAloneIn, IsSafe, IsToldUncopied, StillLeaves};
 
     ghost history = { λ _. None };
@@ -44,7 +44,7 @@ impl Desks<Desk<FileStore<File>>> for CatalogueFiles<'_> {
 
     ghost is_uncopied = { λ desk one fault. IsToldUncopied desk one.left fault };
 
-    fn open<'w>(&mut self, path: &'w str) -> Result<Desk<FileStore<File>>, Fault<'w>> {
+    fn open<'w>(&mut self, path: &'w str) -> Result<Desk<FileStore<File>>, ProgramFault<'w>> {
         open_desk(self.rt, path)
     }
 
@@ -52,11 +52,11 @@ impl Desks<Desk<FileStore<File>>> for CatalogueFiles<'_> {
         &mut self,
         path: &'w str,
         desk: Desk<FileStore<File>>,
-    ) -> Result<Desk<FileStore<File>>, Fault<'w>> {
+    ) -> Result<Desk<FileStore<File>>, ProgramFault<'w>> {
         reopen_desk(self.rt, path, desk)
     }
 
-    fn close(&mut self, desk: Desk<FileStore<File>>) -> Result<(), Fault<'static>> {
+    fn close(&mut self, desk: Desk<FileStore<File>>) -> Result<(), ProgramFault<'static>> {
         match desk.close() {
             Ok(files) => {
                 self.left = Some(Ok(files));
@@ -64,7 +64,7 @@ impl Desks<Desk<FileStore<File>>> for CatalogueFiles<'_> {
             }
             Err((store, fault)) => {
                 self.left = Some(Err(store));
-                Err(Fault::from(fault))
+                Err(ProgramFault::from(fault))
             }
         }
     }
@@ -83,14 +83,14 @@ impl Catalogues<Desk<FileStore<File>>> for CatalogueFiles<'_> {
 
     ghost has_spoken = { λ path left result reader writer. HasSpokenOver ⟦<FileStore<File> as Store>⟧ path left result reader writer };
 
-    fn make<'w>(&mut self, path: &'w str) -> Result<Desk<FileStore<File>>, Fault<'w>> {
+    fn make<'w>(&mut self, path: &'w str) -> Result<Desk<FileStore<File>>, ProgramFault<'w>> {
         make_desk(self.rt, path)
     }
 
-    fn audit(&mut self, desk: &mut Desk<FileStore<File>>) -> Result<(), Fault<'static>> {
+    fn audit(&mut self, desk: &mut Desk<FileStore<File>>) -> Result<(), ProgramFault<'static>> {
         match desk.audit() {
             Ok(()) => Ok(()),
-            Err(fault) => Err(Fault::from(fault)),
+            Err(fault) => Err(ProgramFault::from(fault)),
         }
     }
 
@@ -99,7 +99,7 @@ impl Catalogues<Desk<FileStore<File>>> for CatalogueFiles<'_> {
         path: &'w str,
         reader: &mut S,
         writer: &mut W,
-    ) -> Result<(), Fault<'w>> {
+    ) -> Result<(), ProgramFault<'w>> {
         match run_session(self.rt, path, reader, writer) {
             Ok((desk, end)) => {
                 let _ = self.close(desk);

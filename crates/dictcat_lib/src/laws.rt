@@ -1,8 +1,8 @@
 // What each status tells.
 ghost use Rattle.std.specs.Prelude.{◌≤◌, ℕ, List, Option};
 ghost use Rattle.dict_desk.specs.Plain.{PlainState};
-ghost use Rattle.dict_io.specs.Streams.{Change};
-ghost use Rattle.dict_printed.specs.Writing.{IsUntouched};
+ghost use Rattle.dict_io.specs.Streams.{StreamChange};
+ghost use Rattle.dict_messages.specs.Writing.{IsUntouched};
 ghost use Rattle.dictcat_lib.specs.Program.{CommandEnds, IsDone, IsExhausted, IsFailed};
 
 use crate::catalogues::Catalogues;
@@ -13,16 +13,16 @@ use dict_desk::Keeper;
 /// by a fault. With 4 nothing was read or written, and a change that was asked for was not made; or memory ran out in a
 /// server that had told its addresses. There is no other status.
 pub fn status_laws<K: Keeper, D: Catalogues<K>>()
-    ensures statuses { (files : List ℕ → Option (List ℕ)) (plain : PlainState) (old new : D) (words : List (List ℕ)) (status : ℕ) (reader writer faults : Change)
-        → CommandEnds K.Lookup D.Desks D.Catalogues.own files plain old new words status reader writer faults → status ≤ 4 }
-    ensures done { (files : List ℕ → Option (List ℕ)) (plain : PlainState) (old new : D) (words : List (List ℕ)) (reader writer faults : Change)
-        → CommandEnds K.Lookup D.Desks D.Catalogues.own files plain old new words 0 reader writer faults → IsDone K.Lookup D.Desks D.Catalogues.own files plain old new words reader writer × IsUntouched faults }
-    ensures refused { (files : List ℕ → Option (List ℕ)) (plain : PlainState) (old new : D) (words : List (List ℕ)) (reader writer faults : Change)
-        → CommandEnds K.Lookup D.Desks D.Catalogues.own files plain old new words 1 reader writer faults → IsUntouched reader × IsUntouched writer }
-    ensures misread { (files : List ℕ → Option (List ℕ)) (plain : PlainState) (old new : D) (words : List (List ℕ)) (reader writer faults : Change)
-        → CommandEnds K.Lookup D.Desks D.Catalogues.own files plain old new words 2 reader writer faults → IsUntouched reader × IsUntouched writer }
-    ensures failed { (files : List ℕ → Option (List ℕ)) (plain : PlainState) (old new : D) (words : List (List ℕ)) (reader writer faults : Change)
-        → CommandEnds K.Lookup D.Desks D.Catalogues.own files plain old new words 3 reader writer faults → IsFailed K.Lookup D.Desks D.Catalogues.own plain old new words reader writer }
-    ensures memory { (files : List ℕ → Option (List ℕ)) (plain : PlainState) (old new : D) (words : List (List ℕ)) (reader writer faults : Change)
-        → CommandEnds K.Lookup D.Desks D.Catalogues.own files plain old new words 4 reader writer faults → IsExhausted K.Lookup D.Desks D.Catalogues.own old new words reader writer }
+    ensures statuses { (files : List ℕ → Option (List ℕ)) (plain : PlainState) (old new : D) (words : List (List ℕ)) (status : ℕ) (reader writer faults : StreamChange)
+        → CommandEnds K.Lookup D.DeskOpener D.Catalogues.own files plain old new words status reader writer faults → status ≤ 4 }
+    ensures done { (files : List ℕ → Option (List ℕ)) (plain : PlainState) (old new : D) (words : List (List ℕ)) (reader writer faults : StreamChange)
+        → CommandEnds K.Lookup D.DeskOpener D.Catalogues.own files plain old new words 0 reader writer faults → IsDone K.Lookup D.DeskOpener D.Catalogues.own files plain old new words reader writer × IsUntouched faults }
+    ensures refused { (files : List ℕ → Option (List ℕ)) (plain : PlainState) (old new : D) (words : List (List ℕ)) (reader writer faults : StreamChange)
+        → CommandEnds K.Lookup D.DeskOpener D.Catalogues.own files plain old new words 1 reader writer faults → IsUntouched reader × IsUntouched writer }
+    ensures misread { (files : List ℕ → Option (List ℕ)) (plain : PlainState) (old new : D) (words : List (List ℕ)) (reader writer faults : StreamChange)
+        → CommandEnds K.Lookup D.DeskOpener D.Catalogues.own files plain old new words 2 reader writer faults → IsUntouched reader × IsUntouched writer }
+    ensures failed { (files : List ℕ → Option (List ℕ)) (plain : PlainState) (old new : D) (words : List (List ℕ)) (reader writer faults : StreamChange)
+        → CommandEnds K.Lookup D.DeskOpener D.Catalogues.own files plain old new words 3 reader writer faults → IsFailed K.Lookup D.DeskOpener D.Catalogues.own plain old new words reader writer }
+    ensures memory { (files : List ℕ → Option (List ℕ)) (plain : PlainState) (old new : D) (words : List (List ℕ)) (reader writer faults : StreamChange)
+        → CommandEnds K.Lookup D.DeskOpener D.Catalogues.own files plain old new words 4 reader writer faults → IsExhausted K.Lookup D.DeskOpener D.Catalogues.own old new words reader writer }
 {}

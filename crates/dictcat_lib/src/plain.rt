@@ -8,13 +8,13 @@ ghost use Rattle.dict_catalogue.specs.Commands.{install};
 ghost use Rattle.dict_catalogue.specs.Steps.{Catalogue, empty_catalogue, step};
 ghost use Rattle.dict_desk.specs.Applying.{Applies};
 
+use dict_actions::{InputFiles, read_file};
 use dict_catalogue::{Command, Kept};
 use dict_desk::{Fault as DeskFault, Keeper, PlainDesk};
 use dict_index::{Edition, read_edition};
 use dict_io::{Sink, Source};
-use dict_printed::Fault;
+use dict_messages::ProgramFault;
 use dict_session::{SessionFault, run};
-use dict_tasks::{InputFiles, read_file};
 use std::alloc::Global;
 
 /// The host that the program's sessions are greeted by.
@@ -34,7 +34,7 @@ pub fn run_plain<S: Source, W: Sink>(
     text: Vec<u8>,
     reader: &mut S,
     writer: &mut W,
-) -> Result<(), Fault<'static>>
+) -> Result<(), ProgramFault<'static>>
     ensures { PlainEnds (standing desk.new) name.now index.items text.items result
         (change S.stream reader.old reader.new) (change W.stream writer.old writer.new) }
 {
@@ -49,7 +49,7 @@ fn run_over<D: Keeper, S: Source, K: Sink>(
     desk: &mut D,
     reader: &mut S,
     writer: &mut K,
-) -> Result<(), Fault<'static>>
+) -> Result<(), ProgramFault<'static>>
     ensures ends { D.is_trusted desk.new → (M : Catalogue) → D.shows desk.old M → RunEnds M (condition D.has_failed D.is_closed desk.new) result
         (change S.stream reader.old reader.new) (change K.stream writer.old writer.new) }
     ensures trust { D.is_trusted desk.new → D.is_trusted desk.old }
@@ -67,29 +67,29 @@ fn install_octets<D: Keeper>(
     name: &str,
     index: Vec<u8>,
     text: Vec<u8>,
-) -> Result<(), Fault<'static>>
+) -> Result<(), ProgramFault<'static>>
     ensures { D.is_trusted desk.new → D.shows desk.old empty_catalogue → Installs (D.shows desk.new) name.now index.items text.items result }
 {
     let edition = match read_edition(alloc, &index, &text) {
         Ok(edition) => edition,
-        Err(fault) => return Err(Fault::from(fault)),
+        Err(fault) => return Err(ProgramFault::from(fault)),
     };
     match install(desk, name, &edition) {
         Ok(_) => Ok(()),
-        Err(DeskFault::Refused(refusal)) => Err(Fault::Refused(refusal)),
-        Err(_) => Err(Fault::Memory),
+        Err(DeskFault::Refused(refusal)) => Err(ProgramFault::Refused(refusal)),
+        Err(_) => Err(ProgramFault::Memory),
     }
 }
 
 // What is told of a session's fault.
-fn told_by(fault: SessionFault) -> Fault<'static>
+fn told_by(fault: SessionFault) -> ProgramFault<'static>
     ensures { result ≡ told_by fault }
 {
     match fault {
-        SessionFault::Memory => Fault::Memory,
-        SessionFault::Read => Fault::SessionEnded,
-        SessionFault::Write => Fault::SessionEnded,
-        SessionFault::Broken => Fault::SessionEnded,
+        SessionFault::Memory => ProgramFault::Memory,
+        SessionFault::Read => ProgramFault::SessionEnded,
+        SessionFault::Write => ProgramFault::SessionEnded,
+        SessionFault::Broken => ProgramFault::SessionEnded,
     }
 }
 
@@ -113,7 +113,7 @@ pub(crate) fn run_files<'w, I: InputFiles, S: Source, K: Sink>(
     files: &I,
     reader: &mut S,
     writer: &mut K,
-) -> Result<(), Fault<'w>>
+) -> Result<(), ProgramFault<'w>>
     ensures { FilesEnd (standing desk.new) (I.octets files.now) name.now index.entry.now text.entry.now result
         (change S.stream reader.old reader.new) (change K.stream writer.old writer.new) }
 {

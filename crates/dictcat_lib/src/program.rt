@@ -3,20 +3,20 @@ ghost use Rattle.std.specs.Prelude.{◌≡◌, ◌≢◌, ℕ, List, map};
 ghost use Rattle.std.specs.IoError.{error_kind};
 ghost use Rattle.std.specs.declared.io.ErrorKind.TheVariants.{OutOfMemory};
 ghost use Rattle.clap.specs.Values.{kind_of};
-ghost use Rattle.dict_words.specs.Asked.{Fails};
+ghost use Rattle.dict_arguments.specs.Asked.{Fails};
 ghost use Rattle.dictcat_lib.specs.Program.{AnswerEnds, CommandEnds, Closes, IsTold, Shows, Tells, TellsMistake, not_text};
-ghost use Rattle.dict_printed.specs.Writing.{IsUntouched};
-ghost use Rattle.dict_io.specs.Streams.{Change, change};
+ghost use Rattle.dict_messages.specs.Writing.{IsUntouched};
+ghost use Rattle.dict_io.specs.Streams.{StreamChange, change};
 
 use crate::catalogues::Catalogues;
 use crate::task::perform;
 use clap::Error;
 use clap::error::ErrorKind;
+use dict_actions::InputFiles;
+use dict_arguments::read_words;
 use dict_desk::{Keeper, PlainDesk};
 use dict_io::{Sink, Source};
-use dict_printed::Fault;
-use dict_tasks::InputFiles;
-use dict_words::read_words;
+use dict_messages::ProgramFault;
 use std::alloc::Global;
 use std::convert::AsStr;
 use std::io;
@@ -44,13 +44,13 @@ pub fn command<
     writer: &mut W,
     faults: &mut F,
 ) -> u8
-    ensures { CommandEnds K.Lookup D.Desks D.Catalogues.own (I.octets files.now) plain.new desks.old desks.new (map A.text words.now) result
+    ensures { CommandEnds K.Lookup D.DeskOpener D.Catalogues.own (I.octets files.now) plain.new desks.old desks.new (map A.text words.now) result
         (change S.stream reader.old reader.new) (change W.stream writer.old writer.new) (change F.stream faults.old faults.new) }
 {
     match read_words(rt.alloc(), words) {
         Ok(task) => {
             let end = perform(rt, &task, desks, plain, files, reader, writer);
-            close(&end, faults)
+            status_of_end(&end, faults)
         }
         Err(error) => answer_words(rt.alloc(), &error, writer, faults),
     }
@@ -58,11 +58,11 @@ pub fn command<
 
 /// Says why the program's words can't be had: they are no texts, or memory ran out.
 pub fn refuse_words<F: Sink>(fault: &io::Error, faults: &mut F) -> u8
-    ensures memory { error_kind fault.now ≡ OutOfMemory → Tells Fault.Memory result (change F.stream faults.old faults.new) }
+    ensures memory { error_kind fault.now ≡ OutOfMemory → Tells ProgramFault.Memory result (change F.stream faults.old faults.new) }
     ensures not_text { error_kind fault.now ≢ OutOfMemory → (result ≡ 2) × IsTold not_text (change F.stream faults.old faults.new) }
 {
     if fault.kind() == io::ErrorKind::OutOfMemory {
-        return tell(&Fault::Memory, faults);
+        return tell_fault(&ProgramFault::Memory, faults);
     }
     let _ = faults.put(NOT_TEXT.as_bytes());
     2
@@ -79,29 +79,29 @@ fn answer_words<K: Sink, F: Sink>(
     writer: &mut K,
     faults: &mut F,
 ) -> u8
-    ensures { (words : List (List ℕ)) → Fails words (kind_of error.now) → (reader : Change) → IsUntouched reader
+    ensures { (words : List (List ℕ)) → Fails words (kind_of error.now) → (reader : StreamChange) → IsUntouched reader
         → AnswerEnds words result reader (change K.stream writer.old writer.new) (change F.stream faults.old faults.new) }
 {
     match error.kind() {
-        ErrorKind::OutOfMemory => tell(&Fault::Memory, faults),
+        ErrorKind::OutOfMemory => tell_fault(&ProgramFault::Memory, faults),
         ErrorKind::DisplayHelp | ErrorKind::DisplayVersion => {
             let end = show(alloc, error, writer);
-            close(&end, faults)
+            status_of_end(&end, faults)
         }
         _ => tell_mistake(alloc, error, faults),
     }
 }
 
 // Shows help or the version.
-fn show<K: Sink>(alloc: Global, error: &Error, writer: &mut K) -> Result<(), Fault<'static>>
+fn show<K: Sink>(alloc: Global, error: &Error, writer: &mut K) -> Result<(), ProgramFault<'static>>
     ensures { Shows result (change K.stream writer.old writer.new) }
 {
     let Ok(text) = error.to_string(alloc) else {
-        return Err(Fault::Memory);
+        return Err(ProgramFault::Memory);
     };
     match writer.put(text.as_bytes()) {
         Ok(()) => Ok(()),
-        Err(_) => Err(Fault::CannotWrite),
+        Err(_) => Err(ProgramFault::CannotWrite),
     }
 }
 
@@ -110,24 +110,24 @@ fn tell_mistake<F: Sink>(alloc: Global, error: &Error, faults: &mut F) -> u8
     ensures { TellsMistake result (change F.stream faults.old faults.new) }
 {
     let Ok(text) = error.to_string(alloc) else {
-        return tell(&Fault::Memory, faults);
+        return tell_fault(&ProgramFault::Memory, faults);
     };
     let _ = faults.put(text.as_bytes());
     2
 }
 
 // What is done ends with 0, and what is not with the status of its fault, which is told.
-fn close<F: Sink>(end: &Result<(), Fault<'_>>, faults: &mut F) -> u8
+fn status_of_end<F: Sink>(end: &Result<(), ProgramFault<'_>>, faults: &mut F) -> u8
     ensures { Closes end.now result (change F.stream faults.old faults.new) }
 {
     match end {
         Ok(()) => 0,
-        Err(fault) => tell(fault, faults),
+        Err(fault) => tell_fault(fault, faults),
     }
 }
 
 // Tells a fault in a line of its own.
-fn tell<F: Sink>(fault: &Fault<'_>, faults: &mut F) -> u8
+fn tell_fault<F: Sink>(fault: &ProgramFault<'_>, faults: &mut F) -> u8
     ensures { Tells fault.now result (change F.stream faults.old faults.new) }
 {
     let _ = fault.put_line(faults);

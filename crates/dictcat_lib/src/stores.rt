@@ -1,8 +1,8 @@
 // The databases of files.
 ghost use Rattle.std.specs.Prelude.{◌≡◌, false, IfOk, IfErr};
-ghost use Rattle.dictcat_lib.specs.Opening.{IsUnopened};
+ghost use Rattle.dictcat_lib.specs.Opening.{IsUnavailable};
 
-use dict_printed::Fault;
+use dict_messages::ProgramFault;
 use sqlite::{Connection, Error, ErrorCode, File, FileStore, Options};
 use std::fs;
 use std::hash::{BuildHasher, RandomState};
@@ -12,27 +12,27 @@ use std::io::ErrorKind;
 pub(crate) type Database = Connection<FileStore<File>>;
 
 // Opens the file with this path. It has to be there.
-pub(crate) fn open_file<'w>(rt: &HostRuntime, path: &'w str) -> Result<Database, Fault<'w>>
+pub(crate) fn open_file<'w>(rt: &HostRuntime, path: &'w str) -> Result<Database, ProgramFault<'w>>
     ensures autocommit { IfOk result (λ conn. conn.in_transaction ≡ false) }
-    ensures unopened { IfErr result (IsUnopened path.entry.now) }
+    ensures unopened { IfErr result (IsUnavailable path.entry.now) }
 {
     match fs::exists(rt, path) {
         Ok(true) => make_file(rt, path),
-        Ok(false) => Err(Fault::CannotRead(path)),
-        Err(fault) if fault.kind() == ErrorKind::OutOfMemory => Err(Fault::Memory),
-        Err(_) => Err(Fault::CannotRead(path)),
+        Ok(false) => Err(ProgramFault::CannotRead(path)),
+        Err(fault) if fault.kind() == ErrorKind::OutOfMemory => Err(ProgramFault::Memory),
+        Err(_) => Err(ProgramFault::CannotRead(path)),
     }
 }
 
 // Opens the file with this path, or makes it where none is there.
-pub(crate) fn make_file<'w>(rt: &HostRuntime, path: &'w str) -> Result<Database, Fault<'w>>
+pub(crate) fn make_file<'w>(rt: &HostRuntime, path: &'w str) -> Result<Database, ProgramFault<'w>>
     ensures autocommit { IfOk result (λ conn. conn.in_transaction ≡ false) }
-    ensures unopened { IfErr result (IsUnopened path.entry.now) }
+    ensures unopened { IfErr result (IsUnavailable path.entry.now) }
 {
     match Connection::open(rt, path) {
         Ok(conn) => Ok(conn),
-        Err(Error::SqliteFailure(ErrorCode::OutOfMemory)) => Err(Fault::Memory),
-        Err(_) => Err(Fault::CannotRead(path)),
+        Err(Error::SqliteFailure(ErrorCode::OutOfMemory)) => Err(ProgramFault::Memory),
+        Err(_) => Err(ProgramFault::CannotRead(path)),
     }
 }
 

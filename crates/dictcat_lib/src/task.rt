@@ -6,13 +6,13 @@ ghost use Rattle.dictcat_lib.specs.Working.{ServesOn};
 use crate::catalogues::Catalogues;
 use crate::plain::run_files;
 use crate::work::{audit_over, change_over, create_over, install_over, list_over};
+use dict_actions::{InputFiles, InstallRequest};
+use dict_arguments::{ItemChange, Task};
 use dict_catalogue::Command;
 use dict_desk::{Keeper, PlainDesk};
 use dict_io::{Sink, Source};
-use dict_printed::Fault;
-use dict_serving::{Desks, ServerOptions, serve_catalogue};
-use dict_tasks::{InputFiles, Wanted};
-use dict_words::{Change, Task};
+use dict_messages::ProgramFault;
+use dict_serving::{DeskOpener, ServerOptions, serve_catalogue};
 use std::alloc::Global;
 
 /// Does a task: opens the catalogue that it names, reads its files, takes a session's octets from the reader, and writes what it
@@ -25,8 +25,8 @@ pub fn perform<'w, K: Keeper + Drop, D: Catalogues<K>, I: InputFiles, S: Source,
     files: &I,
     reader: &mut S,
     writer: &mut W,
-) -> Result<(), Fault<'w>>
-    ensures { TaskEnds K.Lookup D.Desks D.Catalogues.own (I.octets files.now) plain.new desks.old desks.new task.now result
+) -> Result<(), ProgramFault<'w>>
+    ensures { TaskEnds K.Lookup D.DeskOpener D.Catalogues.own (I.octets files.now) plain.new desks.old desks.new task.now result
         (change S.stream reader.old reader.new) (change W.stream writer.old writer.new) }
 {
     match task {
@@ -70,14 +70,14 @@ pub fn perform<'w, K: Keeper + Drop, D: Catalogues<K>, I: InputFiles, S: Source,
 
 // Serves the catalogue of a file.
 #[tactic(auto, unfolding(crate::specs::Working::ServesOn))]
-fn serve<'w, K: Keeper + Drop, D: Desks<K>, W: Sink>(
+fn serve<'w, K: Keeper + Drop, D: DeskOpener<K>, W: Sink>(
     rt: &HostRuntime,
     desks: &mut D,
     file: &'w str,
     wanted: &ServerOptions<'w>,
     writer: &mut W,
-) -> Result<(), Fault<'w>>
-    ensures { ServesOn K.Lookup D.Desks file.entry.now wanted.now.dict.now wanted.now.http.now wanted.now.rounds desks.old desks.new result
+) -> Result<(), ProgramFault<'w>>
+    ensures { ServesOn K.Lookup D.DeskOpener file.entry.now wanted.now.dict.now wanted.now.http.now wanted.now.rounds desks.old desks.new result
         (change W.stream writer.old writer.new) }
 {
     let mut driver = None;
@@ -85,34 +85,34 @@ fn serve<'w, K: Keeper + Drop, D: Desks<K>, W: Sink>(
 }
 
 // Changes the catalogue of a file.
-fn perform_change<'w, K: Keeper + Drop, D: Desks<K>, I: InputFiles, W: Sink>(
+fn perform_change<'w, K: Keeper + Drop, D: DeskOpener<K>, I: InputFiles, W: Sink>(
     alloc: Global,
     desks: &mut D,
     file: &'w str,
     name: &'w str,
     id: &'w str,
-    what: &Change<'w>,
+    what: &ItemChange<'w>,
     files: &I,
     writer: &mut W,
-) -> Result<(), Fault<'w>>
-    ensures { ChangeTaskEnds K.Lookup D.Desks (I.octets files.now) desks.old desks.new file.entry.now name.entry.now id.entry.now what.now result
+) -> Result<(), ProgramFault<'w>>
+    ensures { ChangeTaskEnds K.Lookup D.DeskOpener (I.octets files.now) desks.old desks.new file.entry.now name.entry.now id.entry.now what.now result
         (change W.stream writer.old writer.new) }
 {
     match what {
-        Change::Install { index, text } => {
+        ItemChange::Install { index, text } => {
             let (index, text) = (*index, *text);
-            let wanted = Wanted { name, index, text };
+            let wanted = InstallRequest { name, index, text };
             install_over(alloc, desks, file, id, wanted, files, writer)
         }
-        Change::Rollback => {
+        ItemChange::Rollback => {
             let command = Command::Rollback { name };
             change_over(desks, file, id, &command, writer)
         }
-        Change::Retire => {
+        ItemChange::Retire => {
             let command = Command::Retire { name };
             change_over(desks, file, id, &command, writer)
         }
-        Change::Virtual { title, members } => {
+        ItemChange::Virtual { title, members } => {
             let (title, members) = (*title, members.as_slice());
             let command = Command::PutVirtual {
                 name,
@@ -121,7 +121,7 @@ fn perform_change<'w, K: Keeper + Drop, D: Desks<K>, I: InputFiles, W: Sink>(
             };
             change_over(desks, file, id, &command, writer)
         }
-        Change::Place { place } => {
+        ItemChange::Place { place } => {
             let place = u64::from(*place);
             let command = Command::Place { name, place };
             change_over(desks, file, id, &command, writer)

@@ -4,20 +4,20 @@ ghost use Rattle.dict_catalogue.specs.Views.{command_meant};
 ghost use Rattle.dictcat_lib.specs.Working.{AuditEnds, ChangeEnds, CreateEnds, InstallsOn, ListEnds, TellsSound};
 
 use crate::catalogues::Catalogues;
+use dict_actions::{InputFiles, InstallRequest, change, install, list};
 use dict_catalogue::Command;
 use dict_desk::Keeper;
 use dict_io::Sink;
-use dict_printed::Fault;
-use dict_serving::Desks;
-use dict_tasks::{InputFiles, Wanted, change, install, list};
+use dict_messages::ProgramFault;
+use dict_serving::DeskOpener;
 use std::alloc::Global;
 
 // Makes an empty catalogue in the file with this path.
 pub(crate) fn create_over<'w, K: Keeper + Drop, D: Catalogues<K>>(
     desks: &mut D,
     path: &'w str,
-) -> Result<(), Fault<'w>>
-    ensures { CreateEnds K.Lookup D.Desks D.Catalogues.own path.entry.now desks.old desks.new result }
+) -> Result<(), ProgramFault<'w>>
+    ensures { CreateEnds K.Lookup D.DeskOpener D.Catalogues.own path.entry.now desks.old desks.new result }
 {
     let desk = desks.make(path)?;
     let _ = desks.close(desk);
@@ -25,12 +25,12 @@ pub(crate) fn create_over<'w, K: Keeper + Drop, D: Catalogues<K>>(
 }
 
 // Writes a line for each item of a catalogue.
-pub(crate) fn list_over<'w, K: Keeper + Drop, D: Desks<K>, W: Sink>(
+pub(crate) fn list_over<'w, K: Keeper + Drop, D: DeskOpener<K>, W: Sink>(
     desks: &mut D,
     path: &'w str,
     writer: &mut W,
-) -> Result<(), Fault<'w>>
-    ensures { ListEnds K.Lookup D.Desks path.entry.now desks.old desks.new result (change W.stream writer.old writer.new) }
+) -> Result<(), ProgramFault<'w>>
+    ensures { ListEnds K.Lookup D.DeskOpener path.entry.now desks.old desks.new result (change W.stream writer.old writer.new) }
 {
     let desk = desks.open(path)?;
     let end = list(&desk, writer);
@@ -43,8 +43,8 @@ pub(crate) fn audit_over<'w, K: Keeper + Drop, D: Catalogues<K>, W: Sink>(
     desks: &mut D,
     path: &'w str,
     writer: &mut W,
-) -> Result<(), Fault<'w>>
-    ensures { AuditEnds K.Lookup D.Desks D.Catalogues.own path.entry.now desks.old desks.new result (change W.stream writer.old writer.new) }
+) -> Result<(), ProgramFault<'w>>
+    ensures { AuditEnds K.Lookup D.DeskOpener D.Catalogues.own path.entry.now desks.old desks.new result (change W.stream writer.old writer.new) }
 {
     let mut desk = desks.open(path)?;
     let audited = desks.audit(&mut desk);
@@ -54,29 +54,29 @@ pub(crate) fn audit_over<'w, K: Keeper + Drop, D: Catalogues<K>, W: Sink>(
 
 // Says that a file is sound where it was read whole and closed, or the first fault.
 fn tell_sound<W: Sink>(
-    audited: Result<(), Fault<'static>>,
-    closed: Result<(), Fault<'static>>,
+    audited: Result<(), ProgramFault<'static>>,
+    closed: Result<(), ProgramFault<'static>>,
     writer: &mut W,
-) -> Result<(), Fault<'static>>
+) -> Result<(), ProgramFault<'static>>
     ensures { TellsSound audited.entry closed.entry result (change W.stream writer.old writer.new) }
 {
     audited?;
     closed?;
     match writer.put(b"sound\n") {
         Ok(()) => Ok(()),
-        Err(_) => Err(Fault::CannotWrite),
+        Err(_) => Err(ProgramFault::CannotWrite),
     }
 }
 
 // Applies a command to a catalogue, and writes its reply.
-pub(crate) fn change_over<'w, K: Keeper + Drop, D: Desks<K>, W: Sink>(
+pub(crate) fn change_over<'w, K: Keeper + Drop, D: DeskOpener<K>, W: Sink>(
     desks: &mut D,
     path: &'w str,
     id: &str,
     command: &Command,
     writer: &mut W,
-) -> Result<(), Fault<'w>>
-    ensures { ChangeEnds K.Lookup D.Desks path.entry.now id.now (command_meant command.now) desks.old desks.new result
+) -> Result<(), ProgramFault<'w>>
+    ensures { ChangeEnds K.Lookup D.DeskOpener path.entry.now id.now (command_meant command.now) desks.old desks.new result
         (change W.stream writer.old writer.new) }
 {
     let mut desk = desks.open(path)?;
@@ -86,16 +86,16 @@ pub(crate) fn change_over<'w, K: Keeper + Drop, D: Desks<K>, W: Sink>(
 }
 
 // Installs the edition that two files make in a catalogue, and writes the reply.
-pub(crate) fn install_over<'w, K: Keeper + Drop, D: Desks<K>, I: InputFiles, W: Sink>(
+pub(crate) fn install_over<'w, K: Keeper + Drop, D: DeskOpener<K>, I: InputFiles, W: Sink>(
     alloc: Global,
     desks: &mut D,
     path: &'w str,
     id: &str,
-    wanted: Wanted<'w>,
+    wanted: InstallRequest<'w>,
     files: &I,
     writer: &mut W,
-) -> Result<(), Fault<'w>>
-    ensures { InstallsOn K.Lookup D.Desks (I.octets files.now) path.entry.now wanted.entry.name.now id.now wanted.entry.index.now wanted.entry.text.now
+) -> Result<(), ProgramFault<'w>>
+    ensures { InstallsOn K.Lookup D.DeskOpener (I.octets files.now) path.entry.now wanted.entry.name.now id.now wanted.entry.index.now wanted.entry.text.now
         desks.old desks.new result (change W.stream writer.old writer.new) }
 {
     let mut desk = desks.open(path)?;

@@ -1,10 +1,10 @@
 // What the tests read from and write to.
 ghost use Rattle.std.specs.Prelude.{None};
 
+use dict_actions::{InputFiles, ReadFault};
 use dict_desk::PlainDesk;
 use dict_examples::{GEM_INDEX, GEM_TEXT, ORE_INDEX, ORE_TEXT};
 use dict_io::{LimitedSink, OverRead};
-use dict_tasks::{InputFiles, ReadFault};
 use dictcat_lib::{CatalogueFiles, command};
 use std::alloc::Global;
 use std::fs;

@@ -5,9 +5,9 @@ use dict_catalogue::{Item, Kept, StoredTitle, Verb};
 use dict_index::read_edition;
 use dict_records::Entry;
 use dict_rows::{
-    EditionRows, Ids, Reader, Rowids, RowsFault, edition_row, empty_records, item_row, kept_row,
-    mark_row, member_row, one_catalogue, ordered_records, records_after, records_by_number,
-    taken_in_order, worked_records,
+    EditionRows, IdReader, Reader, RowidReader, RowsFault, edition_row, empty_records, item_row,
+    kept_row, mark_row, member_row, one_catalogue, ordered_records, records_after,
+    records_by_number, taken_in_order, worked_records,
 };
 use std::alloc::Global;
 use std::process::Abort;
@@ -16,7 +16,7 @@ use std::test::Fail;
 #[test]
 fn ids_that_come_twice(rt: HostRuntime) -> Result<(), Fail> {
     let alloc = rt.alloc();
-    let mut ids = Ids::new();
+    let mut ids = IdReader::new();
     ids.id(String::from_str(alloc, "r1")?)?;
     ids.id(String::from_str(alloc, "r2")?)?;
     let again = ids.id(String::from_str(alloc, "r2")?);
@@ -26,7 +26,7 @@ fn ids_that_come_twice(rt: HostRuntime) -> Result<(), Fail> {
 
 #[test]
 fn rowids_that_come_twice(rt: HostRuntime) -> Result<(), Fail> {
-    let mut rowids = Rowids::new();
+    let mut rowids = RowidReader::new();
     rowids.rowid(-5)?;
     rowids.rowid(0)?;
     rowids.rowid(9_223_372_036_854_775_807)?;

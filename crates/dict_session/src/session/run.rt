@@ -13,7 +13,7 @@ use std::alloc::Global;
 
 /// How a session ended that met no fault.
 #[derive(Clone, Copy, Debug, PartialEq, Eq)]
-pub enum End {
+pub enum SessionEnd {
     /// A QUIT was answered.
     Quit,
     /// The client's octets ended.
@@ -43,7 +43,7 @@ pub fn run<S: Source, K: Sink, L: Lookup>(
     desk: &mut L,
     host: &str,
     connection: u64,
-) -> Result<End, SessionFault>
+) -> Result<SessionEnd, SessionFault>
     ensures answers { L.is_trusted desk.new → (M : Catalogue) → L.shows desk.old M → Ends M host.now connection (condition L.has_failed L.is_closed desk.new) result
         (change S.stream reader.old reader.new) (change K.stream writer.old writer.new) }
     ensures desk { Stays L.shows L.leaves_one_of L.is_trusted L.is_closed desk.old desk.new }
@@ -60,10 +60,10 @@ pub fn run<S: Source, K: Sink, L: Lookup>(
     'reads: for _turn in 0..u64::MAX {
         match reader.take(&mut room) {
             Err(_) => return Err(SessionFault::Read),
-            Ok(0) => return Ok(End::InputEnd),
+            Ok(0) => return Ok(SessionEnd::InputEnd),
             Ok(n) => match session.advance(alloc, &room[..n], desk, writer) {
                 Course::More => {}
-                Course::Quit => return Ok(End::Quit),
+                Course::Quit => return Ok(SessionEnd::Quit),
                 Course::SinkFailed => return Err(SessionFault::Write),
                 Course::DeskFailed => return Err(SessionFault::Broken),
             },

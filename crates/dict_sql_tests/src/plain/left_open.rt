@@ -1,10 +1,10 @@
 //! A transaction that stays open between calls: what is written in it stays by its commit alone.
 
 use crate::checks::holds;
-use crate::connections::{compare_numbers, raw};
 use dict_records::Mark;
 use dict_sql::insert::insert_mark;
 use dict_sql::transaction::{begin, commit_open, roll_back};
+use dict_sql_checks::{compare_numbers, raw};
 use dict_tables::{StoreTable, has_table};
 use sqlite::{Alter, Connection, Error};
 use std::process::Abort;
@@ -31,8 +31,8 @@ fn put<S: Alter>(conn: &mut Connection<S>, id: i64) -> Result<usize, Error> {
     insert_mark(conn, &mark)
 }
 
-fn count<S: Alter>(rt: &impl Abort, conn: &mut Connection<S>, expected: i64) -> Result<(), Fail> {
-    compare_numbers(rt, conn, &[("SELECT count(*) FROM mark", expected)])
+fn count<S: Alter>(conn: &mut Connection<S>, expected: i64) -> Result<(), &'static str> {
+    compare_numbers(conn, &[("SELECT count(*) FROM mark", expected)])
 }
 
 // Two rows are put in, each by a call of its own, and undone.
@@ -40,10 +40,11 @@ fn undo<S: Alter>(rt: &impl Abort, conn: &mut Connection<S>) -> Result<(), Fail>
     open(conn)?;
     put(conn, 3)?;
     put(conn, 4)?;
-    count(rt, conn, 4)?;
+    count(conn, 4)?;
     roll_back(conn);
     holds(rt, conn.is_autocommit(), "rolled back");
-    count(rt, conn, 2)
+    count(conn, 2)?;
+    Ok(())
 }
 
 // One row is put in and committed.
@@ -53,7 +54,8 @@ fn keep<S: Alter>(rt: &impl Abort, conn: &mut Connection<S>) -> Result<(), Fail>
     holds(rt, !conn.is_autocommit(), "open");
     commit_open(conn)?;
     roll_back(conn);
-    count(rt, conn, 3)
+    count(conn, 3)?;
+    Ok(())
 }
 
 /// Nothing is put in where no transaction is open, nor committed. The marks, of which there are two, are left as they were.

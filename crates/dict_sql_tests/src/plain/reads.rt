@@ -1,6 +1,6 @@
 //! What is read of each table.
 
-use crate::connections::{compare, told};
+use crate::checks::same_text;
 use dict_records::{Edition, Entry, Kept, Mark, Stored};
 use dict_sql::read::{editions_numbered, items, kept_replies_of, marks, members};
 use dict_sql::records::{EditionNumber, ReadError, Record};
@@ -8,6 +8,7 @@ use dict_sql::stream::{
     next_record, read_edition_numbers, read_editions, read_entries, read_entries_of,
     read_kept_replies,
 };
+use dict_sql_checks::told;
 use dict_tables::{StoreTable, has_table};
 use sqlite::{Alter, Connection, Error, Rows};
 use std::alloc::Global;
@@ -199,7 +200,8 @@ pub(crate) fn look<S: Alter>(
     conn: &mut Connection<S>,
 ) -> Result<(), Fail> {
     for (wanted, expected) in &READS {
-        compare(rt, read(alloc, conn, *wanted), *expected)?;
+        let text = read(alloc, conn, *wanted)?;
+        same_text(rt, text.as_str(), *expected);
     }
     Ok(())
 }

@@ -15,7 +15,7 @@ use Rattle.sqlite.specs.Effect.{Database}
 use Rattle.dict_sql.proofs.StreamLemmas.{passed_on}
 use Rattle.dict_desk.specs.Faults.{is_failure}
 use Rattle.dict_desk.specs.declared.fault.Fault.TheVariants.{Memory}
-use Rattle.dict_file.specs.Holds.{Holds, Rests}
+use Rattle.dict_holdings.specs.Holds.{Holds, Rests}
 use Rattle.dict_commands.specs.Answers.{FailsToAct, FailsToApply}
 use Rattle.std.proofs.lemmas.Result.{err_from_is_err_and}
 use Rattle.dict_commands.proofs.applying.apply.Goals as goal

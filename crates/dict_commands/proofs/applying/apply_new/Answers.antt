@@ -13,7 +13,7 @@ use Rattle.dict_desk.specs.Faults.{is_failure}
 use Rattle.dict_desk.specs.declared.fault.Fault.TheVariants.{Memory}
 use Rattle.dict_derived.specs.AllTables.{with_derived, all_after}
 use Rattle.dict_rows.specs.Versions.{known}
-use Rattle.dict_file.specs.Holds.{Holds, Rests}
+use Rattle.dict_holdings.specs.Holds.{Holds, Rests}
 use Rattle.dict_commands.specs.Answers.{FailsToAct}
 use Rattle.dict_commands.specs.Kept.{Turns}
 use Rattle.dict_commands.specs.Changes.{change_by}

@@ -2,7 +2,7 @@ use Rattle.std.proofs.Common.{inl, inr, refl, subst}
 use Rattle.sqlite.specs.Held.{state}
 use Rattle.dict_sql.proofs.StreamLemmas.{passed_on}
 use Rattle.dict_desk.specs.declared.fault.Fault.TheVariants.{Memory}
-use Rattle.dict_file.specs.Writing.{FailsToEnd}
+use Rattle.dict_holdings.specs.Writing.{FailsToEnd}
 use Rattle.dict_rows.specs.Versions.{known}
 use Rattle.dict_derived.specs.AllTables.{all_after}
 use Rattle.dict_commands.specs.Kept.{Turns}

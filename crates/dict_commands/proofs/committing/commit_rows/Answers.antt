@@ -4,7 +4,7 @@ use Rattle.sqlite.specs.State.{HasCleanDisk, Survives, Fails, IsRolledBack}
 use Rattle.sqlite.specs.Held.{state}
 use Rattle.dict_derived.specs.AllTables.{all_after}
 use Rattle.dict_rows.specs.Versions.{known}
-use Rattle.dict_file.proofs.CommitLemmas.{leaves, done, only_left, commit_fails, keeps_begun, stays_undone}
+use Rattle.dict_holdings.proofs.CommitLemmas.{leaves, done, only_left, commit_fails, keeps_begun, stays_undone}
 use Rattle.dict_commands.specs.Kept.{Turns}
 use Rattle.dict_commands.specs.Changes.{change_by}
 use Rattle.dict_commands.specs.Committed.{IsCommitted, IsTreesOf, Stays}

@@ -3,9 +3,9 @@ use Rattle.dict_catalogue.specs.Views.{kept_shown}
 use Rattle.dict_commands.proofs.KeptLemmas.{kept_alone, holds_replies, none_told, first_told, reply_told}
 use Rattle.sqlite.specs.Held.{state}
 use Rattle.dict_sql.specs.Effects.{equals_text}
-use Rattle.dict_file.specs.Faults.{FailsToLookUp}
+use Rattle.dict_holdings.specs.Faults.{FailsToLookUp}
 use Rattle.dict_commands.proofs.KeptLemmas.{replies_fail}
-use Rattle.dict_file.proofs.FailLemmas.{refused_memory}
+use Rattle.dict_holdings.proofs.FailLemmas.{refused_memory}
 use Rattle.dict_commands.proofs.replies.kept_reply.Goals as goal
 use Rattle.dict_rows.specs.Versions.{known}
 

@@ -15,7 +15,7 @@ loop-place-preserved g c =
     let more : (id : ℕ) → tells (take (i + 1) told) id ≡ tells (take i told) id || (id == c.told_at.result)
     = λ id. rw add-one (tells_more told i id 0 within ∙ ap (λ (n : ℕ). tells (take i told) id || (id == n)) (sym (c.told_at.ensures 0))) in
     record {
-      opened = mark_joined (tells (take i told)) (λ one. one == c.told_at.result) (tells (take (i + 1) told)) _ _ _ more c.loop-place.invariant.opened c.mark.ensures.opened;
-      departing = mark_joined (tells (take i told)) (λ one. one == c.told_at.result) (tells (take (i + 1) told)) _ _ _ more c.loop-place.invariant.departing c.mark.ensures.departing;
-      last = c.mark.ensures.last ∙ c.loop-place.invariant.last;
+      opened = mark_joined (tells (take i told)) (λ one. one == c.told_at.result) (tells (take (i + 1) told)) _ _ _ more c.loop-place.invariant.opened c.mark_readable.ensures.opened;
+      departing = mark_joined (tells (take i told)) (λ one. one == c.told_at.result) (tells (take (i + 1) told)) _ _ _ more c.loop-place.invariant.departing c.mark_readable.ensures.departing;
+      last = c.mark_readable.ensures.last ∙ c.loop-place.invariant.last;
     }

@@ -2,7 +2,7 @@ use Rattle.std.proofs.Common.{◌≡◌, ◌<◌, ◌≤◌, ap, arith, length, 
 use Rattle.dict_driver.specs.Turns.{Departs}
 use Rattle.dict_driver.proofs.BoolLemmas.{so_still, so_then}
 use Rattle.dict_driver.proofs.ListLemmas.{default_free, move_more, move_none, taken_whole}
-use Rattle.dict_driver.proofs.turning.depart_all.Goals.{then-depart, else-depart}
+use Rattle.dict_driver.proofs.turning.depart_all.Goals.{then-linger, else-linger}
 use Rattle.dict_driver.proofs.turning.depart_all.Goals as goal
 
 pub loop-one-init : goal.loop-one-init
@@ -15,13 +15,13 @@ loop-one-preserved g c =
     let i = c.loop-one.one-index in
     let one = get_or now i c.one-item.result in
     let in_now : i < length now = search rules in
-    move_more (Departs g.T.Transport.taken g.T.Transport.coming g.T.Transport.made) c.args.all.now.items now i one c.depart.new.self c.loop-one.has_moved c.depart.result _ in_now
+    move_more (Departs g.T.Transport.taken g.T.Transport.coming g.T.Transport.made) c.args.all.now.items now i one c.linger.new.self c.loop-one.has_moved c.linger.result _ in_now
     (default_free now i one c.one-item.result in_now)
-    (elim c.if-depart.branch [
-      | then-depart w ↦ so_then _ c.loop-one.has_moved c.depart.result w.has_moved-is w.if-depart.true
-      | else-depart w ↦ so_still _ c.loop-one.has_moved c.depart.result w.has_moved-is w.if-depart.false
+    (elim c.if-linger.branch [
+      | then-linger w ↦ so_then _ c.loop-one.has_moved c.linger.result w.has_moved-is w.if-linger.true
+      | else-linger w ↦ so_still _ c.loop-one.has_moved c.linger.result w.has_moved-is w.if-linger.false
     ])
-    c.depart.ensures c.loop-one.invariant
+    c.linger.ensures c.loop-one.invariant
 
 pub returns-clause-departs : goal.returns-clause-departs
 returns-clause-departs g c =

@@ -1,4 +1,4 @@
-use Rattle.dict_hub.proofs.TurnLemmas.{some_turns, same_questions}
+use Rattle.dict_hub.proofs.ObservationLemmas.{some_turns, same_questions}
 use Rattle.dict_hub.proofs.laws.same_by_turns.Goals as goal
 
 pub returns-clause-some : goal.returns-clause-some

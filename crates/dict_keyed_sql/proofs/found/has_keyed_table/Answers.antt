@@ -13,6 +13,6 @@ returns-then-is_defined_as c =
     let name = (table_of which 0).name in
     let there : found_table schema name ≡ Some table = search rules in
     let yes : IsTrue c.is_defined_as.result = search rules in (
-      λ alone. owns schema (table_of which) name (name_is which) (tree_is which) table there (c.is_defined_as.ensures.0 yes) (c.is_alone.ensures.0 alone),
-      λ own. c.is_alone.ensures.1 (is_own schema (table_of which) name (name_is which) (tree_is which) table there own).1,
+      λ alone. owns schema (table_of which) name (name_is which) (tree_is which) table there (c.is_defined_as.ensures.0 yes) (c.is_unshared.ensures.0 alone),
+      λ own. c.is_unshared.ensures.1 (is_own schema (table_of which) name (name_is which) (tree_is which) table there own).1,
     )

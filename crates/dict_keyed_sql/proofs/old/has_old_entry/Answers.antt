@@ -10,6 +10,6 @@ returns-then-is_old_entry c =
     let table = c.in-Some.found.now in
     let there : found_table schema (codes "entry") ≡ Some table = search rules in
     let yes : IsTrue c.is_old_entry.result = search rules in (
-      λ alone. owns schema old_entry (codes "entry") (λ n. refl) (λ n. refl) table there (c.is_old_entry.ensures.0 yes) (c.is_alone.ensures.0 alone),
-      λ own. c.is_alone.ensures.1 (is_own schema old_entry (codes "entry") (λ n. refl) (λ n. refl) table there own).1,
+      λ alone. owns schema old_entry (codes "entry") (λ n. refl) (λ n. refl) table there (c.is_old_entry.ensures.0 yes) (c.is_unshared.ensures.0 alone),
+      λ own. c.is_unshared.ensures.1 (is_own schema old_entry (codes "entry") (λ n. refl) (λ n. refl) table there own).1,
     )

@@ -1,6 +1,6 @@
 use Rattle.std.proofs.Common.{ℕ, List, [], ◌∷◌, cond, ap, sym, subst, ◌∙◌}
 use Rattle.std.specs.Prelude.{string_bytes}
-use Rattle.dict_desk.specs.declared.sink.Turn.TheVariants.{More}
+use Rattle.dict_desk.specs.declared.sink.Demand.TheVariants.{More}
 use Rattle.dict_lookup.specs.Handed.{headword_row}
 use Rattle.dict_lookup.proofs.HandLemmas.{same_turn}
 use Rattle.dict_lookup.proofs.listed.hand_if_new.Goals as goal

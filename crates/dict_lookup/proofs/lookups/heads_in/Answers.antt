@@ -24,46 +24,46 @@ use Rattle.dict_lookup.proofs.lookups.heads_in.Goals as goal
 pub returns-in-Ok-begin-clause-value : goal.returns-in-Ok-begin-clause-value
 returns-in-Ok-begin-clause-value g c clean reading one =
     let begun = c.in-Ok-begin.rows.conn.now in
-    let end = c.hand_listed.new.rows.conn.now in
+    let end = c.hand_headwords.new.rows.conn.now in
     let same : end ≡ c.conn-1.given.0 = search rules in
     let last : HasCleanDisk (state g.S.Store end) = subst (λ h. HasCleanDisk (state g.S.Store h)) (sym same) clean in
-    let first : HasCleanDisk (state g.S.Store begun) = clean_before (state g.S.Store begun) (state g.S.Store end) c.hand_listed.ensures.survives last in
+    let first : HasCleanDisk (state g.S.Store begun) = clean_before (state g.S.Store begun) (state g.S.Store end) c.hand_headwords.ensures.survives last in
     let reads = c.in-Ok-begin.ensures.begun first in
     let column = column_back c.args.number c.column_number.result c.column_number.ensures ∙ ap pos (column_is c.args.number one.few) in
     let looked = c.in-Ok.ensures ∙ ap (rows_for c.args.strategy) c.as_bytes.ensures in
     let here : HoldsOne (state g.S.Store begun).now c.args.number reading = subst (λ (db : Database). HoldsOne db c.args.number reading) (sym reads.1.0.now_is) one in
     let given = subst (λ (r : Rows). HasGiven g.S.Store (scan_for (pos c.args.number) r) begun []) looked (subst (λ z. HasGiven g.S.Store (scan_for z (rows_of c.in-Ok.selection)) begun []) column reads.0) in
-    subst (λ rows. Hands g.T.RowSink.takes g.T.RowSink.stops c.args.sink.now c.hand_listed.new.sink rows c.hand_listed.result) (listed_lines (state g.S.Store begun).now c.args.number reading here.lines c.args.strategy c.args.query.now)
-    (c.hand_listed.ensures.value last (filter (is_looked_at (state g.S.Store begun).now (pos c.args.number) (rows_for c.args.strategy c.args.query.now)) (filed_lines c.args.number reading.lines)) (all_to_come g.S.Store begun c.args.number reading.lines here.lines (rows_for c.args.strategy c.args.query.now) given))
+    subst (λ rows. Hands g.T.RowSink.takes g.T.RowSink.stops c.args.sink.now c.hand_headwords.new.sink rows c.hand_headwords.result) (listed_lines (state g.S.Store begun).now c.args.number reading here.lines c.args.strategy c.args.query.now)
+    (c.hand_headwords.ensures.value last (filter (is_looked_at (state g.S.Store begun).now (pos c.args.number) (rows_for c.args.strategy c.args.query.now)) (filed_lines c.args.number reading.lines)) (all_to_come g.S.Store begun c.args.number reading.lines here.lines (rows_for c.args.strategy c.args.query.now) given))
 
 pub returns-in-Ok-begin-clause-failed : goal.returns-in-Ok-begin-clause-failed
 returns-in-Ok-begin-clause-failed g c clean =
     let old = c.args.conn.now in
     let begun = c.in-Ok-begin.rows.conn.now in
-    let end = c.hand_listed.new.rows.conn.now in
+    let end = c.hand_headwords.new.rows.conn.now in
     let same : end ≡ c.conn-1.given.0 = search rules in
     let last : HasCleanDisk (state g.S.Store end) = subst (λ h. HasCleanDisk (state g.S.Store h)) (sym same) clean in
-    let first : HasCleanDisk (state g.S.Store begun) = clean_before (state g.S.Store begun) (state g.S.Store end) c.hand_listed.ensures.survives last in
+    let first : HasCleanDisk (state g.S.Store begun) = clean_before (state g.S.Store begun) (state g.S.Store end) c.hand_headwords.ensures.survives last in
     let reads = c.in-Ok-begin.ensures.begun first in
     let column = column_back c.args.number c.column_number.result c.column_number.ensures in
     let given = subst (λ z. HasGiven g.S.Store (scan_for z (rows_of c.in-Ok.selection)) begun []) column reads.0 in
-    subst (λ h. IfErr c.hand_listed.result (FailsToLookUp (column_of c.args.number) (state g.S.Store old) (state g.S.Store h))) same
-    (each_err c.hand_listed.result (λ fault. (number : ℕ) → IsReading g.S.Store number begun → FailsToLookUp number (state g.S.Store begun) (state g.S.Store end) fault) (FailsToLookUp (column_of c.args.number) (state g.S.Store old) (state g.S.Store end))
-    (λ fault fails. fails_behind (column_of c.args.number) (state g.S.Store old) (state g.S.Store begun) (state g.S.Store end) reads.1 c.in-Ok-begin.ensures.survives fault (fails (column_of c.args.number) (begun_reading g.S.Store begun (column_of c.args.number) (rows_of c.in-Ok.selection) reads.1.0.is_open given))) (c.hand_listed.ensures.failed last))
+    subst (λ h. IfErr c.hand_headwords.result (FailsToLookUp (column_of c.args.number) (state g.S.Store old) (state g.S.Store h))) same
+    (each_err c.hand_headwords.result (λ fault. (number : ℕ) → IsReading g.S.Store number begun → FailsToLookUp number (state g.S.Store begun) (state g.S.Store end) fault) (FailsToLookUp (column_of c.args.number) (state g.S.Store old) (state g.S.Store end))
+    (λ fault fails. fails_behind (column_of c.args.number) (state g.S.Store old) (state g.S.Store begun) (state g.S.Store end) reads.1 c.in-Ok-begin.ensures.survives fault (fails (column_of c.args.number) (begun_reading g.S.Store begun (column_of c.args.number) (rows_of c.in-Ok.selection) reads.1.0.is_open given))) (c.hand_headwords.ensures.failed last))
 
 pub returns-in-Ok-begin-clause-few : goal.returns-in-Ok-begin-clause-few
 returns-in-Ok-begin-clause-few g c clean readable =
     let begun = c.in-Ok-begin.rows.conn.now in
-    let end = c.hand_listed.new.rows.conn.now in
+    let end = c.hand_headwords.new.rows.conn.now in
     let same : end ≡ c.conn-1.given.0 = search rules in
     let last : HasCleanDisk (state g.S.Store end) = subst (λ h. HasCleanDisk (state g.S.Store h)) (sym same) clean in
-    let first : HasCleanDisk (state g.S.Store begun) = clean_before (state g.S.Store begun) (state g.S.Store end) c.hand_listed.ensures.survives last in
+    let first : HasCleanDisk (state g.S.Store begun) = clean_before (state g.S.Store begun) (state g.S.Store end) c.hand_headwords.ensures.survives last in
     let reads = c.in-Ok-begin.ensures.begun first in
     let column = column_back c.args.number c.column_number.result c.column_number.ensures in
     let given = subst (λ z. HasGiven g.S.Store (scan_for z (rows_of c.in-Ok.selection)) begun []) column reads.0 in
     let here : IsReadable (state g.S.Store begun).now (column_of c.args.number) = subst (λ (db : Database). IsReadable db (column_of c.args.number)) (sym reads.1.0.now_is) readable in
     let all = some_to_come g.S.Store begun (column_of c.args.number) (begun_reading g.S.Store begun (column_of c.args.number) (rows_of c.in-Ok.selection) reads.1.0.is_open given) here in
-    ((rows_listed c.args.strategy c.args.query.now all.0), few_listed c.args.strategy c.args.query.now all.0 all.2, c.hand_listed.ensures.value last all.0 all.1)
+    ((rows_listed c.args.strategy c.args.query.now all.0), few_listed c.args.strategy c.args.query.now all.0 all.2, c.hand_headwords.ensures.value last all.0 all.1)
 
 pub returns-in_default-clause-value : goal.returns-in_default-clause-value
 returns-in_default-clause-value g c clean reading one =

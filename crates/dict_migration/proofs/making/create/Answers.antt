@@ -4,10 +4,10 @@ use Rattle.sqlite.specs.State.{HasCleanDisk, Survives, Fails, IsRolledBack}
 use Rattle.sqlite.proofs.Callers.{survives_begin}
 use Rattle.sqlite.specs.Held.{state}
 use Rattle.dict_catalogue.specs.Steps.{empty_catalogue}
-use Rattle.dict_file.specs.Holds.{Holds, Rests, IsLeftAs}
-use Rattle.dict_file.specs.Writing.{Stays}
+use Rattle.dict_holdings.specs.Holds.{Holds, Rests, IsLeftAs}
+use Rattle.dict_holdings.specs.Writing.{Stays}
 use Rattle.dict_migration.specs.Making.{creation, RunInTurn, FailsInTurn}
-use Rattle.dict_file.proofs.CommitLemmas.{leaves, only_left, done, before_commit, commit_fails, keeps_begun, stays_undone}
+use Rattle.dict_holdings.proofs.CommitLemmas.{leaves, only_left, done, before_commit, commit_fails, keeps_begun, stays_undone}
 use Rattle.dict_migration.proofs.making.create.Goals as goal
 use Rattle.dict_rows.specs.Versions.{known}
 

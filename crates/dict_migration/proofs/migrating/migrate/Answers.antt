@@ -9,7 +9,7 @@ use Rattle.dict_migration.specs.Places.{InMove}
 use Rattle.dict_migration.specs.Failing.{FailsBefore, FailsToEnd, FailsToMigrate}
 use Rattle.dict_migration.proofs.FailLemmas.{why_not_begun}
 use Rattle.dict_migration.specs.Migrated.{MayMigrate}
-use Rattle.dict_file.specs.Writing.{Stays}
+use Rattle.dict_holdings.specs.Writing.{Stays}
 use Rattle.dict_migration.specs.Moved.{AreTreesOf, IsCommitted, IsOutcome}
 use Rattle.dict_migration.proofs.EndLemmas.{is_old, outcome_holds, outcome_left, outcome_may, summary_installs, summary_numbers}
 use Rattle.dict_migration.proofs.migrating.migrate.Goals as goal

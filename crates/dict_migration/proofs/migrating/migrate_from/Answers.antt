@@ -2,8 +2,8 @@ use Rattle.std.proofs.Common.{◌≡◌, rules, sym, ap, subst, ◌∙◌, refl,
 use Rattle.sqlite.specs.Effect.{Database, IsDatabase}
 use Rattle.sqlite.specs.State.{HasCleanDisk, Survives, Fails, IsRolledBack}
 use Rattle.sqlite.specs.Held.{state}
-use Rattle.dict_file.specs.Writing.{Stays}
-use Rattle.dict_file.proofs.CommitLemmas.{leaves, done, only_left, commit_fails, keeps_begun, stays_undone}
+use Rattle.dict_holdings.specs.Writing.{Stays}
+use Rattle.dict_holdings.proofs.CommitLemmas.{leaves, done, only_left, commit_fails, keeps_begun, stays_undone}
 use Rattle.dict_migration.specs.Moved.{AreTreesOf, IsCommitted, IsOutcome}
 use Rattle.sqlite.proofs.Callers.{survives_begin}
 use Rattle.dict_migration.specs.Places.{InMove}

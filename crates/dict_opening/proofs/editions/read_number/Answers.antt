@@ -22,7 +22,7 @@ use Rattle.dict_scans.specs.declared.fault.ReadingFault.TheVariants.{Damaged}
 use Rattle.dict_scans.proofs.CauseLemmas.{cause_passed, rows_cause, cause_last}
 use Rattle.dict_scans.proofs.StateLemmas.{clean_before, reads_then, while_same}
 use Rattle.dict_scans.proofs.TakerLemmas.{if_err_then}
-use Rattle.dict_opening.specs.Opens.{HasTables, HasTablesOf, KeepsNone, CanReadOne, IsNotOne, IsWrongEdition, HasPieces}
+use Rattle.dict_opening.specs.Opens.{HasVersionTables, HasTablesOf, KeepsNone, CanReadOne, IsNotOne, IsWrongEdition, HasPieces}
 use Rattle.dict_opening.proofs.NoneLemmas.{not_one, edition_refused, edition_wrong}
 use Rattle.dict_opening.proofs.editions.read_number.Goals as goal
 
@@ -42,7 +42,7 @@ returns-in-Err-clause-damaged g c clean is taken h can =
 pub read_with_derived-requires : goal.read_with_derived-requires
 read_with_derived-requires g c =
     subst (λ layout. WhileOpen (state g.S.Store c.edition_numbered.new.conn) (HasTablesOf layout)) (sym c.layout_of.ensures)
-    (while_same (HasTables c.args.version) (state g.S.Store c.args.conn.now) (state g.S.Store c.edition_numbered.new.conn) c.edition_numbered.ensures.reads.survives c.in_ok-row.ensures.same c.requires)
+    (while_same (HasVersionTables c.args.version) (state g.S.Store c.args.conn.now) (state g.S.Store c.edition_numbered.new.conn) c.edition_numbered.ensures.reads.survives c.in_ok-row.ensures.same c.requires)
 
 pub returns-clause-reads : goal.returns-clause-reads
 returns-clause-reads g c =

@@ -1,4 +1,4 @@
-use Rattle.dict_file.proofs.OneLemmas.{one_version, one_held, one_left, left_held}
+use Rattle.dict_holdings.proofs.OneLemmas.{one_version, one_held, one_left, left_held}
 use Rattle.dict_opening.proofs.laws.one_is_held.Goals as goal
 
 pub returns-clause-version : goal.returns-clause-version

@@ -7,13 +7,13 @@ use Rattle.dict_sql.specs.Encodings.{stored_mark}
 use Rattle.dict_sql.specs.Reads.{IsListing}
 use Rattle.dict_sql.proofs.StreamLemmas.{passed_on}
 use Rattle.dict_rows.specs.Versions.{layout_of}
-use Rattle.dict_file.specs.Holds.{Holds, HasLayout}
-use Rattle.dict_file.proofs.ReadableLemmas.{held_readable}
+use Rattle.dict_holdings.specs.Holds.{Holds, HasLayout}
+use Rattle.dict_holdings.proofs.ReadableLemmas.{held_readable}
 use Rattle.dict_scans.specs.declared.fault.ReadingFault.{ReadingFault}
 use Rattle.dict_scans.specs.declared.fault.ReadingFault.TheVariants.{Damaged}
 use Rattle.dict_scans.proofs.CauseLemmas.{cause_passed, cause_later}
 use Rattle.dict_scans.proofs.StateLemmas.{clean_before, reads_then, while_same}
-use Rattle.dict_opening.specs.Opens.{HasTables, HasOthersApart, HoldsNoneAs}
+use Rattle.dict_opening.specs.Opens.{HasVersionTables, HasOthersApart, HoldsNoneAs}
 use Rattle.dict_opening.proofs.HoldLemmas.{holds_of, none_without, others_apart}
 use Rattle.dict_opening.proofs.opening.read_tables.Goals as goal
 
@@ -38,7 +38,7 @@ returns-in_err-summary-clause-damaged g c clean =
 pub test_other_rowids-requires : goal.test_other_rowids-requires
 test_other_rowids-requires g c =
     let yes : IsTrue c.has_layout.result = search rules in
-    while_same (HasTables c.args.version) (state g.S.Store c.args.conn.now) (state g.S.Store c.read_records.new.conn) c.read_records.ensures.reads.survives c.in_ok-summary.ensures.same
+    while_same (HasVersionTables c.args.version) (state g.S.Store c.args.conn.now) (state g.S.Store c.read_records.new.conn) c.read_records.ensures.reads.survives c.in_ok-summary.ensures.same
     (λ clean o. (subst (HasLayout (layout_of c.args.version)) c.schema.ensures.value (c.has_layout.ensures.0 yes)).tables)
 
 pub returns-in_err-test_other_rowids-clause-reads : goal.returns-in_err-test_other_rowids-clause-reads

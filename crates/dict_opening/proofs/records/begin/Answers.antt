@@ -13,11 +13,11 @@ use Rattle.dict_sql.specs.Columns.{item_columns, member_columns}
 use Rattle.dict_sql.specs.Effects.{rows_of}
 use Rattle.dict_sql.specs.Encodings.{stored_member}
 use Rattle.dict_sql.specs.Reads.{IsListing}
-use Rattle.dict_file.specs.Holds.{Holds}
+use Rattle.dict_holdings.specs.Holds.{Holds}
 use Rattle.dict_rows.specs.Given.{marks_given, items_given, members_given}
 use Rattle.dict_rows.specs.Taken.{StandsForNone, begun}
 use Rattle.dict_scans.proofs.ScanLemmas.{rows_damaged}
-use Rattle.dict_file.proofs.ReadableLemmas.{held_readable}
+use Rattle.dict_holdings.proofs.ReadableLemmas.{held_readable}
 use Rattle.dict_opening.proofs.ReadableLemmas.{none_listed}
 use Rattle.dict_opening.proofs.WrongLemmas.{has_begun, begin_wrong}
 use Rattle.dict_scans.specs.Reading.{IsExcused}

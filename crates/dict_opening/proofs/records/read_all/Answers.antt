@@ -10,7 +10,7 @@ use Rattle.dict_scans.specs.declared.fault.ReadingFault.{ReadingFault}
 use Rattle.dict_scans.specs.declared.fault.ReadingFault.TheVariants.{Damaged}
 use Rattle.dict_scans.proofs.StateLemmas.{clean_before, reads_then, same_then}
 use Rattle.dict_scans.proofs.TakerLemmas.{if_err_then}
-use Rattle.dict_opening.specs.Opens.{HasTables, KeepsNone, HoldsNoneAs, Fits, HasBegun, HasNamed, HasReplies}
+use Rattle.dict_opening.specs.Opens.{HasVersionTables, KeepsNone, HoldsNoneAs, Fits, HasBegun, HasNamed, HasReplies}
 use Rattle.dict_scans.proofs.StateLemmas.{while_same}
 use Rattle.dict_opening.proofs.CloseLemmas.{has_all}
 use Rattle.dict_scans.proofs.CauseLemmas.{cause_passed, cause_later, cause_last}
@@ -40,7 +40,7 @@ read_kept-requires g c =
     let mid = state g.S.Store c.test_strays.new.conn in
     let two = state g.S.Store c.read_named.new.conn in
     let both = reads_then old mid two c.test_strays.ensures.reads c.read_named.ensures.reads in
-    while_same (HasTables c.args.version) old two both.survives (λ clean. same_then old mid two (c.in_ok-test_strays.ensures.same (clean_before old mid two c.read_named.ensures.reads.survives clean)) (c.in_ok-read_named.ensures.same clean)) c.requires
+    while_same (HasVersionTables c.args.version) old two both.survives (λ clean. same_then old mid two (c.in_ok-test_strays.ensures.same (clean_before old mid two c.read_named.ensures.reads.survives clean)) (c.in_ok-read_named.ensures.same clean)) c.requires
 
 pub returns-clause-all : goal.returns-clause-all
 returns-clause-all g c clean =
@@ -94,4 +94,4 @@ returns-clause-failed g c clean =
 
 pub read_named-requires : goal.read_named-requires
 read_named-requires g c =
-    while_same (HasTables c.args.version) (state g.S.Store c.args.conn.now) (state g.S.Store c.test_strays.new.conn) c.test_strays.ensures.reads.survives c.in_ok-test_strays.ensures.same c.requires
+    while_same (HasVersionTables c.args.version) (state g.S.Store c.args.conn.now) (state g.S.Store c.test_strays.new.conn) c.test_strays.ensures.reads.survives c.in_ok-test_strays.ensures.same c.requires

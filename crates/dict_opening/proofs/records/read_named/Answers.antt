@@ -14,19 +14,19 @@ pub returns-clause-named : goal.returns-clause-named
 returns-clause-named g c clean =
     let old = state g.S.Store c.args.conn.now in
     let are = c.deref.ensures.value ∙ c.in-Ok.ensures.numbers in
-    on_ok_weaker c.read_numbers.result
+    on_ok_weaker c.read_numbered_editions.result
     (λ read front h b.
     let got = read front (subst (λ ns. CanRead c.args.version old.now c.args.reader.now.reader ns front) (sym are) (can_read c.args.version old.now c.args.reader.now.reader front h b)) in
     (got.0, got.1, subst (λ ns. HasRead c.args.version old.now ns front got.0) are got.2))
-    (c.read_numbers.ensures.whole clean)
+    (c.read_numbered_editions.ensures.whole clean)
 
 pub returns-clause-damaged : goal.returns-clause-damaged
 returns-clause-damaged g c clean =
     let old = state g.S.Store c.args.conn.now in
     let are = c.deref.ensures.value ∙ c.in-Ok.ensures.numbers in
-    if_err_then _ _ c.read_numbers.result
+    if_err_then _ _ c.read_numbered_editions.result
     (λ fault wrong is front h b. b.none (wrong is front (subst (λ ns. CanRead c.args.version old.now c.args.reader.now.reader ns front) (sym are) (can_read c.args.version old.now c.args.reader.now.reader front h b))))
-    (c.read_numbers.ensures.damaged clean)
+    (c.read_numbered_editions.ensures.damaged clean)
 
 pub returns-in-Err-clause-failed : goal.returns-in-Err-clause-failed
 returns-in-Err-clause-failed g c clean =

@@ -8,7 +8,7 @@ use Rattle.dict_scans.specs.declared.fault.ReadingFault.TheVariants.{Damaged}
 use Rattle.dict_scans.proofs.StateLemmas.{clean_before}
 use Rattle.dict_sql.specs.Encodings.{stored_mark}
 use Rattle.dict_sql.specs.Reads.{IsListing}
-use Rattle.dict_opening.specs.Opens.{HasTables, KeepsNone, HoldsNoneAs, HasBegun, HasAll}
+use Rattle.dict_opening.specs.Opens.{HasVersionTables, KeepsNone, HoldsNoneAs, HasBegun, HasAll}
 use Rattle.dict_scans.proofs.StateLemmas.{while_same}
 use Rattle.dict_opening.proofs.CloseLemmas.{finish_wrong}
 use Rattle.dict_opening.proofs.HoldLemmas.{has_summary}
@@ -24,7 +24,7 @@ returns-in_err-reader-clause-damaged g c clean =
 
 pub read_all-requires : goal.read_all-requires
 read_all-requires g c =
-    while_same (HasTables c.args.version) (state g.S.Store c.args.conn.now) (state g.S.Store c.begin.new.conn) c.begin.ensures.reads.survives c.in_ok-reader.ensures.same c.requires
+    while_same (HasVersionTables c.args.version) (state g.S.Store c.args.conn.now) (state g.S.Store c.begin.new.conn) c.begin.ensures.reads.survives c.in_ok-reader.ensures.same c.requires
 
 pub returns-in_err-read_all-clause-damaged : goal.returns-in_err-read_all-clause-damaged
 returns-in_err-read_all-clause-damaged g c clean =

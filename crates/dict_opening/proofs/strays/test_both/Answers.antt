@@ -6,7 +6,7 @@ use Rattle.sqlite.specs.Held.{state}
 use Rattle.dict_tables.specs.Keyed.{gram}
 use Rattle.dict_sql.specs.Effects.{Has}
 use Rattle.dict_sql.proofs.StreamLemmas.{passed_on}
-use Rattle.dict_file.specs.Readings.{IsReadable, grams}
+use Rattle.dict_holdings.specs.Readings.{IsReadable, grams}
 use Rattle.dict_scans.specs.Census.{AreNumberedApart}
 use Rattle.dict_scans.specs.declared.fault.ReadingFault.{ReadingFault}
 use Rattle.dict_scans.specs.declared.fault.ReadingFault.TheVariants.{Damaged}

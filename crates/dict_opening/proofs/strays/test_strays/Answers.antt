@@ -15,7 +15,7 @@ use Rattle.dict_scans.proofs.StateLemmas.{clean_before, while_same, reads_then}
 use Rattle.dict_scans.proofs.TakerLemmas.{if_err_then, on_damage}
 use Rattle.dict_sql.specs.Effects.{WhileOpen}
 use Rattle.dict_opening.specs.Layouts.{layout_in}
-use Rattle.dict_opening.specs.Opens.{HasTables, HasTablesOf, KeepsNone, Fits, AreRowsKnown, AreReadableEntries, AreReadablePieces, numbers_in}
+use Rattle.dict_opening.specs.Opens.{HasVersionTables, HasTablesOf, KeepsNone, Fits, AreRowsKnown, AreReadableEntries, AreReadablePieces, numbers_in}
 use Rattle.dict_opening.proofs.WrongLemmas.{editions_stray, rows_stray}
 use Rattle.dict_opening.proofs.strays.test_strays.Goals as goal
 
@@ -43,7 +43,7 @@ returns-in-Err-clause-failed g c clean =
 pub test_numbers-requires : goal.test_numbers-requires
 test_numbers-requires g c =
     subst (λ layout. WhileOpen (state g.S.Store c.test_editions.new.conn) (HasTablesOf layout)) (sym c.layout_of.ensures)
-    (while_same (HasTables c.args.version) (state g.S.Store c.args.conn.now) (state g.S.Store c.test_editions.new.conn) c.test_editions.ensures.reads.survives c.in_ok-test_editions.ensures.same c.requires)
+    (while_same (HasVersionTables c.args.version) (state g.S.Store c.args.conn.now) (state g.S.Store c.test_editions.new.conn) c.test_editions.ensures.reads.survives c.in_ok-test_editions.ensures.same c.requires)
 
 pub returns-clause-reads : goal.returns-clause-reads
 returns-clause-reads g c = reads_then (state g.S.Store c.args.conn.now) (state g.S.Store c.test_editions.new.conn) (state g.S.Store c.test_numbers.new.conn) c.test_editions.ensures.reads c.test_numbers.ensures.reads

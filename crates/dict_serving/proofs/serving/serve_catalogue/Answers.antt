@@ -19,7 +19,7 @@ returns-in-Err g c = inr (
     c.in-Err.fault,
     refl,
     c.in-Err.ensures.begins,
-    does_both (g.D.Desks.history c.args.desks.now) (g.D.Desks.history c.open.new.self) (g.D.Desks.history c.close.new.self) _ _ c.in_ok-desk.ensures.history c.close.ensures.history,
+    does_both (g.D.DeskOpener.history c.args.desks.now) (g.D.DeskOpener.history c.open.new.self) (g.D.DeskOpener.history c.close.new.self) _ _ c.in_ok-desk.ensures.history c.close.ensures.history,
     refl,
   ),
 )
@@ -55,8 +55,8 @@ returns-in_err-desk-2 g c =
           made = made;
           ends = served.3;
         },
-        was_done c.args.path.now c.in_ok-desk.desk served.0 None (g.D.Desks.history c.args.desks.now) (g.D.Desks.history c.open.new.self) (g.D.Desks.history c.serve_rounds-served.new.desks)
-            (g.D.Desks.history c.serve_rounds-served.new.desks) c.in_ok-desk.ensures.history served.4 (does_none _),
+        was_done c.args.path.now c.in_ok-desk.desk served.0 None (g.D.DeskOpener.history c.args.desks.now) (g.D.DeskOpener.history c.open.new.self) (g.D.DeskOpener.history c.serve_rounds-served.new.desks)
+            (g.D.DeskOpener.history c.serve_rounds-served.new.desks) c.in_ok-desk.ensures.history served.4 (does_none _),
         refl,
       ),
     ))
@@ -91,8 +91,8 @@ returns g c =
           made = made;
           ends = tt;
         },
-        was_done c.args.path.now c.in_ok-desk.desk served.0 (Some c.in_ok-desk-2.desk) (g.D.Desks.history c.args.desks.now) (g.D.Desks.history c.open.new.self)
-            (g.D.Desks.history c.serve_rounds-served.new.desks) (g.D.Desks.history c.close-2.new.self) c.in_ok-desk.ensures.history served.4 c.close-2.ensures.history,
+        was_done c.args.path.now c.in_ok-desk.desk served.0 (Some c.in_ok-desk-2.desk) (g.D.DeskOpener.history c.args.desks.now) (g.D.DeskOpener.history c.open.new.self)
+            (g.D.DeskOpener.history c.serve_rounds-served.new.desks) (g.D.DeskOpener.history c.close-2.new.self) c.in_ok-desk.ensures.history served.4 c.close-2.ensures.history,
         refl,
       ),
     )

@@ -7,7 +7,7 @@ use Rattle.dict_serving.proofs.StretchLemmas.{ends_more, first_goes, goes_more, 
 use Rattle.dict_serving.proofs.serving.serve_rounds.Goals as goal
 
 pub loop-pending-init : goal.loop-pending-init
-loop-pending-init g c = record { served = ([], refl, tt, (λ some. (refl, refl)), gone_first c.args.path.now c.args.desk c.args.rounds (g.D.Desks.history c.args.desks.now)); opened = λ some. c.requires; stands = inl c.requires; made = λ few. refl }
+loop-pending-init g c = record { served = ([], refl, tt, (λ some. (refl, refl)), gone_first c.args.path.now c.args.desk c.args.rounds (g.D.DeskOpener.history c.args.desks.now)); opened = λ some. c.requires; stands = inl c.requires; made = λ few. refl }
 
 pub returns-in_err-pending-clause-served : goal.returns-in_err-pending-clause-served
 returns-in_err-pending-clause-served g c =
@@ -17,13 +17,13 @@ returns-in_err-pending-clause-served g c =
     let one : Stretch _ = record { opened = c.loop-pending.pending.desk; left = over.0; asked = c.loop-pending.pending.left; rounds = c.serve_stretch.new.driver.event_loop.rounds - c.loop-pending.driver.event_loop.rounds; ended = over.1 } in
     let error = err_from_is_err_and c.from_residual.result c.from_residual.ensures.1 in (
       held.0 ++ one ∷ [],
-      served_more g.K.Lookup.shows g.K.Lookup.leaves_one_of g.K.Lookup.is_trusted g.D.Desks.is_opened g.K.Lookup.is_closed c.args.rounds c.args.desk held.0 one c.args.driver.now c.loop-pending.driver
+      served_more g.K.Lookup.shows g.K.Lookup.leaves_one_of g.K.Lookup.is_trusted g.D.DeskOpener.is_opened g.K.Lookup.is_closed c.args.rounds c.args.desk held.0 one c.args.driver.now c.loop-pending.driver
           c.serve_stretch.new.driver held.1 goes over.2,
-      first_goes g.K.Lookup.shows g.K.Lookup.leaves_one_of g.K.Lookup.is_trusted g.D.Desks.is_opened g.K.Lookup.is_closed c.args.rounds c.args.desk held.0 one held.2 goes,
-      rw (error.1, error.2) (ends_more g.K.Lookup.shows g.K.Lookup.leaves_one_of g.K.Lookup.is_trusted g.D.Desks.is_opened g.K.Lookup.is_closed (g.D.Desks.is_unreopened c.args.path.now) held.0 one
+      first_goes g.K.Lookup.shows g.K.Lookup.leaves_one_of g.K.Lookup.is_trusted g.D.DeskOpener.is_opened g.K.Lookup.is_closed c.args.rounds c.args.desk held.0 one held.2 goes,
+      rw (error.1, error.2) (ends_more g.K.Lookup.shows g.K.Lookup.leaves_one_of g.K.Lookup.is_trusted g.D.DeskOpener.is_opened g.K.Lookup.is_closed (g.D.DeskOpener.is_unreopened c.args.path.now) held.0 one
           c.serve_stretch.new.driver _ over.3),
-      rw error.1 (turned c.args.path.now c.args.desk held.0 one c.loop-pending.pending.left c.loop-pending-test.true (g.D.Desks.history c.args.desks.now) (g.D.Desks.history c.loop-pending.desks)
-          (g.D.Desks.history c.serve_stretch.new.desks) held.4 None over.5),
+      rw error.1 (turned c.args.path.now c.args.desk held.0 one c.loop-pending.pending.left c.loop-pending-test.true (g.D.DeskOpener.history c.args.desks.now) (g.D.DeskOpener.history c.loop-pending.desks)
+          (g.D.DeskOpener.history c.serve_stretch.new.desks) held.4 None over.5),
     )
 
 pub loop-pending-preserved : goal.loop-pending-preserved
@@ -35,13 +35,13 @@ loop-pending-preserved g c =
     record {
       served = (
         held.0 ++ one ∷ [],
-        served_more g.K.Lookup.shows g.K.Lookup.leaves_one_of g.K.Lookup.is_trusted g.D.Desks.is_opened g.K.Lookup.is_closed c.args.rounds c.args.desk held.0 one c.args.driver.now c.loop-pending.driver
+        served_more g.K.Lookup.shows g.K.Lookup.leaves_one_of g.K.Lookup.is_trusted g.D.DeskOpener.is_opened g.K.Lookup.is_closed c.args.rounds c.args.desk held.0 one c.args.driver.now c.loop-pending.driver
             c.serve_stretch.new.driver held.1 goes over.2,
-        first_goes g.K.Lookup.shows g.K.Lookup.leaves_one_of g.K.Lookup.is_trusted g.D.Desks.is_opened g.K.Lookup.is_closed c.args.rounds c.args.desk held.0 one held.2 goes,
+        first_goes g.K.Lookup.shows g.K.Lookup.leaves_one_of g.K.Lookup.is_trusted g.D.DeskOpener.is_opened g.K.Lookup.is_closed c.args.rounds c.args.desk held.0 one held.2 goes,
         λ some. (let gave = over.4 some in
-            goes_more g.K.Lookup.shows g.K.Lookup.leaves_one_of g.K.Lookup.is_trusted g.D.Desks.is_opened g.K.Lookup.is_closed c.args.rounds c.args.desk held.0 one c.in_ok-pending.pending.desk c.in_ok-pending.pending.left gave.0 gave.1 gave.2),
-        gone_more c.args.path.now c.args.desk held.0 one c.loop-pending.pending.left c.loop-pending-test.true (g.D.Desks.history c.args.desks.now) (g.D.Desks.history c.loop-pending.desks)
-            (g.D.Desks.history c.serve_stretch.new.desks) held.4 c.in_ok-pending.pending.desk c.in_ok-pending.pending.left over.5 (λ some. (over.4 some).3),
+            goes_more g.K.Lookup.shows g.K.Lookup.leaves_one_of g.K.Lookup.is_trusted g.D.DeskOpener.is_opened g.K.Lookup.is_closed c.args.rounds c.args.desk held.0 one c.in_ok-pending.pending.desk c.in_ok-pending.pending.left gave.0 gave.1 gave.2),
+        gone_more c.args.path.now c.args.desk held.0 one c.loop-pending.pending.left c.loop-pending-test.true (g.D.DeskOpener.history c.args.desks.now) (g.D.DeskOpener.history c.loop-pending.desks)
+            (g.D.DeskOpener.history c.serve_stretch.new.desks) held.4 c.in_ok-pending.pending.desk c.in_ok-pending.pending.left over.5 (λ some. (over.4 some).3),
       );
       opened = c.in_ok-pending.ensures.opened;
       stands = c.in_ok-pending.ensures.stands;

@@ -7,7 +7,7 @@ use Rattle.sqlite.specs.Held.{state}
 use Rattle.sqlite.proofs.StateLemmas.{survives_then}
 use Rattle.dict_catalogue.specs.Steps.{Catalogue, summary_of}
 use Rattle.dict_catalogue.specs.Views.{summary_shown}
-use Rattle.dict_file.specs.Holds.{Holds, IsHeld, Rests, IsLeftAs}
+use Rattle.dict_holdings.specs.Holds.{Holds, IsHeld, Rests, IsLeftAs}
 use Rattle.dict_desk.specs.declared.fault.Fault.TheVariants.{Disk}
 use Rattle.dict_catalogue.specs.Tests.{Holdings}
 use Rattle.dict_migration.specs.Failing.{FailsToMigrate, FailsToMove, IsBeyond}

@@ -1,6 +1,6 @@
 use Rattle.std.proofs.Common.{◌≡◌, subst, arith}
 use Rattle.sqlite.specs.Held.{state}
-use Rattle.dict_file.specs.Holds.{Holds}
+use Rattle.dict_holdings.specs.Holds.{Holds}
 use Rattle.dict_rows.specs.Versions.{known}
 use Rattle.dict_store.proofs.adopting.renew.Goals as goal
 

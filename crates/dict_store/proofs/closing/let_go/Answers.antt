@@ -3,7 +3,7 @@ use Rattle.sqlite.specs.Held.{state}
 use Rattle.sqlite.specs.State.{HasCleanDisk}
 use Rattle.dict_catalogue.specs.Steps.{Catalogue}
 use Rattle.dict_catalogue.specs.Views.{summary_shown}
-use Rattle.dict_file.specs.Holds.{IsLeft}
+use Rattle.dict_holdings.specs.Holds.{IsLeft}
 use Rattle.dict_store.specs.Desk.{DeskState, Shows, is_closed}
 use Rattle.dict_store.proofs.CloseLemmas.{committed_holds}
 use Rattle.dict_store.proofs.closing.let_go.Goals as goal

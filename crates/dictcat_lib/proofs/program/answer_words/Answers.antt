@@ -1,11 +1,11 @@
 use Rattle.std.proofs.Common.{refl, inl, inr, ◌∙◌, Err}
 use Rattle.dictcat_lib.specs.Program.{IsMistake}
-use Rattle.dict_printed.specs.declared.fault.Fault.TheVariants.{Memory}
+use Rattle.dict_messages.specs.declared.fault.ProgramFault.TheVariants.{Memory}
 use Rattle.dictcat_lib.proofs.program.answer_words.Goals as goal
 
 pub returns-in-OutOfMemory : goal.returns-in-OutOfMemory
 returns-in-OutOfMemory g c words fails reader untouched =
-    inl (Err Memory, inr (refl, untouched, refl), c.tell.ensures)
+    inl (Err Memory, inr (refl, untouched, refl), c.tell_fault.ensures)
 
 pub returns-in_default : goal.returns-in_default
 returns-in_default g c words fails reader untouched =

@@ -20,7 +20,7 @@ returns g c =
       c.audit-audited.new.desk,
       c.close-closed.result,
       (opened, c.in_ok-desk.ensures.answers),
-      does_both (g.D.Desks.history c.args.desks.now) (g.D.Desks.history c.audit-audited.new.self) (g.D.Desks.history c.close-closed.new.self)
+      does_both (g.D.DeskOpener.history c.args.desks.now) (g.D.DeskOpener.history c.audit-audited.new.self) (g.D.DeskOpener.history c.close-closed.new.self)
           (Opens c.args.path.now (Some c.in_ok-desk.desk) ∷ []) (Closes c.audit-audited.new.desk ∷ [])
           (c.audit-audited.ensures.history ∙ c.in_ok-desk.ensures.history) c.close-closed.ensures.history,
       shut,

@@ -14,6 +14,6 @@ returns g c = inr (
   c.close.result,
   refl,
   c.in_ok-desk.ensures.made,
-  does_both (g.D.Desks.history c.args.desks.now) (g.D.Desks.history c.make.new.self) (g.D.Desks.history c.close.new.self) _ _ c.in_ok-desk.ensures.history c.close.ensures.history,
+  does_both (g.D.DeskOpener.history c.args.desks.now) (g.D.DeskOpener.history c.make.new.self) (g.D.DeskOpener.history c.close.new.self) _ _ c.in_ok-desk.ensures.history c.close.ensures.history,
   c.close.ensures.shut,
 )

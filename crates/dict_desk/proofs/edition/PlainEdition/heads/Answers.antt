@@ -8,8 +8,8 @@ use Rattle.dict_desk.specs.declared.entries.OwnedEntry.{OwnedEntry}
 use Rattle.dict_desk.proofs.PlainLemmas.{rows_are_listed, hits_within}
 use Rattle.dict_desk.proofs.edition.PlainEdition.heads.Goals as goal
 
-pub hand_listed-requires-clause-within : goal.hand_listed-requires-clause-within
-hand_listed-requires-clause-within g c =
+pub hand_headwords-requires-clause-within : goal.hand_headwords-requires-clause-within
+hand_headwords-requires-clause-within g c =
     let inside = c.self.inside in
     let within = subst (λ (stored : Stored Edition). LieWithin (is_found c.args.strategy c.args.query.now) stored.content.entries c.args.span.first c.args.span.end) (sym c.self.view_is) c.requires in
     subst (λ (entries : List OwnedEntry). LieWithin (is_hit_of c.args.strategy c.args.query.now) entries c.args.span.first c.args.span.end) (sym c.deref.ensures.value)
@@ -22,7 +22,7 @@ returns-clause-all g c = λ e.
     ap (λ (entries : List OwnedEntry). rows_listed c.args.strategy c.args.query.now entries) c.deref.ensures.value
     ∙ (rows_are_listed inside.title.bytes.items inside.info.bytes.items inside.text.items c.args.strategy c.args.query.now inside.entries.items
     ∙ ap (λ (stored : Stored Edition). headword_rows c.args.strategy c.args.query.now stored.content) c.self.view_is) in
-    subst (λ (handed : List Row). g.T.RowSink.takes c.args.sink.now handed c.hand_listed.new.sink) rows (c.hand_listed.ensures.all e)
+    subst (λ (handed : List Row). g.T.RowSink.takes c.args.sink.now handed c.hand_headwords.new.sink) rows (c.hand_headwords.ensures.all e)
 
 pub returns-clause-stopped : goal.returns-clause-stopped
 returns-clause-stopped g c = λ e.
@@ -31,4 +31,4 @@ returns-clause-stopped g c = λ e.
     ap (λ (entries : List OwnedEntry). rows_listed c.args.strategy c.args.query.now entries) c.deref.ensures.value
     ∙ (rows_are_listed inside.title.bytes.items inside.info.bytes.items inside.text.items c.args.strategy c.args.query.now inside.entries.items
     ∙ ap (λ (stored : Stored Edition). headword_rows c.args.strategy c.args.query.now stored.content) c.self.view_is) in
-    subst (λ (handed : List Row). g.T.RowSink.stops c.args.sink.now handed c.hand_listed.new.sink) rows (c.hand_listed.ensures.stopped e)
+    subst (λ (handed : List Row). g.T.RowSink.stops c.args.sink.now handed c.hand_headwords.new.sink) rows (c.hand_headwords.ensures.stopped e)

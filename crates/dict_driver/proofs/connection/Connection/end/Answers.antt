@@ -4,4 +4,4 @@ use Rattle.dict_driver.proofs.TurnLemmas.{hands_ended}
 use Rattle.dict_driver.proofs.connection.Connection.end.Goals as goal
 
 pub returns-clause-led : goal.returns-clause-led
-returns-clause-led g c = led_as c.tell.ensures.led (λ events told. hands_ended c.args.self.now _ c.tell.result events refl refl refl refl refl told)
+returns-clause-led g c = led_as c.deliver.ensures.led (λ events told. hands_ended c.args.self.now _ c.deliver.result events refl refl refl refl refl told)

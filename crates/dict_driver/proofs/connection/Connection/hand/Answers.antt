@@ -14,14 +14,14 @@ pass-requires g c = rw c.next_piece-piece.ensures (piece_within c.args.self.now.
 
 pub returns-in-Some-clause-led : goal.returns-in-Some-clause-led
 returns-in-Some-clause-led g c =
-    led_as c.tell_through.ensures.led (λ events told.
+    led_as c.deliver_through.ensures.led (λ events told.
     let old = c.args.self.now in
     let octets = held_in old.held in
     let piece = c.next_piece-piece.result.now in
     let first : piece ≡ next_piece old.held.kind octets = c.next_piece-piece.ensures in
     let rest : held_in c.pass.new.self ≡ behind_piece old.held.kind octets = c.pass.ensures.octets ∙ ap (λ l. drop (length l) octets) first ∙ piece_dropped old.held.kind octets in
-    let new = record old { stage = c.answered-self.result; held = c.pass.new.self; queue = c.tell_through.new.queue; transport = c.tell_through.new.transport } in
-    let answer = subst (λ a. IsToldThrough g.T.Transport.taken g.T.Transport.coming g.T.Transport.made (came old.id piece) a old.queue c.tell_through.new.queue old.transport c.tell_through.new.transport events) c.in-Some.is told in (
+    let new = record old { stage = c.answered-self.result; held = c.pass.new.self; queue = c.deliver_through.new.queue; transport = c.deliver_through.new.transport } in
+    let answer = subst (λ a. IsToldThrough g.T.Transport.taken g.T.Transport.coming g.T.Transport.made (came old.id piece) a old.queue c.deliver_through.new.queue old.transport c.deliver_through.new.transport events) c.in-Some.is told in (
       hands_told g.T.Transport.taken g.T.Transport.coming g.T.Transport.made old new octets piece c.in-Some.out events refl refl c.pass.ensures.kind first rest
           (λ still. answered_open c.in-Some.out old.stage (ap is_open (sym c.answered-self.ensures) ∙ still)) answer,
       leads_answered c.args.hub.now old new octets piece c.in-Some.out events first rest c.answered-self.ensures answer.answered,
@@ -31,10 +31,10 @@ pub returns-in-None-clause-led : goal.returns-in-None-clause-led
 returns-in-None-clause-led g c =
     let old = c.args.self.now in
     let what = came old.id c.next_piece-piece.result.now in
-    led_joined c.tell_through.ensures.led c.end.ensures.led c.end.ensures.trust
+    led_joined c.deliver_through.ensures.led c.end.ensures.led c.end.ensures.trust
     (λ es fs told ended. hands_refused c.args.hub.now g.T.Transport.taken g.T.Transport.coming g.T.Transport.made old _ _ (held_in old.held) what es fs refl refl refl c.end.ensures.over
-    (subst (λ a. IsToldThrough g.T.Transport.taken g.T.Transport.coming g.T.Transport.made what a old.queue c.tell_through.new.queue old.transport c.tell_through.new.transport es) c.in-None.is told)
-    ended (c.tell_through.ensures.refused old.id c.next_piece-piece.result.now refl c.in-None.is))
+    (subst (λ a. IsToldThrough g.T.Transport.taken g.T.Transport.coming g.T.Transport.made what a old.queue c.deliver_through.new.queue old.transport c.deliver_through.new.transport es) c.in-None.is told)
+    ended (c.deliver_through.ensures.refused old.id c.next_piece-piece.result.now refl c.in-None.is))
 
 pub returns-in-None-clause-others : goal.returns-in-None-clause-others
-returns-in-None-clause-others g c = λ other held apart has. c.end.ensures.others other held apart (c.tell_through.ensures.others other held apart has)
+returns-in-None-clause-others g c = λ other held apart has. c.end.ensures.others other held apart (c.deliver_through.ensures.others other held apart has)

@@ -23,9 +23,9 @@ returns-in-Octets-clause-led g c =
 
 pub returns-in-End-clause-led : goal.returns-in-End-clause-led
 returns-in-End-clause-led g c =
-    led_as c.part.ensures.led
-    (λ events handed. subst (λ r. ReadsOnce g.T.Transport.taken g.T.Transport.coming g.T.Transport.made c.args.hub.now c.args.self.now c.part.new.self r events) (sym c.in-End.is)
-    (reads_still g.T.Transport.taken g.T.Transport.coming g.T.Transport.made c.args.self.now c.receive-received.new.self c.part.new.self receiveds.End events c.receive-received.ensures.same c.requires
+    led_as c.end_input.ensures.led
+    (λ events handed. subst (λ r. ReadsOnce g.T.Transport.taken g.T.Transport.coming g.T.Transport.made c.args.hub.now c.args.self.now c.end_input.new.self r events) (sym c.in-End.is)
+    (reads_still g.T.Transport.taken g.T.Transport.coming g.T.Transport.made c.args.self.now c.receive-received.new.self c.end_input.new.self receiveds.End events c.receive-received.ensures.same c.requires
     c.if-not-self.false c.receive-received.ensures.taken c.in-End.ensures.gives c.in-End.ensures.made handed.0 handed.1))
 
 pub returns-in-Failed-clause-led : goal.returns-in-Failed-clause-led
@@ -62,7 +62,7 @@ pub returns-in-Octets-clause-others : goal.returns-in-Octets-clause-others
 returns-in-Octets-clause-others g c = λ other held apart has. c.hand.ensures.others other held (λ same. apart (same ∙ ap (λ it. it.id) c.receive-received.ensures.same)) has
 
 pub returns-in-End-clause-others : goal.returns-in-End-clause-others
-returns-in-End-clause-others g c = λ other held apart has. c.part.ensures.others other held (λ same. apart (same ∙ ap (λ it. it.id) c.receive-received.ensures.same)) has
+returns-in-End-clause-others g c = λ other held apart has. c.end_input.ensures.others other held (λ same. apart (same ∙ ap (λ it. it.id) c.receive-received.ensures.same)) has
 
 pub returns-in-Failed-clause-others : goal.returns-in-Failed-clause-others
 returns-in-Failed-clause-others g c = λ other held apart has. c.end.ensures.others other held (λ same. apart (same ∙ ap (λ it. it.id) c.receive-received.ensures.same)) has

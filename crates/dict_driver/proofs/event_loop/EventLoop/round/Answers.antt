@@ -17,10 +17,10 @@ use Rattle.dict_driver.proofs.event_loop.EventLoop.round.Goals as goal
 
 pub returns-in-Err-clause-led : goal.returns-in-Err-clause-led
 returns-in-Err-clause-led g c =
-    led_none (λ state at. subst (λ h. IsAt h state) (sym c.look.ensures.hub) at) (
-      moves_looked (g.S.Sockets.told c.look.new.self.sockets) c.look.result c.args.self.now c.look.new.self c.look.ensures,
+    led_none (λ state at. subst (λ h. IsAt h state) (sym c.poll.ensures.hub) at) (
+      moves_looked (g.S.Sockets.told c.poll.new.self.sockets) c.poll.result c.args.self.now c.poll.new.self c.poll.ensures,
       round_none,
-      (refl, subst (λ r. Looks g.S.Sockets.asked 0 (g.S.Sockets.told c.look.new.self.sockets) r c.args.self.now c.look.new.self) c.in-Err.is c.look.ensures),
+      (refl, subst (λ r. Looks g.S.Sockets.asked 0 (g.S.Sockets.told c.poll.new.self.sockets) r c.args.self.now c.poll.new.self) c.in-Err.is c.poll.ensures),
     )
 
 pub returns-clause-led : goal.returns-clause-led
@@ -28,13 +28,13 @@ returns-clause-led g c =
     let self = c.args.self.now in
     let asked = g.S.Sockets.asked in
     led_joined
-    (led_joined {R = λ events. Moves self.connections c.accept-by_http.new.self.connections events × AreTaken g.S.Opening.refuses asked c.look.new.self c.accept-by_dict.new.self c.accept-by_http.new.self events}
-    (led_joined {R = λ events. Moves self.connections c.accept-by_dict.new.self.connections events × IsOpeningOf Dict events × HasAccepted g.S.Opening.refuses asked Dict c.look.new.self c.accept-by_dict.new.self events}
-    (led_none {P = λ events. events ≡ []} (λ state at. subst (λ h. IsAt h state) (sym c.look.ensures.hub) at) refl)
+    (led_joined {R = λ events. Moves self.connections c.accept-by_http.new.self.connections events × AreTaken g.S.Opening.refuses asked c.poll.new.self c.accept-by_dict.new.self c.accept-by_http.new.self events}
+    (led_joined {R = λ events. Moves self.connections c.accept-by_dict.new.self.connections events × IsOpeningOf Dict events × HasAccepted g.S.Opening.refuses asked Dict c.poll.new.self c.accept-by_dict.new.self events}
+    (led_none {P = λ events. events ≡ []} (λ state at. subst (λ h. IsAt h state) (sym c.poll.ensures.hub) at) refl)
     c.accept-by_dict.ensures.led c.accept-by_dict.ensures.trust
     (λ es fs before then.
-    subst (λ (l : List Accepted). Moves self.connections c.accept-by_dict.new.self.connections (l ++ fs) × IsOpeningOf Dict (l ++ fs) × HasAccepted g.S.Opening.refuses asked Dict c.look.new.self c.accept-by_dict.new.self (l ++ fs)) (sym before) (
-      moves_joined self.connections c.look.new.self.connections c.accept-by_dict.new.self.connections [] fs (moves_looked _ c.look.result self c.look.new.self c.look.ensures) then.0,
+    subst (λ (l : List Accepted). Moves self.connections c.accept-by_dict.new.self.connections (l ++ fs) × IsOpeningOf Dict (l ++ fs) × HasAccepted g.S.Opening.refuses asked Dict c.poll.new.self c.accept-by_dict.new.self (l ++ fs)) (sym before) (
+      moves_joined self.connections c.poll.new.self.connections c.accept-by_dict.new.self.connections [] fs (moves_looked _ c.poll.result self c.poll.new.self c.poll.ensures) then.0,
       then.1,
       then.2,
     )))
@@ -47,8 +47,8 @@ returns-clause-led g c =
     (λ es fs before then. (
       moves_joined self.connections c.accept-by_http.new.self.connections c.turn-turned.new.self es fs before.0 then.0,
       subst (λ (l : List Accepted). AreOfRound (l ++ fs)) (sym before.1.whole) (round_whole before.1.readers before.1.editors fs before.1.dict before.1.http then.1 then.2),
-      round_made g.S.Opening.refuses asked g.T.Transport.taken g.T.Transport.coming g.T.Transport.made (g.S.Sockets.told c.look.new.self.sockets) c.look.result self c.look.new.self c.accept-by_dict.new.self c.accept-by_http.new.self _
-          c.has_any.result c.turn-turned.result es fs (ap is_ok c.in-Ok.is) c.look.ensures before.1 then.3 c.turn-turned.ensures.others refl c.accept-by_http.ensures.other refl c.accept-by_dict.ensures.other
+      round_made g.S.Opening.refuses asked g.T.Transport.taken g.T.Transport.coming g.T.Transport.made (g.S.Sockets.told c.poll.new.self.sockets) c.poll.result self c.poll.new.self c.accept-by_dict.new.self c.accept-by_http.new.self _
+          c.has_any.result c.turn-turned.result es fs (ap is_ok c.in-Ok.is) c.poll.ensures before.1 then.3 c.turn-turned.ensures.others refl c.accept-by_http.ensures.other refl c.accept-by_dict.ensures.other
           (c.has_any.ensures ∙ ap (λ b. b || (c.accept-by_http.result || c.turn-turned.result)) c.accept-by_dict.ensures.asked
           ∙ ap (λ b. is_ready c.accept-by_dict.new.self.dict_listening || (b || c.turn-turned.result)) c.accept-by_http.ensures.asked),
     ))

@@ -3,7 +3,7 @@ use Rattle.std.specs.Prelude.{IsTrue, Some, None}
 use Rattle.sqlite.specs.Effect.{Database}
 use Rattle.sqlite.specs.State.{HasCleanDisk, Survives}
 use Rattle.sqlite.specs.Held.{state}
-use Rattle.dict_file.specs.Holds.{Holds, IsHeld}
+use Rattle.dict_holdings.specs.Holds.{Holds, IsHeld}
 use Rattle.dict_migration.specs.Migrated.{MayMigrate}
 use Rattle.dict_store.specs.Desk.{DeskState, Shows}
 use Rattle.dict_store.specs.Opened.{IsNotHeld}

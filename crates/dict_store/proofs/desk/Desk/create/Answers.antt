@@ -4,12 +4,12 @@ use Rattle.dict_catalogue.specs.Steps.{empty_catalogue}
 use Rattle.dict_catalogue.proofs.WellFormedLemmas.{empty_well_formed}
 use Rattle.sqlite.specs.State.{HasCleanDisk}
 use Rattle.sqlite.specs.Held.{state}
-use Rattle.dict_file.specs.Holds.{Rests}
+use Rattle.dict_holdings.specs.Holds.{Rests}
 use Rattle.dict_store.specs.Desk.{DeskState, LeavesOneOf}
 use Rattle.dict_store.proofs.DeskLemmas.{alone}
 use Rattle.dict_store.proofs.desk.Desk.create.Goals as goal
 use Rattle.dict_rows.specs.Versions.{known}
-use Rattle.dict_file.proofs.OneLemmas.{left_known}
+use Rattle.dict_holdings.proofs.OneLemmas.{left_known}
 
 pub returns-in-Ok-clause-shows : goal.returns-in-Ok-clause-shows
 returns-in-Ok-clause-shows g c = c.over.ensures.shows empty_catalogue c.new.ensures empty_well_formed c.in-Ok.ensures.rests

@@ -2,9 +2,9 @@ use Rattle.std.proofs.Common.{sym, subst}
 use Rattle.dict_catalogue.specs.Views.{summary_shown}
 use Rattle.dict_store.specs.Kept.{KeepsCache}
 use Rattle.dict_store.specs.declared.kept.Cache.{Cache}
-use Rattle.dict_store.specs.declared.last.Last.TheVariants.{Fine}
+use Rattle.dict_store.specs.declared.last.LastCall.TheVariants.{Fine}
 use Rattle.sqlite.specs.Effect.{Database}
-use Rattle.dict_file.specs.Holds.{HasLayout, Holds}
+use Rattle.dict_holdings.specs.Holds.{HasLayout, Holds}
 use Rattle.dict_store.proofs.desk.Desk.over.Goals as goal
 use Rattle.dict_rows.specs.Versions.{known, layout_of}
 

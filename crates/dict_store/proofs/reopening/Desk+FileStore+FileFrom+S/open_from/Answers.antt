@@ -3,7 +3,7 @@ use Rattle.std.proofs.lemmas.Option.{IfSome_then}
 use Rattle.sqlite.specs.State.{HasCleanDisk}
 use Rattle.sqlite.specs.Files.{file_state}
 use Rattle.sqlite.specs.WalFiles.{image_at}
-use Rattle.dict_file.specs.Holds.{IsLeft}
+use Rattle.dict_holdings.specs.Holds.{IsLeft}
 use Rattle.dict_store.specs.Unopened.{fault_of_files}
 use Rattle.dict_store.specs.Desk.{StandsFor}
 use Rattle.dict_store.proofs.ReopenLemmas.{stands_after}

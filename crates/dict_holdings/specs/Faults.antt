@@ -1,0 +1,38 @@
+-- The fault that an error of a statement is, and why a call that reads a catalogue fails.
+use Rattle.std.specs.Prelude.{◌≡◌, ◌⊎◌, IsSome}
+use Rattle.sqlite.specs.State.{State, IsUnchanged, Fails}
+use Rattle.sqlite.specs.declared.error.Error.{Error}
+use Rattle.sqlite.specs.declared.error.Error.TheVariants.{SqliteFailure}
+use Rattle.sqlite.specs.declared.error.ErrorCode.TheVariants as code
+use Rattle.dict_sql.specs.declared.records.ReadError.{ReadError}
+use Rattle.dict_sql.specs.declared.records.ReadError.TheVariants.{NoRecord, Store}
+use Rattle.dict_desk.specs.declared.fault.Fault.{Fault}
+use Rattle.dict_desk.specs.declared.fault.Fault.TheVariants.{Refused, Memory, Disk, Closed, NotACatalogue, Damaged, NewerSchema}
+use Rattle.dict_rows.specs.Versions.{known}
+use Rattle.dict_holdings.specs.Holds.{HoldsNoneAs}
+
+-- refused memory, or the store failed
+abbrev pub fault_of : Error → Fault
+fault_of (SqliteFailure code.OutOfMemory) = Memory
+fault_of _ = Disk
+
+-- the fault of a read: a row that is no record is the store's failure too
+abbrev pub fault_of_read : ReadError → Fault
+fault_of_read NoRecord = Disk
+fault_of_read (Store e) = fault_of e
+
+-- Why a call that reads fails though its store doesn't: a growth was refused; or the limit on steps was met, or what is
+-- read is no catalogue's, under the known version.
+abbrev pub IsUnread : State → Fault → Type 0
+IsUnread old (Refused refusal) = ⊥
+IsUnread old Memory = Unit {0}
+IsUnread old Disk = IsSome old.step_limit ⊎ HoldsNoneAs known old.now
+IsUnread old Closed = ⊥
+IsUnread old NotACatalogue = ⊥
+IsUnread old Damaged = ⊥
+IsUnread old NewerSchema = ⊥
+
+-- A call that reads failed: the store did, for the cause that its error names, of which this is the fault, and it shows
+-- what was committed; or nothing has changed, and the store did not fail.
+abbrev pub FailsToLookUp : State → State → Fault → Type 0
+FailsToLookUp old new fault = (IsUnchanged old new × IsUnread old fault) ⊎ ((e : Error) × (fault ≡ fault_of e) × Fails old new ⊥ e)

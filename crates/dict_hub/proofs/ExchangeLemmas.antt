@@ -1,0 +1,62 @@
+-- What a piece gives a reader or an editor.
+use Rattle.std.proofs.Common.{◌≡◌, ◌∙◌, ℕ, List, refl, sym, ap, subst, inl, inr}
+use Rattle.std.specs.Prelude.{Option, Result, Ok, Err, IfOk, OnErr}
+use Rattle.dict_io.specs.Streams.{Stream}
+use Rattle.dict_line.specs.Meaning.{Meaning}
+use Rattle.dict_catalogue.specs.Steps.{Catalogue}
+use Rattle.dict_session.specs.Ending.{Wrote, step_at}
+use Rattle.dict_session.specs.declared.step.Course.{Course}
+use Rattle.dict_session.specs.declared.step.Course.TheVariants as courses
+use Rattle.dict_session.specs.declared.step.Step.TheVariants as steps
+use Rattle.dict_hub.specs.Asking.{Awaits, Answers, IsAwaitedIn}
+use Rattle.dict_hub.specs.Holding.{Holding, left_by, unanswered}
+use Rattle.dict_hub.specs.Lines.{Holds, IsLeft}
+use Rattle.dict_hub.specs.declared.incoming.Incoming.{Incoming}
+use Rattle.dict_hub.specs.declared.exchange.Exchange.TheVariants.{Editor}
+use Rattle.dict_hub.specs.Given.{Replies, Stays, Gets}
+use Rattle.dict_hub.specs.declared.kind.Kind.{Kind}
+use Rattle.dict_hub.specs.declared.kind.Kind.TheVariants.{Http}
+use Rattle.dict_hub.specs.declared.fault.HubFault.{HubFault}
+use Rattle.dict_hub.specs.declared.incoming.Out.{Out}
+use Rattle.dict_hub.specs.declared.incoming.Out.TheVariants.{More, Close}
+use Rattle.dict_session.specs.Desks.{Condition}
+
+-- what a session wrote are replies, and it goes on where the connection stays open
+pub replies_from : (answer : Meaning → List ℕ) (desk : Condition) (lines : List (List ℕ)) (old new : Stream) (course : Course) (out : Out)
+    → (out ≡ More → step_at course ≡ steps.More) → (step_at course ≡ steps.More → out ≡ More)
+    → Wrote answer desk course old new lines → Replies answer desk lines out old new
+replies_from answer desk lines old new courses.More More goes stays wrote = wrote
+replies_from answer desk lines old new courses.More Close goes stays wrote = cc (stays refl)
+replies_from answer desk lines old new courses.Quit More goes stays wrote = cc (goes refl)
+replies_from answer desk lines old new courses.Quit Close goes stays wrote = inl wrote
+replies_from answer desk lines old new courses.SinkFailed More goes stays wrote = cc (goes refl)
+replies_from answer desk lines old new courses.SinkFailed Close goes stays wrote = inr (inl wrote)
+replies_from answer desk lines old new courses.DeskFailed More goes stays wrote = cc (goes refl)
+replies_from answer desk lines old new courses.DeskFailed Close goes stays wrote = inr (inr wrote)
+
+-- an editor's piece is awaited further, or answered
+pub asks_from : (host : List ℕ) (desk : Condition) (Shows : Catalogue → Type 0) (Before After : List (Option Catalogue) → Type 0) (before : Catalogue)
+    (kind : Kind) (octets held : List ℕ) (old new : Stream) (result : Result Out HubFault)
+    → kind ≡ Http
+    → (result ≡ Ok More → Awaits octets held old new)
+    → (result ≡ Ok More → Stays Shows Before After before)
+    → (result ≡ Ok Close → Answers Shows Before After before octets old new)
+    → IfOk result (λ out. Gets host desk Shows Before After before kind octets out old new)
+asks_from host desk Shows Before After before kind octets held old new (Ok More) is awaits stays answers =
+    subst (λ one. Gets host desk Shows Before After before one octets More old new) (sym is) ((awaits refl).more, (awaits refl).nothing, stays refl)
+asks_from host desk Shows Before After before kind octets held old new (Ok Close) is awaits stays answers =
+    subst (λ one. Gets host desk Shows Before After before one octets Close old new) (sym is) (answers refl)
+asks_from host desk Shows Before After before kind octets held old new (Err fault) is awaits stays answers = tt
+
+-- what is left of an editor's request that is awaited further
+pub left_from : (host : List ℕ) (id : ℕ) (kind : Kind) (octets : List ℕ) (new : Incoming) (result : Result Out HubFault) → kind ≡ Http → (result ≡ Ok More → new.octets.items ≡ octets)
+    → IsAwaitedIn new.octets.items new.awaited → IfOk result (λ out. IsLeft host id (Editor new) (left_by kind octets out))
+left_from host id kind octets new (Ok More) is held awaited = record { kind = is; octets_held = held refl ∙ sym (ap (λ (k : Kind). unanswered k octets) is); awaited = awaited }
+left_from host id kind octets new (Ok Close) is held awaited = tt
+left_from host id kind octets new (Err fault) is held awaited = tt
+
+-- a piece that was refused
+pub held_from : (old new : Incoming) (result : Result Out HubFault) → OnErr result (new.octets.items ≡ old.octets.items) → (IsAwaitedIn old.octets.items old.awaited → IsAwaitedIn new.octets.items new.awaited)
+    → OnErr result ((host : List ℕ) (id : ℕ) (held : Holding) → Holds host id (Editor old) held → Holds host id (Editor new) held)
+held_from old new (Ok out) same awaited = tt
+held_from old new (Err fault) same awaited = λ host id held h. record { kind = h.kind; octets_held = same ∙ h.octets_held; awaited = awaited h.awaited }

@@ -1,0 +1,93 @@
+// What the hub keeps of one connection.
+ghost use Rattle.std.specs.Prelude.{◌≡◌, ◌++◌, ℕ, List, Ok, IfOk, IfErr, OnErr};
+ghost use Rattle.dict_catalogue.specs.Steps.{Catalogue};
+ghost use Rattle.dict_session.specs.Desks.{condition};
+ghost use Rattle.dict_hub.specs.Holding.{Holding, just_opened, left_by};
+ghost use Rattle.dict_hub.specs.Given.{Greets, Gets};
+ghost use Rattle.dict_hub.specs.declared.kind.Kind.TheVariants.{Http};
+ghost use Rattle.dict_hub.specs.declared.incoming.Out.TheVariants as outs;
+ghost use Rattle.dict_hub.specs.declared.fault.HubFault.TheVariants.{Memory};
+
+use crate::fault::HubFault;
+use crate::incoming::{Incoming, Out};
+use crate::kind::Kind;
+use dict_desk::Keeper;
+use dict_http::Service;
+use dict_io::Sink;
+use dict_session::{Session, Step};
+use std::alloc::{AllocError, Global};
+
+/// A reader's session, or the octets of an editor's request that have come.
+#[derive(Drop)]
+pub enum Exchange<'h> {
+    Reader(Session<'h>),
+    Editor(Incoming),
+}
+
+// A session that has ended closes its connection.
+fn out_of(step: Step) -> Out
+    ensures more { result ≡ outs.More → step ≡ Step.More }
+    ensures close { step ≡ Step.More → result ≡ outs.More }
+{
+    match step {
+        Step::More => Out::More,
+        _ => Out::Close,
+    }
+}
+
+impl<'h> Exchange<'h> {
+    ghost use Rattle.dict_hub.specs.Lines.{Holds, IsLeft};
+
+    /// A connection of this id on which nothing has come.
+    pub fn new(
+        alloc: Global,
+        host: &'h str,
+        id: u64,
+        kind: Kind,
+    ) -> Result<Exchange<'h>, AllocError>
+        ensures { IfOk result (λ line. Holds host.now id line (just_opened kind)) }
+    {
+        match kind {
+            Kind::Dict => Ok(Exchange::Reader(Session::new(alloc, host, id)?)),
+            Kind::Http => Ok(Exchange::Editor(Incoming::new(alloc))),
+        }
+    }
+
+    /// Greets a reader.
+    pub fn greet<S: Sink>(&mut self, sink: &mut S) -> Out
+        ensures greets { (host : List ℕ) (id : ℕ) (held : Holding) → Holds host id self.old held
+            → Greets host id held.kind result (S.stream sink.old) (S.stream sink.new) }
+        ensures holds { (host : List ℕ) (id : ℕ) (held : Holding) → Holds host id self.old held → result ≡ outs.More → Holds host id self.new held }
+    {
+        match self {
+            Exchange::Reader(session) => out_of(session.greet(sink)),
+            Exchange::Editor(_) => Out::More,
+        }
+    }
+
+    /// Takes the next piece of what came, and answers what it makes whole. Where a growth is refused nothing has changed.
+    pub fn take<K: Keeper, S: Sink>(
+        &mut self,
+        service: &Service,
+        alloc: Global,
+        piece: &[u8],
+        desk: &mut K,
+        sink: &mut S,
+    ) -> Result<Out, HubFault>
+        ensures gets { K.is_trusted desk.new → (M : Catalogue) → K.shows desk.old M → (host : List ℕ) (id : ℕ) (held : Holding) → Holds host id self.old held
+            → IfOk result (λ out. Gets host (condition K.has_failed K.is_closed desk.new) (K.shows desk.new) (K.leaves_one_of desk.old) (K.leaves_one_of desk.new) M held.kind (held.octets ++ piece.now) out (S.stream sink.old) (S.stream sink.new)) }
+        ensures left { K.is_trusted desk.new → (M : Catalogue) → K.shows desk.old M → (host : List ℕ) (id : ℕ) (held : Holding) → Holds host id self.old held
+            → IfOk result (λ out. IsLeft host id self.new (left_by held.kind (held.octets ++ piece.now) out)) }
+        ensures trust { K.is_trusted desk.new → K.is_trusted desk.old }
+        ensures memory { IfErr result (λ fault. fault ≡ Memory) }
+        ensures editor { (host : List ℕ) (id : ℕ) (held : Holding) → Holds host id self.old held → IfErr result (λ fault. held.kind ≡ Http) }
+        ensures held { OnErr result ((host : List ℕ) (id : ℕ) (held : Holding) → Holds host id self.old held → Holds host id self.new held) }
+        ensures desk { OnErr result (desk.new ≡ desk.old) }
+        ensures sink { OnErr result (sink.new ≡ sink.old) }
+    {
+        match self {
+            Exchange::Reader(session) => Ok(out_of(session.feed(alloc, piece, desk, sink))),
+            Exchange::Editor(incoming) => incoming.take(service, alloc, piece, desk, sink),
+        }
+    }
+}

@@ -1,0 +1,84 @@
+// The editors' half of a hub: one request a connection.
+ghost use Rattle.std.specs.Prelude.{◌≡◌, ◌++◌, [], IfErr, OnErr};
+ghost use Rattle.dict_catalogue.specs.Steps.{Catalogue};
+ghost use Rattle.dict_hub.specs.Asking.{Awaits, Answers, IsAwaitedIn};
+ghost use Rattle.dict_hub.specs.declared.incoming.Out.TheVariants as outs;
+ghost use Rattle.std.specs.Prelude.{Ok};
+ghost use Rattle.dict_hub.specs.declared.fault.HubFault.TheVariants.{Memory};
+
+use crate::fault::HubFault;
+use dict_desk::Keeper;
+use dict_head::{Reading, read_request};
+use dict_http::Service;
+use dict_io::Sink;
+use std::alloc::Global;
+
+/// What becomes of a connection after an event.
+#[derive(Clone, Copy, Debug, PartialEq, Eq)]
+pub enum Out {
+    /// It stays open.
+    More,
+    /// It is closed once all that was put is sent, and is no longer open.
+    Close,
+}
+
+/// The octets of an editor's request that have come. Once its head is whole it is known how many are awaited.
+#[derive(Drop)]
+pub struct Incoming {
+    octets: Vec<u8>,
+    // How many octets head and body have, where the head was seen to be whole, and 0 before.
+    awaited: usize,
+}
+
+impl Incoming {
+    /// Nothing has come.
+    pub fn new(alloc: Global) -> Self
+        ensures octets { result.octets.items ≡ [] }
+        ensures awaited { IsAwaitedIn result.octets.items result.awaited }
+    {
+        Incoming {
+            octets: Vec::new(alloc),
+            awaited: 0,
+        }
+    }
+
+    /// Takes the next piece of a request that an editor sends. While more octets are needed they are held; else the request,
+    /// or what can't become one, is answered, and the connection closes, whatever stands behind it. Where a growth is
+    /// refused nothing has changed.
+    pub fn take<K: Keeper, S: Sink>(
+        &mut self,
+        service: &Service,
+        alloc: Global,
+        piece: &[u8],
+        desk: &mut K,
+        sink: &mut S,
+    ) -> Result<Out, HubFault>
+        ensures awaits { result ≡ Ok outs.More → IsAwaitedIn self.old.octets.items self.old.awaited → Awaits (self.old.octets.items ++ piece.now) self.new.octets.items (S.stream sink.old) (S.stream sink.new) }
+        ensures awaited { IsAwaitedIn self.old.octets.items self.old.awaited → IsAwaitedIn self.new.octets.items self.new.awaited }
+        ensures unasked { result ≡ Ok outs.More → desk.new ≡ desk.old }
+        ensures answers { result ≡ Ok outs.Close → K.is_trusted desk.new → (M : Catalogue) → K.shows desk.old M
+            → Answers (K.shows desk.new) (K.leaves_one_of desk.old) (K.leaves_one_of desk.new) M (self.old.octets.items ++ piece.now) (S.stream sink.old) (S.stream sink.new) }
+        ensures trust { K.is_trusted desk.new → K.is_trusted desk.old }
+        ensures memory { IfErr result (λ fault. fault ≡ Memory) }
+        ensures held { OnErr result (self.new.octets.items ≡ self.old.octets.items) }
+        ensures desk { OnErr result (desk.new ≡ desk.old) }
+        ensures sink { OnErr result (sink.new ≡ sink.old) }
+    {
+        if self.octets.reserve(piece.len()).is_err() {
+            return Err(HubFault::Memory);
+        }
+        if self.octets.extend_from_slice(piece).is_err() {
+            return Err(HubFault::Memory);
+        }
+        if self.octets.len() < self.awaited {
+            return Ok(Out::More);
+        }
+        if let Reading::More(awaited) = read_request(&self.octets) {
+            self.awaited = awaited;
+            return Ok(Out::More);
+        }
+        let answer = service.respond(alloc, &self.octets, desk);
+        let _ = answer.put(sink);
+        Ok(Out::Close)
+    }
+}

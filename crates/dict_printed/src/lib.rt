@@ -1,8 +1,0 @@
-//! What the program prints, and the statuses that it ends with.
-#![tactic(auto)]
-
-mod fault;
-mod listing;
-
-pub use fault::{Fault, StoreFault};
-pub use listing::put_list;

@@ -1,0 +1,13 @@
+//! What the runs of the store share: editions and the commands with them, desks over databases, what a desk shows, and files of
+//! older schemas. No part of the product.
+#![tactic(auto)]
+
+mod asked;
+mod desks;
+mod showing;
+mod stored;
+
+pub use asked::{Asked, Editions, Source, read_editions, requests, told, told_outcome};
+pub use desks::{accept_all, batched, desk_over};
+pub use showing::{Rows, listed, shown};
+pub use stored::{CAPITALS, Older, PLAIN, SHARED, SHOWN, older_files};

@@ -1,0 +1,127 @@
+//! What a desk shows.
+
+use crate::asked::told_reply;
+use dict_catalogue::{Item, Summary, edition_numbers};
+use dict_desk::{Demand, Fault, Keeper, Lookup, Row, RowSink};
+use dict_match::{Strategy, key_of};
+use std::alloc::{AllocError, Global};
+
+/// Collects rows, and stops at the last of so many.
+#[derive(Drop)]
+pub struct Rows {
+    /// What was collected.
+    pub text: String,
+    /// How many more it takes.
+    pub left: usize,
+}
+
+impl Rows {
+    /// None yet, and at most so many.
+    pub fn new(alloc: Global, most: usize) -> Rows {
+        Rows {
+            text: String::new(alloc),
+            left: most,
+        }
+    }
+}
+
+impl RowSink for Rows {
+    ghost takes = { λ _ _ _. Unit {0} };
+
+    ghost stops = { λ _ _ _. Unit {0} };
+
+    fn take(&mut self, row: Row) -> Demand {
+        self.left = self.left.saturating_sub(1);
+        if push_row(&mut self.text, row.shown, row.text).is_err() || self.left == 0 {
+            Demand::Stop
+        } else {
+            Demand::More
+        }
+    }
+
+    ghost none = { λ s. tt };
+
+    ghost joined = { λ a b c rows more h k. tt };
+
+    ghost stopped = { λ a b c rows more rest h k. tt };
+}
+
+fn push_row(text: &mut String, shown: &str, body: &[u8]) -> Result<(), AllocError> {
+    text.push_str(shown)?;
+    text.push('=')?;
+    text.push_str(str::from_utf8(body).unwrap_or("not UTF-8"))?;
+    text.push('/')
+}
+
+fn push_item(alloc: Global, text: &mut String, item: &Item) -> Result<(), AllocError> {
+    text.push_str(item.name())?;
+    text.push(' ')?;
+    text.push_str(item.title())?;
+    match item {
+        Item::Regular {
+            current,
+            former,
+            ..
+        } => {
+            let number = current.number;
+            text.push_str(format!(in alloc; " {number}")?.as_str())?;
+            if let Some(former) = former {
+                let number = former.number;
+                text.push_str(format!(in alloc; "/{number}")?.as_str())?;
+            }
+        }
+        Item::Virtual { members, .. } => {
+            for member in members {
+                text.push_str(" +")?;
+                text.push_str(member.as_str())?;
+            }
+        }
+    }
+    text.push_str("; ")
+}
+
+/// The items in order: name, title, and the numbers of the editions or the members.
+pub fn listed(alloc: Global, summary: &Summary) -> Result<String, AllocError> {
+    let mut text = String::new(alloc);
+    for item in &summary.items {
+        push_item(alloc, &mut text, item)?;
+    }
+    Ok(text)
+}
+
+// Of each edition of a catalogue its info, and its entries that have an `o` or an `é` in their headwords.
+fn push_editions<L: Lookup>(alloc: Global, rows: &mut Rows, desk: &mut L) -> Result<(), Fault> {
+    let numbers = edition_numbers(alloc, &desk.summary()?.items)?;
+    for number in &numbers {
+        desk.info(*number, rows)?;
+        desk.find(*number, Strategy::Substring, &key_of(alloc, "o")?, rows)?;
+        desk.find(*number, Strategy::Prefix, &key_of(alloc, "é")?, rows)?;
+    }
+    Ok(())
+}
+
+// The replies that are kept under some ids.
+fn push_kept<K: Keeper>(alloc: Global, text: &mut String, desk: &mut K) -> Result<(), Fault> {
+    for id in ["a", "b", "c", "d", "e", "f", "r1", "r2", "r3", "r4"] {
+        if let Some(kept) = desk.kept(id)? {
+            text.push_str(told_reply(alloc, &kept)?.as_str())?;
+            text.push(';')?;
+        }
+    }
+    Ok(())
+}
+
+/// The whole catalogue: the items, all editions, how many installs and commands were accepted, and the replies that are kept
+/// under some ids.
+pub fn shown<K: Keeper>(alloc: Global, desk: &mut K) -> Result<String, Fault> {
+    let mut rows = Rows::new(alloc, usize::MAX);
+    rows.text
+        .push_str(listed(alloc, desk.summary()?)?.as_str())?;
+    push_editions(alloc, &mut rows, desk)?;
+    let installs = desk.summary()?.installs;
+    let accepted = desk.summary()?.accepted;
+    rows.text
+        .push_str(format!(in alloc; "{installs} of {accepted};")?.as_str())?;
+    push_kept(alloc, &mut rows.text, desk)?;
+    Ok(rows.text)
+}

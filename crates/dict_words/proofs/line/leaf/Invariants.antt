@@ -1,6 +1,0 @@
-use Rattle.std.proofs.Common.{map, take}
-use Rattle.dict_words.specs.Line.{Reads, alone, leaf}
-use Rattle.dict_words.proofs.line.leaf.Given as goal
-
-abbrev pub invariant-loop-id : goal.invariant-loop-id
-invariant-loop-id l = Reads (alone (leaf l.name (map (λ one. one.0.now) (take l.id-index l.words)))) l.line

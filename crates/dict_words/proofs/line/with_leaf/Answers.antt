@@ -1,6 +1,0 @@
-use Rattle.std.proofs.lemmas.Result.{IfOk-weaker}
-use Rattle.dict_words.proofs.LineLemmas.{adds_subcommand}
-use Rattle.dict_words.proofs.line.with_leaf.Goals as goal
-
-pub returns : goal.returns
-returns c = λ app start. IfOk-weaker c.subcommand.result _ _ (λ new adds. adds_subcommand _ _ _ _ _ start c.in_ok-leaf.ensures adds) c.subcommand.ensures
