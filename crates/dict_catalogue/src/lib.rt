@@ -21,5 +21,6 @@ pub use fault::{CommandRefusal, PlanFault};
 pub use laws::{after_laws, step_law, summary_laws, well_formed_laws};
 pub use lookups::{is_among, is_known, names_regular};
 pub use planning::{PlannedChange, edition_numbers, plan};
+pub use refusing::{MAX_ACCEPTED, MAX_ITEMS, MAX_MEMBERS};
 pub use reply::{Kept, Verb};
 pub use summary::{Item, StoredTitle, Summary};

@@ -11,13 +11,13 @@ use crate::summary::{Item, Summary};
 use dict_name::{is_name, is_title};
 
 /// The most items of a catalogue.
-const MAX_ITEMS: usize = 64;
+pub const MAX_ITEMS: usize = 64;
 
 /// The most members of a virtual item.
-const MAX_MEMBERS: usize = 64;
+pub const MAX_MEMBERS: usize = 64;
 
 /// The most commands that a catalogue accepts.
-const MAX_ACCEPTED: u64 = 9_223_372_036_854_775_807;
+pub const MAX_ACCEPTED: u64 = 9_223_372_036_854_775_807;
 
 /// Why the command is refused: the first of its tests that fails, if one does. No memory is taken.
 pub fn refusal_of(summary: &Summary, command: &Command) -> Option<CommandRefusal>

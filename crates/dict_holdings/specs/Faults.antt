@@ -21,6 +21,16 @@ abbrev pub fault_of_read : ReadError → Fault
 fault_of_read NoRecord = Disk
 fault_of_read (Store e) = fault_of e
 
+-- a growth was refused, or the store failed
+abbrev pub IsOfStore : Fault → Type 0
+IsOfStore (Refused refusal) = ⊥
+IsOfStore Memory = Unit {0}
+IsOfStore Disk = Unit {0}
+IsOfStore Closed = ⊥
+IsOfStore NotACatalogue = ⊥
+IsOfStore Damaged = ⊥
+IsOfStore NewerSchema = ⊥
+
 -- Why a call that reads fails though its store doesn't: a growth was refused; or the limit on steps was met, or what is
 -- read is no catalogue's, under the known version.
 abbrev pub IsUnread : State → Fault → Type 0

@@ -5,6 +5,6 @@ mod fault;
 mod laws;
 mod room;
 
-pub use fault::fault_of;
+pub use fault::{fault_of, fault_of_read};
 pub use laws::read_in_order;
 pub use room::{has_place, keyed_may_become_shown, may_become_shown};

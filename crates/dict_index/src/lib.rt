@@ -21,4 +21,5 @@ pub use laws::{
     lawful_headwords, one_meaning, three_columns, well_formed_editions, worked_edition,
 };
 pub use limits::{MAX_LINES, MAX_TEXT, entry_key, is_edition_text, is_shown};
+pub use line::cut_out;
 pub use reading::read_edition;

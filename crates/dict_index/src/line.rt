@@ -40,18 +40,16 @@ pub(crate) fn interval_of(columns: Columns<'_>) -> Option<(u64, u64)>
     Some((offset, size))
 }
 
-// What an interval cuts out of the text, if it lies within it.
-pub(crate) fn cut_out(text: &[u8], offset: u64, size: u64) -> Option<&[u8]>
-    requires offset { offset < 64 ^ 6 }
-    requires size { size < 64 ^ 6 }
+/// What an interval cuts out of a text, if it lies within it.
+pub fn cut_out(text: &[u8], offset: u64, size: u64) -> Option<&[u8]>
     ensures { MatchOption result (length text.now < offset + size)
         (λ body. (offset + size ≤ length text.now) × (body.now ≡ take size (drop offset text.now))) }
 {
-    let end = offset + size;
-    if end > text.len() as u64 {
+    let most = text.len() as u64;
+    if offset > most || size > most - offset {
         return None;
     }
-    Some(&text[offset as usize..end as usize])
+    Some(&text[offset as usize..(offset + size) as usize])
 }
 
 // The key by which a headword is reserved, if the text may be a headword.

@@ -15,11 +15,10 @@ use crate::columns::cut_at;
 use crate::fault::{EditionRefusal, IndexFault};
 use crate::line::as_text;
 use dict_match::reserved_key_of;
+use dict_name::MAX_TITLE;
 use dict_text::{has_control, without_blanks_at_ends};
 use std::alloc::{AllocError, Global};
 use std::collections::BTreeMap;
-
-const MAX_TITLE: usize = 200;
 
 // Whether a line has the key.
 fn has_key(alloc: Global, line: &str, key: &[u8]) -> Result<bool, AllocError>

@@ -10,7 +10,6 @@ ghost use Rattle.dict_catalogue.specs.Views.{summary_shown};
 ghost use Rattle.dict_desk.specs.Faults.{is_disk};
 ghost use Rattle.dict_rows.specs.Versions.{layout_of, known};
 ghost use Rattle.dict_sql.specs.Effects.{WhileOpen, seen};
-ghost use Rattle.dict_holdings.specs.Faults.{fault_of_read};
 ghost use Rattle.dict_holdings.specs.Holds.{Holds, IsLeftAs, Rests};
 ghost use Rattle.dict_holdings.specs.Writing.{Stays};
 ghost use Rattle.dict_migration.specs.Migrated.{MayMigrate};
@@ -24,7 +23,7 @@ use crate::filing::file_editions;
 use crate::marking::renew_mark;
 use dict_catalogue::{Summary, edition_numbers};
 use dict_desk::Fault;
-use dict_holdings::fault_of;
+use dict_holdings::fault_of_read;
 use dict_keyed_sql::create_keyed_tables;
 use dict_migration_sql::drop_helper;
 use dict_sql::commit::commit;
@@ -77,16 +76,6 @@ fn migrate_inside<S: Alter>(
     drop_helper(tx)?;
     renew_mark(tx, installs)?;
     Ok(())
-}
-
-// The fault of an error before the commit.
-fn fault_of_read(error: ReadError) -> Fault
-    ensures { result ≡ fault_of_read error }
-{
-    match error {
-        ReadError::NoRecord => Fault::Disk,
-        ReadError::Store(error) => fault_of(error),
-    }
 }
 
 // The transaction of a migration, and its commit.

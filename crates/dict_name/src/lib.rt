@@ -3,4 +3,4 @@
 
 mod names;
 
-pub use names::{is_name, is_request_id, is_title};
+pub use names::{MAX_TITLE, is_name, is_request_id, is_title};

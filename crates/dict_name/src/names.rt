@@ -13,7 +13,7 @@ const MAX_NAME: usize = 32;
 const MAX_REQUEST_ID: usize = 64;
 
 /// The most octets of a title.
-const MAX_TITLE: usize = 200;
+pub const MAX_TITLE: usize = 200;
 
 /// Whether the text may be the name of a database: 1 to 32 of `a-z 0-9 _ -`, beginning with `a-z`.
 #[tactic(auto, unfolding(crate::specs::Names::is_name))]

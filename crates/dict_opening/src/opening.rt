@@ -21,7 +21,7 @@ use dict_catalogue::Summary;
 use dict_desk::Fault;
 use dict_holdings::fault_of;
 use dict_records::{Mark, Stored};
-use dict_rows::KNOWN_VERSION;
+use dict_rows::{KNOWN_VERSION, number_in};
 use dict_scans::ReadingFault;
 use dict_sql::records::ReadError;
 use sqlite::{Alter, Connection};
@@ -49,17 +49,6 @@ fn read_tables<S: Alter>(
     Ok(summary)
 }
 
-/// The number in a column, where it isn't below 0.
-fn number_of(found: &i64) -> Option<u64>
-    ensures number { IfSome result (λ number. found.now ≡ pos number) }
-    ensures below { IfNone result ((number : ℕ) → found.now ≢ pos number) }
-{
-    if *found < 0 {
-        return None;
-    }
-    Some(*found as u64)
-}
-
 fn is_one(found: &i64) -> bool
     ensures { IsTrue result ↔ (found.now ≡ pos 1) }
 {
@@ -74,7 +63,7 @@ fn version_in(mark: &Mark<String>) -> Option<u64>
     if !is_one(&mark.id) || mark.magic.as_str() != "dictcat" {
         return None;
     }
-    let version = number_of(&mark.version)?;
+    let version = number_in(&mark.version)?;
     if version == 0 {
         return None;
     }

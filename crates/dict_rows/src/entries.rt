@@ -6,20 +6,9 @@ ghost use Rattle.dict_rows.specs.Given.{OnDamage, IsEntry, IsNoEntry};
 
 use crate::fault::RowsFault;
 use crate::items::{is_number, number_of};
-use dict_index::{entry_key, is_edition_text, is_shown};
+use dict_index::{cut_out, entry_key, is_edition_text, is_shown};
 use dict_records::Entry;
 use std::alloc::Global;
-
-/// What an interval cuts out of a text, if it lies within it.
-fn cut_out(text: &[u8], start: u64, size: u64) -> Option<&[u8]>
-    ensures { MatchOption result (length text.now < start + size) (λ body. (start + size ≤ length text.now) × (body.now ≡ take size (drop start text.now))) }
-{
-    let most = text.len() as u64;
-    if start > most || size > most - start {
-        return None;
-    }
-    Some(&text[start as usize..(start + size) as usize])
-}
 
 /// Whether a record is that of an entry at this place of this edition, of which this is shown: its interval lies within the
 /// text, and its headword, what is shown and its body are lawful. Else it is `Damaged`.

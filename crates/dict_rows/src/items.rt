@@ -1,5 +1,5 @@
 // The items that the records of two tables tell, with no title of an edition yet.
-ghost use Rattle.std.specs.Prelude.{◌≡◌, ◌≢◌, ◌≤◌, ◌↔◌, ◌++◌, ◌∷◌, [], ℕ, pos, List, Option, IfOk, IfErr, OnOk, IsTrue, map, option_map, string_bytes, length};
+ghost use Rattle.std.specs.Prelude.{◌≡◌, ◌≢◌, ◌≤◌, ◌↔◌, ◌++◌, ◌∷◌, [], ℕ, pos, List, Option, IfOk, IfErr, IfSome, IfNone, OnOk, IsTrue, map, option_map, string_bytes, length};
 ghost use Rattle.dict_records.specs.Typed.{owned_item};
 ghost use Rattle.dict_catalogue.specs.Items.{members_of};
 ghost use Rattle.dict_catalogue.specs.Views.{item_shown, stored_shown, texts_shown};
@@ -12,6 +12,18 @@ use dict_catalogue::{Item, StoredTitle};
 use dict_records::{Item as ItemRow, Member, Stored};
 use std::alloc::Global;
 
+/// The number that stands in a column, where it isn't below 0.
+pub fn number_in(found: &i64) -> Option<u64>
+    ensures number { IfSome result (λ number. found.now ≡ pos number) }
+    ensures most { IfSome result (λ number. number ≤ 9223372036854775807) }
+    ensures below { IfNone result ((number : ℕ) → found.now ≢ pos number) }
+{
+    if *found < 0 {
+        return None;
+    }
+    Some(*found as u64)
+}
+
 /// The number that stands in a column, which is never below 0.
 pub(crate) fn number_of(found: &i64) -> Result<u64, RowsFault>
     ensures number { IfOk result (λ number. found.now ≡ pos number) }
@@ -19,10 +31,10 @@ pub(crate) fn number_of(found: &i64) -> Result<u64, RowsFault>
     ensures below { IfErr result (λ fault. OnDamage fault ((number : ℕ) → found.now ≢ pos number)) }
     ensures only { IfErr result (λ fault. fault ≡ RowsFault.Damaged) }
 {
-    if *found < 0 {
-        return Err(RowsFault::Damaged);
+    match number_in(found) {
+        Some(number) => Ok(number),
+        None => Err(RowsFault::Damaged),
     }
-    Ok(*found as u64)
 }
 
 /// Whether the number stands in the column.

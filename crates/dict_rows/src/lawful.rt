@@ -7,15 +7,11 @@ ghost use Rattle.dict_catalogue.specs.Items.{names_regular};
 ghost use Rattle.dict_catalogue.specs.Views.{item_shown, texts_shown};
 ghost use Rattle.dict_rows.specs.Tests.{has_once, has_numbers_once, has_names_once, is_lawful_item, has_known_members, is_from_one_to, has_lawful_numbers, has_lawful_items};
 
-use dict_catalogue::{Item, edition_numbers, is_among, is_known, names_regular};
+use dict_catalogue::{
+    Item, MAX_ITEMS, MAX_MEMBERS, edition_numbers, is_among, is_known, names_regular,
+};
 use dict_name::{is_name, is_title};
 use std::alloc::{AllocError, Global};
-
-/// The most items of a catalogue.
-const MAX_ITEMS: usize = 64;
-
-/// The most members of a virtual item.
-const MAX_MEMBERS: usize = 64;
 
 /// Whether no text stands in the list twice.
 fn has_once(texts: &[String]) -> bool

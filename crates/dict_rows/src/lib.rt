@@ -16,10 +16,12 @@ mod written;
 
 pub use apart::{IdReader, RowidReader};
 pub use fault::RowsFault;
+pub use items::number_in;
 pub use laws::{
     empty_records, one_catalogue, ordered_records, records_after, records_by_number,
     taken_in_order, worked_records,
 };
 pub use reader::Reader;
+pub use replies::verb_in;
 pub use summary::{EditionRows, Tables, summary_of};
 pub use written::{KNOWN_VERSION, edition_row, item_row, kept_row, mark_row, member_row};

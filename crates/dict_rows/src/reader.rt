@@ -17,7 +17,7 @@ use crate::lawful::has_lawful_items;
 use crate::marks::{are_owned, installs_of};
 use crate::replies::{is_install, reply_of};
 use crate::titles::{are_titled, place_of, title_at};
-use dict_catalogue::{Item, Summary, edition_numbers};
+use dict_catalogue::{Item, MAX_ACCEPTED, Summary, edition_numbers};
 use dict_index::{MAX_LINES, is_edition_text};
 use dict_name::is_title;
 use dict_records::{Edition, Entry, Item as ItemRow, Kept, Mark, Member, Stored};
@@ -25,9 +25,6 @@ use std::alloc::{AllocError, Global};
 
 /// The most entries of an edition: one line of an index at least is that of its title.
 const MAX_ENTRIES: u64 = MAX_LINES as u64 - 1;
-
-/// The most commands that a catalogue accepts.
-const MAX_ACCEPTED: u64 = 9_223_372_036_854_775_807;
 
 /// The edition whose entries are read: its number, its text, and how many of its entries were read.
 #[derive(Drop)]

@@ -1,6 +1,7 @@
 // The record of a kept reply.
-ghost use Rattle.std.specs.Prelude.{◌≡◌, ◌≢◌, ℕ, IfOk, OnErr};
+ghost use Rattle.std.specs.Prelude.{◌≡◌, ◌≢◌, ℕ, IfOk, IfSome, IfNone, OnErr};
 ghost use Rattle.dict_catalogue.specs.WellFormed.{is_install, tells_edition};
+ghost use Rattle.dict_catalogue.specs.declared.reply.Verb.{Verb as AVerb};
 ghost use Rattle.dict_records.specs.Typed.{owned_kept};
 ghost use Rattle.dict_rows.specs.Written.{verb_name};
 ghost use Rattle.dict_rows.specs.Given.{IsReply, IsNoReply};
@@ -11,18 +12,29 @@ use dict_catalogue::Verb;
 use dict_name::{is_name, is_request_id};
 use dict_records::Kept;
 
+/// What a command did, by the word for it, where it is one.
+pub fn verb_in(word: &str) -> Option<Verb>
+    ensures told { IfSome result (λ verb. word.now ≡ verb_name verb) }
+    ensures none { IfNone result ((verb : AVerb) → word.now ≢ verb_name verb) }
+{
+    match word {
+        "install" => Some(Verb::Install),
+        "rollback" => Some(Verb::Rollback),
+        "retire" => Some(Verb::Retire),
+        "virtual" => Some(Verb::Virtual),
+        "place" => Some(Verb::Place),
+        _ => None,
+    }
+}
+
 /// What a command did, by the word for it.
 fn verb_of(word: &str) -> Result<Verb, RowsFault>
     ensures told { IfOk result (λ verb. word.now ≡ verb_name verb) }
     ensures damaged { OnErr result ((verb : _) → word.now ≢ verb_name verb) }
 {
-    match word {
-        "install" => Ok(Verb::Install),
-        "rollback" => Ok(Verb::Rollback),
-        "retire" => Ok(Verb::Retire),
-        "virtual" => Ok(Verb::Virtual),
-        "place" => Ok(Verb::Place),
-        _ => Err(RowsFault::Damaged),
+    match verb_in(word) {
+        Some(verb) => Ok(verb),
+        None => Err(RowsFault::Damaged),
     }
 }
 

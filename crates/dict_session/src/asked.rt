@@ -7,14 +7,13 @@ ghost use Rattle.dict_session.specs.Places.{places_from, is_regular_named, place
 
 use arrayvec::{ArrayString, ArrayVec};
 use dict_catalogue::Item;
+use dict_name::MAX_TITLE;
 
 /// The most databases that a word asks: a catalogue has at most 64 items, and a virtual one at most 64 members.
 const MAX_PLACES: usize = 64;
 
-/// The most octets of a database's name, and of its title.
+/// The most octets of a database's name.
 const MAX_NAME: usize = 32;
-
-const MAX_TITLE: usize = 200;
 
 /// The places among a catalogue's items of the databases that are asked, in their order: all of them, or the first in
 /// which an entry is found.

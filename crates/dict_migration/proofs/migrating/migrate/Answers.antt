@@ -66,7 +66,7 @@ returns-clause-crash g c =
 
 pub returns-in-Err-clause-failed : goal.returns-in-Err-clause-failed
 returns-in-Err-clause-failed g c clean =
-    inl (record { same = refl; why = why_not_begun (summary_shown c.args.summary.now) c.in-Err.error c.fault_of_read.result c.fault_of_read.ensures c.in-Err.ensures.failed })
+    inl (record { same = refl; why = why_not_begun (summary_shown c.args.summary.now) c.in-Err.error c.fault_of_read.result c.fault_of_read.ensures.is c.in-Err.ensures.failed })
 
 each_err : {X E : Type 0} (result : Result X E) (P Q : E → Type 0) → ((e : E) → P e → Q e) → IfErr result P → IfErr result Q
 each_err (Ok x) P Q f h = h

@@ -79,7 +79,7 @@ returns-in-Err-clause-failed g c clean =
     let early : HasCleanDisk (state g.S.Store mid) = omega (arith, c.drop-tx.ensures.survives.clean, late) in
     inl (record {
       error = c.in-Err.error;
-      told = c.fault_of_read.ensures;
+      told = c.fault_of_read.ensures.is;
       last = mid;
       within = subst (λ h. FailsInside g.S.Store (InMove c.args.layout c.args.numbers.now c.args.installs) h mid c.in-Err.error) c.transaction-tx.ensures.begun (c.in-Err.ensures.failed early);
       after = subst (λ h. Survives (state g.S.Store mid) (state g.S.Store h) (λ _. ⊥)) same c.drop-tx.ensures.survives;
