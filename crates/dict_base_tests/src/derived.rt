@@ -120,7 +120,7 @@ fn the_edges_are_found_by_their_selections(rt: HostRuntime) -> Result<(), Fail> 
     Ok(())
 }
 
-static SELECTED: [(Strategy, &[u8], &str); 5] = [
+static SELECTED: [(Strategy, &[u8], &str); 6] = [
     (
         Strategy::Prefix,
         b"a\xff",
@@ -135,6 +135,11 @@ static SELECTED: [(Strategy, &[u8], &str); 5] = [
         Strategy::Substring,
         b"abcd",
         "Grams([97, 98, 99], [98, 99, 100])",
+    ),
+    (
+        Strategy::Substring,
+        b"\xd0\xb0\xd0\xb1",
+        "Grams([176, 208, 177], [208, 176, 208])",
     ),
     (Strategy::Substring, b"ab", "All"),
     (Strategy::Exact, b"", "Nothing"),

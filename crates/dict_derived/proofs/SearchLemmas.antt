@@ -1,5 +1,5 @@
 -- What a query finds is among what it looks at.
-use Rattle.std.proofs.Common.{◌≡◌, ◌≢◌, ℕ, ◌-◌, ◌≤◌, false, cond, List, [], ◌∷◌, ◌++◌, length, take, drop, reverse, refl, ap, sym, ◌∙◌, subst, arith, ltb, IsUtf8, append_assoc, length-drop}
+use Rattle.std.proofs.Common.{◌≡◌, ◌≢◌, ℕ, ◌-◌, ◌≤◌, false, cond, List, [], ◌∷◌, ◌++◌, length, take, drop, reverse, refl, ap, sym, ◌∙◌, subst, arith, ltb, slice_index, IsUtf8, append_assoc, length-drop}
 use Rattle.std.specs.List.{Contains}
 use Rattle.std.proofs.lemmas.Bool.{false≢true, ne_eqb, ltb-false, cond_both}
 use Rattle.std.proofs.lemmas.Grind.{common_steps}
@@ -9,7 +9,8 @@ use Rattle.dict_match.specs.Words.{words_between_blanks}
 use Rattle.dict_match.specs.Matching.{Hits, Fits, StandsIn}
 use Rattle.dict_match.specs.declared.strategy.Strategy.{Strategy}
 use Rattle.dict_match.specs.declared.strategy.Strategy.TheVariants.{Exact, Prefix, Suffix, Substring, Word, First, Last}
-use Rattle.dict_derived.specs.Search.{Rows, NoRows, AllRows, WithGrams, Selects, by_first, by_grams, rows_by, rows_for, is_tested}
+use Rattle.dict_derived.specs.Derived.{IsGramOf}
+use Rattle.dict_derived.specs.Search.{Rows, NoRows, AllRows, WithGrams, Selects, by_first, both_grams, by_grams, rows_by, rows_for, is_tested}
 use Rattle.dict_derived.proofs.RangeLemmas.{begins, holds, text-low, reverse-low}
 
 -- ---- words
@@ -45,15 +46,19 @@ first_size q h = grind (arith, common_steps)
 last_size : (q : List ℕ) → 3 ≤ length q → length (drop (length q - 3) q) ≡ 3
 last_size q h = length-drop (length q - 3) q ∙ omega arith
 
+in_turn : (q first last k : List ℕ) → IsGramOf k first → IsGramOf k last → Selects (both_grams q first last) k
+in_turn q first last k one other =
+    cond_both (ltb (slice_index q 0) 128) (WithGrams first last) (WithGrams last first) (λ rows. Selects rows k) (λ _. (one, other)) (λ _. (other, one))
+
 has_grams : (q k : List ℕ) → StandsIn q k → Selects (by_grams q) k
 has_grams q k h =
-    cond_both (ltb (length q) 3) AllRows (WithGrams (take 3 q) (drop (length q - 3) q)) (λ rows. Selects rows k)
+    cond_both (ltb (length q) 3) AllRows (both_grams q (take 3 q) (drop (length q - 3) q)) (λ rows. Selects rows k)
     (λ _. tt)
     (λ e.
-    let long : 3 ≤ length q = omega (arith, at_least (length q) e) in (
-      (first_size q long, stands_left q k (take 3 q) (drop 3 q) h (sym (take-append-drop 3 q))),
-      (last_size q long, stands_right q k (take (length q - 3) q) (drop (length q - 3) q) h (sym (take-append-drop (length q - 3) q))),
-    ))
+    let long : 3 ≤ length q = omega (arith, at_least (length q) e) in
+    in_turn q (take 3 q) (drop (length q - 3) q) k
+    (first_size q long, stands_left q k (take 3 q) (drop 3 q) h (sym (take-append-drop 3 q)))
+    (last_size q long, stands_right q k (take (length q - 3) q) (drop (length q - 3) q) h (sym (take-append-drop (length q - 3) q))))
   where
     at_least : (n : ℕ) → ltb n 3 ≡ false → 3 ≤ n
     at_least n e = ltb-false n 3 e

@@ -1,5 +1,5 @@
 -- Which entries of an edition a query looks at, told by what the tables have of each entry's key.
-use Rattle.std.specs.Prelude.{◌≡◌, ⊤, ℕ, ◌-◌, Bool, true, false, List, [], ◌∷◌, ◌++◌, length, reverse, take, drop, ◌==◌, nat_lt, IsTrue, if◌then◌else◌}
+use Rattle.std.specs.Prelude.{◌≡◌, ⊤, ℕ, ◌-◌, Bool, true, false, List, [], ◌∷◌, ◌++◌, length, reverse, take, drop, ◌==◌, nat_lt, slice_index, IsTrue, if◌then◌else◌}
 use Rattle.std.specs.Ordering.{is_le}
 use Rattle.dict_match.specs.declared.strategy.Strategy.{Strategy}
 use Rattle.dict_match.specs.declared.strategy.Strategy.TheVariants.{Exact, Prefix, Suffix, Substring, Word, First, Last}
@@ -40,8 +40,13 @@ abbrev pub by_first : List (List ℕ) → Rows
 by_first [] = AllRows
 by_first (word ∷ words) = WithWord word
 
+-- Those with the first and the last gram. The one that is told first is to be looked for first: the last one where the query
+-- begins with a letter of several octets, since that has parts of more letters.
+abbrev pub both_grams : List ℕ → List ℕ → List ℕ → Rows
+both_grams q first last = if nat_lt (slice_index q 0) 128 then WithGrams first last else WithGrams last first
+
 abbrev pub by_grams : List ℕ → Rows
-by_grams q = if nat_lt (length q) 3 then AllRows else WithGrams (take 3 q) (drop (length q - 3) q)
+by_grams q = if nat_lt (length q) 3 then AllRows else both_grams q (take 3 q) (drop (length q - 3) q)
 
 abbrev pub rows_by : Strategy → List ℕ → Rows
 rows_by Exact q = WithKey q

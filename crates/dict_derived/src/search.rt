@@ -19,7 +19,7 @@ pub enum Selection {
     Keys(Vec<u8>, Vec<u8>),
     /// Those whose key, read in reverse order, is from the first on, up to the second.
     ReversedKeys(Vec<u8>, Vec<u8>),
-    /// Those whose key has both grams, which may be equal.
+    /// Those whose key has both grams, which may be equal. The first one is to be looked for first.
     Grams([u8; 3], [u8; 3]),
     /// Those whose key has this word.
     Word(Vec<u8>),
@@ -75,14 +75,20 @@ fn gram_at(octets: &[u8], place: usize) -> [u8; 3]
     [octets[place], octets[place + 1], octets[place + 2]]
 }
 
-/// By the first and the last gram, where there is one.
+/// By the first and the last gram, where there is one. The first one of a query that begins with a letter of several octets is found in more keys than the last.
 fn by_grams(query: &[u8]) -> Selection
     ensures { rows_of result ≡ by_grams query.now }
 {
     if query.len() < 3 {
         return Selection::All;
     }
-    Selection::Grams(gram_at(query, 0), gram_at(query, query.len() - 3))
+    let first = gram_at(query, 0);
+    let last = gram_at(query, query.len() - 3);
+    if query[0] < 128 {
+        Selection::Grams(first, last)
+    } else {
+        Selection::Grams(last, first)
+    }
 }
 
 /// By the first word, where there is one.
