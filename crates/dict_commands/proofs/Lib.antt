@@ -9,3 +9,6 @@ pub mod KeptLemmas
 pub mod ApplyLemmas
 pub mod AboveLemmas
 pub mod PartLemmas
+pub mod FaultLemmas
+pub mod FilingLemmas
+pub mod FinishLemmas

@@ -138,7 +138,7 @@ each_key : (entries : List Entry) → AllByRecursion HasItsKey entries → map (
 each_key [] h = refl
 each_key (e ∷ entries) h = λ i. h.0 i ∷ each_key entries h.1 i
 
-keys_read : (entries : List Entry) (lines : List Line) → map line_of entries ≡ lines → AllByRecursion HasItsKey entries → map (λ (e : Entry). e.key) entries ≡ keys_of_lines lines
+pub keys_read : (entries : List Entry) (lines : List Line) → map line_of entries ≡ lines → AllByRecursion HasItsKey entries → map (λ (e : Entry). e.key) entries ≡ keys_of_lines lines
 keys_read entries lines are h = each_key entries h ∙ sym (map_twice line_of (λ (line : Line). key_of line.headword) entries) ∙ ap keys_of_lines are
 
 pub keys_told : {E : Type 0} (result : Result (Vec (List ℕ) Global) E) (entries : List Entry) (lines : List Line) → map line_of entries ≡ lines → AllByRecursion HasItsKey entries → IfOk result (λ keys. keys.items ≡ map (λ (e : Entry). e.key) entries) → IfOk result (λ keys. keys.items ≡ keys_of_lines lines)

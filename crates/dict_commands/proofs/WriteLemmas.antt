@@ -24,7 +24,7 @@ use Rattle.dict_commands.specs.Writes.{Wrote, FailsToWrite, Spares}
 -- ---- states
 
 -- what was committed stays, over two calls
-keeps_then : (a b c : State) → KeepsCommit a b → KeepsCommit b c → KeepsCommit a c
+pub keeps_then : (a b c : State) → KeepsCommit a b → KeepsCommit b c → KeepsCommit a c
 keeps_then a b c one two = record { was_open = λ h. one.was_open (two.was_open h); committed = λ h. two.committed h ∙ one.committed (two.was_open h) }
 
 pub none_more : (a : State) → Survives a a (λ _. ⊥)
@@ -51,7 +51,7 @@ both_same : (P : Table → Type 0) (a b c : Trees) (tables : List Table) → All
 both_same P a b c [] one two = tt
 both_same P a b c (t ∷ tables) one two = (λ other. two.0 other ∙ one.0 other, both_same P a b c tables one.1 two.1)
 
-others_then : (a b c : Database) → SparesOthers a b → SparesOthers b c → SparesOthers a c
+pub others_then : (a b c : Database) → SparesOthers a b → SparesOthers b c → SparesOthers a c
 others_then a b c one two = record {
   schema = two.schema ∙ one.schema;
   others = both_same (IsOther a.schema) a.trees b.trees c.trees a.schema.tables one.others (subst (λ (s : Schema). AllByRecursion (λ t. IsOther s t → c.trees t.tree ≡ b.trees t.tree) s.tables) one.schema two.others);

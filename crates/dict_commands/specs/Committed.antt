@@ -4,6 +4,7 @@ use Rattle.sqlite.specs.Effect.{Database, IsDatabase}
 use Rattle.sqlite.specs.Tree.{Trees}
 use Rattle.sqlite.specs.State.{State}
 use Rattle.dict_desk.specs.declared.fault.Fault.{Fault}
+pub use Rattle.dict_holdings.specs.Faults.{IsOfStore}
 pub use Rattle.dict_holdings.specs.Writing.{Stays}
 use Rattle.dict_holdings.specs.Writing.{FailsToEnd}
 use Rattle.sqlite.specs.Held.{Held}
@@ -12,7 +13,7 @@ use Rattle.dict_rows.specs.After.{TableChange}
 use Rattle.dict_rows.specs.Versions.{known}
 use Rattle.dict_commands.specs.Listed.{Listed, AreListed}
 use Rattle.dict_commands.specs.Statements.{statements_of}
-use Rattle.dict_desk.specs.declared.fault.Fault.TheVariants.{Refused, Memory, Disk, Closed, NotACatalogue, Damaged, NewerSchema}
+use Rattle.dict_desk.specs.declared.fault.Fault.TheVariants.{Memory}
 
 -- trees that a stop may leave: those of a database of this kind
 abbrev pub IsTreesOf : (Database → Type 0) → Trees → Type 0
@@ -24,16 +25,6 @@ pub record IsCommitted (P : Database → Type 0) (s : State) : Type 0 where
   pub settled : s.now ≡ s.committed
   pub holds : P s.committed
   pub only : (trees : Trees) → s.may_leave trees → IsTreesOf P trees
-
--- a growth was refused, or the store failed
-abbrev pub IsOfStore : Fault → Type 0
-IsOfStore (Refused refusal) = ⊥
-IsOfStore Memory = Unit {0}
-IsOfStore Disk = Unit {0}
-IsOfStore Closed = ⊥
-IsOfStore NotACatalogue = ⊥
-IsOfStore Damaged = ⊥
-IsOfStore NewerSchema = ⊥
 
 -- A planned command is not committed: a growth was refused before anything was written, and all is as it was; or one of its
 -- statements failed behind those before it, or its commit did.

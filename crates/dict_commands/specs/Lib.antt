@@ -6,3 +6,6 @@ pub mod Writes
 pub mod Decided
 pub mod Committed
 pub mod Answers
+pub mod Filing
+pub mod Parts
+pub mod Finishing

@@ -17,8 +17,8 @@ pub(crate) struct DerivedRows<'a> {
     pub(crate) grams: Vec<PlacedGram>,
 }
 
-// The keys of entries.
-fn keys_of(alloc: Global, entries: &[Entry]) -> Result<Vec<Key>, AllocError>
+/// The keys of entries. The only error is want of memory.
+pub(crate) fn keys_of(alloc: Global, entries: &[Entry]) -> Result<Vec<Key>, AllocError>
     ensures { IfOk result (λ keys. keys.items ≡ map (λ entry. entry.key) entries.now) }
 {
     let mut keys = Vec::new(alloc);
@@ -41,8 +41,8 @@ pub(crate) fn installed_keys(alloc: Global, command: &Command) -> Result<Vec<Key
     }
 }
 
-// The octets of a key in reverse order.
-fn reversed_key(alloc: Global, key: &[u8]) -> Result<Vec<u8>, AllocError>
+/// The octets of a key in reverse order. The only error is want of memory.
+pub(crate) fn reversed_key(alloc: Global, key: &[u8]) -> Result<Vec<u8>, AllocError>
     ensures { IfOk result (λ own. own.items ≡ reverse key.now) }
 {
     key.iter().rev().copied().collect(alloc)

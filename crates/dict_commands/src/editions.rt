@@ -238,8 +238,8 @@ fn add_words<S: Alter, T: OpenTransaction<S>>(
     Ok(())
 }
 
-// Adds the grams of an edition, in their order.
-fn add_grams<S: Alter, T: OpenTransaction<S>>(
+/// Adds the grams of an edition, in their order.
+pub(crate) fn add_grams<S: Alter, T: OpenTransaction<S>>(
     tx: &mut T,
     number: u64,
     grams: &[PlacedGram],

@@ -12,8 +12,10 @@ ghost use Rattle.dict_rows.specs.After.{TableChange, IsChange};
 ghost use Rattle.dict_rows.specs.Versions.{known};
 ghost use Rattle.dict_derived.specs.AllTables.{all_after};
 ghost use Rattle.dict_holdings.specs.Holds.{Holds};
-ghost use Rattle.dict_commands.specs.Kept.{Turns};
+ghost use Rattle.dict_commands.specs.Kept.{IsUsable, Turns};
 ghost use Rattle.dict_commands.specs.Changes.{IsInRange};
+ghost use Rattle.dict_commands.specs.Filing.{IsAhead, ShowsStill};
+ghost use Rattle.dict_commands.specs.declared.filing.Filing.{Filing};
 
 /// The summary of a well formed catalogue has its editions' numbers in range, so commands can be applied over it.
 ///
@@ -29,4 +31,11 @@ pub fn summaries_in_range()
 pub fn command_holds()
     ensures { (change : TableChange) (M : Catalogue) (id : List ℕ) (command : Command Edition) (old new : Database) → Turns (all_after known change) old new → Holds known old M → IsLawfulCommand command → IsTrue (is_request_id id) → kept_under M.kept id ≡ None → refusal_of (holdings M) command ≡ None
         → IsChange M id command change → Holds known new (with_effect M id command) }
+{}
+
+/// While an edition is filed, each edition that neither goes nor comes has the rows that it had, and the same replies are kept.
+///
+/// It does nothing. Its clause is the law.
+pub fn shows_still()
+    ensures { (f : Filing) (committed now : Database) → IsUsable committed → IsAhead f committed now → ShowsStill f committed now }
 {}

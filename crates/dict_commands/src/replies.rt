@@ -17,49 +17,13 @@ ghost use Rattle.dict_commands.specs.Committed.{IsOfStore, Stays};
 
 use dict_catalogue::{Kept, Verb};
 use dict_desk::Fault;
-use dict_holdings::fault_of;
+use dict_holdings::fault_of_read;
 use dict_records::Kept as KeptRow;
+use dict_rows::{number_in, verb_in};
 use dict_sql::read::kept_replies_of;
 use dict_sql::records::ReadError;
 use sqlite::{Alter, Connection};
 use std::alloc::{AllocError, Global};
-
-// The fault of a reading: refused memory, or the store failed.
-fn read_fault(error: ReadError) -> Fault
-    ensures is { result ≡ fault_of_read error }
-    ensures kind { IsOfStore result }
-{
-    match error {
-        ReadError::NoRecord => Fault::Disk,
-        ReadError::Store(error) => fault_of(error),
-    }
-}
-
-// What a command did, by the word for it.
-fn verb_of(word: &str) -> Option<Verb>
-    ensures told { IfSome result (λ verb. word.now ≡ verb_name verb) }
-    ensures none { IfNone result ((verb : AVerb) → word.now ≢ verb_name verb) }
-{
-    match word {
-        "install" => Some(Verb::Install),
-        "rollback" => Some(Verb::Rollback),
-        "retire" => Some(Verb::Retire),
-        "virtual" => Some(Verb::Virtual),
-        "place" => Some(Verb::Place),
-        _ => None,
-    }
-}
-
-// The number that stands in a column, which is never below 0.
-fn number_of(found: &i64) -> Option<u64>
-    ensures told { IfSome result (λ number. found.now ≡ pos number) }
-    ensures none { IfNone result ((number : ℕ) → found.now ≢ pos number) }
-{
-    if *found < 0 {
-        return None;
-    }
-    Some(*found as u64)
-}
 
 // The number that stands in a column, if one does.
 fn number_if(found: &Option<i64>) -> Option<Option<u64>>
@@ -67,7 +31,7 @@ fn number_if(found: &Option<i64>) -> Option<Option<u64>>
     ensures none { IfNone result ((number : Option ℕ) → found.now ≢ option_map pos number) }
 {
     match found {
-        Some(found) => Some(Some(number_of(found)?)),
+        Some(found) => Some(Some(number_in(found)?)),
         None => Some(None),
     }
 }
@@ -77,8 +41,8 @@ fn parts_of(row: &KeptRow<String>) -> Option<(u64, Verb, Option<u64>)>
     ensures told { IfSome result (λ parts. (row.now.number ≡ pos parts.0) × (string_bytes row.now.verb ≡ verb_name parts.1) × (row.now.edition ≡ option_map pos parts.2)) }
     ensures none { IfNone result ((number : ℕ) (verb : AVerb) (edition : Option ℕ) → row.now.number ≡ pos number → string_bytes row.now.verb ≡ verb_name verb → row.now.edition ≡ option_map pos edition → ⊥) }
 {
-    let verb = verb_of(row.verb.as_str())?;
-    let number = number_of(&row.number)?;
+    let verb = verb_in(row.verb.as_str())?;
+    let number = number_in(&row.number)?;
     let edition = number_if(&row.edition)?;
     Some((number, verb, edition))
 }
@@ -121,7 +85,7 @@ pub fn kept_reply<S: Alter>(
 {
     let rows = match kept_replies_of(alloc, conn, id) {
         Ok(rows) => rows,
-        Err(error) => return Err(read_fault(error)),
+        Err(error) => return Err(fault_of_read(error)),
     };
     let Some(row) = rows.first() else {
         return Ok(None);

@@ -24,8 +24,8 @@ use dict_sql::insert::insert_kept;
 use dict_sql::transaction::OpenTransaction;
 use sqlite::{Alter, Error};
 
-// Writes the mark, the items and the members of a summary anew.
-fn write_summary<S: Alter, T: OpenTransaction<S>>(
+/// Writes the mark, the items and the members of a summary anew.
+pub(crate) fn write_summary<S: Alter, T: OpenTransaction<S>>(
     tx: &mut T,
     summary: &Summary,
 ) -> Result<(), Error>
@@ -67,8 +67,8 @@ fn write_editions<S: Alter, T: OpenTransaction<S>>(
     Ok(())
 }
 
-// Adds the reply that is kept for an id. It comes last, so it tells that the database is sound.
-fn add_reply<S: Alter, T: OpenTransaction<S>>(
+/// Adds the reply that is kept for an id. It comes last, so it tells that the database is sound.
+pub(crate) fn add_reply<S: Alter, T: OpenTransaction<S>>(
     tx: &mut T,
     id: &str,
     reply: &Kept,

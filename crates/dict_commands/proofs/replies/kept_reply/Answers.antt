@@ -31,7 +31,7 @@ pub returns-in-Err-clause-failed : goal.returns-in-Err-clause-failed
 returns-in-Err-clause-failed g c clean =
     let old = state g.S.Store c.args.conn.now in
     let new = state g.S.Store c.kept_replies_of.new.conn in
-    subst (FailsToLookUp old new) (sym c.read_fault.ensures.is)
+    subst (FailsToLookUp old new) (sym c.fault_of_read.ensures.is)
     (replies_fail (equals_text 1 c.args.id.now) old new c.in-Err.error (c.in-Err.ensures.failed clean))
 
 pub returns-in_err-reply-clause-failed : goal.returns-in_err-reply-clause-failed

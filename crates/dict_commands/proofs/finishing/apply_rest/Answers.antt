@@ -1,0 +1,24 @@
+use Rattle.sqlite.specs.Held.{state}
+use Rattle.dict_catalogue.specs.Views.{summary_shown}
+use Rattle.dict_derived.specs.AllTables.{with_derived}
+use Rattle.dict_commands.proofs.FinishLemmas.{rest_done, rest_failed, rest_fails}
+use Rattle.dict_commands.proofs.WriteLemmas.{clean_before}
+use Rattle.dict_commands.proofs.finishing.apply_rest.Goals as goal
+
+pub commit_rest-requires-clause-usable : goal.commit_rest-requires-clause-usable
+commit_rest-requires-clause-usable g c = λ clean live. let it = c.requires.holds clean live in (with_derived it.1.holds.tables, record { own = it.1.holds.own; keeps = it.1.holds.keeps })
+
+pub returns-clause-applied : goal.returns-clause-applied
+returns-clause-applied g c =
+    rest_done (summary_shown c.args.summary.now) c.args.id.now c.args.command.now c.args.change (state g.S.Store c.args.conn.now) (state g.S.Store c.commit_rest.new.conn) c.requires.id c.requires.planned.0 c.is_lawful.ensures c.lies_within.ensures c.requires.free c.requires.holds c.commit_rest.ensures.crash c.commit_rest.ensures.ended
+    c.in_default.ensures.made c.commit_rest.ensures.lives c.requires.planned.2
+
+pub returns-in-Err-clause-applied : goal.returns-in-Err-clause-applied
+returns-in-Err-clause-applied g c =
+    rest_failed (summary_shown c.args.summary.now) c.args.id.now c.args.command.now c.args.change (state g.S.Store c.args.conn.now) (state g.S.Store c.commit_rest.new.conn) c.requires.id c.requires.planned.0 c.is_lawful.ensures c.lies_within.ensures c.requires.free c.requires.holds c.commit_rest.ensures.crash c.commit_rest.ensures.ended
+    c.in-Err.fault c.in-Err.ensures.kinds c.in-Err.ensures.keeps c.in-Err.ensures.adds_none c.requires.range
+
+pub returns-in-Err-clause-failed : goal.returns-in-Err-clause-failed
+returns-in-Err-clause-failed g c clean = λ real.
+    rest_fails g.S.Store (summary_shown c.args.summary.now) c.args.id.now c.args.command.now c.args.change c.args.conn.now c.commit_rest.new.conn c.requires.id c.requires.planned.0 c.is_lawful.ensures c.lies_within.ensures
+    (c.requires.free (clean_before (state g.S.Store c.args.conn.now) (state g.S.Store c.commit_rest.new.conn) c.commit_rest.ensures.crash clean)) c.in-Err.fault (c.in-Err.ensures.failed clean)
