@@ -28,7 +28,7 @@ use Rattle.dict_derived.specs.declared.reader.Pieces.TheVariants.{Words, Grams}
 use Rattle.dict_keyed_sql.specs.Pieces.{HasDerived}
 use Rattle.dict_keyed_sql.specs.Scans.{Scan, HasGiven, IsWhole}
 use Rattle.dict_keyed_sql.specs.Scans.Scan.{Of, WithKey as KeyScan, Between as KeysScan, BetweenReversed as ReversedScan, WithWord as WordScan, WithGrams as GramsScan}
-pub use Rattle.dict_holdings.specs.Faults.{fault_of, fault_of_read}
+pub use Rattle.dict_holdings.specs.Faults.{fault_of, fault_of_read, IsOfStore}
 use Rattle.dict_desk.specs.declared.fault.Fault.{Fault}
 use Rattle.dict_desk.specs.declared.fault.Fault.TheVariants.{Refused, Memory, Disk, Closed, NotACatalogue, Damaged, NewerSchema}
 
@@ -78,16 +78,6 @@ pub record IsReadable (db : Database) (number : ℕ) : Type 0 where
   pub editions : AllByRecursion (HasColumns edition_columns) (filter (equals_number 1 (pos number)) (rows_of (codes "edition") db))
 
 -- ---- why a lookup fails, and how it leaves the store
-
--- the faults of a lookup over an open store
-abbrev pub IsOfStore : Fault → Type 0
-IsOfStore (Refused refusal) = ⊥
-IsOfStore Memory = Unit {0}
-IsOfStore Disk = Unit {0}
-IsOfStore Closed = ⊥
-IsOfStore NotACatalogue = ⊥
-IsOfStore Damaged = ⊥
-IsOfStore NewerSchema = ⊥
 
 -- Why a lookup under this number fails though its store doesn't: a growth was refused; or the limit on steps was met, or
 -- what stands under the number is no edition's.

@@ -10,9 +10,9 @@ ghost use Rattle.dict_derived.specs.Search.{rows_of};
 ghost use Rattle.dict_keyed_sql.specs.Scans.{HasGiven};
 ghost use Rattle.dict_lookup.specs.Searches.{HasLookupTables, FailsToLookUp, IsOfStore, scan_for};
 
-use crate::fault::fault_of_read;
 use dict_derived::Selection;
 use dict_desk::Fault;
+use dict_holdings::fault_of_read;
 use dict_keyed_sql::{
     read_between, read_between_reversed, read_rows_of, read_with_grams, read_with_key,
     read_with_word,

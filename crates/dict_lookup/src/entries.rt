@@ -6,8 +6,8 @@ ghost use Rattle.dict_derived.specs.Entries.{Filed};
 ghost use Rattle.dict_lookup.specs.Searches.{IsReading, IsToCome, FailsToLookUp, IsOfStore};
 ghost use Rattle.dict_lookup.specs.Handed.{natural, owned_filed};
 
-use crate::fault::fault_of_read;
 use dict_desk::Fault;
+use dict_holdings::fault_of_read;
 use dict_keyed_sql::next_keyed;
 use dict_records::{KeyedEntry, Stored};
 use dict_sql::records::ReadError;

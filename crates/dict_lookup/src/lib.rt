@@ -9,7 +9,6 @@ mod counted;
 mod counter;
 mod counting;
 mod entries;
-mod fault;
 mod found;
 mod laws;
 mod listed;

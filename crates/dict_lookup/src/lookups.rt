@@ -1,7 +1,8 @@
 // What is asked of an edition by its number.
-ghost use Rattle.std.specs.Prelude.{◌≡◌, ◌≤◌, length, false, List, IfOk, IfErr, IsErr, OnOk};
-ghost use Rattle.dict_lookup.specs.Texts.{AreTextsOf, AreMade, MayKeep};
+ghost use Rattle.std.specs.Prelude.{◌≡◌, ◌≤◌, ℕ, length, false, List, IfOk, IfErr, IsErr, OnOk};
+ghost use Rattle.dict_lookup.specs.Texts.{IsTextOf, AreTextsOf, AreMade, MayKeep};
 ghost use Rattle.dict_lookup.specs.Counts.{AreHeadsOf, size_of_all, most_counted};
+ghost use Rattle.sqlite.specs.Effect.{Database};
 ghost use Rattle.sqlite.specs.State.{HasCleanDisk, IsUnchanged, Survives};
 ghost use Rattle.sqlite.specs.Held.{state};
 ghost use Rattle.dict_sql.specs.Effects.{WhileOpen};
@@ -14,12 +15,12 @@ ghost use Rattle.dict_lookup.specs.Searches.{HasLookupTables, HoldsOne, IsReadab
 use crate::begin::{begin, refused_first, wake};
 use crate::counted::Counted;
 use crate::counting::{count_entries, count_heads};
-use crate::fault::fault_of_read;
 use crate::found::hand_found;
 use crate::listed::{hand_headwords, hand_kept};
 use crate::record::{column_number, edition_of_number, info_of_number};
 use dict_derived::select;
 use dict_desk::{Demand, End, Fault, Row, RowSink, What};
+use dict_holdings::fault_of_read;
 use dict_match::{Key, Strategy};
 use dict_sql::records::ReadError;
 use dict_texts::Texts;
@@ -175,8 +176,8 @@ pub fn info<S: Alter, T: RowSink>(
 /// nothing is told.
 ///
 /// The edition's text is the one that is kept under its number, if one is; else it is read, and kept from then on, unless a growth
-/// is refused, which is no fault. What is kept is the text of the edition that the database has under the number. A number above
-/// the count of installs is no edition's, and nothing is kept under it.
+/// is refused, which is no fault. What is kept is the text of the edition that the database has under the number; what is kept under
+/// other numbers was so before. A number above the count of installs is no edition's, and nothing is kept under it.
 ///
 /// `Memory` tells that a growth was refused, `Disk` that the store failed, or that the limit on steps was met. The database
 /// stays as it is.
@@ -194,6 +195,7 @@ pub fn find<S: Alter, T: RowSink>(
     requires { WhileOpen (state S.Store conn.old) HasLookupTables }
     ensures value { HasCleanDisk (state S.Store conn.new) → AreTextsOf (state S.Store conn.old).now texts.old → (reading : ReadEdition) → HoldsOne (state S.Store conn.old).now number reading → Hands T.takes T.stops sink.old sink.new (found_rows strategy query.now (edition_of reading)) result }
     ensures texts { HasCleanDisk (state S.Store conn.new) → AreTextsOf (state S.Store conn.old).now texts.old → AreTextsOf (state S.Store conn.old).now texts.new }
+    ensures beside { HasCleanDisk (state S.Store conn.new) → AreTextsOf (state S.Store conn.old).now texts.old → (other : Database) → ((text : List ℕ) → IsTextOf (state S.Store conn.old).now (number, text) → IsTextOf other (number, text)) → AreTextsOf other texts.old → AreTextsOf other texts.new }
     ensures made { AreMade installs texts.old → AreMade installs texts.new }
     ensures handed { (rows : List ShownRow) × Hands T.takes T.stops sink.old sink.new rows result }
     ensures same { HasCleanDisk (state S.Store conn.new) → OnOk result (IsUnchanged (state S.Store conn.old) (state S.Store conn.new)) }

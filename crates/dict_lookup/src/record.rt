@@ -12,8 +12,8 @@ ghost use Rattle.dict_index.specs.Edition.{ReadEdition};
 ghost use Rattle.dict_rows.specs.Written.{edition_record};
 ghost use Rattle.dict_lookup.specs.Searches.{HoldsOne, FailsToLookUp, IsOfStore, column_of};
 
-use crate::fault::fault_of_read;
 use dict_desk::Fault;
+use dict_holdings::fault_of_read;
 use dict_keyed_sql::infos_numbered;
 use dict_records::{Edition, Stored};
 use dict_sql::read::editions_numbered;

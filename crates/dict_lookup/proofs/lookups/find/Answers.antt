@@ -29,6 +29,12 @@ returns-in-Some-clause-texts g c clean are =
     texts_kept db c.args.installs c.args.number c.in-Some.text.items c.take.new.self c.find_and_keep.new.texts c.find_and_keep.ensures.kept
     (taken_is db c.args.number c.in-Some.text.items c.args.texts.now (sym c.in-Some.ensures.text) are) (texts_left c.args.number c.args.texts.now c.take.new.self c.take.ensures.rest db are)
 
+pub returns-in-Some-clause-beside : goal.returns-in-Some-clause-beside
+returns-in-Some-clause-beside g c clean are other same have =
+    let db = (state g.S.Store c.args.conn.now).now in
+    texts_kept other c.args.installs c.args.number c.in-Some.text.items c.take.new.self c.find_and_keep.new.texts c.find_and_keep.ensures.kept
+    (same c.in-Some.text.items (taken_is db c.args.number c.in-Some.text.items c.args.texts.now (sym c.in-Some.ensures.text) are)) (texts_left c.args.number c.args.texts.now c.take.new.self c.take.ensures.rest other have)
+
 pub returns-in-Some-clause-made : goal.returns-in-Some-clause-made
 returns-in-Some-clause-made g c made =
     let db = (state g.S.Store c.args.conn.now).now in
@@ -41,6 +47,9 @@ returns-in_default-2-clause-value g c clean are reading one = absurd (record_the
 
 pub returns-in_default-2-clause-texts : goal.returns-in_default-2-clause-texts
 returns-in_default-2-clause-texts g c clean are = texts_left c.args.number c.args.texts.now c.take.new.self c.take.ensures.rest (state g.S.Store c.args.conn.now).now are
+
+pub returns-in_default-2-clause-beside : goal.returns-in_default-2-clause-beside
+returns-in_default-2-clause-beside g c clean are other same have = texts_left c.args.number c.args.texts.now c.take.new.self c.take.ensures.rest other have
 
 pub returns-in_default-2-clause-made : goal.returns-in_default-2-clause-made
 returns-in_default-2-clause-made g c made = made_left c.args.number c.args.texts.now c.take.new.self c.take.ensures.rest c.args.installs made
@@ -65,6 +74,15 @@ returns-clause-texts g c clean are =
     (λ reading one. ap (λ (r : spec.Edition). r.body) (record_told c.in_ok-edition.field-0 c.in-Some-2.edition (edition_record one.owner c.args.number reading) (c.in_ok-edition.ensures.value before reading one) c.in-Some-2.is))
     (texts_left c.args.number c.args.texts.now c.take.new.self c.take.ensures.rest db are)
 
+pub returns-clause-beside : goal.returns-clause-beside
+returns-clause-beside g c clean are other same have =
+    let mid = c.edition_of_number.new.conn in
+    let before : HasCleanDisk (state g.S.Store mid) = clean_before (state g.S.Store mid) (state g.S.Store c.find_and_keep-2.new.conn) c.find_and_keep-2.ensures.survives clean in
+    texts_kept other c.args.installs c.args.number c.in-Some-2.edition.body.items c.take.new.self c.find_and_keep-2.new.texts c.find_and_keep-2.ensures.kept
+    (same c.in-Some-2.edition.body.items
+    (λ reading one. ap (λ (r : spec.Edition). r.body) (record_told c.in_ok-edition.field-0 c.in-Some-2.edition (edition_record one.owner c.args.number reading) (c.in_ok-edition.ensures.value before reading one) c.in-Some-2.is)))
+    (texts_left c.args.number c.args.texts.now c.take.new.self c.take.ensures.rest other have)
+
 pub returns-clause-made : goal.returns-clause-made
 returns-clause-made g c made =
     let db = (state g.S.Store c.args.conn.now).now in
@@ -82,6 +100,9 @@ returns-clause-failed g c clean =
 -- nothing was read
 pub returns-in_err-edition-clause-texts : goal.returns-in_err-edition-clause-texts
 returns-in_err-edition-clause-texts g c clean are = texts_left c.args.number c.args.texts.now c.take.new.self c.take.ensures.rest (state g.S.Store c.args.conn.now).now are
+
+pub returns-in_err-edition-clause-beside : goal.returns-in_err-edition-clause-beside
+returns-in_err-edition-clause-beside g c clean are other same have = texts_left c.args.number c.args.texts.now c.take.new.self c.take.ensures.rest other have
 
 pub returns-in_err-edition-clause-made : goal.returns-in_err-edition-clause-made
 returns-in_err-edition-clause-made g c made = made_left c.args.number c.args.texts.now c.take.new.self c.take.ensures.rest c.args.installs made
