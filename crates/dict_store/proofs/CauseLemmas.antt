@@ -1,6 +1,6 @@
 -- Why a call of a desk failed.
 use Rattle.std.proofs.Common.{◌≡◌, ◌⊎◌, inl, inr, ℕ, true, false, List, sym, ap, subst, ◌∙◌, arith}
-use Rattle.std.specs.Prelude.{Option, None, IsSome, is_some, Result, Ok, Err, IfErr}
+use Rattle.std.specs.Prelude.{IsTrue, Option, None, IsSome, is_some, Result, Ok, Err, IfErr}
 use Rattle.std.proofs.lemmas.Bool.{false≢true}
 use Rattle.sqlite.specs.Effect.{Database}
 use Rattle.sqlite.specs.State.{HasCleanDisk, IsUnchanged, Fails, Survives}
@@ -21,41 +21,47 @@ use Rattle.dict_holdings.specs.Holds.{Holds}
 use Rattle.dict_lookup.specs.Searches as search
 use Rattle.dict_lookup.specs.Searches.{IsOfStore}
 use Rattle.dict_lookup.proofs.HeldLemmas.{held_readable}
-use Rattle.dict_commands.specs.Answers.{FailsToApply, IsOfApply}
+use Rattle.dict_commands.specs.Answers.{IsOfApply}
+use Rattle.dict_commands.specs.declared.filing.Filing.{Filing}
 use Rattle.dict_commands.specs.declared.applied.Applied.{Applied}
 use Rattle.dict_commands.specs.declared.applied.Applied.TheVariants.{Repeated, Done}
 use Rattle.dict_store.specs.Desk.{DeskState, IsAtRest, is_closed, reply_of}
-use Rattle.dict_store.specs.Causes.{GivesWay, FailsToApplyTo}
+use Rattle.dict_store.specs.Causes.{GivesWay, FailsToApplyOver, FailsToApplyTo}
+use Rattle.dict_store.specs.Prepared.{IsAlike, Undoes}
 use Rattle.dict_store.specs.declared.last.LastCall.{LastCall}
 
 no_limit : (limit : Option ℕ) → limit ≡ None → IsSome limit → ⊥
 no_limit limit is some = false≢true (sym (ap is_some is) ∙ some)
 
--- a lookup, or a reading of a kept reply
-module _ {S : Type 0} (g : Ghosts S) (old new : Held S) (summary : Holdings (List ℕ)) (before after : LastCall) (open_before : is_closed before ≡ false) (rest : IsAtRest g before summary old) (survives : Survives (state g old) (state g new) (λ _. ⊥)) where
-  -- what an open desk reads is a catalogue's, and it has no limit on steps
-  read_holds : HasCleanDisk (state g new) → IsUnchanged (state g old) (state g new) → (M : Catalogue) × Holds known (state g old).now M
-  read_holds clean same =
-      let it = rest.holds open_before (omega (arith, survives.clean)) same.0.was_open in
-      (it.0, subst (λ (db : Database). Holds known db it.0) (sym it.1.settled) it.1.holds)
+-- a lookup, or a reading of a kept reply, behind what was undone of what was prepared
+module _ {S : Type 0} (g : Ghosts S) (first : DeskState S) (old new : Held S) (summary : Holdings (List ℕ)) (filing : Option Filing) (before after : LastCall) (open_before : is_closed before ≡ false) (rest : IsAtRest g before summary filing old)
+    (survives : Survives (state g old) (state g new) (λ _. ⊥)) (undone : HasCleanDisk (state g new) → Undoes g first.conn old) where
+  -- what an open desk has committed is a catalogue's, and it has no limit on steps
+  read_holds : HasCleanDisk (state g new) → IsUnchanged (state g old) (state g new) → (M : Catalogue) × Holds known (state g old).committed M
+  read_holds clean same = let it = rest.holds open_before (omega (arith, survives.clean)) same.0.was_open in (it.0, it.1)
 
-  reply_read : HasCleanDisk (state g new) → IsUnchanged (state g old) (state g new) → IsUnread (state g old) Disk → ⊥
-  reply_read clean same (inl limited) = no_limit old.step_limit rest.limit limited
-  reply_read clean same (inr none) = let it = read_holds clean same in none it.0 it.1
+  reply_read : old.in_transaction ≡ false → HasCleanDisk (state g new) → IsUnchanged (state g old) (state g new) → IsUnread (state g old) Disk → ⊥
+  reply_read alone clean same (inl limited) = no_limit old.step_limit rest.limit limited
+  reply_read alone clean same (inr none) =
+      let it = read_holds clean same in
+      none it.0 (subst (λ (db : Database). Holds known db it.0) (sym (rest.settled open_before (omega (arith, survives.clean)) same.0.was_open alone)) it.1)
 
-  rows_read : (number : ℕ) → HasCleanDisk (state g new) → IsUnchanged (state g old) (state g new) → search.IsUnread number (state g old) Disk → ⊥
-  rows_read number clean same (inl limited) = no_limit old.step_limit rest.limit limited
-  rows_read number clean same (inr unreadable) = let it = read_holds clean same in unreadable (held_readable (state g old).now it.0 number it.1)
+  rows_read : (number : ℕ) → (HasCleanDisk (state g old) → IsTrue (state g old).is_open → IsAlike number (state g old).committed (state g old).now) → HasCleanDisk (state g new) → IsUnchanged (state g old) (state g new)
+      → search.IsUnread (search.column_of number) (state g old) Disk → ⊥
+  rows_read number alike clean same (inl limited) = no_limit old.step_limit rest.limit limited
+  rows_read number alike clean same (inr unreadable) =
+      let it = read_holds clean same in
+      unreadable ((alike (omega (arith, survives.clean)) same.0.was_open).readable (held_readable (state g old).committed it.0 (search.column_of number) it.1))
 
   -- why it isn't read, where its store doesn't fail
   module _ (Why : Fault → Type 0) (never : HasCleanDisk (state g new) → IsUnchanged (state g old) (state g new) → Why Disk → ⊥) where
     fails_for : HasCleanDisk (state g new) → (fault : Fault) → IsOfStore fault → (IsUnchanged (state g old) (state g new) × Why fault) ⊎ ((e : Error) × (fault ≡ fault_of e) × Fails (state g old) (state g new) ⊥ e)
-        → GivesWay g (record { conn = old; summary = summary; last = before }) (record { conn = new; summary = summary; last = after }) fault
+        → GivesWay g first (record { conn = new; summary = summary; last = after }) fault
     fails_for clean (Refused refusal) kind h = absurd kind
-    fails_for clean Memory kind (inl h) = inl (h.0, tt)
-    fails_for clean Memory kind (inr h) = inr h
+    fails_for clean Memory kind (inl h) = (old, undone clean, inl (h.0, tt))
+    fails_for clean Memory kind (inr h) = (old, undone clean, inr h)
     fails_for clean Disk kind (inl h) = absurd (never clean h.0 h.1)
-    fails_for clean Disk kind (inr h) = h
+    fails_for clean Disk kind (inr h) = (old, undone clean, h)
     fails_for clean Closed kind h = absurd kind
     fails_for clean NotACatalogue kind h = absurd kind
     fails_for clean Damaged kind h = absurd kind
@@ -63,22 +69,26 @@ module _ {S : Type 0} (g : Ghosts S) (old new : Held S) (summary : Holdings (Lis
 
     gives_for : {T : Type 0} (result : Result T Fault) → IfErr result IsOfStore
         → (HasCleanDisk (state g new) → IfErr result (λ fault. (IsUnchanged (state g old) (state g new) × Why fault) ⊎ ((e : Error) × (fault ≡ fault_of e) × Fails (state g old) (state g new) ⊥ e)))
-        → (desk : DeskState S) → record { conn = old; summary = summary; last = before } ≡ desk → HasCleanDisk (state g new) → IfErr result (GivesWay g desk (record { conn = new; summary = summary; last = after }))
-    gives_for (Ok value) kind failed desk is clean = tt
-    gives_for (Err fault) kind failed desk is clean =
-        subst (λ (d : DeskState S). GivesWay g d (record { conn = new; summary = summary; last = after }) fault) is (fails_for clean fault kind (failed clean))
+        → HasCleanDisk (state g new) → IfErr result (GivesWay g first (record { conn = new; summary = summary; last = after }))
+    gives_for (Ok value) kind failed clean = tt
+    gives_for (Err fault) kind failed clean = fails_for clean fault kind (failed clean)
 
-  pub lookup_gives_way : {T : Type 0} (number : ℕ) (result : Result T Fault) → IfErr result IsOfStore → (HasCleanDisk (state g new) → IfErr result (search.FailsToLookUp number (state g old) (state g new)))
-      → (desk : DeskState S) → record { conn = old; summary = summary; last = before } ≡ desk → HasCleanDisk (state g new) → IfErr result (GivesWay g desk (record { conn = new; summary = summary; last = after }))
-  lookup_gives_way number result kind failed = gives_for (search.IsUnread number (state g old)) (rows_read number) result kind failed
+  pub lookup_gives_way : {T : Type 0} (number : ℕ) → (HasCleanDisk (state g old) → IsTrue (state g old).is_open → IsAlike number (state g old).committed (state g old).now) → (result : Result T Fault) → IfErr result IsOfStore
+      → (HasCleanDisk (state g new) → IfErr result (search.FailsToLookUp (search.column_of number) (state g old) (state g new)))
+      → HasCleanDisk (state g new) → IfErr result (GivesWay g first (record { conn = new; summary = summary; last = after }))
+  lookup_gives_way number alike result kind failed = gives_for (search.IsUnread (search.column_of number) (state g old)) (rows_read number alike) result kind failed
 
-  pub reply_gives_way : {T : Type 0} (result : Result T Fault) → IfErr result IsOfStore → (HasCleanDisk (state g new) → IfErr result (FailsToLookUp (state g old) (state g new)))
-      → (desk : DeskState S) → record { conn = old; summary = summary; last = before } ≡ desk → HasCleanDisk (state g new) → IfErr result (GivesWay g desk (record { conn = new; summary = summary; last = after }))
-  reply_gives_way result kind failed = gives_for (IsUnread (state g old)) reply_read result kind failed
+  pub reply_gives_way : {T : Type 0} → old.in_transaction ≡ false → (result : Result T Fault) → IfErr result IsOfStore → (HasCleanDisk (state g new) → IfErr result (FailsToLookUp (state g old) (state g new)))
+      → HasCleanDisk (state g new) → IfErr result (GivesWay g first (record { conn = new; summary = summary; last = after }))
+  reply_gives_way alone result kind failed = gives_for (IsUnread (state g old)) (reply_read alone) result kind failed
+
+-- a desk that was closed is as it was
+pub closed_gives_way : {S : Type 0} (g : Ghosts S) (old new : DeskState S) (fault : Fault) → (fault ≡ Closed) × (is_closed old.last ≡ true) × (new ≡ old) → GivesWay g old new fault
+closed_gives_way g old new fault h = subst (GivesWay g old new) (sym h.0) (h.1, h.2)
 
 -- a command
 module _ {S : Type 0} (g : Ghosts S) (old : DeskState S) (id : List ℕ) (command : Command Edition) (new : DeskState S) where
-  fails_as : (fault : Fault) → IsOfApply fault → (is_failure fault ≡ true → FailsToApply g old.summary id command old.conn new.conn fault) → is_failure fault ≡ true → FailsToApplyTo g old (record { id = id; command = command }) new fault
+  fails_as : (fault : Fault) → IsOfApply fault → (is_failure fault ≡ true → FailsToApplyOver g old.summary id command old.conn new.conn fault) → is_failure fault ≡ true → FailsToApplyTo g old (record { id = id; command = command }) new fault
   fails_as (Refused refusal) kind h failure = absurd (false≢true failure)
   fails_as Memory kind h failure = h failure
   fails_as Disk kind h failure = h failure
@@ -87,14 +97,14 @@ module _ {S : Type 0} (g : Ghosts S) (old : DeskState S) (id : List ℕ) (comman
   fails_as Damaged kind h failure = absurd kind
   fails_as NewerSchema kind h failure = absurd kind
 
-  fails_by : (result : Result Applied Fault) → IfErr result IsOfApply → IfErr result (λ fault. is_failure fault ≡ true → FailsToApply g old.summary id command old.conn new.conn fault)
+  fails_by : (result : Result Applied Fault) → IfErr result IsOfApply → IfErr result (λ fault. is_failure fault ≡ true → FailsToApplyOver g old.summary id command old.conn new.conn fault)
       → IfErr (reply_of result) (λ fault. is_failure fault ≡ true → FailsToApplyTo g old (record { id = id; command = command }) new fault)
   fails_by (Ok (Repeated kept)) kind h = tt
   fails_by (Ok (Done kept summary)) kind h = tt
   fails_by (Err fault) kind h = fails_as fault kind h
 
   pub fails_to_apply : (result : Result Applied Fault) (told : Result Kept Fault) → told ≡ reply_of result → IfErr result IsOfApply
-      → IfErr result (λ fault. is_failure fault ≡ true → FailsToApply g old.summary id command old.conn new.conn fault)
+      → IfErr result (λ fault. is_failure fault ≡ true → FailsToApplyOver g old.summary id command old.conn new.conn fault)
       → IfErr told (λ fault. is_failure fault ≡ true → FailsToApplyTo g old (record { id = id; command = command }) new fault)
   fails_to_apply result told is kind h =
       subst (λ (r : Result Kept Fault). IfErr r (λ fault. is_failure fault ≡ true → FailsToApplyTo g old (record { id = id; command = command }) new fault)) (sym is) (fails_by result kind h)

@@ -1,10 +1,9 @@
 -- What a close leaves.
-use Rattle.std.proofs.Common.{◌≡◌, false, List, IsTrue, refl, subst, arith}
+use Rattle.std.proofs.Common.{◌≡◌, false, List, IsTrue, refl, arith}
 use Rattle.std.specs.Prelude.{Option}
 use Rattle.std.proofs.Math.Logic.{∥∥₁_map}
 use Rattle.sqlite.specs.Closing.{IsCopied}
 use Rattle.sqlite.specs.Closing as copies
-use Rattle.sqlite.specs.Effect.{Database}
 use Rattle.sqlite.specs.FileStore.{view, faults, recovers, is_shielded}
 use Rattle.sqlite.specs.Files.{file_state, over_files, HoldsDatabase}
 use Rattle.sqlite.specs.Held.{Held, state}
@@ -18,20 +17,18 @@ use Rattle.sqlite_store.specs.declared.store.FileStore.{FileStore}
 use Rattle.sqlite_trees.specs.declared.store.Store as store
 use Rattle.dict_catalogue.specs.Steps.{Catalogue}
 use Rattle.dict_catalogue.specs.Tests.{Holdings}
-use Rattle.dict_holdings.specs.Holds.{Holds, IsLeft}
+use Rattle.dict_holdings.specs.Holds.{IsLeft}
 use Rattle.dict_store.specs.Closed.{HoldsAlone, IsInAlone, StoreLeaves}
-use Rattle.dict_store.specs.Desk.{DeskState, IsAtRest, LeavesOneOf, Shows, is_closed}
+use Rattle.dict_store.specs.Desk.{DeskState, LeavesOneOf, Shows, is_closed}
 use Rattle.dict_store.specs.declared.last.LastCall.{LastCall}
 use Rattle.std.proofs.Common.{ℕ}
-use Rattle.dict_rows.specs.Versions.{known}
 use Rattle.dict_holdings.proofs.OneLemmas.{held_known}
 
 -- what is shown is committed
-pub committed_holds : {S : Type 0} (g : store.Ghosts S) (conn : Held S) (summary : Holdings (List ℕ)) (last : LastCall) → IsAtRest g last summary conn → IsLive (state g conn)
+pub committed_holds : {S : Type 0} (g : store.Ghosts S) (conn : Held S) (summary : Holdings (List ℕ)) (last : LastCall) → IsLive (state g conn)
     → is_closed last ≡ false → HasCleanDisk (state g conn) → IsTrue (state g conn).is_open → (M : Catalogue) → Shows g (record { conn = conn; summary = summary; last = last }) M
     → IsLeft M (state g conn).committed.trees
-committed_holds g conn summary last rest whole fine clean live M shown =
-    ((state g conn).committed, refl, (whole live).1, held_known (state g conn).committed M (subst (λ (db : Database). Holds known db M) (rest.settled fine clean live) (shown.holds fine clean live)))
+committed_holds g conn summary last whole fine clean live M shown = ((state g conn).committed, refl, (whole live).1, held_known (state g conn).committed M (shown.holds fine clean live))
 
 in_alone : (M : Catalogue) (image : Image) (trees : Trees) → IsLeft M trees → copies.HoldsAlone image trees → IsInAlone M image
 in_alone M image trees left holds = record {

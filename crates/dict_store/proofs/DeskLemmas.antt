@@ -1,10 +1,10 @@
 -- What a lookup leaves of a desk.
-use Rattle.std.proofs.Common.{◌≡◌, inl, inr, ℕ, Bool, true, false, List, [], ◌∷◌, refl, sym, subst, ◌∙◌, arith}
-use Rattle.std.specs.Prelude.{IsTrue, Some, Contains, Result, Ok, Err, OnOk, IfOk, IfErr, IsErr}
+use Rattle.std.proofs.Common.{◌≡◌, ◌⊎◌, inl, inr, ℕ, Bool, true, false, List, [], ◌∷◌, refl, sym, subst, ◌∙◌, arith}
+use Rattle.std.specs.Prelude.{IsTrue, Option, Some, None, Contains, Result, Ok, Err, OnOk, IfOk, IfErr, IsErr}
 use Rattle.std.proofs.lemmas.Bool.{false≢true}
 use Rattle.sqlite.specs.Effect.{Database, IsDatabase}
 use Rattle.sqlite.specs.Tree.{Trees}
-use Rattle.sqlite.specs.State.{State, HasCleanDisk, IsUnchanged, Survives}
+use Rattle.sqlite.specs.State.{State, HasCleanDisk, IsUnchanged, IsRolledBack, Survives}
 use Rattle.sqlite.specs.Held.{Held, state}
 use Rattle.sqlite_trees.specs.declared.store.Store.{Ghosts}
 use Rattle.dict_catalogue.specs.Tests.{Holdings}
@@ -12,91 +12,221 @@ use Rattle.dict_catalogue.specs.Steps.{Catalogue}
 use Rattle.dict_desk.specs.Shown.{Row}
 use Rattle.dict_desk.specs.Handing.{Hands}
 use Rattle.dict_desk.specs.declared.fault.Fault.{Fault}
+use Rattle.dict_desk.specs.declared.fault.Fault.TheVariants.{Refused, Memory, Disk, Closed as Shut, NotACatalogue, Damaged, NewerSchema}
 use Rattle.dict_desk.specs.declared.lookup.End.{End}
 use Rattle.dict_desk.proofs.HandingLemmas.{hands_front}
+use Rattle.dict_holdings.specs.Faults as reading
 use Rattle.dict_holdings.specs.Holds.{HasLayout, Holds, IsLeft}
-use Rattle.dict_lookup.specs.Searches.{FailsToLookUp}
-use Rattle.dict_store.specs.Desk.{IsAtRest, Shows, is_closed}
-use Rattle.dict_lookup.specs.Texts.{AreMade}
-use Rattle.dict_store.specs.Kept.{KeepsCache, IsCacheOf, cache_after}
+use Rattle.dict_lookup.specs.Counts.{AreHeadsOf}
+use Rattle.dict_lookup.specs.Searches.{FailsToLookUp, IsOfStore}
+use Rattle.dict_lookup.specs.Texts.{AreMade, AreTextsOf}
+use Rattle.dict_commands.specs.Changes.{IsInRange}
+use Rattle.dict_commands.specs.Filing.{IsAhead}
+use Rattle.dict_commands.specs.declared.filing.Filing.{Filing}
+use Rattle.dict_store.specs.Desk.{DeskState, HasCommitted, HasFiled, IsAtRest, Shows, LeavesOneOf, is_closed, last_by}
+use Rattle.dict_store.specs.Kept.{KeepsCache, cache_after}
+use Rattle.dict_store.specs.Prepared.{Continues, LetsGo, Undoes}
 use Rattle.dict_store.specs.declared.kept.Cache.{Cache}
 use Rattle.dict_store.specs.declared.last.LastCall.{LastCall}
 use Rattle.dict_store.specs.declared.last.LastCall.TheVariants.{Fine, Failed, Closed}
+use Rattle.dict_store.proofs.FiledLemmas.{layout_still}
 use Rattle.dict_rows.specs.Versions.{known, layout_of}
 use Rattle.dict_holdings.proofs.OneLemmas.{held_known}
 
--- a store that is open was so before, and shows what it did, if that was committed
-pub record Stays (old new : State) : Type 0 where
-  pub was_open : IsTrue new.is_open → IsTrue old.is_open
-  pub now : IsTrue new.is_open → old.now ≡ old.committed → new.now ≡ old.now
-  pub committed : IsTrue new.is_open → new.committed ≡ old.committed
+-- ---- what a call leaves of a store
 
-unchanged_stays : (old new : State) → IsUnchanged old new → Stays old new
-unchanged_stays old new same = record { was_open = λ live. same.0.was_open; now = λ live settled. same.0.now_is; committed = λ live. same.0.committed_is }
+pub unchanged_continues : (old new : State) → IsUnchanged old new → Continues old new
+unchanged_continues old new same = record { was_open = λ live. same.0.was_open; committed = λ live. same.0.committed_is; now = λ live. inl (same.0.now_is, same.0.mode) }
 
-fails_stays : (number : ℕ) (old new : State) (fault : Fault) → FailsToLookUp number old new fault → Stays old new
-fails_stays number old new fault (inl same) = unchanged_stays old new same.0
-fails_stays number old new fault (inr h) = let back = h.2.3 in record { was_open = back.was_open; now = λ live settled. (back.undone live).0 ∙ sym settled; committed = λ live. (back.undone live).1 }
+pub rolled_continues : (old new : State) → IsRolledBack old new → Continues old new
+rolled_continues old new back = record { was_open = back.was_open; committed = λ live. (back.undone live).1; now = λ live. inr ((back.undone live).0, back.autocommit) }
 
-pub stays_by : {T : Type 0} (number : ℕ) (old new : State) (result : Result T Fault) → OnOk result (IsUnchanged old new) → IfErr result (FailsToLookUp number old new) → Stays old new
-stays_by number old new (Ok value) same failed = unchanged_stays old new same
-stays_by number old new (Err fault) same failed = fails_stays number old new fault failed
+fails_continues : (number : ℕ) (old new : State) (fault : Fault) → FailsToLookUp number old new fault → Continues old new
+fails_continues number old new fault (inl same) = unchanged_continues old new same.0
+fails_continues number old new fault (inr h) = rolled_continues old new h.2.3
+
+pub continues_by : {T : Type 0} (number : ℕ) (old new : State) (result : Result T Fault) → OnOk result (IsUnchanged old new) → IfErr result (FailsToLookUp number old new) → Continues old new
+continues_by number old new (Ok value) same failed = unchanged_continues old new same
+continues_by number old new (Err fault) same failed = fails_continues number old new fault failed
+
+pub reply_continues : (old new : State) (fault : Fault) → reading.FailsToLookUp old new fault → Continues old new
+reply_continues old new fault (inl same) = unchanged_continues old new same.0
+reply_continues old new fault (inr h) = rolled_continues old new h.2.3
+
+pub replies_continue : {T : Type 0} (old new : State) (result : Result T Fault) → OnOk result (IsUnchanged old new) → IfErr result (reading.FailsToLookUp old new) → Continues old new
+replies_continue old new (Ok value) same failed = unchanged_continues old new same
+replies_continue old new (Err fault) same failed = reply_continues old new fault failed
+
+pub same_continues : (s : State) → Continues s s
+same_continues s = record { was_open = λ live. live; committed = λ live. refl; now = λ live. inl (refl, refl) }
+
+-- and a reading behind it, in no transaction
+pub continues_then : (old mid new : State) → old.in_transaction ≡ false → Continues old mid → (IsTrue new.is_open → IsTrue mid.is_open) → (IsTrue new.is_open → new.now ≡ mid.now) → (IsTrue new.is_open → new.committed ≡ mid.committed) → new.in_transaction ≡ false → Continues old new
+continues_then old mid new none first lives now committed ended = record {
+  was_open = λ live. first.was_open (lives live);
+  committed = λ live. committed live ∙ first.committed (lives live);
+  now = λ live. elim (first.now (lives live)) as (λ _. ((new.now ≡ old.now) × (new.in_transaction ≡ old.in_transaction)) ⊎ ((new.now ≡ old.committed) × (new.in_transaction ≡ false))) [
+    | inl both ↦ inl (now live ∙ both.0, ended ∙ sym none)
+    | inr both ↦ inr (now live ∙ both.0, ended)
+  ];
+}
 
 pub clean_behind : (old new : State) → Survives old new (λ _. ⊥) → HasCleanDisk new → HasCleanDisk old
 clean_behind old new survives clean = omega (arith, survives.clean)
 
-module _ {S : Type 0} (g : Ghosts S) (old new : Held S) (summary : Holdings (List ℕ)) (before after : LastCall) (open_before : is_closed before ≡ false) (rest : IsAtRest g before summary old) (survives : Survives (state g old) (state g new) (λ _. ⊥)) (stays : HasCleanDisk (state g new) → Stays (state g old) (state g new)) where
+pub survives_itself : (s : State) (P : Trees → Type 0) → Survives s s P
+survives_itself s P = record { clean = omega arith; shield = λ h. h; counts = omega arith; limit = refl; closes = λ clean live. inl live; crash = λ clean trees may. inl may }
+
+-- what was undone of what was prepared
+module _ {S : Type 0} (g : Ghosts S) where
+  pub undone_continues : (old new : Held S) → Undoes g old new → Continues (state g old) (state g new)
+  undone_continues old new (inl same) = subst (λ (h : Held S). Continues (state g old) (state g h)) (sym same) (same_continues (state g old))
+  undone_continues old new (inr h) = rolled_continues (state g old) (state g new) h.1
+
+  pub undoes_by : (old new : Held S) → (old.in_transaction ≡ false → new ≡ old) → (IsTrue old.in_transaction → IsRolledBack (state g old) (state g new)) → Survives (state g old) (state g new) (λ _. ⊥) → Undoes g old new
+  undoes_by old new same back survives = by_mode old.in_transaction refl
+    where
+      by_mode : (b : Bool) → old.in_transaction ≡ b → Undoes g old new
+      by_mode false none = inl (same none)
+      by_mode true inside = inr (inside, back inside, survives)
+
+  pub undone_twice : (old mid new : Held S) → mid.in_transaction ≡ false → Undoes g old mid → Undoes g mid new → Undoes g old new
+  undone_twice old mid new none first (inl same) = subst (λ (h : Held S). Undoes g old h) (sym same) first
+  undone_twice old mid new none first (inr h) = absurd (false≢true (sym none ∙ h.0))
+
+  -- ---- what is prepared
+
+  -- the tables are those of the known version, also beside rows that are filed
+  pub own_by : (summary : Holdings (List ℕ)) (filing : Option Filing) (h : Held S) → HasCommitted summary (state g h) → (HasCleanDisk (state g h) → IsTrue (state g h).is_open → h.in_transaction ≡ false → (state g h).now ≡ (state g h).committed)
+      → HasFiled g filing h → HasCleanDisk (state g h) → IsTrue (state g h).is_open → HasLayout (layout_of known) (state g h).now.schema
+  own_by summary filing h holds settled filed clean live = by_mode h.in_transaction refl
+    where
+      inside_by : (f : Option Filing) → HasFiled g f h → h.in_transaction ≡ true → HasLayout (layout_of known) (state g h).now.schema
+      inside_by None none inside = absurd (false≢true (sym (none clean) ∙ inside))
+      inside_by (Some f) some inside = let it = holds clean live in layout_still f (state g h).committed (state g h).now it.0 it.1 (some.1 clean live inside)
+
+      by_mode : (b : Bool) → h.in_transaction ≡ b → HasLayout (layout_of known) (state g h).now.schema
+      by_mode false none = let it = holds clean live in subst (λ (db : Database). HasLayout (layout_of known) db.schema) (sym (settled clean live none)) it.1.own
+      by_mode true inside = inside_by filing filed inside
+
+  -- it is let go of, where no transaction is open
+  pub filed_less : (before after : Option Filing) (h : Held S) → LetsGo h before after → HasFiled g before h → HasFiled g after h
+  filed_less before after h (inl same) filed = subst (λ (f : Option Filing). HasFiled g f h) (sym same) filed
+  filed_less before after h (inr gone) filed = subst (λ (f : Option Filing). HasFiled g f h) (sym gone.0) (λ clean. gone.1)
+
+  pub at_rest : (last : LastCall) (summary : Holdings (List ℕ)) (filing : Option Filing) (h : Held S) → h.step_limit ≡ None → IsInRange summary → (is_closed last ≡ false → HasCommitted summary (state g h))
+      → (is_closed last ≡ false → HasCleanDisk (state g h) → IsTrue (state g h).is_open → h.in_transaction ≡ false → (state g h).now ≡ (state g h).committed) → (is_closed last ≡ false → HasFiled g filing h) → IsAtRest g last summary filing h
+  at_rest last summary filing h limit range holds settled filed = record {
+    limit = limit;
+    range = range;
+    holds = holds;
+    settled = settled;
+    filed = filed;
+    own = λ fine. own_by summary filing h (holds fine) (settled fine) (filed fine);
+  }
+
+  -- nothing more may be left by a stop
+  pub leaves_on : (old new : DeskState S) → Survives (state g old.conn) (state g new.conn) (λ _. ⊥) → (ms : List (Option Catalogue)) → LeavesOneOf g old ms → LeavesOneOf g new ms
+  leaves_on old new survives ms left clean trees may =
+      left (clean_behind (state g old.conn) (state g new.conn) survives clean) trees (elim (survives.crash clean trees may) as (λ _. (state g old.conn).may_leave trees) [ inl h ↦ h | inr h ↦ absurd h ])
+
+-- what is prepared, of a connection that goes on
+module _ {S : Type 0} (g : Ghosts S) (old new : Held S) (first : HasCleanDisk (state g new) → HasCleanDisk (state g old)) (goes : HasCleanDisk (state g new) → Continues (state g old) (state g new)) (mode : old.in_transaction ≡ false → new.in_transaction ≡ false) where
+  pub filed_still : (filing : Option Filing) → HasFiled g filing old → HasFiled g filing new
+  filed_still None none = λ clean. mode (none (first clean))
+  filed_still (Some f) some = (
+    some.0,
+    λ clean live inside.
+        let was = (goes clean).was_open live in
+        elim ((goes clean).now live) as (λ _. IsAhead f (state g new).committed (state g new).now) [
+          | inl both ↦ subst (λ (db : Database). IsAhead f db (state g new).now) (sym ((goes clean).committed live))
+              (subst (λ (db : Database). IsAhead f (state g old).committed db) (sym both.0) (some.1 (first clean) was (sym both.1 ∙ inside)))
+          | inr both ↦ absurd (false≢true (sym both.1 ∙ inside))
+        ],
+  )
+
+module _ {S : Type 0} (g : Ghosts S) (old new : Held S) (summary : Holdings (List ℕ)) (filing : Option Filing) (before after : LastCall) (open_before : is_closed before ≡ false) (rest : IsAtRest g before summary filing old)
+    (survives : Survives (state g old) (state g new) (λ _. ⊥)) (goes : HasCleanDisk (state g new) → Continues (state g old) (state g new)) where
   clean_first : HasCleanDisk (state g new) → HasCleanDisk (state g old)
   clean_first clean = omega (arith, survives.clean)
 
-  now_same : HasCleanDisk (state g new) → IsTrue (state g new).is_open → (state g new).now ≡ (state g old).now
-  now_same clean live = (stays clean).now live (rest.settled open_before (clean_first clean) ((stays clean).was_open live))
+  pub committed_on : HasCommitted summary (state g new)
+  committed_on clean live =
+      let it = rest.holds open_before (clean_first clean) ((goes clean).was_open live) in
+      (it.0, subst (λ (db : Database). Holds known db it.0) (sym ((goes clean).committed live)) it.1, it.2)
 
-  pub rests_on : (old.in_transaction ≡ false → new.in_transaction ≡ false) → IsAtRest g after summary new
-  rests_on mode = record {
-    autocommit = mode rest.autocommit;
-    limit = survives.limit ∙ rest.limit;
-    range = rest.range;
-    holds = λ fine clean live. let it = rest.holds open_before (clean_first clean) ((stays clean).was_open live) in (
-      it.0,
-      record {
-        is_open = live;
-        settled = now_same clean live ∙ (it.1.settled ∙ sym ((stays clean).committed live));
-        holds = subst (λ (db : Database). Holds known db it.0) (sym ((stays clean).committed live)) it.1.holds;
-      },
-      it.2,
-    );
-    settled = λ fine clean live. now_same clean live ∙ (rest.settled open_before (clean_first clean) ((stays clean).was_open live) ∙ sym ((stays clean).committed live));
-    own = λ fine clean live. subst (λ (db : Database). HasLayout (layout_of known) db.schema) (sym (now_same clean live)) (rest.own open_before (clean_first clean) ((stays clean).was_open live));
+  pub settled_on : HasCleanDisk (state g new) → IsTrue (state g new).is_open → new.in_transaction ≡ false → (state g new).now ≡ (state g new).committed
+  settled_on clean live none =
+      elim ((goes clean).now live) as (λ _. (state g new).now ≡ (state g new).committed) [
+        | inl both ↦ both.0 ∙ (rest.settled open_before (clean_first clean) ((goes clean).was_open live) (sym both.1 ∙ none) ∙ sym ((goes clean).committed live))
+        | inr both ↦ both.0 ∙ sym ((goes clean).committed live)
+      ]
+
+  pub rests_on : (old.in_transaction ≡ false → new.in_transaction ≡ false) → IsAtRest g after summary filing new
+  rests_on mode = at_rest g after summary filing new (survives.limit ∙ rest.limit) rest.range (λ fine. committed_on) (λ fine. settled_on) (λ fine. filed_still g old new clean_first goes mode filing (rest.filed open_before))
+
+  -- what is kept is of the same editions
+  pub keeps_on : {T : Type 0} (result : Result T Fault) → IfErr result IsOfStore → (HasCleanDisk (state g new) → OnOk result (IsUnchanged (state g old) (state g new))) → (kept : Cache) → AreMade summary.installs kept.texts
+      → (HasCleanDisk (state g new) → IsTrue (state g old).is_open → AreTextsOf (state g old).committed kept.texts) → (HasCleanDisk (state g new) → IsTrue (state g old).is_open → AreHeadsOf (state g old).now kept.counted)
+      → KeepsCache g (last_by result) summary (cache_after (last_by result) kept) new
+  keeps_on (Ok value) kind same kept made texts counted = record {
+    made = made;
+    texts = λ fine clean live. subst (λ (db : Database). AreTextsOf db kept.texts) (sym ((goes clean).committed live)) (texts clean ((goes clean).was_open live));
+    counted = λ fine clean live. subst (λ (db : Database). AreHeadsOf db kept.counted) (sym (same clean).0.now_is) (counted clean ((goes clean).was_open live));
   }
-
-  -- what is kept is of the same database
-  pub keeps_on : (kept : Cache) → AreMade summary.installs kept.texts → (HasCleanDisk (state g new) → IsTrue (state g old).is_open → IsCacheOf (state g old).now kept) → KeepsCache g after summary (cache_after after kept) new
-  keeps_on kept made are = by_last after
-    where
-      by_last : (last : LastCall) → KeepsCache g last summary (cache_after last kept) new
-      by_last Fine = record { made = made; are = λ fine clean live. subst (λ (db : Database). IsCacheOf db kept) (sym (now_same clean live)) (are clean ((stays clean).was_open live)) }
-      by_last Failed = record { made = tt; are = λ fine clean live. (tt, tt) }
-      by_last Closed = record { made = tt; are = λ fine clean live. (tt, tt) }
+  keeps_on (Err (Refused refusal)) kind same kept made texts counted = absurd kind
+  keeps_on (Err Memory) kind same kept made texts counted = record { made = tt; texts = λ fine clean live. tt; counted = λ fine clean live. tt }
+  keeps_on (Err Disk) kind same kept made texts counted = record { made = tt; texts = λ fine clean live. tt; counted = λ fine clean live. tt }
+  keeps_on (Err Shut) kind same kept made texts counted = absurd kind
+  keeps_on (Err NotACatalogue) kind same kept made texts counted = absurd kind
+  keeps_on (Err Damaged) kind same kept made texts counted = absurd kind
+  keeps_on (Err NewerSchema) kind same kept made texts counted = absurd kind
 
   -- the desk, which keeps this now
-  pub desk_on : (old.in_transaction ≡ false → new.in_transaction ≡ false) → (kept cache : Cache) → cache ≡ cache_after after kept → AreMade summary.installs kept.texts
-      → (HasCleanDisk (state g new) → IsTrue (state g old).is_open → IsCacheOf (state g old).now kept) → IsAtRest g after summary new × KeepsCache g after summary cache new
-  desk_on mode kept cache is made are = (rests_on mode, subst (λ (k : Cache). KeepsCache g after summary k new) (sym is) (keeps_on kept made are))
+  pub desk_on : {T : Type 0} → (old.in_transaction ≡ false → new.in_transaction ≡ false) → (result : Result T Fault) → after ≡ last_by result → IfErr result IsOfStore → (HasCleanDisk (state g new) → OnOk result (IsUnchanged (state g old) (state g new)))
+      → (kept cache : Cache) → cache ≡ cache_after after kept → AreMade summary.installs kept.texts
+      → (HasCleanDisk (state g new) → IsTrue (state g old).is_open → AreTextsOf (state g old).committed kept.texts) → (HasCleanDisk (state g new) → IsTrue (state g old).is_open → AreHeadsOf (state g old).now kept.counted)
+      → IsAtRest g after summary filing new × KeepsCache g after summary cache new
+  desk_on mode result by kind same kept cache is made texts counted = (
+    rests_on mode,
+    subst (λ (k : Cache). KeepsCache g after summary k new) (sym is) (subst (λ (l : LastCall). KeepsCache g l summary (cache_after l kept) new) (sym by) (keeps_on result kind same kept made texts counted)),
+  )
 
   -- what the call left as it was
-  pub desk_still : (old.in_transaction ≡ false → new.in_transaction ≡ false) → (kept cache : Cache) → cache ≡ cache_after after kept → KeepsCache g before summary kept old → IsAtRest g after summary new × KeepsCache g after summary cache new
-  desk_still mode kept cache is keeps = desk_on mode kept cache is keeps.made (λ clean live. keeps.are open_before (clean_first clean) live)
+  pub desk_still : {T : Type 0} → (old.in_transaction ≡ false → new.in_transaction ≡ false) → (result : Result T Fault) → after ≡ last_by result → IfErr result IsOfStore → (HasCleanDisk (state g new) → OnOk result (IsUnchanged (state g old) (state g new)))
+      → (kept cache : Cache) → cache ≡ cache_after after kept → KeepsCache g before summary kept old → IsAtRest g after summary filing new × KeepsCache g after summary cache new
+  desk_still mode result by kind same kept cache is keeps =
+      desk_on mode result by kind same kept cache is keeps.made (λ clean live. keeps.texts open_before (clean_first clean) live) (λ clean live. keeps.counted open_before (clean_first clean) live)
+
+  -- where no transaction was open, what is seen is as it was, and so is what is kept
+  now_alone : old.in_transaction ≡ false → HasCleanDisk (state g new) → IsTrue (state g new).is_open → (state g new).now ≡ (state g old).now
+  now_alone none clean live =
+      elim ((goes clean).now live) as (λ _. (state g new).now ≡ (state g old).now) [
+        | inl both ↦ both.0
+        | inr both ↦ both.0 ∙ sym (rest.settled open_before (clean_first clean) ((goes clean).was_open live) none)
+      ]
+
+  pub desk_alone : old.in_transaction ≡ false → (old.in_transaction ≡ false → new.in_transaction ≡ false) → (kept cache : Cache) → cache ≡ cache_after after kept → KeepsCache g before summary kept old → IsAtRest g after summary filing new × KeepsCache g after summary cache new
+  desk_alone none mode kept cache is keeps = (rests_on mode, subst (λ (k : Cache). KeepsCache g after summary k new) (sym is) (by_last after))
+    where
+      by_last : (last : LastCall) → KeepsCache g last summary (cache_after last kept) new
+      by_last Fine = record {
+        made = keeps.made;
+        texts = λ fine clean live. subst (λ (db : Database). AreTextsOf db kept.texts) (sym ((goes clean).committed live)) (keeps.texts open_before (clean_first clean) ((goes clean).was_open live));
+        counted = λ fine clean live. subst (λ (db : Database). AreHeadsOf db kept.counted) (sym (now_alone none clean live)) (keeps.counted open_before (clean_first clean) ((goes clean).was_open live));
+      }
+      by_last Failed = record { made = tt; texts = λ fine clean live. tt; counted = λ fine clean live. tt }
+      by_last Closed = record { made = tt; texts = λ fine clean live. tt; counted = λ fine clean live. tt }
 
   module _ (M : Catalogue) (shown : Shows g (record { conn = old; summary = summary; last = before }) M) where
     pub shows_on : Shows g (record { conn = new; summary = summary; last = after }) M
     shows_on = record {
       summary = shown.summary;
       well_formed = shown.well_formed;
-      holds = λ fine clean live. subst (λ (db : Database). Holds known db M) (sym (now_same clean live)) (shown.holds open_before (clean_first clean) ((stays clean).was_open live));
+      holds = λ fine clean live. subst (λ (db : Database). Holds known db M) (sym ((goes clean).committed live)) (shown.holds open_before (clean_first clean) ((goes clean).was_open live));
     }
 
-    pub held : HasCleanDisk (state g new) → IsTrue (state g old).is_open → Holds known (state g old).now M
+    pub held : HasCleanDisk (state g new) → IsTrue (state g old).is_open → Holds known (state g old).committed M
     held clean live = shown.holds open_before (clean_first clean) live
 
 -- what was handed out over a store that may be shut

@@ -1,8 +1,7 @@
 -- What a command leaves of a desk.
 use Rattle.std.proofs.Common.{◌≡◌, inl, inr, ℕ, Bool, true, false, List, [], ◌∷◌, refl, sym, ap, subst, ◌∙◌, arith, ◌≤◌}
-use Rattle.std.specs.Prelude.{IsTrue, Option, Some, is_some, Contains, Result, Ok, Err, OnOk, OnErr, IfOk, IfErr, MatchBool}
+use Rattle.std.specs.Prelude.{IsTrue, Option, Some, is_some, Contains, Result, Ok, Err, OnOk, None, IfNone, IfOk, IfErr, MatchBool}
 use Rattle.std.proofs.lemmas.Bool.{false≢true}
-use Rattle.sqlite.specs.Effect.{Database}
 use Rattle.sqlite.specs.Tree.{Trees}
 use Rattle.sqlite.specs.State.{State, HasCleanDisk, IsUnchanged, Survives}
 use Rattle.sqlite.specs.Held.{Held, state}
@@ -21,49 +20,43 @@ use Rattle.dict_desk.specs.Faults.{is_disk, has_failed_by, has_closed_by}
 use Rattle.dict_desk.specs.declared.fault.Fault.{Fault}
 use Rattle.dict_desk.specs.declared.fault.Fault.TheVariants.{Refused, Memory, Disk, Closed, NotACatalogue, Damaged, NewerSchema}
 use Rattle.dict_desk.proofs.LeavesLemmas.{contains_later}
-use Rattle.dict_holdings.specs.Holds.{HasLayout, Holds, Rests, IsLeftAs}
-use Rattle.dict_commands.specs.Changes.{IsInRange}
-use Rattle.dict_commands.specs.Committed as committed
-use Rattle.dict_commands.specs.Answers.{HoldsBy, Answers, has_written, summary_after, IsOfShut}
+use Rattle.dict_holdings.specs.Holds.{Rests, IsLeftAs}
+use Rattle.dict_commands.specs.Answers.{Answers, has_written, summary_after, IsOfShut}
+use Rattle.dict_commands.specs.Filing.{IsUnderway, rested}
+use Rattle.dict_commands.specs.declared.filing.Filing.{Filing}
 use Rattle.dict_commands.specs.declared.applied.Applied.{Applied}
 use Rattle.dict_commands.specs.declared.applied.Applied.TheVariants.{Repeated, Done}
-use Rattle.dict_store.specs.Desk.{DeskState, IsAtRest, Shows, LeavesOneOf, StandsFor, is_closed, has_failed, last_by, reply_of}
-use Rattle.dict_commands.specs.Kept.{AddsAbove}
-use Rattle.dict_desk.specs.Faults.{is_failure}
+use Rattle.dict_store.specs.Applied.{AppliesOver}
+use Rattle.dict_store.specs.Desk.{DeskState, HasFiled, IsAtRest, Shows, LeavesOneOf, StandsFor, is_closed, has_failed, last_by, reply_of}
+use Rattle.dict_store.specs.Prepared.{LetsGo}
 use Rattle.dict_store.specs.Kept.{KeepsCache, without_counts, cache_after}
 use Rattle.dict_store.specs.declared.kept.Cache.{Cache}
 use Rattle.dict_store.proofs.TextLemmas.{texts_applied}
 use Rattle.dict_store.specs.declared.last.LastCall.{LastCall}
-use Rattle.dict_store.proofs.DeskLemmas.{Stays}
-use Rattle.dict_rows.specs.Versions.{known, layout_of}
+use Rattle.dict_store.proofs.DeskLemmas.{at_rest, filed_less}
+use Rattle.dict_rows.specs.Versions.{known}
 use Rattle.dict_holdings.proofs.OneLemmas.{left_known}
 
 -- ---- kept replies
 
-pub kept_stays : {T : Type 0} (old new : State) (result : Result T Fault) → OnOk result (IsUnchanged old new) → OnErr result (committed.Stays old new) → Stays old new
-kept_stays old new (Ok value) same stays = record { was_open = λ live. same.0.was_open; now = λ live settled. same.0.now_is; committed = λ live. same.0.committed_is }
-kept_stays old new (Err fault) same stays = record {
-  was_open = stays.was_open;
-  now = λ live settled. stays.settled live settled ∙ stays.committed live ∙ sym settled;
-  committed = stays.committed;
-}
-
+-- what is told of a store that was open
 pub kept_value : {T : Type 0} (P Q : T → Type 0) (result : Result T Fault) (old new : State) → ((value : T) → IsTrue old.is_open → P value → Q value) → OnOk result (IsUnchanged old new) → IfOk result P → IfOk result Q
 kept_value P Q (Ok value) old new then same h = then value same.0.was_open h
 kept_value P Q (Err fault) old new then same h = tt
+
+-- what holds where nothing was told
+pub none_by : {T P : Type 0} (told : Option T) → ((value : T) → told ≡ Some value → ⊥) → IfNone told P → P
+none_by None never h = h
+none_by (Some value) never h = absurd (never value refl)
 
 -- ---- commands
 
 -- what a command answers over a store that is open
 module _ {S : Type 0} (g : Ghosts S) (new : Held S) (M : Catalogue) (id : List ℕ) (outcome : Outcome) where
-  shown_by : (summary : Holdings (List ℕ)) (last : LastCall) (N : Catalogue) → summary ≡ summary_of N → IsWellFormed N → (IsTrue (state g new).is_open → Rests known (state g new) N) → Shows g (record { conn = new; summary = summary; last = last }) N
-  shown_by summary last N is well rests = record {
-    summary = is;
-    well_formed = well;
-    holds = λ fine clean live. let it = rests live in subst (λ (db : Database). Holds known db N) (sym it.settled) it.holds;
-  }
+  shown_by : (summary : Holdings (List ℕ)) (last : LastCall) (N : Catalogue) → summary ≡ summary_of N → IsWellFormed N → (IsTrue (state g new).is_open → Rests known (rested (state g new)) N) → Shows g (record { conn = new; summary = summary; last = last }) N
+  shown_by summary last N is well rests = record { summary = is; well_formed = well; holds = λ fine clean live. (rests live).holds }
 
-  pub applies_open : (summary : Holdings (List ℕ)) (result : Result Applied Fault) → summary ≡ summary_of M → IsWellFormed M → Answers (state g new) M id outcome result
+  pub applies_open : (summary : Holdings (List ℕ)) (result : Result Applied Fault) → summary ≡ summary_of M → IsWellFormed M → Answers (rested (state g new)) M id outcome result
       → Applies (Shows g (record { conn = new; summary = summary_after summary result; last = last_by result })) M outcome (reply_of result)
   applies_open summary (Ok (Repeated kept)) is well h = (
     ap (λ (o : Outcome). o.reply) h.1,
@@ -158,15 +151,10 @@ closed_by (Err NewerSchema) = refl
 
 -- ---- a desk
 
-module _ {S : Type 0} (g : Ghosts S) (old new : Held S) (summary : Holdings (List ℕ)) (before : LastCall) (id : List ℕ) (command : Command Edition) (result : Result Applied Fault)
-    (open_before : is_closed before ≡ false) (rest : IsAtRest g before summary old)
-    (value : HasCleanDisk (state g new) → (M : Catalogue) → Rests known (state g old) M → summary_of M ≡ summary → Answers (state g new) M id (step M id command) result)
-    (spares : has_written result ≡ false → Survives (state g old) (state g new) (λ _. ⊥))
-    (crash : Survives (state g old) (state g new) (λ trees. IsTrue (state g old).is_open × ((M : Catalogue) → Rests known (state g old) M → summary_of M ≡ summary → IsLeftAs known (step M id command).catalogue trees)))
-    (lives : HasCleanDisk (state g new) → IsTrue (state g new).is_open → IsTrue (state g old).is_open)
-    (shut : HasCleanDisk (state g new) → (state g old).is_open ≡ false → IsOfShut id result) where
+module _ {S : Type 0} (g : Ghosts S) (old new : Held S) (summary : Holdings (List ℕ)) (filing : Option Filing) (before : LastCall) (id : List ℕ) (command : Command Edition) (result : Result Applied Fault)
+    (open_before : is_closed before ≡ false) (rest : IsAtRest g before summary filing old) (over : AppliesOver g summary id command old new result) where
   clean_first : HasCleanDisk (state g new) → HasCleanDisk (state g old)
-  clean_first clean = omega (arith, crash.clean)
+  clean_first clean = omega (arith, over.crash.clean)
 
   abbrev desk_before : DeskState S
   desk_before = record { conn = old; summary = summary; last = before }
@@ -175,33 +163,25 @@ module _ {S : Type 0} (g : Ghosts S) (old new : Held S) (summary : Holdings (Lis
   desk_after = record { conn = new; summary = summary_after summary result; last = last_by result }
 
   -- what is shown still
-  same_shown : (M : Catalogue) (after : LastCall) → Shows g desk_before M → (IsTrue (state g new).is_open → Rests known (state g new) M) → Shows g (record { conn = new; summary = summary; last = after }) M
-  same_shown M after shown rests = record {
-    summary = shown.summary;
-    well_formed = shown.well_formed;
-    holds = λ fine clean live. let it = rests live in subst (λ (db : Database). Holds known db M) (sym it.settled) it.holds;
-  }
+  same_shown : (M : Catalogue) (after : LastCall) → Shows g desk_before M → (IsTrue (state g new).is_open → Rests known (rested (state g new)) M) → Shows g (record { conn = new; summary = summary; last = after }) M
+  same_shown M after shown rests = record { summary = shown.summary; well_formed = shown.well_formed; holds = λ fine clean live. (rests live).holds }
 
   no_more : Survives (state g old) (state g new) (λ _. ⊥) → (ms : List (Option Catalogue)) → LeavesOneOf g desk_before ms → LeavesOneOf g desk_after ms
   no_more survives ms left clean trees may = left (clean_first clean) trees (elim (survives.crash clean trees may) as (λ _. (state g old).may_leave trees) [ inl h ↦ h | inr h ↦ absurd h ])
 
-  one_more : (M : Catalogue) → (IsTrue (state g old).is_open → Rests known (state g old) M) → summary_of M ≡ summary → (ms : List (Option Catalogue)) → LeavesOneOf g desk_before ms → LeavesOneOf g desk_after (Some (step M id command).catalogue ∷ ms)
+  one_more : (M : Catalogue) → (IsTrue (state g old).is_open → Rests known (rested (state g old)) M) → summary_of M ≡ summary → (ms : List (Option Catalogue)) → LeavesOneOf g desk_before ms → LeavesOneOf g desk_after (Some (step M id command).catalogue ∷ ms)
   one_more M rests is ms left clean trees may =
-      elim (crash.crash clean trees may) as (λ _. (m : Option Catalogue) × Contains (Some (step M id command).catalogue ∷ ms) m × StandsFor m trees) [
+      elim (over.crash.crash clean trees may) as (λ _. (m : Option Catalogue) × Contains (Some (step M id command).catalogue ∷ ms) m × StandsFor m trees) [
         | inl h ↦ let it = left (clean_first clean) trees h in (it.0, contains_later (Some (step M id command).catalogue) it.0 ms it.1, it.2)
         | inr h ↦ (Some (step M id command).catalogue, (0, omega arith, refl), left_known (step M id command).catalogue trees (h.1 M (rests h.0) is))
       ]
 
-  rests_before : (M : Catalogue) → Shows g desk_before M → HasCleanDisk (state g new) → IsTrue (state g old).is_open → Rests known (state g old) M
-  rests_before M shown clean live = record {
-    is_open = live;
-    settled = rest.settled open_before (clean_first clean) live;
-    holds = subst (λ (db : Database). Holds known db M) (rest.settled open_before (clean_first clean) live) (shown.holds open_before (clean_first clean) live);
-  }
+  rests_before : (M : Catalogue) → Shows g desk_before M → HasCleanDisk (state g new) → IsTrue (state g old).is_open → Rests known (rested (state g old)) M
+  rests_before M shown clean live = record { is_open = live; settled = refl; holds = shown.holds open_before (clean_first clean) live }
 
   -- shut before: it is so after
-  shut_after : HasCleanDisk (state g new) → (state g old).is_open ≡ false → (M : Catalogue) → IsTrue (state g new).is_open → Rests known (state g new) M
-  shut_after clean closed M live = absurd (false≢true (sym closed ∙ lives clean live))
+  shut_after : HasCleanDisk (state g new) → (state g old).is_open ≡ false → (M : Catalogue) → IsTrue (state g new).is_open → Rests known (rested (state g new)) M
+  shut_after clean closed M live = absurd (false≢true (sym closed ∙ over.lives clean live))
 
   by_open : (A : Type 0) (b : Bool) → (b ≡ true → A) → (b ≡ false → A) → A
   by_open A true if_open if_shut = if_open refl
@@ -209,30 +189,33 @@ module _ {S : Type 0} (g : Ghosts S) (old new : Held S) (summary : Holdings (Lis
 
   pub applies : HasCleanDisk (state g new) → (M : Catalogue) → Shows g desk_before M → Applies (Shows g desk_after) M (step M id command) (reply_of result)
   applies clean M shown = by_open (Applies (Shows g desk_after) M (step M id command) (reply_of result)) (state g old).is_open
-      (λ live. applies_open g new M id (step M id command) summary result shown.summary shown.well_formed (value clean M (rests_before M shown clean live) (sym shown.summary)))
-      (λ closed. applies_shut g new M id command summary result (shut clean closed) (λ last. same_shown M last shown (shut_after clean closed M)))
+      (λ live. applies_open g new M id (step M id command) summary result shown.summary shown.well_formed (over.value clean M (rests_before M shown clean live) (sym shown.summary)))
+      (λ closed. applies_shut g new M id command summary result (over.shut clean closed) (λ last. same_shown M last shown (shut_after clean closed M)))
 
   pub spared : has_written result ≡ false → LeavesNoMore (LeavesOneOf g desk_before) (LeavesOneOf g desk_after)
-  spared none = no_more (spares none)
+  spared none = no_more (over.spares none)
 
   pub leaves : HasCleanDisk (state g new) → (M : Catalogue) → Shows g desk_before M → Leaves (LeavesOneOf g desk_before) (LeavesOneOf g desk_after) (is_some (kept_under M.kept id)) (step M id command).catalogue (reply_of result)
   leaves clean M shown = by_open (Leaves (LeavesOneOf g desk_before) (LeavesOneOf g desk_after) (is_some (kept_under M.kept id)) (step M id command).catalogue (reply_of result)) (state g old).is_open
-      (λ live. leaves_open (LeavesOneOf g desk_before) (LeavesOneOf g desk_after) M id (state g new) (step M id command) result (value clean M (rests_before M shown clean live) (sym shown.summary)) spared
+      (λ live. leaves_open (LeavesOneOf g desk_before) (LeavesOneOf g desk_after) M id (rested (state g new)) (step M id command) result (over.value clean M (rests_before M shown clean live) (sym shown.summary)) spared
       (λ all clean_now trees may. (Some (step M id command).catalogue, (0, omega arith, refl), left_known (step M id command).catalogue trees (all trees may))) (one_more M (rests_before M shown clean) (sym shown.summary)))
-      (λ closed. leaves_shut (LeavesOneOf g desk_before) (LeavesOneOf g desk_after) (is_some (kept_under M.kept id)) (step M id command).catalogue id result (shut clean closed) spared (one_more M (rests_before M shown clean) (sym shown.summary)))
+      (λ closed. leaves_shut (LeavesOneOf g desk_before) (LeavesOneOf g desk_after) (is_some (kept_under M.kept id)) (step M id command).catalogue id result (over.shut clean closed) spared (one_more M (rests_before M shown clean) (sym shown.summary)))
 
   pub spares_all : (ms : List (Option Catalogue)) → LeavesOneOf g desk_before ms → IfErr (reply_of result) (λ fault. is_disk fault ≡ false → LeavesOneOf g desk_after ms)
   spares_all = spares_by (LeavesOneOf g desk_before) (LeavesOneOf g desk_after) result spared
 
-  pub rests_after : HoldsBy (summary_after summary result) (state g new) → IsInRange (summary_after summary result) → new.in_transaction ≡ false → IsAtRest g (last_by result) (summary_after summary result) new
-  rests_after holds range mode = record {
-    autocommit = mode;
-    limit = crash.limit ∙ rest.limit;
-    range = range;
-    holds = λ fine. holds;
-    settled = λ fine clean live. (holds clean live).1.settled;
-    own = λ fine clean live. let rests = (holds clean live).1 in subst (λ (db : Database). HasLayout (layout_of known) db.schema) (sym rests.settled) rests.holds.own;
-  }
+  -- what is prepared: nothing was done to it, or no transaction is open
+  filed_after : (f : Option Filing) → HasFiled g f old → HasFiled g f new
+  filed_after None none = λ clean. by_mode clean new.in_transaction refl
+    where
+      by_mode : HasCleanDisk (state g new) → (b : Bool) → new.in_transaction ≡ b → new.in_transaction ≡ false
+      by_mode clean false is = is
+      by_mode clean true is = subst (λ (h : Held S). h.in_transaction ≡ false) (sym (over.inside clean is)) (none (clean_first clean))
+  filed_after (Some f) some = (some.0, λ clean live inside. (subst (λ (h : Held S). IsUnderway g f h) (sym (over.inside clean inside)) some.1) clean live inside)
+
+  pub rests_after : (after : Option Filing) → LetsGo new filing after → IsAtRest g (last_by result) (summary_after summary result) after new
+  rests_after after less = at_rest g (last_by result) (summary_after summary result) after new (over.crash.limit ∙ rest.limit) over.range
+      (λ fine clean live. let it = over.holds clean live in (it.0, it.1.holds, it.2)) (λ fine. over.settled) (λ fine. filed_less g filing after new less (filed_after filing (rest.filed open_before)))
 
   -- the desk after the call, by what its fields became
   module _ (after : Holdings (List ℕ)) (last : LastCall) (told : Result Kept Fault) (after_is : after ≡ summary_after summary result) (last_is : last ≡ last_by result) (told_is : told ≡ reply_of result) where
@@ -240,18 +223,15 @@ module _ {S : Type 0} (g : Ghosts S) (old new : Held S) (summary : Holdings (Lis
     desk_is = ap {B = DeskState S} (λ (s : Holdings (List ℕ)). record { conn = new; summary = s; last = last_by result }) (sym after_is) ∙ ap {B = DeskState S} (λ (l : LastCall). record { conn = new; summary = after; last = l }) (sym last_is)
 
     -- what is true of it
-    pub told_rests : (kept cache : Cache) → cache ≡ cache_after last (without_counts kept) → KeepsCache g before summary kept old → HoldsBy (summary_after summary result) (state g new) → IsInRange (summary_after summary result) → new.in_transaction ≡ false
-        → (HasCleanDisk (state g new) → OnOk result (AddsAbove summary.installs (state g old).now (state g new).now))
-        → (HasCleanDisk (state g new) → IfErr result (λ fault. is_failure fault ≡ false → (state g new).now ≡ (state g old).now)) → summary.installs ≤ (summary_after summary result).installs
-        → IsAtRest g last after new × KeepsCache g last after cache new
-    told_rests kept cache is keeps holds range mode above declined grows =
-        let both : IsAtRest g (last_by result) (summary_after summary result) new × KeepsCache g (last_by result) (summary_after summary result) (cache_after (last_by result) (without_counts kept)) new = (
-          rests_after holds range mode,
-          texts_applied g old new summary before open_before kept keeps (rest.holds open_before) clean_first lives result above declined grows,
+    pub told_rests : (kept cache : Cache) → cache ≡ cache_after last (without_counts kept) → KeepsCache g before summary kept old → (left : Option Filing) → LetsGo new filing left → IsAtRest g last after left new × KeepsCache g last after cache new
+    told_rests kept cache is keeps left less =
+        let both : IsAtRest g (last_by result) (summary_after summary result) left new × KeepsCache g (last_by result) (summary_after summary result) (cache_after (last_by result) (without_counts kept)) new = (
+          rests_after left less,
+          texts_applied g old new summary before open_before kept keeps (rest.holds open_before) clean_first over.lives result over.above over.refused over.grows,
         ) in
-        subst (λ (k : Cache). IsAtRest g last after new × KeepsCache g last after k new) (sym is)
-        (subst (λ (s : Holdings (List ℕ)). IsAtRest g last s new × KeepsCache g last s (cache_after last (without_counts kept)) new) (sym after_is)
-        (subst (λ (l : LastCall). IsAtRest g l (summary_after summary result) new × KeepsCache g l (summary_after summary result) (cache_after l (without_counts kept)) new) (sym last_is) both))
+        subst (λ (k : Cache). IsAtRest g last after left new × KeepsCache g last after k new) (sym is)
+        (subst (λ (s : Holdings (List ℕ)). IsAtRest g last s left new × KeepsCache g last s (cache_after last (without_counts kept)) new) (sym after_is)
+        (subst (λ (l : LastCall). IsAtRest g l (summary_after summary result) left new × KeepsCache g l (summary_after summary result) (cache_after l (without_counts kept)) new) (sym last_is) both))
 
     pub told_applies : HasCleanDisk (state g new) → (M : Catalogue) → Shows g desk_before M → Applies (Shows g (record { conn = new; summary = after; last = last })) M (step M id command) told
     told_applies clean M shown = subst (λ (r : Result Kept Fault). Applies (Shows g (record { conn = new; summary = after; last = last })) M (step M id command) r) (sym told_is)

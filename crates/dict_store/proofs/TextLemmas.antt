@@ -23,10 +23,10 @@ use Rattle.dict_lookup.specs.Texts.{IsTextOf, AreTextsOf, AreMade}
 use Rattle.dict_lookup.proofs.FailLemmas.{all_contains}
 use Rattle.dict_lookup.proofs.HeldLemmas.{held_one, held_under}
 use Rattle.dict_commands.specs.Kept.{AddsAbove, edition_records}
-use Rattle.dict_commands.specs.Answers.{HoldsBy, summary_after}
+use Rattle.dict_commands.specs.Answers.{summary_after}
 use Rattle.dict_commands.specs.declared.applied.Applied.{Applied}
 use Rattle.dict_commands.specs.declared.applied.Applied.TheVariants.{Repeated, Done}
-use Rattle.dict_store.specs.Desk.{is_closed, last_by}
+use Rattle.dict_store.specs.Desk.{HasCommitted, is_closed, last_by}
 use Rattle.dict_store.specs.Kept.{KeepsCache, no_cache, without_counts, cache_after}
 use Rattle.dict_store.specs.declared.kept.Cache.{Cache}
 use Rattle.dict_store.specs.declared.last.LastCall.{LastCall}
@@ -62,28 +62,28 @@ more_installs a b low [] made = tt
 more_installs a b low (kept ∷ texts) made = (let first = made.0 in omega (arith, first, low), more_installs a b low texts made.1)
 
 module _ {S : Type 0} (g : Ghosts S) (old new : Held S) (summary : Holdings (List ℕ)) (before : LastCall) (open_before : is_closed before ≡ false) (cache : Cache) (keeps : KeepsCache g before summary cache old)
-    (holds : HoldsBy summary (state g old)) (first : HasCleanDisk (state g new) → HasCleanDisk (state g old)) (lives : HasCleanDisk (state g new) → IsTrue (state g new).is_open → IsTrue (state g old).is_open) where
+    (holds : HasCommitted summary (state g old)) (first : HasCleanDisk (state g new) → HasCleanDisk (state g old)) (lives : HasCleanDisk (state g new) → IsTrue (state g new).is_open → IsTrue (state g old).is_open) where
   -- the texts that are kept still
-  still_are : HasCleanDisk (state g new) → IsTrue (state g new).is_open → AddsAbove summary.installs (state g old).now (state g new).now → AreTextsOf (state g new).now cache.texts
+  still_are : HasCleanDisk (state g new) → IsTrue (state g new).is_open → AddsAbove summary.installs (state g old).committed (state g new).committed → AreTextsOf (state g new).committed cache.texts
   still_are clean live adds =
       let it = holds (first clean) (lives clean live) in
-      let held : Holds known (state g old).now it.0 = subst (λ (db : Database). Holds known db it.0) (sym it.1.settled) it.1.holds in
-      all_carried (state g old).now (state g new).now it.0 held summary.installs adds cache.texts keeps.made (keeps.are open_before (first clean) (lives clean live)).0
+      all_carried (state g old).committed (state g new).committed it.0 it.1 summary.installs adds cache.texts keeps.made (keeps.texts open_before (first clean) (lives clean live))
 
   more_made : (installs : ℕ) → summary.installs ≤ installs → AreMade installs cache.texts
   more_made installs grows = more_installs summary.installs installs grows cache.texts keeps.made
 
   nothing : (last : LastCall) (after : Holdings (List ℕ)) → KeepsCache g last after no_cache new
-  nothing last after = record { made = tt; are = λ fine clean live. (tt, tt) }
+  nothing last after = record { made = tt; texts = λ fine clean live. tt; counted = λ fine clean live. tt }
 
-  pub texts_applied : (result : Result Applied Fault) → (HasCleanDisk (state g new) → OnOk result (AddsAbove summary.installs (state g old).now (state g new).now))
-      → (HasCleanDisk (state g new) → IfErr result (λ fault. is_failure fault ≡ false → (state g new).now ≡ (state g old).now)) → summary.installs ≤ (summary_after summary result).installs
+  pub texts_applied : (result : Result Applied Fault) → (HasCleanDisk (state g new) → IsTrue (state g new).is_open → OnOk result (AddsAbove summary.installs (state g old).committed (state g new).committed))
+      → (HasCleanDisk (state g new) → IsTrue (state g new).is_open → IfErr result (λ fault. is_failure fault ≡ false → (state g new).committed ≡ (state g old).committed)) → summary.installs ≤ (summary_after summary result).installs
       → KeepsCache g (last_by result) (summary_after summary result) (cache_after (last_by result) (without_counts cache)) new
-  texts_applied (Ok (Repeated kept)) above refused grows = record { made = more_made summary.installs grows; are = λ fine clean live. (still_are clean live (above clean), tt) }
-  texts_applied (Ok (Done kept after)) above refused grows = record { made = more_made (summary_after summary (Ok (Done kept after))).installs grows; are = λ fine clean live. (still_are clean live (above clean), tt) }
+  texts_applied (Ok (Repeated kept)) above refused grows = record { made = more_made summary.installs grows; texts = λ fine clean live. still_are clean live (above clean live); counted = λ fine clean live. tt }
+  texts_applied (Ok (Done kept after)) above refused grows = record { made = more_made (summary_after summary (Ok (Done kept after))).installs grows; texts = λ fine clean live. still_are clean live (above clean live); counted = λ fine clean live. tt }
   texts_applied (Err (Refused refusal)) above refused grows = record {
     made = keeps.made;
-    are = λ fine clean live. (subst (λ (db : Database). AreTextsOf db cache.texts) (sym (refused clean refl)) (keeps.are open_before (first clean) (lives clean live)).0, tt);
+    texts = λ fine clean live. subst (λ (db : Database). AreTextsOf db cache.texts) (sym (refused clean live refl)) (keeps.texts open_before (first clean) (lives clean live));
+    counted = λ fine clean live. tt;
   }
   texts_applied (Err Memory) above refused grows = nothing (last_by {T = Applied} (Err Memory)) summary
   texts_applied (Err Disk) above refused grows = nothing (last_by {T = Applied} (Err Disk)) summary

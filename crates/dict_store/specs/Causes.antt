@@ -1,9 +1,13 @@
 -- Why a call of a desk fails, and what a command does to it.
-use Rattle.std.specs.Prelude.{◌≡◌, true, false, List, Option, is_some, Result, IfErr}
-use Rattle.sqlite.specs.State.{State, HasCleanDisk, Fails}
-use Rattle.sqlite.specs.Held.{state}
+use Rattle.std.specs.Prelude.{◌≡◌, ◌⊎◌, ℕ, true, false, IsTrue, List, Option, is_some, Result, IfErr}
+use Rattle.sqlite.specs.Disk.{MoreFaults}
+use Rattle.sqlite.specs.State.{State, HasCleanDisk, KeepsCommit, Fails}
+use Rattle.sqlite.specs.Held.{Held, state}
 use Rattle.sqlite.specs.declared.error.Error.{Error}
 use Rattle.sqlite_trees.specs.declared.store.Store.{Ghosts}
+use Rattle.dict_index.specs.Edition.{Edition}
+use Rattle.dict_catalogue.specs.Commands.{Command}
+use Rattle.dict_catalogue.specs.Tests.{Holdings}
 use Rattle.dict_catalogue.specs.Steps.{Catalogue, Request, kept_under, step}
 use Rattle.dict_catalogue.specs.declared.reply.Kept.{Kept}
 use Rattle.dict_desk.specs.Applying.{Applies, Leaves}
@@ -12,7 +16,9 @@ use Rattle.dict_desk.specs.declared.fault.Fault.{Fault}
 use Rattle.dict_desk.specs.declared.fault.Fault.TheVariants.{Refused, Memory, Disk, Closed, NotACatalogue, Damaged, NewerSchema}
 use Rattle.dict_holdings.specs.Faults.{fault_of, FailsToLookUp}
 use Rattle.dict_commands.specs.Answers.{FailsToApply}
+use Rattle.dict_commands.specs.Finishing.{FailsToApplyFiled}
 use Rattle.dict_store.specs.Desk.{DeskState, Shows, LeavesOneOf, is_closed}
+use Rattle.dict_store.specs.Prepared.{Undoes}
 
 -- The store failed between these two states, by an error that is no want of memory, for the cause that it names: its disk
 -- failed once more, or it was shut before. It shows what was committed.
@@ -20,23 +26,38 @@ abbrev pub StoreFails : State → State → Type 0
 StoreFails old new = (e : Error) × (Disk ≡ fault_of e) × Fails old new ⊥ e
 
 module _ {S : Type 0} (g : Ghosts S) where
-  -- A call that changes no catalogue failed: memory was refused, to it or to the store; the store failed between just these two
-  -- states of the connection; or the desk was closed, and is as it was.
+  -- A call that changes no catalogue failed, behind what it undid of what was prepared: memory was refused, to it or to the store; the
+  -- store failed between just these two states of the connection; or the desk was closed, and is as it was.
   abbrev pub GivesWay : DeskState S → DeskState S → Fault → Type 0
   GivesWay old new (Refused refusal) = ⊥
-  GivesWay old new Memory = FailsToLookUp (state g old.conn) (state g new.conn) Memory
-  GivesWay old new Disk = StoreFails (state g old.conn) (state g new.conn)
+  GivesWay old new Memory = (mid : Held S) × Undoes g old.conn mid × FailsToLookUp (state g mid) (state g new.conn) Memory
+  GivesWay old new Disk = (mid : Held S) × Undoes g old.conn mid × StoreFails (state g mid) (state g new.conn)
   GivesWay old new Closed = (is_closed old.last ≡ true) × (new ≡ old)
   GivesWay old new NotACatalogue = ⊥
   GivesWay old new Damaged = ⊥
   GivesWay old new NewerSchema = ⊥
 
-  -- A command that is not refused failed: its reply was not looked up, or its change was not made; or the desk was closed, and is
-  -- as it was.
+  -- A call that prepares failed: memory was refused, or the disk failed once more, and nothing was committed; or the desk was closed,
+  -- and is as it was.
+  abbrev pub FailsToPrepare : DeskState S → DeskState S → Fault → Type 0
+  FailsToPrepare old new (Refused refusal) = ⊥
+  FailsToPrepare old new Memory = KeepsCommit (state g old.conn) (state g new.conn)
+  FailsToPrepare old new Disk = KeepsCommit (state g old.conn) (state g new.conn) × MoreFaults (state g old.conn).faults (state g new.conn).faults
+  FailsToPrepare old new Closed = (is_closed old.last ≡ true) × (new ≡ old)
+  FailsToPrepare old new NotACatalogue = ⊥
+  FailsToPrepare old new Damaged = ⊥
+  FailsToPrepare old new NewerSchema = ⊥
+
+  -- A command fails over a connection: its reply was not looked up, or its change was not made; or where a transaction was open, in which
+  -- an edition was filed, that was undone first, or the rest of the change was not made.
+  abbrev pub FailsToApplyOver : Holdings (List ℕ) → List ℕ → Command Edition → Held S → Held S → Fault → Type 0
+  FailsToApplyOver summary id command old new fault = FailsToApply g summary id command old new fault ⊎ (IsTrue old.in_transaction × FailsToApplyFiled g summary id command old new fault)
+
+  -- A command that is not refused failed so; or the desk was closed, and is as it was.
   abbrev pub FailsToApplyTo : DeskState S → Request → DeskState S → Fault → Type 0
   FailsToApplyTo old request new (Refused refusal) = ⊥
-  FailsToApplyTo old request new Memory = FailsToApply g old.summary request.id request.command old.conn new.conn Memory
-  FailsToApplyTo old request new Disk = FailsToApply g old.summary request.id request.command old.conn new.conn Disk
+  FailsToApplyTo old request new Memory = FailsToApplyOver old.summary request.id request.command old.conn new.conn Memory
+  FailsToApplyTo old request new Disk = FailsToApplyOver old.summary request.id request.command old.conn new.conn Disk
   FailsToApplyTo old request new Closed = (is_closed old.last ≡ true) × (new ≡ old)
   FailsToApplyTo old request new NotACatalogue = ⊥
   FailsToApplyTo old request new Damaged = ⊥

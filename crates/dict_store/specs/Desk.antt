@@ -1,7 +1,7 @@
 -- A desk over one database: what it is seen as, which catalogue it shows, and what a stop may leave of it.
-use Rattle.std.specs.Prelude.{◌≡◌, ℕ, Bool, true, false, IsTrue, List, Option, None, Contains, Result, Ok, Err, if◌then◌else◌}
+use Rattle.std.specs.Prelude.{◌≡◌, ℕ, Bool, true, false, IsTrue, List, Option, None, Some, Contains, Result, Ok, Err, if◌then◌else◌}
 use Rattle.sqlite.specs.Tree.{Trees}
-use Rattle.sqlite.specs.State.{HasCleanDisk}
+use Rattle.sqlite.specs.State.{State, HasCleanDisk}
 use Rattle.sqlite.specs.Held.{Held, state}
 use Rattle.sqlite_trees.specs.declared.store.Store.{Ghosts}
 use Rattle.dict_catalogue.specs.Tests.{Holdings}
@@ -12,7 +12,8 @@ use Rattle.dict_desk.specs.declared.fault.Fault.{Fault}
 use Rattle.dict_holdings.specs.Holds.{HasLayout, Holds}
 pub use Rattle.dict_migration.specs.Leaves.{StandsFor}
 use Rattle.dict_commands.specs.Changes.{IsInRange}
-use Rattle.dict_commands.specs.Answers.{HoldsBy}
+use Rattle.dict_commands.specs.Filing.{IsDrawnUp, IsUnderway}
+use Rattle.dict_commands.specs.declared.filing.Filing.{Filing}
 use Rattle.dict_commands.specs.declared.applied.Applied.{Applied}
 use Rattle.dict_commands.specs.declared.applied.Applied.TheVariants.{Repeated, Done}
 use Rattle.dict_catalogue.specs.declared.reply.Kept.{Kept}
@@ -47,23 +48,36 @@ reply_of (Ok (Repeated kept)) = Ok kept
 reply_of (Ok (Done kept summary)) = Ok kept
 reply_of (Err fault) = Err fault
 
+-- while the store is open, a catalogue of this summary is committed
+abbrev pub HasCommitted : Holdings (List ℕ) → State → Type 0
+HasCommitted summary s = HasCleanDisk s → IsTrue s.is_open → (M : Catalogue) × Holds known s.committed M × (summary_of M ≡ summary)
+
 module _ {S : Type 0} (g : Ghosts S) where
-  -- What is true of every desk: its connection is in no transaction, and has no limit on steps; the numbers in its summary are those of installs; and
-  -- where it isn't closed, and while the store is open and the disk gives what was written, a catalogue of this summary is
-  -- committed, and what is shown is that, in the product's tables.
-  pub record IsAtRest (last : LastCall) (summary : Holdings (List ℕ)) (h : Held S) : Type 0 where
-    pub autocommit : h.in_transaction ≡ false
+  -- What is prepared of a change that may come: the rows of an edition, of which an open transaction has filed so much; or nothing, and
+  -- no transaction is open.
+  abbrev pub HasFiled : Option Filing → Held S → Type 0
+  HasFiled None h = HasCleanDisk (state g h) → h.in_transaction ≡ false
+  HasFiled (Some filing) h = IsDrawnUp filing × IsUnderway g filing h
+
+  -- What is true of every desk between two calls: its connection has no limit on steps; the numbers in its summary are those of
+  -- installs; and where it isn't closed, and while the store is open and the disk gives what was written, a catalogue of this summary is
+  -- committed, in the product's tables. Where no transaction is open, what is seen is that. Where one is, rows of a change that may
+  -- come are filed in it beside what is committed.
+  pub record IsAtRest (last : LastCall) (summary : Holdings (List ℕ)) (filing : Option Filing) (h : Held S) : Type 0 where
     pub limit : h.step_limit ≡ None
     pub range : IsInRange summary
-    pub holds : is_closed last ≡ false → HoldsBy summary (state g h)
-    pub settled : is_closed last ≡ false → HasCleanDisk (state g h) → IsTrue (state g h).is_open → (state g h).now ≡ (state g h).committed
+    pub holds : is_closed last ≡ false → HasCommitted summary (state g h)
+    pub settled : is_closed last ≡ false → HasCleanDisk (state g h) → IsTrue (state g h).is_open → h.in_transaction ≡ false → (state g h).now ≡ (state g h).committed
+    pub filed : is_closed last ≡ false → HasFiled filing h
     pub own : is_closed last ≡ false → HasCleanDisk (state g h) → IsTrue (state g h).is_open → HasLayout (layout_of known) (state g h).now.schema
 
-  -- The catalogue is shown: the summary is its, and while the desk isn't closed and the store is open, the database holds it.
+  -- The catalogue is shown: the summary is its, and while the desk isn't closed and the store is open, the database holds it, as it was
+  -- committed. While a change is prepared, the connection sees more rows than these, and fewer of editions that are to go: none of them
+  -- is shown, and none is committed.
   pub record Shows (desk : DeskState S) (M : Catalogue) : Type 0 where
     pub summary : desk.summary ≡ summary_of M
     pub well_formed : IsWellFormed M
-    pub holds : is_closed desk.last ≡ false → HasCleanDisk (state g desk.conn) → IsTrue (state g desk.conn).is_open → Holds known (state g desk.conn).now M
+    pub holds : is_closed desk.last ≡ false → HasCleanDisk (state g desk.conn) → IsTrue (state g desk.conn).is_open → Holds known (state g desk.conn).committed M
 
   -- whatever a stop now leaves stands for one of these
   abbrev pub LeavesOneOf : DeskState S → List (Option Catalogue) → Type 0

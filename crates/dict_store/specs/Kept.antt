@@ -1,6 +1,5 @@
 -- What a desk keeps in memory for lookups.
 use Rattle.std.specs.Prelude.{◌≡◌, ℕ, false, IsTrue, List, []}
-use Rattle.sqlite.specs.Effect.{Database}
 use Rattle.sqlite.specs.State.{HasCleanDisk}
 use Rattle.sqlite.specs.Held.{Held, state}
 use Rattle.sqlite_trees.specs.declared.store.Store.{Ghosts}
@@ -24,13 +23,10 @@ cache_after Fine cache = cache
 cache_after Failed cache = no_cache
 cache_after Closed cache = no_cache
 
--- what is kept under numbers is the text of the edition that the database holds under them, and what was counted in it
-abbrev pub IsCacheOf : Database → Cache → Type 0
-IsCacheOf db cache = AreTextsOf db cache.texts × AreHeadsOf db cache.counted
-
 module _ {S : Type 0} (g : Ghosts S) where
-  -- What is kept in memory is of the editions that the database has, while the desk isn't closed and the store is open; and each text is
-  -- kept under the number of an install.
+  -- What is kept in memory is of the editions of the catalogue, while the desk isn't closed and the store is open: each text is that of
+  -- the edition which is committed under its number, the number of an install; and what was counted was counted in what is seen.
   pub record KeepsCache (last : LastCall) (summary : Holdings (List ℕ)) (cache : Cache) (h : Held S) : Type 0 where
     pub made : AreMade summary.installs cache.texts
-    pub are : is_closed last ≡ false → HasCleanDisk (state g h) → IsTrue (state g h).is_open → IsCacheOf (state g h).now cache
+    pub texts : is_closed last ≡ false → HasCleanDisk (state g h) → IsTrue (state g h).is_open → AreTextsOf (state g h).committed cache.texts
+    pub counted : is_closed last ≡ false → HasCleanDisk (state g h) → IsTrue (state g h).is_open → AreHeadsOf (state g h).now cache.counted

@@ -1,7 +1,10 @@
 // A desk over a database that holds a catalogue.
 ghost use Rattle.std.specs.Prelude.{◌≡◌, ◌<◌, ◌↔◌, ◌||◌, false, true, Some, None, [], ◌∷◌, IsTrue, IfOk, IfErr, OnOk, OnErr, Err};
+ghost use Rattle.sqlite.specs.Effect.{Database};
 ghost use Rattle.sqlite.specs.State.{HasCleanDisk, IsLive, Survives};
 ghost use Rattle.sqlite.specs.Held.{state};
+ghost use Rattle.dict_tables.specs.Tables.{kept as kept_table};
+ghost use Rattle.dict_sql.specs.Effects.{Has, WhileOpen};
 ghost use Rattle.dict_catalogue.specs.Steps.{Catalogue, summary_of};
 ghost use Rattle.dict_catalogue.specs.Views.{summary_shown};
 ghost use Rattle.dict_holdings.specs.Holds.{Holds, IsHeld, IsLeft, Rests};
@@ -10,10 +13,12 @@ ghost use Rattle.dict_migration.specs.Failing.{FailsToMigrate};
 ghost use Rattle.dict_migration.specs.Migrated.{MayMigrate};
 ghost use Rattle.dict_migration.specs.Moved.{IsOfMigration};
 ghost use Rattle.dict_commands.specs.Changes.{IsInRange};
+ghost use Rattle.dict_commands.specs.Filing.{rested};
 ghost use Rattle.dict_desk.specs.Faults.{has_closed_by, has_failed_by, is_disk};
 ghost use Rattle.dict_opening.specs.Reading.{IsOfOpening, HasFailed};
 ghost use Rattle.dict_store.specs.Desk.{Shows, LeavesOneOf, is_closed, has_failed};
 ghost use Rattle.dict_store.specs.Opened.{IsTold, IsNotHeld, IsNotLeft, HoldsItsTrees};
+ghost use Rattle.dict_store.specs.Prepared.{Continues};
 ghost use Rattle.dict_rows.specs.Versions.{known, IsVersion};
 ghost use Rattle.dict_store.specs.Adopted.{FailsToOpen};
 
@@ -21,7 +26,7 @@ use crate::desk::Desk;
 use crate::kept::forget_by;
 use crate::last::{LastCall, last_by};
 use dict_catalogue::{Summary, edition_numbers};
-use dict_commands::summaries_in_range;
+use dict_commands::{kept_reply, summaries_in_range};
 use dict_desk::Fault;
 use dict_migration::migrate;
 use dict_opening::{held_is_marked, one_is_held, read_catalogue};
@@ -153,6 +158,29 @@ fn read_again<S: Alter>(alloc: Global, conn: &mut Connection<S>) -> Result<(), F
     }
 }
 
+// The same, told of what is committed, which an open store shows: first a reply is looked up that isn't kept, by which a store that is shut
+// tells that it is.
+fn read_committed<S: Alter>(alloc: Global, conn: &mut Connection<S>) -> Result<(), Fault>
+    requires autocommit { conn.old.in_transaction ≡ false }
+    requires limit { conn.old.step_limit ≡ None }
+    requires tables { WhileOpen (state S.Store conn.old) (Has kept_table) }
+    requires holds { HasCleanDisk (state S.Store conn.old) → IsTrue (state S.Store conn.old).is_open → (M : Catalogue) × Rests known (state S.Store conn.old) M }
+    ensures rests { HasCleanDisk (state S.Store conn.new) → OnOk result ((M : Catalogue) × Rests known (state S.Store conn.new) M) }
+    ensures kinds { IfErr result IsOfOpening }
+    ensures failed { HasCleanDisk (state S.Store conn.new) → IfErr result (λ fault. fault ≡ Fault.Disk → HasFailed (rested (state S.Store conn.old)) (state S.Store conn.new)) }
+    ensures told { HasCleanDisk (state S.Store conn.new) → (db : Database) → (IsTrue (state S.Store conn.old).is_open → (state S.Store conn.old).committed ≡ db) → IfErr result (IsTold db) }
+    ensures not_held { HasCleanDisk (state S.Store conn.new) → (db : Database) → (IsTrue (state S.Store conn.old).is_open → (state S.Store conn.old).committed ≡ db) → IfErr result (IsNotHeld db) }
+    ensures continues { HasCleanDisk (state S.Store conn.new) → Continues (state S.Store conn.old) (state S.Store conn.new) }
+    ensures autocommit { conn.new.in_transaction ≡ false }
+    ensures survives { Survives (state S.Store conn.old) (state S.Store conn.new) (λ _. ⊥) }
+{
+    let _reply = match kept_reply(alloc, conn, "") {
+        Ok(reply) => reply,
+        Err(fault) => return Err(fault),
+    };
+    read_again(alloc, conn)
+}
+
 impl<S: Alter + Drop> Desk<S> {
     /// A desk over a database that holds a catalogue, the only one that it holds. It is read whole. A stop leaves the catalogue
     /// that the desk shows, and no other.
@@ -196,15 +224,16 @@ impl<S: Alter + Drop> Desk<S> {
         }
     }
 
-    /// Reads the database whole again, as `adopt` does. Nothing is written: no tables are made.
+    /// Reads the database whole again, as `adopt` does: what is committed. Nothing is written: no tables are made. What is prepared is
+    /// undone first.
     ///
     /// `Ok`: it holds a catalogue, and the desk goes on. `Damaged`, `NewerSchema` and `NotACatalogue` tell what `adopt` would.
     /// `Memory`: a growth was refused. `Disk`: the store failed, and the desk is closed. `Closed`: it was so before.
     pub fn audit(&mut self) -> Result<(), Fault>
         ensures sound { IfOk result (λ _. HasCleanDisk (state S.Store self.new.conn) → (M : Catalogue) × Rests known (state S.Store self.new.conn) M) }
-        ensures told { IfErr result (λ fault. HasCleanDisk (state S.Store self.new.conn) → IsTold (state S.Store self.old.conn).now fault) }
-        ensures not_held { IfErr result (λ fault. HasCleanDisk (state S.Store self.new.conn) → IsNotHeld (state S.Store self.old.conn).now fault) }
-        ensures broken { HasCleanDisk (state S.Store self.new.conn) → IfErr result (λ fault. fault ≡ Fault.Disk → HasFailed (state S.Store self.old.conn) (state S.Store self.new.conn)) }
+        ensures told { IfErr result (λ fault. HasCleanDisk (state S.Store self.new.conn) → IsTold (rested (state S.Store self.old.conn)).now fault) }
+        ensures not_held { IfErr result (λ fault. HasCleanDisk (state S.Store self.new.conn) → IsNotHeld (rested (state S.Store self.old.conn)).now fault) }
+        ensures broken { HasCleanDisk (state S.Store self.new.conn) → IfErr result (λ fault. fault ≡ Fault.Disk → HasFailed (rested (state S.Store self.old.conn)) (state S.Store self.new.conn)) }
         ensures shows { HasCleanDisk (state S.Store self.new.conn) → (M : Catalogue) → Shows S.Store self.old M → Shows S.Store self.new M }
         ensures spares { Survives (state S.Store self.old.conn) (state S.Store self.new.conn) (λ _. ⊥) }
         ensures same { HasCleanDisk (state S.Store self.new.conn) → IsTrue (state S.Store self.new.conn).is_open → (state S.Store self.new.conn).committed ≡ (state S.Store self.old.conn).committed }
@@ -213,10 +242,8 @@ impl<S: Alter + Drop> Desk<S> {
         ensures closed { is_closed self.old.last ≡ true → result ≡ Err Fault.Closed }
         ensures kinds { is_closed self.old.last ≡ false → IfErr result IsOfOpening }
     {
-        if self.last == LastCall::Closed {
-            return Err(Fault::Closed);
-        }
-        let outcome = read_again(self.alloc, &mut self.conn);
+        self.withdraw()?;
+        let outcome = read_committed(self.alloc, &mut self.conn);
         self.last = last_by(&outcome);
         forget_by(&mut self.cache, self.last);
         outcome

@@ -30,7 +30,7 @@ fn fault_of_copy(error: &Error) -> Fault
 }
 
 // The connection of a desk, and whether the desk is closed. Of one that isn't, what is committed holds what was shown.
-fn let_go<S: Alter + Drop>(desk: Desk<S>) -> (Connection<S>, bool)
+pub(crate) fn let_go<S: Alter + Drop>(desk: Desk<S>) -> (Connection<S>, bool)
     ensures same { result.0 ≡ desk.conn }
     ensures closed { result.1 ≡ is_closed desk.last }
     ensures holds { is_closed desk.last ≡ false → HasCleanDisk (state S.Store desk.conn) → IsTrue (state S.Store desk.conn).is_open → (M : Catalogue) → Shows S.Store desk M

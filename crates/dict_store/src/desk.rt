@@ -12,11 +12,14 @@ ghost use Rattle.dict_migration.specs.Making.{creation, FailsToEnd};
 ghost use Rattle.dict_commands.specs.Changes.{IsInRange};
 ghost use Rattle.dict_commands.specs.Answers.{HoldsBy};
 ghost use Rattle.dict_store.specs.Desk.{Shows, LeavesOneOf, is_closed};
+ghost use Rattle.dict_store.specs.Prepared.{Undoes};
 ghost use Rattle.dict_rows.specs.Versions.{known};
 
 use crate::kept::Cache;
 use crate::last::LastCall;
+use crate::withdrawing::undo;
 use dict_catalogue::Summary;
+use dict_commands::Filing;
 use dict_desk::Fault;
 use dict_migration::create;
 use sqlite::{Alter, Connection};
@@ -25,7 +28,8 @@ use std::marker::Model;
 
 /// A desk over one database: the connection to it, and the summary of the catalogue that it holds. The texts of editions from which
 /// entries were handed out last are kept in memory, up to `dict_texts::MAX_OCTETS`, and the headwords that were counted last, up to
-/// `dict_lookup::MAX_COUNTED`; what is shown never rests on them.
+/// `dict_lookup::MAX_COUNTED`; what is shown never rests on them. Between two calls a transaction may be open, in which rows of a
+/// change that may come are filed: none of them is shown before that change is applied.
 #[derive(Drop)]
 pub struct Desk<S: Alter + Drop> {
     pub(crate) alloc: Global,
@@ -36,6 +40,10 @@ pub struct Desk<S: Alter + Drop> {
     pub(crate) cache: Cache,
     // The rows that the statements of lookups have handed over. Nothing rests on it.
     pub(crate) rows_taken: u64,
+    // What is prepared of a change that may come: rows of it are filed in the transaction that is open, if one is.
+    pub(crate) filing: Option<Filing>,
+    // How many times it may begin yet. Nothing rests on it.
+    pub(crate) begins: u8,
 }
 
 impl<S: Alter + Drop> Model for Desk<S> {
@@ -51,7 +59,7 @@ impl<S: Alter + Drop> Model for Desk<S> {
 
     ghost view = { λ d. record { conn = d.conn; summary = summary_shown d.summary; last = d.last } };
 
-    ghost invariant = { λ d. IsAtRest S.Store d.last (summary_shown d.summary) d.conn × KeepsCache S.Store d.last (summary_shown d.summary) d.cache d.conn };
+    ghost invariant = { λ d. IsAtRest S.Store d.last (summary_shown d.summary) d.filing d.conn × KeepsCache S.Store d.last (summary_shown d.summary) d.cache d.conn };
 }
 
 impl<S: Alter + Drop> Desk<S> {
@@ -71,6 +79,8 @@ impl<S: Alter + Drop> Desk<S> {
             last: LastCall::Fine,
             cache: Cache::new(alloc),
             rows_taken: 0,
+            filing: None,
+            begins: 0,
         }
     }
 
@@ -116,12 +126,16 @@ impl<S: Alter + Drop> Desk<S> {
         self.rows_taken
     }
 
-    /// The connection, as the desk left it, in no transaction.
+    /// The connection, as the desk left it, in no transaction: what is prepared is undone first. Only where the disk has given other
+    /// octets than were written isn't that told, so `is_autocommit` is to be asked.
     pub fn into_connection(self) -> Connection<S>
-        ensures same { result ≡ self.conn }
-        ensures autocommit { result.in_transaction ≡ false }
+        ensures same { self.conn.in_transaction ≡ false → result ≡ self.conn }
+        ensures undone { HasCleanDisk (state S.Store result) → Undoes S.Store self.conn result }
+        ensures autocommit { HasCleanDisk (state S.Store result) → result.in_transaction ≡ false }
+        ensures survives { Survives (state S.Store self.conn) (state S.Store result) (λ _. ⊥) }
     {
-        let Desk { conn, .. } = self;
+        let Desk { mut conn, .. } = self;
+        undo(&mut conn);
         conn
     }
 }

@@ -1,16 +1,46 @@
 // What editors change of a desk.
-ghost use Rattle.std.specs.Prelude.{◌≡◌};
-ghost use Rattle.dict_catalogue.specs.Views.{summary_shown};
+ghost use Rattle.std.specs.Prelude.{◌≡◌, false, IsTrue};
+ghost use Rattle.sqlite.specs.State.{HasCleanDisk};
+ghost use Rattle.sqlite.specs.Held.{state};
+ghost use Rattle.dict_catalogue.specs.Views.{summary_shown, command_meant};
 ghost use Rattle.dict_commands.specs.Answers.{summary_after};
-ghost use Rattle.dict_store.specs.Desk.{reply_of};
+ghost use Rattle.dict_commands.specs.Changes.{IsInRange};
+ghost use Rattle.dict_store.specs.Applied.{AppliesOver};
+ghost use Rattle.dict_store.specs.Desk.{HasCommitted, HasFiled, reply_of};
 
 use crate::desk::Desk;
 use crate::kept::{forget_by, forget_counts};
 use crate::last::{LastCall, last_by};
+use crate::withdrawing::let_go_when_ended;
 use dict_catalogue::{Command, Kept, Summary};
-use dict_commands::{Applied, apply, kept_reply};
+use dict_commands::{Applied, Filing, apply, apply_filed, kept_reply};
 use dict_desk::{Fault, Keeper};
-use sqlite::Alter;
+use sqlite::{Alter, Connection};
+use std::alloc::Global;
+
+// Applies a command over a connection on which a change may be prepared.
+fn apply_over<S: Alter>(
+    alloc: Global,
+    conn: &mut Connection<S>,
+    summary: &Summary,
+    filing: &Option<Filing>,
+    id: &str,
+    command: &Command,
+) -> Result<Applied, Fault>
+    requires filed { HasFiled S.Store filing.now conn.old }
+    requires settled { HasCleanDisk (state S.Store conn.old) → IsTrue (state S.Store conn.old).is_open → conn.old.in_transaction ≡ false → (state S.Store conn.old).now ≡ (state S.Store conn.old).committed }
+    requires holds { HasCommitted (summary_shown summary.now) (state S.Store conn.old) }
+    requires range { IsInRange (summary_shown summary.now) }
+    ensures { AppliesOver S.Store (summary_shown summary.now) id.now (command_meant command.now) conn.old conn.new result }
+{
+    if conn.is_autocommit() {
+        return apply(alloc, conn, summary, id, command);
+    }
+    let Some(filing) = filing else {
+        return Err(Fault::Disk);
+    };
+    apply_filed(alloc, conn, summary, id, command, filing)
+}
 
 // The reply that was answered; the summary after it is taken over.
 fn take_over(summary: &mut Summary, outcome: Result<Applied, Fault>) -> Result<Kept, Fault>
@@ -35,9 +65,10 @@ impl<S: Alter + Drop> Keeper for Desk<S> {
     ghost fails_to_apply = { FailsToApplyTo S.Store };
 
     fn kept(&mut self, id: &str) -> Result<Option<Kept>, Fault> {
-        if self.last == LastCall::Closed {
-            return Err(Fault::Closed);
+        if let Some(reply) = self.kept_beside(id) {
+            return Ok(reply);
         }
+        self.withdraw()?;
         let outcome = kept_reply(self.alloc, &mut self.conn, id);
         self.last = last_by(&outcome);
         forget_by(&mut self.cache, self.last);
@@ -48,10 +79,18 @@ impl<S: Alter + Drop> Keeper for Desk<S> {
         if self.last == LastCall::Closed {
             return Err(Fault::Closed);
         }
-        let outcome = apply(self.alloc, &mut self.conn, &self.summary, id, command);
+        let outcome = apply_over(
+            self.alloc,
+            &mut self.conn,
+            &self.summary,
+            &self.filing,
+            id,
+            command,
+        );
         self.last = last_by(&outcome);
         forget_counts(&mut self.cache);
         forget_by(&mut self.cache, self.last);
+        let_go_when_ended(&self.conn, &mut self.filing);
         take_over(&mut self.summary, outcome)
     }
 }

@@ -1,8 +1,10 @@
 // What a desk keeps in memory for lookups, by how its last call ended.
 ghost use Rattle.std.specs.Prelude.{◌≡◌};
 ghost use Rattle.dict_store.specs.Kept.{no_cache, without_counts, cache_after};
+ghost use Rattle.dict_store.specs.Prepared.{cache_behind};
 
 use crate::last::LastCall;
+use dict_desk::Fault;
 use dict_lookup::Counted;
 use dict_texts::Texts;
 use std::alloc::Global;
@@ -49,5 +51,15 @@ pub(crate) fn forget_by(cache: &mut Cache, last: LastCall)
     match last {
         LastCall::Fine => {}
         LastCall::Failed | LastCall::Closed => cache.forget_all(),
+    }
+}
+
+// Behind what was prepared nothing that was counted is kept, and behind a fault nothing at all.
+pub(crate) fn forget_behind<T>(cache: &mut Cache, outcome: &Result<T, Fault>)
+    ensures { cache.new ≡ cache_behind outcome.now cache.old }
+{
+    match outcome {
+        Ok(_) => forget_counts(cache),
+        Err(_) => cache.forget_all(),
     }
 }

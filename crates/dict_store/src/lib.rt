@@ -9,13 +9,15 @@ mod kept;
 mod last;
 mod laws;
 mod lookups;
+mod preparing;
 mod promise;
 mod reopening;
 mod session;
+mod withdrawing;
 
 pub use desk::Desk;
 pub use last::LastCall;
 pub use laws::committed_may_stay;
 pub use promise::apply_to_file;
-pub use reopening::{Unopened, stopped_files};
+pub use reopening::{Unopened, fault_of_files, stopped_files};
 pub use session::session_over;

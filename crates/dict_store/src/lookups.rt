@@ -35,9 +35,7 @@ impl<S: Alter + Drop> Lookup for Desk<S> {
     }
 
     fn info<T: RowSink>(&mut self, number: u64, sink: &mut T) -> Result<End, Fault> {
-        if self.last == LastCall::Closed {
-            return Err(Fault::Closed);
-        }
+        self.make_ready(number)?;
         let outcome = dict_lookup::info(
             self.alloc,
             &mut self.conn,
@@ -57,9 +55,7 @@ impl<S: Alter + Drop> Lookup for Desk<S> {
         query: &Key,
         what: What,
     ) -> Result<u64, Fault> {
-        if self.last == LastCall::Closed {
-            return Err(Fault::Closed);
-        }
+        self.make_ready(number)?;
         let outcome = dict_lookup::count(
             self.alloc,
             &mut self.conn,
@@ -82,9 +78,7 @@ impl<S: Alter + Drop> Lookup for Desk<S> {
         query: &Key,
         sink: &mut T,
     ) -> Result<End, Fault> {
-        if self.last == LastCall::Closed {
-            return Err(Fault::Closed);
-        }
+        self.make_ready(number)?;
         let outcome = dict_lookup::find(
             self.alloc,
             &mut self.conn,
@@ -108,9 +102,7 @@ impl<S: Alter + Drop> Lookup for Desk<S> {
         query: &Key,
         sink: &mut T,
     ) -> Result<End, Fault> {
-        if self.last == LastCall::Closed {
-            return Err(Fault::Closed);
-        }
+        self.make_ready(number)?;
         let outcome = dict_lookup::heads(
             self.alloc,
             &mut self.conn,

@@ -18,6 +18,7 @@ ghost use Rattle.dict_store.specs.Reopened.{IsIn, HoldsFrontIn, IsLetGo, IsOpene
 ghost use Rattle.dict_store.specs.Unopened.{fault_of_files, IsUnopened, IsUnopenedOver, IsUnreopened, IsUnrestarted};
 ghost use Rattle.dict_rows.specs.Versions.{known};
 
+use crate::closing::let_go;
 use crate::desk::Desk;
 use dict_desk::Fault;
 use sqlite::{Connection, Error, ErrorCode, FileFrom, FileStore, Files, Leftover, Options, Start};
@@ -35,8 +36,8 @@ pub enum Unopened<D: Disk + Drop> {
     Database(Connection<FileStore<D>>),
 }
 
-// The fault that tells that no connection was opened.
-fn fault_of_files(error: &Error) -> Fault
+/// The fault that tells that no connection was opened: `Memory` where memory was refused, else `NotACatalogue`.
+pub fn fault_of_files(error: &Error) -> Fault
     ensures value { result ≡ fault_of_files error.now }
     ensures kinds { (result ≡ Fault.Memory) ⊎ (result ≡ Fault.NotACatalogue) }
     ensures kind { IsOfOpening result }
@@ -103,7 +104,8 @@ impl<S: Start> Desk<FileStore<FileFrom<S>>> {
 fn files_of<D: Disk + Drop>(desk: Desk<FileStore<D>>) -> Files<D>
     ensures { IsLetGo desk.conn result }
 {
-    desk.into_connection().into_store().close()
+    let (conn, _) = let_go(desk);
+    conn.into_store().close()
 }
 
 impl<D: Disk + Drop> Desk<FileStore<D>> {

@@ -6,6 +6,8 @@ mod checks;
 #[cfg(test)]
 mod files;
 #[cfg(test)]
+mod prepared;
+#[cfg(test)]
 mod reopened;
 #[cfg(test)]
 mod stops;

@@ -119,6 +119,18 @@ static ANEW: [(u64, &str, &str, u64); 3] = [
     (5, "iron", "iron=iron\n  ore\n/", 2),
 ];
 
+// The same catalogue, of a desk that has no texts yet.
+fn adopted<S: Alter + Drop>(alloc: Global, desk: Desk<S>) -> Result<Desk<S>, Fail> {
+    let conn = desk.into_connection();
+    if !conn.is_autocommit() {
+        return Err(Fail::new("a transaction"));
+    }
+    match Desk::adopt(alloc, conn) {
+        Ok(desk) => Ok(desk),
+        Err(_) => Err(Fail::new("no desk")),
+    }
+}
+
 #[test]
 fn texts_are_read_once(rt: HostRuntime) -> Result<(), Fail> {
     let alloc = rt.alloc();
@@ -129,9 +141,6 @@ fn texts_are_read_once(rt: HostRuntime) -> Result<(), Fail> {
     let mut desk = desk;
     done(&rt, alloc, &mut desk, &editions, &CASES)?;
     holds(&rt, desk.audit().is_ok(), "a sound desk");
-    let Ok(desk) = Desk::adopt(alloc, desk.into_connection()) else {
-        return Err(Fail::new("no desk"));
-    };
-    let mut desk = desk;
+    let mut desk = adopted(alloc, desk)?;
     look(&rt, alloc, &mut desk, &ANEW)
 }

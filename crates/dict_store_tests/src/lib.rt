@@ -18,6 +18,8 @@ mod many;
 #[cfg(test)]
 mod migrations;
 #[cfg(test)]
+mod preparing;
+#[cfg(test)]
 mod referred;
 #[cfg(test)]
 mod refused;

@@ -1,6 +1,5 @@
 use Rattle.std.proofs.Common.{◌≡◌, refl, subst, sym}
 use Rattle.std.specs.Prelude.{IsTrue, Some, None}
-use Rattle.sqlite.specs.Effect.{Database}
 use Rattle.sqlite.specs.State.{HasCleanDisk, Survives}
 use Rattle.sqlite.specs.Held.{state}
 use Rattle.dict_holdings.specs.Holds.{Holds, IsHeld}
@@ -28,7 +27,7 @@ returns-in-Ok-clause-only g c = λ M shown clean trees may.
     let sound = (c.is_whole-in-Ok.ensures.live rests.is_open).1 in
     let held = (subst (λ (d : DeskState _). Shows g.S.Store d M) c.over.ensures.is shown).holds refl there rests.is_open in
     let left = subst (λ (d : DeskState _). (state g.S.Store d.conn).may_leave trees) c.over.ensures.is may in
-    (Some M, alone M, left_alone g.S.Store c.read_renewed.new.conn M (g.met.S.Store.settled c.read_renewed.new.conn.store) rests.is_open sound (subst (λ (db : Database). Holds known db M) rests.settled held) trees left)
+    (Some M, alone M, left_alone g.S.Store c.read_renewed.new.conn M (g.met.S.Store.settled c.read_renewed.new.conn.store) rests.is_open sound held trees left)
 
 pub returns-in-Ok-clause-same : goal.returns-in-Ok-clause-same
 returns-in-Ok-clause-same g c = λ clean M.

@@ -1,29 +1,84 @@
-use Rattle.std.proofs.Common.{◌≡◌, false, sym, subst, rules}
+use Rattle.std.proofs.Common.{◌≡◌, false, sym, ap, subst, ◌∙◌}
 use Rattle.std.specs.Prelude.{IfErr}
 use Rattle.sqlite.specs.Held.{state}
+use Rattle.sqlite.specs.State.{HasCleanDisk, Survives}
+use Rattle.sqlite.proofs.StateLemmas.{survives_then}
 use Rattle.dict_catalogue.specs.Views.{summary_shown}
 use Rattle.dict_desk.specs.declared.fault.Fault.{Fault}
-use Rattle.dict_desk.specs.declared.fault.Fault.TheVariants.{Disk}
-use Rattle.dict_opening.specs.Reading.{HasFailed}
-use Rattle.dict_store.specs.Desk.{Shows, is_closed}
-use Rattle.dict_store.proofs.DeskLemmas.{desk_still, shows_on}
+use Rattle.dict_store.specs.Desk.{DeskState, Shows, is_closed}
+use Rattle.dict_store.specs.Prepared.{Continues}
+use Rattle.dict_store.proofs.AppliedLemmas.{err_clean, err_weaker}
+use Rattle.dict_store.proofs.AuditLemmas.{failed_behind}
+use Rattle.dict_store.proofs.DeskLemmas.{clean_behind, desk_alone, shows_on, undone_continues}
+use Rattle.dict_store.proofs.PreparedLemmas.{kept_there}
 use Rattle.dict_store.proofs.desk.Desk.audit.Goals as goal
+
+pub read_committed-outcome-requires-clause-autocommit : goal.read_committed-outcome-requires-clause-autocommit
+read_committed-outcome-requires-clause-autocommit g c = ap (λ (d : DeskState _). d.conn.in_transaction) c.self.view_is ∙ c.in_ok-withdraw.ensures.ended
+
+pub read_committed-outcome-requires-clause-limit : goal.read_committed-outcome-requires-clause-limit
+read_committed-outcome-requires-clause-limit g c = c.self.invariant.0.limit
+
+pub read_committed-outcome-requires-clause-tables : goal.read_committed-outcome-requires-clause-tables
+read_committed-outcome-requires-clause-tables g c = λ clean live.
+    let before : is_closed c.self.inside.last ≡ false = ap is_closed (ap (λ (d : DeskState _). d.last) c.self.view_is ∙ c.in_ok-withdraw.ensures.last) ∙ c.in_ok-withdraw.ensures.open in
+    kept_there (state g.S.Store c.self.inside.conn).now (c.self.invariant.0.own before clean live)
+
+pub read_committed-outcome-requires-clause-holds : goal.read_committed-outcome-requires-clause-holds
+read_committed-outcome-requires-clause-holds g c = λ clean live.
+    let before : is_closed c.self.inside.last ≡ false = ap is_closed (ap (λ (d : DeskState _). d.last) c.self.view_is ∙ c.in_ok-withdraw.ensures.last) ∙ c.in_ok-withdraw.ensures.open in
+    let it = c.self.invariant.0.holds before clean live in
+    (it.0, record { is_open = live; settled = c.self.invariant.0.settled before clean live (ap (λ (d : DeskState _). d.conn.in_transaction) c.self.view_is ∙ c.in_ok-withdraw.ensures.ended); holds = it.1 })
 
 pub invariant_of-self : goal.invariant_of-self
 invariant_of-self g c =
-    let before : is_closed c.self.inside.last ≡ false = search rules in
-    desk_still g.S.Store c.self.inside.conn c.read_again-outcome.new.conn (summary_shown c.self.inside.summary) c.self.inside.last c.last_by-self-inside.result before c.self.invariant.0 c.read_again-outcome.ensures.survives
-    (λ clean. record { was_open = c.read_again-outcome.ensures.lives clean; now = λ live settled. c.read_again-outcome.ensures.now clean live; committed = λ live. c.read_again-outcome.ensures.committed clean live }) (λ _. c.read_again-outcome.ensures.autocommit)
-    c.self.inside.cache c.forget_by.new.cache c.forget_by.ensures c.self.invariant.1
+    let before : is_closed c.self.inside.last ≡ false = ap is_closed (ap (λ (d : DeskState _). d.last) c.self.view_is ∙ c.in_ok-withdraw.ensures.last) ∙ c.in_ok-withdraw.ensures.open in
+    let none = ap (λ (d : DeskState _). d.conn.in_transaction) c.self.view_is ∙ c.in_ok-withdraw.ensures.ended in
+    desk_alone g.S.Store c.self.inside.conn c.read_committed-outcome.new.conn (summary_shown c.self.inside.summary) c.self.inside.filing c.self.inside.last c.last_by-self-inside.result before c.self.invariant.0 c.read_committed-outcome.ensures.survives
+    c.read_committed-outcome.ensures.continues none (λ _. c.read_committed-outcome.ensures.autocommit) c.self.inside.cache c.forget_by.new.cache c.forget_by.ensures c.self.invariant.1
 
 pub returns-clause-shows : goal.returns-clause-shows
 returns-clause-shows g c = λ clean M shown.
-    let before : is_closed c.self.inside.last ≡ false = search rules in
-    shows_on g.S.Store c.self.inside.conn c.read_again-outcome.new.conn (summary_shown c.self.inside.summary) c.self.inside.last c.last_by-self-inside.result before c.self.invariant.0 c.read_again-outcome.ensures.survives
-    (λ clean. record { was_open = c.read_again-outcome.ensures.lives clean; now = λ live settled. c.read_again-outcome.ensures.now clean live; committed = λ live. c.read_again-outcome.ensures.committed clean live })
-    M (subst (λ desk. Shows g.S.Store desk M) (sym c.self.view_is) shown)
+    let before : is_closed c.self.inside.last ≡ false = ap is_closed (ap (λ (d : DeskState _). d.last) c.self.view_is ∙ c.in_ok-withdraw.ensures.last) ∙ c.in_ok-withdraw.ensures.open in
+    let honest = clean_behind (state g.S.Store c.self.inside.conn) (state g.S.Store c.read_committed-outcome.new.conn) c.read_committed-outcome.ensures.survives clean in
+    let mid = subst (λ (d : DeskState _). HasCleanDisk (state g.S.Store d.conn)) c.self.view_is honest in
+    shows_on g.S.Store c.self.inside.conn c.read_committed-outcome.new.conn (summary_shown c.self.inside.summary) c.self.inside.filing c.self.inside.last c.last_by-self-inside.result before c.self.invariant.0 c.read_committed-outcome.ensures.survives c.read_committed-outcome.ensures.continues
+    M (subst (λ (d : DeskState _). Shows g.S.Store d M) (sym c.self.view_is) (c.withdraw.ensures.shows mid M shown))
+
+pub returns-clause-spares : goal.returns-clause-spares
+returns-clause-spares g c =
+    survives_then _ _ _ (λ _. ⊥) (λ _. ⊥) (λ _. ⊥) (λ _ db none. none) (λ _ db none. none)
+    (subst (λ (d : DeskState _). Survives (state g.S.Store c.args.self.now.conn) (state g.S.Store d.conn) (λ _. ⊥)) (sym c.self.view_is) c.withdraw.ensures.survives) c.read_committed-outcome.ensures.survives
+
+pub returns-clause-same : goal.returns-clause-same
+returns-clause-same g c = λ clean live.
+    let honest = clean_behind (state g.S.Store c.self.inside.conn) (state g.S.Store c.read_committed-outcome.new.conn) c.read_committed-outcome.ensures.survives clean in
+    let mid = subst (λ (d : DeskState _). HasCleanDisk (state g.S.Store d.conn)) c.self.view_is honest in
+    let goes = subst (λ (d : DeskState _). Continues (state g.S.Store c.args.self.now.conn) (state g.S.Store d.conn)) (sym c.self.view_is) (undone_continues g.S.Store c.args.self.now.conn c.withdraw.new.self.conn (c.withdraw.ensures.undone mid)) in
+    (c.read_committed-outcome.ensures.continues clean).committed live ∙ goes.committed ((c.read_committed-outcome.ensures.continues clean).was_open live)
+
+pub returns-clause-told : goal.returns-clause-told
+returns-clause-told g c =
+    err_clean _ c.read_committed-outcome.result
+    (λ clean.
+    let honest = clean_behind (state g.S.Store c.self.inside.conn) (state g.S.Store c.read_committed-outcome.new.conn) c.read_committed-outcome.ensures.survives clean in
+    let mid = subst (λ (d : DeskState _). HasCleanDisk (state g.S.Store d.conn)) c.self.view_is honest in
+    let goes = subst (λ (d : DeskState _). Continues (state g.S.Store c.args.self.now.conn) (state g.S.Store d.conn)) (sym c.self.view_is) (undone_continues g.S.Store c.args.self.now.conn c.withdraw.new.self.conn (c.withdraw.ensures.undone mid)) in
+    c.read_committed-outcome.ensures.told clean (state g.S.Store c.args.self.now.conn).committed goes.committed)
+
+pub returns-clause-not_held : goal.returns-clause-not_held
+returns-clause-not_held g c =
+    err_clean _ c.read_committed-outcome.result
+    (λ clean.
+    let honest = clean_behind (state g.S.Store c.self.inside.conn) (state g.S.Store c.read_committed-outcome.new.conn) c.read_committed-outcome.ensures.survives clean in
+    let mid = subst (λ (d : DeskState _). HasCleanDisk (state g.S.Store d.conn)) c.self.view_is honest in
+    let goes = subst (λ (d : DeskState _). Continues (state g.S.Store c.args.self.now.conn) (state g.S.Store d.conn)) (sym c.self.view_is) (undone_continues g.S.Store c.args.self.now.conn c.withdraw.new.self.conn (c.withdraw.ensures.undone mid)) in
+    c.read_committed-outcome.ensures.not_held clean (state g.S.Store c.args.self.now.conn).committed goes.committed)
 
 pub returns-clause-broken : goal.returns-clause-broken
 returns-clause-broken g c = λ clean.
-    let new = state g.S.Store c.read_again-outcome.new.conn in
-    subst (λ desk. IfErr c.read_again-outcome.result (λ (fault : Fault). fault ≡ Disk → HasFailed (state g.S.Store desk.conn) new)) c.self.view_is (c.read_again-outcome.ensures.failed clean)
+    let honest = clean_behind (state g.S.Store c.self.inside.conn) (state g.S.Store c.read_committed-outcome.new.conn) c.read_committed-outcome.ensures.survives clean in
+    let mid = subst (λ (d : DeskState _). HasCleanDisk (state g.S.Store d.conn)) c.self.view_is honest in
+    let goes = subst (λ (d : DeskState _). Continues (state g.S.Store c.args.self.now.conn) (state g.S.Store d.conn)) (sym c.self.view_is) (undone_continues g.S.Store c.args.self.now.conn c.withdraw.new.self.conn (c.withdraw.ensures.undone mid)) in
+    let first = subst (λ (d : DeskState _). Survives (state g.S.Store c.args.self.now.conn) (state g.S.Store d.conn) (λ _. ⊥)) (sym c.self.view_is) c.withdraw.ensures.survives in
+    err_weaker _ _ c.read_committed-outcome.result (λ (fault : Fault) h is. failed_behind (state g.S.Store c.args.self.now.conn) (state g.S.Store c.self.inside.conn) (state g.S.Store c.read_committed-outcome.new.conn) goes first c.read_committed-outcome.ensures.survives honest (h is)) (c.read_committed-outcome.ensures.failed clean)

@@ -1,0 +1,221 @@
+-- What a desk is behind what is prepared, and behind what was prepared is undone.
+use Rattle.std.proofs.Common.{◌≡◌, inl, inr, ℕ, ◌||◌, Bool, true, false, List, [], refl, sym, ap, subst, ◌∙◌, arith}
+use Rattle.std.specs.Prelude.{◌↔◌, IsTrue, IfSome, Option, Some, None, Result, Ok, Err, OnOk, OnErr, IfErr}
+use Rattle.std.proofs.lemmas.Bool.{false≢true, true≢false}
+use Rattle.sqlite.specs.Effect.{Database}
+use Rattle.sqlite.specs.Disk.{MoreFaults}
+use Rattle.sqlite.specs.State.{HasCleanDisk, IsRolledBack, KeepsCommit, Survives}
+use Rattle.sqlite.proofs.StateLemmas.{survives_then}
+use Rattle.sqlite.specs.Held.{Held, state}
+use Rattle.sqlite_trees.specs.declared.store.Store.{Ghosts}
+use Rattle.dict_catalogue.specs.Steps.{Catalogue}
+use Rattle.dict_catalogue.specs.Tests.{Holdings}
+use Rattle.dict_desk.specs.Faults.{is_disk, is_failure, has_failed_by, has_closed_by, IsOfLookup}
+use Rattle.dict_desk.specs.declared.fault.Fault.{Fault}
+use Rattle.dict_desk.specs.declared.fault.Fault.TheVariants.{Refused, Memory, Disk, Closed as Shut, NotACatalogue, Damaged, NewerSchema}
+use Rattle.dict_rows.specs.Versions.{known}
+use Rattle.dict_holdings.specs.Faults.{FailsToLookUp}
+use Rattle.dict_holdings.specs.Holds.{Holds}
+use Rattle.dict_lookup.specs.Texts.{AreTextsOf}
+use Rattle.dict_commands.specs.Committed.{IsOfStore}
+use Rattle.dict_commands.specs.Filing.{IsDrawnUp}
+use Rattle.dict_commands.specs.declared.filing.Filing.{Filing}
+use Rattle.dict_store.specs.Causes.{FailsToPrepare}
+use Rattle.dict_store.specs.Desk.{DeskState, HasCommitted, HasFiled, IsAtRest, Shows, has_failed, is_closed}
+use Rattle.dict_store.specs.Kept.{KeepsCache, cache_after, without_counts}
+use Rattle.dict_store.specs.Prepared.{Undoes, cache_behind, last_behind}
+use Rattle.dict_store.specs.declared.kept.Cache.{Cache}
+use Rattle.dict_store.specs.declared.last.LastCall.{LastCall}
+use Rattle.dict_store.specs.declared.last.LastCall.TheVariants.{Fine, Failed, Closed}
+use Rattle.dict_store.proofs.DeskLemmas.{at_rest, committed_on, settled_on, shows_on, undone_continues}
+
+pub or_true : (b : Bool) → (b || true) ≡ true
+or_true false = refl
+or_true true = refl
+
+pub or_false : (b : Bool) → (b || false) ≡ b
+or_false false = refl
+or_false true = refl
+
+module _ {S : Type 0} (g : Ghosts S) where
+  -- ---- a desk that is closed
+
+  pub closed_rests : (summary : Holdings (List ℕ)) (filing left : Option Filing) (before : LastCall) (old new : Held S) → IsAtRest g before summary filing old → Survives (state g old) (state g new) (λ _. ⊥) → IsAtRest g Closed summary left new
+  closed_rests summary filing left before old new rest survives =
+      at_rest g Closed summary left new (survives.limit ∙ rest.limit) rest.range (λ fine. absurd (true≢false fine)) (λ fine. absurd (true≢false fine)) (λ fine. absurd (true≢false fine))
+
+  pub closed_keeps : (summary : Holdings (List ℕ)) (cache : Cache) (new : Held S) → KeepsCache g Closed summary (cache_after Closed cache) new
+  closed_keeps summary cache new = record { made = tt; texts = λ fine clean live. tt; counted = λ fine clean live. tt }
+
+  pub failed_keeps : (summary : Holdings (List ℕ)) (cache : Cache) (new : Held S) → KeepsCache g Failed summary (cache_after Failed cache) new
+  failed_keeps summary cache new = record { made = tt; texts = λ fine clean live. tt; counted = λ fine clean live. tt }
+
+  -- ---- a call that failed, or prepared something, and changed nothing else
+
+  pub rests_as : (summary : Holdings (List ℕ)) (filing : Option Filing) (before after : LastCall) (h : Held S) → is_closed before ≡ false → IsAtRest g before summary filing h → (left : Option Filing) → HasFiled g left h → IsAtRest g after summary left h
+  rests_as summary filing before after h fine rest left filed = at_rest g after summary left h rest.limit rest.range (λ _. rest.holds fine) (λ _. rest.settled fine) (λ _. filed)
+
+  pub shows_as : (summary : Holdings (List ℕ)) (before after : LastCall) (h : Held S) → is_closed before ≡ false → (M : Catalogue) → Shows g (record { conn = h; summary = summary; last = before }) M → Shows g (record { conn = h; summary = summary; last = after }) M
+  shows_as summary before after h fine M shown = record { summary = shown.summary; well_formed = shown.well_formed; holds = λ _ clean live. shown.holds fine clean live }
+
+  -- nothing is prepared
+  pub none_filed : (found : Option Filing) (h : Held S) → ((f : Filing) → found ≡ Some f → ⊥) → HasFiled g found h → HasFiled g None h
+  none_filed None h never filed = filed
+  none_filed (Some f) h never filed = absurd (never f refl)
+
+  -- nothing is filed yet of what was planned
+  pub planned_filed : (found : Option Filing) (h : Held S) → IfSome found IsDrawnUp → h.in_transaction ≡ false → HasFiled g found h
+  planned_filed None h drawn none = λ clean. none
+  planned_filed (Some f) h drawn none = (drawn, λ clean live inside. absurd (false≢true (sym none ∙ inside)))
+
+-- ---- what was prepared is undone
+
+module _ {S : Type 0} (g : Ghosts S) (old new : Held S) (summary : Holdings (List ℕ)) (filing : Option Filing) (last : LastCall) (fine : is_closed last ≡ false) (rest : IsAtRest g last summary filing old)
+    (survives : Survives (state g old) (state g new) (λ _. ⊥)) (undone : HasCleanDisk (state g new) → Undoes g old new) where
+  pub undone_rests : (left : Option Filing) → HasFiled g left new → IsAtRest g last summary left new
+  undone_rests left filed = at_rest g last summary left new (survives.limit ∙ rest.limit) rest.range
+      (λ _. committed_on g old new summary filing last last fine rest survives (λ clean. undone_continues g old new (undone clean)))
+      (λ _. settled_on g old new summary filing last last fine rest survives (λ clean. undone_continues g old new (undone clean)))
+      (λ _. filed)
+
+  pub undone_keeps : (cache : Cache) → KeepsCache g last summary cache old → KeepsCache g last summary (without_counts cache) new
+  undone_keeps cache keeps = record {
+    made = keeps.made;
+    texts = λ open' clean live.
+        let goes = undone_continues g old new (undone clean) in
+        subst (λ (db : Database). AreTextsOf db cache.texts) (sym (goes.committed live)) (keeps.texts fine (let first : HasCleanDisk (state g old) = omega (arith, survives.clean, clean) in first) (goes.was_open live));
+    counted = λ open' clean live. tt;
+  }
+
+  pub undone_shows : (after : LastCall) (M : Catalogue) → Shows g (record { conn = old; summary = summary; last = last }) M → Shows g (record { conn = new; summary = summary; last = after }) M
+  undone_shows after M shown = shows_on g old new summary filing last after fine rest survives (λ clean. undone_continues g old new (undone clean)) M shown
+
+-- ---- a reading beside what was prepared failed, and that was undone
+
+module _ {S : Type 0} (g : Ghosts S) (old mid new : Held S) (inside : old.in_transaction ≡ true) (one : Survives (state g old) (state g mid) (λ _. ⊥)) (two : Survives (state g mid) (state g new) (λ _. ⊥)) where
+  pub survives_both : Survives (state g old) (state g new) (λ _. ⊥)
+  survives_both = survives_then (state g old) (state g mid) (state g new) (λ _. ⊥) (λ _. ⊥) (λ _. ⊥) (λ _ db none. none) (λ _ db none. none) one two
+
+  pub undone_behind : (fault : Fault) → FailsToLookUp (state g old) (state g mid) fault → Undoes g mid new → new.in_transaction ≡ false → Undoes g old new
+  undone_behind fault (inl same) (inl is) none = absurd (false≢true (sym none ∙ (ap (λ (h : Held S). h.in_transaction) is ∙ (same.0.0.mode ∙ inside))))
+  undone_behind fault (inl same) (inr back) none = inr (
+    inside,
+    record {
+      was_open = λ live. same.0.0.was_open;
+      undone = λ live. ((back.1.undone live).0 ∙ same.0.0.committed_is, (back.1.undone live).1 ∙ same.0.0.committed_is);
+      autocommit = back.1.autocommit;
+      unmarked = back.1.unmarked;
+      counts = record { changes = back.1.counts.changes ∙ same.0.1.changes; last_rowid = back.1.counts.last_rowid ∙ same.0.1.last_rowid };
+    },
+    survives_both,
+  )
+  undone_behind fault (inr failed) (inl is) none = inr (inside, subst (λ (h : Held S). IsRolledBack (state g old) (state g h)) (sym is) failed.2.3, survives_both)
+  undone_behind fault (inr failed) (inr back) none = absurd (false≢true (sym failed.2.3.autocommit ∙ back.0))
+
+  -- no transaction is open
+  pub ended_filed : (filing : Option Filing) → HasFiled g filing old → (HasCleanDisk (state g new) → new.in_transaction ≡ false) → HasFiled g filing new
+  ended_filed None filed ended = ended
+  ended_filed (Some f) filed ended = (filed.0, λ clean live there. absurd (false≢true (sym (ended clean) ∙ there)))
+
+-- ---- a part is prepared
+
+module _ {S : Type 0} (g : Ghosts S) (old new : Held S) (summary : Holdings (List ℕ)) (filing : Option Filing) (before : LastCall) (fine : is_closed before ≡ false) (rest : IsAtRest g before summary filing old)
+    (survives : Survives (state g old) (state g new) (λ _. ⊥)) (keeps : HasCleanDisk (state g new) → KeepsCommit (state g old) (state g new)) where
+  clean_first : HasCleanDisk (state g new) → HasCleanDisk (state g old)
+  clean_first clean = omega (arith, survives.clean)
+
+  prepared_committed : HasCommitted summary (state g new)
+  prepared_committed clean live =
+      let it = rest.holds fine (clean_first clean) ((keeps clean).was_open live) in
+      (it.0, subst (λ (db : Database). Holds known db it.0) (sym ((keeps clean).committed live)) it.1, it.2)
+
+  pub prepared_rests : (after : LastCall) (left : Option Filing) → (HasCleanDisk (state g new) → IsTrue (state g new).is_open → new.in_transaction ≡ false → (state g new).now ≡ (state g new).committed) → HasFiled g left new → IsAtRest g after summary left new
+  prepared_rests after left settled filed = at_rest g after summary left new (survives.limit ∙ rest.limit) rest.range (λ _. prepared_committed) (λ _. settled) (λ _. filed)
+
+  pub prepared_keeps : {T : Type 0} (result : Result T Fault) (after : LastCall) (cache : Cache) → KeepsCache g before summary cache old → KeepsCache g after summary (cache_behind result cache) new
+  prepared_keeps (Ok value) after cache kept = record {
+    made = kept.made;
+    texts = λ open' clean live. subst (λ (db : Database). AreTextsOf db cache.texts) (sym ((keeps clean).committed live)) (kept.texts fine (clean_first clean) ((keeps clean).was_open live));
+    counted = λ open' clean live. tt;
+  }
+  prepared_keeps (Err fault) after cache kept = record { made = tt; texts = λ open' clean live. tt; counted = λ open' clean live. tt }
+
+  pub prepared_shows : (after : LastCall) (M : Catalogue) → Shows g (record { conn = old; summary = summary; last = before }) M → Shows g (record { conn = new; summary = summary; last = after }) M
+  prepared_shows after M shown = record {
+    summary = shown.summary;
+    well_formed = shown.well_formed;
+    holds = λ open' clean live. subst (λ (db : Database). Holds known db M) (sym ((keeps clean).committed live)) (shown.holds fine (clean_first clean) ((keeps clean).was_open live));
+  }
+
+-- behind a part a transaction is open, or it failed, and what is seen is committed
+pub part_settled : {S T E : Type 0} (g : Ghosts S) (h : Held S) (result : Result T E) → (HasCleanDisk (state g h) → OnOk result (h.in_transaction ≡ true)) → (HasCleanDisk (state g h) → OnErr result (IsTrue (state g h).is_open → (state g h).now ≡ (state g h).committed))
+    → HasCleanDisk (state g h) → IsTrue (state g h).is_open → h.in_transaction ≡ false → (state g h).now ≡ (state g h).committed
+part_settled g h (Ok value) inside settled clean live none = absurd (false≢true (sym none ∙ inside clean))
+part_settled g h (Err fault) inside settled clean live none = settled clean live
+
+-- ---- how a preparation ended
+
+pub behind_failed : {T : Type 0} (last : LastCall) (result : Result T Fault) → IfErr result IsOfStore → has_failed (last_behind last result) ≡ (has_failed last || has_failed_by result)
+behind_failed last (Ok value) kind = sym (or_false (has_failed last))
+behind_failed last (Err (Refused refusal)) kind = absurd kind
+behind_failed last (Err Memory) kind = sym (or_true (has_failed last))
+behind_failed last (Err Disk) kind = sym (or_true (has_failed last))
+behind_failed last (Err Shut) kind = absurd kind
+behind_failed last (Err NotACatalogue) kind = absurd kind
+behind_failed last (Err Damaged) kind = absurd kind
+behind_failed last (Err NewerSchema) kind = absurd kind
+
+pub behind_closed : {T : Type 0} (last : LastCall) (result : Result T Fault) → is_closed last ≡ false → IfErr result IsOfStore → is_closed (last_behind last result) ≡ (is_closed last || has_closed_by result)
+behind_closed last (Ok value) fine kind = sym (or_false (is_closed last))
+behind_closed last (Err (Refused refusal)) fine kind = absurd kind
+behind_closed last (Err Memory) fine kind = sym (ap (λ b. b || false) fine)
+behind_closed last (Err Disk) fine kind = sym (or_true (is_closed last))
+behind_closed last (Err Shut) fine kind = absurd kind
+behind_closed last (Err NotACatalogue) fine kind = absurd kind
+behind_closed last (Err Damaged) fine kind = absurd kind
+behind_closed last (Err NewerSchema) fine kind = absurd kind
+
+-- a fault from 40 on, behind whatever was before
+pub failing_or : (last new : LastCall) (fault : Fault) → is_failure fault ≡ true → has_failed new ≡ true → has_failed new ≡ (has_failed last || is_failure fault)
+failing_or last new fault failing failed = failed ∙ sym (ap (λ b. has_failed last || b) failing ∙ or_true (has_failed last))
+
+-- ---- why a preparation failed
+
+module _ {S : Type 0} (g : Ghosts S) where
+  pub undoes_keep : (old new : Held S) → Undoes g old new → KeepsCommit (state g old) (state g new)
+  undoes_keep old new undone = let goes = undone_continues g old new undone in record { was_open = goes.was_open; committed = goes.committed }
+
+  module _ (old new : DeskState S) where
+    pub forgotten_caused : {T : Type 0} (result : Result T Fault) → IfErr result (λ fault. (fault ≡ Shut) × (is_closed old.last ≡ true) × (new ≡ old)) → IfErr result (FailsToPrepare g old new)
+    forgotten_caused (Ok value) h = tt
+    forgotten_caused (Err fault) h = subst (FailsToPrepare g old new) (sym h.0) (h.1, h.2)
+
+    pub prepared_caused : {T : Type 0} (result : Result T Fault) → IfErr result IsOfStore → KeepsCommit (state g old.conn) (state g new.conn)
+        → IfErr result (λ fault. fault ≡ Disk → MoreFaults (state g old.conn).faults (state g new.conn).faults) → IfErr result (FailsToPrepare g old new)
+    prepared_caused (Ok value) kind keeps more = tt
+    prepared_caused (Err (Refused refusal)) kind keeps more = absurd kind
+    prepared_caused (Err Memory) kind keeps more = keeps
+    prepared_caused (Err Disk) kind keeps more = (keeps, more refl)
+    prepared_caused (Err Shut) kind keeps more = absurd kind
+    prepared_caused (Err NotACatalogue) kind keeps more = absurd kind
+    prepared_caused (Err Damaged) kind keeps more = absurd kind
+    prepared_caused (Err NewerSchema) kind keeps more = absurd kind
+
+-- a desk that isn't closed doesn't answer that it is
+pub open_closed : {T : Type 0} (last : LastCall) (result : Result T Fault) → is_closed last ≡ false → IfErr result IsOfStore → (result ≡ Err Shut) ↔ (is_closed last ≡ true)
+open_closed last result fine kind = (λ is. absurd (subst (λ (r : Result _ Fault). IfErr r IsOfStore) is kind), λ shut. absurd (false≢true (sym fine ∙ shut)))
+
+-- ---- what is expected is let go of
+
+module _ {S T : Type 0} (old new : DeskState S) where
+  pub forgotten_failed : (result : Result T Fault) → OnOk result (new.last ≡ old.last) → IfErr result (λ fault. is_failure fault ≡ true) → OnErr result (has_failed new.last ≡ true) → has_failed new.last ≡ (has_failed old.last || has_failed_by result)
+  forgotten_failed (Ok value) same failing failed = ap has_failed same ∙ sym (or_false (has_failed old.last))
+  forgotten_failed (Err fault) same failing failed = failing_or old.last new.last fault failing failed
+
+  pub forgotten_closes : (result : Result T Fault) → OnOk result (new.last ≡ old.last) → IfErr result (λ fault. is_closed new.last ≡ (is_closed old.last || is_disk fault)) → is_closed new.last ≡ (is_closed old.last || has_closed_by result)
+  forgotten_closes (Ok value) same closes = ap is_closed same ∙ sym (or_false (is_closed old.last))
+  forgotten_closes (Err fault) same closes = closes
+
+  pub forgotten_closed : (result : Result T Fault) → OnOk result (is_closed old.last ≡ false) → IfErr result (λ fault. (fault ≡ Shut) ↔ (is_closed old.last ≡ true)) → (result ≡ Err Shut) ↔ (is_closed old.last ≡ true)
+  forgotten_closed (Ok value) fine closed = (λ is. absurd (let e = is in cc), λ shut. absurd (false≢true (sym fine ∙ shut)))
+  forgotten_closed (Err fault) fine closed = (λ is. closed.0 (let e = is in cc), λ shut. ap Err (closed.1 shut))

@@ -1,0 +1,52 @@
+-- What is seen beside what is prepared of a change, and how that is undone.
+use Rattle.std.specs.Prelude.{◌≡◌, ◌≢◌, ◌⊎◌, ℕ, false, IsTrue, Option, Some, None, Result, Ok, Err}
+use Rattle.std.specs.List.{AllByRecursion}
+use Rattle.sqlite.specs.Effect.{Database}
+use Rattle.sqlite.specs.Held.{Held, state}
+use Rattle.sqlite.specs.State.{State, IsRolledBack, Survives}
+use Rattle.sqlite_trees.specs.declared.store.Store.{Ghosts}
+use Rattle.dict_index.specs.Edition.{ReadEdition}
+use Rattle.dict_desk.specs.declared.fault.Fault.{Fault}
+use Rattle.dict_lookup.specs.Searches.{HoldsOne, IsReadable, column_of}
+pub use Rattle.dict_commands.specs.Filing.{rested}
+use Rattle.dict_commands.specs.declared.filing.Filing.{Filing}
+use Rattle.dict_store.specs.Desk.{last_by}
+use Rattle.dict_store.specs.Kept.{no_cache, without_counts}
+use Rattle.dict_store.specs.declared.kept.Cache.{Cache}
+use Rattle.dict_store.specs.declared.last.LastCall.{LastCall}
+
+-- how the last call ended, where something was prepared behind it: that tells nothing unless it failed
+abbrev pub last_behind : {T : Type 0} → LastCall → Result T Fault → LastCall
+last_behind last (Ok value) = last
+last_behind last (Err fault) = last_by {T = Unit {0}} (Err fault)
+
+-- what is kept in memory behind it
+abbrev pub cache_behind : {T : Type 0} → Result T Fault → Cache → Cache
+cache_behind (Ok value) cache = without_counts cache
+cache_behind (Err fault) cache = no_cache
+
+-- Under this number the edition is seen that is committed under it; and what stands there can be read, if it could.
+pub record IsAlike (number : ℕ) (committed now : Database) : Type 0 where
+  pub one : (reading : ReadEdition) → HoldsOne committed number reading → HoldsOne now number reading
+  pub readable : IsReadable committed (column_of number) → IsReadable now (column_of number)
+
+-- A store that is open was so before, and what was committed is so still. It shows what it did, in the same transaction or in none; or
+-- what is committed, in none.
+pub record Continues (old new : State) : Type 0 where
+  pub was_open : IsTrue new.is_open → IsTrue old.is_open
+  pub committed : IsTrue new.is_open → new.committed ≡ old.committed
+  pub now : IsTrue new.is_open → ((new.now ≡ old.now) × (new.in_transaction ≡ old.in_transaction)) ⊎ ((new.now ≡ old.committed) × (new.in_transaction ≡ false))
+
+-- no transaction is open, or what is filed in it has nothing of the edition of this number
+abbrev pub IsApart : {S : Type 0} → Option Filing → ℕ → Held S → Type 0
+IsApart None number h = h.in_transaction ≡ false
+IsApart (Some filing) number h = (h.in_transaction ≡ false) ⊎ (AllByRecursion (λ one. one ≢ number) filing.gone.items × (filing.number ≢ number))
+
+-- what was prepared is prepared still; or it is let go of, where no transaction is open
+abbrev pub LetsGo : {S : Type 0} → Held S → Option Filing → Option Filing → Type 0
+LetsGo h old new = (new ≡ old) ⊎ ((new ≡ None) × (h.in_transaction ≡ false))
+
+module _ {S : Type 0} (g : Ghosts S) where
+  -- What was prepared is undone: the transaction that was open is rolled back, and nothing else is done. Where none was open, nothing is.
+  abbrev pub Undoes : Held S → Held S → Type 0
+  Undoes old new = (new ≡ old) ⊎ (IsTrue old.in_transaction × IsRolledBack (state g old) (state g new) × Survives (state g old) (state g new) (λ _. ⊥))
