@@ -2,3 +2,4 @@ pub mod Answers
 pub mod Actions
 pub mod Settling
 pub mod Responding
+pub mod Foreseeing

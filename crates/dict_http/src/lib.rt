@@ -7,6 +7,7 @@
 mod actions;
 mod answers;
 mod changing;
+mod foreseeing;
 mod laws;
 mod parts;
 mod service;

@@ -1,5 +1,5 @@
 // The service of editors' requests.
-ghost use Rattle.std.specs.Prelude.{◌≡◌, ◌⊎◌, List, Option};
+ghost use Rattle.std.specs.Prelude.{◌≡◌, ◌⊎◌, List, Option, true};
 ghost use Rattle.dict_catalogue.specs.Steps.{Catalogue, summary_of};
 ghost use Rattle.dict_head.specs.Fields.{AreValues};
 ghost use Rattle.dict_head.specs.Heads.{Needs};
@@ -8,15 +8,18 @@ ghost use Rattle.dict_head.specs.declared.kinds.Need.TheVariants as needs;
 ghost use Rattle.dict_head.specs.declared.statuses.Status.TheVariants as statuses;
 ghost use Rattle.dict_json.specs.Texts.{list_text};
 ghost use Rattle.dict_http.specs.Answers.{octets_of, plain, with_body, response_text};
+ghost use Rattle.dict_http.specs.Foreseeing.{HasForeseen, AsksAnewForInstall, AsksForInstall};
 ghost use Rattle.dict_http.specs.Settling.{Settles, SettlesRequest, SettlesAction};
 ghost use Rattle.dict_http.specs.Responding.{IsAnswer, Responds};
 
 use crate::actions::{Action, action_of, one_id};
 use crate::answers::{Answer, bad_request, method_not_allowed, not_found, too_large, unavailable};
 use crate::changing::{change, with_text};
+use crate::foreseeing::foresee_install;
 use dict_desk::Keeper;
 use dict_head::{Reading, Request, Status, Values, read_request};
 use dict_json::list_json;
+use dict_preparing::Preparer;
 use dict_route::Routes;
 use std::alloc::{AllocError, Global};
 
@@ -107,6 +110,33 @@ impl Service {
             Reading::More(_) => unreachable!(),
             Reading::Whole(request) => self.respond_to(alloc, request, desk),
             Reading::Refused(status) => refused(status),
+        }
+    }
+
+    /// Tells the desk of the install that a whole request at the front of the octets asks for, so that it may prepare it before the
+    /// request is answered. Nothing that is shown changes.
+    ///
+    /// It is told only of one that may act: under one lawful id that isn't kept, of an edition that is accepted; and it lets go
+    /// of what it noted before. Whether it was told of one, and took note. Where memory is wanting, or the desk fails, it
+    /// didn't, and the request may be answered as ever.
+    pub fn foresee<K: Preparer>(&self, alloc: Global, octets: &[u8], desk: &mut K) -> bool
+        ensures foreseen { result ≡ true → HasForeseen K.expects (AsksForInstall octets.now) desk.new }
+        ensures anew { result ≡ true → K.is_trusted desk.new → (M : Catalogue) → K.shows desk.old M → HasForeseen K.expects (AsksAnewForInstall M octets.now) desk.new }
+        ensures trust { K.is_trusted desk.new → K.is_trusted desk.old }
+        ensures shows { K.is_trusted desk.new → (M : Catalogue) → K.shows desk.old M → K.shows desk.new M }
+        ensures leaves { (ms : List (Option Catalogue)) → K.leaves_one_of desk.old ms → K.leaves_one_of desk.new ms }
+    {
+        let Reading::Whole(request) = read_request(octets) else {
+            return false;
+        };
+        let Some(found) = self.routes.find(request.target) else {
+            return false;
+        };
+        match action_of(found.route, request.method) {
+            Some(Action::Install) => {
+                foresee_install(alloc, desk, request.ids, found.name, request.body)
+            }
+            _ => false,
         }
     }
 }

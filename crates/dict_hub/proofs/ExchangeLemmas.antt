@@ -10,7 +10,7 @@ use Rattle.dict_session.specs.declared.step.Course.TheVariants as courses
 use Rattle.dict_session.specs.declared.step.Step.TheVariants as steps
 use Rattle.dict_hub.specs.Asking.{Awaits, Answers, IsAwaitedIn}
 use Rattle.dict_hub.specs.Holding.{Holding, left_by, unanswered}
-use Rattle.dict_hub.specs.Lines.{Holds, IsLeft}
+use Rattle.dict_hub.specs.Lines.{Holds, IsEditor, IsLeft}
 use Rattle.dict_hub.specs.declared.incoming.Incoming.{Incoming}
 use Rattle.dict_hub.specs.declared.exchange.Exchange.TheVariants.{Editor}
 use Rattle.dict_hub.specs.Given.{Replies, Stays, Gets}
@@ -60,3 +60,11 @@ pub held_from : (old new : Incoming) (result : Result Out HubFault) → OnErr re
     → OnErr result ((host : List ℕ) (id : ℕ) (held : Holding) → Holds host id (Editor old) held → Holds host id (Editor new) held)
 held_from old new (Ok out) same awaited = tt
 held_from old new (Err fault) same awaited = λ host id held h. record { kind = h.kind; octets_held = same ∙ h.octets_held; awaited = awaited h.awaited }
+
+-- an editor's connection of which the same is held
+pub editor_same : (old new : Incoming) (held : Holding) → new.octets.items ≡ old.octets.items → new.awaited ≡ old.awaited → IsEditor old held → IsEditor new held
+editor_same old new held same awaited h = record {
+  kind = h.kind;
+  octets_held = same ∙ h.octets_held;
+  awaited = subst (λ (o : List ℕ). IsAwaitedIn o new.awaited) (sym same) (subst (λ (n : ℕ). IsAwaitedIn old.octets.items n) (sym awaited) h.awaited);
+}

@@ -1,5 +1,5 @@
 -- What stands beside an id once connections are opened, closed or changed.
-use Rattle.std.proofs.Common.{◌≡◌, ◌≢◌, ◌==◌, ◌+◌, ◌-◌, ◌<◌, ◌++◌, [], ◌∷◌, ℕ, true, List, All, length, get_or, refl, sym, ap, ◌∙◌, subst, inl, inr, arith}
+use Rattle.std.proofs.Common.{◌≡◌, ◌≢◌, ◌==◌, ◌+◌, ◌-◌, ◌<◌, ◌++◌, [], ◌∷◌, ℕ, Bool, true, false, List, All, length, get_or, refl, sym, ap, ◌∙◌, subst, inl, inr, arith}
 use Rattle.std.specs.Prelude.{Option, Some, None, Result, Ok, Err, IsErrAnd, IfErr, OnErr, not, slice_set}
 use Rattle.std.specs.List.{AllPairs, remove, position_or_len}
 use Rattle.std.proofs.Math.Seq.{get_or-append_seam}
@@ -9,7 +9,10 @@ use Rattle.std.proofs.lemmas.List.{get_or_append_left, get_or-set_same, get_or-s
 use Rattle.std.proofs.lemmas.List.Sums.{prefix_len_passes}
 use Rattle.std.proofs.lemmas.List.Edits.{get_or-remove_below, get_or-remove_above, length-remove}
 use Rattle.std.proofs.lemmas.List.Quantifiers.{position-Some}
+use Rattle.dict_index.specs.Edition.{Edition}
+use Rattle.dict_catalogue.specs.Commands.{Command}
 use Rattle.dict_hub.specs.Books.{place_of, opening, is_given}
+use Rattle.dict_hub.specs.Foreseen.{IsForeseen, AreForeseen}
 use Rattle.dict_hub.specs.Holding.{Holding}
 use Rattle.dict_hub.specs.Lines.{Holds}
 use Rattle.dict_hub.specs.Hubs.{HoldsAt, IsAbsent, StandsAt}
@@ -174,3 +177,25 @@ pub set_same : (host ids : List ℕ) (lines : List Exchange) (p id : ℕ) (was l
 set_same host ids lines p id was line rising even in_p at_p is same None absent = absent
 set_same host ids lines p id was line rising even in_p at_p is same (Some held) at =
     set_own host ids lines p id line even in_p at_p held (same held (subst (λ one. Holds host id one held) (sym is) (holds_there host ids lines id held p rising in_p at_p at was)))
+
+-- one is changed, and holds what it held: each of them does
+pub set_each : (host ids : List ℕ) (lines : List Exchange) (p id : ℕ) (was line : Exchange) → AllPairs (λ a b. a < b) ids → length lines ≡ length ids → p < length ids → get_or ids p 0 ≡ id
+    → was ≡ get_or lines p was → ((held : Holding) → Holds host id was held → Holds host id line held)
+    → (other : ℕ) (held : Option Holding) → StandsAt host ids lines other held → StandsAt host ids (slice_set lines p line) other held
+set_each host ids lines p id was line rising even in_p at_p is same other held at = by (other == id) refl
+  where
+    by : (b : Bool) → (other == id) ≡ b → StandsAt host ids (slice_set lines p line) other held
+    by true e =
+        let own : other ≡ id = eqb-true other id e in
+        subst (λ k. StandsAt host ids (slice_set lines p line) k held) (sym own)
+        (set_same host ids lines p id was line rising even in_p at_p is same held (subst (λ k. StandsAt host ids lines k held) own at))
+    by false e = set_others host ids lines p id line at_p other held (λ own. let so = eq-eqb other id own in cc (so, e)) at
+
+-- what is foreseen of the one at a place is foreseen of its id
+pub foreseen_there : {K : Type 0} (expects : K → Command Edition → K → Type 0) (Asks : List ℕ → Command Edition → Type 0) (host ids : List ℕ) (lines : List Exchange) (p id : ℕ) (was : Exchange) (piece : List ℕ) (desk : K)
+    → AllPairs (λ a b. a < b) ids → p < length ids → get_or ids p 0 ≡ id → was ≡ get_or lines p was
+    → ((held : Holding) → Holds host id was held → IsForeseen expects Asks held piece desk)
+    → (held : Option Holding) → StandsAt host ids lines id held → AreForeseen expects Asks held piece desk
+foreseen_there expects Asks host ids lines p id was piece desk rising in_p at_p is there None absent = absent p in_p at_p
+foreseen_there expects Asks host ids lines p id was piece desk rising in_p at_p is there (Some held) at =
+    there held (subst (λ one. Holds host id one held) (sym is) (holds_there host ids lines id held p rising in_p at_p at was))

@@ -2,6 +2,7 @@ pub mod Books
 pub mod Asking
 pub mod Holding
 pub mod Given
+pub mod Foreseen
 pub mod Lines
 pub mod Hubs
 pub mod Events

@@ -7,7 +7,7 @@ use crate::fault::HubFault;
 use std::alloc::{AllocError, Global};
 
 /// The most connections that are open at once.
-const MAX_OPEN: usize = 64;
+pub const MAX_OPEN: usize = 64;
 
 /// The ids of the open connections in rising order, and the greatest id that was given. Its room is taken when it is
 /// made, and never grows.

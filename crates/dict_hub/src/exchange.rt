@@ -1,8 +1,10 @@
 // What the hub keeps of one connection.
-ghost use Rattle.std.specs.Prelude.{◌≡◌, ◌++◌, ℕ, List, Ok, IfOk, IfErr, OnErr};
+ghost use Rattle.std.specs.Prelude.{◌≡◌, ◌++◌, ℕ, true, List, Option, Ok, IfOk, IfErr, OnErr};
 ghost use Rattle.dict_catalogue.specs.Steps.{Catalogue};
 ghost use Rattle.dict_session.specs.Desks.{condition};
 ghost use Rattle.dict_hub.specs.Holding.{Holding, just_opened, left_by};
+ghost use Rattle.dict_http.specs.Foreseeing.{AsksAnewForInstall, AsksForInstall};
+ghost use Rattle.dict_hub.specs.Foreseen.{IsForeseen};
 ghost use Rattle.dict_hub.specs.Given.{Greets, Gets};
 ghost use Rattle.dict_hub.specs.declared.kind.Kind.TheVariants.{Http};
 ghost use Rattle.dict_hub.specs.declared.incoming.Out.TheVariants as outs;
@@ -14,6 +16,7 @@ use crate::kind::Kind;
 use dict_desk::Keeper;
 use dict_http::Service;
 use dict_io::Sink;
+use dict_preparing::Preparer;
 use dict_session::{Session, Step};
 use std::alloc::{AllocError, Global};
 
@@ -88,6 +91,28 @@ impl<'h> Exchange<'h> {
         match self {
             Exchange::Reader(session) => Ok(out_of(session.feed(alloc, piece, desk, sink))),
             Exchange::Editor(incoming) => incoming.take(service, alloc, piece, desk, sink),
+        }
+    }
+
+    /// Whether this piece makes an editor's request whole that installs an edition, and the desk was told of it. Nothing of
+    /// what is held changes.
+    pub fn foresee<K: Preparer>(
+        &mut self,
+        service: &Service,
+        alloc: Global,
+        piece: &[u8],
+        desk: &mut K,
+    ) -> bool
+        ensures holds { (host : List ℕ) (id : ℕ) (held : Holding) → Holds host id self.old held → Holds host id self.new held }
+        ensures foreseen { result ≡ true → (host : List ℕ) (id : ℕ) (held : Holding) → Holds host id self.old held → IsForeseen K.expects AsksForInstall held piece.now desk.new }
+        ensures anew { result ≡ true → K.is_trusted desk.new → (M : Catalogue) → K.shows desk.old M → (host : List ℕ) (id : ℕ) (held : Holding) → Holds host id self.old held → IsForeseen K.expects (AsksAnewForInstall M) held piece.now desk.new }
+        ensures trust { K.is_trusted desk.new → K.is_trusted desk.old }
+        ensures shows { K.is_trusted desk.new → (M : Catalogue) → K.shows desk.old M → K.shows desk.new M }
+        ensures leaves { (ms : List (Option Catalogue)) → K.leaves_one_of desk.old ms → K.leaves_one_of desk.new ms }
+    {
+        match self {
+            Exchange::Reader(_) => false,
+            Exchange::Editor(incoming) => incoming.foresee(service, alloc, piece, desk),
         }
     }
 }

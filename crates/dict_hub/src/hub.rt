@@ -4,6 +4,8 @@ ghost use Rattle.dict_catalogue.specs.Steps.{Catalogue};
 ghost use Rattle.dict_session.specs.Desks.{condition};
 ghost use Rattle.dict_hub.specs.Books.{IsRefusal, opening, place_of};
 ghost use Rattle.dict_hub.specs.Holding.{Holding, left_by};
+ghost use Rattle.dict_http.specs.Foreseeing.{AsksAnewForInstall, AsksForInstall};
+ghost use Rattle.dict_hub.specs.Foreseen.{AreForeseen};
 ghost use Rattle.dict_hub.specs.Given.{Greets, Gets};
 ghost use Rattle.dict_hub.specs.declared.kind.Kind.{Kind};
 ghost use Rattle.dict_hub.specs.declared.kind.Kind.TheVariants.{Http};
@@ -19,6 +21,7 @@ use crate::kind::Kind;
 use dict_desk::Keeper;
 use dict_http::Service;
 use dict_io::Sink;
+use dict_preparing::Preparer;
 use std::alloc::{AllocError, Global};
 
 /// Something that happened on a connection.
@@ -102,6 +105,29 @@ impl<'h> Hub<'h> {
             Event::Bytes(id, piece) => self.bytes(id, piece, desk, sink),
             Event::Ended(id) => self.ended(id),
         }
+    }
+
+    /// Whether these octets, the next that come on a connection, make a request whole that installs an edition, and the desk
+    /// was told of it and took note, so that it may prepare it before the event.
+    ///
+    /// It is no event: nothing of the hub changes, nor what the desk shows, and nothing is put. Whatever is answered here,
+    /// the event of these octets gives what it would have given. Of a request with fewer than 65,536 octets the desk is told
+    /// nothing.
+    pub fn foresee<K: Preparer>(&mut self, desk: &mut K, id: u64, piece: &[u8]) -> bool
+        ensures foreseen { result ≡ true → (held : Option Holding) → Has self.old id held → AreForeseen K.expects AsksForInstall held piece.now desk.new }
+        ensures anew { result ≡ true → K.is_trusted desk.new → (M : Catalogue) → K.shows desk.old M → (held : Option Holding) → Has self.old id held → AreForeseen K.expects (AsksAnewForInstall M) held piece.now desk.new }
+        ensures kept { (other : ℕ) (held : Option Holding) → Has self.old other held → Has self.new other held }
+        ensures state { (state : State) → IsAt self.old state → IsAt self.new state }
+        ensures given { greatest_of self.new ≡ greatest_of self.old }
+        ensures host { host_of self.new ≡ host_of self.old }
+        ensures trust { K.is_trusted desk.new → K.is_trusted desk.old }
+        ensures shows { K.is_trusted desk.new → (M : Catalogue) → K.shows desk.old M → K.shows desk.new M }
+        ensures leaves { (ms : List (Option Catalogue)) → K.leaves_one_of desk.old ms → K.leaves_one_of desk.new ms }
+    {
+        let Some(place) = self.book.place_of(id) else {
+            return false;
+        };
+        self.lines[place].foresee(&self.service, self.alloc, piece, desk)
     }
 
     // Opens a connection, and greets a reader.

@@ -9,6 +9,7 @@ mod incoming;
 mod kind;
 mod laws;
 
+pub use connection_table::MAX_OPEN;
 pub use fault::HubFault;
 pub use hub::{Event, Hub};
 pub use incoming::Out;

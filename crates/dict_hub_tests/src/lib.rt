@@ -11,6 +11,10 @@ mod failing;
 #[cfg(test)]
 mod files;
 #[cfg(test)]
+mod foreseen;
+#[cfg(test)]
 mod hub;
+#[cfg(test)]
+mod noting;
 #[cfg(test)]
 mod together;

@@ -2,7 +2,6 @@ use Rattle.std.proofs.Common.{◌≡◌, ◌<◌, ◌++◌, ℕ, List, length, r
 use Rattle.std.proofs.lemmas.Grind.{common_steps}
 use Rattle.dict_head.specs.Heads.{Needs}
 use Rattle.dict_head.specs.Requests.{IsAwaited, IsReading}
-use Rattle.dict_head.specs.declared.kinds.Need.{Need}
 use Rattle.dict_head.specs.declared.kinds.Need.TheVariants as needs
 use Rattle.dict_head.specs.declared.kinds.Reading.{Reading}
 use Rattle.dict_head.specs.declared.kinds.Reading.TheVariants as readings
