@@ -5,6 +5,8 @@ pub mod OrderLemmas
 pub mod TellLemmas
 pub mod PieceLemmas
 pub mod TurnLemmas
+pub mod HoldLemmas
+pub mod BackLemmas
 pub mod ListLemmas
 pub mod RoundLemmas
 pub mod SettleLemmas

@@ -9,14 +9,14 @@ use Rattle.dict_hub.specs.declared.kind.Kind.{Kind}
 use Rattle.dict_hub.specs.declared.kind.Kind.TheVariants.{Dict, Http}
 use Rattle.dict_outlet.specs.Calls.{Call}
 use Rattle.dict_outlet.specs.declared.transport.Transport as transport
-use Rattle.dict_driver.specs.Accepting.{Accepts, HasAccepted}
+use Rattle.dict_driver.specs.Accepting.{Accepts, AcceptsUnless, HasAccepted, HasLetIn}
 use Rattle.dict_driver.specs.Asking.{Asking, Asks, looks}
 use Rattle.dict_driver.specs.EventLoops.{HasRound}
 use Rattle.dict_driver.specs.Listening.{is_ready, listening_told}
 use Rattle.dict_driver.specs.Looking.{Looks, tells}
 use Rattle.dict_driver.specs.Ordering.{IsOpeningOf}
 use Rattle.dict_driver.specs.Rounds.{TurnEach}
-use Rattle.dict_driver.specs.Turning.{KeepsAllBut}
+use Rattle.dict_driver.specs.Turning.{KeepsAllBut, any_held_back}
 use Rattle.dict_driver.specs.declared.event_loop.EventLoop.{EventLoop}
 use Rattle.dict_driver.specs.declared.listening.Listening.{Listening}
 use Rattle.dict_driver.proofs.AcceptLemmas.{asks_joined}
@@ -30,7 +30,7 @@ module _ {T S : Type 0} {G : transport.Ghosts T} (refuses : Hub → ℕ → Kind
     pub dict : IsOpeningOf Dict readers
     pub http : IsOpeningOf Http editors
     pub by_dict : HasAccepted refuses asked Dict looked with_reader readers
-    pub by_http : HasAccepted refuses asked Http with_reader with_editor editors
+    pub by_http : HasLetIn refuses asked with_reader with_editor editors
 
   -- what a look, two listening sockets and the turns come to
   pub round_made : (taken coming : T → Option (List ℕ)) (made : T → Option (List Call)) (told : List ℕ) (result : Result (Unit {0}) Error) (a b c d e : EventLoop T S G) (moved turned : Bool) (es fs : List Accepted)
@@ -57,8 +57,8 @@ module _ {T S : Type 0} {G : transport.Ghosts T} (refuses : Hub → ℕ → Kind
         by_http = calls_http;
         editors = taken_two.editors;
         hub_with_editor = d.hub;
-        http = subst (λ (l : Listening). Accepts refuses Http l e.http_listening c.hub d.hub c.connections d.connections calls_http taken_two.editors) (other ∙ looked.http)
-            (subst (λ (l : Listening). Accepts refuses Http c.http_listening l c.hub d.hub c.connections d.connections calls_http taken_two.editors) (sym http) taken_two.by_http.2);
+        http = subst (λ (l : Listening). AcceptsUnless refuses (any_held_back c.connections.opened.items) l e.http_listening c.hub d.hub c.connections d.connections calls_http taken_two.editors) (other ∙ looked.http)
+            (subst (λ (l : Listening). AcceptsUnless refuses (any_held_back c.connections.opened.items) c.http_listening l c.hub d.hub c.connections d.connections calls_http taken_two.editors) (sym http) taken_two.by_http.2);
         turned = turned;
         turns = fs;
         turn = turn;

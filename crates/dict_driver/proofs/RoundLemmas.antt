@@ -1,10 +1,10 @@
 -- What a round does with the octets that wait.
-use Rattle.std.proofs.Common.{◌≡◌, ◌≢◌, ◌<◌, ◌≤◌, ◌+◌, ℕ, Bool, true, false, ◌-◌, All, List, [], ◌∷◌, ◌++◌, length, length-set, length-append, get_or, set, ◌||◌, refl, sym, ap, ◌∙◌, subst, inl, inr, arith, append_assoc, append-nil}
+use Rattle.std.proofs.Common.{◌≡◌, ◌≢◌, ◌<◌, ◌≤◌, ◌+◌, ℕ, Bool, true, false, ◌-◌, All, List, [], ◌∷◌, ◌++◌, length, length-set, length-append, get_or, set, take, ◌||◌, refl, sym, ap, ◌∙◌, subst, inl, inr, arith, append_assoc, append-nil}
 use Rattle.std.specs.Prelude.{Option, Some}
 use Rattle.std.specs.List.{AllPairs, filter}
 use Rattle.std.proofs.lemmas.Bool.{ne_eqb}
 use Rattle.std.proofs.lemmas.Bool.Decides.{eqb_tells}
-use Rattle.std.proofs.lemmas.List.{get_or-set_other}
+use Rattle.std.proofs.lemmas.List.{get_or-set_other, take-set-le, take_more_set}
 use Rattle.std.proofs.lemmas.Grind.{get_or-set_at}
 use Rattle.dict_hub.specs.Events.{id_of}
 use Rattle.dict_hub.specs.Holding.{Holding}
@@ -17,10 +17,10 @@ use Rattle.dict_driver.specs.Events.{AreOf}
 use Rattle.dict_outlet.specs.Calls.{Call}
 use Rattle.dict_driver.specs.Ordering.{AreOfTurns, ComeById, IsOpeningOf}
 use Rattle.dict_hub.specs.declared.kind.Kind.{Kind}
-use Rattle.dict_driver.specs.Handing.{held_in, is_handed}
+use Rattle.dict_driver.specs.Handing.{held_in, is_handed, is_held_back}
 use Rattle.dict_driver.specs.Telling.{KeepsOthers}
-use Rattle.dict_driver.specs.Turns.{Departs, IsOpened, LeadsByAnswer, LeadsByReading, LeadsByTurn, LeadsFurther, Turns}
-use Rattle.dict_driver.specs.Turning.{DepartAll, KeepsAllBut, MarkAll, TurnAll, any}
+use Rattle.dict_driver.specs.Turns.{Departs, IsOpened, LeadsByAnswer, LeadsByPiece, LeadsByReading, LeadsByTurn, LeadsFurther, Turns, is_deferred}
+use Rattle.dict_driver.specs.Turning.{DepartAll, KeepsAllBut, MarkAll, TurnAll, any, any_held_back, is_preparing}
 use Rattle.dict_outlet.specs.declared.calls.Received.{Received}
 use Rattle.dict_outlet.specs.declared.calls.Received.TheVariants as receiveds
 use Rattle.dict_outlet.specs.declared.calls.Sent.{Sent}
@@ -30,7 +30,7 @@ use Rattle.dict_driver.specs.declared.connection.Connection.{Connection}
 use Rattle.dict_driver.specs.declared.connections.Connections.{Connections}
 use Rattle.dict_outlet.specs.declared.transport.Transport.{Ghosts}
 use Rattle.dict_driver.proofs.EventLemmas.{put_joined, events_joined, own_all, own_none}
-use Rattle.dict_driver.proofs.BoolLemmas.{any_more, front_move, last_move}
+use Rattle.dict_driver.proofs.BoolLemmas.{any_more, front_move, last_move, or_assoc, or_false}
 use Rattle.dict_driver.proofs.OrderLemmas.{AreBelow, below_joined, turns_of_joined, by_id_joined}
 use Rattle.dict_driver.proofs.ListLemmas.{default_free, among_at, place_among, among_append, among_drop, among_filter, HaveSameIds, all_among, marked_among}
 
@@ -46,7 +46,7 @@ flows_joined before es between fs after first then = record {
       ∙ ap (λ (l : List ℕ). l ++ then.put) first.order ∙ append_assoc before first.put then.put;
 }
 
-pub flows_turn : {T : Type 0} {hub : Hub} {moved : Bool} (taken coming : T → Option (List ℕ)) (made : T → Option (List Call)) (a b : Connection T) (events : List Accepted) → Turns taken coming made hub a b moved events
+pub flows_turn : {T : Type 0} {hub : Hub} {preparing moved : Bool} (taken coming : T → Option (List ℕ)) (made : T → Option (List Call)) (a b : Connection T) (events : List Accepted) → Turns taken coming made preparing hub a b moved events
     → Flows (waiting a.queue) events (waiting b.queue)
 flows_turn taken coming made a b events turns = record { sent = turns.sent; put = turns.put; are_put = turns.are_put; order = turns.order }
 
@@ -81,28 +81,34 @@ answer_kept : {T : Type 0} (from to : Hub) (octets : List ℕ) (old new : Connec
 answer_kept from to octets old new events keeps (inl told) = inl told
 answer_kept from to octets old new events keeps (inr (may, ends, over)) = inr ((λ held has. may held (keeps (Some held) has)), ends, over)
 
+piece_kept : {T : Type 0} (from to : Hub) (octets : List ℕ) (most : ℕ) (old new : Connection T) (events : List Accepted) → ((held : Option Holding) → Has to old.id held → Has from old.id held)
+    → LeadsByPiece from octets most old new events → LeadsByPiece to octets most old new events
+piece_kept from to octets most old new events keeps (inl answer) = inl (answer_kept from to octets old new events keeps answer)
+piece_kept from to octets most old new events keeps (inr back) = inr back
+
 reading_kept : {T : Type 0} (from to : Hub) (reading : Received) (octets : List ℕ) (old new : Connection T) (events : List Accepted) → ((held : Option Holding) → Has to old.id held → Has from old.id held)
     → LeadsByReading from reading octets old new events → LeadsByReading to reading octets old new events
 reading_kept from to receiveds.Nothing octets old new events keeps leads = leads
 reading_kept from to receiveds.Interrupted octets old new events keeps leads = leads
-reading_kept from to (receiveds.Octets count) octets old new events keeps (leads, same) = (answer_kept from to octets old new events keeps leads, same)
+reading_kept from to (receiveds.Octets count) octets old new events keeps (leads, same) = (piece_kept from to octets 1_000_000 old new events keeps leads, same)
 reading_kept from to receiveds.End octets old new events keeps leads = leads
 reading_kept from to receiveds.Failed octets old new events keeps leads = leads
 
-further_kept : {T : Type 0} (whole : Bool) (from to : Hub) (reading : Received) (octets : List ℕ) (old new : Connection T) (events : List Accepted) → ((held : Option Holding) → Has to old.id held → Has from old.id held)
-    → LeadsFurther whole from reading octets old new events → LeadsFurther whole to reading octets old new events
-further_kept true from to reading octets old new events keeps leads = reading_kept from to reading octets old new events keeps leads
-further_kept false from to reading octets old new events keeps (leads, none, same) = (answer_kept from to (held_in old.held) old new events keeps leads, none, same)
+further_kept : {T : Type 0} (whole deferred : Bool) (from to : Hub) (reading : Received) (octets : List ℕ) (old new : Connection T) (events : List Accepted) → ((held : Option Holding) → Has to old.id held → Has from old.id held)
+    → LeadsFurther whole deferred from reading octets old new events → LeadsFurther whole deferred to reading octets old new events
+further_kept true true from to reading octets old new events keeps leads = leads
+further_kept true false from to reading octets old new events keeps leads = reading_kept from to reading octets old new events keeps leads
+further_kept false deferred from to reading octets old new events keeps (leads, none, same) = (piece_kept from to (held_in old.held) old.held.turns_left old new events keeps leads, none, same)
 
-leads_kept : {T : Type 0} (from to : Hub) (sending : Sent) (reading : Received) (octets : List ℕ) (old new : Connection T) (events : List Accepted) → ((held : Option Holding) → Has to old.id held → Has from old.id held)
-    → LeadsByTurn from sending reading octets old new events → LeadsByTurn to sending reading octets old new events
-leads_kept from to sents.Failed reading octets old new events keeps leads = leads
-leads_kept from to sents.Nothing reading octets old new events keeps leads = further_kept (is_handed old.held) from to reading octets old new events keeps leads
-leads_kept from to sents.Some reading octets old new events keeps leads = further_kept (is_handed old.held) from to reading octets old new events keeps leads
+leads_kept : {T : Type 0} (preparing : Bool) (from to : Hub) (sending : Sent) (reading : Received) (octets : List ℕ) (old new : Connection T) (events : List Accepted) → ((held : Option Holding) → Has to old.id held → Has from old.id held)
+    → LeadsByTurn preparing from sending reading octets old new events → LeadsByTurn preparing to sending reading octets old new events
+leads_kept preparing from to sents.Failed reading octets old new events keeps leads = leads
+leads_kept preparing from to sents.Nothing reading octets old new events keeps leads = further_kept (is_handed old.held) (is_deferred preparing old) from to reading octets old new events keeps leads
+leads_kept preparing from to sents.Some reading octets old new events keeps leads = further_kept (is_handed old.held) (is_deferred preparing old) from to reading octets old new events keeps leads
 
-turn_kept : {T : Type 0} (taken coming : T → Option (List ℕ)) (made : T → Option (List Call)) (from to : Hub) (old new : Connection T) (moved : Bool) (events : List Accepted) → ((held : Option Holding) → Has to old.id held → Has from old.id held)
-    → Turns taken coming made from old new moved events → Turns taken coming made to old new moved events
-turn_kept taken coming made from to old new moved events keeps turns = record {
+turn_kept : {T : Type 0} (taken coming : T → Option (List ℕ)) (made : T → Option (List Call)) (preparing : Bool) (from to : Hub) (old new : Connection T) (moved : Bool) (events : List Accepted) → ((held : Option Holding) → Has to old.id held → Has from old.id held)
+    → Turns taken coming made preparing from old new moved events → Turns taken coming made preparing to old new moved events
+turn_kept taken coming made preparing from to old new moved events keeps turns = record {
   id = turns.id;
   kind = turns.kind;
   was_open = turns.was_open;
@@ -125,7 +131,7 @@ turn_kept taken coming made from to old new moved events keeps turns = record {
   lazy = turns.lazy;
   idle = turns.idle;
   unmarked = turns.unmarked;
-  leads = leads_kept from to turns.sending turns.reading turns.received old new events keeps turns.leads;
+  leads = leads_kept preparing from to turns.sending turns.reading turns.received old new events keeps turns.leads;
   has_moved = turns.has_moved;
 }
 
@@ -147,23 +153,37 @@ keeps_own : {T : Type 0} (all : List (Connection T)) (i own : ℕ) (a b : Hub) �
 keeps_own all i own a b rising within is keeps held has =
     keeps own held (λ k d under below same. (let lt = rising k i d under within in let e = is d in absurd (omega (arith, lt, e, same)))) has
 
--- the connections before this place had their turns, and the others are as they were
-pub record TurnUpTo {T : Type 0} (taken coming : T → Option (List ℕ)) (made : T → Option (List Call)) (hub : Hub) (old now : List (Connection T)) (i : ℕ) (moved : Bool) (events : List Accepted) : Type 0 where
+-- one more connection, of which octets are held back or not
+held_back_more : {T : Type 0} (all : List (Connection T)) (one : Connection T) → any_held_back (all ++ one ∷ []) ≡ any_held_back all || is_held_back one.held
+held_back_more [] one = or_false (is_held_back one.held)
+held_back_more (first ∷ all) one = ap (λ b. is_held_back first.held || b) (held_back_more all one) ∙ or_assoc (is_held_back first.held) (any_held_back all) (is_held_back one.held)
+
+-- whether octets are held back, one turn on
+preparing_more : {T : Type 0} (old now : List (Connection T)) (i : ℕ) (after : Connection T) (before both : Bool) → i < length now → before ≡ is_preparing old now i → both ≡ before || is_held_back after.held
+    → both ≡ is_preparing old (set now i after) (i + 1)
+preparing_more old now i after before both in_now is more =
+    more ∙ ap (λ b. b || is_held_back after.held) is ∙ sym (or_assoc (any_held_back old) (any_held_back (take i now)) (is_held_back after.held))
+    ∙ ap (λ b. any_held_back old || b) (sym (held_back_more (take i now) after) ∙ ap any_held_back (sym (take_more_set now i after in_now)))
+
+-- the connections before this place had their turns, and the others are as they were; octets are held back or not
+pub record TurnUpTo {T : Type 0} (taken coming : T → Option (List ℕ)) (made : T → Option (List Call)) (hub : Hub) (old now : List (Connection T)) (i : ℕ) (preparing moved : Bool) (events : List Accepted) : Type 0 where
   pub len : length now ≡ length old
   pub moves : List Bool
   pub count : length moves ≡ i
   pub within : i ≤ length old
   pub has_moved : moved ≡ any moves
+  pub prepares : preparing ≡ is_preparing old now i
   pub turns : (k : ℕ) (d : Connection T) → k < i → k < length old
-      → Turns taken coming made hub (get_or old k d) (get_or now k d) (get_or moves k false) (events_of (get_or old k d).id events)
+      → Turns taken coming made (is_preparing old now k) hub (get_or old k d) (get_or now k d) (get_or moves k false) (events_of (get_or old k d).id events)
   pub rest : (k : ℕ) (d : Connection T) → i ≤ k → k < length old → get_or now k d ≡ get_or old k d
   pub below : AreBelowFrom old i events
   pub no_other : (id : ℕ) → ((k : ℕ) (d : Connection T) → k < length old → (get_or old k d).id ≢ id) → events_of id events ≡ []
   pub are_turns : AreOfTurns events
   pub by_id : ComeById events
 
-pub turn_none : {T : Type 0} (taken coming : T → Option (List ℕ)) (made : T → Option (List Call)) (hub : Hub) (all : List (Connection T)) → TurnUpTo taken coming made hub all all 0 false []
-turn_none taken coming made hub all = record {
+pub turn_none : {T : Type 0} (taken coming : T → Option (List ℕ)) (made : T → Option (List Call)) (hub : Hub) (all : List (Connection T)) (preparing : Bool) → preparing ≡ any_held_back all → TurnUpTo taken coming made hub all all 0 preparing false []
+turn_none taken coming made hub all preparing is = record {
+  prepares = is ∙ sym (or_false (any_held_back all));
   len = refl;
   moves = [];
   count = refl;
@@ -178,22 +198,23 @@ turn_none taken coming made hub all = record {
 }
 
 -- one more connection had its turn
-pub turn_more : {T : Type 0} (taken coming : T → Option (List ℕ)) (made : T → Option (List Call)) (hub between : Hub) (old now : List (Connection T)) (i : ℕ) (one after : Connection T) (before here both : Bool) (es fs : List Accepted)
-    → AllPairs (λ a b. a.id < b.id) old → i < length old → get_or now i one ≡ one → both ≡ before || here → KeepsFrom old i hub between → Turns taken coming made between one after here fs
-    → TurnUpTo taken coming made hub old now i before es → TurnUpTo taken coming made hub old (set now i after) (i + 1) both (es ++ fs)
-turn_more {T} taken coming made hub between old now i one after before here both es fs rising within is moved keeps over all =
+pub turn_more : {T : Type 0} (taken coming : T → Option (List ℕ)) (made : T → Option (List Call)) (hub between : Hub) (old now : List (Connection T)) (i : ℕ) (one after : Connection T) (preparing prepares before here both : Bool) (es fs : List Accepted)
+    → AllPairs (λ a b. a.id < b.id) old → i < length old → get_or now i one ≡ one → prepares ≡ preparing || is_held_back after.held → both ≡ before || here → KeepsFrom old i hub between
+    → Turns taken coming made preparing between one after here fs → TurnUpTo taken coming made hub old now i preparing before es → TurnUpTo taken coming made hub old (set now i after) (i + 1) prepares both (es ++ fs)
+turn_more {T} taken coming made hub between old now i one after preparing prepares before here both es fs rising within is holds moved keeps over all =
     let len = all.len in
     let count = all.count in
     let in_now : i < length now = omega arith in
     let was : (d : Connection T) → get_or old i d ≡ one = λ d. sym (all.rest i d (omega arith) within) ∙ default_free now i d one in_now ∙ is in
     let own_id : (d : Connection T) → (get_or old i d).id ≡ one.id = λ d. ap (λ it. it.id) (was d) in
-    let turns : Turns taken coming made hub one after here fs = turn_kept taken coming made between hub one after here fs (keeps_own old i one.id hub between rising within own_id keeps) over in
+    let turns : Turns taken coming made preparing hub one after here fs = turn_kept taken coming made preparing between hub one after here fs (keeps_own old i one.id hub between rising within own_id keeps) over in
     record {
       len = length-set now i after ∙ len;
       moves = all.moves ++ here ∷ [];
       count = length-append all.moves (here ∷ []) ∙ ap (λ n. n + 1) count;
       within = omega (arith, within);
       has_moved = moved ∙ ap (λ b. b || here) all.has_moved ∙ sym (any_more all.moves here);
+      prepares = preparing_more old now i after preparing prepares in_now all.prepares holds;
       turns = λ k d under below. elim (eqb_tells k i) [
         | inl same ↦
             let at : get_or old k d ≡ one = ap (λ (j : ℕ). get_or old j d) same.1 ∙ was d in
@@ -201,14 +222,17 @@ turn_more {T} taken coming made hub between old now i one after before here both
             let events : events_of one.id (es ++ fs) ≡ fs
             = events_joined one.id es fs ∙ ap (λ l. l ++ events_of one.id fs) (below_none one.id es less) ∙ own_all one.id fs turns.own in
             let last : get_or (all.moves ++ here ∷ []) k false ≡ here = last_move all.moves k here (same.1 ∙ sym count) in
-            rw (get_or-set_at now i k after d same.1 in_now, at, events, last) turns
+            let front : take k (set now i after) ≡ take k now = take-set-le k now i after (omega (arith, same.1)) in
+            let were : preparing ≡ is_preparing old now k = all.prepares ∙ ap (λ (j : ℕ). is_preparing old now j) (sym same.1) in
+            rw (front, get_or-set_at now i k after d same.1 in_now, at, events, last) (subst (λ (p : Bool). Turns taken coming made p hub one after here fs) were turns)
         | inr other ↦
             let earlier : k < i = omega (arith, under, other.1) in
-            let front : get_or (all.moves ++ here ∷ []) k false ≡ get_or all.moves k false = front_move all.moves here k (omega (arith, earlier, count)) in
+            let moves : get_or (all.moves ++ here ∷ []) k false ≡ get_or all.moves k false = front_move all.moves here k (omega (arith, earlier, count)) in
+            let front : take k (set now i after) ≡ take k now = take-set-le k now i after (omega (arith, earlier)) in
             let apart : one.id ≢ (get_or old k d).id = λ same. (let lt = rising k i d earlier within in let e = own_id d in absurd (omega (arith, lt, e, same))) in
             let events : events_of (get_or old k d).id (es ++ fs) ≡ events_of (get_or old k d).id es
             = events_joined (get_or old k d).id es fs ∙ ap (λ l. events_of (get_or old k d).id es ++ l) (own_none one.id (get_or old k d).id fs turns.own apart) ∙ append-nil (events_of (get_or old k d).id es) in
-            rw (get_or-set_other now i k after d other.1, events, front) (all.turns k d earlier below)
+            rw (front, get_or-set_other now i k after d other.1, events, moves) (all.turns k d earlier below)
       ];
       rest = λ k d from below. rw (get_or-set_other now i k after d (λ same. absurd (omega (arith, from, same)))) (all.rest k d (omega (arith, from)) below);
       below = below_from_more old i one.id es fs rising within own_id all.below turns.own;
@@ -220,9 +244,9 @@ turn_more {T} taken coming made hub between old now i one after before here both
     }
 
 -- each had its turn
-pub turn_whole : {T : Type 0} (taken coming : T → Option (List ℕ)) (made : T → Option (List Call)) (hub : Hub) (old now : List (Connection T)) (i : ℕ) (moved : Bool) (events : List Accepted) → length old ≤ i
-    → TurnUpTo taken coming made hub old now i moved events → TurnAll taken coming made hub old now moved events
-turn_whole taken coming made hub old now i moved events whole all = record {
+pub turn_whole : {T : Type 0} (taken coming : T → Option (List ℕ)) (made : T → Option (List Call)) (hub : Hub) (old now : List (Connection T)) (i : ℕ) (preparing moved : Bool) (events : List Accepted) → length old ≤ i
+    → TurnUpTo taken coming made hub old now i preparing moved events → TurnAll taken coming made hub old now moved events
+turn_whole taken coming made hub old now i preparing moved events whole all = record {
   len = all.len;
   moves = all.moves;
   count = let in_all = all.within in let count = all.count in omega (arith, whole, in_all, count);

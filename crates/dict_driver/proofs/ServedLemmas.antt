@@ -1,5 +1,5 @@
 -- Rounds, one behind the others.
-use Rattle.std.proofs.Common.{◌≡◌, ◌<◌, ◌+◌, ◌-◌, ℕ, suc, Bool, true, false, List, [], ◌∷◌, ◌++◌, length, refl, sym, ap, ◌∙◌, subst, inl, inr, arith}
+use Rattle.std.proofs.Common.{◌≡◌, ◌-◌, ℕ, Bool, true, false, List, [], ◌∷◌, ◌++◌, refl, sym, ap, ◌∙◌, subst, inl, inr}
 use Rattle.std.specs.Prelude.{Option, None, Some, Result, Ok, Err, is_err, is_ok}
 use Rattle.std.specs.declared.io.Error.{Error}
 use Rattle.dict_catalogue.specs.Steps.{Catalogue}
@@ -12,7 +12,7 @@ use Rattle.dict_driver.specs.Asking.{Asking}
 use Rattle.dict_driver.specs.Served.{AreRounds, IsMade, Round, ended, is_waited}
 use Rattle.dict_driver.specs.declared.event_loop.EventLoop.{EventLoop}
 use Rattle.dict_driver.specs.declared.serving.Served.{Served}
-use Rattle.dict_driver.specs.declared.serving.Served.TheVariants.{Whole, Closed}
+use Rattle.dict_driver.specs.declared.serving.Served.TheVariants.{Whole}
 
 -- the wait behind a round in which something happened, or behind which the desk is closed
 pub waits_not : (moved : Bool) (rounds : ℕ) → is_waited (Ok moved) true rounds ≡ false

@@ -10,7 +10,7 @@ use Rattle.std.specs.declared.io.ErrorKind.TheVariants as kinds
 use Rattle.std.proofs.lemmas.Bool.Decides.{eqb_tells}
 use Rattle.std.proofs.KnownBytes.{Consumes-nil, Keeps-refl}
 use Rattle.std.specs.IoError.{error_kind}
-use Rattle.dict_hub.specs.Events.{Happening, came, ended}
+use Rattle.dict_hub.specs.Events.{Happening, came, ended, is_of_editor}
 use Rattle.dict_hub.specs.Runs.{Accepted}
 use Rattle.dict_hub.specs.declared.incoming.Out.{Out}
 use Rattle.dict_hub.specs.declared.incoming.Out.TheVariants as outs
@@ -26,7 +26,7 @@ use Rattle.dict_hub.specs.declared.kind.Kind.{Kind}
 use Rattle.dict_outlet.specs.Outlets.{Passes, is_sending}
 use Rattle.dict_driver.specs.Telling.{IsAnswered, IsTold, IsToldThrough, MayRefuse}
 use Rattle.dict_hub.specs.declared.hub.Hub.{Hub}
-use Rattle.dict_driver.specs.Turns.{BringAllOrNone, Hands, HandsOver, LeadsByAnswer, LeadsByEnd, LeadsByReading, LeadsByTurn, LeadsFurther, may_read, SendsOnce, ReadsOnce, Turns, Finishes, Drains, LeadsOut, LeadsAway, Departs, stage_between, stage_drained, dropped_after, marked_after}
+use Rattle.dict_driver.specs.Turns.{BringAllOrNone, Hands, HandsOver, LeadsByAnswer, LeadsByEnd, LeadsByPiece, LeadsByReading, LeadsByTurn, LeadsFurther, is_deferred, may_read, SendsOnce, ReadsOnce, Turns, Finishes, Drains, LeadsOut, LeadsAway, Departs, stage_between, stage_drained, dropped_after, marked_after}
 use Rattle.dict_driver.specs.declared.connection.Connection.{Connection}
 use Rattle.dict_outlet.specs.declared.calls.Sent.{Sent}
 use Rattle.dict_outlet.specs.declared.calls.Sent.TheVariants as sents
@@ -47,7 +47,7 @@ kept_appends None b kept = tt
 kept_appends (Some x) None kept = absurd kept
 kept_appends (Some x) (Some y) kept = kept ∙ sym (append-nil x)
 
-kept_consumes : (a b : Option (List ℕ)) → Keeps a b → Consumes a b []
+pub kept_consumes : (a b : Option (List ℕ)) → Keeps a b → Consumes a b []
 kept_consumes None b kept = tt
 kept_consumes (Some x) None kept = absurd kept
 kept_consumes (Some x) (Some y) kept = sym kept
@@ -287,7 +287,7 @@ sends_none taken coming made a clear = record {
 }
 
 -- where an answer leads is told of what was before it
-answer_from : {T : Type 0} (hub : Hub) (a b c : Connection T) (octets : List ℕ) (events : List Accepted) → b.id ≡ a.id → b.stage ≡ a.stage → b.held.kind ≡ a.held.kind
+pub answer_from : {T : Type 0} (hub : Hub) (a b c : Connection T) (octets : List ℕ) (events : List Accepted) → b.id ≡ a.id → b.stage ≡ a.stage → b.held.kind ≡ a.held.kind
     → LeadsByAnswer hub octets b c events → LeadsByAnswer hub octets a c events
 answer_from hub a b c octets events id stage kind (inl (one, is, same, rest, led)) =
     inl (
@@ -300,18 +300,24 @@ answer_from hub a b c octets events id stage kind (inl (one, is, same, rest, led
 answer_from hub a b c octets events id stage kind (inr (refuses, only, over)) =
     inr (subst (λ (i : ℕ). MayRefuse hub i) id refuses, subst (λ (i : ℕ). IsOnly (ended i) events) id only, over)
 
+-- and so is where a piece leads that may be held back
+piece_from : {T : Type 0} (hub : Hub) (a b c : Connection T) (octets : List ℕ) (most : ℕ) (events : List Accepted) → b.id ≡ a.id → b.stage ≡ a.stage → b.held.kind ≡ a.held.kind
+    → LeadsByPiece hub octets most b c events → LeadsByPiece hub octets most a c events
+piece_from hub a b c octets most events id stage kind (inl answer) = inl (answer_from hub a b c octets events id stage kind answer)
+piece_from hub a b c octets most events id stage kind (inr (editor, none, held, same, fewer)) = inr (ap is_of_editor (sym kind) ∙ editor, none, held, same ∙ stage, fewer)
+
 -- and so is where a reading leads
 leads_from : {T : Type 0} (hub : Hub) (a b c : Connection T) (reading : Received) (octets : List ℕ) (events : List Accepted) → b.id ≡ a.id → b.stage ≡ a.stage → b.may_receive ≡ a.may_receive → b.held ≡ a.held
     → LeadsByReading hub reading octets b c events → LeadsByReading hub reading octets a c events
 leads_from hub a b c receiveds.Nothing octets events id stage marks held ((none, same, kept), still) = ((none, same ∙ stage, kept ∙ ap held_in held), still)
 leads_from hub a b c receiveds.Interrupted octets events id stage marks held ((none, same, kept), still) = ((none, same ∙ stage, kept ∙ ap held_in held), still ∙ marks)
 leads_from hub a b c (receiveds.Octets count) octets events id stage marks held (answer, marked) =
-    (answer_from hub a b c octets events id stage (ap (λ (h : Held). h.kind) held) answer, marked ∙ marks)
+    (piece_from hub a b c octets 1_000_000 events id stage (ap (λ (h : Held). h.kind) held) answer, marked ∙ marks)
 leads_from hub a b c receiveds.End octets events id stage marks held leads = (subst (λ (i : ℕ). IsOnly (ended i) events) id leads.0, leads.1)
 leads_from hub a b c receiveds.Failed octets events id stage marks held leads = (subst (λ (i : ℕ). IsOnly (ended i) events) id leads.0, leads.1)
 
 -- octets came, or an end, and the hub was told
-reads_handed : {T : Type 0} {hub : Hub} (taken coming : T → Option (List ℕ)) (made : T → Option (List Call)) (a b c : Connection T) (reading : Received) (octets : List ℕ) (events : List Accepted)
+pub reads_handed : {T : Type 0} {hub : Hub} (taken coming : T → Option (List ℕ)) (made : T → Option (List Call)) (a b c : Connection T) (reading : Received) (octets : List ℕ) (events : List Accepted)
     → b.id ≡ a.id → b.stage ≡ a.stage → b.queue ≡ a.queue → b.held.kind ≡ a.held.kind → a.may_receive ≡ true → Keeps (taken a.transport) (taken b.transport) → Consumes (coming a.transport) (coming b.transport) octets
     → Makes (made a.transport) (made b.transport) (receives 4096 reading ∷ []) → HandsOver taken coming made octets b c events → LeadsByReading hub reading octets a c events → ReadsOnce taken coming made hub a c reading events
 reads_handed {hub = hub} taken coming made a b c reading octets events id stage queue kind marked took comes calls hands leads = record {
@@ -336,24 +342,6 @@ reads_handed {hub = hub} taken coming made a b c reading octets events id stage 
   unmarked = λ isnt. absurd (let never : true ≡ false = sym marked ∙ isnt in cc);
   leads = leads;
 }
-
--- octets came, which are held then, and the hub was told the first piece of them
-pub reads_octets : {T : Type 0} {hub : Hub} (taken coming : T → Option (List ℕ)) (made : T → Option (List Call)) (a b c : Connection T) (held : Held) (count : ℕ) (octets : List ℕ) (events : List Accepted)
-    → b ≡ record a { transport = b.transport } → a.may_receive ≡ true → held.kind ≡ b.held.kind → held_in held ≡ octets → Keeps (taken a.transport) (taken b.transport) → Consumes (coming a.transport) (coming b.transport) octets
-    → Makes (made a.transport) (made b.transport) (receives 4096 (receiveds.Octets count) ∷ [])
-    → HandsOver taken coming made (held_in held) (record b { held = held }) c events × LeadsByAnswer hub (held_in held) (record b { held = held }) c events
-    → ReadsOnce taken coming made hub a c (receiveds.Octets count) events
-reads_octets {hub = hub} taken coming made a b c held count octets events same marked kind is took comes calls (hands, leads) =
-    let id : b.id ≡ a.id = ap (λ it. it.id) same in
-    let stage : b.stage ≡ a.stage = ap (λ it. it.stage) same in
-    let marks : b.may_receive ≡ a.may_receive = ap (λ it. it.may_receive) same in
-    let queue : b.queue ≡ a.queue = ap (λ it. it.queue) same in
-    let kinds : held.kind ≡ a.held.kind = kind ∙ ap (λ it. it.held.kind) same in
-    reads_handed taken coming made a (record b { held = held }) c (receiveds.Octets count) octets events id stage queue kinds marked took comes calls
-    (subst (λ (l : List ℕ). HandsOver taken coming made l (record b { held = held }) c events) is hands) (
-      answer_from hub a (record b { held = held }) c octets events id stage kinds (subst (λ (l : List ℕ). LeadsByAnswer hub l (record b { held = held }) c events) is leads),
-      hands.may_receive ∙ marks,
-    )
 
 -- an end came, or a failure
 pub reads_still : {T : Type 0} {hub : Hub} (taken coming : T → Option (List ℕ)) (made : T → Option (List Call)) (a b c : Connection T) (reading : Received) (events : List Accepted)
@@ -395,13 +383,13 @@ reads_none taken coming made a b reading id stage queue held none took comes cal
   leads = leads;
 }
 
-leads_by_turn : {T : Type 0} (hub : Hub) (a c : Connection T) (sending : Sent) (reading : Received) (octets : List ℕ) (events : List Accepted) → sending ≢ sents.Failed
-    → LeadsFurther (is_handed a.held) hub reading octets a c events → LeadsByTurn hub sending reading octets a c events
-leads_by_turn hub a c sents.Nothing reading octets events well leads = leads
-leads_by_turn hub a c sents.Some reading octets events well leads = leads
-leads_by_turn hub a c sents.Failed reading octets events well leads = absurd (well refl)
+pub leads_by_turn : {T : Type 0} (preparing : Bool) (hub : Hub) (a c : Connection T) (sending : Sent) (reading : Received) (octets : List ℕ) (events : List Accepted) → sending ≢ sents.Failed
+    → LeadsFurther (is_handed a.held) (is_deferred preparing a) hub reading octets a c events → LeadsByTurn preparing hub sending reading octets a c events
+leads_by_turn preparing hub a c sents.Nothing reading octets events well leads = leads
+leads_by_turn preparing hub a c sents.Some reading octets events well leads = leads
+leads_by_turn preparing hub a c sents.Failed reading octets events well leads = absurd (well refl)
 
-calls_of_both : (a b c : Option (List Call)) (clear may : Bool) (sending : Sent) (reading : Received) (within : List Call) → sending ≢ sents.Failed → Makes a b (sendings clear sending) → Makes b c (readings may reading ++ within)
+pub calls_of_both : (a b c : Option (List Call)) (clear may : Bool) (sending : Sent) (reading : Received) (within : List Call) → sending ≢ sents.Failed → Makes a b (sendings clear sending) → Makes b c (readings may reading ++ within)
     → Makes a c (calls_of_turn clear may sending reading ++ within)
 calls_of_both a b c clear may sents.Nothing reading within well first later =
     subst (λ (l : List Call). Makes a c l) (sym (append_assoc (sendings clear sents.Nothing) (readings may reading) within)) (makes_joined a b c (sendings clear sents.Nothing) (readings may reading ++ within) first later)
@@ -409,17 +397,20 @@ calls_of_both a b c clear may sents.Some reading within well first later =
     subst (λ (l : List Call). Makes a c l) (sym (append_assoc (sendings clear sents.Some) (readings may reading) within)) (makes_joined a b c (sendings clear sents.Some) (readings may reading ++ within) first later)
 calls_of_both a b c clear may sents.Failed reading within well first later = absurd (well refl)
 
--- a sending, and then a reading, where nothing was held
-pub turns_read : {T : Type 0} {hub : Hub} (taken coming : T → Option (List ℕ)) (made : T → Option (List Call)) (a b c : Connection T) (sending : Sent) (reading : Received) (events : List Accepted) → sending ≢ sents.Failed
-    → is_handed b.held ≡ true → SendsOnce taken coming made a b sending → ReadsOnce taken coming made hub b c reading events → (moved : Bool) → moved ≡ has_moved sending reading → Turns taken coming made hub a c moved events
-turns_read {hub = hub} taken coming made a b c sending reading events well all first later moved is =
+-- a sending, and then a reading, where nothing was held and it isn't deferred
+pub turns_read : {T : Type 0} {hub : Hub} (taken coming : T → Option (List ℕ)) (made : T → Option (List Call)) (preparing : Bool) (a b c : Connection T) (sending : Sent) (reading : Received) (events : List Accepted) → sending ≢ sents.Failed
+    → is_handed b.held ≡ true → is_deferred preparing b ≡ false → SendsOnce taken coming made a b sending → ReadsOnce taken coming made hub b c reading events → (moved : Bool) → moved ≡ has_moved sending reading
+    → Turns taken coming made preparing hub a c moved events
+turns_read {hub = hub} taken coming made preparing a b c sending reading events well all soon first later moved is =
     let empty : is_handed a.held ≡ true = ap is_handed (sym first.held) ∙ all in
+    let now : is_deferred preparing a ≡ false = ap (λ (h : Held). preparing && is_of_editor h.kind) (sym first.held) ∙ soon in
     let none : held_in a.held ≡ [] = none_held a.held empty in
-    let may : may_read a ≡ a.may_receive = ap (λ (e : Bool). e && a.may_receive) empty in
+    let may : may_read preparing a ≡ a.may_receive
+    = ap (λ (e : Bool). e && (if is_deferred preparing a then false else a.may_receive)) empty ∙ ap (λ (d : Bool). if d then false else a.may_receive) now in
     let kind : b.held.kind ≡ a.held.kind = ap (λ (h : Held). h.kind) first.held in
     let whole : later.received ≡ held_in a.held ++ later.received = ap (λ (l : List ℕ). l ++ later.received) (sym none) in
     record {
-      has_moved = is ∙ ap (λ (e : Bool). has_turned e sending reading) (sym empty);
+      has_moved = is ∙ ap (λ (d : Bool). has_turned true d sending reading) (sym now) ∙ ap (λ (e : Bool). has_turned e (is_deferred preparing a) sending reading) (sym empty);
       id = later.id ∙ first.id;
       kind = later.kind ∙ kind;
       was_open = λ still. ap is_open (sym first.stage) ∙ later.was_open still;
@@ -445,20 +436,22 @@ turns_read {hub = hub} taken coming made a b c sending reading events well all f
       lazy = λ few. (later.lazy (omega (arith, few, ap length first.order, length-append first.sent (waiting b.queue)))).1;
       idle = first.idle;
       unmarked = λ isnt. later.unmarked (first.may_receive ∙ sym may ∙ isnt);
-      leads = leads_by_turn hub a c sending reading later.received events well (subst (λ (e : Bool). LeadsFurther e hub reading later.received a c events) (sym empty)
-          (leads_from hub a b c reading later.received events first.id first.stage first.may_receive first.held later.leads));
+      leads = leads_by_turn preparing hub a c sending reading later.received events well (subst (λ (e : Bool). LeadsFurther e (is_deferred preparing a) hub reading later.received a c events) (sym empty)
+          (subst (λ (d : Bool). LeadsFurther true d hub reading later.received a c events) (sym now)
+          (leads_from hub a b c reading later.received events first.id first.stage first.may_receive first.held later.leads)));
     }
 
 -- a sending, and then the next piece of what was held
-pub turns_handed : {T : Type 0} {hub : Hub} (taken coming : T → Option (List ℕ)) (made : T → Option (List Call)) (a b c : Connection T) (sending : Sent) (events : List Accepted) → sending ≢ sents.Failed
-    → is_handed b.held ≡ false → SendsOnce taken coming made a b sending → HandsOver taken coming made (held_in b.held) b c events × LeadsByAnswer hub (held_in b.held) b c events → Turns taken coming made hub a c true events
-turns_handed {hub = hub} taken coming made a b c sending events well some first (hands, leads) =
+pub turns_handed : {T : Type 0} {hub : Hub} (taken coming : T → Option (List ℕ)) (made : T → Option (List Call)) (preparing : Bool) (a b c : Connection T) (sending : Sent) (events : List Accepted) → sending ≢ sents.Failed
+    → is_handed b.held ≡ false → SendsOnce taken coming made a b sending → HandsOver taken coming made (held_in b.held) b c events × LeadsByPiece hub (held_in b.held) b.held.turns_left b c events
+    → Turns taken coming made preparing hub a c true events
+turns_handed {hub = hub} taken coming made preparing a b c sending events well some first (hands, leads) =
     let left : is_handed a.held ≡ false = ap is_handed (sym first.held) ∙ some in
-    let may : may_read a ≡ false = ap (λ (e : Bool). e && a.may_receive) left in
+    let may : may_read preparing a ≡ false = ap (λ (e : Bool). e && (if is_deferred preparing a then false else a.may_receive)) left in
     let kind : b.held.kind ≡ a.held.kind = ap (λ (h : Held). h.kind) first.held in
     let whole : held_in b.held ≡ held_in a.held ++ [] = ap held_in first.held ∙ sym (append-nil (held_in a.held)) in
     record {
-      has_moved = ap (λ (e : Bool). has_turned e sending receiveds.Nothing) (sym left);
+      has_moved = ap (λ (e : Bool). has_turned e (is_deferred preparing a) sending receiveds.Nothing) (sym left);
       id = hands.id ∙ first.id;
       kind = hands.kind ∙ kind;
       was_open = λ still. ap is_open (sym first.stage) ∙ hands.was_open still;
@@ -483,22 +476,23 @@ turns_handed {hub = hub} taken coming made a b c sending events well some first 
       lazy = λ few. (hands.passes.lazy (omega (arith, few, ap length first.order, length-append first.sent (waiting b.queue)))).1;
       idle = first.idle;
       unmarked = λ isnt. refl;
-      leads = leads_by_turn hub a c sending receiveds.Nothing [] events well (subst (λ (e : Bool). LeadsFurther e hub receiveds.Nothing [] a c events) (sym left) (
-        answer_from hub a b c (held_in a.held) events first.id first.stage kind (subst (λ (l : List ℕ). LeadsByAnswer hub l b c events) (ap held_in first.held) leads),
+      leads = leads_by_turn preparing hub a c sending receiveds.Nothing [] events well (subst (λ (e : Bool). LeadsFurther e (is_deferred preparing a) hub receiveds.Nothing [] a c events) (sym left) (
+        piece_from hub a b c (held_in a.held) a.held.turns_left events first.id first.stage kind (subst (λ (h : Held). LeadsByPiece hub (held_in h) h.turns_left b c events) first.held leads),
         refl,
         hands.may_receive ∙ first.may_receive,
       ));
     }
 
-turned_failed : (e : Bool) → true ≡ has_turned e sents.Failed receiveds.Nothing
-turned_failed true = refl
-turned_failed false = refl
+turned_failed : (e d : Bool) → true ≡ has_turned e d sents.Failed receiveds.Nothing
+turned_failed true true = refl
+turned_failed true false = refl
+turned_failed false d = refl
 
 -- a sending that failed, and then the hub was told the end
-pub turns_failed : {T : Type 0} {hub : Hub} (taken coming : T → Option (List ℕ)) (made : T → Option (List Call)) (a b c : Connection T) (sending : Sent) (events : List Accepted) → sending ≡ sents.Failed
-    → SendsOnce taken coming made a b sending → c.stage ≡ stages.Over → Hands [] b c events × IsOnly (ended b.id) events → Turns taken coming made hub a c true events
-turns_failed taken coming made a b c sending events failed first over (hands, only) = record {
-  has_moved = turned_failed (is_handed a.held);
+pub turns_failed : {T : Type 0} {hub : Hub} (taken coming : T → Option (List ℕ)) (made : T → Option (List Call)) (preparing : Bool) (a b c : Connection T) (sending : Sent) (events : List Accepted) → sending ≡ sents.Failed
+    → SendsOnce taken coming made a b sending → c.stage ≡ stages.Over → Hands [] b c events × IsOnly (ended b.id) events → Turns taken coming made preparing hub a c true events
+turns_failed taken coming made preparing a b c sending events failed first over (hands, only) = record {
+  has_moved = turned_failed (is_handed a.held) (is_deferred preparing a);
   id = hands.id ∙ first.id;
   kind = ap (λ (h : Held). h.kind) (hands.held ∙ first.held);
   was_open = λ still. ap is_open (sym first.stage) ∙ hands.was_open still;

@@ -5,24 +5,25 @@ use Rattle.dict_hub.specs.Runs.{Accepted}
 use Rattle.dict_hub.specs.declared.fault.HubFault.{HubFault}
 use Rattle.dict_hub.specs.declared.hub.Hub.{Hub}
 use Rattle.dict_hub.specs.declared.kind.Kind.{Kind}
-use Rattle.dict_hub.specs.declared.kind.Kind.TheVariants.{Dict, Http}
+use Rattle.dict_hub.specs.declared.kind.Kind.TheVariants.{Dict}
 use Rattle.dict_outlet.specs.Calls.{Call}
 use Rattle.dict_outlet.specs.declared.transport.Transport as transport
-use Rattle.dict_driver.specs.Accepting.{Accepts}
+use Rattle.dict_driver.specs.Accepting.{Accepts, AcceptsUnless}
 use Rattle.dict_driver.specs.Asking.{Asking, Asks, looks}
 use Rattle.dict_driver.specs.Listening.{is_ready, listening_told}
 use Rattle.dict_driver.specs.Looking.{Looks, tells}
 use Rattle.dict_driver.specs.Rounds.{TurnEach}
-use Rattle.dict_driver.specs.Turning.{KeepsAllBut, MarkAll}
+use Rattle.dict_driver.specs.Turning.{KeepsAllBut, MarkAll, any_held_back}
 use Rattle.dict_driver.specs.declared.connections.Connections.{Connections}
 use Rattle.dict_driver.specs.declared.event_loop.EventLoop.{EventLoop}
 
 module _ {T S : Type 0} {G : transport.Ghosts T} (taken coming : T → Option (List ℕ)) (made : T → Option (List Call))
     (refuses : Hub → ℕ → Kind → Option HubFault → Type 0) (asked : S → Option (List (Asking T))) where
   -- The sockets are looked at without a wait, and those connections are marked of which the look told. Then the socket for readers is asked,
-  -- where a connection may wait there, and then that for editors; and then each connection has its turn, over what the hub has of it by
-  -- then, which has of each that isn't open what it had. The events are those of these, in this order, and nothing else was asked of the
-  -- sockets. Something happened where a connection was taken, a call is to be made again, or something happened in a turn
+  -- where a connection may wait there, and then that for editors, unless octets of one are held back; and then each connection has its
+  -- turn, over what the hub has of it by then, which has of each that isn't open what it had. The events are those of these, in this
+  -- order, and nothing else was asked of the sockets. Something happened where a connection was taken, a call is to be made again, one may
+  -- wait at a socket that wasn't asked, or something happened in a turn
   pub record HasRound (old new : EventLoop T S G) (moved : Bool) (events : List Accepted) : Type 0 where
     pub told : List ℕ
     pub looked : Connections T G
@@ -38,7 +39,7 @@ module _ {T S : Type 0} {G : transport.Ghosts T} (taken coming : T → Option (L
     pub by_http : List (Asking T)
     pub editors : List Accepted
     pub hub_with_editor : Hub
-    pub http : Accepts refuses Http (listening_told (tells told 0) old.http_listening) new.http_listening hub_with_reader hub_with_editor with_reader with_editor by_http editors
+    pub http : AcceptsUnless refuses (any_held_back with_reader.opened.items) (listening_told (tells told 0) old.http_listening) new.http_listening hub_with_reader hub_with_editor with_reader with_editor by_http editors
     pub turned : Bool
     pub turns : List Accepted
     pub turn : TurnEach taken coming made hub_with_editor with_editor new.connections turned turns

@@ -9,6 +9,7 @@ pub mod Opening
 pub mod Pieces
 pub mod Handing
 pub mod Turns
+pub mod Foreseen
 pub mod Turning
 pub mod Rounds
 pub mod Listening

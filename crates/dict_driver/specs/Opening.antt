@@ -1,5 +1,5 @@
 -- What comes of telling a hub of a new connection, and why none is opened.
-use Rattle.std.specs.Prelude.{◌≡◌, ℕ, List, [], Option, None, Some, Result, Ok, Err, ⊤}
+use Rattle.std.specs.Prelude.{ℕ, List, [], Option, None, Some, Result, Ok, Err, ⊤}
 use Rattle.dict_hub.specs.Books.{IsRefusal, opening}
 use Rattle.dict_hub.specs.Events.{opened}
 use Rattle.dict_hub.specs.Holding.{left_by}

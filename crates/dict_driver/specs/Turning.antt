@@ -1,10 +1,11 @@
 -- What is done to each connection of a list, place by place.
-use Rattle.std.specs.Prelude.{◌≡◌, ◌≢◌, ◌<◌, ◌||◌, ℕ, Bool, false, List, [], ◌∷◌, Option, length, slice_index_or}
+use Rattle.std.specs.Prelude.{◌≡◌, ◌≢◌, ◌<◌, ◌||◌, ℕ, Bool, false, List, [], ◌∷◌, Option, length, slice_index_or, take}
 use Rattle.dict_hub.specs.Holding.{Holding}
 use Rattle.dict_hub.specs.Hubs.{Has}
 use Rattle.dict_hub.specs.Runs.{Accepted, events_of}
 use Rattle.dict_hub.specs.declared.hub.Hub.{Hub}
 use Rattle.dict_outlet.specs.Calls.{Call}
+use Rattle.dict_driver.specs.Handing.{is_held_back}
 use Rattle.dict_driver.specs.Ordering.{AreOfTurns, ComeById}
 use Rattle.dict_driver.specs.Turns.{Departs, Turns}
 use Rattle.dict_driver.specs.declared.connection.Connection.{Connection}
@@ -28,6 +29,15 @@ abbrev pub any : List Bool → Bool
 any [] = false
 any (one ∷ others) = one || any others
 
+-- octets are held back that one of these sent as an editor's
+abbrev pub any_held_back : {T : Type 0} → List (Connection T) → Bool
+any_held_back [] = false
+any_held_back (one ∷ others) = is_held_back one.held || any_held_back others
+
+-- so it is as the turn at this place begins: it was before the first turn, or it is since the turn of one before that place
+abbrev pub is_preparing : {T : Type 0} → List (Connection T) → List (Connection T) → ℕ → Bool
+is_preparing old new place = any_held_back old || any_held_back (take place new)
+
 -- Each connection had its turn as one that is no longer open. Something happened where it did in one of them
 pub record DepartAll {T : Type 0} (taken coming : T → Option (List ℕ)) (made : T → Option (List Call)) (old new : List (Connection T)) (moved : Bool) : Type 0 where
   pub len : length new ≡ length old
@@ -36,14 +46,15 @@ pub record DepartAll {T : Type 0} (taken coming : T → Option (List ℕ)) (made
   pub departs : (k : ℕ) (d : Connection T) → k < length old → Departs taken coming made (slice_index_or old k d) (slice_index_or new k d) (slice_index_or moves k false)
   pub has_moved : moved ≡ any moves
 
--- Each connection had its turn, by its own events, over what the hub had of it as they began; and each event is of one of these
--- connections, in the order of their ids. Something happened where it did in one of the turns
+-- Each connection had its turn, by its own events, over what the hub had of it as they began, an editor's without a reading where what
+-- one sent is being prepared; and each event is of one of these connections, in the order of their ids. Something happened where it did in
+-- one of the turns
 pub record TurnAll {T : Type 0} (taken coming : T → Option (List ℕ)) (made : T → Option (List Call)) (hub : Hub) (old new : List (Connection T)) (moved : Bool) (events : List Accepted) : Type 0 where
   pub len : length new ≡ length old
   pub moves : List Bool
   pub count : length moves ≡ length old
   pub turns : (k : ℕ) (d : Connection T) → k < length old
-      → Turns taken coming made hub (slice_index_or old k d) (slice_index_or new k d) (slice_index_or moves k false) (events_of (slice_index_or old k d).id events)
+      → Turns taken coming made (is_preparing old new k) hub (slice_index_or old k d) (slice_index_or new k d) (slice_index_or moves k false) (events_of (slice_index_or old k d).id events)
   pub has_moved : moved ≡ any moves
   pub no_other : (id : ℕ) → ((k : ℕ) (d : Connection T) → k < length old → (slice_index_or old k d).id ≢ id) → events_of id events ≡ []
   pub are_turns : AreOfTurns events

@@ -1,9 +1,10 @@
 // One connection.
-ghost use Rattle.std.specs.Prelude.{◌≡◌, ◌≤◌, ◌==◌, ◌||◌, ℕ, List, [], ◌∷◌, take, length, IfSome, MatchOption, true, false, ⊤};
+ghost use Rattle.std.specs.Prelude.{◌≡◌, ◌≤◌, ◌<◌, ◌==◌, ◌||◌, ℕ, List, [], ◌∷◌, Option, take, length, IfSome, MatchOption, true, false, ⊤};
 ghost use Rattle.std.specs.Io.KnownBytes.{Consumes, Keeps};
 ghost use Rattle.dict_driver.specs.Leading.{HasLedOn};
-ghost use Rattle.dict_hub.specs.Events.{opened, ended};
-ghost use Rattle.dict_hub.specs.Runs.{Accepted};
+ghost use Rattle.dict_hub.specs.Events.{opened, ended, is_of_editor};
+ghost use Rattle.dict_hub.specs.Runs.{Accepted, IsAt, State};
+ghost use Rattle.dict_catalogue.specs.Steps.{Catalogue};
 ghost use Rattle.dict_outlet.specs.Calls.{Makes, receives, count_received};
 ghost use Rattle.dict_driver.specs.Stages.{is_open, parted, stage_of_new};
 
@@ -14,6 +15,7 @@ use crate::stage::{Stage, answered, drained, has_departed, parted, stage_of_new,
 use dict_desk::Keeper;
 use dict_hub::{Event, Hub, Kind};
 use dict_outlet::{Queue, Received, Sent, Transport, has_moved, received_by, sent_by};
+use dict_preparing::Preparer;
 use std::alloc::Global;
 
 // The most octets that are dropped of a connection once all is sent: the largest body of a request and 1 MiB.
@@ -36,10 +38,12 @@ pub struct Connection<T: Transport> {
 
 impl<T: Transport> Connection<T> {
     ghost use Rattle.dict_outlet.specs.Queues.{waiting, is_clear};
-    ghost use Rattle.dict_driver.specs.Handing.{held_in};
+    ghost use Rattle.dict_driver.specs.Handing.{held_in, is_held_back};
+    ghost use Rattle.dict_driver.specs.Foreseen.{AreToldOf, BeginsBy};
     ghost use Rattle.dict_driver.specs.Opening.{IsUnopened};
+    ghost use Rattle.dict_driver.specs.Pieces.{behind_piece};
     ghost use Rattle.dict_driver.specs.Telling.{KeepsEach, KeepsOthers};
-    ghost use Rattle.dict_driver.specs.Turns.{Departs, Drains, Finishes, Hands, HandsOver, IsAtRest, IsOpened, LeadsByAnswer, LeadsByEnd, ReadsOnce, SendsOnce, Turns};
+    ghost use Rattle.dict_driver.specs.Turns.{Departs, Drains, Finishes, Hands, HandsOver, IsAtRest, IsOpened, LeadsByAnswer, LeadsByEnd, LeadsByPiece, ReadsOnce, SendsOnce, Turns, is_deferred};
     ghost use Rattle.dict_driver.specs.Turning.{marked};
     ghost use Rattle.dict_driver.specs.Ordering.{IsOnly};
 
@@ -121,12 +125,29 @@ impl<T: Transport> Connection<T> {
         }
     }
 
+    /// Whether octets are held back that it sent as an editor's.
+    pub fn is_held_back(&self) -> bool
+        ensures { result ≡ is_held_back self.now.held }
+    {
+        self.held.is_held_back()
+    }
+
     /// A turn of an open connection: sends what waits, and hands the next piece of what was read to the hub, of a reader a
     /// line. Where all of it was handed, it reads once into the room first; and where nothing more comes, the hub is told
-    /// so. Whether anything happened.
-    pub fn turn<K: Keeper>(&mut self, hub: &mut Hub, desk: &mut K, room: &mut [u8; PIECE]) -> bool
+    /// so. Whether anything happened, or a turn is to be had again at once.
+    ///
+    /// Where an editor's piece completes an install, the desk prepares that first, a part in each turn, and the piece is held back
+    /// meanwhile, for 1,000,000 turns at most. Nothing is read of an editor's connection while octets of one are held back.
+    pub fn turn<K: Preparer>(
+        &mut self,
+        hub: &mut Hub,
+        desk: &mut K,
+        room: &mut [u8; PIECE],
+        is_preparing: bool,
+    ) -> bool
         ensures led { HasLedOn (K.is_trusted desk.new) (K.shows desk.old) (K.leaves_one_of desk.old) (K.shows desk.new) (K.leaves_one_of desk.new) hub.old hub.new
-            (λ events. Turns T.taken T.coming T.made hub.old self.old self.new result events) }
+            (λ events. Turns T.taken T.coming T.made is_preparing hub.old self.old self.new result events) }
+        ensures foreseen { BeginsBy K.expects hub.old self.old self.new }
         ensures trust { K.is_trusted desk.new → K.is_trusted desk.old }
         ensures others { KeepsOthers self.old.id hub.old hub.new }
         ensures id { self.new.id ≡ self.old.id }
@@ -138,7 +159,10 @@ impl<T: Transport> Connection<T> {
             return true;
         }
         if !self.held.is_empty() {
-            self.hand(hub, desk);
+            self.hand_prepared(hub, desk);
+            return true;
+        }
+        if self.is_deferred(is_preparing) {
             return true;
         }
         let received = self.read(hub, desk, room);
@@ -182,12 +206,20 @@ impl<T: Transport> Connection<T> {
         received_by(&self.transport.receive(room))
     }
 
-    // Reads once where that may give something, and hands the first piece of what came to the hub, or that nothing more
-    // comes.
-    fn read<K: Keeper>(&mut self, hub: &mut Hub, desk: &mut K, room: &mut [u8; PIECE]) -> Received
+    // Whether nothing is to be read of it, since it is an editor's, and what one of these sent is being prepared.
+    fn is_deferred(&self, is_preparing: bool) -> bool
+        ensures { result ≡ is_deferred is_preparing self.now }
+    {
+        is_preparing && self.held.is_of_editor()
+    }
+
+    // Reads once where that may give something, and hands the first piece of what came to the hub, unless it is held back, or
+    // that nothing more comes.
+    fn read<K: Preparer>(&mut self, hub: &mut Hub, desk: &mut K, room: &mut [u8; PIECE]) -> Received
         requires { held_in self.old.held ≡ [] }
         ensures led { HasLedOn (K.is_trusted desk.new) (K.shows desk.old) (K.leaves_one_of desk.old) (K.shows desk.new) (K.leaves_one_of desk.new) hub.old hub.new
             (λ events. ReadsOnce T.taken T.coming T.made hub.old self.old self.new result events) }
+        ensures foreseen { is_open self.new.stage ≡ true → is_held_back self.new.held ≡ true → AreToldOf K.expects hub.old self.old.id (held_in self.new.held) }
         ensures trust { K.is_trusted desk.new → K.is_trusted desk.old }
         ensures others { KeepsOthers self.old.id hub.old hub.new }
         ensures id { self.new.id ≡ self.old.id }
@@ -200,7 +232,8 @@ impl<T: Transport> Connection<T> {
         match received {
             Received::Octets(count) => {
                 self.held.fill(&room[..count]);
-                self.hand(hub, desk);
+                self.foresee(hub, desk);
+                self.hand_prepared(hub, desk);
                 received
             }
             Received::End => {
@@ -219,11 +252,71 @@ impl<T: Transport> Connection<T> {
         }
     }
 
+    // Where the hub foresees that the octets of an editor complete an install, they may be held back.
+    fn foresee<K: Preparer>(&mut self, hub: &mut Hub, desk: &mut K)
+        ensures trust { K.is_trusted desk.new → K.is_trusted desk.old }
+        ensures shows { K.is_trusted desk.new → (M : Catalogue) → K.shows desk.old M → K.shows desk.new M }
+        ensures leaves { (ms : List (Option Catalogue)) → K.leaves_one_of desk.old ms → K.leaves_one_of desk.new ms }
+        ensures state { (state : State) → IsAt hub.old state → IsAt hub.new state }
+        ensures kept { KeepsEach hub.old hub.new }
+        ensures same { self.new ≡ record self.old { held = self.new.held } }
+        ensures octets { held_in self.new.held ≡ held_in self.old.held }
+        ensures kind { self.new.held.kind ≡ self.old.held.kind }
+        ensures turns { self.old.held.turns_left ≤ 1_000_000 → self.new.held.turns_left ≤ 1_000_000 }
+        ensures told { self.old.held.turns_left ≡ 0 → 0 < self.new.held.turns_left → AreToldOf K.expects hub.old self.old.id (held_in self.new.held) }
+    {
+        if !self.held.is_of_editor() {
+            return;
+        }
+        if hub.foresee(desk, self.id, self.held.next_piece()) {
+            self.held.hold_back();
+        }
+    }
+
+    // Hands the next piece to the hub, unless it is held back for this turn.
+    fn hand_prepared<K: Preparer>(&mut self, hub: &mut Hub, desk: &mut K)
+        ensures led { HasLedOn (K.is_trusted desk.new) (K.shows desk.old) (K.leaves_one_of desk.old) (K.shows desk.new) (K.leaves_one_of desk.new) hub.old hub.new
+            (λ events. HandsOver T.taken T.coming T.made (held_in self.old.held) self.old self.new events
+            × LeadsByPiece hub.old (held_in self.old.held) self.old.held.turns_left self.old self.new events) }
+        ensures kind { self.new.held.kind ≡ self.old.held.kind }
+        ensures back { is_open self.new.stage ≡ true → is_held_back self.new.held ≡ true → (0 < self.old.held.turns_left) × (held_in self.new.held ≡ held_in self.old.held) }
+        ensures trust { K.is_trusted desk.new → K.is_trusted desk.old }
+        ensures others { KeepsOthers self.old.id hub.old hub.new }
+        ensures id { self.new.id ≡ self.old.id }
+    {
+        if self.prepare(desk) {
+            return;
+        }
+        self.hand(hub, desk);
+    }
+
+    // Has the desk prepare a part of what the octets complete, where they may be held back. Whether they are, for this turn:
+    // a failure ends the preparing, and they go to the hub as they would have gone without.
+    fn prepare<K: Preparer>(&mut self, desk: &mut K) -> bool
+        ensures trust { K.is_trusted desk.new → K.is_trusted desk.old }
+        ensures shows { K.is_trusted desk.new → (M : Catalogue) → K.shows desk.old M → K.shows desk.new M }
+        ensures leaves { (ms : List (Option Catalogue)) → K.leaves_one_of desk.old ms → K.leaves_one_of desk.new ms }
+        ensures same { self.new ≡ record self.old { held = self.new.held } }
+        ensures octets { held_in self.new.held ≡ held_in self.old.held }
+        ensures kind { self.new.held.kind ≡ self.old.held.kind }
+        ensures fewer { result ≡ true → (is_of_editor self.old.held.kind ≡ true) × (self.new.held.turns_left < self.old.held.turns_left) }
+    {
+        if !self.held.begin_turn() {
+            return false;
+        }
+        match desk.prepare() {
+            Ok(more) => more,
+            Err(_) => false,
+        }
+    }
+
     // Hands the next piece to the hub. Where the hub closes the connection, what waits is still sent; and where it refuses
     // the octets, nothing is.
     fn hand<K: Keeper>(&mut self, hub: &mut Hub, desk: &mut K)
         ensures led { HasLedOn (K.is_trusted desk.new) (K.shows desk.old) (K.leaves_one_of desk.old) (K.shows desk.new) (K.leaves_one_of desk.new) hub.old hub.new
             (λ events. HandsOver T.taken T.coming T.made (held_in self.old.held) self.old self.new events × LeadsByAnswer hub.old (held_in self.old.held) self.old self.new events) }
+        ensures kind { self.new.held.kind ≡ self.old.held.kind }
+        ensures whole { is_open self.new.stage ≡ true → held_in self.new.held ≡ behind_piece self.old.held.kind (held_in self.old.held) }
         ensures trust { K.is_trusted desk.new → K.is_trusted desk.old }
         ensures others { KeepsOthers self.old.id hub.old hub.new }
         ensures id { self.new.id ≡ self.old.id }
@@ -244,6 +337,7 @@ impl<T: Transport> Connection<T> {
     fn end_input<K: Keeper>(&mut self, hub: &mut Hub, desk: &mut K)
         ensures led { HasLedOn (K.is_trusted desk.new) (K.shows desk.old) (K.leaves_one_of desk.old) (K.shows desk.new) (K.leaves_one_of desk.new) hub.old hub.new
             (λ events. Hands [] self.old self.new events × LeadsByEnd (parted (is_clear self.new.queue)) self.old self.new events) }
+        ensures held { self.new.held ≡ self.old.held }
         ensures trust { K.is_trusted desk.new → K.is_trusted desk.old }
         ensures others { KeepsOthers self.old.id hub.old hub.new }
         ensures id { self.new.id ≡ self.old.id }
@@ -260,6 +354,7 @@ impl<T: Transport> Connection<T> {
         ensures others { KeepsOthers self.old.id hub.old hub.new }
         ensures id { self.new.id ≡ self.old.id }
         ensures over { self.new.stage ≡ Stage.Over }
+        ensures held { self.new.held ≡ self.old.held }
     {
         let _ = deliver(hub, desk, Event::Ended(self.id), &mut self.queue);
         self.stage = Stage::Over;

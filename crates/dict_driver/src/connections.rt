@@ -5,14 +5,12 @@ ghost use Rattle.dict_driver.specs.Stages.{is_open};
 
 use crate::connection::Connection;
 use crate::opening::Opening;
-use crate::turning::{depart_all, mark_one, turn_all};
+use crate::turning::{depart_all, is_any_held_back, mark_one, turn_all};
 use dict_desk::Keeper;
-use dict_hub::{Hub, Kind};
+use dict_hub::{Hub, Kind, MAX_OPEN};
 use dict_outlet::Transport;
+use dict_preparing::Preparer;
 use std::alloc::{AllocError, Global};
-
-/// The most connections that are open at once.
-pub const MAX_OPEN: usize = 64;
 
 /// The most connections that are no longer open and still held, since octets wait for them or all that comes is not
 /// read yet.
@@ -45,7 +43,7 @@ impl<T: Transport> Connections<T> {
     ghost use Rattle.dict_driver.specs.Telling.{KeepsOthers};
     ghost use Rattle.dict_driver.specs.Stages.{is_departing};
     ghost use Rattle.dict_driver.specs.Turns.{IsAtRest};
-    ghost use Rattle.dict_driver.specs.Turning.{KeepsAllBut, MarkAll};
+    ghost use Rattle.dict_driver.specs.Turning.{KeepsAllBut, MarkAll, any_held_back};
     ghost use Rattle.dict_driver.specs.Ordering.{AreOfTurns, ComeById, IsOpeningOf};
 
     /// No connection was there yet.
@@ -76,6 +74,13 @@ impl<T: Transport> Connections<T> {
         ensures most { result ≤ 128 }
     {
         self.departing.len()
+    }
+
+    /// Whether octets of an open one are held back, which it sent as an editor's.
+    pub fn is_any_held_back(&self) -> bool
+        ensures { result ≡ any_held_back self.now.opened.items }
+    {
+        is_any_held_back(self.opened.as_slice())
     }
 
     /// The id of the next connection. `None` where 64 are open, or each id was given.
@@ -114,7 +119,7 @@ impl<T: Transport> Connections<T> {
 
     /// A turn of each connection: those that are no longer open, and then the open ones in the order of their ids. Those
     /// that are over are dropped. Whether anything happened.
-    pub fn turn<K: Keeper>(&mut self, hub: &mut Hub, desk: &mut K) -> bool
+    pub fn turn<K: Preparer>(&mut self, hub: &mut Hub, desk: &mut K) -> bool
         ensures led { HasLedOn (K.is_trusted desk.new) (K.shows desk.old) (K.leaves_one_of desk.old) (K.shows desk.new) (K.leaves_one_of desk.new) hub.old hub.new
             (λ events. Moves self.old self.new events × AreOfTurns events × ComeById events × TurnEach T.taken T.coming T.made hub.old self.old self.new result events) }
         ensures trust { K.is_trusted desk.new → K.is_trusted desk.old }

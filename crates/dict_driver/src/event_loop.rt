@@ -12,6 +12,7 @@ use crate::stage::has_any;
 use dict_desk::Keeper;
 use dict_hub::{Hub, Kind};
 use dict_outlet::Transport;
+use dict_preparing::Preparer;
 use std::alloc::{AllocError, Global};
 use std::io::{self, ErrorKind};
 use std::time::Duration;
@@ -38,7 +39,7 @@ impl<'h, T: Transport, S: Sockets<T>> EventLoop<'h, T, S> {
     ghost use Rattle.dict_driver.specs.Serving.{IsCounted};
     ghost use Rattle.dict_driver.specs.Listening.{is_ready};
     ghost use Rattle.dict_driver.specs.Looking.{IsIdle, IsKept, Looks, listening_of, other_kind};
-    ghost use Rattle.dict_driver.specs.Accepting.{HasAccepted, HasTaken};
+    ghost use Rattle.dict_driver.specs.Accepting.{HasAccepted, HasLetIn, HasTaken};
     ghost use Rattle.dict_driver.specs.Telling.{KeepsOthers};
     ghost use Rattle.dict_driver.specs.EventLoops.{GoesRound};
 
@@ -88,8 +89,10 @@ impl<'h, T: Transport, S: Sockets<T>> EventLoop<'h, T, S> {
     /// One round: the sockets are looked at, at most one connection is taken from that for readers, then at most one from that
     /// for editors, and then each connection has a turn, the open ones in the order of their ids: what waits is sent, and the
     /// next piece of what was read goes to the hub, of a reader one line; where none is left, one read of at most 4,096 octets
-    /// is made before. Whether anything happened; where nothing did, `wait` may come before the next round.
-    pub fn round<K: Keeper>(&mut self, desk: &mut K) -> io::Result<bool>
+    /// is made before. A piece that completes an install is held back while the desk prepares that, by a part in each round; no
+    /// editor's connection is read meanwhile, and none is taken. Whether anything happened; where nothing did, `wait` may come
+    /// before the next round.
+    pub fn round<K: Preparer>(&mut self, desk: &mut K) -> io::Result<bool>
         ensures led { HasLedOn (K.is_trusted desk.new) (K.shows desk.old) (K.leaves_one_of desk.old) (K.shows desk.new) (K.leaves_one_of desk.new) self.old.hub self.new.hub
             (λ events. Moves self.old.connections self.new.connections events × AreOfRound events × GoesRound T.taken T.coming T.made S.refuses S.asked S.told result self.old self.new events) }
         ensures trust { K.is_trusted desk.new → K.is_trusted desk.old }
@@ -103,7 +106,7 @@ impl<'h, T: Transport, S: Sockets<T>> EventLoop<'h, T, S> {
             Err(error) => return Err(error),
         }
         let by_dict = self.accept(Kind::Dict, desk);
-        let by_http = self.accept(Kind::Http, desk);
+        let by_http = self.accept_editor(desk);
         let turned = self.connections.turn(&mut self.hub, desk);
         self.rounds = self.rounds.saturating_add(1);
         Ok(has_any(by_dict, by_http, turned))
@@ -155,6 +158,23 @@ impl<'h, T: Transport, S: Sockets<T>> EventLoop<'h, T, S> {
                 listening == Listening::Ready
             }
         }
+    }
+
+    // Takes an editor's connection that waits, unless octets of one are held back: then the socket isn't asked. Whether one
+    // waited, the call is to be made again, or one may wait that wasn't asked for.
+    fn accept_editor<K: Keeper>(&mut self, desk: &mut K) -> bool
+        ensures led { HasLedOn (K.is_trusted desk.new) (K.shows desk.old) (K.leaves_one_of desk.old) (K.shows desk.new) (K.leaves_one_of desk.new) self.old.hub self.new.hub
+            (λ events. Moves self.old.connections self.new.connections events × IsOpeningOf Kind.Http events × HasLetIn S.refuses S.asked self.old self.new events) }
+        ensures trust { K.is_trusted desk.new → K.is_trusted desk.old }
+        ensures others { KeepsOthers (self.old.connections.last + 1) self.old.hub self.new.hub }
+        ensures kept { IsKept self.old self.new }
+        ensures asked { result ≡ is_ready self.new.http_listening }
+        ensures dict { self.new.dict_listening ≡ self.old.dict_listening }
+    {
+        if self.connections.is_any_held_back() {
+            return self.http_listening == Listening::Ready;
+        }
+        self.accept(Kind::Http, desk)
     }
 
     // Whether a connection waits at a listening socket.

@@ -10,8 +10,8 @@ ghost use Rattle.std.specs.Duration.{as_nanos};
 
 use crate::event_loop::EventLoop;
 use crate::sockets::Sockets;
-use dict_desk::Keeper;
 use dict_outlet::Transport;
+use dict_preparing::Preparer;
 use std::io;
 use std::time::Duration;
 
@@ -44,7 +44,7 @@ pub fn pace(rounds: Option<u32>) -> (u64, Duration)
 /// So many rounds over a desk, fewer where it is closed; each goes on where the one before it ended. After a round in which
 /// nothing happened, and that isn't the last, the sockets are waited for, at most as long as `wait`. An error is one of
 /// waiting for sockets; the loop and the desk may be used again.
-pub fn serve<T: Transport, S: Sockets<T>, K: Keeper>(
+pub fn serve<T: Transport, S: Sockets<T>, K: Preparer>(
     event_loop: &mut EventLoop<T, S>,
     desk: &mut K,
     rounds: u64,

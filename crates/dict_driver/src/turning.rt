@@ -2,17 +2,17 @@
 ghost use Rattle.std.specs.Prelude.{◌≡◌, ◌<◌, ◌==◌, ℕ, false, All, slice_index_or, vec_len, vec_capacity};
 ghost use Rattle.std.specs.List.{AllPairs};
 ghost use Rattle.dict_driver.specs.Leading.{HasLedOn};
-ghost use Rattle.dict_driver.specs.Turning.{DepartAll, KeepsAllBut, MarkAll, TurnAll};
+ghost use Rattle.dict_driver.specs.Turning.{DepartAll, KeepsAllBut, MarkAll, TurnAll, any_held_back};
 ghost use Rattle.dict_driver.specs.Turns.{IsAtRest};
 
 use crate::connection::Connection;
 use crate::held::PIECE;
-use dict_desk::Keeper;
 use dict_hub::Hub;
 use dict_outlet::Transport;
+use dict_preparing::Preparer;
 
-/// A turn of each open connection, in order. Whether anything happened.
-pub fn turn_all<T: Transport, K: Keeper>(
+/// A turn of each open connection, in order. Whether anything happened, or a turn is to be had again at once.
+pub fn turn_all<T: Transport, K: Preparer>(
     all: &mut Vec<Connection<T>>,
     hub: &mut Hub,
     desk: &mut K,
@@ -29,12 +29,28 @@ pub fn turn_all<T: Transport, K: Keeper>(
 {
     let mut room = [0u8; PIECE];
     let mut has_moved = false;
+    let mut is_preparing = is_any_held_back(all.as_slice());
     for one in all.iter_mut() {
-        if one.turn(hub, desk, &mut room) {
+        if one.turn(hub, desk, &mut room, is_preparing) {
             has_moved = true;
+        }
+        if one.is_held_back() {
+            is_preparing = true;
         }
     }
     has_moved
+}
+
+/// Whether octets of one of these are held back.
+pub fn is_any_held_back<T: Transport>(all: &[Connection<T>]) -> bool
+    ensures { result ≡ any_held_back all.now }
+{
+    for one in all {
+        if one.is_held_back() {
+            return true;
+        }
+    }
+    false
 }
 
 /// A turn of each connection that is no longer open, in order. Whether anything happened.

@@ -8,15 +8,16 @@ use dict_desk::PlainDesk;
 use dict_driver::{Connection, Stage};
 use dict_hub::{Hub, Kind};
 use dict_outlet::Transport;
+use dict_preparing::Preparer;
 use std::alloc::Global;
 use std::io::{Error, ErrorKind, Result as IoResult};
 use std::net::{Net, TcpStream};
 use std::test::Fail;
 use std::time::Duration;
 
-// Gives these pieces, one a call, and then the end; takes so many octets in all, and then fails.
+/// Gives these pieces, one a call, and then the end; takes so many octets in all, and then fails.
 #[derive(Drop)]
-struct Talker {
+pub(crate) struct Talker {
     pieces: &'static [&'static [u8]],
     given: usize,
     left: usize,
@@ -59,7 +60,8 @@ impl Transport for Talker {
 }
 
 impl Talker {
-    fn new(pieces: &'static [&'static [u8]], left: usize) -> Talker {
+    /// Gives these pieces, and takes so many octets.
+    pub(crate) fn new(pieces: &'static [&'static [u8]], left: usize) -> Talker {
         Talker {
             pieces,
             given: 0,
@@ -69,15 +71,20 @@ impl Talker {
     }
 }
 
-// After a turn: the stage, how many octets the peer took, and how many of its pieces were read.
+/// After a turn: the stage, how many octets the peer took, and how many of its pieces were read.
 #[derive(Clone, Copy, Debug, PartialEq, Eq)]
-struct After(Stage, usize, usize);
+pub(crate) struct After(pub(crate) Stage, pub(crate) usize, pub(crate) usize);
 
-// One turn, and what came of it.
-fn turn(one: &mut Connection<Talker>, hub: &mut Hub, desk: &mut PlainDesk) -> After {
+/// One turn, while what an editor sent is prepared or not, and what came of it.
+pub(crate) fn turn<K: Preparer>(
+    one: &mut Connection<Talker>,
+    hub: &mut Hub,
+    desk: &mut K,
+    is_preparing: bool,
+) -> After {
     let mut room = [0u8; 4_096];
     if one.stage().is_open() {
-        one.turn(hub, desk, &mut room);
+        one.turn(hub, desk, &mut room, is_preparing);
     } else {
         one.linger(&mut room);
     }
@@ -93,7 +100,7 @@ fn comes_to(alloc: Global, peer: Talker, wanted: &[After]) -> Result<(), Fail> {
         return Err(Fail::new("refused"));
     };
     for want in wanted {
-        if turn(&mut one, &mut hub, &mut desk) != *want {
+        if turn(&mut one, &mut hub, &mut desk, false) != *want {
             return Err(Fail::new("another turn"));
         }
     }

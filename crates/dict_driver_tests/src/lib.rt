@@ -23,6 +23,10 @@ mod long;
 #[cfg(test)]
 mod memory;
 #[cfg(test)]
+mod parts;
+#[cfg(test)]
+mod preparing;
+#[cfg(test)]
 mod rooms;
 #[cfg(test)]
 mod rounds;

@@ -87,7 +87,8 @@ impl Run {
     fn turn(&mut self, want: Stage) -> Result<(), Fail> {
         let mut room = [0u8; 4_096];
         if self.one.stage().is_open() {
-            self.one.turn(&mut self.hub, &mut self.desk, &mut room);
+            self.one
+                .turn(&mut self.hub, &mut self.desk, &mut room, false);
         } else {
             self.one.linger(&mut room);
         }

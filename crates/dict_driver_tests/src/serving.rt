@@ -123,7 +123,7 @@ impl Play {
             Step::Reader => self.come(net, self.dict),
             Step::Editor => self.come(net, self.http),
             Step::Leave => {
-                drop(self.clients.pop());
+                self.leave();
                 Ok(())
             }
             Step::Send(who, text) => self.client(who)?.send(text.as_bytes()),
@@ -137,8 +137,13 @@ impl Play {
         }
     }
 
-    // A client comes to this address.
-    fn come(
+    /// The last client goes.
+    pub(crate) fn leave(&mut self) {
+        drop(self.clients.pop());
+    }
+
+    /// A client comes to this address.
+    pub(crate) fn come(
         &mut self,
         net: &impl Net<Stream = TcpStream>,
         address: SocketAddr,

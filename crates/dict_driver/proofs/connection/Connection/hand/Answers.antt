@@ -4,6 +4,7 @@ use Rattle.dict_driver.specs.Handing.{held_in}
 use Rattle.dict_driver.specs.Pieces.{behind_piece, next_piece}
 use Rattle.dict_driver.specs.Telling.{IsToldThrough}
 use Rattle.dict_driver.specs.Stages.{is_open}
+use Rattle.dict_driver.proofs.BackLemmas.{over_closed}
 use Rattle.dict_driver.proofs.LeadLemmas.{led_as, led_joined}
 use Rattle.dict_driver.proofs.PieceLemmas.{piece_dropped, piece_within}
 use Rattle.dict_driver.proofs.TurnLemmas.{answered_open, hands_refused, hands_told, leads_answered}
@@ -38,3 +39,12 @@ returns-in-None-clause-led g c =
 
 pub returns-in-None-clause-others : goal.returns-in-None-clause-others
 returns-in-None-clause-others g c = λ other held apart has. c.end.ensures.others other held apart (c.deliver_through.ensures.others other held apart has)
+
+pub returns-in-Some-clause-whole : goal.returns-in-Some-clause-whole
+returns-in-Some-clause-whole g c = λ still.
+    let old = c.args.self.now in
+    let octets = held_in old.held in
+    c.pass.ensures.octets ∙ ap (λ l. drop (length l) octets) c.next_piece-piece.ensures ∙ piece_dropped old.held.kind octets
+
+pub returns-in-None-clause-whole : goal.returns-in-None-clause-whole
+returns-in-None-clause-whole g c = λ still. over_closed _ c.end.ensures.over still

@@ -1,11 +1,13 @@
-use Rattle.std.proofs.Common.{◌≡◌, ◌∙◌, refl, sym, ap, subst, [], take, true, false}
+use Rattle.std.proofs.Common.{◌≡◌, ◌∙◌, refl, sym, ap, subst, [], take, true, false, arith}
 use Rattle.std.proofs.KnownBytes.{Consumes-nil, Keeps-refl}
-use Rattle.dict_driver.specs.Handing.{held_in}
+use Rattle.dict_driver.specs.Handing.{held_in, is_held_back}
+use Rattle.dict_driver.proofs.BackLemmas.{back_never, none_back, over_closed, told_as}
 use Rattle.dict_driver.specs.Turns.{ReadsOnce}
 use Rattle.dict_outlet.specs.declared.calls.Received.TheVariants as receiveds
 use Rattle.dict_outlet.proofs.CallLemmas.{makes_none}
 use Rattle.dict_driver.proofs.LeadLemmas.{led_as, led_still}
-use Rattle.dict_driver.proofs.TurnLemmas.{reads_octets, reads_none, reads_still}
+use Rattle.dict_driver.proofs.HoldLemmas.{led_behind, led_quiet, reads_octets}
+use Rattle.dict_driver.proofs.TurnLemmas.{reads_none, reads_still}
 use Rattle.dict_driver.proofs.connection.Connection.read.Goals as goal
 
 pub returns-then-not-self-clause-led : goal.returns-then-not-self-clause-led
@@ -16,10 +18,11 @@ returns-then-not-self-clause-led g c =
 
 pub returns-in-Octets-clause-led : goal.returns-in-Octets-clause-led
 returns-in-Octets-clause-led g c =
-    led_as c.hand.ensures.led
-    (λ events handed. reads_octets g.T.Transport.taken g.T.Transport.coming g.T.Transport.made c.args.self.now c.receive-received.new.self c.hand.new.self c.fill.new.self c.in-Octets.count
-    (take c.in-Octets.count c.receive-received.new.room) events c.receive-received.ensures.same c.if-not-self.false c.fill.ensures.kind c.fill.ensures.octets c.receive-received.ensures.taken
-    c.in-Octets.ensures.gives c.in-Octets.ensures.made handed)
+    let told = c.foresee.ensures in
+    led_behind (led_quiet told.shows told.leaves told.state refl) c.hand_prepared.ensures.led c.hand_prepared.ensures.trust
+    (λ events handed. reads_octets g.T.Transport.taken g.T.Transport.coming g.T.Transport.made c.foresee.new.hub c.args.self.now c.receive-received.new.self c.foresee.new.self c.hand_prepared.new.self c.in-Octets.count
+    (take c.in-Octets.count c.receive-received.new.room) events c.receive-received.ensures.same told.same c.if-not-self.false (told.kind ∙ c.fill.ensures.kind) (told.octets ∙ c.fill.ensures.octets)
+    (told.turns (omega (arith, c.fill.ensures.turns))) told.kept c.receive-received.ensures.taken c.in-Octets.ensures.gives c.in-Octets.ensures.made handed)
 
 pub returns-in-End-clause-led : goal.returns-in-End-clause-led
 returns-in-End-clause-led g c =
@@ -59,10 +62,32 @@ pub returns-in-Nothing-clause-idle : goal.returns-in-Nothing-clause-idle
 returns-in-Nothing-clause-idle g c = λ still. (refl, ap (λ it. held_in it.held) c.receive-received.ensures.same ∙ c.requires)
 
 pub returns-in-Octets-clause-others : goal.returns-in-Octets-clause-others
-returns-in-Octets-clause-others g c = λ other held apart has. c.hand.ensures.others other held (λ same. apart (same ∙ ap (λ it. it.id) c.receive-received.ensures.same)) has
+returns-in-Octets-clause-others g c = λ other held apart has.
+    c.hand_prepared.ensures.others other held (λ same. apart (same ∙ ap (λ it. it.id) c.foresee.ensures.same ∙ ap (λ it. it.id) c.receive-received.ensures.same)) (c.foresee.ensures.kept other held has)
 
 pub returns-in-End-clause-others : goal.returns-in-End-clause-others
 returns-in-End-clause-others g c = λ other held apart has. c.end_input.ensures.others other held (λ same. apart (same ∙ ap (λ it. it.id) c.receive-received.ensures.same)) has
 
 pub returns-in-Failed-clause-others : goal.returns-in-Failed-clause-others
 returns-in-Failed-clause-others g c = λ other held apart has. c.end.ensures.others other held (λ same. apart (same ∙ ap (λ it. it.id) c.receive-received.ensures.same)) has
+
+pub returns-then-not-self-clause-foreseen : goal.returns-then-not-self-clause-foreseen
+returns-then-not-self-clause-foreseen g c = λ still back. back_never _ (none_back c.args.self.now.held c.requires) back
+
+pub returns-in-Octets-clause-foreseen : goal.returns-in-Octets-clause-foreseen
+returns-in-Octets-clause-foreseen g c = λ still back.
+    let at = c.hand_prepared.ensures.back still back in
+    told_as g.K.Preparer.expects c.args.hub.now _ _ (held_in c.foresee.new.self.held) (held_in c.hand_prepared.new.self.held) (ap (λ it. it.id) c.receive-received.ensures.same) at.1
+    (c.foresee.ensures.told c.fill.ensures.turns at.0)
+
+pub returns-in-End-clause-foreseen : goal.returns-in-End-clause-foreseen
+returns-in-End-clause-foreseen g c = λ still back. back_never _ (ap is_held_back c.end_input.ensures.held ∙ none_back c.receive-received.new.self.held (ap (λ it. held_in it.held) c.receive-received.ensures.same ∙ c.requires)) back
+
+pub returns-in-Failed-clause-foreseen : goal.returns-in-Failed-clause-foreseen
+returns-in-Failed-clause-foreseen g c = λ still back. over_closed _ c.end.ensures.over still
+
+pub returns-in-Interrupted-clause-foreseen : goal.returns-in-Interrupted-clause-foreseen
+returns-in-Interrupted-clause-foreseen g c = λ still back. back_never _ (none_back c.receive-received.new.self.held (ap (λ it. held_in it.held) c.receive-received.ensures.same ∙ c.requires)) back
+
+pub returns-in-Nothing-clause-foreseen : goal.returns-in-Nothing-clause-foreseen
+returns-in-Nothing-clause-foreseen g c = λ still back. back_never _ (none_back c.receive-received.new.self.held (ap (λ it. held_in it.held) c.receive-received.ensures.same ∙ c.requires)) back

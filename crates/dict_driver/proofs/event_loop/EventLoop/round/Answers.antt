@@ -28,7 +28,7 @@ returns-clause-led g c =
     let self = c.args.self.now in
     let asked = g.S.Sockets.asked in
     led_joined
-    (led_joined {R = λ events. Moves self.connections c.accept-by_http.new.self.connections events × AreTaken g.S.Opening.refuses asked c.poll.new.self c.accept-by_dict.new.self c.accept-by_http.new.self events}
+    (led_joined {R = λ events. Moves self.connections c.accept_editor-by_http.new.self.connections events × AreTaken g.S.Opening.refuses asked c.poll.new.self c.accept-by_dict.new.self c.accept_editor-by_http.new.self events}
     (led_joined {R = λ events. Moves self.connections c.accept-by_dict.new.self.connections events × IsOpeningOf Dict events × HasAccepted g.S.Opening.refuses asked Dict c.poll.new.self c.accept-by_dict.new.self events}
     (led_none {P = λ events. events ≡ []} (λ state at. subst (λ h. IsAt h state) (sym c.poll.ensures.hub) at) refl)
     c.accept-by_dict.ensures.led c.accept-by_dict.ensures.trust
@@ -38,26 +38,26 @@ returns-clause-led g c =
       then.1,
       then.2,
     )))
-    c.accept-by_http.ensures.led c.accept-by_http.ensures.trust
+    c.accept_editor-by_http.ensures.led c.accept_editor-by_http.ensures.trust
     (λ es fs before then. (
-      moves_joined self.connections c.accept-by_dict.new.self.connections c.accept-by_http.new.self.connections es fs before.0 then.0,
+      moves_joined self.connections c.accept-by_dict.new.self.connections c.accept_editor-by_http.new.self.connections es fs before.0 then.0,
       record { readers = es; editors = fs; whole = refl; dict = before.1; http = then.1; by_dict = before.2; by_http = then.2 },
     )))
     c.turn-turned.ensures.led c.turn-turned.ensures.trust
     (λ es fs before then. (
-      moves_joined self.connections c.accept-by_http.new.self.connections c.turn-turned.new.self es fs before.0 then.0,
+      moves_joined self.connections c.accept_editor-by_http.new.self.connections c.turn-turned.new.self es fs before.0 then.0,
       subst (λ (l : List Accepted). AreOfRound (l ++ fs)) (sym before.1.whole) (round_whole before.1.readers before.1.editors fs before.1.dict before.1.http then.1 then.2),
-      round_made g.S.Opening.refuses asked g.T.Transport.taken g.T.Transport.coming g.T.Transport.made (g.S.Sockets.told c.poll.new.self.sockets) c.poll.result self c.poll.new.self c.accept-by_dict.new.self c.accept-by_http.new.self _
-          c.has_any.result c.turn-turned.result es fs (ap is_ok c.in-Ok.is) c.poll.ensures before.1 then.3 c.turn-turned.ensures.others refl c.accept-by_http.ensures.other refl c.accept-by_dict.ensures.other
-          (c.has_any.ensures ∙ ap (λ b. b || (c.accept-by_http.result || c.turn-turned.result)) c.accept-by_dict.ensures.asked
-          ∙ ap (λ b. is_ready c.accept-by_dict.new.self.dict_listening || (b || c.turn-turned.result)) c.accept-by_http.ensures.asked),
+      round_made g.S.Opening.refuses asked g.T.Transport.taken g.T.Transport.coming g.T.Transport.made (g.S.Sockets.told c.poll.new.self.sockets) c.poll.result self c.poll.new.self c.accept-by_dict.new.self c.accept_editor-by_http.new.self _
+          c.has_any.result c.turn-turned.result es fs (ap is_ok c.in-Ok.is) c.poll.ensures before.1 then.3 c.turn-turned.ensures.others refl c.accept_editor-by_http.ensures.dict refl c.accept-by_dict.ensures.other
+          (c.has_any.ensures ∙ ap (λ b. b || (c.accept_editor-by_http.result || c.turn-turned.result)) c.accept-by_dict.ensures.asked
+          ∙ ap (λ b. is_ready c.accept-by_dict.new.self.dict_listening || (b || c.turn-turned.result)) c.accept_editor-by_http.ensures.asked),
     ))
 
 pub returns-clause-idle : goal.returns-clause-idle
 returns-clause-idle g c = λ still. (
-    let none = none_of c.accept-by_dict.result c.accept-by_http.result c.turn-turned.result (sym c.has_any.ensures ∙ still) in
+    let none = none_of c.accept-by_dict.result c.accept_editor-by_http.result c.turn-turned.result (sym c.has_any.ensures ∙ still) in
     record {
-      dict = λ ready. absurd (let never : true ≡ false = sym (ap is_ready (sym c.accept-by_http.ensures.other ∙ ready)) ∙ sym c.accept-by_dict.ensures.asked ∙ none.0 in cc);
-      http = λ ready. absurd (let never : true ≡ false = sym (ap is_ready ready) ∙ sym c.accept-by_http.ensures.asked ∙ none.1 in cc);
+      dict = λ ready. absurd (let never : true ≡ false = sym (ap is_ready (sym c.accept_editor-by_http.ensures.dict ∙ ready)) ∙ sym c.accept-by_dict.ensures.asked ∙ none.0 in cc);
+      http = λ ready. absurd (let never : true ≡ false = sym (ap is_ready ready) ∙ sym c.accept_editor-by_http.ensures.asked ∙ none.1 in cc);
       read = c.turn-turned.ensures.idle none.2;
     })

@@ -1,0 +1,269 @@
+// An install that is prepared between rounds: the octets that complete it are held back meanwhile.
+use crate::checks::same;
+use crate::fair::{After, Talker, turn};
+use crate::parts::PartsDesk;
+use crate::rooms::Rooms;
+use crate::serving::{Play, Step};
+use dict_desk::PlainDesk;
+use dict_driver::{Connection, Stage};
+use dict_hub::{Hub, Kind};
+use std::alloc::Global;
+use std::net::{Net, TcpStream};
+use std::test::Fail;
+
+const FIRST: &str = "220 localhost dictcat ready <1@localhost>\r\n";
+
+const EMPTY: &str = "210 0 databases\r\n";
+
+const ONE: &str = "210 1 databases\r\n";
+
+// A request for an install, without the last 65,536 octets of its text.
+const HEAD: &[u8] =
+    b"PUT /databases/gem HTTP/1.1\r\nRequest-Id: r1\r\nContent-Length: 65637\r\n\r\n53\n00-database-short\tA\tZ\nopal\tZ\tP\nFire Opal\tZ\tP\ndot\to\tF\n00-database-short\n  Gems\nopal\n  a stone\n.dot\n";
+
+const INSTALLED: &str =
+    "HTTP/1.1 200 OK\r\nContent-Type: application/json\r\nContent-Length: 54\r\nConnection: close\r\n\r\n{\"edition\":1,\"name\":\"gem\",\"number\":1,\"verb\":\"install\"}";
+
+static TWO_CLIENTS: [Step; 3] = [Step::Reader, Step::Got(0, FIRST), Step::Editor];
+
+static A_PIECE: [Step; 1] = [Step::Fill(1)];
+
+static ANOTHER_EDITOR: [Step; 2] = [Step::Editor, Step::Got(1, "")];
+
+// A reader has come, an editor whose request wants 4,096 octets to be whole, and another editor.
+fn gather(net: &impl Net<Stream = TcpStream>, play: &mut Play) -> Result<(), Fail> {
+    play.run(net, &TWO_CLIENTS)?;
+    play.client(1)?.send(HEAD)?;
+    play.settle()?;
+    for _ in 0..15u32 {
+        play.run(net, &A_PIECE)?;
+    }
+    play.run(net, &ANOTHER_EDITOR)
+}
+
+// The request is made whole, and the reader and the other editor ask: rounds until all parts but those of the last round are
+// prepared.
+fn prepare_all(play: &mut Play, desk: &mut PartsDesk) -> Result<(), Fail> {
+    play.client(0)?.send(b"STATUS\r\n")?;
+    play.client(1)?.fill()?;
+    play.client(2)?.send(b"GET /databases HTTP/1.1\r\n\r\n")?;
+    for _ in 0..100u32 {
+        play.driver.event_loop.round(desk)?;
+        if desk.expected > 0 && desk.left == 0 {
+            return Ok(());
+        }
+    }
+    Err(Fail::new("nothing is prepared"))
+}
+
+// Rounds until nothing happens.
+fn settle(play: &mut Play, desk: &mut PartsDesk) -> Result<(), Fail> {
+    for _ in 0..1_000u32 {
+        if !play.driver.event_loop.round(desk)? {
+            return Ok(());
+        }
+    }
+    Err(Fail::new("no end of rounds"))
+}
+
+// The reader asks for the status, and gets this.
+fn ask(play: &mut Play, desk: &mut PartsDesk, answer: &str) -> Result<(), Fail> {
+    play.client(0)?.send(b"STATUS\r\n")?;
+    settle(play, desk)?;
+    play.client(0)?.got(answer.as_bytes())
+}
+
+// The reader is answered before the install, and both editors behind it.
+fn be_between(
+    net: &impl Net<Stream = TcpStream>,
+    play: &mut Play,
+    desk: &mut PartsDesk,
+) -> Result<usize, Fail> {
+    gather(net, play)?;
+    prepare_all(play, desk)?;
+    play.client(0)?.got(EMPTY.as_bytes())?;
+    play.client(1)?.got(b"")?;
+    play.client(2)?.got(b"")?;
+    settle(play, desk)?;
+    play.client(1)?.got(INSTALLED.as_bytes())?;
+    ask(play, desk, ONE)?;
+    Ok(play.client(2)?.read()?)
+}
+
+#[test]
+fn a_reader_between(rt: HostRuntime) -> Result<(), Fail> {
+    let mut play = Play::new(&rt, rt.alloc())?;
+    let mut desk = PartsDesk::new(PlainDesk::new(rt.alloc()), 3);
+    let came = be_between(&rt, &mut play, &mut desk);
+    let counts = (desk.expected, desk.applied);
+    drop(play);
+    drop(desk);
+    same(&rt, &(came? > 0), &true);
+    same(&rt, &counts, &(1, 1));
+    Ok(())
+}
+
+// The other editor and then the one whose install is prepared are gone before it is done.
+fn leave_meanwhile(
+    net: &impl Net<Stream = TcpStream>,
+    play: &mut Play,
+    desk: &mut PartsDesk,
+) -> Result<(), Fail> {
+    gather(net, play)?;
+    prepare_all(play, desk)?;
+    play.leave();
+    play.leave();
+    settle(play, desk)?;
+    play.client(0)?.got(EMPTY.as_bytes())?;
+    ask(play, desk, ONE)
+}
+
+#[test]
+fn an_editor_that_leaves(rt: HostRuntime) -> Result<(), Fail> {
+    let mut play = Play::new(&rt, rt.alloc())?;
+    let mut desk = PartsDesk::new(PlainDesk::new(rt.alloc()), 3);
+    let end = leave_meanwhile(&rt, &mut play, &mut desk);
+    let counts = (desk.expected, desk.applied);
+    drop(play);
+    drop(desk);
+    end?;
+    same(&rt, &counts, &(1, 1));
+    Ok(())
+}
+
+const FOURTH: &str = "220 localhost dictcat ready <4@localhost>\r\n";
+
+// An editor and then a reader come while an install is prepared: the reader alone is greeted and let in.
+fn come_meanwhile(
+    net: &impl Net<Stream = TcpStream>,
+    play: &mut Play,
+    desk: &mut PartsDesk,
+) -> Result<usize, Fail> {
+    gather(net, play)?;
+    play.client(1)?.fill()?;
+    for _ in 0..100u32 {
+        if desk.expected == 0 {
+            play.driver.event_loop.round(desk)?;
+        }
+    }
+    play.come(net, play.http)?;
+    play.client(3)?.send(b"GET /databases HTTP/1.1\r\n\r\n")?;
+    play.come(net, play.dict)?;
+    for _ in 0..100u32 {
+        play.driver.event_loop.round(desk)?;
+    }
+    play.client(4)?.got(FOURTH.as_bytes())?;
+    play.client(3)?.got(b"")?;
+    Ok(play.driver.event_loop.open_count())
+}
+
+// Four are open meanwhile, and the editor is answered behind the install.
+fn come_in(
+    net: &impl Net<Stream = TcpStream>,
+    play: &mut Play,
+    desk: &mut PartsDesk,
+) -> Result<bool, Fail> {
+    let open = come_meanwhile(net, play, desk)?;
+    let is_preparing = desk.left > 0;
+    settle(play, desk)?;
+    play.client(1)?.got(INSTALLED.as_bytes())?;
+    let came = play.client(3)?.read()?;
+    Ok(open == 4 && is_preparing && came > 0)
+}
+
+#[test]
+fn an_editor_that_comes(rt: HostRuntime) -> Result<(), Fail> {
+    let mut play = Play::new(&rt, rt.alloc())?;
+    let mut desk = PartsDesk::new(PlainDesk::new(rt.alloc()), 300);
+    let is_so = come_in(&rt, &mut play, &mut desk);
+    let counts = (desk.expected, desk.applied);
+    drop(play);
+    drop(desk);
+    same(&rt, &is_so?, &true);
+    same(&rt, &counts, &(1, 1));
+    Ok(())
+}
+
+const FILLER: &[u8] = &[b'x'; 4_096];
+
+// The whole request, a piece a reading.
+static REQUEST: [&[u8]; 17] = [
+    HEAD, FILLER, FILLER, FILLER, FILLER, FILLER, FILLER, FILLER, FILLER, FILLER, FILLER, FILLER,
+    FILLER, FILLER, FILLER, FILLER, FILLER,
+];
+
+// A connection of this kind to the peer that sends the request.
+fn open(
+    alloc: Global,
+    hub: &mut Hub,
+    desk: &mut PartsDesk,
+    kind: Kind,
+) -> Result<Connection<Talker>, Fail> {
+    match Connection::open(
+        &Rooms,
+        alloc,
+        7,
+        kind,
+        Talker::new(&REQUEST, 1_000),
+        hub,
+        desk,
+    ) {
+        Some(one) => Ok(one),
+        None => Err(Fail::new("refused")),
+    }
+}
+
+// An editor's connection over a desk that prepares by so many parts: how many turns it is held back, up to so many, and what
+// comes of the next one.
+fn count_turns(alloc: Global, each: u32, most: u32) -> Result<(u32, After), Fail> {
+    let mut desk = PartsDesk::new(PlainDesk::new(alloc), each);
+    let mut hub = Hub::new(alloc, "localhost")?;
+    let mut one = open(alloc, &mut hub, &mut desk, Kind::Http)?;
+    for _ in 0..16u32 {
+        turn(&mut one, &mut hub, &mut desk, false);
+    }
+    for held in 0..most {
+        let is_preparing = one.is_held_back();
+        let after = turn(&mut one, &mut hub, &mut desk, is_preparing);
+        if !one.is_held_back() {
+            return Ok((held, after));
+        }
+    }
+    Err(Fail::new("it is held back still"))
+}
+
+// By three parts in three turns; and at most 1,000,000 turns. Nothing is read meanwhile.
+#[test]
+fn turns_in_which_it_is_held_back(rt: HostRuntime) -> Result<(), Fail> {
+    let answered = After(Stage::Closing, 0, 17);
+    same(&rt, &count_turns(rt.alloc(), 0, 10)?, &(0, answered));
+    same(&rt, &count_turns(rt.alloc(), 3, 10)?, &(3, answered));
+    let (held, after) = count_turns(rt.alloc(), u32::MAX, 2_000_000)?;
+    same(&rt, &held, &1_000_000);
+    same(&rt, &after, &answered);
+    Ok(())
+}
+
+// A turn of a connection of this kind while what another one sent is prepared.
+fn turn_meanwhile(alloc: Global, kind: Kind) -> Result<After, Fail> {
+    let mut desk = PartsDesk::new(PlainDesk::new(alloc), 3);
+    let mut hub = Hub::new(alloc, "localhost")?;
+    let mut one = open(alloc, &mut hub, &mut desk, kind)?;
+    Ok(turn(&mut one, &mut hub, &mut desk, true))
+}
+
+// A reader's is read, and an editor's isn't.
+#[test]
+fn others_meanwhile(rt: HostRuntime) -> Result<(), Fail> {
+    same(
+        &rt,
+        &turn_meanwhile(rt.alloc(), Kind::Http)?,
+        &After(Stage::Open, 0, 0),
+    );
+    same(
+        &rt,
+        &turn_meanwhile(rt.alloc(), Kind::Dict)?,
+        &After(Stage::Open, 43, 1),
+    );
+    Ok(())
+}
