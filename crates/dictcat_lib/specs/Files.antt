@@ -1,6 +1,11 @@
--- What is left of a file that was closed.
-use Rattle.std.specs.Prelude.{◌≡◌, [], List, Option, Some, None, MatchOption, Contains, Result, Ok, Err, ⊤}
-use Rattle.sqlite.specs.FileStore.{view}
+-- The files of a catalogue: the connection that they are opened as, and what is left of it.
+use Rattle.std.specs.Prelude.{◌≡◌, List, Option, Some, None, Contains, ⊤}
+use Rattle.sqlite.specs.FileStore.{view, files as files_in}
+use Rattle.sqlite.specs.Files.{IsClosed, IsCleanLeft, IsOpened, file_state, over_files}
+use Rattle.sqlite.specs.Held.{Held, IsNew}
+use Rattle.sqlite.specs.Recovery.{Image}
+use Rattle.sqlite.specs.Start.{FindsIn}
+use Rattle.sqlite.specs.State.{HasCleanDisk}
 use Rattle.sqlite.specs.View.{IsClean}
 use Rattle.sqlite.specs.WalReads.{AreClean}
 use Rattle.sqlite_disk.specs.declared.Disk as disk
@@ -12,26 +17,62 @@ use Rattle.dict_messages.specs.Faults.{told_of}
 use Rattle.dict_messages.specs.declared.fault.ProgramFault.{ProgramFault}
 use Rattle.dict_store.specs.Closed.{HoldsAlone, IsUncopied, StoreLeaves}
 use Rattle.dict_store.specs.Desk.{DeskState}
+use Rattle.dict_store.specs.Over.{Leaves}
+use Rattle.dict_store.specs.Reopened.{IsLetGo}
+use Rattle.dict_store.specs.Unopened.{HandsBack}
+use Rattle.dict_store.specs.declared.reopening.Unopened.{Unopened}
+use Rattle.dict_store.specs.declared.reopening.Unopened.TheVariants as handed
+use Rattle.dictcat_lib.specs.declared.left.Left.{Left}
+use Rattle.dictcat_lib.specs.declared.left.Left.TheVariants as left
 
 module _ {D : Type 0} {g : disk.Ghosts D} where
-  -- the two files, whose log was copied; or the store, whose log wasn't; or none was closed. They returned what was written to them
-  abbrev pub IsSafe : Option (Result (Files D) (FileStore D g)) → Type 0
+  -- The connection that two files with these octets were opened as: it shows what they hold, and nothing was asked of it.
+  pub record IsOpenedFrom (image : Image) (conn : Held (FileStore D g)) : Type 0 where
+    pub live : HasCleanDisk (file_state conn) → IsOpened conn × FindsIn image (file_state conn)
+    pub new : IsNew conn
+
+  -- A connection was closed, and a stop leaves nothing more: its two files are left, whose log was copied; or its store, whose log wasn't.
+  abbrev pub IsPutAway : Held (FileStore D g) → Left D g → Type 0
+  IsPutAway conn (left.Closed files) = (last : FileStore D g) × (files_in last ≡ (files.log, files.db)) × IsClosed conn last
+  IsPutAway conn (left.Uncopied store) = IsClosed conn store
+  IsPutAway conn (left.Unopened rest) = ⊥
+  IsPutAway conn (left.Kept other) = ⊥
+
+  -- what is held of a file is a connection that was closed
+  abbrev pub IsHeldOf : Held (FileStore D g) → Option (Left D g) → Type 0
+  IsHeldOf conn None = ⊥
+  IsHeldOf conn (Some it) = IsPutAway conn it
+
+  -- what was handed back has returned what was written to it
+  abbrev pub IsSafeRest : Unopened D g → Type 0
+  IsSafeRest (handed.Files None) = ⊤
+  IsSafeRest (handed.Files (Some rest)) = IsCleanLeft rest
+  IsSafeRest (handed.Spent files) = AreClean g files.log files.db
+  IsSafeRest (handed.Database conn) = HasCleanDisk (file_state conn)
+
+  -- so has what is held, if something is
+  abbrev pub IsSafe : Option (Left D g) → Type 0
   IsSafe None = ⊤
-  IsSafe (Some (Ok files)) = AreClean g files.log files.db
-  IsSafe (Some (Err store)) = IsClean (view store)
+  IsSafe (Some (left.Closed files)) = AreClean g files.log files.db
+  IsSafe (Some (left.Uncopied store)) = IsClean (view store)
+  IsSafe (Some (left.Unopened rest)) = IsSafeRest rest
+  IsSafe (Some (left.Kept conn)) = HasCleanDisk (file_state conn)
 
   -- the database file holds this catalogue without its log
-  abbrev pub IsAloneIn : Option (Result (Files D) (FileStore D g)) → Catalogue → Type 0
-  IsAloneIn (Some (Ok files)) M = HoldsAlone g files M
+  abbrev pub IsAloneIn : Option (Left D g) → Catalogue → Type 0
+  IsAloneIn (Some (left.Closed files)) M = HoldsAlone g files M
   IsAloneIn _ M = ⊥
 
-  -- whatever a stop now leaves of the file with its log is one of these
-  abbrev pub StillLeaves : Option (Result (Files D) (FileStore D g)) → List (Option Catalogue) → Type 0
-  StillLeaves None ms = ⊥
-  StillLeaves (Some (Ok files)) ms = (M : Catalogue) × Contains ms (Some M) × HoldsAlone g files M
-  StillLeaves (Some (Err store)) ms = StoreLeaves store ms
+  -- Whatever a stop now leaves of what is held of a desk's file, with its log, is one of these. Of two files that weren't opened again it
+  -- is what they held as the desk let go of them.
+  abbrev pub StillLeaves : DeskState (FileStore D g) → Option (Left D g) → List (Option Catalogue) → Type 0
+  StillLeaves desk None ms = ⊥
+  StillLeaves desk (Some (left.Closed files)) ms = (M : Catalogue) × Contains ms (Some M) × HoldsAlone g files M
+  StillLeaves desk (Some (left.Uncopied store)) ms = StoreLeaves store ms
+  StillLeaves desk (Some (left.Unopened rest)) ms = (files : Files D) × IsLetGo desk.conn files × HandsBack files ms rest
+  StillLeaves desk (Some (left.Kept conn)) ms = Leaves over_files conn ms
 
   -- why the log of a desk wasn't copied, of the store that is left, as the program tells it
-  abbrev pub IsToldUncopied : DeskState (FileStore D g) → Option (Result (Files D) (FileStore D g)) → ProgramFault → Type 0
-  IsToldUncopied desk (Some (Err store)) fault = (why : DeskFault) × (fault ≡ told_of why) × IsUncopied desk store why
+  abbrev pub IsToldUncopied : DeskState (FileStore D g) → Option (Left D g) → ProgramFault → Type 0
+  IsToldUncopied desk (Some (left.Uncopied store)) fault = (why : DeskFault) × (fault ≡ told_of why) × IsUncopied desk store why
   IsToldUncopied desk _ fault = ⊥

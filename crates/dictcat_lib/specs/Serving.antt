@@ -3,12 +3,17 @@ use Rattle.std.specs.Prelude.{ℕ, List, Option, Err}
 use Rattle.dict_desk.specs.declared.lookup.Lookup as lookup
 use Rattle.dict_io.specs.Streams.{StreamChange}
 use Rattle.dict_messages.specs.declared.fault.ProgramFault.{ProgramFault}
+use Rattle.dict_serving.specs.Deeds.{WasShut}
 use Rattle.dict_serving.specs.Done.{WasDone}
-use Rattle.dict_serving.specs.Serving.{HasServed}
+use Rattle.dict_serving.specs.Serving.{HasServed, IsNotReopened}
 use Rattle.dict_serving.specs.declared.desks.DeskOpener as desks
+
+-- the file of a desk was closed, and this is what is held of it
+abbrev pub WasShutBy : {K D : Type 0} → lookup.Ghosts K → desks.Ghosts D K → D → K → Type 0
+WasShutBy k d = WasShut k.shows k.leaves_one_of k.is_trusted d.is_safe d.holds_alone d.still_leaves d.is_uncopied
 
 -- the catalogue of the file with a path was served at two addresses, which were told, until this fault ended it
 abbrev pub IsServedUntil : {K D : Type 0} → lookup.Ghosts K → desks.Ghosts D K → List ℕ → List ℕ → List ℕ → Option ℕ → D → D → ProgramFault → StreamChange → Type 0
 IsServedUntil k d path dict http rounds old new fault writer =
-    (desk : _) × (served : HasServed k.shows k.leaves_one_of k.is_trusted d.is_opened k.is_closed desk dict http rounds (Err fault) (d.is_unreopened path) writer)
-    × WasDone (d.history old) (d.history new) path desk served.stretches
+    (desk : _) × (served : HasServed k.shows k.leaves_one_of k.is_trusted d.is_opened k.is_closed desk dict http rounds (Err fault) (WasShutBy k d new) (IsNotReopened k.leaves_one_of d.is_unreopened d.still_leaves new path) writer)
+    × WasDone (WasShutBy k d new) (d.history old) (d.history new) path desk served.stretches

@@ -12,12 +12,13 @@ use Rattle.dict_session.specs.Desks.{Stays as DeskStays}
 use Rattle.dict_serving.specs.Deeds.{Makes, Opens, Speaks, Closes, Does, IsShut}
 use Rattle.dict_driver.specs.declared.driver.Driver.{Driver}
 use Rattle.dict_serving.specs.Done.{ServeEnds}
-use Rattle.dict_serving.specs.Serving.{IsNew, IsNone}
+use Rattle.dict_serving.specs.Serving.{IsNew, IsNone, IsNotReopened}
 use Rattle.dict_serving.specs.declared.desks.DeskOpener as desks
 use Rattle.dict_actions.specs.Changing.{IsChanged}
 use Rattle.dict_actions.specs.Installing.{InstallEnds}
 use Rattle.dict_actions.specs.Listed.{IsListed}
 use Rattle.dictcat_lib.specs.Catalogues.{IsSpared, IsMade, Stays}
+use Rattle.dictcat_lib.specs.Serving.{WasShutBy}
 use Rattle.dictcat_lib.specs.declared.catalogues.Catalogues as catalogues
 
 -- a file was read whole, and then closed: that it is sound is told where both went well, and else the first fault
@@ -34,13 +35,13 @@ module _ {K D : Type 0} (k : lookup.Ghosts K) (d : desks.Ghosts D K) where
 
   -- a desk was opened, and answers
   abbrev pub IsAnswering : K → Type 0
-  IsAnswering desk = IsNew k.shows k.leaves_one_of k.is_trusted d.is_opened desk × (k.is_closed desk ≡ false)
+  IsAnswering desk = IsNew k.shows k.leaves_one_of k.is_trusted (d.is_opened None) desk × (k.is_closed desk ≡ false)
 
   -- There is no desk of the file with a path; or one was opened, this was done over it, and what it became was closed. Nothing else was
   -- done to any file
   abbrev pub EndsOn : List ℕ → (K → K → Result (Unit {0}) ProgramFault → Type 0) → D → D → Result (Unit {0}) ProgramFault → StreamChange → Type 0
   EndsOn path Done old new result writer =
-      ((fault : ProgramFault) × (result ≡ Err fault) × IsNone (d.is_unopened path) fault × Does (d.history old) (d.history new) (Opens path None ∷ []) × IsUntouched writer)
+      ((fault : ProgramFault) × (result ≡ Err fault) × IsNone (d.is_unopened path old new) fault × Does (d.history old) (d.history new) (Opens path None ∷ []) × IsUntouched writer)
       ⊎ ((desk : K) × (left : K) × (closed : Result (Unit {0}) ProgramFault) × IsAnswering desk
       × Does (d.history old) (d.history new) (Opens path (Some desk) ∷ Closes left ∷ []) × IsShutBy left closed new × Done desk left closed)
 
@@ -65,7 +66,7 @@ module _ {K D : Type 0} (k : lookup.Ghosts K) (d : desks.Ghosts D K) where
   -- the catalogue of the file with a path was served at two addresses, for so many rounds, or wasn't
   unfoldable pub ServesOn : List ℕ → List ℕ → List ℕ → Option ℕ → D → D → Result (Unit {0}) ProgramFault → StreamChange → Type 0
   ServesOn path dict http rounds old new result writer =
-      (kept : Option Driver) × ServeEnds k.shows k.leaves_one_of k.is_trusted d.is_opened k.is_closed d.is_unopened d.is_unreopened (d.history old) (d.history new) path dict http rounds result writer kept
+      (kept : Option Driver) × ServeEnds k.shows k.leaves_one_of k.is_trusted d.is_opened k.is_closed (λ path. d.is_unopened path old new) (WasShutBy k d new) (IsNotReopened k.leaves_one_of d.is_unreopened d.still_leaves new) (d.history old) (d.history new) path dict http rounds result writer kept
 
   module _ (c : catalogues.Ghosts D K) where
     -- the file that was closed holds alone a catalogue that the desk showed: this is told where it returned what was written to it
@@ -86,7 +87,7 @@ module _ {K D : Type 0} (k : lookup.Ghosts K) (d : desks.Ghosts D K) where
     -- a catalogue was made in the file with a path, and the file closed; or none was. Nothing else was done to any file
     abbrev pub CreateEnds : List ℕ → D → D → Result (Unit {0}) ProgramFault → Type 0
     CreateEnds path old new result =
-        ((fault : ProgramFault) × (result ≡ Err fault) × c.is_unmade path fault × Does (d.history old) (d.history new) (Makes path None ∷ []))
+        ((fault : ProgramFault) × (result ≡ Err fault) × c.is_unmade path old new fault × Does (d.history old) (d.history new) (Makes path None ∷ []))
         ⊎ ((desk : K) × (closed : Result (Unit {0}) ProgramFault) × (result ≡ Ok tt) × IsMade k.shows k.leaves_one_of c.is_made desk
         × Does (d.history old) (d.history new) (Makes path (Some desk) ∷ Closes desk ∷ []) × IsShutBy desk closed new)
 
@@ -94,5 +95,5 @@ module _ {K D : Type 0} (k : lookup.Ghosts K) (d : desks.Ghosts D K) where
     -- done to any file
     abbrev pub SessionEnds : List ℕ → D → D → Result (Unit {0}) ProgramFault → StreamChange → StreamChange → Type 0
     SessionEnds path old new result reader writer =
-        ((left : Option K) × c.has_spoken path left result reader writer × Does (d.history old) (d.history new) (Speaks path left ∷ [])
+        ((left : Option K) × c.has_spoken path left old new result reader writer × Does (d.history old) (d.history new) (Speaks path left ∷ [])
         × MatchOption left ⊤ (λ desk. (closed : Result (Unit {0}) ProgramFault) × IsShutBy desk closed new)) × IsSpared result reader writer

@@ -15,8 +15,8 @@ pub trait Catalogues<K: Keeper>: DeskOpener<K> {
     /// The desk is one over the catalogue that was made in the database that a file was opened or made as, before its first call.
     ghost is_made: { K → Type 0 };
 
-    /// The fault tells why no catalogue was made in the file with this path.
-    ghost is_unmade: { List ℕ → PrintedFault → Type 0 };
+    /// The fault tells why no catalogue was made in the file with this path, by what was held of files before and is held now.
+    ghost is_unmade: { List ℕ → Self → Self → PrintedFault → Type 0 };
 
     /// The file of a desk was read whole, between these two states of it, and holds a catalogue.
     ghost is_sound: { K → K → Type 0 };
@@ -25,12 +25,12 @@ pub trait Catalogues<K: Keeper>: DeskOpener<K> {
     ghost is_unsound: { K → K → PrintedFault → Type 0 };
 
     /// A session over the catalogue of the file with this path, of host `localhost` and as connection 1, read and wrote this and
-    /// ended so, and left this desk; or the file had none.
-    ghost has_spoken: { List ℕ → Option K → Result (Unit {0}) PrintedFault → StreamChange → StreamChange → Type 0 };
+    /// ended so, and left this desk; or the file had none, by what was held of files before and is held now.
+    ghost has_spoken: { List ℕ → Option K → Self → Self → Result (Unit {0}) PrintedFault → StreamChange → StreamChange → Type 0 };
 
     /// Makes an empty catalogue in the file with this path, and opens its desk. A stop leaves that catalogue alone.
     fn make<'w>(&mut self, path: &'w str) -> Result<K, ProgramFault<'w>>
-        ensures made { MatchResult result (IsMade K.shows K.leaves_one_of is_made) (is_unmade path.entry.now) }
+        ensures made { MatchResult result (IsMade K.shows K.leaves_one_of is_made) (is_unmade path.entry.now self.old self.new) }
         ensures history { Does (Self.history self.old) (Self.history self.new) (Makes path.entry.now (got result) ∷ []) };
 
     /// Reads the file of a desk whole again. Nothing is written.
@@ -46,7 +46,7 @@ pub trait Catalogues<K: Keeper>: DeskOpener<K> {
         reader: &mut S,
         writer: &mut W,
     ) -> Result<(), ProgramFault<'w>>
-        ensures spoken { (left : Option K) × has_spoken path.entry.now left result (change S.stream reader.old reader.new) (change W.stream writer.old writer.new)
+        ensures spoken { (left : Option K) × has_spoken path.entry.now left self.old self.new result (change S.stream reader.old reader.new) (change W.stream writer.old writer.new)
             × Does (Self.history self.old) (Self.history self.new) (Speaks path.entry.now left ∷ [])
             × MatchOption left ⊤ (λ desk. (closed : Result (Unit {0}) PrintedFault) × IsShut K.shows K.leaves_one_of K.is_trusted Self.is_safe Self.holds_alone Self.still_leaves Self.is_uncopied desk closed self.new) }
         ensures spared { IsSpared result (change S.stream reader.old reader.new) (change W.stream writer.old writer.new) };

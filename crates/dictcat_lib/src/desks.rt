@@ -1,97 +1,88 @@
 // The desk of a file's catalogue.
-ghost use Rattle.std.specs.Prelude.{◌≡◌, ◌⊎◌, false, IfOk, MatchResult};
-ghost use Rattle.dict_messages.specs.Faults.{told_of};
+ghost use Rattle.std.specs.Prelude.{◌≡◌, false, List, Option, Some, None, IfOk, IfErr, MatchResult};
+ghost use Rattle.sqlite.specs.Files.{over_files};
+ghost use Rattle.sqlite.specs.WalFiles.{image_at};
+ghost use Rattle.dict_catalogue.specs.Steps.{Catalogue};
 ghost use Rattle.dict_store.specs.Desk.{Shows, LeavesOneOf, is_closed};
+ghost use Rattle.dict_store.specs.Reopened.{IsReopened};
 ghost use Rattle.dict_serving.specs.Serving.{Follows, IsNew, IsNone};
 ghost use Rattle.dictcat_lib.specs.Catalogues.{IsMade};
-ghost use Rattle.dictcat_lib.specs.DeskOpener.{IsDesk, IsNoDesk, IsNoDeskAgain, IsTrusted};
-ghost use Rattle.dictcat_lib.specs.Opening.{IsMadeDesk, IsUnmade, IsUnavailable};
+ghost use Rattle.dictcat_lib.specs.DeskOpener.{IsDesk, IsMadeDesk, IsNoDesk, IsNoDeskAgain, IsTrusted, IsUnmade};
+ghost use Rattle.dictcat_lib.specs.Files.{StillLeaves};
 
-use crate::stores::{close_file, make_file, open_file, options};
-use dict_desk::Fault as DeskFault;
+use crate::left::{Left, hold};
+use crate::stores::{close_file, make_file, open_file, options, told_unopened};
 use dict_messages::ProgramFault;
-use dict_store::{Desk, Unopened};
-use sqlite::{File, FileStore};
+use dict_store::Desk;
+use sqlite::{FileFrom, FileStore, Start};
 use sqlite_disk::Disk;
-use sqlite_trees::store::Store;
 
-// The desk of an empty catalogue that is made in the file with this path.
-pub(crate) fn make_desk<'w>(
+// The desk of an empty catalogue that is made in the file with this path. Where none is made, `held` is what is left of the file.
+pub(crate) fn make_desk<'w, S: Start>(
     rt: &HostRuntime,
     file: &'w str,
-) -> Result<Desk<FileStore<File>>, ProgramFault<'w>>
+    start: &mut Option<S>,
+    held: &mut Option<Left<FileFrom<S>>>,
+) -> Result<Desk<FileStore<FileFrom<S>>>, ProgramFault<'w>>
     ensures { MatchResult result
-        (IsMade (Shows ⟦<FileStore<File> as Store>⟧) (LeavesOneOf ⟦<FileStore<File> as Store>⟧) (IsMadeDesk ⟦<FileStore<File> as Store>⟧))
-        (IsUnmade ⟦<FileStore<File> as Store>⟧ file.entry.now) }
+        (IsMade (Shows over_files) (LeavesOneOf over_files) (IsMadeDesk (image_at S.Start)))
+        (IsUnmade (image_at S.Start) file.entry.now start.old start.new held.old held.new) }
 {
-    let conn = make_file(rt, file)?;
+    let conn = make_file(rt, file, start, held)?;
     match Desk::create(rt.alloc(), conn) {
         Ok(desk) => Ok(desk),
         Err((conn, fault)) => {
-            close_file(conn);
+            hold(held, close_file(conn));
             Err(ProgramFault::from(fault))
         }
     }
 }
 
-// The desk of the catalogue in the file with this path.
-pub(crate) fn open_desk<'w>(
+// The desk of the catalogue in the file with this path. Where there is none, `held` is what is left of the file.
+pub(crate) fn open_desk<'w, S: Start>(
     rt: &HostRuntime,
     file: &'w str,
-) -> Result<Desk<FileStore<File>>, ProgramFault<'w>>
+    start: &mut Option<S>,
+    held: &mut Option<Left<FileFrom<S>>>,
+) -> Result<Desk<FileStore<FileFrom<S>>>, ProgramFault<'w>>
     ensures opened { MatchResult result
-        (IsNew (Shows ⟦<FileStore<File> as Store>⟧) (LeavesOneOf ⟦<FileStore<File> as Store>⟧) (IsTrusted ⟦<FileStore<File> as Store>⟧) (IsDesk ⟦<FileStore<File> as Store>⟧))
-        (IsNone (IsNoDesk ⟦<FileStore<File> as Store>⟧ file.entry.now)) }
+        (IsNew (Shows over_files) (LeavesOneOf over_files) IsTrusted (IsDesk (image_at S.Start) None))
+        (IsNone (IsNoDesk (image_at S.Start) file.entry.now start.old start.new held.old held.new)) }
     ensures answers { IfOk result (λ desk. is_closed desk.last ≡ false) }
 {
-    let conn = open_file(rt, file)?;
+    let conn = open_file(rt, file, start, held)?;
     match Desk::adopt(rt.alloc(), conn) {
         Ok(desk) => Ok(desk),
         Err((conn, fault)) => {
-            close_file(conn);
+            hold(held, close_file(conn));
             Err(ProgramFault::from(fault))
         }
     }
 }
 
-// The desk of the same file, which is opened again, after this one's store failed.
-pub(crate) fn reopen_desk<'w>(
+// The desk of the same files, which are opened again, after this one's store failed. Where there is none, `held` is what is left of them.
+pub(crate) fn reopen_desk<'w, D: Disk + Drop>(
     rt: &HostRuntime,
     file: &'w str,
-    desk: Desk<FileStore<File>>,
-) -> Result<Desk<FileStore<File>>, ProgramFault<'w>>
+    desk: Desk<FileStore<D>>,
+    held: &mut Option<Left<D>>,
+) -> Result<Desk<FileStore<D>>, ProgramFault<'w>>
     ensures opened { MatchResult result
-        (IsNew (Shows ⟦<FileStore<File> as Store>⟧) (LeavesOneOf ⟦<FileStore<File> as Store>⟧) (IsTrusted ⟦<FileStore<File> as Store>⟧) (IsDesk ⟦<FileStore<File> as Store>⟧))
-        (IsNone (IsNoDeskAgain file.entry.now desk)) }
-    ensures follows { IfOk result (Follows (Shows ⟦<FileStore<File> as Store>⟧) (LeavesOneOf ⟦<FileStore<File> as Store>⟧) (IsTrusted ⟦<FileStore<File> as Store>⟧) desk) }
+        (IsNew (Shows over_files) (LeavesOneOf over_files) IsTrusted (IsReopened desk))
+        (IsNone (IsNoDeskAgain file.entry.now desk held.new)) }
+    ensures follows { IfOk result (Follows (Shows over_files) (LeavesOneOf over_files) IsTrusted desk) }
+    ensures leaves { IfErr result (λ _. (ms : List (Option Catalogue)) → LeavesOneOf over_files desk ms → StillLeaves desk held.new ms) }
 {
     let Some(options) = options(rt) else {
-        close_file(desk.into_connection());
+        hold(held, Left::Kept(desk.into_connection()));
         return Err(ProgramFault::CannotRead(file));
     };
     match desk.reopen(options) {
         Ok(desk) => Ok(desk),
-        Err((left, fault)) => Err(not_reopened(file, left, fault)),
-    }
-}
-
-// What is told of a file that isn't opened again, and that is closed.
-fn not_reopened<'w, D: Disk + Drop>(
-    file: &'w str,
-    left: Unopened<D>,
-    fault: DeskFault,
-) -> ProgramFault<'w>
-    ensures { (result ≡ told_of fault) ⊎ IsUnavailable file.entry.now result }
-{
-    match left {
-        Unopened::Files(_) => match fault {
-            DeskFault::Memory => ProgramFault::Memory,
-            _ => ProgramFault::CannotRead(file),
-        },
-        Unopened::Spent(_) => ProgramFault::from(fault),
-        Unopened::Database(conn) => {
-            let _ = conn.close();
-            ProgramFault::from(fault)
+        Err((left, fault)) => {
+            let told = told_unopened(file, &left, fault);
+            hold(held, Left::Unopened(left));
+            Err(told)
         }
     }
 }

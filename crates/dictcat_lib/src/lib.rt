@@ -5,6 +5,7 @@ mod catalogues;
 mod desks;
 mod files;
 mod laws;
+mod left;
 mod plain;
 mod program;
 mod session;

@@ -14,11 +14,9 @@ use dict_desk::{Fault as DeskFault, Keeper, PlainDesk};
 use dict_index::{Edition, read_edition};
 use dict_io::{Sink, Source};
 use dict_messages::ProgramFault;
+use dict_serving::HOST;
 use dict_session::{SessionFault, run};
 use std::alloc::Global;
-
-/// The host that the program's sessions are greeted by.
-pub(crate) const HOST: &str = "localhost";
 
 /// The id under which the database is installed.
 const INSTALL_ID: &str = "plain";

@@ -14,9 +14,10 @@ use clap::Error;
 use clap::error::ErrorKind;
 use dict_actions::InputFiles;
 use dict_arguments::read_words;
-use dict_desk::{Keeper, PlainDesk};
+use dict_desk::PlainDesk;
 use dict_io::{Sink, Source};
 use dict_messages::ProgramFault;
+use dict_preparing::Preparer;
 use std::alloc::Global;
 use std::convert::AsStr;
 use std::io;
@@ -28,7 +29,7 @@ use std::io;
 /// No catalogue is opened, changed or closed but that of the file that the words name, and this once, as its task says.
 pub fn command<
     A: AsStr,
-    K: Keeper + Drop,
+    K: Preparer + Drop,
     D: Catalogues<K>,
     I: InputFiles,
     S: Source,

@@ -1,39 +1,49 @@
 // A session over a file's catalogue.
 ghost use Rattle.std.specs.Prelude.{◌≡◌, Err, IfOk, MatchResult};
+ghost use Rattle.sqlite.specs.Files.{over_files};
+ghost use Rattle.sqlite.specs.Held.{Held};
+ghost use Rattle.sqlite.specs.WalFiles.{image_at};
 ghost use Rattle.dict_io.specs.Streams.{change};
 ghost use Rattle.dict_messages.specs.Writing.{IsUntouched};
-ghost use Rattle.sqlite.specs.Held.{Held};
-ghost use Rattle.dictcat_lib.specs.Opening.{HasSpoken, IsNoSession, over_told};
+ghost use Rattle.dictcat_lib.specs.DeskOpener.{IsNoDesk};
+ghost use Rattle.dictcat_lib.specs.Files.{IsOpenedFrom};
+ghost use Rattle.dictcat_lib.specs.Opening.{HasSpoken, over_told};
 
-use crate::plain::HOST;
+use crate::left::{Left, hold};
 use crate::stores::{close_file, open_file};
 use dict_io::{Sink, Source};
 use dict_messages::ProgramFault;
+use dict_serving::HOST;
 use dict_session::{SessionEnd, SessionFault};
 use dict_store::{Desk, session_over};
-use sqlite::{File, FileStore};
-use sqlite_trees::store::Store;
+use sqlite::{FileFrom, FileStore, Start};
 
 // A session's desk, and how it ended.
-type Spoken = (Desk<FileStore<File>>, Result<SessionEnd, SessionFault>);
+type Spoken<S> = (
+    Desk<FileStore<FileFrom<S>>>,
+    Result<SessionEnd, SessionFault>,
+);
 
-// Runs a session over the catalogue in the file with this path, with host `localhost` and as connection 1.
-pub(crate) fn run_session<'w, S: Source, W: Sink>(
+// Runs a session over the catalogue in the file with this path, with host `localhost` and as connection 1. Where there is none, `held`
+// is what is left of the file.
+pub(crate) fn run_session<'w, S: Start, R: Source, W: Sink>(
     rt: &HostRuntime,
     file: &'w str,
-    reader: &mut S,
+    start: &mut Option<S>,
+    held: &mut Option<Left<FileFrom<S>>>,
+    reader: &mut R,
     writer: &mut W,
-) -> Result<Spoken, ProgramFault<'w>>
+) -> Result<Spoken<S>, ProgramFault<'w>>
     ensures spoken { MatchResult result
-        (λ ran. (conn : Held _) × HasSpoken ⟦<FileStore<File> as Store>⟧ conn ran.0 ran.1 (change S.stream reader.old reader.new) (change W.stream writer.old writer.new))
-        (λ fault. IsNoSession ⟦<FileStore<File> as Store>⟧ file.entry.now fault × IsUntouched (change S.stream reader.old reader.new) × IsUntouched (change W.stream writer.old writer.new)) }
-    ensures memory { IfOk result (λ ran. ran.1 ≡ Err SessionFault.Memory → IsUntouched (change S.stream reader.old reader.new) × IsUntouched (change W.stream writer.old writer.new)) }
+        (λ ran. (conn : Held _) × IsOpenedFrom (image_at S.Start) conn × HasSpoken over_files conn ran.0 ran.1 (change R.stream reader.old reader.new) (change W.stream writer.old writer.new))
+        (λ fault. IsNoDesk (image_at S.Start) file.entry.now start.old start.new held.old held.new fault × IsUntouched (change R.stream reader.old reader.new) × IsUntouched (change W.stream writer.old writer.new)) }
+    ensures memory { IfOk result (λ ran. ran.1 ≡ Err SessionFault.Memory → IsUntouched (change R.stream reader.old reader.new) × IsUntouched (change W.stream writer.old writer.new)) }
 {
-    let conn = open_file(rt, file)?;
+    let conn = open_file(rt, file, start, held)?;
     match session_over(rt.alloc(), conn, reader, writer, HOST, 1) {
         Ok(spoken) => Ok(spoken),
         Err((conn, fault)) => {
-            close_file(conn);
+            hold(held, close_file(conn));
             Err(ProgramFault::from(fault))
         }
     }

@@ -1,44 +1,88 @@
 // The databases of files.
 ghost use Rattle.std.specs.Prelude.{◌≡◌, false, IfOk, IfErr};
-ghost use Rattle.dictcat_lib.specs.Opening.{IsUnavailable};
+ghost use Rattle.sqlite.specs.WalFiles.{image_at};
+ghost use Rattle.dictcat_lib.specs.DeskOpener.{IsNotOpened, TellsUnopened};
+ghost use Rattle.dictcat_lib.specs.Files.{IsOpenedFrom, IsPutAway};
 
+use crate::left::{Left, hold};
+use dict_desk::Fault as DeskFault;
 use dict_messages::ProgramFault;
-use sqlite::{Connection, Error, ErrorCode, File, FileStore, Options};
+use dict_store::{Unopened, fault_of_files};
+use sqlite::{Connection, FileFrom, FileStore, Options, Start};
+use sqlite_disk::Disk;
 use std::fs;
 use std::hash::{BuildHasher, RandomState};
 use std::io::ErrorKind;
 
-// The database of one file of the machine.
-pub(crate) type Database = Connection<FileStore<File>>;
-
-// Opens the file with this path. It has to be there.
-pub(crate) fn open_file<'w>(rt: &HostRuntime, path: &'w str) -> Result<Database, ProgramFault<'w>>
+// Opens the file with this path, once. It has to be there. Where it isn't opened, `held` is what `sqlite` left of it, if that was asked.
+pub(crate) fn open_file<'w, S: Start>(
+    rt: &HostRuntime,
+    path: &'w str,
+    start: &mut Option<S>,
+    held: &mut Option<Left<FileFrom<S>>>,
+) -> Result<Connection<FileStore<FileFrom<S>>>, ProgramFault<'w>>
+    ensures opened { IfOk result (IsOpenedFrom (image_at S.Start)) }
     ensures autocommit { IfOk result (λ conn. conn.in_transaction ≡ false) }
-    ensures unopened { IfErr result (IsUnavailable path.entry.now) }
+    ensures unopened { IfErr result (IsNotOpened (image_at S.Start) path.entry.now start.old start.new held.old held.new) }
 {
     match fs::exists(rt, path) {
-        Ok(true) => make_file(rt, path),
+        Ok(true) => make_file(rt, path, start, held),
         Ok(false) => Err(ProgramFault::CannotRead(path)),
         Err(fault) if fault.kind() == ErrorKind::OutOfMemory => Err(ProgramFault::Memory),
         Err(_) => Err(ProgramFault::CannotRead(path)),
     }
 }
 
-// Opens the file with this path, or makes it where none is there.
-pub(crate) fn make_file<'w>(rt: &HostRuntime, path: &'w str) -> Result<Database, ProgramFault<'w>>
+// Opens the file with this path, or makes it where none is there. It is done once: `start` is taken for it.
+pub(crate) fn make_file<'w, S: Start>(
+    rt: &HostRuntime,
+    path: &'w str,
+    start: &mut Option<S>,
+    held: &mut Option<Left<FileFrom<S>>>,
+) -> Result<Connection<FileStore<FileFrom<S>>>, ProgramFault<'w>>
+    ensures opened { IfOk result (IsOpenedFrom (image_at S.Start)) }
     ensures autocommit { IfOk result (λ conn. conn.in_transaction ≡ false) }
-    ensures unopened { IfErr result (IsUnavailable path.entry.now) }
+    ensures unopened { IfErr result (IsNotOpened (image_at S.Start) path.entry.now start.old start.new held.old held.new) }
 {
-    match Connection::open(rt, path) {
+    let Some(first) = start.take() else {
+        return Err(ProgramFault::CannotRead(path));
+    };
+    match Connection::open_from(rt, path, false, first) {
         Ok(conn) => Ok(conn),
-        Err(Error::SqliteFailure(ErrorCode::OutOfMemory)) => Err(ProgramFault::Memory),
-        Err(_) => Err(ProgramFault::CannotRead(path)),
+        Err((error, rest)) => {
+            let left = Unopened::Files(rest);
+            let told = told_unopened(path, &left, fault_of_files(&error));
+            hold(held, Left::Unopened(left));
+            Err(told)
+        }
+    }
+}
+
+// What is told of files that aren't opened, where this is left of them.
+pub(crate) fn told_unopened<'w, D: Disk + Drop>(
+    path: &'w str,
+    left: &Unopened<D>,
+    fault: DeskFault,
+) -> ProgramFault<'w>
+    ensures { TellsUnopened path.entry.now left.now fault result }
+{
+    match left {
+        Unopened::Files(_) => match fault {
+            DeskFault::Memory => ProgramFault::Memory,
+            _ => ProgramFault::CannotRead(path),
+        },
+        Unopened::Spent(_) | Unopened::Database(_) => ProgramFault::from(fault),
     }
 }
 
 // Closes a file, so that what was committed stands in it alone. Where that fails, it stands in its log too.
-pub(crate) fn close_file(conn: Database) {
-    let _ = conn.close();
+pub(crate) fn close_file<D: Disk + Drop>(conn: Connection<FileStore<D>>) -> Left<D>
+    ensures { IsPutAway conn result }
+{
+    match conn.close_files() {
+        Ok(files) => Left::Closed(files),
+        Err((_, store)) => Left::Uncopied(store),
+    }
 }
 
 // How files are opened again, with a random number for the log; none where the system gives none.

@@ -1,7 +1,9 @@
 // What is done of what the program is asked for.
 ghost use Rattle.dict_io.specs.Streams.{change};
 ghost use Rattle.dictcat_lib.specs.Program.{ChangeTaskEnds, TaskEnds};
-ghost use Rattle.dictcat_lib.specs.Working.{ServesOn};
+ghost use Rattle.dict_arguments.specs.Asked.{words_shown};
+ghost use Rattle.dict_catalogue.specs.Commands.{put_virtual};
+ghost use Rattle.dictcat_lib.specs.Working.{ChangeEnds, ServesOn};
 
 use crate::catalogues::Catalogues;
 use crate::plain::run_files;
@@ -12,12 +14,13 @@ use dict_catalogue::Command;
 use dict_desk::{Keeper, PlainDesk};
 use dict_io::{Sink, Source};
 use dict_messages::ProgramFault;
+use dict_preparing::Preparer;
 use dict_serving::{DeskOpener, ServerOptions, serve_catalogue};
 use std::alloc::Global;
 
 /// Does a task: opens the catalogue that it names, reads its files, takes a session's octets from the reader, and writes what it
 /// answers. The catalogue of a session over two files is kept in `plain`, which is made anew for it.
-pub fn perform<'w, K: Keeper + Drop, D: Catalogues<K>, I: InputFiles, S: Source, W: Sink>(
+pub fn perform<'w, K: Preparer + Drop, D: Catalogues<K>, I: InputFiles, S: Source, W: Sink>(
     rt: &HostRuntime,
     task: &Task<'w>,
     desks: &mut D,
@@ -70,7 +73,7 @@ pub fn perform<'w, K: Keeper + Drop, D: Catalogues<K>, I: InputFiles, S: Source,
 
 // Serves the catalogue of a file.
 #[tactic(auto, unfolding(crate::specs::Working::ServesOn))]
-fn serve<'w, K: Keeper + Drop, D: DeskOpener<K>, W: Sink>(
+fn serve<'w, K: Preparer + Drop, D: DeskOpener<K>, W: Sink>(
     rt: &HostRuntime,
     desks: &mut D,
     file: &'w str,
@@ -114,12 +117,7 @@ fn perform_change<'w, K: Keeper + Drop, D: DeskOpener<K>, I: InputFiles, W: Sink
         }
         ItemChange::Virtual { title, members } => {
             let (title, members) = (*title, members.as_slice());
-            let command = Command::PutVirtual {
-                name,
-                title,
-                members,
-            };
-            change_over(desks, file, id, &command, writer)
+            put_virtual_over(desks, file, id, name, title, members, writer)
         }
         ItemChange::Place { place } => {
             let place = u64::from(*place);
@@ -127,4 +125,25 @@ fn perform_change<'w, K: Keeper + Drop, D: DeskOpener<K>, I: InputFiles, W: Sink
             change_over(desks, file, id, &command, writer)
         }
     }
+}
+
+// Puts a virtual item into the catalogue of a file.
+fn put_virtual_over<'w, K: Keeper + Drop, D: DeskOpener<K>, W: Sink>(
+    desks: &mut D,
+    file: &'w str,
+    id: &str,
+    name: &str,
+    title: &str,
+    members: &[&str],
+    writer: &mut W,
+) -> Result<(), ProgramFault<'w>>
+    ensures { ChangeEnds K.Lookup D.DeskOpener file.entry.now id.now (put_virtual name.now title.now (words_shown members.now)) desks.old desks.new result
+        (change W.stream writer.old writer.new) }
+{
+    let command = Command::PutVirtual {
+        name,
+        title,
+        members,
+    };
+    change_over(desks, file, id, &command, writer)
 }

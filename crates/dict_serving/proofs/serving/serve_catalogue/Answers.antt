@@ -2,8 +2,10 @@ use Rattle.std.proofs.Common.{◌≡◌, ◌≤◌, inl, inr, refl, subst, arith
 use Rattle.std.specs.Prelude.{None, Some}
 use Rattle.dict_driver.specs.Serving.{rounds_of}
 use Rattle.std.proofs.lemmas.Result.{err_from_is_err_and}
+use Rattle.dict_serving.specs.Deeds.{WasShut}
 use Rattle.dict_serving.specs.Serving.{IsFirst}
 use Rattle.dict_serving.proofs.DeedLemmas.{does_both, does_none, was_done}
+use Rattle.dict_serving.proofs.StretchLemmas.{was_opened}
 use Rattle.dict_serving.proofs.serving.serve_catalogue.Goals as goal
 
 pub returns-in_err-desk : goal.returns-in_err-desk
@@ -20,6 +22,7 @@ returns-in-Err g c = inr (
     refl,
     c.in-Err.ensures.begins,
     does_both (g.D.DeskOpener.history c.args.desks.now) (g.D.DeskOpener.history c.open.new.self) (g.D.DeskOpener.history c.close.new.self) _ _ c.in_ok-desk.ensures.history c.close.ensures.history,
+    (c.close.result, c.close.ensures.shut),
     refl,
   ),
 )
@@ -55,8 +58,8 @@ returns-in_err-desk-2 g c =
           made = made;
           ends = served.3;
         },
-        was_done c.args.path.now c.in_ok-desk.desk served.0 None (g.D.DeskOpener.history c.args.desks.now) (g.D.DeskOpener.history c.open.new.self) (g.D.DeskOpener.history c.serve_rounds-served.new.desks)
-            (g.D.DeskOpener.history c.serve_rounds-served.new.desks) c.in_ok-desk.ensures.history served.4 (does_none _),
+        was_done (WasShut g.K.Lookup.shows g.K.Lookup.leaves_one_of g.K.Lookup.is_trusted g.D.DeskOpener.is_safe g.D.DeskOpener.holds_alone g.D.DeskOpener.still_leaves g.D.DeskOpener.is_uncopied c.serve_rounds-served.new.desks) c.args.path.now c.in_ok-desk.desk served.0 None (g.D.DeskOpener.history c.args.desks.now) (g.D.DeskOpener.history c.open.new.self) (g.D.DeskOpener.history c.serve_rounds-served.new.desks)
+            (g.D.DeskOpener.history c.serve_rounds-served.new.desks) c.in_ok-desk.ensures.history served.4 (does_none _) tt,
         refl,
       ),
     ))
@@ -91,8 +94,12 @@ returns g c =
           made = made;
           ends = tt;
         },
-        was_done c.args.path.now c.in_ok-desk.desk served.0 (Some c.in_ok-desk-2.desk) (g.D.DeskOpener.history c.args.desks.now) (g.D.DeskOpener.history c.open.new.self)
-            (g.D.DeskOpener.history c.serve_rounds-served.new.desks) (g.D.DeskOpener.history c.close-2.new.self) c.in_ok-desk.ensures.history served.4 c.close-2.ensures.history,
+        was_done (WasShut g.K.Lookup.shows g.K.Lookup.leaves_one_of g.K.Lookup.is_trusted g.D.DeskOpener.is_safe g.D.DeskOpener.holds_alone g.D.DeskOpener.still_leaves g.D.DeskOpener.is_uncopied c.close-2.new.self) c.args.path.now c.in_ok-desk.desk served.0 (Some c.in_ok-desk-2.desk) (g.D.DeskOpener.history c.args.desks.now) (g.D.DeskOpener.history c.open.new.self)
+            (g.D.DeskOpener.history c.serve_rounds-served.new.desks) (g.D.DeskOpener.history c.close-2.new.self) c.in_ok-desk.ensures.history served.4 c.close-2.ensures.history (c.close-2.result, c.close-2.ensures.shut),
         refl,
       ),
     )
+
+pub serve_rounds-served-requires : goal.serve_rounds-served-requires
+serve_rounds-served-requires g c =
+    was_opened g.K.Lookup.shows g.K.Lookup.leaves_one_of g.K.Lookup.is_trusted g.D.DeskOpener.is_opened g.K.Lookup.is_closed None c.in_ok-desk.desk c.in_ok-desk.ensures.opened

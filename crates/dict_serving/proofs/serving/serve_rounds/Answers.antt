@@ -1,7 +1,8 @@
 use Rattle.std.proofs.Common.{◌∙◌, ◌-◌, [], ◌++◌, ◌∷◌, inl, refl, arith}
 use Rattle.std.proofs.lemmas.Result.{err_from_is_err_and}
 use Rattle.std.specs.Prelude.{None}
-use Rattle.dict_serving.specs.Serving.{Stretch}
+use Rattle.dict_serving.specs.Serving.{IsNotReopened, Stretch}
+use Rattle.dict_serving.specs.Deeds.{WasShut}
 use Rattle.dict_serving.proofs.DeedLemmas.{gone_first, gone_more, turned}
 use Rattle.dict_serving.proofs.StretchLemmas.{ends_more, first_goes, goes_more, served_more}
 use Rattle.dict_serving.proofs.serving.serve_rounds.Goals as goal
@@ -20,7 +21,7 @@ returns-in_err-pending-clause-served g c =
       served_more g.K.Lookup.shows g.K.Lookup.leaves_one_of g.K.Lookup.is_trusted g.D.DeskOpener.is_opened g.K.Lookup.is_closed c.args.rounds c.args.desk held.0 one c.args.driver.now c.loop-pending.driver
           c.serve_stretch.new.driver held.1 goes over.2,
       first_goes g.K.Lookup.shows g.K.Lookup.leaves_one_of g.K.Lookup.is_trusted g.D.DeskOpener.is_opened g.K.Lookup.is_closed c.args.rounds c.args.desk held.0 one held.2 goes,
-      rw (error.1, error.2) (ends_more g.K.Lookup.shows g.K.Lookup.leaves_one_of g.K.Lookup.is_trusted g.D.DeskOpener.is_opened g.K.Lookup.is_closed (g.D.DeskOpener.is_unreopened c.args.path.now) held.0 one
+      rw (error.1, error.2) (ends_more g.K.Lookup.shows g.K.Lookup.leaves_one_of g.K.Lookup.is_trusted g.D.DeskOpener.is_opened g.K.Lookup.is_closed (WasShut g.K.Lookup.shows g.K.Lookup.leaves_one_of g.K.Lookup.is_trusted g.D.DeskOpener.is_safe g.D.DeskOpener.holds_alone g.D.DeskOpener.still_leaves g.D.DeskOpener.is_uncopied c.serve_stretch.new.desks) (IsNotReopened g.K.Lookup.leaves_one_of g.D.DeskOpener.is_unreopened g.D.DeskOpener.still_leaves c.serve_stretch.new.desks c.args.path.now) held.0 one
           c.serve_stretch.new.driver _ over.3),
       rw error.1 (turned c.args.path.now c.args.desk held.0 one c.loop-pending.pending.left c.loop-pending-test.true (g.D.DeskOpener.history c.args.desks.now) (g.D.DeskOpener.history c.loop-pending.desks)
           (g.D.DeskOpener.history c.serve_stretch.new.desks) held.4 None over.5),
@@ -39,9 +40,9 @@ loop-pending-preserved g c =
             c.serve_stretch.new.driver held.1 goes over.2,
         first_goes g.K.Lookup.shows g.K.Lookup.leaves_one_of g.K.Lookup.is_trusted g.D.DeskOpener.is_opened g.K.Lookup.is_closed c.args.rounds c.args.desk held.0 one held.2 goes,
         λ some. (let gave = over.4 some in
-            goes_more g.K.Lookup.shows g.K.Lookup.leaves_one_of g.K.Lookup.is_trusted g.D.DeskOpener.is_opened g.K.Lookup.is_closed c.args.rounds c.args.desk held.0 one c.in_ok-pending.pending.desk c.in_ok-pending.pending.left gave.0 gave.1 gave.2),
+            goes_more g.K.Lookup.shows g.K.Lookup.leaves_one_of g.K.Lookup.is_trusted g.D.DeskOpener.is_opened g.K.Lookup.is_closed c.args.rounds c.args.desk held.0 one c.in_ok-pending.pending.desk c.in_ok-pending.pending.left gave.0 gave.1 gave.2 gave.3),
         gone_more c.args.path.now c.args.desk held.0 one c.loop-pending.pending.left c.loop-pending-test.true (g.D.DeskOpener.history c.args.desks.now) (g.D.DeskOpener.history c.loop-pending.desks)
-            (g.D.DeskOpener.history c.serve_stretch.new.desks) held.4 c.in_ok-pending.pending.desk c.in_ok-pending.pending.left over.5 (λ some. (over.4 some).3),
+            (g.D.DeskOpener.history c.serve_stretch.new.desks) held.4 c.in_ok-pending.pending.desk c.in_ok-pending.pending.left over.5 (λ some. (over.4 some).4),
       );
       opened = c.in_ok-pending.ensures.opened;
       stands = c.in_ok-pending.ensures.stands;

@@ -1,5 +1,5 @@
 use Rattle.std.proofs.Common.{◌≡◌, ◌<◌, ◌+◌, ◌^◌, List}
-use Rattle.dict_serving.specs.Serving.{AreServed, IsFirst, IsNew, IsOpen, Stretch}
+use Rattle.dict_serving.specs.Serving.{AreServed, IsFirst, IsNew, IsOpen, Stretch, WasOpened}
 use Rattle.dict_serving.proofs.DeedLemmas.{GoneOn}
 use Rattle.dict_serving.proofs.StretchLemmas.{GoesOn}
 use Rattle.dict_serving.proofs.serving.serve_rounds.Given as goal
@@ -10,8 +10,8 @@ invariant-loop-pending g l = record {
       × IsFirst l.fn.rounds l.fn.desk stretches
       × (0 < l.pending.left → GoesOn g.K.Lookup.shows g.K.Lookup.leaves_one_of g.K.Lookup.is_trusted g.D.DeskOpener.is_opened g.K.Lookup.is_closed l.fn.rounds l.fn.desk stretches l.pending.desk l.pending.left)
       × GoneOn l.fn.path l.fn.desk stretches l.pending.desk l.pending.left (g.D.DeskOpener.history l.fn.desks) (g.D.DeskOpener.history l.desks);
-  opened : 0 < l.pending.left → IsNew g.K.Lookup.shows g.K.Lookup.leaves_one_of g.K.Lookup.is_trusted g.D.DeskOpener.is_opened l.pending.desk;
-  stands : IsOpen g.K.Lookup.is_closed (IsNew g.K.Lookup.shows g.K.Lookup.leaves_one_of g.K.Lookup.is_trusted g.D.DeskOpener.is_opened) l.pending.desk;
+  opened : 0 < l.pending.left → IsNew g.K.Lookup.shows g.K.Lookup.leaves_one_of g.K.Lookup.is_trusted (WasOpened g.D.DeskOpener.is_opened) l.pending.desk;
+  stands : IsOpen g.K.Lookup.is_closed (IsNew g.K.Lookup.shows g.K.Lookup.leaves_one_of g.K.Lookup.is_trusted (WasOpened g.D.DeskOpener.is_opened)) l.pending.desk;
   made : l.fn.driver.event_loop.rounds + l.fn.rounds < 2 ^ 64 → l.driver.event_loop.rounds + l.pending.left ≡ l.fn.driver.event_loop.rounds + l.fn.rounds;
 }
 

@@ -1,32 +1,48 @@
-use Rattle.std.proofs.Common.{inl, inr, ap, subst, sym}
+use Rattle.std.proofs.Common.{inl, inr, refl, ap, subst, sym, arith}
 use Rattle.std.proofs.lemmas.Result.{err_from_is_err_and}
+use Rattle.sqlite.specs.State.{HasCleanDisk}
+use Rattle.sqlite.specs.Files.{file_state, over_files}
+use Rattle.sqlite.specs.WalFiles.{image_at}
+use Rattle.dict_holdings.specs.Holds.{IsLeft}
 use Rattle.dict_serving.specs.Serving.{IsOfFile}
+use Rattle.dict_store.specs.Adopted.{IsNotAdopted}
 use Rattle.dict_store.specs.Desk.{is_closed}
-use Rattle.dictcat_lib.proofs.ServingLemmas.{unopened_of_file, opening_of_file}
+use Rattle.dictcat_lib.proofs.FileLemmas.{rejected_from}
+use Rattle.dictcat_lib.proofs.ServingLemmas.{not_opened_of_file, opening_of_file}
 use Rattle.dictcat_lib.proofs.desks.open_desk.Goals as goal
 
 pub returns-in_err-conn-clause-opened : goal.returns-in_err-conn-clause-opened
-returns-in_err-conn-clause-opened c =
+returns-in_err-conn-clause-opened g c =
     let error = err_from_is_err_and c.from_residual.result c.from_residual.ensures.1 in
-    rw (error.1, error.2) (inl c.in_err-conn.ensures.unopened, unopened_of_file _ _ c.in_err-conn.ensures.unopened)
+    let none = c.in_err-conn.ensures.unopened in
+    rw (error.1, error.2) (inl none, not_opened_of_file (image_at g.S.Start) _ _ _ _ _ _ none)
 
 pub returns-in-Ok-clause-opened : goal.returns-in-Ok-clause-opened
-returns-in-Ok-clause-opened c = record {
-  opened = (
-    c.in_ok-conn.conn,
-    record { fine = c.in-Ok.ensures.open.0; shows = c.in-Ok.ensures.rests; only = c.in-Ok.ensures.only; same = c.in-Ok.ensures.same; unwritten = c.in-Ok.ensures.unwritten; migrated = c.in-Ok.ensures.migrated },
-  );
+returns-in-Ok-clause-opened g c = record {
+  opened = record {
+    conn = c.in_ok-conn.conn;
+    opened = c.in_ok-conn.ensures.opened;
+    adopted = record { fine = c.in-Ok.ensures.open.0; shows = c.in-Ok.ensures.rests; only = c.in-Ok.ensures.only; same = c.in-Ok.ensures.same; unwritten = c.in-Ok.ensures.unwritten; migrated = c.in-Ok.ensures.migrated };
+    shows = λ clean M held.
+        let early : HasCleanDisk (file_state c.in_ok-conn.conn) = omega (arith, c.in-Ok.ensures.migrated.clean, clean) in
+        let found = (c.in_ok-conn.ensures.opened.live early).1 in
+        c.in-Ok.ensures.left clean M (subst (IsLeft M) (sym (found.holds held.0 held.1)) held.2);
+  };
   alone = λ clean. let it = c.in-Ok.ensures.rests clean in (it.0, it.2, c.in-Ok.ensures.only it.0 it.2);
 }
 
 pub returns-in-Err-clause-opened : goal.returns-in-Err-clause-opened
-returns-in-Err-clause-opened c = (
-  inr (
-    c.in_ok-conn.conn,
-    (c.in-Err.conn, c.in-Err.fault, c.from.ensures, record { kind = c.in-Err.ensures.kinds; told = c.in-Err.ensures.told; not_held = c.in-Err.ensures.not_held; same = c.in-Err.ensures.stays; adds_none = c.in-Err.ensures.adds_none; crash = c.in-Err.ensures.crash }),
-  ),
-  subst IsOfFile (sym c.from.ensures) (opening_of_file c.in-Err.fault c.in-Err.ensures.kinds),
-)
+returns-in-Err-clause-opened g c =
+    let adopted : IsNotAdopted over_files c.in_ok-conn.conn c.in-Err.conn c.in-Err.fault = record { kind = c.in-Err.ensures.kinds; told = c.in-Err.ensures.told; not_held = c.in-Err.ensures.not_held; same = c.in-Err.ensures.stays; adds_none = c.in-Err.ensures.adds_none; crash = c.in-Err.ensures.crash } in (
+      inr (
+        c.in-Err.conn,
+        c.in-Err.fault,
+        rejected_from (λ _. inl refl) (image_at g.S.Start) c.in_ok-conn.conn c.in-Err.conn c.in-Err.fault c.in_ok-conn.ensures.opened adopted c.in-Err.ensures.failed c.in-Err.ensures.handed c.in-Err.ensures.not_left,
+        c.from.ensures,
+        rw c.hold.ensures c.close_file.ensures,
+      ),
+      subst IsOfFile (sym c.from.ensures) (opening_of_file c.in-Err.fault c.in-Err.ensures.kinds),
+    )
 
 pub returns-in-Ok-clause-answers : goal.returns-in-Ok-clause-answers
-returns-in-Ok-clause-answers c = ap is_closed c.in-Ok.ensures.open.0
+returns-in-Ok-clause-answers g c = ap is_closed c.in-Ok.ensures.open.0

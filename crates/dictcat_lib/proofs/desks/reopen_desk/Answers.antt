@@ -1,18 +1,27 @@
-use Rattle.std.proofs.Common.{inl, inr, refl, subst, sym}
-use Rattle.dict_serving.specs.Serving.{IsOfFile}
-use Rattle.dictcat_lib.proofs.ServingLemmas.{opening_of_file, unopened_of_file}
+use Rattle.std.proofs.Common.{inl, inr, refl}
+use Rattle.sqlite.specs.Files.{file_state}
+use Rattle.dict_store.proofs.DeskLemmas.{clean_behind}
+use Rattle.dictcat_lib.proofs.ServingLemmas.{told_of_file}
 use Rattle.dictcat_lib.proofs.desks.reopen_desk.Goals as goal
 
+pub returns-in_default-clause-leaves : goal.returns-in_default-clause-leaves
+returns-in_default-clause-leaves g c = λ ms leaves.
+    rw c.hold.ensures (λ clean trees may.
+    leaves (clean_behind (file_state c.args.desk.conn) (file_state c.into_connection.result) c.into_connection.ensures.survives clean) trees
+    (elim (c.into_connection.ensures.survives.crash clean trees may) as (λ _. (file_state c.args.desk.conn).may_leave trees) [ inl h ↦ h | inr h ↦ absurd h ]))
+
+pub returns-in_default-clause-opened : goal.returns-in_default-clause-opened
+returns-in_default-clause-opened g c = (rw c.hold.ensures (c.into_connection.ensures.undone, (c.args.file, refl, refl)), tt)
+
 pub returns-in-Ok-clause-opened : goal.returns-in-Ok-clause-opened
-returns-in-Ok-clause-opened c =
-    let adopted = c.in-Ok.ensures.adopted in
-    record { opened = (adopted.0, adopted.1); alone = λ clean. let it = adopted.1.shows clean in (it.0, it.2, adopted.1.only it.0 it.2) }
+returns-in-Ok-clause-opened g c =
+    let adopted = c.in-Ok.ensures.adopted.1 in
+    record { opened = c.in-Ok.ensures.reopened; alone = λ clean. let it = adopted.shows clean in (it.0, it.2, adopted.only it.0 it.2) }
 
 pub returns-in-Err-clause-opened : goal.returns-in-Err-clause-opened
-returns-in-Err-clause-opened c = (
-  inr (c.in-Err.left, c.in-Err.fault, c.in-Err.ensures.unopened, c.not_reopened.ensures),
-  elim c.not_reopened.ensures [
-    | inl told ↦ subst IsOfFile (sym told) (opening_of_file c.in-Err.fault c.in-Err.ensures.unopened.kind)
-    | inr unopened ↦ unopened_of_file _ _ unopened
-  ],
-)
+returns-in-Err-clause-opened g c =
+    let why = c.in-Err.ensures.unopened in
+    (rw c.hold-in-Err.ensures (c.in-Err.fault, why, c.told_unopened-told.ensures), told_of_file _ c.in-Err.left c.in-Err.fault _ why.kind c.told_unopened-told.ensures)
+
+pub returns-in-Err-clause-leaves : goal.returns-in-Err-clause-leaves
+returns-in-Err-clause-leaves g c = λ ms leaves. let why = c.in-Err.ensures.unopened in rw c.hold-in-Err.ensures (why.files, why.let_go, why.leaves ms leaves)

@@ -1,5 +1,7 @@
 use Rattle.std.proofs.Common.{refl, inl, inr}
 use Rattle.std.proofs.lemmas.Result.{err_from_is_err_and}
+use Rattle.sqlite.specs.WalFiles.{image_at}
+use Rattle.dictcat_lib.proofs.FileLemmas.{rejected_from}
 use Rattle.dictcat_lib.proofs.session.run_session.Goals as goal
 
 pub returns-in_err-conn-clause-spoken : goal.returns-in_err-conn-clause-spoken
@@ -8,11 +10,17 @@ returns-in_err-conn-clause-spoken g c =
     rw (error.1, error.2) (inl c.in_err-conn.ensures.unopened, refl, refl)
 
 pub returns-in-Ok-clause-spoken : goal.returns-in-Ok-clause-spoken
-returns-in-Ok-clause-spoken g c = (c.in_ok-conn.conn, record { ran = c.in-Ok.ensures.ran; leaves = c.in-Ok.ensures.leaves })
+returns-in-Ok-clause-spoken g c = (c.in_ok-conn.conn, c.in_ok-conn.ensures.opened, record { ran = c.in-Ok.ensures.ran; leaves = c.in-Ok.ensures.leaves })
 
 pub returns-in-Err-clause-spoken : goal.returns-in-Err-clause-spoken
 returns-in-Err-clause-spoken g c = (
-  inr (c.in_ok-conn.conn, (c.in-Err.conn, c.in-Err.fault, c.from.ensures, c.in-Err.ensures.unopened, c.in-Err.ensures.not_left)),
+  inr (
+    c.in-Err.conn,
+    c.in-Err.fault,
+    rejected_from (λ _. inl refl) (image_at g.S.Start) c.in_ok-conn.conn c.in-Err.conn c.in-Err.fault c.in_ok-conn.ensures.opened c.in-Err.ensures.unopened c.in-Err.ensures.failed c.in-Err.ensures.autocommit c.in-Err.ensures.not_left,
+    c.from.ensures,
+    rw c.hold.ensures c.close_file.ensures,
+  ),
   c.in-Err.ensures.untouched.0,
   c.in-Err.ensures.untouched.1,
 )
