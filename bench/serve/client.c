@@ -9,7 +9,7 @@
  *
  * When all are connected and greeted it writes `ready`, and begins when a line comes; at the end it writes
  *   ANSWERS OCTETS SECONDS MEDIAN MOST FOUND
- * (microseconds of a turn: the median and the longest; FOUND: what the 150 and 152 of all answers say was found), and waits for
+ * (microseconds of a turn: the median, the longest, and last the one that 99.9 % don't exceed; FOUND: what the 150 and 152 of all answers say was found), and waits for
  * a line before it closes the connections, so that a server's processes can be looked at.
  */
 #include <arpa/inet.h>
@@ -174,7 +174,7 @@ static void run(int connections, int at_once, double seconds, unsigned long leas
     }
     double passed = now() - start;
     qsort(turns, turned, sizeof *turns, by_size);
-    printf("%lu %lu %.6f %.1f %.1f %lu\n", answers, octets, passed, turns[turned / 2] * 1e6, turns[turned - 1] * 1e6, found);
+    printf("%lu %lu %.6f %.1f %.1f %lu %.1f\n", answers, octets, passed, turns[turned / 2] * 1e6, turns[turned - 1] * 1e6, found, turns[(unsigned long)(turned * 0.999)] * 1e6);
     fflush(stdout);
 }
 

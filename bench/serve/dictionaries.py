@@ -1,7 +1,7 @@
 """dictcat beside dictd over real dictionaries: dictionaries.py PROGRAM CLIENT WORK [PART..]
 
 PARTS: `kept` (DEFINE over 65,536 lines of 5 and of 13 MB, first and again), `answers` (what both answer, compared), `requests` (the processor's time of a request), `slowest` (of 10,000 answers under 64
-connections), `memory`, `idle`, `install` (of the largest edition, while 32 readers ask), `growth` (the same finds over 65,536 and
+connections), `memory`, `idle`, `install` (of editions by HTTP, while 32 readers ask), `growth` (the same finds over 65,536 and
 262,144 entries); without one it is all. The dictionaries are `wn`, `foldoc` and `freedict-ara-eng` of Debian's, mended for dictcat
 by contrib/import-dictd and as they came, but uncompressed, for dictd 1.13; and `made`, of 262,144 lines (make_words.py), over
 which both have the same files. dictd's limits are off. CLIENT is client.c, built. WORK is a folder that stays: what is in it is not
@@ -86,7 +86,7 @@ def dictd(work, chosen, port=PORT):
     return Server(process, ("127.0.0.1", port))
 
 
-Taken = collections.namedtuple("Taken", "answers seconds median most found spent")
+Taken = collections.namedtuple("Taken", "answers seconds median most found rare spent")
 
 
 class Client:
@@ -110,8 +110,8 @@ class Client:
         self.process.stdin.close()
         self.process.wait()
         time.sleep(0.05)
-        answers, _, seconds, median, most, found = line
-        return Taken(int(answers), float(seconds), float(median), float(most), int(found), spent)
+        answers, _, seconds, median, most, found, rare = line
+        return Taken(int(answers), float(seconds), float(median), float(most), int(found), float(rare), spent)
 
 
 def asked(client, server, count, at_once, path, seconds=SECONDS, answers=200):
@@ -225,35 +225,49 @@ def memory(client, servers, lists):
         tell(f"and `{name}` was asked")
 
 
-def largest_while_asked(program, client, work, chosen, lists):
-    """The longest wait of 32 readers while the largest edition is installed by HTTP."""
-    server = dictcat(program, work, {"wn": chosen["wn"]}, "asked.db")
-    shown = [work / "in" / f"largest.{end}" for end in ("index", "dict")]
-    if not shown[1].exists():
-        subprocess.run([sys.executable, TOP / "bench/make_words.py", *map(str, LARGEST), *shown, "shown"], check=True)
-    try:
-        quiet = asked(client, server, 32, 1, lists["wn"]["mix"], 2)
-        took, answer = {}, []
+def replaced_while_asked(server, client, path, name, pair):
+    """One install by HTTP while 32 readers ask: what the readers saw, and how long the editor waited."""
+    took, answer = {}, []
 
-        def put():
-            start, before = time.monotonic(), server.times()
-            answer.append(install(server.http_address, b"largest", b"r%d" % time.time_ns(), *(it.read_bytes() for it in shown)))
-            took.update(clock=time.monotonic() - start, processor=server.spent_since(before))
+    def put():
+        start, before = time.monotonic(), server.times()
+        answer.append(install(server.http_address, name.encode(), b"r%d" % time.time_ns(), *(it.read_bytes() for it in pair)))
+        took.update(clock=time.monotonic() - start, processor=server.spent_since(before))
 
-        readers, editor = Client(client, server, 32, 1, lists["wn"]["mix"], 1e6, 0), threading.Thread(target=put)
-        readers.begin()
-        time.sleep(1)
-        editor.start()
-        editor.join()
-        time.sleep(1)
-        readers.process.send_signal(signal.SIGINT)
-        it = readers.end()
-        assert answer[0][0] == 200, answer
-        print(f"\nThe largest edition by HTTP, while 32 readers ask: answered after {took['clock']:.1f} s by the clock ({took['processor']:.1f} s of the "
-              f"processor, with the readers' answers); the longest wait of a reader {it.most / 1e6:.1f} s, the median {it.median:.0f} µs; "
-              f"without an install the longest {quiet.most / 1000:.1f} ms, the median {quiet.median:.0f} µs", flush=True)
-    finally:
-        server.kill()
+    readers, editor = Client(client, server, 32, 1, path, 1e6, 0), threading.Thread(target=put)
+    readers.begin()
+    time.sleep(1)
+    editor.start()
+    editor.join()
+    time.sleep(1)
+    readers.process.send_signal(signal.SIGINT)
+    it = readers.end()
+    assert answer[0][0] == 200, answer
+    return it, took
+
+
+def installs_while_asked(program, client, work, chosen, lists):
+    """How long 32 readers wait while editions are installed by HTTP, and the third of a name, by which the first goes."""
+    small, largest = [work / "in" / f"small.{end}" for end in ("index", "dict")], [work / "in" / f"largest.{end}" for end in ("index", "dict")]
+    if not small[1].exists():
+        subprocess.run([sys.executable, TOP / "bench/make_words.py", "65536", "5242880", *small], check=True)
+    if not largest[1].exists():
+        subprocess.run([sys.executable, TOP / "bench/make_words.py", *map(str, LARGEST), *largest, "shown"], check=True)
+    editions = {"65,536 lines, 5 MB": small, "WordNet, 147,309 lines, 31 MB": chosen["wn"][0], "262,144 lines, 67 MB": largest}
+    path = lists["foldoc"]["hits"]
+    print("\n| 32 readers ask FOLDOC, while by HTTP is installed | the editor waits, s (of the processor, with the readers' answers) | a reader waits at most, s | "
+          "99.9 % at most, ms | the median, µs | answers in a second before, meanwhile, after |\n|---|---|---|---|---|---|")
+    for what, pair in editions.items():
+        server = dictcat(program, work, {"foldoc": chosen["foldoc"]}, f"asked-{len(what)}-{os.getpid()}.db")
+        try:
+            for turn in ("first", "second", "third, by which the first goes"):
+                before = asked(client, server, 32, 1, path, 2)
+                it, took = replaced_while_asked(server, client, path, "new", pair)
+                after = asked(client, server, 32, 1, path, 2)
+                rates = ", ".join(f"{one.answers / one.seconds:,.0f}" for one in (before, it, after))
+                print(f"| {what}: the {turn} | {took['clock']:.1f} ({took['processor']:.1f}) | {it.most / 1e6:.2f} | {it.rare / 1e3:.1f} | {it.median:.0f} | {rates} |", flush=True)
+        finally:
+            server.kill()
 
 
 def growth(program, client, work):
@@ -334,7 +348,7 @@ def main():
     if "kept" in wanted:
         kept(program, client, work)
     if "install" in wanted:
-        largest_while_asked(program, client, work, chosen, lists)
+        installs_while_asked(program, client, work, chosen, lists)
     if "growth" in wanted:
         growth(program, client, work)
     print(f"\nLoad at the end {' '.join(f'{it:.1f}' for it in os.getloadavg())}")
