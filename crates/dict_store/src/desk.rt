@@ -27,7 +27,7 @@ use std::alloc::Global;
 use std::marker::Model;
 
 /// A desk over one database: the connection to it, and the summary of the catalogue that it holds. The texts of editions from which
-/// entries were handed out last are kept in memory, up to `dict_texts::MAX_OCTETS`, and the headwords that were counted last, up to
+/// entries were handed out last are kept in memory, up to `dict_texts::MAX_OCTETS`, and the rows that were counted last, up to
 /// `dict_lookup::MAX_COUNTED`; what is shown never rests on them. Between two calls a transaction may be open, in which rows of a
 /// change that may come are filed: none of them is shown before that change is applied.
 #[derive(Drop)]
