@@ -26,29 +26,21 @@ returns-in-Some-clause-counted g c clean texts are = are
 pub returns-in-Some-clause-same : goal.returns-in-Some-clause-same
 returns-in-Some-clause-same g c clean awake = unchanged (state g.S.Store c.args.conn.now) (awake_open c.args.counted.now _ (state g.S.Store c.args.conn.now) c.in-Some.ensures awake)
 
--- ---- entries of a text that isn't kept
-
-pub returns-in_default-2-clause-value : goal.returns-in_default-2-clause-value
-returns-in_default-2-clause-value g c clean texts are reading one = c.count_alone.ensures.value clean reading one
-
-pub returns-in_default-2-clause-counted : goal.returns-in_default-2-clause-counted
-returns-in_default-2-clause-counted g c clean texts are = are
-
 -- ---- entries that are read
 
 pub returns-clause-value : goal.returns-clause-value
 returns-clause-value g c clean texts are reading one =
     let strategy = c.args.strategy in
     let query = c.args.query.now in
-    let text = c.in-Some-2.text.now in
+    let text = c.in-Some-peek.text.now in
     (c.in_ok-found.ensures.value clean reading one).0
     ∙ (length-map (found strategy query (edition_of (record reading { text = text }))) row_of ∙ counts_same strategy query text reading)
 
 pub returns-clause-counted : goal.returns-clause-counted
 returns-clause-counted g c clean texts are =
     let db = (state g.S.Store c.args.conn.now).now in
-    let text = c.in-Some-2.text.now in
-    let is : IsTextOf db (c.args.number, text) = taken_is db c.args.number text c.args.texts.now (sym c.in-Some-2.ensures) texts in
+    let text = c.in-Some-peek.text.now in
+    let is : IsTextOf db (c.args.number, text) = taken_is db c.args.number text c.args.texts.now (sym c.in-Some-peek.ensures) texts in
     let answer : Answer = record { number = c.args.number; strategy = c.args.strategy; query = c.args.query.now; what = Entries; rows = rows_in c.in_ok-found.found } in
     answers_put db c.forget_others.new.self c.put.new.self answer c.in_ok-found.found.is_whole c.put.ensures.put
     (λ whole reading one. (c.in_ok-found.ensures.value clean reading one).1 whole ∙ ap (λ (t : List ℕ). found_rows c.args.strategy c.args.query.now (edition_of (record reading { text = t }))) (is reading one))
