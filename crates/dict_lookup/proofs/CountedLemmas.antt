@@ -1,20 +1,20 @@
 -- What is kept of counts.
 use Rattle.std.proofs.Common.{◌≡◌, ◌⊎◌, inl, inr, ℕ, zero, suc, ◌+◌, ◌<◌, Bool, List, [], ◌∷◌, ◌++◌, map, take, drop, get_or, length, refl, sym, ap, subst, ◌∙◌, arith}
-use Rattle.std.specs.Prelude.{IsTrue, Contains, String, string_bytes}
+use Rattle.std.specs.Prelude.{IsTrue, Contains, string_bytes}
 use Rattle.std.specs.List.{AllByRecursion}
-use Rattle.std.specs.declared.alloc.Global.{Global}
 use Rattle.std.proofs.lemmas.List.{length-map, map-append, get_or-map}
 use Rattle.std.proofs.lemmas.List.Elements.{Contains-get_or}
 use Rattle.std.proofs.lemmas.List.Sums.{sum_by_push}
 use Rattle.sqlite.specs.Effect.{Database}
+use Rattle.sqlite.specs.State.{State}
 use Rattle.dict_index.specs.Edition.{ReadEdition, edition_of}
 use Rattle.dict_match.specs.declared.strategy.Strategy.{Strategy}
-use Rattle.dict_desk.specs.Found.{found, headwords}
-use Rattle.dict_desk.specs.Shown.{Row, headword_rows}
-use Rattle.dict_lookup.specs.Handed.{headword_row}
+use Rattle.dict_desk.specs.Shown.{Row}
+use Rattle.dict_desk.specs.declared.lookup.What.{What}
 use Rattle.dict_lookup.specs.Searches.{HoldsOne}
-use Rattle.dict_lookup.specs.Counts.{Heads, heads_of, size_of, size_of_all, AreHeadsFound, AreHeadsOf, MayForget, MayPut, kept_rows, texts_in, HasCollected, HasHeads}
+use Rattle.dict_lookup.specs.Counts.{Answer, answer_of, row_kept, rows_asked, size_of, size_of_all, IsAnswer, AreAnswersOf, IsAwake, MayForget, MayPut, rows_in, HasCollected, HasRows}
 use Rattle.dict_lookup.specs.declared.collector.Collector.{Collector}
+use Rattle.dict_lookup.specs.declared.collector.KeptRow.{KeptRow}
 use Rattle.dict_lookup.specs.declared.counted.Listed.{Listed}
 use Rattle.dict_lookup.proofs.FailLemmas.{all_contains}
 
@@ -44,78 +44,74 @@ all_put : {X : Type 0} (P : X → Type 0) (xs : List X) (x : X) → AllByRecursi
 all_put P [] x all one = (one, tt)
 all_put P (y ∷ xs) x all one = (all.0, all_put P xs x all.1 one)
 
-module _ (db : Database) (old new : List Heads) where
-  pub heads_left : MayForget old new → AreHeadsOf db old → AreHeadsOf db new
-  heads_left may are = elim may [
-    | inl same ↦ subst (AreHeadsOf db) (sym same) are
-    | inr none ↦ subst (AreHeadsOf db) (sym none) tt
+module _ (db : Database) (old new : List Answer) where
+  pub answers_left : MayForget old new → AreAnswersOf db old → AreAnswersOf db new
+  answers_left may are = elim may [
+    | inl same ↦ subst (AreAnswersOf db) (sym same) are
+    | inr none ↦ subst (AreAnswersOf db) (sym none) tt
   ]
 
-  pub heads_put : (heads : Heads) (is_whole : Bool) → MayPut heads is_whole old new → (IsTrue is_whole → AreHeadsFound db heads) → AreHeadsOf db old → AreHeadsOf db new
-  heads_put heads is_whole may are_found are = elim may [
-    | inl same ↦ subst (AreHeadsOf db) (sym same) are
-    | inr put ↦ subst (AreHeadsOf db) (sym put.1) (all_put (AreHeadsFound db) old heads are (are_found put.0))
+  pub answers_put : (answer : Answer) (is_whole : Bool) → MayPut answer is_whole old new → (IsTrue is_whole → IsAnswer db answer) → AreAnswersOf db old → AreAnswersOf db new
+  answers_put answer is_whole may is are = elim may [
+    | inl same ↦ subst (AreAnswersOf db) (sym same) are
+    | inr put ↦ subst (AreAnswersOf db) (sym put.1) (all_put (IsAnswer db) old answer are (is put.0))
   ]
 
 -- ---- how it is held
 
-pub kept_there : (lists : List Listed) (i : ℕ) (d : Listed) → i < length lists → Contains (map heads_of lists) (heads_of (get_or lists i d))
+pub kept_there : (lists : List Listed) (i : ℕ) (d : Listed) → i < length lists → Contains (map answer_of lists) (answer_of (get_or lists i d))
 kept_there lists i d below =
-    let size = length-map lists heads_of in
-    subst (Contains (map heads_of lists)) (get_or-map heads_of lists i d (heads_of d) below) (Contains-get_or (map heads_of lists) i (heads_of d) (omega (arith, size, below)))
+    let size = length-map lists answer_of in
+    subst (Contains (map answer_of lists)) (get_or-map answer_of lists i d (answer_of d) below) (Contains-get_or (map answer_of lists) i (answer_of d) (omega (arith, size, below)))
 
-pub same_heads : (listed : Listed) (number : ℕ) (strategy : Strategy) (query : List ℕ) (shown : List (List ℕ)) → listed.number ≡ number → listed.strategy ≡ strategy → listed.query ≡ query → map string_bytes listed.shown.items ≡ shown
-    → heads_of listed ≡ record { number = number; strategy = strategy; query = query; shown = shown }
-same_heads listed number strategy query shown n s q t =
-    let shows = map string_bytes listed.shown.items in
-    ap {B = Heads} (λ (k : ℕ). record { number = k; strategy = listed.strategy; query = listed.query; shown = shows }) n
-    ∙ (ap {B = Heads} (λ (k : Strategy). record { number = number; strategy = k; query = listed.query; shown = shows }) s
-    ∙ (ap {B = Heads} (λ (k : List ℕ). record { number = number; strategy = strategy; query = k; shown = shows }) q
-    ∙ ap {B = Heads} (λ (k : List (List ℕ)). record { number = number; strategy = strategy; query = query; shown = k }) t))
+pub same_answer : (listed : Listed) (number : ℕ) (strategy : Strategy) (query : List ℕ) (what : What) (rows : List Row) → listed.number ≡ number → listed.strategy ≡ strategy → listed.query ≡ query → listed.what ≡ what → map row_kept listed.rows.items ≡ rows
+    → answer_of listed ≡ record { number = number; strategy = strategy; query = query; what = what; rows = rows }
+same_answer listed number strategy query what rows n s q w r =
+    let all = map row_kept listed.rows.items in
+    ap {B = Answer} (λ (k : ℕ). record { number = k; strategy = listed.strategy; query = listed.query; what = listed.what; rows = all }) n
+    ∙ (ap {B = Answer} (λ (k : Strategy). record { number = number; strategy = k; query = listed.query; what = listed.what; rows = all }) s
+    ∙ (ap {B = Answer} (λ (k : List ℕ). record { number = number; strategy = strategy; query = k; what = listed.what; rows = all }) q
+    ∙ (ap {B = Answer} (λ (k : What). record { number = number; strategy = strategy; query = query; what = k; rows = all }) w
+    ∙ ap {B = Answer} (λ (k : List Row). record { number = number; strategy = strategy; query = query; what = what; rows = k }) r)))
 
 -- one list more
-pub heads_pushed : (lists after : List Listed) (listed : Listed) → after ≡ lists ++ listed ∷ [] → map heads_of after ≡ map heads_of lists ++ heads_of listed ∷ []
-heads_pushed lists after listed e = ap (map heads_of) e ∙ map-append heads_of lists (listed ∷ [])
+pub answers_pushed : (lists after : List Listed) (listed : Listed) → after ≡ lists ++ listed ∷ [] → map answer_of after ≡ map answer_of lists ++ answer_of listed ∷ []
+answers_pushed lists after listed e = ap (map answer_of) e ∙ map-append answer_of lists (listed ∷ [])
 
-pub may_put : (lists after : List Listed) (listed : Listed) (heads : Heads) (is_whole : Bool) → (after ≡ lists) ⊎ (after ≡ lists ++ listed ∷ []) → heads_of listed ≡ heads → IsTrue is_whole → MayPut heads is_whole (map heads_of lists) (map heads_of after)
-may_put lists after listed heads is_whole either is whole = elim either [
-  | inl same ↦ inl (ap (map heads_of) same)
-  | inr put ↦ inr (whole, heads_pushed lists after listed put ∙ ap (λ (h : Heads). map heads_of lists ++ h ∷ []) is)
+pub may_put : (lists after : List Listed) (listed : Listed) (answer : Answer) (is_whole : Bool) → (after ≡ lists) ⊎ (after ≡ lists ++ listed ∷ []) → answer_of listed ≡ answer → IsTrue is_whole → MayPut answer is_whole (map answer_of lists) (map answer_of after)
+may_put lists after listed answer is_whole either is whole = elim either [
+  | inl same ↦ inl (ap (map answer_of) same)
+  | inr put ↦ inr (whole, answers_pushed lists after listed put ∙ ap (λ (a : Answer). map answer_of lists ++ a ∷ []) is)
 ]
 
 -- ---- how much it is
 
-pub size_more : (shown : List (String Global)) (i : ℕ) (d : String Global) → i < length shown → size_of (map string_bytes (take (i + 1) shown)) ≡ size_of (map string_bytes (take i shown)) + (length (string_bytes (get_or shown i d)) + 64)
-size_more shown i d below = ap size_of (map_more string_bytes shown i d below) ∙ sum_by_push (λ (text : List ℕ). length text + 64) (map string_bytes (take i shown)) (string_bytes (get_or shown i d))
+pub size_more : (rows : List KeptRow) (i : ℕ) (d : KeptRow) → i < length rows → size_of (map row_kept (take (i + 1) rows)) ≡ size_of (map row_kept (take i rows)) + (length (string_bytes (get_or rows i d).shown) + length (get_or rows i d).text.items + 64)
+size_more rows i d below = ap size_of (map_more row_kept rows i d below) ∙ sum_by_push (λ (r : Row). length r.shown + length r.text + 64) (map row_kept (take i rows)) (row_kept (get_or rows i d))
 
-pub size_pushed : (lists after : List Listed) (listed : Listed) → after ≡ lists ++ listed ∷ [] → size_of_all (map heads_of after) ≡ size_of_all (map heads_of lists) + size_of (map string_bytes listed.shown.items)
-size_pushed lists after listed e = ap size_of_all (heads_pushed lists after listed e) ∙ sum_by_push (λ (heads : Heads). size_of heads.shown) (map heads_of lists) (heads_of listed)
+pub size_pushed : (lists after : List Listed) (listed : Listed) → after ≡ lists ++ listed ∷ [] → size_of_all (map answer_of after) ≡ size_of_all (map answer_of lists) + size_of (map row_kept listed.rows.items)
+size_pushed lists after listed e = ap size_of_all (answers_pushed lists after listed e) ∙ sum_by_push (λ (answer : Answer). size_of answer.rows) (map answer_of lists) (answer_of listed)
 
 -- ---- what is kept of a question
 
-pub rows_of_texts : (shown : List (String Global)) → kept_rows shown ≡ map headword_row (map string_bytes shown)
-rows_of_texts [] = refl
-rows_of_texts (text ∷ shown) = ap (λ rows. headword_row (string_bytes text) ∷ rows) (rows_of_texts shown)
+module _ (db : Database) (kept : List Answer) (number : ℕ) (strategy : Strategy) (query : List ℕ) (what : What) (rows : List KeptRow)
+    (there : Contains kept (record { number = number; strategy = strategy; query = query; what = what; rows = map row_kept rows })) (are : AreAnswersOf db kept) (reading : ReadEdition) (one : HoldsOne db number reading) where
+  pub kept_answer : map row_kept rows ≡ rows_asked what strategy query (edition_of reading)
+  kept_answer = all_contains (IsAnswer db) kept (record { number = number; strategy = strategy; query = query; what = what; rows = map row_kept rows }) are there reading one
 
-module _ (db : Database) (kept : List Heads) (number : ℕ) (strategy : Strategy) (query : List ℕ) (shown : List (String Global))
-    (there : Contains kept (record { number = number; strategy = strategy; query = query; shown = map string_bytes shown })) (are : AreHeadsOf db kept) (reading : ReadEdition) (one : HoldsOne db number reading) where
-  kept_heads : map string_bytes shown ≡ headwords (found strategy query (edition_of reading))
-  kept_heads = all_contains (AreHeadsFound db) kept (record { number = number; strategy = strategy; query = query; shown = map string_bytes shown }) are there reading one
+pub kept_size : (rows : List KeptRow) (all : List Row) → map row_kept rows ≡ all → length rows ≡ length all
+kept_size rows all e = sym (length-map rows row_kept) ∙ ap (λ (l : List Row). length l) e
 
-  pub kept_are : kept_rows shown ≡ headword_rows strategy query (edition_of reading)
-  kept_are = rows_of_texts shown ∙ ap (map headword_row) kept_heads
-
-  pub kept_count : length shown ≡ length (headwords (found strategy query (edition_of reading)))
-  kept_count = sym (length-map shown string_bytes) ∙ ap (λ (l : List (List ℕ)). length l) kept_heads
+-- where something is kept, the store is open
+pub awake_open : (kept : List Answer) (answer : Answer) (s : State) → Contains kept answer → IsAwake kept s → IsTrue s.is_open
+awake_open kept answer s there awake = elim awake as (λ _. IsTrue s.is_open) [
+  | inl none ↦ (let size : length kept ≡ 0 = ap (λ (l : List Answer). length l) none in let low = there.1 in absurd (omega (arith, size, low)))
+  | inr live ↦ live
+]
 
 -- ---- what was collected
 
-shown_rows : (heads : List (List ℕ)) → map (λ (r : Row). r.shown) (map headword_row heads) ≡ heads
-shown_rows [] = refl
-shown_rows (head ∷ heads) = ap (λ l. head ∷ l) (shown_rows heads)
-
-pub collected_heads : (first last : Collector) (heads : List (List ℕ)) → first.count ≡ 0 → texts_in first ≡ [] → HasCollected first (map headword_row heads) last → HasHeads heads last
-collected_heads first last heads none empty took =
-    let size = length-map heads headword_row in
+pub collected_rows : (first last : Collector) (rows : List Row) → first.count ≡ 0 → rows_in first ≡ [] → HasCollected first rows last → HasRows rows last
+collected_rows first last rows none empty took =
     let counted = took.0 in
-    (omega (arith, size, counted, none), λ whole. (took.1 whole).1 ∙ (ap (λ (l : List (List ℕ)). l ++ map (λ (r : Row). r.shown) (map headword_row heads)) empty ∙ shown_rows heads))
+    (omega (arith, counted, none), λ whole. (took.1 whole).1 ∙ ap (λ (l : List Row). l ++ rows) empty)

@@ -1,8 +1,8 @@
 -- How many rows were counted.
-use Rattle.std.proofs.Common.{◌≡◌, ℕ, ◌+◌, ◌≤◌, List, [], ◌++◌, length, map, sym, ap, ◌∙◌, append_assoc, append-nil, arith}
-use Rattle.std.proofs.lemmas.List.{length-append, map-append}
+use Rattle.std.proofs.Common.{◌≡◌, ℕ, ◌+◌, ◌≤◌, List, [], ◌++◌, length, sym, ap, ◌∙◌, append_assoc, append-nil, arith}
+use Rattle.std.proofs.lemmas.List.{length-append}
 use Rattle.dict_desk.specs.Shown.{Row}
-use Rattle.dict_lookup.specs.Counts.{texts_in, HasCollected}
+use Rattle.dict_lookup.specs.Counts.{rows_in, HasCollected}
 use Rattle.dict_lookup.specs.declared.collector.Collector.{Collector}
 
 pub counted_none : (a : ℕ) → a ≡ a + 0
@@ -17,7 +17,7 @@ counted_stopped a b rows more rest one two = let all = length-append rows (more 
 -- ---- and kept
 
 pub collected_none : (a : Collector) → HasCollected a [] a
-collected_none a = (counted_none a.count, λ whole. (whole, sym (append-nil (texts_in a))))
+collected_none a = (counted_none a.count, λ whole. (whole, sym (append-nil (rows_in a))))
 
 pub collected_more : (a b c : Collector) (rows more : List Row) → HasCollected a rows b → HasCollected b more c → HasCollected a (rows ++ more) c
 collected_more a b c rows more one two = (
@@ -25,6 +25,5 @@ collected_more a b c rows more one two = (
   λ whole.
       let behind = two.1 whole in
       let front = one.1 behind.0 in
-      let shown : List Row → List (List ℕ) = map (λ (r : Row). r.shown) in
-      (front.0, behind.1 ∙ (ap (λ l. l ++ shown more) front.1 ∙ (append_assoc (texts_in a) (shown rows) (shown more) ∙ ap (λ l. texts_in a ++ l) (sym (map-append (λ (r : Row). r.shown) rows more))))),
+      (front.0, behind.1 ∙ (ap (λ l. l ++ more) front.1 ∙ append_assoc (rows_in a) rows more)),
 )

@@ -1,67 +1,76 @@
--- The headwords that counts have found, kept in memory beside a database.
-use Rattle.std.specs.Prelude.{◌≡◌, ◌⊎◌, ℕ, ◌+◌, Bool, IsTrue, List, [], ◌∷◌, ◌++◌, map, length, String, string_bytes}
+-- The rows that counts have found, kept in memory beside a database.
+use Rattle.std.specs.Prelude.{◌≡◌, ◌⊎◌, ℕ, ◌+◌, Bool, IsTrue, List, [], ◌∷◌, ◌++◌, map, length, string_bytes}
 use Rattle.std.specs.List.{AllByRecursion, sum_by}
-use Rattle.std.specs.declared.alloc.Global.{Global}
 use Rattle.sqlite.specs.Effect.{Database}
+use Rattle.sqlite.specs.State.{State}
 use Rattle.dict_match.specs.declared.strategy.Strategy.{Strategy}
-use Rattle.dict_index.specs.Edition.{ReadEdition, edition_of}
-use Rattle.dict_desk.specs.Found.{found, headwords}
-use Rattle.dict_desk.specs.Shown.{Row}
+use Rattle.dict_index.specs.Edition.{Edition, ReadEdition, edition_of}
+use Rattle.dict_desk.specs.Shown.{Row, row, found_rows, headword_rows}
+use Rattle.dict_desk.specs.declared.lookup.What.{What}
+use Rattle.dict_desk.specs.declared.lookup.What.TheVariants.{Entries, Headwords}
 use Rattle.dict_lookup.specs.Searches.{HoldsOne}
-use Rattle.dict_lookup.specs.Handed.{headword_row}
 use Rattle.dict_lookup.specs.declared.collector.Collector.{Collector}
+use Rattle.dict_lookup.specs.declared.collector.KeptRow.{KeptRow}
 use Rattle.dict_lookup.specs.declared.counted.Listed.{Listed}
 
--- what is shown of the entries that a query finds by a strategy in the edition of a number
-pub record Heads : Type 0 where
+-- what is asked of the edition of a number by a strategy and a query, and the rows that answer it
+pub record Answer : Type 0 where
   pub number : ℕ
   pub strategy : Strategy
   pub query : List ℕ
-  pub shown : List (List ℕ)
+  pub what : What
+  pub rows : List Row
 
-abbrev pub heads_of : Listed → Heads
-heads_of kept = record { number = kept.number; strategy = kept.strategy; query = kept.query; shown = map string_bytes kept.shown.items }
+abbrev pub row_kept : KeptRow → Row
+row_kept kept = row (string_bytes kept.shown) kept.text.items
 
--- What is kept of a question is what is shown of all entries that it finds in the edition that the database holds under the number,
--- each text once, in their order.
-abbrev pub AreHeadsFound : Database → Heads → Type 0
-AreHeadsFound db heads = (reading : ReadEdition) → HoldsOne db heads.number reading → heads.shown ≡ headwords (found heads.strategy heads.query (edition_of reading))
+abbrev pub answer_of : Listed → Answer
+answer_of kept = record { number = kept.number; strategy = kept.strategy; query = kept.query; what = kept.what; rows = map row_kept kept.rows.items }
 
-abbrev pub AreHeadsOf : Database → List Heads → Type 0
-AreHeadsOf db kept = AllByRecursion (AreHeadsFound db) kept
+-- the rows that answer what is asked of an edition: of the entries that are found, or of the headwords shown of them
+abbrev pub rows_asked : What → Strategy → List ℕ → Edition → List Row
+rows_asked Entries strategy query edition = found_rows strategy query edition
+rows_asked Headwords strategy query edition = headword_rows strategy query edition
 
--- how many octets texts count, each 64 more than its own, and all that is kept; and how many there may be
-abbrev pub size_of : List (List ℕ) → ℕ
-size_of texts = sum_by (λ text. length text + 64) texts
+-- What is kept of a question are the rows that answer it, of the edition that the database holds under the number.
+abbrev pub IsAnswer : Database → Answer → Type 0
+IsAnswer db answer = (reading : ReadEdition) → HoldsOne db answer.number reading → answer.rows ≡ rows_asked answer.what answer.strategy answer.query (edition_of reading)
 
-abbrev pub size_of_all : List Heads → ℕ
-size_of_all kept = sum_by (λ (heads : Heads). size_of heads.shown) kept
+abbrev pub AreAnswersOf : Database → List Answer → Type 0
+AreAnswersOf db kept = AllByRecursion (IsAnswer db) kept
+
+-- nothing is kept, or the store is open
+abbrev pub IsAwake : List Answer → State → Type 0
+IsAwake kept s = (kept ≡ []) ⊎ IsTrue s.is_open
+
+-- how many octets rows count, each 64 more than its own, and all that is kept; and how many there may be
+abbrev pub size_of : List Row → ℕ
+size_of rows = sum_by (λ (r : Row). length r.shown + length r.text + 64) rows
+
+abbrev pub size_of_all : List Answer → ℕ
+size_of_all kept = sum_by (λ (answer : Answer). size_of answer.rows) kept
 
 abbrev pub most_counted : ℕ
 most_counted = 2097152
 
 -- nothing is kept besides what was kept before, of which all may be gone
-abbrev pub MayForget : List Heads → List Heads → Type 0
+abbrev pub MayForget : List Answer → List Answer → Type 0
 MayForget old new = (new ≡ old) ⊎ (new ≡ [])
 
--- what is kept is as it was, or these were put behind it, which are all that were found
-abbrev pub MayPut : Heads → Bool → List Heads → List Heads → Type 0
-MayPut heads is_whole old new = (new ≡ old) ⊎ (IsTrue is_whole × (new ≡ old ++ heads ∷ []))
-
--- the rows of texts that are kept
-abbrev pub kept_rows : List (String Global) → List Row
-kept_rows shown = map (λ text. headword_row (string_bytes text)) shown
+-- what is kept is as it was, or this was put behind it, which is all that was found
+abbrev pub MayPut : Answer → Bool → List Answer → List Answer → Type 0
+MayPut answer is_whole old new = (new ≡ old) ⊎ (IsTrue is_whole × (new ≡ old ++ answer ∷ []))
 
 -- ---- as they are counted
 
--- the texts that a count has kept
-abbrev pub texts_in : Collector → List (List ℕ)
-texts_in collector = map string_bytes collector.shown.items
+-- the rows that a count has kept
+abbrev pub rows_in : Collector → List Row
+rows_in collector = map row_kept collector.rows.items
 
--- So many rows more are counted, and where all that was shown is kept still, it was before, and what these show stands behind it.
+-- So many rows more are counted, and where all are kept still, they were before, and these stand behind them.
 abbrev pub HasCollected : Collector → List Row → Collector → Type 0
-HasCollected old rows new = (new.count ≡ old.count + length rows) × (IsTrue new.is_whole → IsTrue old.is_whole × (texts_in new ≡ texts_in old ++ map (λ (r : Row). r.shown) rows))
+HasCollected old rows new = (new.count ≡ old.count + length rows) × (IsTrue new.is_whole → IsTrue old.is_whole × (rows_in new ≡ rows_in old ++ rows))
 
--- so many texts are counted, and they are what is kept, where that is all
-abbrev pub HasHeads : List (List ℕ) → Collector → Type 0
-HasHeads heads collector = (collector.count ≡ length heads) × (IsTrue collector.is_whole → texts_in collector ≡ heads)
+-- so many rows are counted, and they are what is kept, where that is all
+abbrev pub HasRows : List Row → Collector → Type 0
+HasRows rows collector = (collector.count ≡ length rows) × (IsTrue collector.is_whole → rows_in collector ≡ rows)

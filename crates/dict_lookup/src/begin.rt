@@ -63,19 +63,3 @@ pub(crate) fn refused_first<S: Alter>(conn: &mut Connection<S>) -> Fault
         Err(error) => fault_of_read(ReadError::Store(error)),
     }
 }
-
-// Whether the store gives anything, which is told where nothing has to be read of it: a statement begins that finds nothing.
-pub(crate) fn wake<S: Alter>(conn: &mut Connection<S>) -> Result<(), Fault>
-    requires { WhileOpen (state S.Store conn.old) HasLookupTables }
-    ensures same { HasCleanDisk (state S.Store conn.new) → OnOk result (IsUnchanged (state S.Store conn.old) (state S.Store conn.new)) }
-    ensures failed { HasCleanDisk (state S.Store conn.new) → IfErr result (λ fault. (number : ℕ) → FailsToLookUp number (state S.Store conn.old) (state S.Store conn.new) fault) }
-    ensures shut { HasCleanDisk (state S.Store conn.new) → (state S.Store conn.old).is_open ≡ false → IsErr result }
-    ensures kinds { IfErr result IsOfStore }
-    ensures mode { conn.old.in_transaction ≡ false → conn.new.in_transaction ≡ false }
-    ensures survives { Survives (state S.Store conn.old) (state S.Store conn.new) (λ _. ⊥) }
-{
-    match begin(conn, 0, &Selection::Nothing) {
-        Ok(_rows) => Ok(()),
-        Err(error) => Err(fault_of_read(ReadError::Store(error))),
-    }
-}

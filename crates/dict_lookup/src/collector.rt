@@ -1,35 +1,57 @@
-// A sink that counts rows, and keeps what they show.
-ghost use Rattle.std.specs.Prelude.{◌≡◌, ◌++◌, ◌∷◌, [], map, string_bytes, IsTrue, OnOk};
-ghost use Rattle.dict_lookup.specs.Counts.{texts_in};
+// A sink that counts rows, and keeps them.
+ghost use Rattle.std.specs.Prelude.{◌≡◌, ◌++◌, ◌∷◌, [], map, IsTrue, OnOk};
+ghost use Rattle.dict_desk.specs.Shown.{row};
+ghost use Rattle.dict_lookup.specs.Counts.{row_kept, rows_in};
 
 use crate::counted::EACH;
 use dict_desk::{Demand, Row, RowSink};
 use std::alloc::{AllocError, Global};
 
-// How many rows were taken; and what they showed, as long as there is room for all of it.
+// A row that is kept.
+#[derive(Drop)]
+pub(crate) struct KeptRow {
+    pub shown: String,
+    pub text: Vec<u8>,
+}
+
+// How many rows were taken; and the rows, as long as there is room for all of them.
 #[derive(Drop)]
 pub(crate) struct Collector {
     pub alloc: Global,
     pub count: u64,
     pub is_whole: bool,
     pub room: usize,
-    pub shown: Vec<String>,
+    pub rows: Vec<KeptRow>,
 }
 
-// Puts a copy of a text behind the others, where there is room for it. It is no fault that there is none, or that a growth is refused.
+// How many octets a row counts.
+fn size_of(shown: &str, text: &[u8]) -> usize {
+    shown
+        .len()
+        .saturating_add(text.len())
+        .saturating_add(EACH)
+}
+
+// Puts a copy of a row behind the others, where there is room for it. It is no fault that there is none, or that a growth is refused.
 fn put(
     alloc: Global,
-    shown: &mut Vec<String>,
+    rows: &mut Vec<KeptRow>,
     room: &mut usize,
-    text: &str,
+    shown: &str,
+    text: &[u8],
 ) -> Result<(), AllocError>
-    ensures { OnOk result (map string_bytes shown.new.items ≡ map string_bytes shown.old.items ++ text.now ∷ []) }
+    ensures { OnOk result (map row_kept rows.new.items ≡ map row_kept rows.old.items ++ row shown.now text.now ∷ []) }
 {
-    let size = text.len().saturating_add(EACH);
+    let size = size_of(shown, text);
     if size > *room {
         return Err(AllocError);
     }
-    shown.push(String::from_str(alloc, text)?)?;
+    let copy = String::from_str(alloc, shown)?;
+    let octets = Vec::from_slice(alloc, text)?;
+    rows.push(KeptRow {
+        shown: copy,
+        text: octets,
+    })?;
     *room -= size;
     Ok(())
 }
@@ -38,30 +60,30 @@ impl Collector {
     // Nothing was taken, and there is room for so many octets.
     pub(crate) fn new(alloc: Global, room: usize) -> Collector
         ensures count { result.count ≡ 0 }
-        ensures shown { texts_in result ≡ [] }
+        ensures rows { rows_in result ≡ [] }
     {
         Collector {
             alloc,
             count: 0,
             is_whole: true,
             room,
-            shown: Vec::new(alloc),
+            rows: Vec::new(alloc),
         }
     }
 
-    // Keeps what one row more shows. Where there is no room for it, nothing is kept from then on.
-    fn keep(&mut self, text: &str)
+    // Keeps one row more. Where there is no room for it, nothing is kept from then on.
+    fn keep(&mut self, shown: &str, text: &[u8])
         ensures count { self.new.count ≡ self.old.count }
-        ensures kept { IsTrue self.new.is_whole → IsTrue self.old.is_whole × (texts_in self.new ≡ texts_in self.old ++ text.now ∷ []) }
+        ensures kept { IsTrue self.new.is_whole → IsTrue self.old.is_whole × (rows_in self.new ≡ rows_in self.old ++ row shown.now text.now ∷ []) }
     {
         if !self.is_whole {
             return;
         }
-        if let Ok(()) = put(self.alloc, &mut self.shown, &mut self.room, text) {
+        if let Ok(()) = put(self.alloc, &mut self.rows, &mut self.room, shown, text) {
             return;
         }
         self.is_whole = false;
-        self.shown = Vec::new(self.alloc);
+        self.rows = Vec::new(self.alloc);
     }
 }
 
@@ -80,7 +102,7 @@ impl RowSink for Collector {
             return Demand::Stop;
         }
         self.count += 1;
-        self.keep(row.shown);
+        self.keep(row.shown, row.text);
         Demand::More
     }
 

@@ -1,39 +1,42 @@
-// The headwords that counts have found, kept for the lookups behind them.
-ghost use Rattle.std.specs.Prelude.{◌≡◌, ◌≤◌, ◌+◌, ◌⊎◌, ◌++◌, ◌∷◌, [], IsTrue, IfSome, Contains, map, string_bytes};
-ghost use Rattle.dict_lookup.specs.Counts.{heads_of, size_of, size_of_all, most_counted, texts_in, MayForget, MayPut};
+// The rows that counts have found, kept for the lookups behind them.
+ghost use Rattle.std.specs.Prelude.{◌≡◌, ◌≤◌, ◌+◌, ◌⊎◌, ◌++◌, ◌∷◌, [], IsTrue, IfSome, Contains, map, length, string_bytes};
+ghost use Rattle.dict_lookup.specs.Counts.{answer_of, row_kept, rows_in, size_of, size_of_all, most_counted, MayForget, MayPut};
 
-use crate::collector::Collector;
+use crate::collector::{Collector, KeptRow};
+use dict_desk::What;
 use dict_match::{Key, Strategy};
 use std::alloc::Global;
 use std::marker::Model;
 
-/// How many octets the headwords that are kept of counts have at most, all together, where each counts 64 more than its own.
+/// How many octets the rows that are kept of counts have at most, all together, where each counts 64 more than its own.
 pub const MAX_COUNTED: usize = 2_097_152;
 
-// How many octets a text counts besides its own: about what its place and its memory take.
+// How many octets a row counts besides its own: about what its place and its memory take.
 pub(crate) const EACH: usize = 64;
 
-// What is shown of the entries that a query finds by a strategy in the edition of a number, each text once.
+// The rows that answer a question: what is asked of the edition of a number, by a strategy and a query.
 #[derive(Drop)]
 pub(crate) struct Listed {
     pub number: u64,
     pub strategy: Strategy,
     pub query: Key,
-    pub shown: Vec<String>,
+    pub what: What,
+    pub rows: Vec<KeptRow>,
 }
 
 impl Listed {
     // Whether it is of this question.
-    fn is_of(&self, number: u64, strategy: Strategy, query: &Key) -> bool
-        ensures { IsTrue result → (self.now.number ≡ number) × (self.now.strategy ≡ strategy) × (self.now.query ≡ query.now) }
+    fn is_of(&self, number: u64, strategy: Strategy, query: &Key, what: What) -> bool
+        ensures { IsTrue result → (self.now.number ≡ number) × (self.now.strategy ≡ strategy) × (self.now.query ≡ query.now) × (self.now.what ≡ what) }
     {
         self.number == number
             && self.strategy == strategy
             && self.query.as_bytes() == query.as_bytes()
+            && self.what == what
     }
 }
 
-/// The headwords that counts have found in the editions of numbers, by one strategy and query, that were counted last: up to
+/// The rows that counts have found in the editions of numbers, by one strategy and query, that were counted last: up to
 /// `MAX_COUNTED` octets. No memory is taken before the first are kept.
 #[derive(Drop)]
 pub struct Counted {
@@ -44,25 +47,35 @@ pub struct Counted {
 
 impl Model for Counted {
     ghost use Rattle.std.specs.Prelude.{◌≡◌, ◌+◌, List, map};
-    ghost use Rattle.dict_lookup.specs.Counts.{Heads, heads_of, size_of_all, most_counted};
+    ghost use Rattle.dict_lookup.specs.Counts.{Answer, answer_of, size_of_all, most_counted};
 
-    ghost Value = { List Heads };
+    ghost Value = { List Answer };
 
-    ghost view = { λ c. map heads_of c.lists.items };
+    ghost view = { λ c. map answer_of c.lists.items };
 
-    ghost invariant = { λ c. c.room + size_of_all (map heads_of c.lists.items) ≡ most_counted };
+    ghost invariant = { λ c. c.room + size_of_all (map answer_of c.lists.items) ≡ most_counted };
 }
 
-// How many octets the texts count, if that is a number.
-fn size_of(shown: &[String]) -> Option<usize>
-    ensures { IfSome result (λ size. size ≡ size_of (map string_bytes shown.now)) }
+// How many octets the row counts behind so many, if that is a number.
+fn size_with(size: usize, kept: &KeptRow) -> Option<usize>
+    ensures { IfSome result (λ more. more ≡ size + (length (string_bytes kept.now.shown) + length kept.now.text.items + 64)) }
+{
+    let Some(shown) = size.checked_add(kept.shown.len()) else {
+        return None;
+    };
+    let Some(sum) = shown.checked_add(kept.text.len()) else {
+        return None;
+    };
+    sum.checked_add(EACH)
+}
+
+// How many octets the rows count, if that is a number.
+fn size_of(rows: &[KeptRow]) -> Option<usize>
+    ensures { IfSome result (λ size. size ≡ size_of (map row_kept rows.now)) }
 {
     let mut size = 0usize;
-    for text in shown {
-        let Some(sum) = size.checked_add(text.len()) else {
-            return None;
-        };
-        let Some(more) = sum.checked_add(EACH) else {
+    for kept in rows {
+        let Some(more) = size_with(size, kept) else {
             return None;
         };
         size = more;
@@ -73,9 +86,9 @@ fn size_of(shown: &[String]) -> Option<usize>
 // Puts a list behind the others, where there is room and memory for it.
 fn put_last(lists: &mut Vec<Listed>, room: &mut usize, listed: Listed)
     ensures put { (lists.new.items ≡ lists.old.items) ⊎ (lists.new.items ≡ lists.old.items ++ listed ∷ []) }
-    ensures counted { room.new + size_of_all (map heads_of lists.new.items) ≡ room.old + size_of_all (map heads_of lists.old.items) }
+    ensures counted { room.new + size_of_all (map answer_of lists.new.items) ≡ room.old + size_of_all (map answer_of lists.old.items) }
 {
-    let Some(size) = size_of(listed.shown.as_slice()) else {
+    let Some(size) = size_of(listed.rows.as_slice()) else {
         return;
     };
     if size > *room {
@@ -87,18 +100,19 @@ fn put_last(lists: &mut Vec<Listed>, room: &mut usize, listed: Listed)
     *room -= size;
 }
 
-// What the first of the lists that is of this question shows.
-fn shown_in<'a>(
+// What answers this question in the first of the lists that is of it.
+fn rows_among<'a>(
     lists: &'a [Listed],
     number: u64,
     strategy: Strategy,
     query: &Key,
-) -> Option<&'a [String]>
-    ensures { IfSome result (λ shown. Contains (map heads_of lists.now) (record { number = number; strategy = strategy; query = query.now; shown = map string_bytes shown.now })) }
+    what: What,
+) -> Option<&'a [KeptRow]>
+    ensures { IfSome result (λ rows. Contains (map answer_of lists.now) (record { number = number; strategy = strategy; query = query.now; what = what; rows = map row_kept rows.now })) }
 {
     for listed in lists {
-        if listed.is_of(number, strategy, query) {
-            return Some(listed.shown.as_slice());
+        if listed.is_of(number, strategy, query, what) {
+            return Some(listed.rows.as_slice());
         }
     }
     None
@@ -107,7 +121,7 @@ fn shown_in<'a>(
 // Whether the lists, all of which are of one strategy and query, are of these.
 fn are_of(lists: &[Listed], strategy: Strategy, query: &Key) -> bool {
     match lists.first() {
-        Some(listed) => listed.is_of(listed.number, strategy, query),
+        Some(listed) => listed.is_of(listed.number, strategy, query, listed.what),
         None => true,
     }
 }
@@ -133,10 +147,16 @@ impl Counted {
     }
 
     // What is kept of this question, if it is kept.
-    pub(crate) fn shown(&self, number: u64, strategy: Strategy, query: &Key) -> Option<&[String]>
-        ensures { IfSome result (λ shown. Contains self.now (record { number = number; strategy = strategy; query = query.now; shown = map string_bytes shown.now })) }
+    pub(crate) fn rows(
+        &self,
+        number: u64,
+        strategy: Strategy,
+        query: &Key,
+        what: What,
+    ) -> Option<&[KeptRow]>
+        ensures { IfSome result (λ rows. Contains self.now (record { number = number; strategy = strategy; query = query.now; what = what; rows = map row_kept rows.now })) }
     {
-        shown_in(self.lists.as_slice(), number, strategy, query)
+        rows_among(self.lists.as_slice(), number, strategy, query, what)
     }
 
     // How many octets may be kept besides.
@@ -157,8 +177,15 @@ impl Counted {
     }
 
     // Keeps what was found of a question, where that is all of it. A refused growth leaves it unkept.
-    pub(crate) fn put(&mut self, number: u64, strategy: Strategy, query: &Key, found: Collector)
-        ensures put { MayPut (record { number = number; strategy = strategy; query = query.now; shown = texts_in found }) found.is_whole self.old self.new }
+    pub(crate) fn put(
+        &mut self,
+        number: u64,
+        strategy: Strategy,
+        query: &Key,
+        what: What,
+        found: Collector,
+    )
+        ensures put { MayPut (record { number = number; strategy = strategy; query = query.now; what = what; rows = rows_in found }) found.is_whole self.old self.new }
         ensures few { size_of_all self.new ≤ most_counted }
     {
         let _room = self.room;
@@ -172,7 +199,8 @@ impl Counted {
             number,
             strategy,
             query,
-            shown: found.shown,
+            what,
+            rows: found.rows,
         };
         put_last(&mut self.lists, &mut self.room, listed);
     }

@@ -1,14 +1,15 @@
 // What is shown of the entries that a query finds, each text once, handed out in their order.
-ghost use Rattle.std.specs.Prelude.{◌≡◌, ◌∷◌, ◌++◌, [], ℕ, false, List, Ok, IfErr, IfOk, OnOk, OnErr, string_bytes, if◌then◌else◌};
+ghost use Rattle.std.specs.Prelude.{◌≡◌, ◌∷◌, ◌++◌, [], ℕ, false, List, Ok, IfErr, IfOk, OnOk, OnErr, map, string_bytes, if◌then◌else◌};
 ghost use Rattle.sqlite.specs.State.{HasCleanDisk, IsUnchanged, Survives};
 ghost use Rattle.sqlite.specs.Held.{state};
 ghost use Rattle.dict_desk.specs.Shown.{Row as ShownRow};
 ghost use Rattle.dict_derived.specs.Entries.{Filed};
 ghost use Rattle.dict_desk.specs.Handing.{Hands};
 ghost use Rattle.dict_lookup.specs.Searches.{IsReading, IsToCome, FailsToLookUp, IsOfStore};
-ghost use Rattle.dict_lookup.specs.Counts.{kept_rows};
+ghost use Rattle.dict_lookup.specs.Counts.{row_kept};
 ghost use Rattle.dict_lookup.specs.Handed.{shown_found, rows_listed, rows_new, headword_row, owned_filed, HasTexts};
 
+use crate::collector::KeptRow;
 use crate::entries::next_entry;
 use crate::found::is_found;
 use dict_desk::{Demand, End, Fault, Row, RowSink, distinct_law};
@@ -93,15 +94,15 @@ pub(crate) fn hand_headwords<S: Alter, T: RowSink>(
     Err(Fault::Disk)
 }
 
-// Hands out texts that are kept.
-pub(crate) fn hand_kept<T: RowSink>(shown: &[String], sink: &mut T) -> End
-    ensures all { result ≡ End.All → T.takes sink.old (kept_rows shown.now) sink.new }
-    ensures stopped { result ≡ End.Stopped → T.stops sink.old (kept_rows shown.now) sink.new }
+// Hands out rows that are kept.
+pub(crate) fn hand_kept<T: RowSink>(rows: &[KeptRow], sink: &mut T) -> End
+    ensures all { result ≡ End.All → T.takes sink.old (map row_kept rows.now) sink.new }
+    ensures stopped { result ≡ End.Stopped → T.stops sink.old (map row_kept rows.now) sink.new }
 {
-    for text in shown {
+    for kept in rows {
         let turn = sink.take(Row {
-            shown: text.as_str(),
-            text: b"",
+            shown: kept.shown.as_str(),
+            text: kept.text.as_slice(),
         });
         if let Demand::Stop = turn {
             return End::Stopped;

@@ -1,7 +1,7 @@
 // What is asked of an edition by its number.
 ghost use Rattle.std.specs.Prelude.{◌≡◌, ◌≤◌, ℕ, length, false, List, IfOk, IfErr, IsErr, OnOk};
 ghost use Rattle.dict_lookup.specs.Texts.{IsTextOf, AreTextsOf, AreMade, MayKeep};
-ghost use Rattle.dict_lookup.specs.Counts.{AreHeadsOf, size_of_all, most_counted};
+ghost use Rattle.dict_lookup.specs.Counts.{AreAnswersOf, IsAwake, size_of_all, most_counted};
 ghost use Rattle.sqlite.specs.Effect.{Database};
 ghost use Rattle.sqlite.specs.State.{HasCleanDisk, IsUnchanged, Survives};
 ghost use Rattle.sqlite.specs.Held.{state};
@@ -12,7 +12,7 @@ ghost use Rattle.dict_desk.specs.Shown.{Row as ShownRow, found_rows, headword_ro
 ghost use Rattle.dict_desk.specs.Handing.{Hands};
 ghost use Rattle.dict_lookup.specs.Searches.{HasLookupTables, HoldsOne, IsReadable, FailsToLookUp, IsOfStore, column_of};
 
-use crate::begin::{begin, refused_first, wake};
+use crate::begin::{begin, refused_first};
 use crate::counted::Counted;
 use crate::counting::{count_entries, count_heads};
 use crate::found::hand_found;
@@ -68,11 +68,40 @@ pub(crate) fn find_in<S: Alter, T: RowSink>(
     }
 }
 
+// The same: they are those that a count of the same has kept, where they are kept, and this text is the edition's.
+fn find_or_kept<S: Alter, T: RowSink>(
+    alloc: Global,
+    conn: &mut Connection<S>,
+    counted: &Counted,
+    number: u64,
+    text: &[u8],
+    strategy: Strategy,
+    query: &Key,
+    sink: &mut T,
+    rows_taken: &mut u64,
+) -> Result<End, Fault>
+    requires { WhileOpen (state S.Store conn.old) HasLookupTables }
+    ensures value { HasCleanDisk (state S.Store conn.new) → IsTextOf (state S.Store conn.old).now (number, text.now) → AreAnswersOf (state S.Store conn.old).now counted.now → (reading : ReadEdition) → HoldsOne (state S.Store conn.old).now number reading → Hands T.takes T.stops sink.old sink.new (found_rows strategy query.now (edition_of reading)) result }
+    ensures handed { (rows : List ShownRow) × Hands T.takes T.stops sink.old sink.new rows result }
+    ensures same { HasCleanDisk (state S.Store conn.new) → IsAwake counted.now (state S.Store conn.old) → OnOk result (IsUnchanged (state S.Store conn.old) (state S.Store conn.new)) }
+    ensures failed { HasCleanDisk (state S.Store conn.new) → IfErr result (FailsToLookUp (column_of number) (state S.Store conn.old) (state S.Store conn.new)) }
+    ensures shut { HasCleanDisk (state S.Store conn.new) → IsAwake counted.now (state S.Store conn.old) → (state S.Store conn.old).is_open ≡ false → IsErr result × (sink.new ≡ sink.old) }
+    ensures kinds { IfErr result IsOfStore }
+    ensures mode { conn.old.in_transaction ≡ false → conn.new.in_transaction ≡ false }
+    ensures survives { Survives (state S.Store conn.old) (state S.Store conn.new) (λ _. ⊥) }
+{
+    if let Some(rows) = counted.rows(number, strategy, query, What::Entries) {
+        return Ok(hand_kept(rows, sink));
+    }
+    find_in(alloc, conn, number, text, strategy, query, sink, rows_taken)
+}
+
 // The same, of a text that is kept under the number from then on, as far as memory gives.
 fn find_and_keep<S: Alter, T: RowSink>(
     alloc: Global,
     conn: &mut Connection<S>,
     texts: &mut Texts,
+    counted: &Counted,
     installs: u64,
     number: u64,
     text: Vec<u8>,
@@ -83,18 +112,19 @@ fn find_and_keep<S: Alter, T: RowSink>(
 ) -> Result<End, Fault>
     requires { WhileOpen (state S.Store conn.old) HasLookupTables }
     ensures kept { MayKeep installs number text.items texts.old texts.new }
-    ensures value { HasCleanDisk (state S.Store conn.new) → (reading : ReadEdition) → HoldsOne (state S.Store conn.old).now number reading → Hands T.takes T.stops sink.old sink.new (found_rows strategy query.now (edition_of (record reading { text = text.items }))) result }
+    ensures value { HasCleanDisk (state S.Store conn.new) → IsTextOf (state S.Store conn.old).now (number, text.items) → AreAnswersOf (state S.Store conn.old).now counted.now → (reading : ReadEdition) → HoldsOne (state S.Store conn.old).now number reading → Hands T.takes T.stops sink.old sink.new (found_rows strategy query.now (edition_of reading)) result }
     ensures handed { (rows : List ShownRow) × Hands T.takes T.stops sink.old sink.new rows result }
-    ensures same { HasCleanDisk (state S.Store conn.new) → OnOk result (IsUnchanged (state S.Store conn.old) (state S.Store conn.new)) }
+    ensures same { HasCleanDisk (state S.Store conn.new) → IsAwake counted.now (state S.Store conn.old) → OnOk result (IsUnchanged (state S.Store conn.old) (state S.Store conn.new)) }
     ensures failed { HasCleanDisk (state S.Store conn.new) → IfErr result (FailsToLookUp (column_of number) (state S.Store conn.old) (state S.Store conn.new)) }
-    ensures shut { HasCleanDisk (state S.Store conn.new) → (state S.Store conn.old).is_open ≡ false → IsErr result × (sink.new ≡ sink.old) }
+    ensures shut { HasCleanDisk (state S.Store conn.new) → IsAwake counted.now (state S.Store conn.old) → (state S.Store conn.old).is_open ≡ false → IsErr result × (sink.new ≡ sink.old) }
     ensures kinds { IfErr result IsOfStore }
     ensures mode { conn.old.in_transaction ≡ false → conn.new.in_transaction ≡ false }
     ensures survives { Survives (state S.Store conn.old) (state S.Store conn.new) (λ _. ⊥) }
 {
-    let outcome = find_in(
+    let outcome = find_or_kept(
         alloc,
         conn,
+        counted,
         number,
         text.as_slice(),
         strategy,
@@ -175,8 +205,8 @@ pub fn info<S: Alter, T: RowSink>(
 /// a row of what is shown of it and its text, and counts the rows that its statements hand over. Of a number that no edition has
 /// nothing is told.
 ///
-/// The edition's text is the one that is kept under its number, if one is; else it is read, and kept from then on, unless a growth
-/// is refused, which is no fault. What is kept is the text of the edition that the database has under the number; what is kept under
+/// They are those that a count of the same has kept, where they are kept, and nothing is read. Else the edition's text is the one that
+/// is kept under its number, if one is; else it is read, and kept from then on, unless a growth is refused, which is no fault. What is kept is the text of the edition that the database has under the number; what is kept under
 /// other numbers was so before. A number above the count of installs is no edition's, and nothing is kept under it.
 ///
 /// `Memory` tells that a growth was refused, `Disk` that the store failed, or that the limit on steps was met. The database
@@ -185,6 +215,7 @@ pub fn find<S: Alter, T: RowSink>(
     alloc: Global,
     conn: &mut Connection<S>,
     texts: &mut Texts,
+    counted: &Counted,
     installs: u64,
     number: u64,
     strategy: Strategy,
@@ -193,21 +224,21 @@ pub fn find<S: Alter, T: RowSink>(
     rows_taken: &mut u64,
 ) -> Result<End, Fault>
     requires { WhileOpen (state S.Store conn.old) HasLookupTables }
-    ensures value { HasCleanDisk (state S.Store conn.new) → AreTextsOf (state S.Store conn.old).now texts.old → (reading : ReadEdition) → HoldsOne (state S.Store conn.old).now number reading → Hands T.takes T.stops sink.old sink.new (found_rows strategy query.now (edition_of reading)) result }
+    ensures value { HasCleanDisk (state S.Store conn.new) → AreTextsOf (state S.Store conn.old).now texts.old → AreAnswersOf (state S.Store conn.old).now counted.now → (reading : ReadEdition) → HoldsOne (state S.Store conn.old).now number reading → Hands T.takes T.stops sink.old sink.new (found_rows strategy query.now (edition_of reading)) result }
     ensures texts { HasCleanDisk (state S.Store conn.new) → AreTextsOf (state S.Store conn.old).now texts.old → AreTextsOf (state S.Store conn.old).now texts.new }
     ensures beside { HasCleanDisk (state S.Store conn.new) → AreTextsOf (state S.Store conn.old).now texts.old → (other : Database) → ((text : List ℕ) → IsTextOf (state S.Store conn.old).now (number, text) → IsTextOf other (number, text)) → AreTextsOf other texts.old → AreTextsOf other texts.new }
     ensures made { AreMade installs texts.old → AreMade installs texts.new }
     ensures handed { (rows : List ShownRow) × Hands T.takes T.stops sink.old sink.new rows result }
-    ensures same { HasCleanDisk (state S.Store conn.new) → OnOk result (IsUnchanged (state S.Store conn.old) (state S.Store conn.new)) }
+    ensures same { HasCleanDisk (state S.Store conn.new) → IsAwake counted.now (state S.Store conn.old) → OnOk result (IsUnchanged (state S.Store conn.old) (state S.Store conn.new)) }
     ensures failed { HasCleanDisk (state S.Store conn.new) → IfErr result (FailsToLookUp (column_of number) (state S.Store conn.old) (state S.Store conn.new)) }
-    ensures shut { HasCleanDisk (state S.Store conn.new) → (state S.Store conn.old).is_open ≡ false → IsErr result × (sink.new ≡ sink.old) }
+    ensures shut { HasCleanDisk (state S.Store conn.new) → IsAwake counted.now (state S.Store conn.old) → (state S.Store conn.old).is_open ≡ false → IsErr result × (sink.new ≡ sink.old) }
     ensures kinds { IfErr result IsOfStore }
     ensures mode { conn.old.in_transaction ≡ false → conn.new.in_transaction ≡ false }
     ensures survives { Survives (state S.Store conn.old) (state S.Store conn.new) (λ _. ⊥) }
 {
     if let Some(text) = texts.take(number) {
         return find_and_keep(
-            alloc, conn, texts, installs, number, text, strategy, query, sink, rows_taken,
+            alloc, conn, texts, counted, installs, number, text, strategy, query, sink, rows_taken,
         );
     }
     let Some(edition) = edition_of_number(alloc, conn, number, rows_taken)? else {
@@ -217,6 +248,7 @@ pub fn find<S: Alter, T: RowSink>(
         alloc,
         conn,
         texts,
+        counted,
         installs,
         number,
         edition.body,
@@ -244,18 +276,17 @@ pub fn heads<S: Alter, T: RowSink>(
     rows_taken: &mut u64,
 ) -> Result<End, Fault>
     requires { WhileOpen (state S.Store conn.old) HasLookupTables }
-    ensures value { HasCleanDisk (state S.Store conn.new) → AreHeadsOf (state S.Store conn.old).now counted.now → (reading : ReadEdition) → HoldsOne (state S.Store conn.old).now number reading → Hands T.takes T.stops sink.old sink.new (headword_rows strategy query.now (edition_of reading)) result }
+    ensures value { HasCleanDisk (state S.Store conn.new) → AreAnswersOf (state S.Store conn.old).now counted.now → (reading : ReadEdition) → HoldsOne (state S.Store conn.old).now number reading → Hands T.takes T.stops sink.old sink.new (headword_rows strategy query.now (edition_of reading)) result }
     ensures handed { (rows : List ShownRow) × Hands T.takes T.stops sink.old sink.new rows result }
-    ensures same { HasCleanDisk (state S.Store conn.new) → OnOk result (IsUnchanged (state S.Store conn.old) (state S.Store conn.new)) }
+    ensures same { HasCleanDisk (state S.Store conn.new) → IsAwake counted.now (state S.Store conn.old) → OnOk result (IsUnchanged (state S.Store conn.old) (state S.Store conn.new)) }
     ensures failed { HasCleanDisk (state S.Store conn.new) → IfErr result (FailsToLookUp (column_of number) (state S.Store conn.old) (state S.Store conn.new)) }
-    ensures shut { HasCleanDisk (state S.Store conn.new) → (state S.Store conn.old).is_open ≡ false → IsErr result × (sink.new ≡ sink.old) }
+    ensures shut { HasCleanDisk (state S.Store conn.new) → IsAwake counted.now (state S.Store conn.old) → (state S.Store conn.old).is_open ≡ false → IsErr result × (sink.new ≡ sink.old) }
     ensures kinds { IfErr result IsOfStore }
     ensures mode { conn.old.in_transaction ≡ false → conn.new.in_transaction ≡ false }
     ensures survives { Survives (state S.Store conn.old) (state S.Store conn.new) (λ _. ⊥) }
 {
-    if let Some(shown) = counted.shown(number, strategy, query) {
-        wake(conn)?;
-        return Ok(hand_kept(shown, sink));
+    if let Some(rows) = counted.rows(number, strategy, query, What::Headwords) {
+        return Ok(hand_kept(rows, sink));
     }
     heads_in(alloc, conn, number, strategy, query, sink, rows_taken)
 }
@@ -263,14 +294,16 @@ pub fn heads<S: Alter, T: RowSink>(
 /// How many entries of the edition the query finds by the strategy, or how many headwords are shown of them. It counts the rows
 /// that its statement hands over. Of a number that no edition has nothing is told.
 ///
-/// The headwords are kept from then on, as far as there is room and memory: those of the last strategy and query, so that neither
-/// `heads` nor `count` reads what is kept again. What is kept of a question is what is shown of all that it finds.
+/// What is found is kept from then on, as far as there is room and memory, of entries where the edition's text is kept: what the last
+/// strategy and query have found, so that neither `find` nor `heads` nor `count` reads it again. What is kept of a question is all that
+/// it finds.
 ///
 /// `Memory` tells that a growth was refused, `Disk` that the store failed, or that the limit on steps was met. The database
 /// stays as it is.
 pub fn count<S: Alter>(
     alloc: Global,
     conn: &mut Connection<S>,
+    texts: &Texts,
     counted: &mut Counted,
     number: u64,
     strategy: Strategy,
@@ -279,17 +312,19 @@ pub fn count<S: Alter>(
     rows_taken: &mut u64,
 ) -> Result<u64, Fault>
     requires { WhileOpen (state S.Store conn.old) HasLookupTables }
-    ensures value { HasCleanDisk (state S.Store conn.new) → AreHeadsOf (state S.Store conn.old).now counted.old → (reading : ReadEdition) → HoldsOne (state S.Store conn.old).now number reading → IfOk result (λ count. count ≡ count_of what strategy query.now (edition_of reading)) }
-    ensures counted { HasCleanDisk (state S.Store conn.new) → AreHeadsOf (state S.Store conn.old).now counted.old → AreHeadsOf (state S.Store conn.old).now counted.new }
+    ensures value { HasCleanDisk (state S.Store conn.new) → AreTextsOf (state S.Store conn.old).now texts.now → AreAnswersOf (state S.Store conn.old).now counted.old → (reading : ReadEdition) → HoldsOne (state S.Store conn.old).now number reading → IfOk result (λ count. count ≡ count_of what strategy query.now (edition_of reading)) }
+    ensures counted { HasCleanDisk (state S.Store conn.new) → AreTextsOf (state S.Store conn.old).now texts.now → AreAnswersOf (state S.Store conn.old).now counted.old → AreAnswersOf (state S.Store conn.old).now counted.new }
     ensures few { size_of_all counted.old ≤ most_counted → size_of_all counted.new ≤ most_counted }
-    ensures same { HasCleanDisk (state S.Store conn.new) → OnOk result (IsUnchanged (state S.Store conn.old) (state S.Store conn.new)) }
+    ensures same { HasCleanDisk (state S.Store conn.new) → IsAwake counted.old (state S.Store conn.old) → OnOk result (IsUnchanged (state S.Store conn.old) (state S.Store conn.new)) }
     ensures failed { HasCleanDisk (state S.Store conn.new) → IfErr result (FailsToLookUp (column_of number) (state S.Store conn.old) (state S.Store conn.new)) }
     ensures kinds { IfErr result IsOfStore }
     ensures mode { conn.old.in_transaction ≡ false → conn.new.in_transaction ≡ false }
     ensures survives { Survives (state S.Store conn.old) (state S.Store conn.new) (λ _. ⊥) }
 {
     match what {
-        What::Entries => count_entries(alloc, conn, number, strategy, query, rows_taken),
+        What::Entries => count_entries(
+            alloc, conn, texts, counted, number, strategy, query, rows_taken,
+        ),
         What::Headwords => {
             count_heads(alloc, conn, counted, number, strategy, query, rows_taken)
         }

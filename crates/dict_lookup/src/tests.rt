@@ -1,6 +1,6 @@
 use crate::collector::Collector;
 use crate::counted::{Counted, MAX_COUNTED};
-use dict_desk::{Row, RowSink};
+use dict_desk::{Row, RowSink, What};
 use dict_match::{Key, Strategy, key_of};
 use std::alloc::Global;
 use std::process::Abort;
@@ -20,7 +20,7 @@ fn collected(alloc: Global, room: usize, texts: &[&str]) -> Collector {
 
 // How many headwords are kept.
 fn kept(counted: &Counted, number: u64, strategy: Strategy, query: &Key) -> Option<usize> {
-    Some(counted.shown(number, strategy, query)?.len())
+    Some(counted.rows(number, strategy, query, What::Headwords)?.len())
 }
 
 fn same(rt: &impl Abort, found: Option<usize>, wanted: Option<usize>, of: &str) {
@@ -32,11 +32,11 @@ fn same(rt: &impl Abort, found: Option<usize>, wanted: Option<usize>, of: &str) 
 fn what_has_no_room_is_counted(rt: HostRuntime) -> Result<(), Fail> {
     let alloc = rt.alloc();
     let all = collected(alloc, 135, &["opal", "dot"]);
-    let whole = all.is_whole && all.room == 0 && all.shown.len() == 2;
+    let whole = all.is_whole && all.room == 0 && all.rows.len() == 2;
     assert!(rt; whole, "two texts");
     let part = collected(alloc, 135, &["opal", "dot", "", "iron"]);
     assert_eq!(rt; part.count, 4);
-    assert!(rt; !part.is_whole && part.shown.is_empty(), "four texts");
+    assert!(rt; !part.is_whole && part.rows.is_empty(), "four texts");
     Ok(())
 }
 
@@ -49,6 +49,7 @@ fn all_or_nothing_of_a_count_is_kept(rt: HostRuntime) -> Result<(), Fail> {
         1,
         Strategy::Prefix,
         &query,
+        What::Headwords,
         collected(alloc, 100, &["opal", "ore"]),
     );
     same(
@@ -61,6 +62,7 @@ fn all_or_nothing_of_a_count_is_kept(rt: HostRuntime) -> Result<(), Fail> {
         1,
         Strategy::Prefix,
         &query,
+        What::Headwords,
         collected(alloc, 200, &["opal", "ore"]),
     );
     same(
@@ -69,7 +71,13 @@ fn all_or_nothing_of_a_count_is_kept(rt: HostRuntime) -> Result<(), Fail> {
         Some(2),
         "all",
     );
-    counted.put(2, Strategy::Prefix, &query, collected(alloc, 70, &["ore"]));
+    counted.put(
+        2,
+        Strategy::Prefix,
+        &query,
+        What::Headwords,
+        collected(alloc, 70, &["ore"]),
+    );
     assert_eq!(rt; counted.room(), MAX_COUNTED - 202);
     same(
         &rt,

@@ -46,10 +46,9 @@ fn adopt<S: Alter + Drop>(alloc: Global, desk: Desk<S>) -> Result<Desk<S>, Progr
         (IsNew (Shows S.Store) (LeavesOneOf S.Store) (λ desk. HasCleanDisk (state S.Store desk.conn)) (λ _. ⊤))
         (IsNone (λ _. ⊤)) }
 {
-    let conn = desk.into_connection();
-    if !conn.is_autocommit() {
+    let Ok(conn) = desk.into_connection() else {
         return Err(ProgramFault::Store(StoreFault::Closed));
-    }
+    };
     match Desk::adopt(alloc, conn) {
         Ok(desk) => Ok(desk),
         Err((_, fault)) => Err(ProgramFault::from(fault)),

@@ -17,14 +17,14 @@ use Rattle.dict_desk.specs.declared.lookup.End.{End}
 use Rattle.dict_desk.proofs.HandingLemmas.{hands_front}
 use Rattle.dict_holdings.specs.Faults as reading
 use Rattle.dict_holdings.specs.Holds.{HasLayout, Holds, IsLeft}
-use Rattle.dict_lookup.specs.Counts.{AreHeadsOf}
+use Rattle.dict_lookup.specs.Counts.{AreAnswersOf}
 use Rattle.dict_lookup.specs.Searches.{FailsToLookUp, IsOfStore}
 use Rattle.dict_lookup.specs.Texts.{AreMade, AreTextsOf}
 use Rattle.dict_commands.specs.Changes.{IsInRange}
 use Rattle.dict_commands.specs.Filing.{IsAhead}
 use Rattle.dict_commands.specs.declared.filing.Filing.{Filing}
 use Rattle.dict_store.specs.Desk.{DeskState, HasCommitted, HasFiled, IsAtRest, Shows, LeavesOneOf, is_closed, last_by}
-use Rattle.dict_store.specs.Kept.{KeepsCache, cache_after}
+use Rattle.dict_store.specs.Kept.{KeepsCache, cache_after, without_counts}
 use Rattle.dict_store.specs.Prepared.{Continues, LetsGo, Undoes}
 use Rattle.dict_store.specs.declared.kept.Cache.{Cache}
 use Rattle.dict_store.specs.declared.last.LastCall.{LastCall}
@@ -167,16 +167,17 @@ module _ {S : Type 0} (g : Ghosts S) (old new : Held S) (summary : Holdings (Lis
 
   -- what is kept is of the same editions
   pub keeps_on : {T : Type 0} (result : Result T Fault) → IfErr result IsOfStore → (HasCleanDisk (state g new) → OnOk result (IsUnchanged (state g old) (state g new))) → (kept : Cache) → AreMade summary.installs kept.texts
-      → (HasCleanDisk (state g new) → IsTrue (state g old).is_open → AreTextsOf (state g old).committed kept.texts) → (HasCleanDisk (state g new) → IsTrue (state g old).is_open → AreHeadsOf (state g old).now kept.counted)
+      → (HasCleanDisk (state g new) → IsTrue (state g old).is_open → AreTextsOf (state g old).committed kept.texts) → (HasCleanDisk (state g new) → IsTrue (state g old).is_open → AreAnswersOf (state g old).now kept.counted)
       → KeepsCache g (last_by result) summary (cache_after (last_by result) kept) new
   keeps_on (Ok value) kind same kept made texts counted = record {
     made = made;
     texts = λ fine clean live. subst (λ (db : Database). AreTextsOf db kept.texts) (sym ((goes clean).committed live)) (texts clean ((goes clean).was_open live));
-    counted = λ fine clean live. subst (λ (db : Database). AreHeadsOf db kept.counted) (sym (same clean).0.now_is) (counted clean ((goes clean).was_open live));
+    counted = λ fine clean live. subst (λ (db : Database). AreAnswersOf db kept.counted) (sym (same clean).0.now_is) (counted clean ((goes clean).was_open live));
+    awake = λ fine clean. inr (same clean).0.is_open;
   }
   keeps_on (Err (Refused refusal)) kind same kept made texts counted = absurd kind
-  keeps_on (Err Memory) kind same kept made texts counted = record { made = tt; texts = λ fine clean live. tt; counted = λ fine clean live. tt }
-  keeps_on (Err Disk) kind same kept made texts counted = record { made = tt; texts = λ fine clean live. tt; counted = λ fine clean live. tt }
+  keeps_on (Err Memory) kind same kept made texts counted = record { made = tt; texts = λ fine clean live. tt; counted = λ fine clean live. tt; awake = λ fine clean. inl refl }
+  keeps_on (Err Disk) kind same kept made texts counted = record { made = tt; texts = λ fine clean live. tt; counted = λ fine clean live. tt; awake = λ fine clean. inl refl }
   keeps_on (Err Shut) kind same kept made texts counted = absurd kind
   keeps_on (Err NotACatalogue) kind same kept made texts counted = absurd kind
   keeps_on (Err Damaged) kind same kept made texts counted = absurd kind
@@ -185,7 +186,7 @@ module _ {S : Type 0} (g : Ghosts S) (old new : Held S) (summary : Holdings (Lis
   -- the desk, which keeps this now
   pub desk_on : {T : Type 0} → (old.in_transaction ≡ false → new.in_transaction ≡ false) → (result : Result T Fault) → after ≡ last_by result → IfErr result IsOfStore → (HasCleanDisk (state g new) → OnOk result (IsUnchanged (state g old) (state g new)))
       → (kept cache : Cache) → cache ≡ cache_after after kept → AreMade summary.installs kept.texts
-      → (HasCleanDisk (state g new) → IsTrue (state g old).is_open → AreTextsOf (state g old).committed kept.texts) → (HasCleanDisk (state g new) → IsTrue (state g old).is_open → AreHeadsOf (state g old).now kept.counted)
+      → (HasCleanDisk (state g new) → IsTrue (state g old).is_open → AreTextsOf (state g old).committed kept.texts) → (HasCleanDisk (state g new) → IsTrue (state g old).is_open → AreAnswersOf (state g old).now kept.counted)
       → IsAtRest g after summary filing new × KeepsCache g after summary cache new
   desk_on mode result by kind same kept cache is made texts counted = (
     rests_on mode,
@@ -198,25 +199,19 @@ module _ {S : Type 0} (g : Ghosts S) (old new : Held S) (summary : Holdings (Lis
   desk_still mode result by kind same kept cache is keeps =
       desk_on mode result by kind same kept cache is keeps.made (λ clean live. keeps.texts open_before (clean_first clean) live) (λ clean live. keeps.counted open_before (clean_first clean) live)
 
-  -- where no transaction was open, what is seen is as it was, and so is what is kept
-  now_alone : old.in_transaction ≡ false → HasCleanDisk (state g new) → IsTrue (state g new).is_open → (state g new).now ≡ (state g old).now
-  now_alone none clean live =
-      elim ((goes clean).now live) as (λ _. (state g new).now ≡ (state g old).now) [
-        | inl both ↦ both.0
-        | inr both ↦ both.0 ∙ sym (rest.settled open_before (clean_first clean) ((goes clean).was_open live) none)
-      ]
-
-  pub desk_alone : old.in_transaction ≡ false → (old.in_transaction ≡ false → new.in_transaction ≡ false) → (kept cache : Cache) → cache ≡ cache_after after kept → KeepsCache g before summary kept old → IsAtRest g after summary filing new × KeepsCache g after summary cache new
+  -- where no transaction was open, and what was counted is let go of
+  pub desk_alone : old.in_transaction ≡ false → (old.in_transaction ≡ false → new.in_transaction ≡ false) → (kept cache : Cache) → cache ≡ cache_after after (without_counts kept) → KeepsCache g before summary kept old → IsAtRest g after summary filing new × KeepsCache g after summary cache new
   desk_alone none mode kept cache is keeps = (rests_on mode, subst (λ (k : Cache). KeepsCache g after summary k new) (sym is) (by_last after))
     where
-      by_last : (last : LastCall) → KeepsCache g last summary (cache_after last kept) new
+      by_last : (last : LastCall) → KeepsCache g last summary (cache_after last (without_counts kept)) new
       by_last Fine = record {
         made = keeps.made;
         texts = λ fine clean live. subst (λ (db : Database). AreTextsOf db kept.texts) (sym ((goes clean).committed live)) (keeps.texts open_before (clean_first clean) ((goes clean).was_open live));
-        counted = λ fine clean live. subst (λ (db : Database). AreHeadsOf db kept.counted) (sym (now_alone none clean live)) (keeps.counted open_before (clean_first clean) ((goes clean).was_open live));
+        counted = λ fine clean live. tt;
+        awake = λ fine clean. inl refl;
       }
-      by_last Failed = record { made = tt; texts = λ fine clean live. tt; counted = λ fine clean live. tt }
-      by_last Closed = record { made = tt; texts = λ fine clean live. tt; counted = λ fine clean live. tt }
+      by_last Failed = record { made = tt; texts = λ fine clean live. tt; counted = λ fine clean live. tt; awake = λ fine clean. inl refl }
+      by_last Closed = record { made = tt; texts = λ fine clean live. tt; counted = λ fine clean live. tt; awake = λ fine clean. inl refl }
 
   module _ (M : Catalogue) (shown : Shows g (record { conn = old; summary = summary; last = before }) M) where
     pub shows_on : Shows g (record { conn = new; summary = summary; last = after }) M

@@ -45,10 +45,10 @@ module _ {S : Type 0} (g : Ghosts S) where
       at_rest g Closed summary left new (survives.limit ∙ rest.limit) rest.range (λ fine. absurd (true≢false fine)) (λ fine. absurd (true≢false fine)) (λ fine. absurd (true≢false fine))
 
   pub closed_keeps : (summary : Holdings (List ℕ)) (cache : Cache) (new : Held S) → KeepsCache g Closed summary (cache_after Closed cache) new
-  closed_keeps summary cache new = record { made = tt; texts = λ fine clean live. tt; counted = λ fine clean live. tt }
+  closed_keeps summary cache new = record { made = tt; texts = λ fine clean live. tt; counted = λ fine clean live. tt; awake = λ fine clean. inl refl }
 
   pub failed_keeps : (summary : Holdings (List ℕ)) (cache : Cache) (new : Held S) → KeepsCache g Failed summary (cache_after Failed cache) new
-  failed_keeps summary cache new = record { made = tt; texts = λ fine clean live. tt; counted = λ fine clean live. tt }
+  failed_keeps summary cache new = record { made = tt; texts = λ fine clean live. tt; counted = λ fine clean live. tt; awake = λ fine clean. inl refl }
 
   -- ---- a call that failed, or prepared something, and changed nothing else
 
@@ -85,6 +85,7 @@ module _ {S : Type 0} (g : Ghosts S) (old new : Held S) (summary : Holdings (Lis
         let goes = undone_continues g old new (undone clean) in
         subst (λ (db : Database). AreTextsOf db cache.texts) (sym (goes.committed live)) (keeps.texts fine (let first : HasCleanDisk (state g old) = omega (arith, survives.clean, clean) in first) (goes.was_open live));
     counted = λ open' clean live. tt;
+    awake = λ open' clean. inl refl;
   }
 
   pub undone_shows : (after : LastCall) (M : Catalogue) → Shows g (record { conn = old; summary = summary; last = last }) M → Shows g (record { conn = new; summary = summary; last = after }) M
@@ -137,8 +138,9 @@ module _ {S : Type 0} (g : Ghosts S) (old new : Held S) (summary : Holdings (Lis
     made = kept.made;
     texts = λ open' clean live. subst (λ (db : Database). AreTextsOf db cache.texts) (sym ((keeps clean).committed live)) (kept.texts fine (clean_first clean) ((keeps clean).was_open live));
     counted = λ open' clean live. tt;
+    awake = λ open' clean. inl refl;
   }
-  prepared_keeps (Err fault) after cache kept = record { made = tt; texts = λ open' clean live. tt; counted = λ open' clean live. tt }
+  prepared_keeps (Err fault) after cache kept = record { made = tt; texts = λ open' clean live. tt; counted = λ open' clean live. tt; awake = λ open' clean. inl refl }
 
   pub prepared_shows : (after : LastCall) (M : Catalogue) → Shows g (record { conn = old; summary = summary; last = before }) M → Shows g (record { conn = new; summary = summary; last = after }) M
   prepared_shows after M shown = record {

@@ -1,5 +1,5 @@
 -- The texts that are kept over a command stay those of their editions.
-use Rattle.std.proofs.Common.{◌≡◌, ℕ, ◌≤◌, Bool, true, false, List, [], ◌∷◌, drop, refl, sym, ap, subst, ◌∙◌, arith, codes}
+use Rattle.std.proofs.Common.{◌≡◌, inl, ℕ, ◌≤◌, Bool, true, false, List, [], ◌∷◌, drop, refl, sym, ap, subst, ◌∙◌, arith, codes}
 use Rattle.std.specs.Prelude.{pos, IsTrue, Contains, Result, Ok, Err, OnOk, IfErr}
 use Rattle.std.specs.List.{AllByRecursion}
 use Rattle.sqlite.specs.Effect.{Database}
@@ -73,17 +73,18 @@ module _ {S : Type 0} (g : Ghosts S) (old new : Held S) (summary : Holdings (Lis
   more_made installs grows = more_installs summary.installs installs grows cache.texts keeps.made
 
   nothing : (last : LastCall) (after : Holdings (List ℕ)) → KeepsCache g last after no_cache new
-  nothing last after = record { made = tt; texts = λ fine clean live. tt; counted = λ fine clean live. tt }
+  nothing last after = record { made = tt; texts = λ fine clean live. tt; counted = λ fine clean live. tt; awake = λ fine clean. inl refl }
 
   pub texts_applied : (result : Result Applied Fault) → (HasCleanDisk (state g new) → IsTrue (state g new).is_open → OnOk result (AddsAbove summary.installs (state g old).committed (state g new).committed))
       → (HasCleanDisk (state g new) → IsTrue (state g new).is_open → IfErr result (λ fault. is_failure fault ≡ false → (state g new).committed ≡ (state g old).committed)) → summary.installs ≤ (summary_after summary result).installs
       → KeepsCache g (last_by result) (summary_after summary result) (cache_after (last_by result) (without_counts cache)) new
-  texts_applied (Ok (Repeated kept)) above refused grows = record { made = more_made summary.installs grows; texts = λ fine clean live. still_are clean live (above clean live); counted = λ fine clean live. tt }
-  texts_applied (Ok (Done kept after)) above refused grows = record { made = more_made (summary_after summary (Ok (Done kept after))).installs grows; texts = λ fine clean live. still_are clean live (above clean live); counted = λ fine clean live. tt }
+  texts_applied (Ok (Repeated kept)) above refused grows = record { made = more_made summary.installs grows; texts = λ fine clean live. still_are clean live (above clean live); counted = λ fine clean live. tt; awake = λ fine clean. inl refl }
+  texts_applied (Ok (Done kept after)) above refused grows = record { made = more_made (summary_after summary (Ok (Done kept after))).installs grows; texts = λ fine clean live. still_are clean live (above clean live); counted = λ fine clean live. tt; awake = λ fine clean. inl refl }
   texts_applied (Err (Refused refusal)) above refused grows = record {
     made = keeps.made;
     texts = λ fine clean live. subst (λ (db : Database). AreTextsOf db cache.texts) (sym (refused clean live refl)) (keeps.texts open_before (first clean) (lives clean live));
     counted = λ fine clean live. tt;
+    awake = λ fine clean. inl refl;
   }
   texts_applied (Err Memory) above refused grows = nothing (last_by {T = Applied} (Err Memory)) summary
   texts_applied (Err Disk) above refused grows = nothing (last_by {T = Applied} (Err Disk)) summary

@@ -5,7 +5,7 @@ use Rattle.sqlite.specs.Held.{Held, state}
 use Rattle.sqlite_trees.specs.declared.store.Store.{Ghosts}
 use Rattle.dict_catalogue.specs.Tests.{Holdings}
 use Rattle.dict_lookup.specs.Texts.{AreTextsOf, AreMade}
-use Rattle.dict_lookup.specs.Counts.{AreHeadsOf}
+use Rattle.dict_lookup.specs.Counts.{AreAnswersOf, IsAwake}
 use Rattle.dict_store.specs.Desk.{is_closed}
 use Rattle.dict_store.specs.declared.kept.Cache.{Cache}
 use Rattle.dict_store.specs.declared.last.LastCall.{LastCall}
@@ -25,8 +25,10 @@ cache_after Closed cache = no_cache
 
 module _ {S : Type 0} (g : Ghosts S) where
   -- What is kept in memory is of the editions of the catalogue, while the desk isn't closed and the store is open: each text is that of
-  -- the edition which is committed under its number, the number of an install; and what was counted was counted in what is seen.
+  -- the edition which is committed under its number, the number of an install; and what was counted was counted in what is seen. Where
+  -- something is kept of what was counted, the store is open.
   pub record KeepsCache (last : LastCall) (summary : Holdings (List ℕ)) (cache : Cache) (h : Held S) : Type 0 where
     pub made : AreMade summary.installs cache.texts
     pub texts : is_closed last ≡ false → HasCleanDisk (state g h) → IsTrue (state g h).is_open → AreTextsOf (state g h).committed cache.texts
-    pub counted : is_closed last ≡ false → HasCleanDisk (state g h) → IsTrue (state g h).is_open → AreHeadsOf (state g h).now cache.counted
+    pub counted : is_closed last ≡ false → HasCleanDisk (state g h) → IsTrue (state g h).is_open → AreAnswersOf (state g h).now cache.counted
+    pub awake : is_closed last ≡ false → HasCleanDisk (state g h) → IsAwake cache.counted (state g h)

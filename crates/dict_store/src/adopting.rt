@@ -23,7 +23,7 @@ ghost use Rattle.dict_rows.specs.Versions.{known, IsVersion};
 ghost use Rattle.dict_store.specs.Adopted.{FailsToOpen};
 
 use crate::desk::Desk;
-use crate::kept::forget_by;
+use crate::kept::forget_after;
 use crate::last::{LastCall, last_by};
 use dict_catalogue::{Summary, edition_numbers};
 use dict_commands::{kept_reply, summaries_in_range};
@@ -245,7 +245,7 @@ impl<S: Alter + Drop> Desk<S> {
         self.withdraw()?;
         let outcome = read_committed(self.alloc, &mut self.conn);
         self.last = last_by(&outcome);
-        forget_by(&mut self.cache, self.last);
+        forget_after(&mut self.cache, self.last);
         outcome
     }
 }

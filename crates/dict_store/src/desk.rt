@@ -1,5 +1,5 @@
 // A desk over one database.
-ghost use Rattle.std.specs.Prelude.{◌≡◌, ◌≢◌, ◌∷◌, [], Some, None, true, false, IfOk, IfErr, IsTrue};
+ghost use Rattle.std.specs.Prelude.{◌≡◌, ◌≢◌, ◌∷◌, [], Some, None, Ok, true, false, IfOk, IfErr, IsTrue, MatchResult};
 ghost use Rattle.sqlite.specs.State.{HasCleanDisk, Survives};
 ghost use Rattle.sqlite.specs.Held.{state};
 ghost use Rattle.dict_catalogue.specs.Steps.{Catalogue, empty_catalogue, summary_of};
@@ -27,7 +27,7 @@ use std::alloc::Global;
 use std::marker::Model;
 
 /// A desk over one database: the connection to it, and the summary of the catalogue that it holds. The texts of editions from which
-/// entries were handed out last are kept in memory, up to `dict_texts::MAX_OCTETS`, and the headwords that were counted last, up to
+/// entries were handed out last are kept in memory, up to `dict_texts::MAX_OCTETS`, and the rows that were counted last, up to
 /// `dict_lookup::MAX_COUNTED`; what is shown never rests on them. Between two calls a transaction may be open, in which rows of a
 /// change that may come are filed: none of them is shown before that change is applied.
 #[derive(Drop)]
@@ -126,16 +126,22 @@ impl<S: Alter + Drop> Desk<S> {
         self.rows_taken
     }
 
-    /// The connection, as the desk left it, in no transaction: what is prepared is undone first. Only where the disk has given other
-    /// octets than were written isn't that told, so `is_autocommit` is to be asked.
-    pub fn into_connection(self) -> Connection<S>
-        ensures same { self.conn.in_transaction ≡ false → result ≡ self.conn }
-        ensures undone { HasCleanDisk (state S.Store result) → Undoes S.Store self.conn result }
-        ensures autocommit { HasCleanDisk (state S.Store result) → result.in_transaction ≡ false }
-        ensures survives { Survives (state S.Store self.conn) (state S.Store result) (λ _. ⊥) }
+    /// The connection, as the desk left it, in no transaction: what is prepared is undone first. Where it couldn't be undone, which is
+    /// only where the disk has given other octets than were written, the connection is handed back as an error, in its transaction.
+    pub fn into_connection(self) -> Result<Connection<S>, Connection<S>>
+        ensures same { self.conn.in_transaction ≡ false → result ≡ Ok self.conn }
+        ensures autocommit { IfOk result (λ conn. conn.in_transaction ≡ false) }
+        ensures undone { IfOk result (λ conn. HasCleanDisk (state S.Store conn) → Undoes S.Store self.conn conn) }
+        ensures cause { IfErr result (λ conn. HasCleanDisk (state S.Store conn) → ⊥) }
+        ensures survives { MatchResult result
+            (λ conn. Survives (state S.Store self.conn) (state S.Store conn) (λ _. ⊥))
+            (λ conn. Survives (state S.Store self.conn) (state S.Store conn) (λ _. ⊥)) }
     {
         let Desk { mut conn, .. } = self;
-        undo(&mut conn);
-        conn
+        if undo(&mut conn) {
+            Ok(conn)
+        } else {
+            Err(conn)
+        }
     }
 }

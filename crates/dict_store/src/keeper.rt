@@ -9,7 +9,7 @@ ghost use Rattle.dict_store.specs.Applied.{AppliesOver};
 ghost use Rattle.dict_store.specs.Desk.{HasCommitted, HasFiled, reply_of};
 
 use crate::desk::Desk;
-use crate::kept::{forget_by, forget_counts};
+use crate::kept::{forget_after, forget_by, forget_counts};
 use crate::last::{LastCall, last_by};
 use crate::withdrawing::let_go_when_ended;
 use dict_catalogue::{Command, Kept, Summary};
@@ -71,7 +71,7 @@ impl<S: Alter + Drop> Keeper for Desk<S> {
         self.withdraw()?;
         let outcome = kept_reply(self.alloc, &mut self.conn, id);
         self.last = last_by(&outcome);
-        forget_by(&mut self.cache, self.last);
+        forget_after(&mut self.cache, self.last);
         outcome
     }
 

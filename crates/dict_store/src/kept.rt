@@ -9,7 +9,7 @@ use dict_lookup::Counted;
 use dict_texts::Texts;
 use std::alloc::Global;
 
-// What lookups keep: the texts of the editions that were asked last, and the headwords that were counted last.
+// What lookups keep: the texts of the editions that were asked last, and the rows that were counted last.
 #[derive(Drop)]
 pub(crate) struct Cache {
     pub texts: Texts,
@@ -52,6 +52,15 @@ pub(crate) fn forget_by(cache: &mut Cache, last: LastCall)
         LastCall::Fine => {}
         LastCall::Failed | LastCall::Closed => cache.forget_all(),
     }
+}
+
+// Behind a call that reads the whole database or its replies nothing that was counted is kept, and after a fault from 40 on nothing at
+// all.
+pub(crate) fn forget_after(cache: &mut Cache, last: LastCall)
+    ensures { cache.new ≡ cache_after last (without_counts cache.old) }
+{
+    forget_counts(cache);
+    forget_by(cache, last);
 }
 
 // Behind what was prepared nothing that was counted is kept, and behind a fault nothing at all.

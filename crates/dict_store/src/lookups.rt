@@ -59,6 +59,7 @@ impl<S: Alter + Drop> Lookup for Desk<S> {
         let outcome = dict_lookup::count(
             self.alloc,
             &mut self.conn,
+            &self.cache.texts,
             &mut self.cache.counted,
             number,
             strategy,
@@ -83,6 +84,7 @@ impl<S: Alter + Drop> Lookup for Desk<S> {
             self.alloc,
             &mut self.conn,
             &mut self.cache.texts,
+            &self.cache.counted,
             self.summary.installs,
             number,
             strategy,

@@ -25,6 +25,7 @@ pub(crate) fn undo<S: Alter>(conn: &mut Connection<S>) -> bool
     ensures undone { HasCleanDisk (state S.Store conn.new) → Undoes S.Store conn.old conn.new }
     ensures ended { HasCleanDisk (state S.Store conn.new) → conn.new.in_transaction ≡ false }
     ensures told { IsTrue result → conn.new.in_transaction ≡ false }
+    ensures none { conn.old.in_transaction ≡ false → IsTrue result }
     ensures trusted { HasCleanDisk (state S.Store conn.new) → IsTrue result }
     ensures survives { Survives (state S.Store conn.old) (state S.Store conn.new) (λ _. ⊥) }
 {

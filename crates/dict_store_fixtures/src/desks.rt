@@ -22,6 +22,14 @@ pub fn desk_over<S: Alter + Drop>(
     }
 }
 
+/// The connection of a desk, in a transaction only where that couldn't be undone.
+pub fn connection_of<S: Alter + Drop>(desk: Desk<S>) -> Connection<S> {
+    match desk.into_connection() {
+        Ok(conn) => conn,
+        Err(conn) => conn,
+    }
+}
+
 /// Applies commands, each of which has to be accepted.
 pub fn accept_all<K: Keeper>(
     desk: &mut K,

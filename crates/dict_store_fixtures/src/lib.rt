@@ -8,6 +8,6 @@ mod showing;
 mod stored;
 
 pub use asked::{Asked, Editions, Source, read_editions, requests, told, told_outcome};
-pub use desks::{accept_all, batched, desk_over};
+pub use desks::{accept_all, batched, connection_of, desk_over};
 pub use showing::{Rows, listed, shown};
 pub use stored::{CAPITALS, Older, PLAIN, SHARED, SHOWN, older_files};

@@ -10,8 +10,8 @@ use dict_failing_disk::{Failing, crashed, failing_disk};
 use dict_match::{Strategy, key_of};
 use dict_store::{Desk, apply_to_file};
 use dict_store_fixtures::{
-    Asked, Editions, Older, Rows, Source, accept_all, batched, desk_over, older_files,
-    read_editions, requests, shown, told, told_outcome,
+    Asked, Editions, Older, Rows, Source, accept_all, batched, connection_of, desk_over,
+    older_files, read_editions, requests, shown, told, told_outcome,
 };
 use sqlite::{Alter, Connection, Files};
 use sqlite_disk::Crash;
@@ -343,7 +343,7 @@ fn work_over<S: Alter + Drop>(
         Ok(desk) => {
             let mut desk = desk;
             let ended = work_on(rt, alloc, &mut desk, work);
-            (desk.into_connection(), ended)
+            (connection_of(desk), ended)
         }
         Err((conn, fault)) => (conn, without_a_desk(work, fault)),
     }

@@ -121,10 +121,9 @@ static ANEW: [(u64, &str, &str, u64); 3] = [
 
 // The same catalogue, of a desk that has no texts yet.
 fn adopted<S: Alter + Drop>(alloc: Global, desk: Desk<S>) -> Result<Desk<S>, Fail> {
-    let conn = desk.into_connection();
-    if !conn.is_autocommit() {
+    let Ok(conn) = desk.into_connection() else {
         return Err(Fail::new("a transaction"));
-    }
+    };
     match Desk::adopt(alloc, conn) {
         Ok(desk) => Ok(desk),
         Err(_) => Err(Fail::new("no desk")),

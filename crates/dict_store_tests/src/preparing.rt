@@ -120,11 +120,7 @@ fn an_install_is_prepared_part_by_part(rt: HostRuntime) -> Result<(), Fail> {
     );
     let end = apply_next(&rt, alloc, &mut desk, &editions)?;
     same_text(&rt, end.as_str(), wanted.as_str(), "both");
-    holds(
-        &rt,
-        desk.into_connection().is_autocommit(),
-        "no transaction",
-    );
+    holds(&rt, desk.into_connection().is_ok(), "no transaction");
     Ok(())
 }
 
@@ -225,10 +221,9 @@ fn a_desk_is_opened_again_meanwhile(rt: HostRuntime) -> Result<(), Fail> {
     let mut desk = begun(alloc, &editions)?;
     desk.expect(&NEXT.command(&editions))?;
     holds(&rt, !prepare_parts(&rt, alloc, &mut desk, 2)?, "more");
-    let conn = desk.into_connection();
-    if !conn.is_autocommit() {
+    let Ok(conn) = desk.into_connection() else {
         return Err(Fail::new("a transaction"));
-    }
+    };
     let Ok(desk) = Desk::adopt(alloc, conn) else {
         return Err(Fail::new("no desk"));
     };

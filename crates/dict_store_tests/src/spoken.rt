@@ -4,6 +4,7 @@ use dict_desk::{Fault, Lookup};
 use dict_io::{LimitedSink, OverRead};
 use dict_session::{Session, SessionEnd, Step};
 use dict_store::session_over;
+use dict_store_fixtures::connection_of;
 use sqlite::{Alter, Connection};
 use std::alloc::{AllocError, Global};
 use std::process::Abort;
@@ -23,9 +24,9 @@ fn spoken<S: Alter + Drop>(
     }
     let mut reader = OverRead::new(input.as_bytes());
     match session_over(alloc, conn, &mut reader, writer, "dict.example.org", 7) {
-        Ok((desk, Ok(SessionEnd::Quit))) => (desk.into_connection(), "quit"),
-        Ok((desk, Ok(SessionEnd::InputEnd))) => (desk.into_connection(), "input end"),
-        Ok((desk, Err(_))) => (desk.into_connection(), "a failure"),
+        Ok((desk, Ok(SessionEnd::Quit))) => (connection_of(desk), "quit"),
+        Ok((desk, Ok(SessionEnd::InputEnd))) => (connection_of(desk), "input end"),
+        Ok((desk, Err(_))) => (connection_of(desk), "a failure"),
         Err((conn, Fault::NotACatalogue)) => (conn, "no catalogue"),
         Err((conn, _)) => (conn, "another fault"),
     }

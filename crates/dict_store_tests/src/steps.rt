@@ -7,7 +7,7 @@ use crate::{full, looking, many, spoken};
 use dict_desk::{Fault, Keeper, PlainDesk};
 use dict_store::Desk;
 use dict_store_fixtures::{
-    Asked, Editions, batched, desk_over, listed, read_editions, shown, told,
+    Asked, Editions, batched, connection_of, desk_over, listed, read_editions, shown, told,
 };
 use sqlite::{Alter, Connection};
 use std::alloc::Global;
@@ -119,7 +119,7 @@ fn over_desk<S: Alter + Drop>(
         Ok(desk) => {
             let mut desk = desk;
             let end = on_desk(rt, alloc, &mut desk, editions, step, wanted);
-            (desk.into_connection(), end)
+            (connection_of(desk), end)
         }
         Err((conn, fault)) => match step {
             Step::Refuse(_, due) if *due == fault => (conn, Ok(())),

@@ -7,6 +7,14 @@ fn text(alloc: Global, octets: &[u8]) -> Result<Vec<u8>, Fail> {
     Ok(Vec::from_slice(alloc, octets)?)
 }
 
+fn is_same(found: Option<&[u8]>, wanted: Option<&[u8]>) -> bool {
+    match (found, wanted) {
+        (Some(found), Some(octets)) => found == octets,
+        (None, None) => true,
+        _ => false,
+    }
+}
+
 // The text under the number, which is kept still.
 fn same(
     rt: &impl Abort,
@@ -14,6 +22,7 @@ fn same(
     number: u64,
     wanted: Option<&[u8]>,
 ) -> Result<(), Fail> {
+    assert!(rt; is_same(texts.peek(number), wanted), "the text {number} that is looked at");
     match (texts.take(number), wanted) {
         (Some(found), Some(octets)) => {
             assert!(rt; found.as_slice() == octets, "the text {number}");

@@ -75,6 +75,16 @@ fn take_from(kept: &mut LruCache<u64, Vec<u8>>, octets: &mut usize, number: u64)
     }
 }
 
+// The text under a number.
+fn text_under(kept: &LruCache<u64, Vec<u8>>, number: u64) -> Option<&[u8]>
+    ensures { option_map (λ text. text.now) result ≡ lookup (nat_eq number) (texts_of kept.now.entries) }
+{
+    match kept.peek(&number) {
+        Some(text) => Some(text.as_slice()),
+        None => None,
+    }
+}
+
 // Puts a text first, in place of the one under its number, or where there are too many, of the last.
 fn put_new(
     kept: &mut LruCache<u64, Vec<u8>>,
@@ -126,6 +136,16 @@ impl Texts {
             alloc,
             kept: None,
             octets: 0,
+        }
+    }
+
+    /// The text under a number, if one is kept. It doesn't count as used by that.
+    pub fn peek(&self, number: u64) -> Option<&[u8]>
+        ensures { option_map (λ text. text.now) result ≡ lookup (nat_eq number) self.now }
+    {
+        match &self.kept {
+            Some(kept) => text_under(kept, number),
+            None => None,
         }
     }
 

@@ -10,7 +10,7 @@ ghost use Rattle.dictcat_lib.specs.Catalogues.{IsMade};
 ghost use Rattle.dictcat_lib.specs.DeskOpener.{IsDesk, IsMadeDesk, IsNoDesk, IsNoDeskAgain, IsTrusted, IsUnmade};
 ghost use Rattle.dictcat_lib.specs.Files.{StillLeaves};
 
-use crate::left::{Left, hold};
+use crate::left::{Left, connection_of, hold};
 use crate::stores::{close_file, make_file, open_file, options, told_unopened};
 use dict_messages::ProgramFault;
 use dict_store::Desk;
@@ -74,7 +74,7 @@ pub(crate) fn reopen_desk<'w, D: Disk + Drop>(
     ensures leaves { IfErr result (λ _. (ms : List (Option Catalogue)) → LeavesOneOf over_files desk ms → StillLeaves desk held.new ms) }
 {
     let Some(options) = options(rt) else {
-        hold(held, Left::Kept(desk.into_connection()));
+        hold(held, Left::Kept(connection_of(desk)));
         return Err(ProgramFault::CannotRead(file));
     };
     match desk.reopen(options) {

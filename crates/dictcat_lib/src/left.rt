@@ -1,7 +1,10 @@
 // What is left of a file that is no longer served.
 ghost use Rattle.std.specs.Prelude.{◌≡◌, Some};
+ghost use Rattle.sqlite.specs.Files.{file_state, over_files};
+ghost use Rattle.sqlite.specs.State.{HasCleanDisk, Survives};
+ghost use Rattle.dict_store.specs.Prepared.{Undoes};
 
-use dict_store::Unopened;
+use dict_store::{Desk, Unopened};
 use sqlite::{Connection, FileStore, Files};
 use sqlite_disk::Disk;
 
@@ -16,6 +19,17 @@ pub(crate) enum Left<D: Disk + Drop> {
     Unopened(Unopened<D>),
     /// The desk's connection. Its files were not let go of.
     Kept(Connection<FileStore<D>>),
+}
+
+// The connection of a desk, in which what was prepared is undone.
+pub(crate) fn connection_of<D: Disk + Drop>(desk: Desk<FileStore<D>>) -> Connection<FileStore<D>>
+    ensures undone { HasCleanDisk (file_state result) → Undoes over_files desk.conn result }
+    ensures survives { Survives (file_state desk.conn) (file_state result) (λ _. ⊥) }
+{
+    match desk.into_connection() {
+        Ok(conn) => conn,
+        Err(conn) => conn,
+    }
 }
 
 // Holds what is left of a file in place of what was held.

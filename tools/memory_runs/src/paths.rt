@@ -32,7 +32,10 @@ fn is_made<S: Start>(rt: &HostRuntime, start: S) -> bool {
         return false;
     }
     match Desk::create(rt.alloc(), conn) {
-        Ok(desk) => desk.into_connection().close().is_ok(),
+        Ok(desk) => match desk.into_connection() {
+            Ok(conn) => conn.close().is_ok(),
+            Err(_) => false,
+        },
         Err(_) => false,
     }
 }

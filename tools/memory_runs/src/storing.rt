@@ -197,7 +197,7 @@ fn files_behind_one_step<D: Crash + Drop>(
     let mut desk = desk?;
     let step = STEPS.first()?;
     match step_once(&mut desk, editions, step, 0) {
-        Some(Outcome::Right) => Some(desk.into_connection().into_store().close()),
+        Some(Outcome::Right) => Some(desk.into_connection().ok()?.into_store().close()),
         _ => None,
     }
 }

@@ -1,9 +1,14 @@
-use Rattle.std.proofs.Common.{ℕ, List, [], ◌∷◌, ◌++◌, map, ap, ◌∙◌}
-use Rattle.std.specs.Prelude.{string_bytes}
+use Rattle.std.proofs.Common.{List, ℕ, [], ◌∷◌, ◌++◌, map, ap, ◌∙◌}
 use Rattle.std.proofs.lemmas.List.{map-append}
+use Rattle.dict_desk.specs.Shown.{Row, row}
+use Rattle.dict_lookup.specs.Counts.{row_kept}
+use Rattle.dict_lookup.specs.declared.collector.KeptRow.{KeptRow}
 use Rattle.dict_lookup.proofs.collector.put.Goals as goal
 
 pub returns : goal.returns
 returns c =
-    ap (map string_bytes) c.in_ok-push.ensures.items
-    ∙ (map-append string_bytes c.args.shown.now.items (c.in_ok-from_str.field-0 ∷ []) ∙ ap (λ (t : List ℕ). map string_bytes c.args.shown.now.items ++ t ∷ []) c.in_ok-from_str.ensures.ok)
+    let one : KeptRow = record { shown = c.in_ok-copy.copy; text = c.in_ok-octets.octets } in
+    ap (map row_kept) c.in_ok-push.ensures.items
+    ∙ (map-append row_kept c.args.rows.now.items (one ∷ [])
+    ∙ ap (λ (r : Row). map row_kept c.args.rows.now.items ++ r ∷ [])
+    (ap (λ (t : List ℕ). row t c.in_ok-octets.octets.items) c.in_ok-copy.ensures.ok ∙ ap (λ (t : List ℕ). row c.args.shown.now t) c.in_ok-octets.ensures.items))

@@ -1,14 +1,14 @@
-use Rattle.std.proofs.Common.{◌≡◌, length, get_or, ap, ◌∙◌, arith}
-use Rattle.std.specs.Prelude.{String, string_bytes}
-use Rattle.std.specs.declared.alloc.Global.{Global}
+use Rattle.std.proofs.Common.{◌≡◌, ◌+◌, length, get_or, ap, arith}
+use Rattle.std.specs.Prelude.{string_bytes}
+use Rattle.dict_lookup.specs.declared.collector.KeptRow.{KeptRow}
 use Rattle.dict_lookup.proofs.CountedLemmas.{size_more}
 use Rattle.dict_lookup.proofs.counted.size_of.Goals as goal
 
-pub loop-text-preserved : goal.loop-text-preserved
-loop-text-preserved c =
-    let shown = c.args.shown.now in
-    let i = c.loop-text.text-index in
-    let text = c.text-item.result in
-    let step = size_more shown i text (omega arith) in
-    let size : length (string_bytes text) ≡ length (string_bytes (get_or shown i text)) = ap (λ (s : String Global). length (string_bytes s)) c.text-item.is in
-    omega (arith, step, size, c.loop-text.invariant, c.len.ensures, c.in-Some.ensures, c.in-Some-checked_add.ensures)
+pub loop-kept-preserved : goal.loop-kept-preserved
+loop-kept-preserved c =
+    let rows = c.args.rows.now in
+    let i = c.loop-kept.kept-index in
+    let kept = c.kept-item.result in
+    let step = size_more rows i kept (omega arith) in
+    let size : length (string_bytes kept.shown) + length kept.text.items ≡ length (string_bytes (get_or rows i kept).shown) + length (get_or rows i kept).text.items = ap (λ (k : KeptRow). length (string_bytes k.shown) + length k.text.items) c.kept-item.is in
+    omega (arith, step, size, c.loop-kept.invariant, c.in-Some.ensures)

@@ -1,7 +1,6 @@
 use Rattle.std.proofs.Common.{◌≡◌, map, take}
-use Rattle.std.specs.Prelude.{string_bytes}
-use Rattle.dict_lookup.specs.Counts.{size_of}
+use Rattle.dict_lookup.specs.Counts.{row_kept, size_of}
 use Rattle.dict_lookup.proofs.counted.size_of.Given as goal
 
-abbrev pub invariant-loop-text : goal.invariant-loop-text
-invariant-loop-text l = l.size ≡ size_of (map string_bytes (take l.text-index l.shown))
+abbrev pub invariant-loop-kept : goal.invariant-loop-kept
+invariant-loop-kept l = l.size ≡ size_of (map row_kept (take l.kept-index l.rows))

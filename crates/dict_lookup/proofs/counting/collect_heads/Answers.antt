@@ -1,13 +1,13 @@
 use Rattle.std.proofs.Common.{◌≡◌, ◌≤◌, inl, inr, arith, ◌+◌, length, ap}
 use Rattle.std.specs.Prelude.{Ok}
 use Rattle.dict_index.specs.Edition.{edition_of}
-use Rattle.dict_desk.specs.Found.{found, headwords}
-use Rattle.dict_lookup.proofs.CountedLemmas.{collected_heads}
+use Rattle.dict_desk.specs.Shown.{headword_rows}
+use Rattle.dict_lookup.proofs.CountedLemmas.{collected_rows}
 use Rattle.dict_lookup.proofs.counting.collect_heads.Goals as goal
 
 pub returns-in-All-clause-value : goal.returns-in-All-clause-value
 returns-in-All-clause-value g c clean reading one =
-    collected_heads c.new-collector.result c.heads_in.new.sink (headwords (found c.args.strategy c.args.query.now (edition_of reading))) c.new-collector.ensures.count c.new-collector.ensures.shown
+    collected_rows c.new-collector.result c.heads_in.new.sink (headword_rows c.args.strategy c.args.query.now (edition_of reading)) c.new-collector.ensures.count c.new-collector.ensures.rows
     ((c.in_ok-end.ensures.value clean reading one).all (ap Ok c.in-All.is))
 
 pub returns-in-Stopped-clause-failed : goal.returns-in-Stopped-clause-failed

@@ -1,28 +1,50 @@
-use Rattle.std.proofs.Common.{◌≡◌, ◌≤◌, inl, inr, arith, [], ◌+◌, length, ap, ◌∙◌, zero-add}
-use Rattle.std.specs.Prelude.{Ok}
+use Rattle.std.proofs.Common.{◌≡◌, ℕ, List, sym, ap, ◌∙◌}
 use Rattle.std.proofs.lemmas.List.{length-map}
+use Rattle.sqlite.specs.Held.{state}
+use Rattle.sqlite.proofs.StateLemmas.{unchanged}
 use Rattle.dict_index.specs.Edition.{edition_of}
 use Rattle.dict_desk.specs.Found.{found}
 use Rattle.dict_desk.specs.Shown.{row_of, found_rows}
+use Rattle.dict_desk.specs.declared.lookup.What.TheVariants.{Entries}
+use Rattle.dict_lookup.specs.Counts.{Answer, row_kept, rows_in}
+use Rattle.dict_lookup.specs.Texts.{IsTextOf}
+use Rattle.dict_lookup.proofs.CountedLemmas.{answers_left, answers_put, awake_open, kept_answer, kept_size}
 use Rattle.dict_lookup.proofs.FoundLemmas.{counts_same}
+use Rattle.dict_lookup.proofs.TextLemmas.{taken_is}
 use Rattle.dict_lookup.proofs.counting.count_entries.Goals as goal
 
-pub returns-in-All-clause-value : goal.returns-in-All-clause-value
-returns-in-All-clause-value g c clean reading one =
+-- ---- entries that are kept
+
+pub returns-in-Some-clause-value : goal.returns-in-Some-clause-value
+returns-in-Some-clause-value g c clean texts are reading one =
+    kept_size c.in-Some.rows.now _ (kept_answer (state g.S.Store c.args.conn.now).now c.args.counted.now c.args.number c.args.strategy c.args.query.now Entries c.in-Some.rows.now c.in-Some.ensures are reading one)
+    ∙ length-map (found c.args.strategy c.args.query.now (edition_of reading)) row_of
+
+pub returns-in-Some-clause-counted : goal.returns-in-Some-clause-counted
+returns-in-Some-clause-counted g c clean texts are = are
+
+pub returns-in-Some-clause-same : goal.returns-in-Some-clause-same
+returns-in-Some-clause-same g c clean awake = unchanged (state g.S.Store c.args.conn.now) (awake_open c.args.counted.now _ (state g.S.Store c.args.conn.now) c.in-Some.ensures awake)
+
+-- ---- entries that are read
+
+pub returns-clause-value : goal.returns-clause-value
+returns-clause-value g c clean texts are reading one =
     let strategy = c.args.strategy in
     let query = c.args.query.now in
-    let none = record reading { text = [] } in
-    let hands = c.in_ok-end.ensures.value clean reading one in
-    let counted : c.find_in.new.sink.count ≡ 0 + length (found_rows strategy query (edition_of none)) = hands.all (ap Ok c.in-All.is) in
-    counted ∙ (zero-add (length (found_rows strategy query (edition_of none))) ∙ (length-map (found strategy query (edition_of none)) row_of ∙ counts_same strategy query [] reading))
+    let text = c.in-Some-peek.text.now in
+    (c.in_ok-found.ensures.value clean reading one).0
+    ∙ (length-map (found strategy query (edition_of (record reading { text = text }))) row_of ∙ counts_same strategy query text reading)
 
-pub returns-in-Stopped-clause-failed : goal.returns-in-Stopped-clause-failed
-returns-in-Stopped-clause-failed g c clean =
-    inl (
-      c.in_ok-end.ensures.same clean,
-      inr (λ readable.
-          let few = c.in_ok-end.ensures.few clean readable in
-          let limit = few.1 in
-          let many : 18446744073709551615 ≤ 0 + length few.0 = few.2.stopped (ap Ok c.in-Stopped.is) in
-          absurd (omega (arith, limit, many))),
-    )
+pub returns-clause-counted : goal.returns-clause-counted
+returns-clause-counted g c clean texts are =
+    let db = (state g.S.Store c.args.conn.now).now in
+    let text = c.in-Some-peek.text.now in
+    let is : IsTextOf db (c.args.number, text) = taken_is db c.args.number text c.args.texts.now (sym c.in-Some-peek.ensures) texts in
+    let answer : Answer = record { number = c.args.number; strategy = c.args.strategy; query = c.args.query.now; what = Entries; rows = rows_in c.in_ok-found.found } in
+    answers_put db c.forget_others.new.self c.put.new.self answer c.in_ok-found.found.is_whole c.put.ensures.put
+    (λ whole reading one. (c.in_ok-found.ensures.value clean reading one).1 whole ∙ ap (λ (t : List ℕ). found_rows c.args.strategy c.args.query.now (edition_of (record reading { text = t }))) (is reading one))
+    (answers_left db c.args.counted.now c.forget_others.new.self c.forget_others.ensures.left are)
+
+pub returns-in_err-found-clause-counted : goal.returns-in_err-found-clause-counted
+returns-in_err-found-clause-counted g c clean texts are = answers_left (state g.S.Store c.args.conn.now).now c.args.counted.now c.forget_others.new.self c.forget_others.ensures.left are

@@ -1,34 +1,40 @@
+use Rattle.std.proofs.Common.{◌≡◌, [], ◌∙◌}
+use Rattle.std.proofs.lemmas.List.{length-map}
 use Rattle.sqlite.specs.Held.{state}
-use Rattle.dict_sql.proofs.StreamLemmas.{passed_on}
-use Rattle.dict_lookup.specs.Searches.{FailsToLookUp, column_of}
-use Rattle.dict_lookup.specs.Counts.{Heads, texts_in}
-use Rattle.dict_lookup.proofs.CountedLemmas.{heads_left, heads_put, kept_count}
+use Rattle.sqlite.proofs.StateLemmas.{unchanged}
+use Rattle.dict_index.specs.Edition.{edition_of}
+use Rattle.dict_desk.specs.Found.{found, headwords}
+use Rattle.dict_desk.specs.Shown.{row}
+use Rattle.dict_desk.specs.declared.lookup.What.TheVariants.{Headwords}
+use Rattle.dict_lookup.specs.Counts.{Answer, row_kept, rows_in}
+use Rattle.dict_lookup.proofs.CountedLemmas.{answers_left, answers_put, awake_open, kept_answer, kept_size}
 use Rattle.dict_lookup.proofs.counting.count_heads.Goals as goal
 
 -- ---- headwords that are kept
 
 pub returns-in-Some-clause-value : goal.returns-in-Some-clause-value
 returns-in-Some-clause-value g c clean are reading one =
-    kept_count (state g.S.Store c.args.conn.now).now c.args.counted.now c.args.number c.args.strategy c.args.query.now c.in-Some.shown.now c.in-Some.ensures are reading one
+    kept_size c.in-Some.rows.now _ (kept_answer (state g.S.Store c.args.conn.now).now c.args.counted.now c.args.number c.args.strategy c.args.query.now Headwords c.in-Some.rows.now c.in-Some.ensures are reading one)
+    ∙ length-map (headwords (found c.args.strategy c.args.query.now (edition_of reading))) (λ shown. row shown [])
 
 pub returns-in-Some-clause-counted : goal.returns-in-Some-clause-counted
 returns-in-Some-clause-counted g c clean are = are
 
-pub returns-in_err-wake-clause-failed : goal.returns-in_err-wake-clause-failed
-returns-in_err-wake-clause-failed g c clean =
-    passed_on (FailsToLookUp (column_of c.args.number) (state g.S.Store c.args.conn.now) (state g.S.Store c.wake.new.conn)) c.in_err-wake.field-0.0 c.from_residual.result c.from_residual.ensures.1 (c.in_err-wake.ensures.failed clean (column_of c.args.number))
+pub returns-in-Some-clause-same : goal.returns-in-Some-clause-same
+returns-in-Some-clause-same g c clean awake = unchanged (state g.S.Store c.args.conn.now) (awake_open c.args.counted.now _ (state g.S.Store c.args.conn.now) c.in-Some.ensures awake)
 
 -- ---- headwords that are read
 
 pub returns-clause-value : goal.returns-clause-value
-returns-clause-value g c clean are reading one = (c.in_ok-found.ensures.value clean reading one).0
+returns-clause-value g c clean are reading one =
+    (c.in_ok-found.ensures.value clean reading one).0 ∙ length-map (headwords (found c.args.strategy c.args.query.now (edition_of reading))) (λ shown. row shown [])
 
 pub returns-clause-counted : goal.returns-clause-counted
 returns-clause-counted g c clean are =
     let db = (state g.S.Store c.args.conn.now).now in
-    let heads : Heads = record { number = c.args.number; strategy = c.args.strategy; query = c.args.query.now; shown = texts_in c.in_ok-found.found } in
-    heads_put db c.forget_others.new.self c.put.new.self heads c.in_ok-found.found.is_whole c.put.ensures.put (λ whole reading one. (c.in_ok-found.ensures.value clean reading one).1 whole)
-    (heads_left db c.args.counted.now c.forget_others.new.self c.forget_others.ensures.left are)
+    let answer : Answer = record { number = c.args.number; strategy = c.args.strategy; query = c.args.query.now; what = Headwords; rows = rows_in c.in_ok-found.found } in
+    answers_put db c.forget_others.new.self c.put.new.self answer c.in_ok-found.found.is_whole c.put.ensures.put (λ whole reading one. (c.in_ok-found.ensures.value clean reading one).1 whole)
+    (answers_left db c.args.counted.now c.forget_others.new.self c.forget_others.ensures.left are)
 
 pub returns-in_err-found-clause-counted : goal.returns-in_err-found-clause-counted
-returns-in_err-found-clause-counted g c clean are = heads_left (state g.S.Store c.args.conn.now).now c.args.counted.now c.forget_others.new.self c.forget_others.ensures.left are
+returns-in_err-found-clause-counted g c clean are = answers_left (state g.S.Store c.args.conn.now).now c.args.counted.now c.forget_others.new.self c.forget_others.ensures.left are

@@ -1,6 +1,6 @@
-use Rattle.std.proofs.Common.{take}
-use Rattle.dict_lookup.specs.Counts.{kept_rows}
+use Rattle.std.proofs.Common.{map, take}
+use Rattle.dict_lookup.specs.Counts.{row_kept}
 use Rattle.dict_lookup.proofs.listed.hand_kept.Given as goal
 
-abbrev pub invariant-loop-text : goal.invariant-loop-text
-invariant-loop-text g l = g.T.RowSink.takes l.initial.sink (kept_rows (take l.text-index l.shown)) l.sink
+abbrev pub invariant-loop-kept : goal.invariant-loop-kept
+invariant-loop-kept g l = g.T.RowSink.takes l.initial.sink (map row_kept (take l.kept-index l.rows)) l.sink

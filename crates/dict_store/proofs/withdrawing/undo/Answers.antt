@@ -16,3 +16,7 @@ returns-clause-told g c told = not_true (state g.S.Store c.roll_back.new.conn).i
 
 pub returns-clause-trusted : goal.returns-clause-trusted
 returns-clause-trusted g c clean = c.is_autocommit.ensures.value ∙ ap not (c.roll_back.ensures.ended clean)
+
+pub returns-clause-none : goal.returns-clause-none
+returns-clause-none g c none =
+    c.is_autocommit.ensures.value ∙ ap (λ conn. not (state g.S.Store conn).in_transaction) (c.roll_back.ensures.unchanged none) ∙ ap not none

@@ -7,11 +7,11 @@ use Rattle.dictcat_lib.proofs.desks.reopen_desk.Goals as goal
 pub returns-in_default-clause-leaves : goal.returns-in_default-clause-leaves
 returns-in_default-clause-leaves g c = λ ms leaves.
     rw c.hold.ensures (λ clean trees may.
-    leaves (clean_behind (file_state c.args.desk.conn) (file_state c.into_connection.result) c.into_connection.ensures.survives clean) trees
-    (elim (c.into_connection.ensures.survives.crash clean trees may) as (λ _. (file_state c.args.desk.conn).may_leave trees) [ inl h ↦ h | inr h ↦ absurd h ]))
+    leaves (clean_behind (file_state c.args.desk.conn) (file_state c.connection_of.result) c.connection_of.ensures.survives clean) trees
+    (elim (c.connection_of.ensures.survives.crash clean trees may) as (λ _. (file_state c.args.desk.conn).may_leave trees) [ inl h ↦ h | inr h ↦ absurd h ]))
 
 pub returns-in_default-clause-opened : goal.returns-in_default-clause-opened
-returns-in_default-clause-opened g c = (rw c.hold.ensures (c.into_connection.ensures.undone, (c.args.file, refl, refl)), tt)
+returns-in_default-clause-opened g c = (rw c.hold.ensures (c.connection_of.ensures.undone, (c.args.file, refl, refl)), tt)
 
 pub returns-in-Ok-clause-opened : goal.returns-in-Ok-clause-opened
 returns-in-Ok-clause-opened g c =

@@ -35,7 +35,7 @@ invariant_of-self g c =
     let before : is_closed c.self.inside.last ≡ false = ap is_closed (ap (λ (d : DeskState _). d.last) c.self.view_is ∙ c.in_ok-withdraw.ensures.last) ∙ c.in_ok-withdraw.ensures.open in
     let none = ap (λ (d : DeskState _). d.conn.in_transaction) c.self.view_is ∙ c.in_ok-withdraw.ensures.ended in
     desk_alone g.S.Store c.self.inside.conn c.read_committed-outcome.new.conn (summary_shown c.self.inside.summary) c.self.inside.filing c.self.inside.last c.last_by-self-inside.result before c.self.invariant.0 c.read_committed-outcome.ensures.survives
-    c.read_committed-outcome.ensures.continues none (λ _. c.read_committed-outcome.ensures.autocommit) c.self.inside.cache c.forget_by.new.cache c.forget_by.ensures c.self.invariant.1
+    c.read_committed-outcome.ensures.continues none (λ _. c.read_committed-outcome.ensures.autocommit) c.self.inside.cache c.forget_after.new.cache c.forget_after.ensures c.self.invariant.1
 
 pub returns-clause-shows : goal.returns-clause-shows
 returns-clause-shows g c = λ clean M shown.

@@ -1,4 +1,4 @@
-use Rattle.std.proofs.Common.{sym, subst}
+use Rattle.std.proofs.Common.{inl, refl, sym, subst}
 use Rattle.dict_catalogue.specs.Views.{summary_shown}
 use Rattle.dict_store.specs.Kept.{KeepsCache}
 use Rattle.dict_store.specs.declared.kept.Cache.{Cache}
@@ -18,7 +18,7 @@ invariant_of-result g c = (
     filed = λ fine clean. c.requires.autocommit;
     own = λ fine clean live. let rests = (c.requires.holds clean live).1 in subst (λ (db : Database). HasLayout (layout_of known) db.schema) (sym rests.settled) rests.holds.own;
   },
-  subst (λ (cache : Cache). KeepsCache g.S.Store Fine (summary_shown c.args.summary) cache c.args.conn) (sym c.new.ensures) (record { made = tt; texts = λ fine clean live. tt; counted = λ fine clean live. tt }),
+  subst (λ (cache : Cache). KeepsCache g.S.Store Fine (summary_shown c.args.summary) cache c.args.conn) (sym c.new.ensures) (record { made = tt; texts = λ fine clean live. tt; counted = λ fine clean live. tt; awake = λ fine clean. inl refl }),
 )
 
 pub returns-clause-shows : goal.returns-clause-shows

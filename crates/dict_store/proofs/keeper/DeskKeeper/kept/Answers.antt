@@ -23,7 +23,7 @@ pub invariant_of-self : goal.invariant_of-self
 invariant_of-self g c =
     let before : is_closed c.self.inside.last ≡ false = ap is_closed (ap (λ (d : DeskState _). d.last) c.self.view_is ∙ c.in_ok-withdraw.ensures.last) ∙ c.in_ok-withdraw.ensures.open in
     desk_alone g.S.Store c.self.inside.conn c.kept_reply-outcome.new.conn (summary_shown c.self.inside.summary) c.self.inside.filing c.self.inside.last c.last_by-self-inside.result before c.self.invariant.0 c.kept_reply-outcome.ensures.survives (λ clean. replies_continue (state g.S.Store c.self.inside.conn) (state g.S.Store c.kept_reply-outcome.new.conn) c.kept_reply-outcome.result (c.kept_reply-outcome.ensures.same clean) (c.kept_reply-outcome.ensures.failed clean))
-    (ap (λ (d : DeskState _). d.conn.in_transaction) c.self.view_is ∙ c.in_ok-withdraw.ensures.ended) c.kept_reply-outcome.ensures.mode c.self.inside.cache c.forget_by.new.cache c.forget_by.ensures c.self.invariant.1
+    (ap (λ (d : DeskState _). d.conn.in_transaction) c.self.view_is ∙ c.in_ok-withdraw.ensures.ended) c.kept_reply-outcome.ensures.mode c.self.inside.cache c.forget_after.new.cache c.forget_after.ensures c.self.invariant.1
 
 pub returns-clause-trust : goal.returns-clause-trust
 returns-clause-trust g c = λ clean.

@@ -4,12 +4,14 @@ use Rattle.dict_index.specs.Edition.{Edition}
 use Rattle.sqlite.specs.Held.{state}
 use Rattle.sqlite.specs.State.{HasCleanDisk}
 use Rattle.dict_catalogue.specs.Views.{summary_shown}
+use Rattle.dict_lookup.specs.Counts.{IsAwake}
 use Rattle.dict_lookup.specs.Searches.{column_of}
 use Rattle.dict_lookup.proofs.HeldLemmas.{held_one, held_tables}
 use Rattle.dict_store.specs.Desk.{DeskState, Shows, LeavesOneOf, is_closed}
 use Rattle.dict_store.specs.Prepared.{IsAlike, Undoes}
 use Rattle.dict_store.proofs.CauseLemmas.{lookup_gives_way}
 use Rattle.dict_store.proofs.DeskLemmas.{clean_behind, continues_by, leaves_on, desk_on, value_by, shows_on, held}
+use Rattle.dict_store.proofs.PreparedLemmas.{texts_seen}
 use Rattle.dict_desk.specs.Shown.{count_of}
 use Rattle.dict_store.proofs.lookups.DeskLookup.count.Goals as goal
 
@@ -21,11 +23,12 @@ count-outcome-requires g c = λ clean live.
 pub invariant_of-self : goal.invariant_of-self
 invariant_of-self g c =
     let before : is_closed c.self.inside.last ≡ false = ap is_closed (ap (λ (d : DeskState _). d.last) c.self.view_is ∙ c.in_ok-make_ready.ensures.last) ∙ c.in_ok-make_ready.ensures.open in
+    let awake : HasCleanDisk (state g.S.Store c.count-outcome.new.conn) → IsAwake c.self.inside.cache.counted (state g.S.Store c.self.inside.conn) = λ clean. c.self.invariant.1.awake before (clean_behind (state g.S.Store c.self.inside.conn) (state g.S.Store c.count-outcome.new.conn) c.count-outcome.ensures.survives clean) in
     desk_on g.S.Store c.self.inside.conn c.count-outcome.new.conn (summary_shown c.self.inside.summary) c.self.inside.filing c.self.inside.last c.last_by-self-inside.result before c.self.invariant.0 c.count-outcome.ensures.survives
-    (λ clean. continues_by (column_of c.args.number) (state g.S.Store c.self.inside.conn) (state g.S.Store c.count-outcome.new.conn) c.count-outcome.result (c.count-outcome.ensures.same clean) (c.count-outcome.ensures.failed clean)) c.count-outcome.ensures.mode
-    c.count-outcome.result c.last_by-self-inside.ensures c.count-outcome.ensures.kinds c.count-outcome.ensures.same (record { texts = c.self.inside.cache.texts; counted = c.count-outcome.new.counted }) c.forget_by.new.cache c.forget_by.ensures c.self.invariant.1.made
+    (λ clean. continues_by (column_of c.args.number) (state g.S.Store c.self.inside.conn) (state g.S.Store c.count-outcome.new.conn) c.count-outcome.result (c.count-outcome.ensures.same clean (awake clean)) (c.count-outcome.ensures.failed clean)) c.count-outcome.ensures.mode
+    c.count-outcome.result c.last_by-self-inside.ensures c.count-outcome.ensures.kinds (λ clean. c.count-outcome.ensures.same clean (awake clean)) (record { texts = c.self.inside.cache.texts; counted = c.count-outcome.new.counted }) c.forget_by.new.cache c.forget_by.ensures c.self.invariant.1.made
     (λ clean live. c.self.invariant.1.texts before (clean_behind (state g.S.Store c.self.inside.conn) (state g.S.Store c.count-outcome.new.conn) c.count-outcome.ensures.survives clean) live)
-    (λ clean live. c.count-outcome.ensures.counted clean (c.self.invariant.1.counted before (clean_behind (state g.S.Store c.self.inside.conn) (state g.S.Store c.count-outcome.new.conn) c.count-outcome.ensures.survives clean) live))
+    (λ clean live. c.count-outcome.ensures.counted clean (texts_seen g.S.Store c.self.inside.last (summary_shown c.self.inside.summary) c.self.inside.filing c.self.inside.conn before c.self.invariant.0 (clean_behind (state g.S.Store c.self.inside.conn) (state g.S.Store c.count-outcome.new.conn) c.count-outcome.ensures.survives clean) live c.self.inside.cache.texts c.self.invariant.1.made (c.self.invariant.1.texts before (clean_behind (state g.S.Store c.self.inside.conn) (state g.S.Store c.count-outcome.new.conn) c.count-outcome.ensures.survives clean) live)) (c.self.invariant.1.counted before (clean_behind (state g.S.Store c.self.inside.conn) (state g.S.Store c.count-outcome.new.conn) c.count-outcome.ensures.survives clean) live))
 
 pub returns-clause-trust : goal.returns-clause-trust
 returns-clause-trust g c = λ clean. clean_behind (state g.S.Store c.args.self.now.conn) (state g.S.Store c.make_ready.new.self.conn) c.make_ready.ensures.survives (subst (λ (d : DeskState _). HasCleanDisk (state g.S.Store d.conn)) c.self.view_is (clean_behind (state g.S.Store c.self.inside.conn) (state g.S.Store c.count-outcome.new.conn) c.count-outcome.ensures.survives clean))
@@ -33,8 +36,9 @@ returns-clause-trust g c = λ clean. clean_behind (state g.S.Store c.args.self.n
 pub returns-clause-shows : goal.returns-clause-shows
 returns-clause-shows g c = λ clean M shown.
     let before : is_closed c.self.inside.last ≡ false = ap is_closed (ap (λ (d : DeskState _). d.last) c.self.view_is ∙ c.in_ok-make_ready.ensures.last) ∙ c.in_ok-make_ready.ensures.open in
+    let awake : HasCleanDisk (state g.S.Store c.count-outcome.new.conn) → IsAwake c.self.inside.cache.counted (state g.S.Store c.self.inside.conn) = λ clean. c.self.invariant.1.awake before (clean_behind (state g.S.Store c.self.inside.conn) (state g.S.Store c.count-outcome.new.conn) c.count-outcome.ensures.survives clean) in
     shows_on g.S.Store c.self.inside.conn c.count-outcome.new.conn (summary_shown c.self.inside.summary) c.self.inside.filing c.self.inside.last c.last_by-self-inside.result before c.self.invariant.0 c.count-outcome.ensures.survives
-    (λ clean. continues_by (column_of c.args.number) (state g.S.Store c.self.inside.conn) (state g.S.Store c.count-outcome.new.conn) c.count-outcome.result (c.count-outcome.ensures.same clean) (c.count-outcome.ensures.failed clean))
+    (λ clean. continues_by (column_of c.args.number) (state g.S.Store c.self.inside.conn) (state g.S.Store c.count-outcome.new.conn) c.count-outcome.result (c.count-outcome.ensures.same clean (awake clean)) (c.count-outcome.ensures.failed clean))
     M (subst (λ (d : DeskState _). Shows g.S.Store d M) (sym c.self.view_is) (c.make_ready.ensures.shows (subst (λ (d : DeskState _). HasCleanDisk (state g.S.Store d.conn)) c.self.view_is (clean_behind (state g.S.Store c.self.inside.conn) (state g.S.Store c.count-outcome.new.conn) c.count-outcome.ensures.survives clean)) M shown))
 
 pub returns-clause-leaves : goal.returns-clause-leaves
@@ -45,14 +49,15 @@ returns-clause-leaves g c = λ ms left.
 pub returns-clause-value : goal.returns-clause-value
 returns-clause-value g c = λ clean M edition shown has.
     let before : is_closed c.self.inside.last ≡ false = ap is_closed (ap (λ (d : DeskState _). d.last) c.self.view_is ∙ c.in_ok-make_ready.ensures.last) ∙ c.in_ok-make_ready.ensures.open in
+    let awake : HasCleanDisk (state g.S.Store c.count-outcome.new.conn) → IsAwake c.self.inside.cache.counted (state g.S.Store c.self.inside.conn) = λ clean. c.self.invariant.1.awake before (clean_behind (state g.S.Store c.self.inside.conn) (state g.S.Store c.count-outcome.new.conn) c.count-outcome.ensures.survives clean) in
     let alike = subst (λ (d : DeskState _). HasCleanDisk (state g.S.Store d.conn) → IsTrue (state g.S.Store d.conn).is_open → IsAlike c.args.number (state g.S.Store d.conn).committed (state g.S.Store d.conn).now) (sym c.self.view_is) c.in_ok-make_ready.ensures.alike in
     let holds = held g.S.Store c.self.inside.conn c.count-outcome.new.conn (summary_shown c.self.inside.summary) c.self.inside.filing c.self.inside.last c.last_by-self-inside.result before c.self.invariant.0 c.count-outcome.ensures.survives
-    (λ clean. continues_by (column_of c.args.number) (state g.S.Store c.self.inside.conn) (state g.S.Store c.count-outcome.new.conn) c.count-outcome.result (c.count-outcome.ensures.same clean) (c.count-outcome.ensures.failed clean))
+    (λ clean. continues_by (column_of c.args.number) (state g.S.Store c.self.inside.conn) (state g.S.Store c.count-outcome.new.conn) c.count-outcome.result (c.count-outcome.ensures.same clean (awake clean)) (c.count-outcome.ensures.failed clean))
     M (subst (λ (d : DeskState _). Shows g.S.Store d M) (sym c.self.view_is) (c.make_ready.ensures.shows (subst (λ (d : DeskState _). HasCleanDisk (state g.S.Store d.conn)) c.self.view_is (clean_behind (state g.S.Store c.self.inside.conn) (state g.S.Store c.count-outcome.new.conn) c.count-outcome.ensures.survives clean)) M shown)) clean in
-    value_by (λ count. count ≡ count_of c.args.what c.args.strategy c.args.query.now edition) c.count-outcome.result (state g.S.Store c.self.inside.conn) (state g.S.Store c.count-outcome.new.conn) (c.count-outcome.ensures.same clean)
+    value_by (λ count. count ≡ count_of c.args.what c.args.strategy c.args.query.now edition) c.count-outcome.result (state g.S.Store c.self.inside.conn) (state g.S.Store c.count-outcome.new.conn) (c.count-outcome.ensures.same clean (awake clean))
     (λ live.
     let one = held_one (state g.S.Store c.self.inside.conn).committed M c.args.number edition (holds live) has in
-    subst (λ (e : Edition). IfOk c.count-outcome.result (λ count. count ≡ count_of c.args.what c.args.strategy c.args.query.now e)) (sym one.2) (c.count-outcome.ensures.value clean (c.self.invariant.1.counted before (clean_behind (state g.S.Store c.self.inside.conn) (state g.S.Store c.count-outcome.new.conn) c.count-outcome.ensures.survives clean) live) one.0 ((alike (clean_behind (state g.S.Store c.self.inside.conn) (state g.S.Store c.count-outcome.new.conn) c.count-outcome.ensures.survives clean) live).one one.0 one.1)))
+    subst (λ (e : Edition). IfOk c.count-outcome.result (λ count. count ≡ count_of c.args.what c.args.strategy c.args.query.now e)) (sym one.2) (c.count-outcome.ensures.value clean (texts_seen g.S.Store c.self.inside.last (summary_shown c.self.inside.summary) c.self.inside.filing c.self.inside.conn before c.self.invariant.0 (clean_behind (state g.S.Store c.self.inside.conn) (state g.S.Store c.count-outcome.new.conn) c.count-outcome.ensures.survives clean) live c.self.inside.cache.texts c.self.invariant.1.made (c.self.invariant.1.texts before (clean_behind (state g.S.Store c.self.inside.conn) (state g.S.Store c.count-outcome.new.conn) c.count-outcome.ensures.survives clean) live)) (c.self.invariant.1.counted before (clean_behind (state g.S.Store c.self.inside.conn) (state g.S.Store c.count-outcome.new.conn) c.count-outcome.ensures.survives clean) live) one.0 ((alike (clean_behind (state g.S.Store c.self.inside.conn) (state g.S.Store c.count-outcome.new.conn) c.count-outcome.ensures.survives clean) live).one one.0 one.1)))
 
 pub returns-clause-caused : goal.returns-clause-caused
 returns-clause-caused g c =

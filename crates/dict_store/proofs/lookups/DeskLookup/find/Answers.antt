@@ -4,6 +4,7 @@ use Rattle.dict_index.specs.Edition.{Edition}
 use Rattle.sqlite.specs.Held.{state}
 use Rattle.sqlite.specs.State.{HasCleanDisk}
 use Rattle.dict_catalogue.specs.Views.{summary_shown}
+use Rattle.dict_lookup.specs.Counts.{IsAwake}
 use Rattle.dict_lookup.specs.Searches.{column_of}
 use Rattle.dict_lookup.proofs.HeldLemmas.{held_one, held_tables}
 use Rattle.dict_store.specs.Desk.{DeskState, Shows, LeavesOneOf, is_closed}
@@ -23,10 +24,11 @@ find-outcome-requires g c = λ clean live.
 pub invariant_of-self : goal.invariant_of-self
 invariant_of-self g c =
     let before : is_closed c.self.inside.last ≡ false = ap is_closed (ap (λ (d : DeskState _). d.last) c.self.view_is ∙ c.in_ok-make_ready.ensures.last) ∙ c.in_ok-make_ready.ensures.open in
+    let awake : HasCleanDisk (state g.S.Store c.find-outcome.new.conn) → IsAwake c.self.inside.cache.counted (state g.S.Store c.self.inside.conn) = λ clean. c.self.invariant.1.awake before (clean_behind (state g.S.Store c.self.inside.conn) (state g.S.Store c.find-outcome.new.conn) c.find-outcome.ensures.survives clean) in
     let alike = subst (λ (d : DeskState _). HasCleanDisk (state g.S.Store d.conn) → IsTrue (state g.S.Store d.conn).is_open → IsAlike c.args.number (state g.S.Store d.conn).committed (state g.S.Store d.conn).now) (sym c.self.view_is) c.in_ok-make_ready.ensures.alike in
     desk_on g.S.Store c.self.inside.conn c.find-outcome.new.conn (summary_shown c.self.inside.summary) c.self.inside.filing c.self.inside.last c.last_by-self-inside.result before c.self.invariant.0 c.find-outcome.ensures.survives
-    (λ clean. continues_by (column_of c.args.number) (state g.S.Store c.self.inside.conn) (state g.S.Store c.find-outcome.new.conn) c.find-outcome.result (c.find-outcome.ensures.same clean) (c.find-outcome.ensures.failed clean)) c.find-outcome.ensures.mode
-    c.find-outcome.result c.last_by-self-inside.ensures c.find-outcome.ensures.kinds c.find-outcome.ensures.same (record { texts = c.find-outcome.new.texts; counted = c.self.inside.cache.counted }) c.forget_by.new.cache c.forget_by.ensures (c.find-outcome.ensures.made c.self.invariant.1.made)
+    (λ clean. continues_by (column_of c.args.number) (state g.S.Store c.self.inside.conn) (state g.S.Store c.find-outcome.new.conn) c.find-outcome.result (c.find-outcome.ensures.same clean (awake clean)) (c.find-outcome.ensures.failed clean)) c.find-outcome.ensures.mode
+    c.find-outcome.result c.last_by-self-inside.ensures c.find-outcome.ensures.kinds (λ clean. c.find-outcome.ensures.same clean (awake clean)) (record { texts = c.find-outcome.new.texts; counted = c.self.inside.cache.counted }) c.forget_by.new.cache c.forget_by.ensures (c.find-outcome.ensures.made c.self.invariant.1.made)
     (λ clean live.
     let seen = texts_seen g.S.Store c.self.inside.last (summary_shown c.self.inside.summary) c.self.inside.filing c.self.inside.conn before c.self.invariant.0 (clean_behind (state g.S.Store c.self.inside.conn) (state g.S.Store c.find-outcome.new.conn) c.find-outcome.ensures.survives clean) live c.self.inside.cache.texts c.self.invariant.1.made (c.self.invariant.1.texts before (clean_behind (state g.S.Store c.self.inside.conn) (state g.S.Store c.find-outcome.new.conn) c.find-outcome.ensures.survives clean) live) in
     c.find-outcome.ensures.beside clean seen (state g.S.Store c.self.inside.conn).committed (λ text is reading one. is reading ((alike (clean_behind (state g.S.Store c.self.inside.conn) (state g.S.Store c.find-outcome.new.conn) c.find-outcome.ensures.survives clean) live).one reading one)) (c.self.invariant.1.texts before (clean_behind (state g.S.Store c.self.inside.conn) (state g.S.Store c.find-outcome.new.conn) c.find-outcome.ensures.survives clean) live))
@@ -38,8 +40,9 @@ returns-clause-trust g c = λ clean. clean_behind (state g.S.Store c.args.self.n
 pub returns-clause-shows : goal.returns-clause-shows
 returns-clause-shows g c = λ clean M shown.
     let before : is_closed c.self.inside.last ≡ false = ap is_closed (ap (λ (d : DeskState _). d.last) c.self.view_is ∙ c.in_ok-make_ready.ensures.last) ∙ c.in_ok-make_ready.ensures.open in
+    let awake : HasCleanDisk (state g.S.Store c.find-outcome.new.conn) → IsAwake c.self.inside.cache.counted (state g.S.Store c.self.inside.conn) = λ clean. c.self.invariant.1.awake before (clean_behind (state g.S.Store c.self.inside.conn) (state g.S.Store c.find-outcome.new.conn) c.find-outcome.ensures.survives clean) in
     shows_on g.S.Store c.self.inside.conn c.find-outcome.new.conn (summary_shown c.self.inside.summary) c.self.inside.filing c.self.inside.last c.last_by-self-inside.result before c.self.invariant.0 c.find-outcome.ensures.survives
-    (λ clean. continues_by (column_of c.args.number) (state g.S.Store c.self.inside.conn) (state g.S.Store c.find-outcome.new.conn) c.find-outcome.result (c.find-outcome.ensures.same clean) (c.find-outcome.ensures.failed clean))
+    (λ clean. continues_by (column_of c.args.number) (state g.S.Store c.self.inside.conn) (state g.S.Store c.find-outcome.new.conn) c.find-outcome.result (c.find-outcome.ensures.same clean (awake clean)) (c.find-outcome.ensures.failed clean))
     M (subst (λ (d : DeskState _). Shows g.S.Store d M) (sym c.self.view_is) (c.make_ready.ensures.shows (subst (λ (d : DeskState _). HasCleanDisk (state g.S.Store d.conn)) c.self.view_is (clean_behind (state g.S.Store c.self.inside.conn) (state g.S.Store c.find-outcome.new.conn) c.find-outcome.ensures.survives clean)) M shown))
 
 pub returns-clause-leaves : goal.returns-clause-leaves
@@ -50,16 +53,17 @@ returns-clause-leaves g c = λ ms left.
 pub returns-clause-value : goal.returns-clause-value
 returns-clause-value g c = λ clean M edition shown has.
     let before : is_closed c.self.inside.last ≡ false = ap is_closed (ap (λ (d : DeskState _). d.last) c.self.view_is ∙ c.in_ok-make_ready.ensures.last) ∙ c.in_ok-make_ready.ensures.open in
+    let awake : HasCleanDisk (state g.S.Store c.find-outcome.new.conn) → IsAwake c.self.inside.cache.counted (state g.S.Store c.self.inside.conn) = λ clean. c.self.invariant.1.awake before (clean_behind (state g.S.Store c.self.inside.conn) (state g.S.Store c.find-outcome.new.conn) c.find-outcome.ensures.survives clean) in
     let alike = subst (λ (d : DeskState _). HasCleanDisk (state g.S.Store d.conn) → IsTrue (state g.S.Store d.conn).is_open → IsAlike c.args.number (state g.S.Store d.conn).committed (state g.S.Store d.conn).now) (sym c.self.view_is) c.in_ok-make_ready.ensures.alike in
     let holds = held g.S.Store c.self.inside.conn c.find-outcome.new.conn (summary_shown c.self.inside.summary) c.self.inside.filing c.self.inside.last c.last_by-self-inside.result before c.self.invariant.0 c.find-outcome.ensures.survives
-    (λ clean. continues_by (column_of c.args.number) (state g.S.Store c.self.inside.conn) (state g.S.Store c.find-outcome.new.conn) c.find-outcome.result (c.find-outcome.ensures.same clean) (c.find-outcome.ensures.failed clean))
+    (λ clean. continues_by (column_of c.args.number) (state g.S.Store c.self.inside.conn) (state g.S.Store c.find-outcome.new.conn) c.find-outcome.result (c.find-outcome.ensures.same clean (awake clean)) (c.find-outcome.ensures.failed clean))
     M (subst (λ (d : DeskState _). Shows g.S.Store d M) (sym c.self.view_is) (c.make_ready.ensures.shows (subst (λ (d : DeskState _). HasCleanDisk (state g.S.Store d.conn)) c.self.view_is (clean_behind (state g.S.Store c.self.inside.conn) (state g.S.Store c.find-outcome.new.conn) c.find-outcome.ensures.survives clean)) M shown)) clean in
     handed_by g.T.RowSink.takes g.T.RowSink.stops c.args.sink.now c.find-outcome.new.sink (found_rows c.args.strategy c.args.query.now edition) c.find-outcome.result (state g.S.Store c.self.inside.conn).is_open
     (λ live.
     let one = held_one (state g.S.Store c.self.inside.conn).committed M c.args.number edition (holds live) has in
     subst (λ (e : Edition). Hands g.T.RowSink.takes g.T.RowSink.stops c.args.sink.now c.find-outcome.new.sink (found_rows c.args.strategy c.args.query.now e) c.find-outcome.result) (sym one.2)
-    (c.find-outcome.ensures.value clean (texts_seen g.S.Store c.self.inside.last (summary_shown c.self.inside.summary) c.self.inside.filing c.self.inside.conn before c.self.invariant.0 (clean_behind (state g.S.Store c.self.inside.conn) (state g.S.Store c.find-outcome.new.conn) c.find-outcome.ensures.survives clean) live c.self.inside.cache.texts c.self.invariant.1.made (c.self.invariant.1.texts before (clean_behind (state g.S.Store c.self.inside.conn) (state g.S.Store c.find-outcome.new.conn) c.find-outcome.ensures.survives clean) live)) one.0 ((alike (clean_behind (state g.S.Store c.self.inside.conn) (state g.S.Store c.find-outcome.new.conn) c.find-outcome.ensures.survives clean) live).one one.0 one.1)))
-    (c.find-outcome.ensures.shut clean) (g.met.T.RowSink.none c.args.sink.now)
+    (c.find-outcome.ensures.value clean (texts_seen g.S.Store c.self.inside.last (summary_shown c.self.inside.summary) c.self.inside.filing c.self.inside.conn before c.self.invariant.0 (clean_behind (state g.S.Store c.self.inside.conn) (state g.S.Store c.find-outcome.new.conn) c.find-outcome.ensures.survives clean) live c.self.inside.cache.texts c.self.invariant.1.made (c.self.invariant.1.texts before (clean_behind (state g.S.Store c.self.inside.conn) (state g.S.Store c.find-outcome.new.conn) c.find-outcome.ensures.survives clean) live)) (c.self.invariant.1.counted before (clean_behind (state g.S.Store c.self.inside.conn) (state g.S.Store c.find-outcome.new.conn) c.find-outcome.ensures.survives clean) live) one.0 ((alike (clean_behind (state g.S.Store c.self.inside.conn) (state g.S.Store c.find-outcome.new.conn) c.find-outcome.ensures.survives clean) live).one one.0 one.1)))
+    (c.find-outcome.ensures.shut clean (awake clean)) (g.met.T.RowSink.none c.args.sink.now)
 
 pub returns-clause-caused : goal.returns-clause-caused
 returns-clause-caused g c =

@@ -1,0 +1,35 @@
+use Rattle.std.proofs.Common.{◌≡◌, ℕ, List, map, sym, subst, ◌∙◌}
+use Rattle.std.proofs.lemmas.Bool.{false≢true}
+use Rattle.sqlite.specs.Held.{state}
+use Rattle.sqlite.proofs.StateLemmas.{unchanged}
+use Rattle.dict_index.specs.Edition.{edition_of}
+use Rattle.dict_desk.specs.Shown.{found_rows}
+use Rattle.dict_desk.specs.declared.lookup.What.TheVariants.{Entries}
+use Rattle.dict_desk.specs.Handing.{Hands}
+use Rattle.dict_desk.proofs.HandingLemmas.{hands_end}
+use Rattle.dict_lookup.specs.Counts.{row_kept}
+use Rattle.dict_lookup.proofs.CountedLemmas.{awake_open, kept_answer}
+use Rattle.dict_lookup.proofs.lookups.find_or_kept.Goals as goal
+
+pub returns-in-Some-clause-value : goal.returns-in-Some-clause-value
+returns-in-Some-clause-value g c clean is are reading one =
+    let same : map row_kept c.in-Some.rows.now ≡ found_rows c.args.strategy c.args.query.now (edition_of reading) = kept_answer (state g.S.Store c.args.conn.now).now c.args.counted.now c.args.number c.args.strategy c.args.query.now Entries c.in-Some.rows.now c.in-Some.ensures are reading one in
+    hands_end g.T.RowSink.takes g.T.RowSink.stops c.args.sink.now c.hand_kept.new.sink c.hand_kept.result (found_rows c.args.strategy c.args.query.now (edition_of reading))
+    (λ e. subst (λ rows. g.T.RowSink.takes c.args.sink.now rows c.hand_kept.new.sink) same (c.hand_kept.ensures.all e)) (λ e. subst (λ rows. g.T.RowSink.stops c.args.sink.now rows c.hand_kept.new.sink) same (c.hand_kept.ensures.stopped e))
+
+pub returns-in-Some-clause-handed : goal.returns-in-Some-clause-handed
+returns-in-Some-clause-handed g c =
+    (map row_kept c.in-Some.rows.now, hands_end g.T.RowSink.takes g.T.RowSink.stops c.args.sink.now c.hand_kept.new.sink c.hand_kept.result (map row_kept c.in-Some.rows.now) c.hand_kept.ensures.all c.hand_kept.ensures.stopped)
+
+pub returns-in-Some-clause-same : goal.returns-in-Some-clause-same
+returns-in-Some-clause-same g c clean awake = unchanged (state g.S.Store c.args.conn.now) (awake_open c.args.counted.now _ (state g.S.Store c.args.conn.now) c.in-Some.ensures awake)
+
+pub returns-in-Some-clause-shut : goal.returns-in-Some-clause-shut
+returns-in-Some-clause-shut g c clean awake shut = absurd (false≢true (sym shut ∙ awake_open c.args.counted.now _ (state g.S.Store c.args.conn.now) c.in-Some.ensures awake))
+
+-- ---- entries that are read
+
+pub returns-clause-value : goal.returns-clause-value
+returns-clause-value g c clean is are reading one =
+    subst (λ (t : List ℕ). Hands g.T.RowSink.takes g.T.RowSink.stops c.args.sink.now c.find_in.new.sink (found_rows c.args.strategy c.args.query.now (edition_of (record reading { text = t }))) c.find_in.result) (is reading one)
+    (c.find_in.ensures.value clean reading one)
