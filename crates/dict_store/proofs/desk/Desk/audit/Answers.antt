@@ -1,5 +1,5 @@
 use Rattle.std.proofs.Common.{◌≡◌, false, sym, ap, subst, ◌∙◌}
-use Rattle.std.specs.Prelude.{IfErr}
+use Rattle.std.specs.Prelude.{Result, Ok, Err, OnOk, IfOk, IfErr}
 use Rattle.sqlite.specs.Held.{state}
 use Rattle.sqlite.specs.State.{HasCleanDisk, Survives}
 use Rattle.sqlite.proofs.StateLemmas.{survives_then}
@@ -36,6 +36,13 @@ invariant_of-self g c =
     let none = ap (λ (d : DeskState _). d.conn.in_transaction) c.self.view_is ∙ c.in_ok-withdraw.ensures.ended in
     desk_alone g.S.Store c.self.inside.conn c.read_committed-outcome.new.conn (summary_shown c.self.inside.summary) c.self.inside.filing c.self.inside.last c.last_by-self-inside.result before c.self.invariant.0 c.read_committed-outcome.ensures.survives
     c.read_committed-outcome.ensures.continues none (λ _. c.read_committed-outcome.ensures.autocommit) c.self.inside.cache c.forget_after.new.cache c.forget_after.ensures c.self.invariant.1
+
+ok_clean : {T E : Type 0} (C X : Type 0) (result : Result T E) → (C → OnOk result X) → IfOk result (λ _. C → X)
+ok_clean C X (Ok value) h = h
+ok_clean C X (Err fault) h = tt
+
+pub returns-clause-sound : goal.returns-clause-sound
+returns-clause-sound g c = ok_clean _ _ c.read_committed-outcome.result c.read_committed-outcome.ensures.rests
 
 pub returns-clause-shows : goal.returns-clause-shows
 returns-clause-shows g c = λ clean M shown.
