@@ -1,5 +1,5 @@
 //! A catalogue on two disks, of which one fails.
-ghost use Rattle.std.specs.Prelude.{◌≡◌, ⊤, false, IfOk, MatchResult};
+ghost use Rattle.std.specs.Prelude.{◌≡◌, ⊤, false, IfOk, IfSome, MatchResult};
 ghost use Rattle.sqlite.specs.State.{HasCleanDisk};
 ghost use Rattle.sqlite.specs.Files.{file_state, over_files};
 ghost use Rattle.sqlite.specs.Held.{state};
@@ -39,6 +39,13 @@ fn made<S: Alter + Drop>(alloc: Global, conn: Connection<S>) -> Option<Desk<S>> 
     }
 }
 
+// The connection of a desk, in no transaction.
+fn connection_of<S: Alter + Drop>(desk: Desk<S>) -> Option<Connection<S>>
+    ensures { IfSome result (λ conn. conn.in_transaction ≡ false) }
+{
+    desk.into_connection().ok()
+}
+
 // The desk of the catalogue in the database of another.
 fn adopt<S: Alter + Drop>(alloc: Global, desk: Desk<S>) -> Result<Desk<S>, ProgramFault<'static>>
     ensures answers { IfOk result (λ desk. is_closed desk.last ≡ false) }
@@ -46,7 +53,7 @@ fn adopt<S: Alter + Drop>(alloc: Global, desk: Desk<S>) -> Result<Desk<S>, Progr
         (IsNew (Shows S.Store) (LeavesOneOf S.Store) (λ desk. HasCleanDisk (state S.Store desk.conn)) (λ _. ⊤))
         (IsNone (λ _. ⊤)) }
 {
-    let Ok(conn) = desk.into_connection() else {
+    let Some(conn) = connection_of(desk) else {
         return Err(ProgramFault::Store(StoreFault::Closed));
     };
     match Desk::adopt(alloc, conn) {
