@@ -33,7 +33,7 @@ static BEFORE: [(&str, Asked); 2] = [
     ("b", Asked::Install("ore", Source::Alike)),
 ];
 
-static CASES: [Case; 25] = [
+static CASES: [Case; 28] = [
     // Without a count before it, a lookup reads what it hands out, each time.
     Case(
         1,
@@ -104,7 +104,7 @@ static CASES: [Case; 25] = [
         "opal=/Opal, fire=/ All",
         0,
     ),
-    // The entries are no headwords: they are counted, and found, anew.
+    // The entries are no headwords: they are counted, and found, anew, while the edition's text isn't kept.
     Case(1, Question::Entries, Strategy::Suffix, "opal", "3", 3),
     Case(2, Question::Entries, Strategy::Suffix, "opal", "2", 2),
     Case(
@@ -123,6 +123,17 @@ static CASES: [Case; 25] = [
         "Opal=opal\n  a stone\n/Opal=opal\n  a stone\n/ All",
         2,
     ),
+    // Where the edition's text is kept, the entries that were counted are found, and counted again, without reading.
+    Case(2, Question::Entries, Strategy::Suffix, "opal", "2", 2),
+    Case(
+        2,
+        Question::Found,
+        Strategy::Suffix,
+        "opal",
+        "Opal=opal\n  a stone\n/Opal=opal\n  a stone\n/ All",
+        0,
+    ),
+    Case(2, Question::Entries, Strategy::Suffix, "opal", "2", 0),
     // Another query or strategy is asked anew, and its count lets go of the others.
     Case(
         1,
