@@ -26,10 +26,7 @@ pub(crate) struct Collector {
 
 // How many octets a row counts.
 fn size_of(shown: &str, text: &[u8]) -> usize {
-    shown
-        .len()
-        .saturating_add(text.len())
-        .saturating_add(EACH)
+    shown.len().saturating_add(text.len()).saturating_add(EACH)
 }
 
 // Puts a copy of a row behind the others, where there is room for it. It is no fault that there is none, or that a growth is refused.

@@ -20,7 +20,11 @@ fn collected(alloc: Global, room: usize, texts: &[&str]) -> Collector {
 
 // How many headwords are kept.
 fn kept(counted: &Counted, number: u64, strategy: Strategy, query: &Key) -> Option<usize> {
-    Some(counted.rows(number, strategy, query, What::Headwords)?.len())
+    Some(
+        counted
+            .rows(number, strategy, query, What::Headwords)?
+            .len(),
+    )
 }
 
 fn same(rt: &impl Abort, found: Option<usize>, wanted: Option<usize>, of: &str) {

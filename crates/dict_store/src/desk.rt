@@ -138,10 +138,6 @@ impl<S: Alter + Drop> Desk<S> {
             (λ conn. Survives (state S.Store self.conn) (state S.Store conn) (λ _. ⊥)) }
     {
         let Desk { mut conn, .. } = self;
-        if undo(&mut conn) {
-            Ok(conn)
-        } else {
-            Err(conn)
-        }
+        if undo(&mut conn) { Ok(conn) } else { Err(conn) }
     }
 }

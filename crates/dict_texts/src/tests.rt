@@ -22,7 +22,10 @@ fn same(
     number: u64,
     wanted: Option<&[u8]>,
 ) -> Result<(), Fail> {
-    assert!(rt; is_same(texts.peek(number), wanted), "the text {number} that is looked at");
+    assert!(rt;
+        is_same(texts.peek(number), wanted),
+        "the text {number} that is looked at"
+    );
     match (texts.take(number), wanted) {
         (Some(found), Some(octets)) => {
             assert!(rt; found.as_slice() == octets, "the text {number}");
