@@ -6,6 +6,8 @@ use Rattle.std.proofs.lemmas.Bool.{ne_eqb}
 use Rattle.std.proofs.lemmas.Bool.Decides.{eqb_tells}
 use Rattle.std.proofs.lemmas.List.{get_or-set_other, take-set-le, take_more_set}
 use Rattle.std.proofs.lemmas.Grind.{get_or-set_at}
+use Rattle.dict_index.specs.Edition.{Edition}
+use Rattle.dict_catalogue.specs.Commands.{Command}
 use Rattle.dict_hub.specs.Events.{id_of}
 use Rattle.dict_hub.specs.Holding.{Holding}
 use Rattle.dict_hub.specs.Hubs.{Has}
@@ -17,6 +19,7 @@ use Rattle.dict_driver.specs.Events.{AreOf}
 use Rattle.dict_outlet.specs.Calls.{Call}
 use Rattle.dict_driver.specs.Ordering.{AreOfTurns, ComeById, IsOpeningOf}
 use Rattle.dict_hub.specs.declared.kind.Kind.{Kind}
+use Rattle.dict_driver.specs.Foreseen.{BeginsBy}
 use Rattle.dict_driver.specs.Handing.{held_in, is_handed, is_held_back}
 use Rattle.dict_driver.specs.Telling.{KeepsOthers}
 use Rattle.dict_driver.specs.Turns.{Departs, IsOpened, LeadsByAnswer, LeadsByPiece, LeadsByReading, LeadsByTurn, LeadsFurther, Turns, is_deferred}
@@ -135,6 +138,11 @@ turn_kept taken coming made preparing from to old new moved events keeps turns =
   has_moved = turns.has_moved;
 }
 
+-- and so is why octets begin to be held back
+begins_kept : {K T : Type 0} (expects : K → Command Edition → K → Type 0) (from to : Hub) (old new : Connection T) → ((held : Option Holding) → Has to old.id held → Has from old.id held)
+    → BeginsBy expects from old new → BeginsBy expects to old new
+begins_kept expects from to old new keeps begins isnt still back held has = begins isnt still back held (keeps held has)
+
 -- what a hub has of each connection but those before this place another has
 abbrev pub KeepsFrom : {T : Type 0} → List (Connection T) → ℕ → Hub → Hub → Type 0
 KeepsFrom {T} all i old new = (other : ℕ) (held : Option Holding) → ((k : ℕ) (d : Connection T) → k < i → k < length all → (get_or all k d).id ≢ other) → Has old other held → Has new other held
@@ -166,7 +174,7 @@ preparing_more old now i after before both in_now is more =
     ∙ ap (λ b. any_held_back old || b) (sym (held_back_more (take i now) after) ∙ ap any_held_back (sym (take_more_set now i after in_now)))
 
 -- the connections before this place had their turns, and the others are as they were; octets are held back or not
-pub record TurnUpTo {T : Type 0} (taken coming : T → Option (List ℕ)) (made : T → Option (List Call)) (hub : Hub) (old now : List (Connection T)) (i : ℕ) (preparing moved : Bool) (events : List Accepted) : Type 0 where
+pub record TurnUpTo {K T : Type 0} (expects : K → Command Edition → K → Type 0) (taken coming : T → Option (List ℕ)) (made : T → Option (List Call)) (hub : Hub) (old now : List (Connection T)) (i : ℕ) (preparing moved : Bool) (events : List Accepted) : Type 0 where
   pub len : length now ≡ length old
   pub moves : List Bool
   pub count : length moves ≡ i
@@ -175,14 +183,15 @@ pub record TurnUpTo {T : Type 0} (taken coming : T → Option (List ℕ)) (made 
   pub prepares : preparing ≡ is_preparing old now i
   pub turns : (k : ℕ) (d : Connection T) → k < i → k < length old
       → Turns taken coming made (is_preparing old now k) hub (get_or old k d) (get_or now k d) (get_or moves k false) (events_of (get_or old k d).id events)
+  pub foreseen : (k : ℕ) (d : Connection T) → k < i → k < length old → BeginsBy expects hub (get_or old k d) (get_or now k d)
   pub rest : (k : ℕ) (d : Connection T) → i ≤ k → k < length old → get_or now k d ≡ get_or old k d
   pub below : AreBelowFrom old i events
   pub no_other : (id : ℕ) → ((k : ℕ) (d : Connection T) → k < length old → (get_or old k d).id ≢ id) → events_of id events ≡ []
   pub are_turns : AreOfTurns events
   pub by_id : ComeById events
 
-pub turn_none : {T : Type 0} (taken coming : T → Option (List ℕ)) (made : T → Option (List Call)) (hub : Hub) (all : List (Connection T)) (preparing : Bool) → preparing ≡ any_held_back all → TurnUpTo taken coming made hub all all 0 preparing false []
-turn_none taken coming made hub all preparing is = record {
+pub turn_none : {K T : Type 0} (expects : K → Command Edition → K → Type 0) (taken coming : T → Option (List ℕ)) (made : T → Option (List Call)) (hub : Hub) (all : List (Connection T)) (preparing : Bool) → preparing ≡ any_held_back all → TurnUpTo expects taken coming made hub all all 0 preparing false []
+turn_none expects taken coming made hub all preparing is = record {
   prepares = is ∙ sym (or_false (any_held_back all));
   len = refl;
   moves = [];
@@ -190,6 +199,7 @@ turn_none taken coming made hub all preparing is = record {
   within = omega arith;
   has_moved = refl;
   turns = λ k d before within. absurd (omega (arith, before));
+  foreseen = λ k d before within. absurd (omega (arith, before));
   rest = λ k d from within. refl;
   below = λ k d from within. tt;
   no_other = λ id apart. refl;
@@ -198,16 +208,18 @@ turn_none taken coming made hub all preparing is = record {
 }
 
 -- one more connection had its turn
-pub turn_more : {T : Type 0} (taken coming : T → Option (List ℕ)) (made : T → Option (List Call)) (hub between : Hub) (old now : List (Connection T)) (i : ℕ) (one after : Connection T) (preparing prepares before here both : Bool) (es fs : List Accepted)
+pub turn_more : {K T : Type 0} (expects : K → Command Edition → K → Type 0) (taken coming : T → Option (List ℕ)) (made : T → Option (List Call)) (hub between : Hub) (old now : List (Connection T)) (i : ℕ) (one after : Connection T) (preparing prepares before here both : Bool) (es fs : List Accepted)
     → AllPairs (λ a b. a.id < b.id) old → i < length old → get_or now i one ≡ one → prepares ≡ preparing || is_held_back after.held → both ≡ before || here → KeepsFrom old i hub between
-    → Turns taken coming made preparing between one after here fs → TurnUpTo taken coming made hub old now i preparing before es → TurnUpTo taken coming made hub old (set now i after) (i + 1) prepares both (es ++ fs)
-turn_more {T} taken coming made hub between old now i one after preparing prepares before here both es fs rising within is holds moved keeps over all =
+    → Turns taken coming made preparing between one after here fs → BeginsBy expects between one after → TurnUpTo expects taken coming made hub old now i preparing before es → TurnUpTo expects taken coming made hub old (set now i after) (i + 1) prepares both (es ++ fs)
+turn_more {K} {T} expects taken coming made hub between old now i one after preparing prepares before here both es fs rising within is holds moved keeps over begun all =
     let len = all.len in
     let count = all.count in
     let in_now : i < length now = omega arith in
     let was : (d : Connection T) → get_or old i d ≡ one = λ d. sym (all.rest i d (omega arith) within) ∙ default_free now i d one in_now ∙ is in
     let own_id : (d : Connection T) → (get_or old i d).id ≡ one.id = λ d. ap (λ it. it.id) (was d) in
-    let turns : Turns taken coming made preparing hub one after here fs = turn_kept taken coming made preparing between hub one after here fs (keeps_own old i one.id hub between rising within own_id keeps) over in
+    let own = keeps_own old i one.id hub between rising within own_id keeps in
+    let turns : Turns taken coming made preparing hub one after here fs = turn_kept taken coming made preparing between hub one after here fs own over in
+    let begins : BeginsBy expects hub one after = begins_kept expects between hub one after own begun in
     record {
       len = length-set now i after ∙ len;
       moves = all.moves ++ here ∷ [];
@@ -234,6 +246,14 @@ turn_more {T} taken coming made hub between old now i one after preparing prepar
             = events_joined (get_or old k d).id es fs ∙ ap (λ l. events_of (get_or old k d).id es ++ l) (own_none one.id (get_or old k d).id fs turns.own apart) ∙ append-nil (events_of (get_or old k d).id es) in
             rw (front, get_or-set_other now i k after d other.1, events, moves) (all.turns k d earlier below)
       ];
+      foreseen = λ k d under below. elim (eqb_tells k i) [
+        | inl same ↦
+            let at : get_or old k d ≡ one = ap (λ (j : ℕ). get_or old j d) same.1 ∙ was d in
+            let then : get_or (set now i after) k d ≡ after = get_or-set_at now i k after d same.1 in_now in
+            subst (λ (it : Connection T). BeginsBy expects hub it (get_or (set now i after) k d)) (sym at) (subst (λ (it : Connection T). BeginsBy expects hub one it) (sym then) begins)
+        | inr other ↦
+            subst (λ (it : Connection T). BeginsBy expects hub (get_or old k d) it) (sym (get_or-set_other now i k after d other.1)) (all.foreseen k d (omega (arith, under, other.1)) below)
+      ];
       rest = λ k d from below. rw (get_or-set_other now i k after d (λ same. absurd (omega (arith, from, same)))) (all.rest k d (omega (arith, from)) below);
       below = below_from_more old i one.id es fs rising within own_id all.below turns.own;
       no_other = λ id apart.
@@ -244,20 +264,21 @@ turn_more {T} taken coming made hub between old now i one after preparing prepar
     }
 
 -- each had its turn
-pub turn_whole : {T : Type 0} (taken coming : T → Option (List ℕ)) (made : T → Option (List Call)) (hub : Hub) (old now : List (Connection T)) (i : ℕ) (preparing moved : Bool) (events : List Accepted) → length old ≤ i
-    → TurnUpTo taken coming made hub old now i preparing moved events → TurnAll taken coming made hub old now moved events
-turn_whole taken coming made hub old now i preparing moved events whole all = record {
+pub turn_whole : {K T : Type 0} (expects : K → Command Edition → K → Type 0) (taken coming : T → Option (List ℕ)) (made : T → Option (List Call)) (hub : Hub) (old now : List (Connection T)) (i : ℕ) (preparing moved : Bool) (events : List Accepted) → length old ≤ i
+    → TurnUpTo expects taken coming made hub old now i preparing moved events → TurnAll expects taken coming made hub old now moved events
+turn_whole expects taken coming made hub old now i preparing moved events whole all = record {
   len = all.len;
   moves = all.moves;
   count = let in_all = all.within in let count = all.count in omega (arith, whole, in_all, count);
   has_moved = all.has_moved;
   turns = λ k d within. all.turns k d (omega (arith, within)) within;
+  foreseen = λ k d within. all.foreseen k d (omega (arith, within)) within;
   no_other = all.no_other;
   are_turns = all.are_turns;
   by_id = all.by_id;
 }
 
-pub turn_ids : {T : Type 0} {moved : Bool} {taken coming : T → Option (List ℕ)} {made : T → Option (List Call)} {hub : Hub} (old new : List (Connection T)) (events : List Accepted) → TurnAll taken coming made hub old new moved events → HaveSameIds old new
+pub turn_ids : {K T : Type 0} {expects : K → Command Edition → K → Type 0} {moved : Bool} {taken coming : T → Option (List ℕ)} {made : T → Option (List Call)} {hub : Hub} (old new : List (Connection T)) (events : List Accepted) → TurnAll expects taken coming made hub old new moved events → HaveSameIds old new
 turn_ids old new events all = record { len = all.len; same = λ k d within. (all.turns k d within).id }
 
 pub depart_ids : {T : Type 0} {moved : Bool} {taken coming : T → Option (List ℕ)} {made : T → Option (List Call)} (old new : List (Connection T)) → DepartAll taken coming made old new moved → HaveSameIds old new
@@ -332,8 +353,8 @@ moves_opened a b one events opened departing last above own flows =
     }
 
 -- each had its turn
-pub moves_turned : {T : Type 0} {G : Ghosts T} {taken coming : T → Option (List ℕ)} {made : T → Option (List Call)} {hub : Hub} (a b : Connections T G) (moved : Bool) (events : List Accepted) → TurnEach taken coming made hub a b moved events → Moves a b events
-moves_turned {T} {G} {taken} {coming} {made} {hub} a b moved events each =
+pub moves_turned : {K T : Type 0} {G : Ghosts T} {expects : K → Command Edition → K → Type 0} {taken coming : T → Option (List ℕ)} {made : T → Option (List Call)} {hub : Hub} (a b : Connections T G) (moved : Bool) (events : List Accepted) → TurnEach expects taken coming made hub a b moved events → Moves a b events
+moves_turned {K} {T} {G} {expects} {taken} {coming} {made} {hub} a b moved events each =
     let last = each.last in
     let ids = turn_ids a.opened.items each.turned events each.turns in
     let same_len = ids.len in

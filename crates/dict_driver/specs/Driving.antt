@@ -3,15 +3,19 @@ use Rattle.std.specs.Prelude.{ℕ, Bool, List, map, Option, None, Result, ⊤}
 use Rattle.std.specs.declared.io.Error.{Error}
 use Rattle.mio.specs.Event.{event_token}
 use Rattle.mio.specs.Events.{items}
+use Rattle.dict_index.specs.Edition.{Edition}
+use Rattle.dict_catalogue.specs.Commands.{Command}
 use Rattle.dict_catalogue.specs.Steps.{Catalogue}
 use Rattle.dict_driver.specs.Served.{AreRounds, Round}
 use Rattle.dict_driver.specs.declared.driver.Driver.{Driver}
 use Rattle.dict_driver.specs.declared.serving.Served.{Served}
 
--- By what a desk shows, what a stop may leave of it, that what it stands on has returned what was written, and whether it is closed.
-module _ {K : Type 0} (Shows : K → Catalogue → Type 0) (LeavesOneOf : K → List (Option Catalogue) → Type 0) (IsTrusted : K → Type 0) (is_closed : K → Bool) where
+-- By what a desk shows, what a stop may leave of it, that what it stands on has returned what was written, whether it is closed, and what
+-- it was told to expect.
+module _ {K : Type 0} (Shows : K → Catalogue → Type 0) (LeavesOneOf : K → List (Option Catalogue) → Type 0) (IsTrusted : K → Type 0) (is_closed : K → Bool)
+    (expects : K → Command Edition → K → Type 0) where
   -- there are rounds, of so many that were to be made, that led from this driver and this desk to those
   abbrev pub AreDriven : ℕ → Driver → K → Driver → K → Result Served Error → Type 0
   AreDriven rounds old desk new left result = (wait : ℕ) × (each : List (Round K _ _ _))
-      × AreRounds Shows LeavesOneOf IsTrusted is_closed (λ transport. None) (λ transport. None) (λ transport. None) (λ hub id kind why. ⊤) (λ sockets. None)
+      × AreRounds Shows LeavesOneOf IsTrusted is_closed expects (λ transport. None) (λ transport. None) (λ transport. None) (λ hub id kind why. ⊤) (λ sockets. None)
       (λ sockets. map (λ event. (event_token event).0) (items sockets.events)) wait rounds old.event_loop desk new.event_loop left each result

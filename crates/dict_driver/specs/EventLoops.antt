@@ -1,6 +1,8 @@
 -- What a round does, call by call.
 use Rattle.std.specs.Prelude.{◌≡◌, ◌||◌, ℕ, Bool, true, List, [], ◌∷◌, ◌++◌, Option, Result, Ok, Err}
 use Rattle.std.specs.declared.io.Error.{Error}
+use Rattle.dict_index.specs.Edition.{Edition}
+use Rattle.dict_catalogue.specs.Commands.{Command}
 use Rattle.dict_hub.specs.Runs.{Accepted}
 use Rattle.dict_hub.specs.declared.fault.HubFault.{HubFault}
 use Rattle.dict_hub.specs.declared.hub.Hub.{Hub}
@@ -17,7 +19,7 @@ use Rattle.dict_driver.specs.Turning.{KeepsAllBut, MarkAll, any_held_back}
 use Rattle.dict_driver.specs.declared.connections.Connections.{Connections}
 use Rattle.dict_driver.specs.declared.event_loop.EventLoop.{EventLoop}
 
-module _ {T S : Type 0} {G : transport.Ghosts T} (taken coming : T → Option (List ℕ)) (made : T → Option (List Call))
+module _ {K T S : Type 0} {G : transport.Ghosts T} (expects : K → Command Edition → K → Type 0) (taken coming : T → Option (List ℕ)) (made : T → Option (List Call))
     (refuses : Hub → ℕ → Kind → Option HubFault → Type 0) (asked : S → Option (List (Asking T))) where
   -- The sockets are looked at without a wait, and those connections are marked of which the look told. Then the socket for readers is asked,
   -- where a connection may wait there, and then that for editors, unless octets of one are held back; and then each connection has its
@@ -42,7 +44,7 @@ module _ {T S : Type 0} {G : transport.Ghosts T} (taken coming : T → Option (L
     pub http : AcceptsUnless refuses (any_held_back with_reader.opened.items) (listening_told (tells told 0) old.http_listening) new.http_listening hub_with_reader hub_with_editor with_reader with_editor by_http editors
     pub turned : Bool
     pub turns : List Accepted
-    pub turn : TurnEach taken coming made hub_with_editor with_editor new.connections turned turns
+    pub turn : TurnEach expects taken coming made hub_with_editor with_editor new.connections turned turns
     pub others : KeepsAllBut with_editor.opened.items hub_with_editor new.hub
     pub whole : events ≡ readers ++ (editors ++ turns)
     pub calls : Asks (asked old.sockets) (asked new.sockets) (looks 0 told true ∷ (by_dict ++ by_http))

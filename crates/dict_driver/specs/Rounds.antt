@@ -1,5 +1,7 @@
 -- What a round does with the octets that wait for each connection.
 use Rattle.std.specs.Prelude.{◌≡◌, ◌⊎◌, ◌||◌, Bool, ◌<◌, ◌≤◌, ◌-◌, ◌+◌, ◌^◌, ℕ, true, List, [], ◌∷◌, ◌++◌, drop, filter, length, Option, vec_len}
+use Rattle.dict_index.specs.Edition.{Edition}
+use Rattle.dict_catalogue.specs.Commands.{Command}
 use Rattle.dict_hub.specs.Runs.{Accepted, events_of}
 use Rattle.dict_outlet.specs.Queues.{waiting}
 use Rattle.dict_outlet.specs.Calls.{Call}
@@ -57,13 +59,13 @@ latest most all = drop (length all - most) all
 -- Each connection that is no longer open had its turn as such, and then each open one by its own events, over what the hub had of it as
 -- they began. Those that are open then are the open ones; those that are held and no longer open, of which 128 are kept, stand behind
 -- those that were so before; and no other is held. Something happened where it did in a turn of the one sort or the other
-pub record TurnEach {T : Type 0} {G : Ghosts T} (taken coming : T → Option (List ℕ)) (made : T → Option (List Call)) (hub : Hub) (old new : Connections T G) (moved : Bool) (events : List Accepted) : Type 0 where
+pub record TurnEach {K T : Type 0} {G : Ghosts T} (expects : K → Command Edition → K → Type 0) (taken coming : T → Option (List ℕ)) (made : T → Option (List Call)) (hub : Hub) (old new : Connections T G) (moved : Bool) (events : List Accepted) : Type 0 where
   pub departed : List (Connection T)
   pub by_departing : Bool
   pub departs : DepartAll taken coming made old.departing.items departed by_departing
   pub turned : List (Connection T)
   pub by_open : Bool
-  pub turns : TurnAll taken coming made hub old.opened.items turned by_open events
+  pub turns : TurnAll expects taken coming made hub old.opened.items turned by_open events
   pub opened : new.opened.items ≡ filter (λ one. is_open one.stage) turned
   pub departing : new.departing.items ≡ latest 128 (filter (λ one. is_held one.stage) departed ++ filter (λ one. is_departing one.stage) turned)
   pub last : new.last ≡ old.last

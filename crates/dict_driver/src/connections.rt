@@ -121,7 +121,7 @@ impl<T: Transport> Connections<T> {
     /// that are over are dropped. Whether anything happened.
     pub fn turn<K: Preparer>(&mut self, hub: &mut Hub, desk: &mut K) -> bool
         ensures led { HasLedOn (K.is_trusted desk.new) (K.shows desk.old) (K.leaves_one_of desk.old) (K.shows desk.new) (K.leaves_one_of desk.new) hub.old hub.new
-            (λ events. Moves self.old self.new events × AreOfTurns events × ComeById events × TurnEach T.taken T.coming T.made hub.old self.old self.new result events) }
+            (λ events. Moves self.old self.new events × AreOfTurns events × ComeById events × TurnEach K.expects T.taken T.coming T.made hub.old self.old self.new result events) }
         ensures trust { K.is_trusted desk.new → K.is_trusted desk.old }
         ensures others { KeepsAllBut self.old.opened.items hub.old hub.new }
         ensures idle { result ≡ false → All IsAtRest self.new.opened.items }

@@ -94,7 +94,7 @@ impl<'h, T: Transport, S: Sockets<T>> EventLoop<'h, T, S> {
     /// before the next round.
     pub fn round<K: Preparer>(&mut self, desk: &mut K) -> io::Result<bool>
         ensures led { HasLedOn (K.is_trusted desk.new) (K.shows desk.old) (K.leaves_one_of desk.old) (K.shows desk.new) (K.leaves_one_of desk.new) self.old.hub self.new.hub
-            (λ events. Moves self.old.connections self.new.connections events × AreOfRound events × GoesRound T.taken T.coming T.made S.refuses S.asked S.told result self.old self.new events) }
+            (λ events. Moves self.old.connections self.new.connections events × AreOfRound events × GoesRound K.expects T.taken T.coming T.made S.refuses S.asked S.told result self.old self.new events) }
         ensures trust { K.is_trusted desk.new → K.is_trusted desk.old }
         ensures rounds { IsCounted result self.old.rounds self.new.rounds }
         ensures grown { self.old.rounds ≤ self.new.rounds }

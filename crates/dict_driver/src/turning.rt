@@ -19,7 +19,7 @@ pub fn turn_all<T: Transport, K: Preparer>(
 ) -> bool
     requires { AllPairs (λ a b. a.id < b.id) all.old.items }
     ensures led { HasLedOn (K.is_trusted desk.new) (K.shows desk.old) (K.leaves_one_of desk.old) (K.shows desk.new) (K.leaves_one_of desk.new) hub.old hub.new
-        (λ events. TurnAll T.taken T.coming T.made hub.old all.old.items all.new.items result events) }
+        (λ events. TurnAll K.expects T.taken T.coming T.made hub.old all.old.items all.new.items result events) }
     ensures trust { K.is_trusted desk.new → K.is_trusted desk.old }
     ensures others { KeepsAllBut all.old.items hub.old hub.new }
     ensures idle { result ≡ false → All IsAtRest all.new.items }

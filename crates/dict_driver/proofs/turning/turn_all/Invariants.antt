@@ -12,5 +12,5 @@ invariant-loop-one g l = record {
   trust : g.K.Lookup.is_trusted l.desk → g.K.Lookup.is_trusted l.fn.desk;
   others : KeepsFrom l.fn.all.items l.one-index l.fn.hub l.hub;
   led : HasLedOn (g.K.Lookup.is_trusted l.desk) (g.K.Lookup.shows l.fn.desk) (g.K.Lookup.leaves_one_of l.fn.desk) (g.K.Lookup.shows l.desk) (g.K.Lookup.leaves_one_of l.desk) l.fn.hub l.hub
-      (λ events. TurnUpTo g.T.Transport.taken g.T.Transport.coming g.T.Transport.made l.fn.hub l.fn.all.items l.one-items l.one-index l.is_preparing l.has_moved events);
+      (λ events. TurnUpTo g.K.Preparer.expects g.T.Transport.taken g.T.Transport.coming g.T.Transport.made l.fn.hub l.fn.all.items l.one-items l.one-index l.is_preparing l.has_moved events);
 }

@@ -12,7 +12,7 @@ use Rattle.dict_driver.proofs.connections.Connections.turn.Goals as goal
 pub returns-then-departed-clause-led : goal.returns-then-departed-clause-led
 returns-then-departed-clause-led g c =
     led_as c.turn_all-turned.ensures.led (λ events turned.
-    let each : TurnEach g.T.Transport.taken g.T.Transport.coming g.T.Transport.made c.args.hub.now c.args.self.now c.settle.new.self c.depart_all-departed.result events = record {
+    let each : TurnEach g.K.Preparer.expects g.T.Transport.taken g.T.Transport.coming g.T.Transport.made c.args.hub.now c.args.self.now c.settle.new.self c.depart_all-departed.result events = record {
       departed = c.depart_all-departed.new.all.items;
       by_departing = c.depart_all-departed.result;
       departs = c.depart_all-departed.ensures.departs;
@@ -30,7 +30,7 @@ returns-then-departed-clause-led g c =
 pub returns-else-departed-clause-led : goal.returns-else-departed-clause-led
 returns-else-departed-clause-led g c =
     led_as c.turn_all-turned.ensures.led (λ events turned.
-    let each : TurnEach g.T.Transport.taken g.T.Transport.coming g.T.Transport.made c.args.hub.now c.args.self.now c.settle.new.self c.turn_all-turned.result events = record {
+    let each : TurnEach g.K.Preparer.expects g.T.Transport.taken g.T.Transport.coming g.T.Transport.made c.args.hub.now c.args.self.now c.settle.new.self c.turn_all-turned.result events = record {
       departed = c.depart_all-departed.new.all.items;
       by_departing = c.depart_all-departed.result;
       departs = c.depart_all-departed.ensures.departs;

@@ -47,7 +47,7 @@ returns-clause-led g c =
     (λ es fs before then. (
       moves_joined self.connections c.accept_editor-by_http.new.self.connections c.turn-turned.new.self es fs before.0 then.0,
       subst (λ (l : List Accepted). AreOfRound (l ++ fs)) (sym before.1.whole) (round_whole before.1.readers before.1.editors fs before.1.dict before.1.http then.1 then.2),
-      round_made g.S.Opening.refuses asked g.T.Transport.taken g.T.Transport.coming g.T.Transport.made (g.S.Sockets.told c.poll.new.self.sockets) c.poll.result self c.poll.new.self c.accept-by_dict.new.self c.accept_editor-by_http.new.self _
+      round_made g.S.Opening.refuses asked g.K.Preparer.expects g.T.Transport.taken g.T.Transport.coming g.T.Transport.made (g.S.Sockets.told c.poll.new.self.sockets) c.poll.result self c.poll.new.self c.accept-by_dict.new.self c.accept_editor-by_http.new.self _
           c.has_any.result c.turn-turned.result es fs (ap is_ok c.in-Ok.is) c.poll.ensures before.1 then.3 c.turn-turned.ensures.others refl c.accept_editor-by_http.ensures.dict refl c.accept-by_dict.ensures.other
           (c.has_any.ensures ∙ ap (λ b. b || (c.accept_editor-by_http.result || c.turn-turned.result)) c.accept-by_dict.ensures.asked
           ∙ ap (λ b. is_ready c.accept-by_dict.new.self.dict_listening || (b || c.turn-turned.result)) c.accept_editor-by_http.ensures.asked),
