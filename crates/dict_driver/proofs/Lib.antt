@@ -1,12 +1,5 @@
 pub mod BoolLemmas
-pub mod EventLemmas
-pub mod LeadLemmas
 pub mod OrderLemmas
-pub mod TellLemmas
-pub mod PieceLemmas
-pub mod TurnLemmas
-pub mod HoldLemmas
-pub mod BackLemmas
 pub mod ListLemmas
 pub mod RoundLemmas
 pub mod SettleLemmas

@@ -11,9 +11,9 @@ use Rattle.std.proofs.lemmas.List.Edits.{get_or-remove_below, get_or-remove_abov
 use Rattle.dict_outlet.specs.Queues.{waiting}
 use Rattle.dict_driver.specs.Rounds.{WaitsAmong}
 use Rattle.dict_driver.specs.Turning.{MarkAll, any}
-use Rattle.dict_driver.specs.Turns.{IsAtRest}
+use Rattle.dict_connection.specs.Turns.{IsAtRest}
 use Rattle.dict_driver.proofs.BoolLemmas.{any_more, front_move, last_move}
-use Rattle.dict_driver.specs.declared.connection.Connection.{Connection}
+use Rattle.dict_connection.specs.declared.connection.Connection.{Connection}
 
 -- what stands at a place, whatever stands in for none
 pub default_free : {X : Type 0} (xs : List X) (k : ℕ) (a b : X) → k < length xs → get_or xs k a ≡ get_or xs k b

@@ -3,8 +3,9 @@ use Rattle.std.proofs.Common.{◌≡◌, ◌==◌, ◌<◌, ℕ, zero, suc, Bool
 use Rattle.std.specs.Prelude.{Option, Result, ◌||◌}
 use Rattle.dict_outlet.specs.declared.transport.Transport as transport
 use Rattle.dict_driver.specs.Asking.{Asking}
-use Rattle.dict_driver.specs.Turning.{MarkAll, marked}
-use Rattle.dict_driver.specs.declared.connection.Connection.{Connection}
+use Rattle.dict_connection.specs.Turns.{marked}
+use Rattle.dict_driver.specs.Turning.{MarkAll}
+use Rattle.dict_connection.specs.declared.connection.Connection.{Connection}
 use Rattle.std.specs.declared.io.Error.{Error}
 use Rattle.dict_driver.specs.Looking.{Looks, tells}
 use Rattle.dict_driver.specs.Rounds.{Moves, Waits}

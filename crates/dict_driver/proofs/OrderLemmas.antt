@@ -1,25 +1,11 @@
 -- In which order events are handed to the hub.
-use Rattle.std.proofs.Common.{◌≤◌, ◌<◌, ℕ, List, [], ◌∷◌, ◌++◌, refl, sym, subst, arith, append_assoc}
-use Rattle.dict_hub.specs.Events.{Happening, opened, id_of}
+use Rattle.std.proofs.Common.{◌≤◌, ◌<◌, ℕ, List, [], ◌∷◌, ◌++◌, refl, arith, append_assoc}
+use Rattle.dict_hub.specs.Events.{id_of}
 use Rattle.dict_hub.specs.Runs.{Accepted}
-use Rattle.dict_hub.specs.declared.kind.Kind.{Kind}
 use Rattle.dict_hub.specs.declared.kind.Kind.TheVariants.{Dict, Http}
-use Rattle.dict_driver.specs.Events.{AreOf}
-use Rattle.dict_driver.specs.Ordering.{IsOnly, IsOpeningOf, IsOfTurn, AreOfTurns, AreFrom, ComeById, AreOfRound}
-
-pub only_opening : (id : ℕ) (kind : Kind) (events : List Accepted) → IsOnly (opened id kind) events → IsOpeningOf kind events
-only_opening id kind [] only = tt
-only_opening id kind (one ∷ []) only = (id, only)
-only_opening id kind (one ∷ other ∷ events) only = only
-
-pub only_turn : (what : Happening) (events : List Accepted) → IsOfTurn what → IsOnly what events → AreOfTurns events
-only_turn what [] is only = tt
-only_turn what (one ∷ []) is only = (subst IsOfTurn (sym only) is, tt)
-only_turn what (one ∷ other ∷ events) is only = absurd only
-
-pub turns_of_joined : (es fs : List Accepted) → AreOfTurns es → AreOfTurns fs → AreOfTurns (es ++ fs)
-turns_of_joined [] fs none more = more
-turns_of_joined (one ∷ es) fs (is, rest) more = (is, turns_of_joined es fs rest more)
+use Rattle.dict_connection.specs.Events.{AreOf}
+use Rattle.dict_connection.specs.Ordering.{AreOfTurns}
+use Rattle.dict_driver.specs.Ordering.{IsOpeningOf, AreFrom, ComeById, AreOfRound}
 
 -- each event is of a lesser id
 abbrev pub AreBelow : ℕ → List Accepted → Type 0

@@ -14,27 +14,29 @@ use Rattle.dict_hub.specs.Hubs.{Has}
 use Rattle.dict_hub.specs.Runs.{Accepted, events_of}
 use Rattle.dict_hub.specs.declared.hub.Hub.{Hub}
 use Rattle.dict_outlet.specs.Queues.{waiting}
-use Rattle.dict_driver.specs.Stages.{is_departing, is_held, is_open}
-use Rattle.dict_driver.specs.Events.{AreOf}
+use Rattle.dict_connection.specs.Stages.{is_departing, is_held, is_open}
+use Rattle.dict_connection.specs.Events.{AreOf}
 use Rattle.dict_outlet.specs.Calls.{Call}
-use Rattle.dict_driver.specs.Ordering.{AreOfTurns, ComeById, IsOpeningOf}
+use Rattle.dict_connection.specs.Ordering.{AreOfTurns}
+use Rattle.dict_driver.specs.Ordering.{ComeById, IsOpeningOf}
 use Rattle.dict_hub.specs.declared.kind.Kind.{Kind}
-use Rattle.dict_driver.specs.Foreseen.{BeginsBy}
-use Rattle.dict_driver.specs.Handing.{held_in, is_handed, is_held_back}
-use Rattle.dict_driver.specs.Telling.{KeepsOthers}
-use Rattle.dict_driver.specs.Turns.{Departs, IsOpened, LeadsByAnswer, LeadsByPiece, LeadsByReading, LeadsByTurn, LeadsFurther, Turns, is_deferred}
+use Rattle.dict_connection.specs.Foreseen.{BeginsBy}
+use Rattle.dict_connection.specs.Handing.{held_in, is_handed, is_held_back}
+use Rattle.dict_connection.specs.Telling.{KeepsOthers}
+use Rattle.dict_connection.specs.Turns.{Departs, IsOpened, LeadsByAnswer, LeadsByPiece, LeadsByReading, LeadsByTurn, LeadsFurther, Turns, is_deferred}
 use Rattle.dict_driver.specs.Turning.{DepartAll, KeepsAllBut, MarkAll, TurnAll, any, any_held_back, is_preparing}
 use Rattle.dict_outlet.specs.declared.calls.Received.{Received}
 use Rattle.dict_outlet.specs.declared.calls.Received.TheVariants as receiveds
 use Rattle.dict_outlet.specs.declared.calls.Sent.{Sent}
 use Rattle.dict_outlet.specs.declared.calls.Sent.TheVariants as sents
 use Rattle.dict_driver.specs.Rounds.{WaitsAmong, Waits, Flows, HasWaited, Moves, TurnEach}
-use Rattle.dict_driver.specs.declared.connection.Connection.{Connection}
+use Rattle.dict_connection.specs.declared.connection.Connection.{Connection}
 use Rattle.dict_driver.specs.declared.connections.Connections.{Connections}
 use Rattle.dict_outlet.specs.declared.transport.Transport.{Ghosts}
-use Rattle.dict_driver.proofs.EventLemmas.{put_joined, events_joined, own_all, own_none}
+use Rattle.dict_connection.proofs.EventLemmas.{put_joined, events_joined, own_all, own_none}
 use Rattle.dict_driver.proofs.BoolLemmas.{any_more, front_move, last_move, or_assoc, or_false}
-use Rattle.dict_driver.proofs.OrderLemmas.{AreBelow, below_joined, turns_of_joined, by_id_joined}
+use Rattle.dict_connection.proofs.OrderLemmas.{turns_of_joined}
+use Rattle.dict_driver.proofs.OrderLemmas.{AreBelow, below_joined, by_id_joined}
 use Rattle.dict_driver.proofs.ListLemmas.{default_free, among_at, place_among, among_append, among_drop, among_filter, HaveSameIds, all_among, marked_among}
 
 pub flows_none : (octets : List ℕ) → Flows octets [] octets

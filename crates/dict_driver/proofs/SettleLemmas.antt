@@ -3,11 +3,11 @@ use Rattle.std.proofs.Common.{◌≡◌, ◌<◌, ◌≤◌, ◌+◌, ◌-◌, �
 use Rattle.std.specs.List.{filter, remove}
 use Rattle.std.proofs.lemmas.List.{drop-append-le, drop-drop}
 use Rattle.std.proofs.lemmas.List.Elements.{filter-append}
-use Rattle.dict_driver.specs.Stages.{is_departing, is_open}
+use Rattle.dict_connection.specs.Stages.{is_departing, is_open}
 use Rattle.dict_driver.specs.Rounds.{latest}
-use Rattle.dict_driver.specs.declared.connection.Connection.{Connection}
-use Rattle.dict_driver.specs.declared.stage.Stage.{Stage}
-use Rattle.dict_driver.specs.declared.stage.Stage.TheVariants as stages
+use Rattle.dict_connection.specs.declared.connection.Connection.{Connection}
+use Rattle.dict_connection.specs.declared.stage.Stage.{Stage}
+use Rattle.dict_connection.specs.declared.stage.Stage.TheVariants as stages
 
 -- all of a few
 pub latest_few : {A : Type 0} (n : ℕ) (xs : List A) → length xs ≤ n → latest n xs ≡ xs

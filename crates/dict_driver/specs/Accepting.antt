@@ -12,7 +12,7 @@ use Rattle.dict_driver.specs.Asking.{Asking, Asks, accepts, watches}
 use Rattle.dict_driver.specs.Listening.{listening_by}
 use Rattle.dict_driver.specs.Looking.{listening_of}
 use Rattle.dict_driver.specs.Rounds.{Admits, IsFull}
-use Rattle.dict_driver.specs.Telling.{KeepsEach}
+use Rattle.dict_connection.specs.Telling.{KeepsEach}
 use Rattle.dict_driver.specs.Turning.{any_held_back}
 use Rattle.dict_driver.specs.declared.connections.Connections.{Connections}
 use Rattle.dict_driver.specs.declared.event_loop.EventLoop.{EventLoop}

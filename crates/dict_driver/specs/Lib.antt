@@ -1,15 +1,5 @@
 pub mod Binding
-pub mod Calls
-pub mod Stages
-pub mod Events
-pub mod Leading
 pub mod Ordering
-pub mod Telling
-pub mod Opening
-pub mod Pieces
-pub mod Handing
-pub mod Turns
-pub mod Foreseen
 pub mod Turning
 pub mod Rounds
 pub mod Listening

@@ -8,7 +8,7 @@ use Rattle.dict_outlet.specs.declared.transport.Transport as transport
 use Rattle.dict_driver.specs.Asking.{Asking, Asks, looks}
 use Rattle.dict_driver.specs.Listening.{listening_told}
 use Rattle.dict_driver.specs.Turning.{MarkAll}
-use Rattle.dict_driver.specs.Turns.{IsAtRest}
+use Rattle.dict_connection.specs.Turns.{IsAtRest}
 use Rattle.dict_driver.specs.declared.event_loop.EventLoop.{EventLoop}
 use Rattle.dict_driver.specs.declared.listening.Listening.{Listening}
 use Rattle.dict_driver.specs.declared.listening.Listening.TheVariants.{Ready}

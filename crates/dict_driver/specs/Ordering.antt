@@ -1,32 +1,16 @@
 -- The order of what one round hands to the hub.
 use Rattle.std.specs.Prelude.{◌≡◌, ◌≤◌, ℕ, List, [], ◌∷◌, ◌++◌, ⊤}
-use Rattle.dict_hub.specs.Events.{Happening, opened, came, ended, id_of}
+use Rattle.dict_hub.specs.Events.{opened, id_of}
 use Rattle.dict_hub.specs.Runs.{Accepted}
 use Rattle.dict_hub.specs.declared.kind.Kind.{Kind}
 use Rattle.dict_hub.specs.declared.kind.Kind.TheVariants.{Dict, Http}
-
--- it is this event alone, or none
-abbrev pub IsOnly : Happening → List Accepted → Type 0
-IsOnly what [] = ⊤
-IsOnly what (one ∷ []) = one.what ≡ what
-IsOnly what (one ∷ other ∷ events) = ⊥
+use Rattle.dict_connection.specs.Ordering.{AreOfTurns}
 
 -- a connection of this kind was opened, or none
 abbrev pub IsOpeningOf : Kind → List Accepted → Type 0
 IsOpeningOf kind [] = ⊤
 IsOpeningOf kind (one ∷ []) = (id : ℕ) × (one.what ≡ opened id kind)
 IsOpeningOf kind (one ∷ other ∷ events) = ⊥
-
--- octets came, or an end
-abbrev pub IsOfTurn : Happening → Type 0
-IsOfTurn (opened id kind) = ⊥
-IsOfTurn (came id piece) = ⊤
-IsOfTurn (ended id) = ⊤
-
--- so it is of each event
-abbrev pub AreOfTurns : List Accepted → Type 0
-AreOfTurns [] = ⊤
-AreOfTurns (one ∷ events) = IsOfTurn one.what × AreOfTurns events
 
 -- each event is of this id or of a greater one
 abbrev pub AreFrom : ℕ → List Accepted → Type 0

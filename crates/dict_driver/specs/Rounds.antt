@@ -5,17 +5,17 @@ use Rattle.dict_catalogue.specs.Commands.{Command}
 use Rattle.dict_hub.specs.Runs.{Accepted, events_of}
 use Rattle.dict_outlet.specs.Queues.{waiting}
 use Rattle.dict_outlet.specs.Calls.{Call}
-use Rattle.dict_driver.specs.Stages.{is_open, is_held, is_departing}
-use Rattle.dict_driver.specs.Events.{ArePut}
-use Rattle.dict_driver.specs.Handing.{held_in}
-use Rattle.dict_driver.specs.Opening.{IsUnopened}
-use Rattle.dict_driver.specs.Telling.{KeepsEach, KeepsOthers}
-use Rattle.dict_driver.specs.Turns.{IsOpened}
+use Rattle.dict_connection.specs.Stages.{is_open, is_held, is_departing}
+use Rattle.dict_connection.specs.Events.{ArePut}
+use Rattle.dict_connection.specs.Handing.{held_in}
+use Rattle.dict_connection.specs.Opening.{IsUnopened}
+use Rattle.dict_connection.specs.Telling.{KeepsEach, KeepsOthers}
+use Rattle.dict_connection.specs.Turns.{IsOpened}
 use Rattle.dict_driver.specs.Turning.{DepartAll, TurnAll}
 use Rattle.dict_hub.specs.declared.fault.HubFault.{HubFault}
 use Rattle.dict_hub.specs.declared.hub.Hub.{Hub}
 use Rattle.dict_hub.specs.declared.kind.Kind.{Kind}
-use Rattle.dict_driver.specs.declared.connection.Connection.{Connection}
+use Rattle.dict_connection.specs.declared.connection.Connection.{Connection}
 use Rattle.dict_driver.specs.declared.connections.Connections.{Connections}
 use Rattle.dict_outlet.specs.declared.transport.Transport.{Ghosts}
 

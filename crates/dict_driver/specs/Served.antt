@@ -12,7 +12,7 @@ use Rattle.dict_outlet.specs.Calls.{Call}
 use Rattle.dict_outlet.specs.declared.transport.Transport as transport
 use Rattle.dict_driver.specs.Asking.{Asking}
 use Rattle.dict_driver.specs.EventLoops.{GoesRound}
-use Rattle.dict_driver.specs.Leading.{HasLedOn}
+use Rattle.dict_connection.specs.Leading.{HasLedOn}
 use Rattle.dict_driver.specs.Looking.{IsIdle, WaitsIf}
 use Rattle.dict_driver.specs.Ordering.{AreOfRound}
 use Rattle.dict_driver.specs.Rounds.{Moves}

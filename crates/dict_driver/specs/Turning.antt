@@ -7,15 +7,12 @@ use Rattle.dict_hub.specs.Hubs.{Has}
 use Rattle.dict_hub.specs.Runs.{Accepted, events_of}
 use Rattle.dict_hub.specs.declared.hub.Hub.{Hub}
 use Rattle.dict_outlet.specs.Calls.{Call}
-use Rattle.dict_driver.specs.Foreseen.{BeginsBy}
-use Rattle.dict_driver.specs.Handing.{is_held_back}
-use Rattle.dict_driver.specs.Ordering.{AreOfTurns, ComeById}
-use Rattle.dict_driver.specs.Turns.{Departs, Turns}
-use Rattle.dict_driver.specs.declared.connection.Connection.{Connection}
-
--- the same connection, of which a reading may give something now, where this is so
-abbrev pub marked : {T : Type 0} → Bool → Connection T → Connection T
-marked is_told one = record one { may_receive = is_told || one.may_receive }
+use Rattle.dict_connection.specs.Foreseen.{BeginsBy}
+use Rattle.dict_connection.specs.Handing.{is_held_back}
+use Rattle.dict_connection.specs.Ordering.{AreOfTurns}
+use Rattle.dict_driver.specs.Ordering.{ComeById}
+use Rattle.dict_connection.specs.Turns.{Departs, Turns, marked}
+use Rattle.dict_connection.specs.declared.connection.Connection.{Connection}
 
 -- the same connections, where a reading of those whose ids are told of may give something now
 pub record MarkAll {T : Type 0} (is_told : ℕ → Bool) (old new : List (Connection T)) : Type 0 where

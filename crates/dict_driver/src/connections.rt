@@ -1,11 +1,10 @@
 // The connections of a driver.
 ghost use Rattle.std.specs.Prelude.{◌≡◌, ◌≢◌, ◌⊎◌, ◌≤◌, ◌<◌, ◌+◌, ℕ, List, [], false, All, IfOk, vec_len, vec_capacity, slice_index_or};
 ghost use Rattle.std.specs.List.{AllPairs};
-ghost use Rattle.dict_driver.specs.Stages.{is_open};
+ghost use Rattle.dict_connection.specs.Stages.{is_open};
 
-use crate::connection::Connection;
-use crate::opening::Opening;
 use crate::turning::{depart_all, is_any_held_back, mark_one, turn_all};
+use dict_connection::{Connection, Opening};
 use dict_desk::Keeper;
 use dict_hub::{Hub, Kind, MAX_OPEN};
 use dict_outlet::Transport;
@@ -36,15 +35,16 @@ pub struct Connections<T: Transport> {
 }
 
 impl<T: Transport> Connections<T> {
-    ghost use Rattle.dict_driver.specs.Leading.{HasLedOn};
+    ghost use Rattle.dict_connection.specs.Leading.{HasLedOn};
     ghost use Rattle.std.specs.Prelude.{◌++◌, ◌∷◌, ◌==◌, ◌||◌, ◌^◌, true, MatchOption, filter, if◌then◌else◌};
     ghost use Rattle.std.specs.List.{remove};
     ghost use Rattle.dict_driver.specs.Rounds.{Admits, Moves, TurnEach, Waits, latest};
-    ghost use Rattle.dict_driver.specs.Telling.{KeepsOthers};
-    ghost use Rattle.dict_driver.specs.Stages.{is_departing};
-    ghost use Rattle.dict_driver.specs.Turns.{IsAtRest};
+    ghost use Rattle.dict_connection.specs.Telling.{KeepsOthers};
+    ghost use Rattle.dict_connection.specs.Stages.{is_departing};
+    ghost use Rattle.dict_connection.specs.Turns.{IsAtRest};
     ghost use Rattle.dict_driver.specs.Turning.{KeepsAllBut, MarkAll, any_held_back};
-    ghost use Rattle.dict_driver.specs.Ordering.{AreOfTurns, ComeById, IsOpeningOf};
+    ghost use Rattle.dict_connection.specs.Ordering.{AreOfTurns};
+    ghost use Rattle.dict_driver.specs.Ordering.{ComeById, IsOpeningOf};
 
     /// No connection was there yet.
     pub fn new(alloc: Global) -> Result<Self, AllocError>

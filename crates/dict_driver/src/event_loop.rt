@@ -1,5 +1,5 @@
 // Rounds over sockets.
-ghost use Rattle.std.specs.Prelude.{◌≡◌, ◌≢◌, ◌==◌, ◌≤◌, ◌<◌, ◌+◌, ℕ, IfOk, List, MatchResult, [], false, length};
+ghost use Rattle.std.specs.Prelude.{◌≡◌, ◌≢◌, ◌==◌, ◌||◌, ◌≤◌, ◌<◌, ◌+◌, ℕ, IfOk, List, MatchResult, [], false, length};
 ghost use Rattle.std.specs.Duration.{as_nanos};
 ghost use Rattle.std.specs.IoError.{error_kind};
 ghost use Rattle.dict_driver.specs.Looking.{tells};
@@ -8,7 +8,6 @@ ghost use Rattle.dict_driver.specs.Turning.{MarkAll};
 use crate::connections::Connections;
 use crate::listening::{Listening, listening_by};
 use crate::sockets::Sockets;
-use crate::stage::has_any;
 use dict_desk::Keeper;
 use dict_hub::{Hub, Kind};
 use dict_outlet::Transport;
@@ -33,14 +32,14 @@ pub struct EventLoop<'h, T: Transport, S: Sockets<T>> {
 
 impl<'h, T: Transport, S: Sockets<T>> EventLoop<'h, T, S> {
     ghost use Rattle.dict_hub.specs.Runs.{IsAt, beginning};
-    ghost use Rattle.dict_driver.specs.Leading.{HasLedOn};
+    ghost use Rattle.dict_connection.specs.Leading.{HasLedOn};
     ghost use Rattle.dict_driver.specs.Rounds.{Moves};
     ghost use Rattle.dict_driver.specs.Ordering.{AreOfRound, IsOpeningOf};
     ghost use Rattle.dict_driver.specs.Serving.{IsCounted};
     ghost use Rattle.dict_driver.specs.Listening.{is_ready};
     ghost use Rattle.dict_driver.specs.Looking.{IsIdle, IsKept, Looks, listening_of, other_kind};
     ghost use Rattle.dict_driver.specs.Accepting.{HasAccepted, HasLetIn, HasTaken};
-    ghost use Rattle.dict_driver.specs.Telling.{KeepsOthers};
+    ghost use Rattle.dict_connection.specs.Telling.{KeepsOthers};
     ghost use Rattle.dict_driver.specs.EventLoops.{GoesRound};
 
     /// No connection came by these sockets yet, the first one's id is 1, and no round was made. Replies name the server by
@@ -256,4 +255,11 @@ fn tells_listening<T: Transport, S: Sockets<T>>(sockets: &S) -> bool
         }
     }
     false
+}
+
+// Whether one of these is so.
+fn has_any(first: bool, second: bool, third: bool) -> bool
+    ensures { result ≡ (first || (second || third)) }
+{
+    first || second || third
 }

@@ -1,7 +1,7 @@
 // Rounds, one after another.
 ghost use Rattle.std.specs.Prelude.{◌≡◌, ◌≤◌, ℕ, false, IfErr, List, Ok};
 ghost use Rattle.std.specs.IoError.{error_kind};
-ghost use Rattle.dict_driver.specs.Leading.{HasLedOn};
+ghost use Rattle.dict_connection.specs.Leading.{HasLedOn};
 ghost use Rattle.dict_driver.specs.Looking.{WaitsIf};
 ghost use Rattle.dict_driver.specs.Rounds.{Waits, Moves};
 ghost use Rattle.dict_driver.specs.Served.{AreRounds, Round, is_waited};

@@ -6,8 +6,7 @@ ghost use Rattle.mio.specs.Event.{event_token};
 ghost use Rattle.mio.specs.Events.{items};
 ghost use Rattle.dict_driver.specs.Asking.{Asking, Asks, looks, accepts, watches};
 
-use crate::held::PIECE;
-use crate::opening::{Opening, greet_by_hub};
+use dict_connection::{Opening, PIECE, greet_by_hub};
 use dict_desk::Keeper;
 use dict_hub::{Hub, HubFault, Kind, Out};
 use dict_outlet::{Queue, Socket, Transport};

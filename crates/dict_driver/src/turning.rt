@@ -1,12 +1,11 @@
 // What is done to each connection of a list.
 ghost use Rattle.std.specs.Prelude.{◌≡◌, ◌<◌, ◌==◌, ℕ, false, All, slice_index_or, vec_len, vec_capacity};
 ghost use Rattle.std.specs.List.{AllPairs};
-ghost use Rattle.dict_driver.specs.Leading.{HasLedOn};
+ghost use Rattle.dict_connection.specs.Leading.{HasLedOn};
 ghost use Rattle.dict_driver.specs.Turning.{DepartAll, KeepsAllBut, MarkAll, TurnAll, any_held_back};
-ghost use Rattle.dict_driver.specs.Turns.{IsAtRest};
+ghost use Rattle.dict_connection.specs.Turns.{IsAtRest};
 
-use crate::connection::Connection;
-use crate::held::PIECE;
+use dict_connection::{Connection, PIECE};
 use dict_hub::Hub;
 use dict_outlet::Transport;
 use dict_preparing::Preparer;

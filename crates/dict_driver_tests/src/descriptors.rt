@@ -2,8 +2,9 @@
 ghost use Rattle.std.specs.Prelude.{None, ⊤};
 
 use crate::checks::same;
+use dict_connection::{Opening, greet_by_hub};
 use dict_desk::{Keeper, PlainDesk};
-use dict_driver::{EventLoop, Opening, Sockets, greet_by_hub};
+use dict_driver::{EventLoop, Sockets};
 use dict_hub::{Hub, HubFault, Kind, Out};
 use dict_outlet::{Queue, Transport};
 use std::alloc::{AllocError, Global};

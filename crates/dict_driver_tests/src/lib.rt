@@ -1,5 +1,4 @@
-//! Runs of a driver over loopback, both ends in one thread, and of one connection over octets in memory. A library with tests
-//! alone.
+//! Runs of a driver over loopback, both ends in one thread. A library with tests alone.
 #![tactic(auto)]
 
 #[cfg(test)]
@@ -15,19 +14,9 @@ mod ends;
 #[cfg(test)]
 mod fair;
 #[cfg(test)]
-mod files;
-#[cfg(test)]
 mod limits;
 #[cfg(test)]
-mod long;
-#[cfg(test)]
-mod memory;
-#[cfg(test)]
-mod parts;
-#[cfg(test)]
 mod preparing;
-#[cfg(test)]
-mod rooms;
 #[cfg(test)]
 mod rounds;
 #[cfg(test)]

@@ -1,13 +1,8 @@
 // An install that is prepared between rounds: the octets that complete it are held back meanwhile.
 use crate::checks::same;
-use crate::fair::{After, Talker, turn};
-use crate::parts::PartsDesk;
-use crate::rooms::Rooms;
 use crate::serving::{Play, Step};
 use dict_desk::PlainDesk;
-use dict_driver::{Connection, Stage};
-use dict_hub::{Hub, Kind};
-use std::alloc::Global;
+use dict_driver_fixtures::{HEAD, PartsDesk};
 use std::net::{Net, TcpStream};
 use std::test::Fail;
 
@@ -16,10 +11,6 @@ const FIRST: &str = "220 localhost dictcat ready <1@localhost>\r\n";
 const EMPTY: &str = "210 0 databases\r\n";
 
 const ONE: &str = "210 1 databases\r\n";
-
-// A request for an install, without the last 65,536 octets of its text.
-const HEAD: &[u8] =
-    b"PUT /databases/gem HTTP/1.1\r\nRequest-Id: r1\r\nContent-Length: 65637\r\n\r\n53\n00-database-short\tA\tZ\nopal\tZ\tP\nFire Opal\tZ\tP\ndot\to\tF\n00-database-short\n  Gems\nopal\n  a stone\n.dot\n";
 
 const INSTALLED: &str =
     "HTTP/1.1 200 OK\r\nContent-Type: application/json\r\nContent-Length: 54\r\nConnection: close\r\n\r\n{\"edition\":1,\"name\":\"gem\",\"number\":1,\"verb\":\"install\"}";
@@ -181,89 +172,5 @@ fn an_editor_that_comes(rt: HostRuntime) -> Result<(), Fail> {
     drop(desk);
     same(&rt, &is_so?, &true);
     same(&rt, &counts, &(1, 1));
-    Ok(())
-}
-
-const FILLER: &[u8] = &[b'x'; 4_096];
-
-// The whole request, a piece a reading.
-static REQUEST: [&[u8]; 17] = [
-    HEAD, FILLER, FILLER, FILLER, FILLER, FILLER, FILLER, FILLER, FILLER, FILLER, FILLER, FILLER,
-    FILLER, FILLER, FILLER, FILLER, FILLER,
-];
-
-// A connection of this kind to the peer that sends the request.
-fn open(
-    alloc: Global,
-    hub: &mut Hub,
-    desk: &mut PartsDesk,
-    kind: Kind,
-) -> Result<Connection<Talker>, Fail> {
-    match Connection::open(
-        &Rooms,
-        alloc,
-        7,
-        kind,
-        Talker::new(&REQUEST, 1_000),
-        hub,
-        desk,
-    ) {
-        Some(one) => Ok(one),
-        None => Err(Fail::new("refused")),
-    }
-}
-
-// An editor's connection over a desk that prepares by so many parts: how many turns it is held back, up to so many, and what
-// comes of the next one.
-fn count_turns(alloc: Global, each: u32, most: u32) -> Result<(u32, After), Fail> {
-    let mut desk = PartsDesk::new(PlainDesk::new(alloc), each);
-    let mut hub = Hub::new(alloc, "localhost")?;
-    let mut one = open(alloc, &mut hub, &mut desk, Kind::Http)?;
-    for _ in 0..16u32 {
-        turn(&mut one, &mut hub, &mut desk, false);
-    }
-    for held in 0..most {
-        let is_preparing = one.is_held_back();
-        let after = turn(&mut one, &mut hub, &mut desk, is_preparing);
-        if !one.is_held_back() {
-            return Ok((held, after));
-        }
-    }
-    Err(Fail::new("it is held back still"))
-}
-
-// By three parts in three turns; and at most 1,000,000 turns. Nothing is read meanwhile.
-#[test]
-fn turns_in_which_it_is_held_back(rt: HostRuntime) -> Result<(), Fail> {
-    let answered = After(Stage::Closing, 0, 17);
-    same(&rt, &count_turns(rt.alloc(), 0, 10)?, &(0, answered));
-    same(&rt, &count_turns(rt.alloc(), 3, 10)?, &(3, answered));
-    let (held, after) = count_turns(rt.alloc(), u32::MAX, 2_000_000)?;
-    same(&rt, &held, &1_000_000);
-    same(&rt, &after, &answered);
-    Ok(())
-}
-
-// A turn of a connection of this kind while what another one sent is prepared.
-fn turn_meanwhile(alloc: Global, kind: Kind) -> Result<After, Fail> {
-    let mut desk = PartsDesk::new(PlainDesk::new(alloc), 3);
-    let mut hub = Hub::new(alloc, "localhost")?;
-    let mut one = open(alloc, &mut hub, &mut desk, kind)?;
-    Ok(turn(&mut one, &mut hub, &mut desk, true))
-}
-
-// A reader's is read, and an editor's isn't.
-#[test]
-fn others_meanwhile(rt: HostRuntime) -> Result<(), Fail> {
-    same(
-        &rt,
-        &turn_meanwhile(rt.alloc(), Kind::Http)?,
-        &After(Stage::Open, 0, 0),
-    );
-    same(
-        &rt,
-        &turn_meanwhile(rt.alloc(), Kind::Dict)?,
-        &After(Stage::Open, 43, 1),
-    );
     Ok(())
 }

@@ -7,7 +7,7 @@ use Rattle.dict_catalogue.specs.Commands.{Command}
 use Rattle.dict_catalogue.specs.Steps.{Catalogue}
 use Rattle.dict_io.specs.Streams.{StreamChange, PutsAll}
 use Rattle.dict_hub.specs.Runs.{IsAt, beginning}
-use Rattle.dict_driver.specs.Leading.{HasLedOn}
+use Rattle.dict_connection.specs.Leading.{HasLedOn}
 use Rattle.dict_driver.specs.Rounds.{Moves}
 use Rattle.dict_driver.specs.Binding.{IsAddress, AreTold}
 use Rattle.dict_driver.specs.Serving.{rounds_of}

@@ -1,6 +1,6 @@
 use Rattle.std.proofs.Common.{◌≡◌, ◌<◌, ◌≤◌, ◌+◌, ◌-◌, ◌^◌, List, false}
 use Rattle.std.specs.Duration.{as_nanos}
-use Rattle.dict_driver.specs.Leading.{HasLedOn}
+use Rattle.dict_connection.specs.Leading.{HasLedOn}
 use Rattle.dict_driver.specs.Rounds.{Moves}
 use Rattle.dict_driver.specs.Served.{Round}
 use Rattle.dict_driver.proofs.ServedLemmas.{AreMade}

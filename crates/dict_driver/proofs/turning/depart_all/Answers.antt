@@ -1,5 +1,5 @@
 use Rattle.std.proofs.Common.{◌≡◌, ◌<◌, ◌≤◌, ap, arith, length, get_or, rules}
-use Rattle.dict_driver.specs.Turns.{Departs}
+use Rattle.dict_connection.specs.Turns.{Departs}
 use Rattle.dict_driver.proofs.BoolLemmas.{so_still, so_then}
 use Rattle.dict_driver.proofs.ListLemmas.{default_free, move_more, move_none, taken_whole}
 use Rattle.dict_driver.proofs.turning.depart_all.Goals.{then-linger, else-linger}

@@ -1,4 +1,4 @@
-use Rattle.dict_driver.specs.Turns.{Departs}
+use Rattle.dict_connection.specs.Turns.{Departs}
 use Rattle.dict_driver.proofs.ListLemmas.{MoveUpTo}
 use Rattle.dict_driver.proofs.turning.depart_all.Given as goal
 

@@ -1,9 +1,9 @@
 use Rattle.std.proofs.Common.{◌≡◌, ◌<◌, ◌+◌, ◌∙◌, ℕ, List, drop, length, get_or, sym, ap, arith}
 use Rattle.std.proofs.lemmas.List.{at_drop_all, at_drop_more}
 use Rattle.std.specs.Prelude.{◌||◌}
-use Rattle.dict_driver.specs.Handing.{is_held_back}
+use Rattle.dict_connection.specs.Handing.{is_held_back}
 use Rattle.dict_driver.specs.Turning.{any_held_back}
-use Rattle.dict_driver.specs.declared.connection.Connection.{Connection}
+use Rattle.dict_connection.specs.declared.connection.Connection.{Connection}
 use Rattle.dict_driver.proofs.turning.is_any_held_back.Goals as goal
 
 -- one more is looked at

@@ -1,5 +1,5 @@
 use Rattle.std.proofs.Common.{◌≡◌, ◌==◌, ◌<◌, ◌≤◌, ap, arith, length, get_or, rules}
-use Rattle.dict_driver.specs.Turning.{marked}
+use Rattle.dict_connection.specs.Turns.{marked}
 use Rattle.dict_driver.proofs.ListLemmas.{change_none, change_more, change_whole, default_free, taken_whole}
 use Rattle.dict_driver.proofs.turning.mark_one.Goals as goal
 

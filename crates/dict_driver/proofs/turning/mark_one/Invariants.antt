@@ -1,5 +1,5 @@
 use Rattle.std.proofs.Common.{◌≡◌, ◌==◌}
-use Rattle.dict_driver.specs.Turning.{marked}
+use Rattle.dict_connection.specs.Turns.{marked}
 use Rattle.dict_driver.proofs.ListLemmas.{ChangeUpTo}
 use Rattle.dict_driver.proofs.turning.mark_one.Given as goal
 

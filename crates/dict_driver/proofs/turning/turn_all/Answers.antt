@@ -1,8 +1,8 @@
 use Rattle.std.proofs.Common.{◌≡◌, ◌<◌, ◌≤◌, true, false, rules, length, get_or, arith, sym, ap, ◌∙◌}
-use Rattle.dict_driver.specs.Handing.{is_held_back}
+use Rattle.dict_connection.specs.Handing.{is_held_back}
 use Rattle.dict_driver.specs.Turning.{any_held_back}
 use Rattle.dict_driver.proofs.BoolLemmas.{so_still, so_then}
-use Rattle.dict_driver.proofs.LeadLemmas.{led_as, led_joined, led_still}
+use Rattle.dict_connection.proofs.LeadLemmas.{led_as, led_joined, led_still}
 use Rattle.dict_driver.proofs.ListLemmas.{default_free, idle_more, ids_more, ids_same, taken_whole}
 use Rattle.dict_driver.proofs.RoundLemmas.{keeps_more, keeps_whole, turn_none, turn_more, turn_whole}
 use Rattle.dict_driver.proofs.turning.turn_all.Goals.{then-turn, else-turn, then-is_held_back, else-is_held_back}

@@ -1,6 +1,6 @@
 use Rattle.std.proofs.Common.{◌≡◌, ◌<◌, ℕ, false, length, get_or}
-use Rattle.dict_driver.specs.Leading.{HasLedOn}
-use Rattle.dict_driver.specs.Turns.{IsAtRest}
+use Rattle.dict_connection.specs.Leading.{HasLedOn}
+use Rattle.dict_connection.specs.Turns.{IsAtRest}
 use Rattle.dict_driver.proofs.ListLemmas.{HaveSameIds}
 use Rattle.dict_driver.proofs.RoundLemmas.{KeepsFrom, TurnUpTo}
 use Rattle.dict_driver.proofs.turning.turn_all.Given as goal

@@ -1,9 +1,9 @@
 use Rattle.std.proofs.Common.{◌≡◌, ◌<◌, ◌+◌, refl, sym, ◌∙◌, subst, inl, inr, arith}
-use Rattle.dict_driver.specs.Opening.{IsUnopened}
+use Rattle.dict_connection.specs.Opening.{IsUnopened}
 use Rattle.dict_driver.specs.Rounds.{Moves}
-use Rattle.dict_driver.specs.Turns.{IsOpened}
+use Rattle.dict_connection.specs.Turns.{IsOpened}
 use Rattle.dict_driver.specs.Ordering.{IsOpeningOf}
-use Rattle.dict_driver.proofs.LeadLemmas.{led_as, led_still}
+use Rattle.dict_connection.proofs.LeadLemmas.{led_as, led_still}
 use Rattle.dict_driver.proofs.ListLemmas.{apart_push, rising_push, given_push}
 use Rattle.dict_driver.proofs.RoundLemmas.{moves_same, moves_opened, opened_flows, opened_is, opened_own}
 use Rattle.dict_driver.proofs.connections.Connections.admit.Goals as goal

@@ -1,5 +1,5 @@
 use Rattle.std.proofs.Common.{◌≡◌, ◌<◌, ◌≤◌, true, false, rules, length, get_or, sym, ap, ◌∙◌, subst, append-nil}
-use Rattle.dict_driver.specs.Stages.{is_departing}
+use Rattle.dict_connection.specs.Stages.{is_departing}
 use Rattle.dict_driver.specs.Rounds.{latest}
 use Rattle.dict_driver.proofs.ListLemmas.{apart_remove, default_free}
 use Rattle.dict_driver.proofs.SettleLemmas.{departing_closed, latest_few}

@@ -1,6 +1,6 @@
 use Rattle.std.proofs.Common.{◌≡◌, ◌<◌, ◌≤◌, true, false, rules, length, sym, ap, ◌∙◌, ◌++◌, ◌∷◌, [], refl}
 use Rattle.std.specs.List.{filter}
-use Rattle.dict_driver.specs.Stages.{is_departing, is_open}
+use Rattle.dict_connection.specs.Stages.{is_departing, is_open}
 use Rattle.dict_driver.specs.Rounds.{latest}
 use Rattle.dict_driver.proofs.SettleLemmas.{parted_all, parted_close, parted_none, parted_open}
 use Rattle.dict_driver.proofs.connections.Connections.settle.Goals as goal

@@ -1,10 +1,10 @@
 use Rattle.std.proofs.Common.{◌≡◌, ◌≢◌, ◌≤◌, ◌∙◌, All, ap, ◌++◌, length, rules, refl, false}
 use Rattle.std.proofs.lemmas.List.Elements.{All-filter, filter_from_retain}
 use Rattle.std.specs.List.{filter}
-use Rattle.dict_driver.specs.Stages.{is_departing, is_held, is_open}
+use Rattle.dict_connection.specs.Stages.{is_departing, is_held, is_open}
 use Rattle.dict_driver.specs.Rounds.{TurnEach, latest}
-use Rattle.dict_driver.specs.Turns.{IsAtRest}
-use Rattle.dict_driver.proofs.LeadLemmas.{led_as}
+use Rattle.dict_connection.specs.Turns.{IsAtRest}
+use Rattle.dict_connection.proofs.LeadLemmas.{led_as}
 use Rattle.dict_driver.proofs.ListLemmas.{HaveSameIds, apart_kept, ids_kept, rising_kept}
 use Rattle.dict_driver.proofs.RoundLemmas.{depart_ids, departed_closed, moves_turned}
 use Rattle.dict_driver.proofs.connections.Connections.turn.Goals as goal

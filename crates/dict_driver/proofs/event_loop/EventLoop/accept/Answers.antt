@@ -8,7 +8,7 @@ use Rattle.dict_driver.specs.Looking.{listening_of}
 use Rattle.dict_driver.specs.Ordering.{IsOpeningOf}
 use Rattle.dict_driver.specs.Rounds.{Moves}
 use Rattle.dict_driver.proofs.AcceptLemmas.{accepted_none, accepted_one, accepts_not, asks_none, not_ready, same_listening}
-use Rattle.dict_driver.proofs.LeadLemmas.{led_joined, led_none, led_still}
+use Rattle.dict_connection.proofs.LeadLemmas.{led_joined, led_none, led_still}
 use Rattle.dict_driver.proofs.RoundLemmas.{moves_as, moves_joined, moves_same}
 use Rattle.dict_driver.proofs.event_loop.EventLoop.accept.Goals as goal
 

@@ -1,7 +1,7 @@
 use Rattle.std.proofs.Common.{[], refl, sym, ◌∙◌}
 use Rattle.dict_driver.specs.Turning.{any_held_back}
 use Rattle.dict_driver.proofs.AcceptLemmas.{asks_none, let_in, unless_held}
-use Rattle.dict_driver.proofs.LeadLemmas.{led_as, led_still}
+use Rattle.dict_connection.proofs.LeadLemmas.{led_as, led_still}
 use Rattle.dict_driver.proofs.RoundLemmas.{moves_same}
 use Rattle.dict_driver.proofs.event_loop.EventLoop.accept_editor.Goals as goal
 

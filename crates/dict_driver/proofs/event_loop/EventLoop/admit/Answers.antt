@@ -1,6 +1,6 @@
 use Rattle.std.proofs.Common.{refl, sym, ◌∙◌}
 use Rattle.dict_driver.proofs.AcceptLemmas.{taken_not, taken_unwatched, taken_watched}
-use Rattle.dict_driver.proofs.LeadLemmas.{led_as, led_still}
+use Rattle.dict_connection.proofs.LeadLemmas.{led_as, led_still}
 use Rattle.dict_driver.proofs.RoundLemmas.{moves_same}
 use Rattle.dict_driver.proofs.event_loop.EventLoop.admit.Goals as goal
 

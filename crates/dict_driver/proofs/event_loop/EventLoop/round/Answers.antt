@@ -8,7 +8,7 @@ use Rattle.dict_driver.specs.Looking.{Looks}
 use Rattle.dict_driver.specs.Ordering.{AreOfRound, IsOpeningOf}
 use Rattle.dict_driver.specs.Rounds.{Moves}
 use Rattle.dict_driver.proofs.BoolLemmas.{none_of}
-use Rattle.dict_driver.proofs.LeadLemmas.{led_joined, led_none}
+use Rattle.dict_connection.proofs.LeadLemmas.{led_joined, led_none}
 use Rattle.dict_driver.proofs.LookLemmas.{moves_looked}
 use Rattle.dict_driver.proofs.OrderLemmas.{round_none, round_whole}
 use Rattle.dict_driver.proofs.LoopLemmas.{AreTaken, round_made}

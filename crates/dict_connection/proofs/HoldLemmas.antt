@@ -1,0 +1,170 @@
+-- Octets that are held back, and turns in which nothing is read.
+use Rattle.std.proofs.Common.{◌≡◌, ◌≢◌, ◌≤◌, ◌<◌, ℕ, Bool, true, false, List, [], ◌∷◌, ◌++◌, refl, sym, ap, ◌∙◌, subst, append-nil, inl, inr, arith}
+use Rattle.std.proofs.lemmas.List.Elements.{All-nil}
+use Rattle.std.specs.Prelude.{Option, Some, ◌&&◌, if◌then◌else◌}
+use Rattle.std.specs.Io.KnownBytes.{Consumes, Keeps}
+use Rattle.dict_catalogue.specs.Steps.{Catalogue}
+use Rattle.dict_hub.specs.Events.{is_of_editor}
+use Rattle.dict_hub.specs.Runs.{Accepted, State, IsAt}
+use Rattle.dict_hub.specs.declared.hub.Hub.{Hub}
+use Rattle.dict_hub.specs.declared.kind.Kind.{Kind}
+use Rattle.dict_outlet.specs.Calls.{Call, Makes, receives}
+use Rattle.dict_outlet.specs.Outlets.{Passes, is_sending}
+use Rattle.dict_outlet.specs.Queues.{waiting, is_clear}
+use Rattle.dict_outlet.specs.declared.calls.Received.TheVariants as receiveds
+use Rattle.dict_outlet.specs.declared.calls.Sent.{Sent}
+use Rattle.dict_outlet.specs.declared.calls.Sent.TheVariants as sents
+use Rattle.dict_outlet.proofs.OutletLemmas.{passes_none}
+use Rattle.dict_outlet.proofs.CallLemmas.{makes_none}
+use Rattle.dict_connection.specs.Calls.{calls_of_turn, has_turned}
+use Rattle.dict_connection.specs.Events.{AreOf}
+use Rattle.dict_connection.specs.Handing.{held_in, is_handed}
+use Rattle.dict_connection.specs.Leading.{HasLedOn}
+use Rattle.dict_connection.specs.Pieces.{next_piece}
+use Rattle.dict_connection.specs.Stages.{is_open}
+use Rattle.dict_connection.specs.Telling.{KeepsEach}
+use Rattle.dict_connection.specs.Turns.{BringAllOrNone, HandsOver, LeadsByAnswer, LeadsByPiece, LeadsFurther, ReadsOnce, SendsOnce, Turns, is_deferred, may_read}
+use Rattle.dict_connection.specs.declared.connection.Connection.{Connection}
+use Rattle.dict_connection.specs.declared.held.Held.{Held}
+use Rattle.dict_connection.proofs.LeadLemmas.{led_joined}
+use Rattle.dict_connection.proofs.TurnLemmas.{answer_from, calls_of_both, kept_consumes, leads_by_turn, reads_handed}
+
+-- what a desk prepares leads no event
+pub led_quiet : {T : Type 0} {S0 S1 : Catalogue → Type 0} {L0 L1 : List (Option Catalogue) → Type 0} {a b : Hub} {P : List Accepted → Type 0}
+    → (T → (M : Catalogue) → S0 M → S1 M) → ((ms : List (Option Catalogue)) → L0 ms → L1 ms) → ((state : State) → IsAt a state → IsAt b state) → P [] → HasLedOn T S0 L0 S1 L1 a b P
+led_quiet shows leaves same holds = record {
+  led = λ trusted origin start at shown left. record {
+    events = [];
+    state = origin;
+    stands = start;
+    leads = (refl, refl);
+    is_at = same origin at;
+    shows = shows trusted start.catalogue shown;
+    leaves = leaves start.leaves left;
+    holds = holds;
+  };
+}
+
+-- and what comes behind it
+pub led_behind : {T U : Type 0} {S0 S1 S2 : Catalogue → Type 0} {L0 L1 L2 : List (Option Catalogue) → Type 0} {a b c : Hub} {P Q : List Accepted → Type 0}
+    → HasLedOn T S0 L0 S1 L1 a b (λ events. events ≡ []) → HasLedOn U S1 L1 S2 L2 b c P → (U → T) → ((events : List Accepted) → P events → Q events) → HasLedOn U S0 L0 S2 L2 a c Q
+led_behind {Q = Q} first next trust so = led_joined first next trust (λ es fs none holds. subst Q (sym (ap (λ (front : List Accepted). front ++ fs) none)) (so fs holds))
+
+-- the hub was told nothing, and all is held still
+pub hands_none : {T : Type 0} (taken coming : T → Option (List ℕ)) (made : T → Option (List Call)) (a b : Connection T) (octets : List ℕ) → b ≡ record a { held = b.held } → b.held.kind ≡ a.held.kind → held_in b.held ≡ octets
+    → HandsOver taken coming made octets a b []
+hands_none taken coming made a b octets same kind held = record {
+  id = ap (λ it. it.id) same;
+  may_receive = ap (λ it. it.may_receive) same;
+  kind = kind;
+  was_open = λ still. ap (λ it. is_open it.stage) (sym same) ∙ still;
+  own = tt;
+  are_turns = tt;
+  put = [];
+  are_put = refl;
+  passes = passes_none taken coming made a.transport b.transport (waiting a.queue) (waiting b.queue) (ap (λ it. it.transport) same) (ap (λ it. waiting it.queue) same);
+  pieces = inr refl;
+  handed = λ still. held;
+}
+
+-- octets that are held back for one turn more
+pub back_once : {T : Type 0} (hub : Hub) (a b : Connection T) → b ≡ record a { held = b.held } → held_in b.held ≡ held_in a.held → (is_of_editor a.held.kind ≡ true) × (b.held.turns_left < a.held.turns_left)
+    → LeadsByPiece hub (held_in a.held) a.held.turns_left a b []
+back_once hub a b same held (editor, fewer) = inr (editor, refl, held, ap (λ it. it.stage) same, fewer)
+
+-- a piece is handed of a connection that was as this one, but for the turns that were left
+pub hands_from : {T : Type 0} (taken coming : T → Option (List ℕ)) (made : T → Option (List Call)) (a b c : Connection T) (octets : List ℕ) (events : List Accepted) → b ≡ record a { held = b.held } → b.held.kind ≡ a.held.kind
+    → HandsOver taken coming made octets b c events → HandsOver taken coming made octets a c events
+hands_from taken coming made a b c octets events same kind hands = record {
+  id = hands.id ∙ ap (λ it. it.id) same;
+  may_receive = hands.may_receive ∙ ap (λ it. it.may_receive) same;
+  kind = hands.kind ∙ kind;
+  was_open = λ still. ap (λ it. is_open it.stage) (sym same) ∙ hands.was_open still;
+  own = subst (λ (i : ℕ). AreOf i events) (ap (λ it. it.id) same) hands.own;
+  are_turns = hands.are_turns;
+  put = hands.put;
+  are_put = hands.are_put;
+  passes = subst (λ t. Passes taken coming made t c.transport (waiting a.queue) (waiting c.queue) hands.put) (ap (λ it. it.transport) same)
+      (subst (λ q. Passes taken coming made b.transport c.transport (waiting q) (waiting c.queue) hands.put) (ap (λ it. it.queue) same) hands.passes);
+  pieces = subst (λ (k : Kind). BringAllOrNone (next_piece k octets) events) kind hands.pieces;
+  handed = hands.handed;
+}
+
+-- and so it is answered
+pub handed_from : {T : Type 0} (taken coming : T → Option (List ℕ)) (made : T → Option (List Call)) (hub : Hub) (a b c : Connection T) (events : List Accepted) → b ≡ record a { held = b.held } → b.held.kind ≡ a.held.kind
+    → held_in b.held ≡ held_in a.held → HandsOver taken coming made (held_in b.held) b c events × LeadsByAnswer hub (held_in b.held) b c events
+    → HandsOver taken coming made (held_in a.held) a c events × LeadsByPiece hub (held_in a.held) a.held.turns_left a c events
+handed_from taken coming made hub a b c events same kind held (hands, leads) = (
+  subst (λ (l : List ℕ). HandsOver taken coming made l a c events) held (hands_from taken coming made a b c (held_in b.held) events same kind hands),
+  inl (answer_from hub a b c (held_in a.held) events (ap (λ it. it.id) same) (ap (λ it. it.stage) same) kind (subst (λ (l : List ℕ). LeadsByAnswer hub l b c events) held leads)),
+)
+
+-- where a hub has of each connection what another has, an answer by the one is an answer by the other
+answer_over : {T : Type 0} (hub after : Hub) (octets : List ℕ) (b c : Connection T) (events : List Accepted) → KeepsEach hub after → LeadsByAnswer after octets b c events → LeadsByAnswer hub octets b c events
+answer_over hub after octets b c events keeps (inl told) = inl told
+answer_over hub after octets b c events keeps (inr (may, ends, over)) = inr ((λ held has. may held (keeps b.id (Some held) has)), ends, over)
+
+-- where a piece leads that was read into a connection which was as this one, but for what is held
+piece_read : {T : Type 0} (hub after : Hub) (a b c : Connection T) (octets : List ℕ) (events : List Accepted) → KeepsEach hub after → b.id ≡ a.id → b.stage ≡ a.stage → b.held.kind ≡ a.held.kind → b.held.turns_left ≤ 1_000_000
+    → LeadsByPiece after octets b.held.turns_left b c events → LeadsByPiece hub octets 1_000_000 a c events
+piece_read hub after a b c octets events keeps id stage kind few (inl answer) = inl (answer_from hub a b c octets events id stage kind (answer_over hub after octets b c events keeps answer))
+piece_read hub after a b c octets events keeps id stage kind few (inr (editor, none, held, same, fewer)) = inr (ap is_of_editor (sym kind) ∙ editor, none, held, same ∙ stage, omega (arith, few, fewer))
+
+-- octets came, which are held then, and the hub was told the first piece of them, or they are held back
+pub reads_octets : {T : Type 0} {hub : Hub} (taken coming : T → Option (List ℕ)) (made : T → Option (List Call)) (after : Hub) (a b s c : Connection T) (count : ℕ) (octets : List ℕ) (events : List Accepted)
+    → b ≡ record a { transport = b.transport } → s ≡ record b { held = s.held } → a.may_receive ≡ true → s.held.kind ≡ b.held.kind → held_in s.held ≡ octets → s.held.turns_left ≤ 1_000_000 → KeepsEach hub after
+    → Keeps (taken a.transport) (taken b.transport) → Consumes (coming a.transport) (coming b.transport) octets → Makes (made a.transport) (made b.transport) (receives 4096 (receiveds.Octets count) ∷ [])
+    → HandsOver taken coming made (held_in s.held) s c events × LeadsByPiece after (held_in s.held) s.held.turns_left s c events → ReadsOnce taken coming made hub a c (receiveds.Octets count) events
+reads_octets {hub = hub} taken coming made after a b s c count octets events same filled marked kind is few keeps took comes calls (hands, leads) =
+    let id : s.id ≡ a.id = ap (λ it. it.id) filled ∙ ap (λ it. it.id) same in
+    let stage : s.stage ≡ a.stage = ap (λ it. it.stage) filled ∙ ap (λ it. it.stage) same in
+    let marks : s.may_receive ≡ a.may_receive = ap (λ it. it.may_receive) filled ∙ ap (λ it. it.may_receive) same in
+    let queue : s.queue ≡ a.queue = ap (λ it. it.queue) filled ∙ ap (λ it. it.queue) same in
+    let kinds : s.held.kind ≡ a.held.kind = kind ∙ ap (λ it. it.held.kind) same in
+    let back : b.transport ≡ s.transport = sym (ap (λ it. it.transport) filled) in
+    reads_handed taken coming made a s c (receiveds.Octets count) octets events id stage queue kinds marked
+    (subst (λ t. Keeps (taken a.transport) (taken t)) back took)
+    (subst (λ t. Consumes (coming a.transport) (coming t) octets) back comes)
+    (subst (λ t. Makes (made a.transport) (made t) (receives 4096 (receiveds.Octets count) ∷ [])) back calls)
+    (subst (λ (l : List ℕ). HandsOver taken coming made l s c events) is hands) (
+      piece_read hub after a s c octets events keeps id stage kinds few (subst (λ (l : List ℕ). LeadsByPiece after l s.held.turns_left s c events) is leads),
+      hands.may_receive ∙ marks,
+    )
+
+-- a sending, and no reading, since that is deferred
+pub turns_deferred : {T : Type 0} {hub : Hub} (taken coming : T → Option (List ℕ)) (made : T → Option (List Call)) (preparing : Bool) (a b : Connection T) (sending : Sent) → sending ≢ sents.Failed
+    → is_handed b.held ≡ true → is_deferred preparing b ≡ true → SendsOnce taken coming made a b sending → Turns taken coming made preparing hub a b true []
+turns_deferred {hub = hub} taken coming made preparing a b sending well all later first =
+    let empty : is_handed a.held ≡ true = ap is_handed (sym first.held) ∙ all in
+    let late : is_deferred preparing a ≡ true = ap (λ (h : Held). preparing && is_of_editor h.kind) (sym first.held) ∙ later in
+    let may : may_read preparing a ≡ false
+    = ap (λ (e : Bool). e && (if is_deferred preparing a then false else a.may_receive)) empty ∙ ap (λ (d : Bool). if d then false else a.may_receive) late in
+    let still : held_in b.held ≡ held_in a.held = ap held_in first.held in
+    record {
+      has_moved = ap (λ (d : Bool). has_turned true d sending receiveds.Nothing) (sym late) ∙ ap (λ (e : Bool). has_turned e (is_deferred preparing a) sending receiveds.Nothing) (sym empty);
+      id = first.id;
+      kind = ap (λ (h : Held). h.kind) first.held;
+      was_open = λ open_now. ap is_open (sym first.stage) ∙ open_now;
+      own = tt;
+      are_turns = tt;
+      sent = first.sent;
+      takes = first.takes;
+      put = [];
+      are_put = refl;
+      order = first.order ∙ sym (append-nil (waiting a.queue));
+      received = [];
+      gives = kept_consumes _ _ first.comes;
+      pieces = inr refl;
+      handed = λ open_now. still ∙ sym (append-nil (held_in a.held));
+      sending = sending;
+      reading = receiveds.Nothing;
+      within = [];
+      sendings = All-nil (λ call. is_sending call ≡ true);
+      calls = subst (λ (m : Bool). Makes (made a.transport) (made b.transport) (calls_of_turn (is_clear a.queue) m sending receiveds.Nothing ++ [])) (sym may)
+          (calls_of_both _ _ _ (is_clear a.queue) false sending receiveds.Nothing [] well first.calls (makes_none (made b.transport)));
+      lazy = λ few. refl;
+      idle = first.idle;
+      unmarked = λ isnt. refl;
+      leads = leads_by_turn preparing hub a b sending receiveds.Nothing [] [] well (subst (λ (e : Bool). LeadsFurther e (is_deferred preparing a) hub receiveds.Nothing [] a b []) (sym empty)
+          (subst (λ (d : Bool). LeadsFurther true d hub receiveds.Nothing [] a b []) (sym late) ((refl, first.stage, still), refl, first.may_receive)));
+    }

@@ -1,0 +1,7 @@
+use Rattle.std.proofs.Common.{refl}
+use Rattle.dict_connection.proofs.LeadLemmas.{led_as}
+use Rattle.dict_connection.proofs.TurnLemmas.{hands_ended}
+use Rattle.dict_connection.proofs.connection.Connection.end.Goals as goal
+
+pub returns-clause-led : goal.returns-clause-led
+returns-clause-led g c = led_as c.deliver.ensures.led (λ events told. hands_ended c.args.self.now _ c.deliver.result events refl refl refl refl refl told)

@@ -1,0 +1,8 @@
+use Rattle.std.proofs.Common.{◌∙◌, ap, refl}
+use Rattle.dict_connection.specs.Stages.{parted}
+use Rattle.dict_connection.proofs.LeadLemmas.{led_as}
+use Rattle.dict_connection.proofs.TurnLemmas.{hands_parted}
+use Rattle.dict_connection.proofs.connection.Connection.end_input.Goals as goal
+
+pub returns-clause-led : goal.returns-clause-led
+returns-clause-led g c = led_as c.end.ensures.led (λ events ended. hands_parted c.args.self.now c.end.new.self _ events refl refl refl refl refl (c.parted-self.ensures ∙ ap parted c.is_empty.ensures) ended)

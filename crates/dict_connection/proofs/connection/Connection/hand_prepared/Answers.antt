@@ -1,0 +1,32 @@
+use Rattle.std.proofs.Common.{refl, ap, ◌∙◌, arith}
+use Rattle.dict_connection.proofs.BackLemmas.{back_never, rest_back}
+use Rattle.dict_connection.specs.Handing.{held_in}
+use Rattle.dict_connection.proofs.HoldLemmas.{back_once, handed_from, hands_none, led_behind, led_quiet}
+use Rattle.dict_connection.proofs.connection.Connection.hand_prepared.Goals as goal
+
+pub returns-then-prepare-clause-led : goal.returns-then-prepare-clause-led
+returns-then-prepare-clause-led g c =
+    let old = c.args.self.now in
+    let kept = c.prepare.ensures in
+    led_quiet kept.shows kept.leaves (λ state at. at) (
+      hands_none g.T.Transport.taken g.T.Transport.coming g.T.Transport.made old c.prepare.new.self (held_in old.held) kept.same kept.kind kept.octets,
+      back_once c.args.hub.now old c.prepare.new.self kept.same kept.octets (kept.fewer c.if-prepare.true),
+    )
+
+pub returns-clause-led : goal.returns-clause-led
+returns-clause-led g c =
+    let old = c.args.self.now in
+    let kept = c.prepare.ensures in
+    led_behind (led_quiet kept.shows kept.leaves (λ state at. at) refl) c.hand.ensures.led c.hand.ensures.trust
+    (λ events handed. handed_from g.T.Transport.taken g.T.Transport.coming g.T.Transport.made c.args.hub.now old c.prepare.new.self c.hand.new.self events kept.same kept.kind kept.octets handed)
+
+pub returns-clause-others : goal.returns-clause-others
+returns-clause-others g c = λ other held apart has. c.hand.ensures.others other held (λ same. apart (same ∙ ap (λ it. it.id) c.prepare.ensures.same)) has
+
+pub returns-then-prepare-clause-back : goal.returns-then-prepare-clause-back
+returns-then-prepare-clause-back g c = λ still back.
+    let fewer = (c.prepare.ensures.fewer c.if-prepare.true).1 in
+    (omega (arith, fewer), c.prepare.ensures.octets)
+
+pub returns-clause-back : goal.returns-clause-back
+returns-clause-back g c = λ still back. back_never _ (rest_back c.hand.new.self.held _ _ c.hand.ensures.kind (c.hand.ensures.whole still)) back

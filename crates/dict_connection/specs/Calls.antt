@@ -1,0 +1,55 @@
+-- Which calls of its transport a turn makes.
+use Rattle.std.specs.Prelude.{Bool, true, false, List, [], ◌∷◌, ◌++◌, ◌||◌}
+use Rattle.dict_outlet.specs.Calls.{Call, sends, receives, ends, has_moved}
+use Rattle.dict_outlet.specs.declared.calls.Sent.{Sent}
+use Rattle.dict_outlet.specs.declared.calls.Sent.TheVariants as sents
+use Rattle.dict_outlet.specs.declared.calls.Received.{Received}
+use Rattle.dict_connection.specs.declared.stage.Stage.{Stage}
+use Rattle.dict_connection.specs.declared.stage.Stage.TheVariants as stages
+
+-- a sending is made where something waits
+abbrev pub sendings : Bool → Sent → List Call
+sendings true sent = []
+sendings false sent = sends sent ∷ []
+
+-- a reading is made where one may give something, into a room of 4,096 octets
+abbrev pub readings : Bool → Received → List Call
+readings false received = []
+readings true received = receives 4096 received ∷ []
+
+-- the calls of a turn: a sending where something waits, and where it didn't fail a reading where one is to be made
+abbrev pub calls_of_turn : Bool → Bool → Sent → Received → List Call
+calls_of_turn is_clear may_read sents.Failed received = sendings is_clear sents.Failed
+calls_of_turn is_clear may_read sents.Nothing received = sendings is_clear sents.Nothing ++ readings may_read received
+calls_of_turn is_clear may_read sents.Some received = sendings is_clear sents.Some ++ readings may_read received
+
+-- a turn did something, or is to be had again at once: where something was held before, or its reading is deferred; or else the sending or
+-- the reading tells so
+abbrev pub has_turned : Bool → Bool → Sent → Received → Bool
+has_turned false deferred sent received = true
+has_turned true true sent received = true
+has_turned true false sent received = has_moved sent received
+
+-- a turn of one that is no longer open did something, or is to be had again at once: octets were taken or a sending failed or was
+-- interrupted, or one of these is so
+abbrev pub has_departed : Sent → Bool → Bool → Bool
+has_departed sents.Nothing has_finished has_dropped = has_finished || has_dropped
+has_departed sents.Some has_finished has_dropped = true
+has_departed sents.Failed has_finished has_dropped = true
+
+-- the peer is told that nothing more is sent, where the hub closed the connection and nothing waits
+abbrev pub endings : Bool → Stage → Bool → List Call
+endings false stage is_told = []
+endings true stages.Open is_told = []
+endings true stages.Closing is_told = ends is_told ∷ []
+endings true stages.Parting is_told = []
+endings true stages.Draining is_told = []
+endings true stages.Over is_told = []
+
+-- what comes is read and dropped
+abbrev pub is_dropped : Stage → Bool → Bool
+is_dropped stages.Open may_receive = false
+is_dropped stages.Closing may_receive = false
+is_dropped stages.Parting may_receive = false
+is_dropped stages.Draining may_receive = may_receive
+is_dropped stages.Over may_receive = false

@@ -1,0 +1,11 @@
+pub mod Calls
+pub mod Stages
+pub mod Events
+pub mod Leading
+pub mod Ordering
+pub mod Telling
+pub mod Opening
+pub mod Pieces
+pub mod Handing
+pub mod Turns
+pub mod Foreseen

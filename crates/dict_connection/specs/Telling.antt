@@ -1,0 +1,44 @@
+-- What one event leaves of its connection's queue.
+use Rattle.std.specs.Prelude.{true, ◌≡◌, ◌≢◌, ℕ, List, [], ◌∷◌, ◌++◌, Option, None, Some}
+use Rattle.dict_hub.specs.Events.{Happening, is_of_editor}
+use Rattle.dict_hub.specs.Holding.{Holding}
+use Rattle.dict_hub.specs.Hubs.{Has}
+use Rattle.dict_hub.specs.declared.hub.Hub.{Hub}
+use Rattle.dict_hub.specs.Runs.{Accepted}
+use Rattle.dict_hub.specs.declared.incoming.Out.{Out}
+use Rattle.dict_outlet.specs.Calls.{Call}
+use Rattle.dict_outlet.specs.Outlets.{Passes}
+use Rattle.dict_outlet.specs.Queues.{waiting}
+use Rattle.dict_connection.specs.Events.{ArePut}
+use Rattle.dict_outlet.specs.declared.queue.Queue.{Queue}
+
+-- the hub may refuse octets of this connection: it holds none of its id, or an editor's, whose octets take memory
+abbrev pub MayRefuse : Hub → ℕ → Type 0
+MayRefuse hub id = (held : Holding) → Has hub id (Some held) → is_of_editor held.kind ≡ true
+
+-- what the hub has of each connection but that of this id it has still
+abbrev pub KeepsOthers : ℕ → Hub → Hub → Type 0
+KeepsOthers id old new = (other : ℕ) (held : Option Holding) → other ≢ id → Has old other held → Has new other held
+
+-- and of each
+abbrev pub KeepsEach : Hub → Hub → Type 0
+KeepsEach old new = (other : ℕ) (held : Option Holding) → Has old other held → Has new other held
+
+-- it is this event alone, which the hub answered so; or the hub refused it, and there is none
+abbrev pub IsAnswered : Happening → Option Out → List Accepted → Type 0
+IsAnswered what None events = events ≡ []
+IsAnswered what (Some out) events = (one : Accepted) × (events ≡ one ∷ []) × (one.what ≡ what) × (one.out ≡ out)
+
+-- the event was accepted, or there is none; what it put waits behind what waited before
+pub record IsTold (what : Happening) (answer : Option Out) (old new : Queue) (events : List Accepted) : Type 0 where
+  pub answered : IsAnswered what answer events
+  pub put : List ℕ
+  pub are_put : ArePut events put
+  pub order : waiting new ≡ waiting old ++ put
+
+-- the same, where the transport may have taken a front of what waits at once
+pub record IsToldThrough {T : Type 0} (taken coming : T → Option (List ℕ)) (made : T → Option (List Call)) (what : Happening) (answer : Option Out) (old new : Queue) (from to : T) (events : List Accepted) : Type 0 where
+  pub answered : IsAnswered what answer events
+  pub put : List ℕ
+  pub are_put : ArePut events put
+  pub passes : Passes taken coming made from to (waiting old) (waiting new) put

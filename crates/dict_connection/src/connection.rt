@@ -1,0 +1,396 @@
+// One connection.
+ghost use Rattle.std.specs.Prelude.{◌≡◌, ◌≤◌, ◌<◌, ◌==◌, ◌||◌, ℕ, List, [], ◌∷◌, Option, take, length, IfSome, MatchOption, true, false, ⊤};
+ghost use Rattle.std.specs.Io.KnownBytes.{Consumes, Keeps};
+ghost use Rattle.dict_connection.specs.Leading.{HasLedOn};
+ghost use Rattle.dict_hub.specs.Events.{opened, ended, is_of_editor};
+ghost use Rattle.dict_hub.specs.Runs.{Accepted, IsAt, State};
+ghost use Rattle.dict_catalogue.specs.Steps.{Catalogue};
+ghost use Rattle.dict_outlet.specs.Calls.{Makes, receives, count_received};
+ghost use Rattle.dict_connection.specs.Stages.{is_open, parted, stage_of_new};
+
+use crate::delivering::{deliver, deliver_through};
+use crate::held::{Held, PIECE};
+use crate::opening::Opening;
+use crate::stage::{Stage, answered, drained, has_departed, parted, stage_of_new, told};
+use dict_desk::Keeper;
+use dict_hub::{Event, Hub, Kind};
+use dict_outlet::{Queue, Received, Sent, Transport, has_moved, received_by, sent_by};
+use dict_preparing::Preparer;
+use std::alloc::Global;
+
+// The most octets that are dropped of a connection once all is sent: the largest body of a request and 1 MiB.
+const MAX_DROPPED: usize = 84_934_656;
+
+/// One connection: its id, what was read and isn't handed to the hub yet, the octets that wait for its peer, and what
+/// carries them.
+#[derive(Drop)]
+pub struct Connection<T: Transport> {
+    id: u64,
+    stage: Stage,
+    held: Held,
+    queue: Queue,
+    // How many octets were dropped since all was sent.
+    dropped: usize,
+    // Whether a reading may give something.
+    may_receive: bool,
+    transport: T,
+}
+
+impl<T: Transport> Connection<T> {
+    ghost use Rattle.dict_outlet.specs.Queues.{waiting, is_clear};
+    ghost use Rattle.dict_connection.specs.Handing.{held_in, is_held_back};
+    ghost use Rattle.dict_connection.specs.Foreseen.{AreToldOf, BeginsBy};
+    ghost use Rattle.dict_connection.specs.Opening.{IsUnopened};
+    ghost use Rattle.dict_connection.specs.Pieces.{behind_piece};
+    ghost use Rattle.dict_connection.specs.Telling.{KeepsEach, KeepsOthers};
+    ghost use Rattle.dict_connection.specs.Turns.{Departs, Drains, Finishes, Hands, HandsOver, IsAtRest, IsOpened, LeadsByAnswer, LeadsByEnd, LeadsByPiece, ReadsOnce, SendsOnce, Turns, is_deferred, marked};
+    ghost use Rattle.dict_connection.specs.Ordering.{IsOnly};
+
+    /// Tells the hub of a new connection. `None` where the hub refused it, or there is no memory for what is read.
+    pub fn open<K: Keeper, O: Opening>(
+        opening: &O,
+        alloc: Global,
+        id: u64,
+        kind: Kind,
+        transport: T,
+        hub: &mut Hub,
+        desk: &mut K,
+    ) -> Option<Connection<T>>
+        ensures led { HasLedOn (K.is_trusted desk.new) (K.shows desk.old) (K.leaves_one_of desk.old) (K.shows desk.new) (K.leaves_one_of desk.new) hub.old hub.new
+            (λ events. MatchOption result (events ≡ []) (λ one. IsOpened id kind hub.new one events)) }
+        ensures trust { K.is_trusted desk.new → K.is_trusted desk.old }
+        ensures others { KeepsOthers id hub.old hub.new }
+        ensures unopened { MatchOption result (IsUnopened O.refuses hub.old id kind × KeepsEach hub.old hub.new) (λ _. ⊤) }
+        ensures id { IfSome result (λ one. one.id ≡ id) }
+        ensures transport { IfSome result (λ one. one.transport ≡ transport) }
+        ensures may_receive { IfSome result (λ one. one.may_receive ≡ true) }
+        ensures kind { IfSome result (λ one. one.held.kind ≡ kind) }
+        ensures held { IfSome result (λ one. held_in one.held ≡ []) }
+    {
+        let Ok(octets) = opening.room(alloc, hub, id, kind) else {
+            return None;
+        };
+        let held = Held::new(kind, octets);
+        let mut queue = Queue::new(alloc);
+        match opening.greet(hub, desk, id, kind, &mut queue) {
+            Ok(out) => Some(Connection {
+                id,
+                stage: stage_of_new(out),
+                held,
+                queue,
+                dropped: 0,
+                may_receive: true,
+                transport,
+            }),
+            Err(_) => None,
+        }
+    }
+
+    /// Its id.
+    pub fn id(&self) -> u64
+        ensures { result ≡ self.now.id }
+    {
+        self.id
+    }
+
+    /// How far it has come.
+    pub fn stage(&self) -> Stage
+        ensures { result ≡ self.now.stage }
+    {
+        self.stage
+    }
+
+    /// How many octets wait for its peer.
+    pub fn waiting_count(&self) -> usize
+        ensures count { result ≡ length (waiting self.now.queue) }
+        ensures most { result ≤ 1048576 }
+    {
+        self.queue.len()
+    }
+
+    /// What carries its octets.
+    pub fn transport(&self) -> &T
+        ensures { result.now ≡ self.now.transport }
+    {
+        &self.transport
+    }
+
+    /// Notes that a reading may give something, where this is its id.
+    pub fn mark_if(&mut self, id: u64)
+        ensures { self.new ≡ marked (self.old.id == id) self.old }
+    {
+        if self.id == id {
+            self.may_receive = true;
+        }
+    }
+
+    /// Whether octets are held back that it sent as an editor's.
+    pub fn is_held_back(&self) -> bool
+        ensures { result ≡ is_held_back self.now.held }
+    {
+        self.held.is_held_back()
+    }
+
+    /// A turn of an open connection: sends what waits, and hands the next piece of what was read to the hub, of a reader a
+    /// line. Where all of it was handed, it reads once into the room first; and where nothing more comes, the hub is told
+    /// so. Whether anything happened, or a turn is to be had again at once.
+    ///
+    /// Where an editor's piece completes an install, the desk prepares that first, a part in each turn, and the piece is held back
+    /// meanwhile, for 1,000,000 turns at most. Nothing is read of an editor's connection while octets of one are held back.
+    pub fn turn<K: Preparer>(
+        &mut self,
+        hub: &mut Hub,
+        desk: &mut K,
+        room: &mut [u8; PIECE],
+        is_preparing: bool,
+    ) -> bool
+        ensures led { HasLedOn (K.is_trusted desk.new) (K.shows desk.old) (K.leaves_one_of desk.old) (K.shows desk.new) (K.leaves_one_of desk.new) hub.old hub.new
+            (λ events. Turns T.taken T.coming T.made is_preparing hub.old self.old self.new result events) }
+        ensures foreseen { BeginsBy K.expects hub.old self.old self.new }
+        ensures trust { K.is_trusted desk.new → K.is_trusted desk.old }
+        ensures others { KeepsOthers self.old.id hub.old hub.new }
+        ensures id { self.new.id ≡ self.old.id }
+        ensures idle { result ≡ false → IsAtRest self.new }
+    {
+        let sent = self.send();
+        if sent.has_failed() {
+            self.end(hub, desk);
+            return true;
+        }
+        if !self.held.is_empty() {
+            self.hand_prepared(hub, desk);
+            return true;
+        }
+        if self.is_deferred(is_preparing) {
+            return true;
+        }
+        let received = self.read(hub, desk, room);
+        has_moved(sent, received)
+    }
+
+    /// A turn of a connection that is no longer open: sends what waits; once nothing does, it is over where the peer
+    /// ended its side, and else the peer is told so, and what comes is read into the room and dropped. Whether anything
+    /// happened.
+    pub fn linger(&mut self, room: &mut [u8; PIECE]) -> bool
+        ensures { Departs T.taken T.coming T.made self.old self.new result }
+    {
+        let sent = self.send();
+        if sent.has_failed() {
+            self.stage = Stage::Over;
+            return true;
+        }
+        let has_finished = self.finish();
+        let has_dropped = self.drop_received(room);
+        has_departed(sent, has_finished, has_dropped)
+    }
+
+    // Sends what waits, by one call of the transport.
+    fn send(&mut self) -> Sent
+        ensures { SendsOnce T.taken T.coming T.made self.old self.new result }
+    {
+        if self.queue.is_empty() {
+            return Sent::Nothing;
+        }
+        sent_by(&self.queue.send(&mut self.transport))
+    }
+
+    // Reads once.
+    fn receive(&mut self, room: &mut [u8; PIECE]) -> Received
+        ensures count { count_received result ≤ length room.new }
+        ensures gives { Consumes (T.coming self.old.transport) (T.coming self.new.transport) (take (count_received result) room.new) }
+        ensures taken { Keeps (T.taken self.old.transport) (T.taken self.new.transport) }
+        ensures same { self.new ≡ record self.old { transport = self.new.transport } }
+        ensures made { Makes (T.made self.old.transport) (T.made self.new.transport) (receives 4096 result ∷ []) }
+    {
+        received_by(&self.transport.receive(room))
+    }
+
+    // Whether nothing is to be read of it, since it is an editor's, and what one of these sent is being prepared.
+    fn is_deferred(&self, is_preparing: bool) -> bool
+        ensures { result ≡ is_deferred is_preparing self.now }
+    {
+        is_preparing && self.held.is_of_editor()
+    }
+
+    // Reads once where that may give something, and hands the first piece of what came to the hub, unless it is held back, or
+    // that nothing more comes.
+    fn read<K: Preparer>(&mut self, hub: &mut Hub, desk: &mut K, room: &mut [u8; PIECE]) -> Received
+        requires { held_in self.old.held ≡ [] }
+        ensures led { HasLedOn (K.is_trusted desk.new) (K.shows desk.old) (K.leaves_one_of desk.old) (K.shows desk.new) (K.leaves_one_of desk.new) hub.old hub.new
+            (λ events. ReadsOnce T.taken T.coming T.made hub.old self.old self.new result events) }
+        ensures foreseen { is_open self.new.stage ≡ true → is_held_back self.new.held ≡ true → AreToldOf K.expects hub.old self.old.id (held_in self.new.held) }
+        ensures trust { K.is_trusted desk.new → K.is_trusted desk.old }
+        ensures others { KeepsOthers self.old.id hub.old hub.new }
+        ensures id { self.new.id ≡ self.old.id }
+        ensures idle { result ≡ Received.Nothing → IsAtRest self.new }
+    {
+        if !self.may_receive {
+            return Received::Nothing;
+        }
+        let received = self.receive(room);
+        match received {
+            Received::Octets(count) => {
+                self.held.fill(&room[..count]);
+                self.foresee(hub, desk);
+                self.hand_prepared(hub, desk);
+                received
+            }
+            Received::End => {
+                self.end_input(hub, desk);
+                received
+            }
+            Received::Failed => {
+                self.end(hub, desk);
+                received
+            }
+            Received::Interrupted => received,
+            Received::Nothing => {
+                self.may_receive = false;
+                received
+            }
+        }
+    }
+
+    // Where the hub foresees that the octets of an editor complete an install, they may be held back.
+    fn foresee<K: Preparer>(&mut self, hub: &mut Hub, desk: &mut K)
+        ensures trust { K.is_trusted desk.new → K.is_trusted desk.old }
+        ensures shows { K.is_trusted desk.new → (M : Catalogue) → K.shows desk.old M → K.shows desk.new M }
+        ensures leaves { (ms : List (Option Catalogue)) → K.leaves_one_of desk.old ms → K.leaves_one_of desk.new ms }
+        ensures state { (state : State) → IsAt hub.old state → IsAt hub.new state }
+        ensures kept { KeepsEach hub.old hub.new }
+        ensures same { self.new ≡ record self.old { held = self.new.held } }
+        ensures octets { held_in self.new.held ≡ held_in self.old.held }
+        ensures kind { self.new.held.kind ≡ self.old.held.kind }
+        ensures turns { self.old.held.turns_left ≤ 1_000_000 → self.new.held.turns_left ≤ 1_000_000 }
+        ensures told { self.old.held.turns_left ≡ 0 → 0 < self.new.held.turns_left → AreToldOf K.expects hub.old self.old.id (held_in self.new.held) }
+    {
+        if !self.held.is_of_editor() {
+            return;
+        }
+        if hub.foresee(desk, self.id, self.held.next_piece()) {
+            self.held.hold_back();
+        }
+    }
+
+    // Hands the next piece to the hub, unless it is held back for this turn.
+    fn hand_prepared<K: Preparer>(&mut self, hub: &mut Hub, desk: &mut K)
+        ensures led { HasLedOn (K.is_trusted desk.new) (K.shows desk.old) (K.leaves_one_of desk.old) (K.shows desk.new) (K.leaves_one_of desk.new) hub.old hub.new
+            (λ events. HandsOver T.taken T.coming T.made (held_in self.old.held) self.old self.new events
+            × LeadsByPiece hub.old (held_in self.old.held) self.old.held.turns_left self.old self.new events) }
+        ensures kind { self.new.held.kind ≡ self.old.held.kind }
+        ensures back { is_open self.new.stage ≡ true → is_held_back self.new.held ≡ true → (0 < self.old.held.turns_left) × (held_in self.new.held ≡ held_in self.old.held) }
+        ensures trust { K.is_trusted desk.new → K.is_trusted desk.old }
+        ensures others { KeepsOthers self.old.id hub.old hub.new }
+        ensures id { self.new.id ≡ self.old.id }
+    {
+        if self.prepare(desk) {
+            return;
+        }
+        self.hand(hub, desk);
+    }
+
+    // Has the desk prepare a part of what the octets complete, where they may be held back. Whether they are, for this turn:
+    // a failure ends the preparing, and they go to the hub as they would have gone without.
+    fn prepare<K: Preparer>(&mut self, desk: &mut K) -> bool
+        ensures trust { K.is_trusted desk.new → K.is_trusted desk.old }
+        ensures shows { K.is_trusted desk.new → (M : Catalogue) → K.shows desk.old M → K.shows desk.new M }
+        ensures leaves { (ms : List (Option Catalogue)) → K.leaves_one_of desk.old ms → K.leaves_one_of desk.new ms }
+        ensures same { self.new ≡ record self.old { held = self.new.held } }
+        ensures octets { held_in self.new.held ≡ held_in self.old.held }
+        ensures kind { self.new.held.kind ≡ self.old.held.kind }
+        ensures fewer { result ≡ true → (is_of_editor self.old.held.kind ≡ true) × (self.new.held.turns_left < self.old.held.turns_left) }
+    {
+        if !self.held.begin_turn() {
+            return false;
+        }
+        match desk.prepare() {
+            Ok(more) => more,
+            Err(_) => false,
+        }
+    }
+
+    // Hands the next piece to the hub. Where the hub closes the connection, what waits is still sent; and where it refuses
+    // the octets, nothing is.
+    fn hand<K: Keeper>(&mut self, hub: &mut Hub, desk: &mut K)
+        ensures led { HasLedOn (K.is_trusted desk.new) (K.shows desk.old) (K.leaves_one_of desk.old) (K.shows desk.new) (K.leaves_one_of desk.new) hub.old hub.new
+            (λ events. HandsOver T.taken T.coming T.made (held_in self.old.held) self.old self.new events × LeadsByAnswer hub.old (held_in self.old.held) self.old self.new events) }
+        ensures kind { self.new.held.kind ≡ self.old.held.kind }
+        ensures whole { is_open self.new.stage ≡ true → held_in self.new.held ≡ behind_piece self.old.held.kind (held_in self.old.held) }
+        ensures trust { K.is_trusted desk.new → K.is_trusted desk.old }
+        ensures others { KeepsOthers self.old.id hub.old hub.new }
+        ensures id { self.new.id ≡ self.old.id }
+    {
+        let piece = self.held.next_piece();
+        let count = piece.len();
+        let event = Event::Bytes(self.id, piece);
+        match deliver_through(hub, desk, event, &mut self.queue, &mut self.transport) {
+            Some(out) => {
+                self.held.pass(count);
+                self.stage = answered(out, self.stage);
+            }
+            None => self.end(hub, desk),
+        }
+    }
+
+    // The peer ended its side. What waits is still sent.
+    fn end_input<K: Keeper>(&mut self, hub: &mut Hub, desk: &mut K)
+        ensures led { HasLedOn (K.is_trusted desk.new) (K.shows desk.old) (K.leaves_one_of desk.old) (K.shows desk.new) (K.leaves_one_of desk.new) hub.old hub.new
+            (λ events. Hands [] self.old self.new events × LeadsByEnd (parted (is_clear self.new.queue)) self.old self.new events) }
+        ensures held { self.new.held ≡ self.old.held }
+        ensures trust { K.is_trusted desk.new → K.is_trusted desk.old }
+        ensures others { KeepsOthers self.old.id hub.old hub.new }
+        ensures id { self.new.id ≡ self.old.id }
+    {
+        self.end(hub, desk);
+        self.stage = parted(self.queue.is_empty());
+    }
+
+    // Nothing more comes, and nothing more is sent.
+    fn end<K: Keeper>(&mut self, hub: &mut Hub, desk: &mut K)
+        ensures led { HasLedOn (K.is_trusted desk.new) (K.shows desk.old) (K.leaves_one_of desk.old) (K.shows desk.new) (K.leaves_one_of desk.new) hub.old hub.new
+            (λ events. Hands [] self.old self.new events × IsOnly (ended self.old.id) events) }
+        ensures trust { K.is_trusted desk.new → K.is_trusted desk.old }
+        ensures others { KeepsOthers self.old.id hub.old hub.new }
+        ensures id { self.new.id ≡ self.old.id }
+        ensures over { self.new.stage ≡ Stage.Over }
+        ensures held { self.new.held ≡ self.old.held }
+    {
+        let _ = deliver(hub, desk, Event::Ended(self.id), &mut self.queue);
+        self.stage = Stage::Over;
+    }
+
+    // Once nothing waits: it is over where the peer ended its side, and else the peer is told that nothing more is sent.
+    fn finish(&mut self) -> bool
+        ensures { Finishes T.taken T.coming T.made self.old self.new result }
+    {
+        if !self.queue.is_empty() {
+            return false;
+        }
+        match self.stage {
+            Stage::Closing => {
+                let is_told = self.transport.end_sending().is_ok();
+                self.stage = told(is_told);
+                true
+            }
+            Stage::Parting => {
+                self.stage = Stage::Over;
+                true
+            }
+            Stage::Open | Stage::Draining | Stage::Over => false,
+        }
+    }
+
+    // Once the peer was told that nothing more is sent, reads once and drops what came.
+    fn drop_received(&mut self, room: &mut [u8; PIECE]) -> bool
+        ensures { Drains T.taken T.coming T.made self.old self.new result }
+    {
+        if !self.stage.is_dropped(self.may_receive) {
+            return false;
+        }
+        let received = self.receive(room);
+        self.stage = drained(MAX_DROPPED.saturating_sub(self.dropped), received);
+        self.dropped = self.dropped.saturating_add(received.count());
+        self.may_receive = received != Received::Nothing;
+        self.may_receive
+    }
+}

@@ -1,7 +1,0 @@
-use Rattle.std.proofs.Common.{refl}
-use Rattle.dict_driver.proofs.LeadLemmas.{led_as}
-use Rattle.dict_driver.proofs.TurnLemmas.{hands_ended}
-use Rattle.dict_driver.proofs.connection.Connection.end.Goals as goal
-
-pub returns-clause-led : goal.returns-clause-led
-returns-clause-led g c = led_as c.deliver.ensures.led (λ events told. hands_ended c.args.self.now _ c.deliver.result events refl refl refl refl refl told)

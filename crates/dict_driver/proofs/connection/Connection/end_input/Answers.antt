@@ -1,8 +1,0 @@
-use Rattle.std.proofs.Common.{◌∙◌, ap, refl}
-use Rattle.dict_driver.specs.Stages.{parted}
-use Rattle.dict_driver.proofs.LeadLemmas.{led_as}
-use Rattle.dict_driver.proofs.TurnLemmas.{hands_parted}
-use Rattle.dict_driver.proofs.connection.Connection.end_input.Goals as goal
-
-pub returns-clause-led : goal.returns-clause-led
-returns-clause-led g c = led_as c.end.ensures.led (λ events ended. hands_parted c.args.self.now c.end.new.self _ events refl refl refl refl refl (c.parted-self.ensures ∙ ap parted c.is_empty.ensures) ended)

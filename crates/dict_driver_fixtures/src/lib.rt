@@ -1,0 +1,9 @@
+//! What the runs of connections and of the driver share: a desk that prepares, and catalogues in memory with a long text. No part
+//! of the product.
+#![tactic(auto)]
+
+mod files;
+mod parts;
+
+pub use files::{long_desk, short_desk};
+pub use parts::{HEAD, PartsDesk};

@@ -1,0 +1,136 @@
+// A desk that prepares.
+ghost use Rattle.std.specs.Prelude.{◌≡◌, ℕ};
+
+use dict_catalogue::{Command, Kept, Summary};
+use dict_desk::{End, Fault, Keeper, Lookup, PlainDesk, RowSink, What};
+use dict_match::{Key, Strategy};
+use dict_preparing::Preparer;
+
+/// A request for an install, without the last 65,536 octets of its text.
+pub const HEAD: &[u8] =
+    b"PUT /databases/gem HTTP/1.1\r\nRequest-Id: r1\r\nContent-Length: 65637\r\n\r\n53\n00-database-short\tA\tZ\nopal\tZ\tP\nFire Opal\tZ\tP\ndot\to\tF\n00-database-short\n  Gems\nopal\n  a stone\n.dot\n";
+
+/// A desk in memory that prepares each command by so many parts, in which nothing is done. Contracts say nothing of what it shows;
+/// it is there to be run.
+#[derive(Drop)]
+pub struct PartsDesk {
+    desk: PlainDesk,
+    // By how many parts a command is prepared.
+    each: u32,
+    /// How many parts are left of the command that was noted last.
+    pub left: u32,
+    /// How many commands were noted.
+    pub expected: u32,
+    /// How many commands were applied.
+    pub applied: u32,
+}
+
+impl PartsDesk {
+    /// This desk, which prepares each command by so many parts.
+    pub fn new(desk: PlainDesk, each: u32) -> Self {
+        PartsDesk {
+            desk,
+            each,
+            left: 0,
+            expected: 0,
+            applied: 0,
+        }
+    }
+}
+
+impl Lookup for PartsDesk {
+    ghost use Rattle.std.specs.Prelude.{◌≡◌, false};
+    ghost use Rattle.std.proofs.Common.{refl};
+
+    ghost shows = { λ _ _. ⊥ };
+
+    ghost leaves_one_of = { λ _ _. ⊥ };
+
+    ghost is_trusted = { λ _. Unit {0} };
+
+    ghost is_closed = { λ _. false };
+
+    ghost has_failed = { λ s. s.desk.has_failed };
+
+    ghost gives_way = { λ _ _ _. Unit {0} };
+
+    fn summary(&self) -> Result<&Summary, Fault> {
+        self.desk.summary()
+    }
+
+    fn info<T: RowSink>(&mut self, number: u64, sink: &mut T) -> Result<End, Fault> {
+        self.desk.info(number, sink)
+    }
+
+    fn count(
+        &mut self,
+        number: u64,
+        strategy: Strategy,
+        query: &Key,
+        what: What,
+    ) -> Result<u64, Fault> {
+        self.desk.count(number, strategy, query, what)
+    }
+
+    fn find<T: RowSink>(
+        &mut self,
+        number: u64,
+        strategy: Strategy,
+        query: &Key,
+        sink: &mut T,
+    ) -> Result<End, Fault> {
+        self.desk.find(number, strategy, query, sink)
+    }
+
+    fn heads<T: RowSink>(
+        &mut self,
+        number: u64,
+        strategy: Strategy,
+        query: &Key,
+        sink: &mut T,
+    ) -> Result<End, Fault> {
+        self.desk.heads(number, strategy, query, sink)
+    }
+
+    ghost well_formed = { λ s M h. absurd h };
+
+    ghost wider = { λ s ms ns h left. absurd left };
+
+    ghost still_open = { λ s h. refl };
+}
+
+impl Keeper for PartsDesk {
+    ghost fails_to_apply = { λ _ _ _ _. Unit {0} };
+
+    fn kept(&mut self, id: &str) -> Result<Option<Kept>, Fault> {
+        self.desk.kept(id)
+    }
+
+    fn apply(&mut self, id: &str, command: &Command) -> Result<Kept, Fault> {
+        self.applied = self.applied.saturating_add(1);
+        self.desk.apply(id, command)
+    }
+}
+
+impl Preparer for PartsDesk {
+    ghost fails_to_prepare = { λ _ _ _. Unit {0} };
+
+    fn expect(&mut self, _command: &Command) -> Result<(), Fault> {
+        self.expected = self.expected.saturating_add(1);
+        self.left = self.each;
+        Ok(())
+    }
+
+    fn prepare(&mut self) -> Result<bool, Fault> {
+        if self.left == 0 {
+            return Ok(false);
+        }
+        self.left -= 1;
+        Ok(true)
+    }
+
+    fn forget(&mut self) -> Result<(), Fault> {
+        self.left = 0;
+        Ok(())
+    }
+}
