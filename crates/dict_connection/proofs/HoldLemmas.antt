@@ -50,6 +50,11 @@ pub led_behind : {T U : Type 0} {S0 S1 S2 : Catalogue → Type 0} {L0 L1 L2 : Li
     → HasLedOn T S0 L0 S1 L1 a b (λ events. events ≡ []) → HasLedOn U S1 L1 S2 L2 b c P → (U → T) → ((events : List Accepted) → P events → Q events) → HasLedOn U S0 L0 S2 L2 a c Q
 led_behind {Q = Q} first next trust so = led_joined first next trust (λ es fs none holds. subst Q (sym (ap (λ (front : List Accepted). front ++ fs) none)) (so fs holds))
 
+-- and what comes before it
+pub led_before : {T U : Type 0} {S0 S1 S2 : Catalogue → Type 0} {L0 L1 L2 : List (Option Catalogue) → Type 0} {a b c : Hub} {P : List Accepted → Type 0}
+    → HasLedOn T S0 L0 S1 L1 a b P → HasLedOn U S1 L1 S2 L2 b c (λ events. events ≡ []) → (U → T) → HasLedOn U S0 L0 S2 L2 a c P
+led_before {P = P} first next trust = led_joined first next trust (λ es fs holds none. subst P (sym (ap (λ (back : List Accepted). es ++ back) none ∙ append-nil es)) holds)
+
 -- the hub was told nothing, and all is held still
 pub hands_none : {T : Type 0} (taken coming : T → Option (List ℕ)) (made : T → Option (List Call)) (a b : Connection T) (octets : List ℕ) → b ≡ record a { held = b.held } → b.held.kind ≡ a.held.kind → held_in b.held ≡ octets
     → HandsOver taken coming made octets a b []

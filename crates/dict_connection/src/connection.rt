@@ -272,7 +272,8 @@ impl<T: Transport> Connection<T> {
         }
     }
 
-    // Hands the next piece to the hub, unless it is held back for this turn.
+    // Hands the next piece to the hub, unless it is held back for this turn. Once it is handed, the desk lets go of what it prepared
+    // for it.
     fn hand_prepared<K: Preparer>(&mut self, hub: &mut Hub, desk: &mut K)
         ensures led { HasLedOn (K.is_trusted desk.new) (K.shows desk.old) (K.leaves_one_of desk.old) (K.shows desk.new) (K.leaves_one_of desk.new) hub.old hub.new
             (λ events. HandsOver T.taken T.coming T.made (held_in self.old.held) self.old self.new events
@@ -287,6 +288,7 @@ impl<T: Transport> Connection<T> {
             return;
         }
         self.hand(hub, desk);
+        self.let_go(desk);
     }
 
     // Has the desk prepare a part of what the octets complete, where they may be held back. Whether they are, for this turn:
@@ -306,6 +308,18 @@ impl<T: Transport> Connection<T> {
         match desk.prepare() {
             Ok(more) => more,
             Err(_) => false,
+        }
+    }
+
+    // Has the desk let go of what it prepared of these octets, where it was told of them: they may have been answered without it. A
+    // failure is told by what is asked of the desk next.
+    fn let_go<K: Preparer>(&self, desk: &mut K)
+        ensures trust { K.is_trusted desk.new → K.is_trusted desk.old }
+        ensures shows { K.is_trusted desk.new → (M : Catalogue) → K.shows desk.old M → K.shows desk.new M }
+        ensures leaves { (ms : List (Option Catalogue)) → K.leaves_one_of desk.old ms → K.leaves_one_of desk.new ms }
+    {
+        if self.held.is_foreseen() {
+            let _ = desk.forget();
         }
     }
 

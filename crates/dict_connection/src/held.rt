@@ -21,6 +21,8 @@ pub struct Held {
     handed: usize,
     // For how many turns more they may be held back.
     turns_left: u32,
+    // Whether the desk was told of what they complete.
+    is_foreseen: bool,
     ghost in_front: { handed ≤ vec_len octets },
     ghost room: { 4096 ≤ vec_capacity octets },
 }
@@ -43,6 +45,7 @@ impl Held {
             octets,
             handed: 0,
             turns_left: 0,
+            is_foreseen: false,
         }
     }
 
@@ -79,10 +82,12 @@ impl Held {
         ensures octets { held_in self.new ≡ octets.now }
         ensures kind { self.new.kind ≡ self.old.kind }
         ensures turns { self.new.turns_left ≡ 0 }
+        ensures foreseen { self.new.is_foreseen ≡ false }
     {
         self.octets.clear();
         self.handed = 0;
         self.turns_left = 0;
+        self.is_foreseen = false;
         let _ = self.octets.extend_from_slice(octets);
     }
 
@@ -107,13 +112,22 @@ impl Held {
         self.handed += count;
     }
 
-    /// They may be held back for 1,000,000 turns from now on.
+    /// The desk was told of what they complete: they may be held back for 1,000,000 turns from now on.
     pub fn hold_back(&mut self)
         ensures octets { held_in self.new ≡ held_in self.old }
         ensures kind { self.new.kind ≡ self.old.kind }
         ensures turns { self.new.turns_left ≡ 1_000_000 }
+        ensures foreseen { self.new.is_foreseen ≡ true }
     {
         self.turns_left = MAX_TURNS;
+        self.is_foreseen = true;
+    }
+
+    /// Whether the desk was told of what they complete.
+    pub fn is_foreseen(&self) -> bool
+        ensures { result ≡ self.now.is_foreseen }
+    {
+        self.is_foreseen
     }
 
     /// Begins a turn in which an editor's octets may be held back. Whether one was left.

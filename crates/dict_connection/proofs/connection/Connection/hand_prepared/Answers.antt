@@ -1,7 +1,7 @@
 use Rattle.std.proofs.Common.{refl, ap, ◌∙◌, arith}
 use Rattle.dict_connection.proofs.BackLemmas.{back_never, rest_back}
 use Rattle.dict_connection.specs.Handing.{held_in}
-use Rattle.dict_connection.proofs.HoldLemmas.{back_once, handed_from, hands_none, led_behind, led_quiet}
+use Rattle.dict_connection.proofs.HoldLemmas.{back_once, handed_from, hands_none, led_before, led_behind, led_quiet}
 use Rattle.dict_connection.proofs.connection.Connection.hand_prepared.Goals as goal
 
 pub returns-then-prepare-clause-led : goal.returns-then-prepare-clause-led
@@ -17,8 +17,11 @@ pub returns-clause-led : goal.returns-clause-led
 returns-clause-led g c =
     let old = c.args.self.now in
     let kept = c.prepare.ensures in
-    led_behind (led_quiet kept.shows kept.leaves (λ state at. at) refl) c.hand.ensures.led c.hand.ensures.trust
-    (λ events handed. handed_from g.T.Transport.taken g.T.Transport.coming g.T.Transport.made c.args.hub.now old c.prepare.new.self c.hand.new.self events kept.same kept.kind kept.octets handed)
+    let gone = c.let_go.ensures in
+    led_before
+    (led_behind (led_quiet kept.shows kept.leaves (λ state at. at) refl) c.hand.ensures.led c.hand.ensures.trust
+    (λ events handed. handed_from g.T.Transport.taken g.T.Transport.coming g.T.Transport.made c.args.hub.now old c.prepare.new.self c.hand.new.self events kept.same kept.kind kept.octets handed))
+    (led_quiet gone.shows gone.leaves (λ state at. at) refl) gone.trust
 
 pub returns-clause-others : goal.returns-clause-others
 returns-clause-others g c = λ other held apart has. c.hand.ensures.others other held (λ same. apart (same ∙ ap (λ it. it.id) c.prepare.ensures.same)) has
