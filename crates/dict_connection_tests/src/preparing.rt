@@ -57,6 +57,24 @@ fn count_turns(alloc: Global, each: u32, most: u32) -> Result<(u32, After), Fail
     Err(Fail::new("it is held back still"))
 }
 
+// How often such a desk let go of what it had prepared, once the editor was answered.
+fn count_forgotten(alloc: Global) -> Result<u32, Fail> {
+    let mut desk = PartsDesk::new(PlainDesk::new(alloc), 3);
+    let mut hub = Hub::new(alloc, "localhost")?;
+    let mut one = open(alloc, &mut hub, &mut desk, Kind::Http)?;
+    for _ in 0..30u32 {
+        turn(&mut one, &mut hub, &mut desk, false);
+    }
+    Ok(desk.forgotten)
+}
+
+// Once, behind the one piece that was held back.
+#[test]
+fn let_go_of(rt: HostRuntime) -> Result<(), Fail> {
+    same(&rt, &count_forgotten(rt.alloc())?, &1);
+    Ok(())
+}
+
 // By three parts in three turns; and at most 1,000,000 turns. Nothing is read meanwhile.
 #[test]
 fn turns_in_which_it_is_held_back(rt: HostRuntime) -> Result<(), Fail> {

@@ -23,6 +23,8 @@ pub struct PartsDesk {
     pub expected: u32,
     /// How many commands were applied.
     pub applied: u32,
+    /// How often it let go of what it had prepared.
+    pub forgotten: u32,
 }
 
 impl PartsDesk {
@@ -34,6 +36,7 @@ impl PartsDesk {
             left: 0,
             expected: 0,
             applied: 0,
+            forgotten: 0,
         }
     }
 }
@@ -130,6 +133,7 @@ impl Preparer for PartsDesk {
     }
 
     fn forget(&mut self) -> Result<(), Fault> {
+        self.forgotten = self.forgotten.saturating_add(1);
         self.left = 0;
         Ok(())
     }
