@@ -29,7 +29,7 @@ pub struct Held {
 
 impl Held {
     ghost use Rattle.std.specs.Prelude.{[], drop, length};
-    ghost use Rattle.std.specs.Prelude.{◌<◌, true};
+    ghost use Rattle.std.specs.Prelude.{◌<◌, true, false};
     ghost use Rattle.dict_connection.specs.Handing.{held_in, is_handed, is_held_back};
     ghost use Rattle.dict_hub.specs.Events.{is_of_editor};
 
