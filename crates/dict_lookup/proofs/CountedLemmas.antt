@@ -6,13 +6,14 @@ use Rattle.std.proofs.lemmas.List.{length-map, map-append, get_or-map}
 use Rattle.std.proofs.lemmas.List.Elements.{Contains-get_or}
 use Rattle.std.proofs.lemmas.List.Sums.{sum_by_push}
 use Rattle.sqlite.specs.Effect.{Database}
-use Rattle.sqlite.specs.State.{State}
-use Rattle.dict_index.specs.Edition.{ReadEdition, edition_of}
+use Rattle.dict_index.specs.Edition.{Edition, ReadEdition, edition_of}
 use Rattle.dict_match.specs.declared.strategy.Strategy.{Strategy}
-use Rattle.dict_desk.specs.Shown.{Row}
+use Rattle.dict_desk.specs.Found.{found, headwords}
+use Rattle.dict_desk.specs.Shown.{Row, row, row_of, count_of}
 use Rattle.dict_desk.specs.declared.lookup.What.{What}
+use Rattle.dict_desk.specs.declared.lookup.What.TheVariants.{Entries, Headwords}
 use Rattle.dict_lookup.specs.Searches.{HoldsOne}
-use Rattle.dict_lookup.specs.Counts.{Answer, answer_of, row_kept, rows_asked, size_of, size_of_all, IsAnswer, AreAnswersOf, IsAwake, MayForget, MayPut, rows_in, HasCollected, HasRows}
+use Rattle.dict_lookup.specs.Counts.{Answer, answer_of, row_kept, rows_asked, size_of, size_of_all, IsAnswer, AreAnswersOf, MayForget, MayPut, rows_in, HasCollected, HasRows}
 use Rattle.dict_lookup.specs.declared.collector.Collector.{Collector}
 use Rattle.dict_lookup.specs.declared.collector.KeptRow.{KeptRow}
 use Rattle.dict_lookup.specs.declared.counted.Listed.{Listed}
@@ -102,12 +103,10 @@ module _ (db : Database) (kept : List Answer) (number : ℕ) (strategy : Strateg
 pub kept_size : (rows : List KeptRow) (all : List Row) → map row_kept rows ≡ all → length rows ≡ length all
 kept_size rows all e = sym (length-map rows row_kept) ∙ ap (λ (l : List Row). length l) e
 
--- where something is kept, the store is open
-pub awake_open : (kept : List Answer) (answer : Answer) (s : State) → Contains kept answer → IsAwake kept s → IsTrue s.is_open
-awake_open kept answer s there awake = elim awake as (λ _. IsTrue s.is_open) [
-  | inl none ↦ (let size : length kept ≡ 0 = ap (λ (l : List Answer). length l) none in let low = there.1 in absurd (omega (arith, size, low)))
-  | inr live ↦ live
-]
+-- as many rows answer what is asked as are counted
+pub asked_count : (what : What) (strategy : Strategy) (query : List ℕ) (edition : Edition) → length (rows_asked what strategy query edition) ≡ count_of what strategy query edition
+asked_count Entries strategy query edition = length-map (found strategy query edition) row_of
+asked_count Headwords strategy query edition = length-map (headwords (found strategy query edition)) (λ shown. row shown [])
 
 -- ---- what was collected
 

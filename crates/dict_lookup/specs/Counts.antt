@@ -2,7 +2,6 @@
 use Rattle.std.specs.Prelude.{◌≡◌, ◌⊎◌, ℕ, ◌+◌, Bool, IsTrue, List, [], ◌∷◌, ◌++◌, map, length, string_bytes}
 use Rattle.std.specs.List.{AllByRecursion, sum_by}
 use Rattle.sqlite.specs.Effect.{Database}
-use Rattle.sqlite.specs.State.{State}
 use Rattle.dict_match.specs.declared.strategy.Strategy.{Strategy}
 use Rattle.dict_index.specs.Edition.{Edition, ReadEdition, edition_of}
 use Rattle.dict_desk.specs.Shown.{Row, row, found_rows, headword_rows}
@@ -38,10 +37,6 @@ IsAnswer db answer = (reading : ReadEdition) → HoldsOne db answer.number readi
 
 abbrev pub AreAnswersOf : Database → List Answer → Type 0
 AreAnswersOf db kept = AllByRecursion (IsAnswer db) kept
-
--- nothing is kept, or the store is open
-abbrev pub IsAwake : List Answer → State → Type 0
-IsAwake kept s = (kept ≡ []) ⊎ IsTrue s.is_open
 
 -- how many octets rows count, each 64 more than its own, and all that is kept; and how many there may be
 abbrev pub size_of : List Row → ℕ

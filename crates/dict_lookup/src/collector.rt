@@ -7,10 +7,12 @@ use crate::counted::EACH;
 use dict_desk::{Demand, Row, RowSink};
 use std::alloc::{AllocError, Global};
 
-// A row that is kept.
+/// A row that is kept: what is shown of an entry, and its text.
 #[derive(Drop)]
-pub(crate) struct KeptRow {
+pub struct KeptRow {
+    /// What is shown.
     pub shown: String,
+    /// The text, which is empty where headwords were asked.
     pub text: Vec<u8>,
 }
 

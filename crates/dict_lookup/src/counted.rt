@@ -1,6 +1,10 @@
 // The rows that counts have found, kept for the lookups behind them.
-ghost use Rattle.std.specs.Prelude.{◌≡◌, ◌≤◌, ◌+◌, ◌⊎◌, ◌++◌, ◌∷◌, [], IsTrue, IfSome, Contains, map, length, string_bytes};
-ghost use Rattle.dict_lookup.specs.Counts.{answer_of, row_kept, rows_in, size_of, size_of_all, most_counted, MayForget, MayPut};
+ghost use Rattle.std.specs.Prelude.{◌≡◌, ◌≢◌, ◌≤◌, ◌+◌, ◌⊎◌, ◌++◌, ◌∷◌, [], IsTrue, IfSome, Contains, map, length, string_bytes};
+ghost use Rattle.sqlite.specs.Effect.{Database};
+ghost use Rattle.dict_index.specs.Edition.{ReadEdition, edition_of};
+ghost use Rattle.dict_desk.specs.Shown.{count_of};
+ghost use Rattle.dict_lookup.specs.Searches.{HoldsOne};
+ghost use Rattle.dict_lookup.specs.Counts.{AreAnswersOf, answer_of, row_kept, rows_asked, rows_in, size_of, size_of_all, most_counted, MayForget, MayPut};
 
 use crate::collector::{Collector, KeptRow};
 use dict_desk::What;
@@ -146,15 +150,19 @@ impl Counted {
         self.room = MAX_COUNTED;
     }
 
-    // What is kept of this question, if it is kept.
-    pub(crate) fn rows(
+    /// The rows that answer this question, of the edition of this number, if they are kept: those that `find` hands out of entries, or
+    /// `heads` of headwords, and as many as `count` counts.
+    pub fn rows(
         &self,
         number: u64,
         strategy: Strategy,
         query: &Key,
         what: What,
     ) -> Option<&[KeptRow]>
-        ensures { IfSome result (λ rows. Contains self.now (record { number = number; strategy = strategy; query = query.now; what = what; rows = map row_kept rows.now })) }
+        ensures kept { IfSome result (λ rows. Contains self.now (record { number = number; strategy = strategy; query = query.now; what = what; rows = map row_kept rows.now })) }
+        ensures answers { IfSome result (λ rows. (db : Database) → AreAnswersOf db self.now → (reading : ReadEdition) → HoldsOne db number reading → map row_kept rows.now ≡ rows_asked what strategy query.now (edition_of reading)) }
+        ensures counts { IfSome result (λ rows. (db : Database) → AreAnswersOf db self.now → (reading : ReadEdition) → HoldsOne db number reading → length rows.now ≡ count_of what strategy query.now (edition_of reading)) }
+        ensures some { IfSome result (λ rows. self.now ≢ []) }
     {
         rows_among(self.lists.as_slice(), number, strategy, query, what)
     }

@@ -5,14 +5,14 @@ ghost use Rattle.sqlite.specs.Held.{state};
 ghost use Rattle.dict_sql.specs.Effects.{WhileOpen};
 ghost use Rattle.dict_index.specs.Edition.{ReadEdition, edition_of};
 ghost use Rattle.dict_desk.specs.Shown.{count_of, found_rows, headword_rows};
-ghost use Rattle.dict_lookup.specs.Counts.{AreAnswersOf, HasRows, IsAwake, size_of_all, most_counted};
+ghost use Rattle.dict_lookup.specs.Counts.{AreAnswersOf, HasRows, size_of_all, most_counted};
 ghost use Rattle.dict_lookup.specs.Searches.{HasLookupTables, HoldsOne, FailsToLookUp, IsOfStore, column_of};
 ghost use Rattle.dict_lookup.specs.Texts.{AreTextsOf};
 
 use crate::collector::Collector;
 use crate::counted::Counted;
 use crate::counter::Counter;
-use crate::lookups::{find_in, heads_in};
+use crate::lookups::{find_in, heads};
 use dict_desk::{End, Fault, What};
 use dict_match::{Key, Strategy};
 use dict_texts::Texts;
@@ -108,7 +108,7 @@ fn collect_heads<S: Alter>(
     ensures survives { Survives (state S.Store conn.old) (state S.Store conn.new) (λ _. ⊥) }
 {
     let mut collector = Collector::new(alloc, room);
-    let end = heads_in(
+    let end = heads(
         alloc,
         conn,
         number,
@@ -123,8 +123,7 @@ fn collect_heads<S: Alter>(
     }
 }
 
-// How many entries of the edition the query finds: of those that are kept, or else of those that are read. These are kept from then
-// on where the edition's text is.
+// How many entries of the edition the query finds. They are kept from then on where the edition's text is.
 pub(crate) fn count_entries<S: Alter>(
     alloc: Global,
     conn: &mut Connection<S>,
@@ -136,18 +135,15 @@ pub(crate) fn count_entries<S: Alter>(
     rows_taken: &mut u64,
 ) -> Result<u64, Fault>
     requires { WhileOpen (state S.Store conn.old) HasLookupTables }
-    ensures value { HasCleanDisk (state S.Store conn.new) → AreTextsOf (state S.Store conn.old).now texts.now → AreAnswersOf (state S.Store conn.old).now counted.old → (reading : ReadEdition) → HoldsOne (state S.Store conn.old).now number reading → IfOk result (λ count. count ≡ count_of What.Entries strategy query.now (edition_of reading)) }
+    ensures value { HasCleanDisk (state S.Store conn.new) → (reading : ReadEdition) → HoldsOne (state S.Store conn.old).now number reading → IfOk result (λ count. count ≡ count_of What.Entries strategy query.now (edition_of reading)) }
     ensures counted { HasCleanDisk (state S.Store conn.new) → AreTextsOf (state S.Store conn.old).now texts.now → AreAnswersOf (state S.Store conn.old).now counted.old → AreAnswersOf (state S.Store conn.old).now counted.new }
     ensures few { size_of_all counted.old ≤ most_counted → size_of_all counted.new ≤ most_counted }
-    ensures same { HasCleanDisk (state S.Store conn.new) → IsAwake counted.old (state S.Store conn.old) → OnOk result (IsUnchanged (state S.Store conn.old) (state S.Store conn.new)) }
+    ensures same { HasCleanDisk (state S.Store conn.new) → OnOk result (IsUnchanged (state S.Store conn.old) (state S.Store conn.new)) }
     ensures failed { HasCleanDisk (state S.Store conn.new) → IfErr result (FailsToLookUp (column_of number) (state S.Store conn.old) (state S.Store conn.new)) }
     ensures kinds { IfErr result IsOfStore }
     ensures mode { conn.old.in_transaction ≡ false → conn.new.in_transaction ≡ false }
     ensures survives { Survives (state S.Store conn.old) (state S.Store conn.new) (λ _. ⊥) }
 {
-    if let Some(rows) = counted.rows(number, strategy, query, What::Entries) {
-        return Ok(rows.len() as u64);
-    }
     let Some(text) = texts.peek(number) else {
         return count_alone(alloc, conn, number, strategy, query, rows_taken);
     };
@@ -167,8 +163,7 @@ pub(crate) fn count_entries<S: Alter>(
     Ok(count)
 }
 
-// How many headwords are shown of the entries of the edition that the query finds: of those that are kept, or else of those that are
-// read, and kept from then on.
+// How many headwords are shown of the entries of the edition that the query finds. They are kept from then on.
 pub(crate) fn count_heads<S: Alter>(
     alloc: Global,
     conn: &mut Connection<S>,
@@ -179,18 +174,15 @@ pub(crate) fn count_heads<S: Alter>(
     rows_taken: &mut u64,
 ) -> Result<u64, Fault>
     requires { WhileOpen (state S.Store conn.old) HasLookupTables }
-    ensures value { HasCleanDisk (state S.Store conn.new) → AreAnswersOf (state S.Store conn.old).now counted.old → (reading : ReadEdition) → HoldsOne (state S.Store conn.old).now number reading → IfOk result (λ count. count ≡ count_of What.Headwords strategy query.now (edition_of reading)) }
+    ensures value { HasCleanDisk (state S.Store conn.new) → (reading : ReadEdition) → HoldsOne (state S.Store conn.old).now number reading → IfOk result (λ count. count ≡ count_of What.Headwords strategy query.now (edition_of reading)) }
     ensures counted { HasCleanDisk (state S.Store conn.new) → AreAnswersOf (state S.Store conn.old).now counted.old → AreAnswersOf (state S.Store conn.old).now counted.new }
     ensures few { size_of_all counted.old ≤ most_counted → size_of_all counted.new ≤ most_counted }
-    ensures same { HasCleanDisk (state S.Store conn.new) → IsAwake counted.old (state S.Store conn.old) → OnOk result (IsUnchanged (state S.Store conn.old) (state S.Store conn.new)) }
+    ensures same { HasCleanDisk (state S.Store conn.new) → OnOk result (IsUnchanged (state S.Store conn.old) (state S.Store conn.new)) }
     ensures failed { HasCleanDisk (state S.Store conn.new) → IfErr result (FailsToLookUp (column_of number) (state S.Store conn.old) (state S.Store conn.new)) }
     ensures kinds { IfErr result IsOfStore }
     ensures mode { conn.old.in_transaction ≡ false → conn.new.in_transaction ≡ false }
     ensures survives { Survives (state S.Store conn.old) (state S.Store conn.new) (λ _. ⊥) }
 {
-    if let Some(rows) = counted.rows(number, strategy, query, What::Headwords) {
-        return Ok(rows.len() as u64);
-    }
     counted.forget_others(strategy, query);
     let found = collect_heads(
         alloc,

@@ -17,6 +17,8 @@ mod record;
 #[cfg(test)]
 mod tests;
 
+pub use collector::KeptRow;
 pub use counted::{Counted, MAX_COUNTED};
 pub use laws::held_laws;
+pub use listed::hand_kept;
 pub use lookups::{count, find, heads, info};

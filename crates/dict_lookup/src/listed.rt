@@ -94,8 +94,8 @@ pub(crate) fn hand_headwords<S: Alter, T: RowSink>(
     Err(Fault::Disk)
 }
 
-// Hands out rows that are kept.
-pub(crate) fn hand_kept<T: RowSink>(rows: &[KeptRow], sink: &mut T) -> End
+/// Hands rows that are kept to the sink, in their order, until it stops.
+pub fn hand_kept<T: RowSink>(rows: &[KeptRow], sink: &mut T) -> End
     ensures all { result ≡ End.All → T.takes sink.old (map row_kept rows.now) sink.new }
     ensures stopped { result ≡ End.Stopped → T.stops sink.old (map row_kept rows.now) sink.new }
 {

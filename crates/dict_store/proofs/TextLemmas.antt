@@ -1,5 +1,5 @@
 -- The texts that are kept over a command stay those of their editions.
-use Rattle.std.proofs.Common.{◌≡◌, inl, ℕ, ◌≤◌, Bool, true, false, List, [], ◌∷◌, drop, refl, sym, ap, subst, ◌∙◌, arith, codes}
+use Rattle.std.proofs.Common.{◌≡◌, ◌≢◌, inl, inr, ℕ, ◌≤◌, Bool, true, false, List, [], ◌∷◌, drop, refl, sym, ap, subst, ◌∙◌, arith, codes}
 use Rattle.std.specs.Prelude.{pos, IsTrue, Contains, Result, Ok, Err, OnOk, IfErr}
 use Rattle.std.specs.List.{AllByRecursion}
 use Rattle.sqlite.specs.Effect.{Database}
@@ -19,6 +19,7 @@ use Rattle.dict_rows.proofs.OrderLemmas.{one_once, same_from}
 use Rattle.dict_sql.specs.Encodings.{edition_row}
 use Rattle.dict_holdings.specs.Holds.{Holds}
 use Rattle.dict_lookup.specs.Searches.{HoldsOne, rows_under, octets_in}
+use Rattle.dict_lookup.specs.Counts.{Answer}
 use Rattle.dict_lookup.specs.Texts.{IsTextOf, AreTextsOf, AreMade}
 use Rattle.dict_lookup.proofs.FailLemmas.{all_contains}
 use Rattle.dict_lookup.proofs.HeldLemmas.{held_one, held_under}
@@ -27,9 +28,13 @@ use Rattle.dict_commands.specs.Answers.{summary_after}
 use Rattle.dict_commands.specs.declared.applied.Applied.{Applied}
 use Rattle.dict_commands.specs.declared.applied.Applied.TheVariants.{Repeated, Done}
 use Rattle.dict_store.specs.Desk.{HasCommitted, is_closed, last_by}
-use Rattle.dict_store.specs.Kept.{KeepsCache, no_cache, without_counts, cache_after}
+use Rattle.dict_store.specs.Kept.{IsAwake, KeepsCache, no_cache, without_counts, cache_after}
 use Rattle.dict_store.specs.declared.kept.Cache.{Cache}
 use Rattle.dict_store.specs.declared.last.LastCall.{LastCall}
+
+-- where something is kept of what was counted, the store is open
+pub awake_open : (kept : List Answer) (s : State) → kept ≢ [] → IsAwake kept s → IsTrue s.is_open
+awake_open kept s some awake = elim awake as (λ _. IsTrue s.is_open) [ inl none ↦ absurd (some none) | inr live ↦ live ]
 
 -- the one record that stands under a number
 one_record : (db : Database) (number : ℕ) (reading : ReadEdition) (one : HoldsOne db number reading) → edition_records number db ≡ edition_row (edition_record one.owner number reading) ∷ []

@@ -1,15 +1,19 @@
 -- What a desk keeps in memory for lookups.
-use Rattle.std.specs.Prelude.{◌≡◌, ℕ, false, IsTrue, List, []}
-use Rattle.sqlite.specs.State.{HasCleanDisk}
+use Rattle.std.specs.Prelude.{◌≡◌, ◌⊎◌, ℕ, false, IsTrue, List, []}
+use Rattle.sqlite.specs.State.{State, HasCleanDisk}
 use Rattle.sqlite.specs.Held.{Held, state}
 use Rattle.sqlite_trees.specs.declared.store.Store.{Ghosts}
 use Rattle.dict_catalogue.specs.Tests.{Holdings}
 use Rattle.dict_lookup.specs.Texts.{AreTextsOf, AreMade}
-use Rattle.dict_lookup.specs.Counts.{AreAnswersOf, IsAwake}
+use Rattle.dict_lookup.specs.Counts.{Answer, AreAnswersOf}
 use Rattle.dict_store.specs.Desk.{is_closed}
 use Rattle.dict_store.specs.declared.kept.Cache.{Cache}
 use Rattle.dict_store.specs.declared.last.LastCall.{LastCall}
 use Rattle.dict_store.specs.declared.last.LastCall.TheVariants.{Fine, Failed, Closed}
+
+-- nothing is kept, or the store is open
+abbrev pub IsAwake : List Answer → State → Type 0
+IsAwake kept s = (kept ≡ []) ⊎ IsTrue s.is_open
 
 abbrev pub no_cache : Cache
 no_cache = record { texts = []; counted = [] }

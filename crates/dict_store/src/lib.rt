@@ -2,6 +2,7 @@
 #![tactic(auto)]
 
 mod adopting;
+mod answering;
 mod closing;
 mod desk;
 mod keeper;

@@ -1,4 +1,5 @@
 // What readers ask of a desk.
+use crate::answering::{count_or_kept, find_or_kept, heads_or_kept};
 use crate::desk::Desk;
 use crate::kept::forget_by;
 use crate::last::{LastCall, last_by};
@@ -56,7 +57,7 @@ impl<S: Alter + Drop> Lookup for Desk<S> {
         what: What,
     ) -> Result<u64, Fault> {
         self.make_ready(number)?;
-        let outcome = dict_lookup::count(
+        let outcome = count_or_kept(
             self.alloc,
             &mut self.conn,
             &self.cache.texts,
@@ -80,7 +81,7 @@ impl<S: Alter + Drop> Lookup for Desk<S> {
         sink: &mut T,
     ) -> Result<End, Fault> {
         self.make_ready(number)?;
-        let outcome = dict_lookup::find(
+        let outcome = find_or_kept(
             self.alloc,
             &mut self.conn,
             &mut self.cache.texts,
@@ -105,7 +106,7 @@ impl<S: Alter + Drop> Lookup for Desk<S> {
         sink: &mut T,
     ) -> Result<End, Fault> {
         self.make_ready(number)?;
-        let outcome = dict_lookup::heads(
+        let outcome = heads_or_kept(
             self.alloc,
             &mut self.conn,
             &self.cache.counted,

@@ -7,7 +7,7 @@ use Rattle.dict_lookup.proofs.counting.collect_heads.Goals as goal
 
 pub returns-in-All-clause-value : goal.returns-in-All-clause-value
 returns-in-All-clause-value g c clean reading one =
-    collected_rows c.new-collector.result c.heads_in.new.sink (headword_rows c.args.strategy c.args.query.now (edition_of reading)) c.new-collector.ensures.count c.new-collector.ensures.rows
+    collected_rows c.new-collector.result c.heads.new.sink (headword_rows c.args.strategy c.args.query.now (edition_of reading)) c.new-collector.ensures.count c.new-collector.ensures.rows
     ((c.in_ok-end.ensures.value clean reading one).all (ap Ok c.in-All.is))
 
 pub returns-in-Stopped-clause-failed : goal.returns-in-Stopped-clause-failed

@@ -1,32 +1,16 @@
 use Rattle.std.proofs.Common.{◌≡◌, [], ◌∙◌}
 use Rattle.std.proofs.lemmas.List.{length-map}
 use Rattle.sqlite.specs.Held.{state}
-use Rattle.sqlite.proofs.StateLemmas.{unchanged}
 use Rattle.dict_index.specs.Edition.{edition_of}
 use Rattle.dict_desk.specs.Found.{found, headwords}
 use Rattle.dict_desk.specs.Shown.{row}
 use Rattle.dict_desk.specs.declared.lookup.What.TheVariants.{Headwords}
 use Rattle.dict_lookup.specs.Counts.{Answer, row_kept, rows_in}
-use Rattle.dict_lookup.proofs.CountedLemmas.{answers_left, answers_put, awake_open, kept_answer, kept_size}
+use Rattle.dict_lookup.proofs.CountedLemmas.{answers_left, answers_put}
 use Rattle.dict_lookup.proofs.counting.count_heads.Goals as goal
 
--- ---- headwords that are kept
-
-pub returns-in-Some-clause-value : goal.returns-in-Some-clause-value
-returns-in-Some-clause-value g c clean are reading one =
-    kept_size c.in-Some.rows.now _ (kept_answer (state g.S.Store c.args.conn.now).now c.args.counted.now c.args.number c.args.strategy c.args.query.now Headwords c.in-Some.rows.now c.in-Some.ensures are reading one)
-    ∙ length-map (headwords (found c.args.strategy c.args.query.now (edition_of reading))) (λ shown. row shown [])
-
-pub returns-in-Some-clause-counted : goal.returns-in-Some-clause-counted
-returns-in-Some-clause-counted g c clean are = are
-
-pub returns-in-Some-clause-same : goal.returns-in-Some-clause-same
-returns-in-Some-clause-same g c clean awake = unchanged (state g.S.Store c.args.conn.now) (awake_open c.args.counted.now _ (state g.S.Store c.args.conn.now) c.in-Some.ensures awake)
-
--- ---- headwords that are read
-
 pub returns-clause-value : goal.returns-clause-value
-returns-clause-value g c clean are reading one =
+returns-clause-value g c clean reading one =
     (c.in_ok-found.ensures.value clean reading one).0 ∙ length-map (headwords (found c.args.strategy c.args.query.now (edition_of reading))) (λ shown. row shown [])
 
 pub returns-clause-counted : goal.returns-clause-counted
