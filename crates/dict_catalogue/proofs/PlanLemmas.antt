@@ -40,7 +40,11 @@ change_of M id command change lawful new h =
 fault_of : (M : Catalogue) (id : List ℕ) (command : Command Edition) (fault : PlanFault) → IsTrue (is_request_id id) → kept_under M.kept id ≡ None →
     IsFaultOf (summary_of M) (command_summary command) fault → IsPlanOf M (step M id command) (Err fault)
 fault_of M id command (Refused refusal) lawful new h = refused_step M id command refusal lawful new (same_refusal M command ∙ h)
-fault_of M id command Memory lawful new h = tt
+fault_of M id command Memory lawful new h = λ refusal told.
+    let reply = reply_to command (effect command (holdings M)) in
+    let clash : accepted reply ≡ refused refusal = sym (ap (λ (outcome : Outcome). outcome.reply) (accepted_step M id command lawful new (same_refusal M command ∙ h))) ∙ told in
+    let none : ⊥ = cc in
+    absurd none
 
 plan_at : (M : Catalogue) (id : List ℕ) (command : Command Edition) (result : Result PlannedChange PlanFault) → IsTrue (is_request_id id) → kept_under M.kept id ≡ None →
     MatchResult result (IsChange (summary_of M) (command_summary command)) (IsFaultOf (summary_of M) (command_summary command)) → IsPlanOf M (step M id command) result

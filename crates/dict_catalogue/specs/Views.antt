@@ -1,5 +1,5 @@
 -- What contracts see of the values of this crate.
-use Rattle.std.specs.Prelude.{◌≡◌, ℕ, List, map, None, Some, option_map, String, string_bytes, Result, MatchResult, ⊤}
+use Rattle.std.specs.Prelude.{◌≡◌, ◌≢◌, ℕ, List, map, None, Some, option_map, String, string_bytes, Result, MatchResult}
 use Rattle.std.specs.Borrow.{Bor}
 use Rattle.dict_index.specs.Edition.{Edition, edition_of}
 use Rattle.dict_catalogue.specs.Items.{Stored, Item as AnItem, regular, virtual}
@@ -15,6 +15,7 @@ use Rattle.dict_catalogue.specs.declared.commands.Command.{Command}
 use Rattle.dict_catalogue.specs.declared.commands.Command.TheVariants.{Install, Rollback, Retire, PutVirtual, Place}
 use Rattle.dict_catalogue.specs.declared.reply.Kept.{Kept}
 use Rattle.dict_catalogue.specs.declared.planning.PlannedChange.{PlannedChange}
+use Rattle.dict_catalogue.specs.declared.fault.CommandRefusal.{CommandRefusal}
 use Rattle.dict_catalogue.specs.declared.fault.PlanFault.{PlanFault}
 use Rattle.dict_catalogue.specs.declared.fault.PlanFault.TheVariants.{Refused, Memory}
 
@@ -67,10 +68,10 @@ pub record IsEffect (before : Holdings (List ℕ)) (command : ACommand (List ℕ
 abbrev pub IsChange : Holdings (List ℕ) → ACommand (List ℕ) → PlannedChange → Type 0
 IsChange before command change = (refusal_of before command ≡ None) × IsEffect before command change
 
--- the refusal is that of the first test that fails. Want of memory says nothing of the command
+-- the refusal is that of the first test that fails; memory is wanted only where none of them fails
 abbrev pub IsFaultOf : Holdings (List ℕ) → ACommand (List ℕ) → PlanFault → Type 0
 IsFaultOf before command (Refused refusal) = refusal_of before command ≡ Some refusal
-IsFaultOf before command Memory = ⊤
+IsFaultOf before command Memory = refusal_of before command ≡ None
 
 -- the change is what the command did to a catalogue, of which this is the outcome: the same reply, the summary of the
 -- catalogue after, and the editions that stood before and don't stand after
@@ -79,10 +80,10 @@ pub record IsChangeOf (before : Catalogue) (outcome : Outcome) (change : Planned
   pub summary : summary_shown change.summary ≡ summary_of outcome.catalogue
   pub gone : change.gone.items ≡ editions_gone before.items outcome.catalogue.items
 
--- the refusal is the outcome's, and the catalogue is the one before
+-- the refusal is the outcome's, and the catalogue is the one before; where memory is wanted the outcome is no refusal
 abbrev pub IsFaultFor : Catalogue → Outcome → PlanFault → Type 0
 IsFaultFor before outcome (Refused refusal) = outcome ≡ record { reply = refused refusal; catalogue = before }
-IsFaultFor before outcome Memory = ⊤
+IsFaultFor before outcome Memory = (refusal : CommandRefusal) → outcome.reply ≢ refused refusal
 
 abbrev pub IsPlanOf : Catalogue → Outcome → Result PlannedChange PlanFault → Type 0
 IsPlanOf before outcome result = MatchResult result (IsChangeOf before outcome) (IsFaultFor before outcome)

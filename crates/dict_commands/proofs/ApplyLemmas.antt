@@ -188,9 +188,9 @@ holds_again summary id command old new result holds early was value = λ clean l
 
 -- ---- why it fails
 
-pub declined_fails : (summary : Holdings (List ℕ)) (command : Command (List ℕ)) (fault : Fault) → IsDeclined summary command fault → is_failure fault ≡ true → fault ≡ Memory
+pub declined_fails : (summary : Holdings (List ℕ)) (command : Command (List ℕ)) (fault : Fault) → IsDeclined summary command fault → is_failure fault ≡ true → (fault ≡ Memory) × (refusal_of summary command ≡ None)
 declined_fails summary command (Refused refusal) h real = absurd (false≢true real)
-declined_fails summary command Memory h real = refl
+declined_fails summary command Memory h real = (refl, h)
 declined_fails summary command Disk h real = absurd h
 declined_fails summary command Closed h real = absurd h
 declined_fails summary command NotACatalogue h real = absurd h
@@ -204,16 +204,16 @@ module _ {S : Type 0} (g : Ghosts S) where
   ends_weaker statements P Q old new fault wider (inr h) = inr (record { told = h.told; last = h.last; ran = h.ran; before = h.before; written = wider (state g h.last).now h.written; error = h.error; fails = h.fails })
 
   -- what was planned is not committed
-  pub commit_fails : (summary : Holdings (List ℕ)) (id : List ℕ) (command : Command Edition) (change : TableChange) → (old : Held S) → IsPlanned summary (state g old) id command change → (P Q : Database → Type 0) → (new : Held S) → (fault : Fault) → ((db : Database) → P db → Q db)
-      → FailsToCommit g change P old new fault → ((fault ≡ Memory) × (new ≡ old)) ⊎ FailsToAct g summary id command Q old new fault
-  commit_fails summary id command change old planned P Q new fault wider (inl h) = inl h
-  commit_fails summary id command change old planned P Q new fault wider (inr h) = inr (change, planned, (h.0, h.1, ends_weaker (statements_of known change h.0) P Q old new fault wider h.2))
+  pub commit_fails : (none : Type 0) → none → (summary : Holdings (List ℕ)) (id : List ℕ) (command : Command Edition) (change : TableChange) → (old : Held S) → IsPlanned summary (state g old) id command change → (P Q : Database → Type 0) → (new : Held S) → (fault : Fault) → ((db : Database) → P db → Q db)
+      → FailsToCommit g change P old new fault → ((fault ≡ Memory) × (new ≡ old) × none) ⊎ FailsToAct g summary id command Q old new fault
+  commit_fails none is summary id command change old planned P Q new fault wider (inl h) = inl (h.0, h.1, is)
+  commit_fails none is summary id command change old planned P Q new fault wider (inr h) = inr (change, planned, (h.0, h.1, ends_weaker (statements_of known change h.0) P Q old new fault wider h.2))
 
   -- a command that is new fails after the id was looked up
-  pub new_fails : (summary : Holdings (List ℕ)) (id : List ℕ) (command : Command Edition) (P : Database → Type 0) (old mid new : Held S) → IsUnchanged (state g old) (state g mid) → Survives (state g old) (state g mid) (λ _. ⊥)
-      → ((db : Database) → P db → HoldsAfter summary (state g old) id command db) → (fault : Fault) → ((fault ≡ Memory) × (new ≡ mid)) ⊎ FailsToAct g summary id command P mid new fault → FailsToApply g summary id command old new fault
-  new_fails summary id command P old mid new same survives wider fault (inl h) = inl (inl (subst (λ k. IsUnchanged (state g old) (state g k)) (sym h.1) same, subst (IsUnread (state g old)) (sym h.0) tt))
-  new_fails summary id command P old mid new same survives wider fault (inr h) =
+  pub new_fails : (none : Type 0) → (summary : Holdings (List ℕ)) (id : List ℕ) (command : Command Edition) (P : Database → Type 0) (old mid new : Held S) → IsUnchanged (state g old) (state g mid) → Survives (state g old) (state g mid) (λ _. ⊥)
+      → ((db : Database) → P db → HoldsAfter summary (state g old) id command db) → (fault : Fault) → ((fault ≡ Memory) × (new ≡ mid) × none) ⊎ FailsToAct g summary id command P mid new fault → FailsToApply g summary id command old new fault
+  new_fails none summary id command P old mid new same survives wider fault (inl h) = inl (inl (subst (λ k. IsUnchanged (state g old) (state g k)) (sym h.1) same, subst (IsUnread (state g old)) (sym h.0) tt))
+  new_fails none summary id command P old mid new same survives wider fault (inr h) =
       inr (mid, same, survives, (h.0, h.1, (h.2.0, h.2.1, ends_weaker (statements_of known h.0 h.2.0) P (HoldsAfter summary (state g old) id command) mid new fault wider h.2.2)))
 
 -- what is written of a command that was planned

@@ -1,5 +1,5 @@
 -- What is decided of a command before anything is written.
-use Rattle.std.specs.Prelude.{◌≡◌, ℕ, List, Some}
+use Rattle.std.specs.Prelude.{◌≡◌, ℕ, List, Some, None}
 use Rattle.std.specs.List.{AllByRecursion}
 use Rattle.dict_catalogue.specs.Commands.{Command as ACommand}
 use Rattle.dict_catalogue.specs.Tests.{Holdings, refusal_of}
@@ -9,10 +9,10 @@ use Rattle.dict_desk.specs.declared.fault.Fault.{Fault}
 use Rattle.dict_desk.specs.declared.fault.Fault.TheVariants.{Refused, Memory, Disk, Closed, NotACatalogue, Damaged, NewerSchema}
 use Rattle.dict_rows.specs.Stands.{IsWithin}
 
--- the refusal is that of the first test that fails; want of memory says nothing of the command
+-- the refusal is that of the first test that fails; memory is wanted only where none of them fails
 abbrev pub IsDeclined : Holdings (List ℕ) → ACommand (List ℕ) → Fault → Type 0
 IsDeclined before command (Refused refusal) = refusal_of before command ≡ Some refusal
-IsDeclined before command Memory = Unit {0}
+IsDeclined before command Memory = refusal_of before command ≡ None
 IsDeclined before command Disk = ⊥
 IsDeclined before command Closed = ⊥
 IsDeclined before command NotACatalogue = ⊥

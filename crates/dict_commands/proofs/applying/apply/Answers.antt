@@ -4,7 +4,8 @@ use Rattle.sqlite.specs.Held.{state}
 use Rattle.sqlite.proofs.StateLemmas.{survives_then}
 use Rattle.dict_name.specs.Names.{is_request_id}
 use Rattle.dict_catalogue.specs.Steps.{kept_under, Catalogue, summary_of, step}
-use Rattle.dict_catalogue.specs.Views.{command_meant, kept_shown, summary_shown}
+use Rattle.dict_catalogue.specs.Tests.{refusal_of}
+use Rattle.dict_catalogue.specs.Views.{command_meant, command_shown, kept_shown, summary_shown}
 use Rattle.dict_commands.proofs.ApplyLemmas.{kept_step, rests_unchanged, holds_now, holds_again, not_shut, new_fails, failed_answers}
 use Rattle.dict_commands.proofs.WriteLemmas.{clean_before, others_none}
 use Rattle.dict_commands.proofs.LoopLemmas.{each_err}
@@ -75,12 +76,13 @@ returns-clause-failed g c clean =
     let new = c.apply_new.new.conn in
     let summary = summary_shown c.args.summary.now in
     let command = command_meant c.args.command.now in
+    let unrefused = refusal_of summary (command_shown c.args.command.now) ≡ None in
     let early : HasCleanDisk (state g.S.Store mid) = clean_before (state g.S.Store mid) (state g.S.Store new) c.apply_new.ensures.crash clean in
     let same = c.in_ok-kept.ensures.same early in
     let P = λ (db : Database). (M : Catalogue) → Rests known (state g.S.Store mid) M → summary_of M ≡ summary → kept_under M.kept c.args.id.now ≡ None → Holds known db (step M c.args.id.now command).catalogue in
-    each_err c.apply_new.result (λ fault. is_failure fault ≡ true → ((fault ≡ Memory) × (new ≡ mid)) ⊎ FailsToAct g.S.Store summary c.args.id.now command P mid new fault)
+    each_err c.apply_new.result (λ fault. is_failure fault ≡ true → ((fault ≡ Memory) × (new ≡ mid) × unrefused) ⊎ FailsToAct g.S.Store summary c.args.id.now command P mid new fault)
     (λ fault. is_failure fault ≡ true → FailsToApply g.S.Store summary c.args.id.now command old new fault)
-    (λ fault h real. new_fails g.S.Store summary c.args.id.now command P old mid new same c.kept_reply.ensures.survives
+    (λ fault h real. new_fails g.S.Store unrefused summary c.args.id.now command P old mid new same c.kept_reply.ensures.survives
     (λ db then M rests is.
     let none : kept_under M.kept c.args.id.now ≡ None = sym (rw c.in_default.is at (c.in_ok-kept.ensures.value early known M (holds_now (state g.S.Store old) M rests))) in
     then M (rests_unchanged (state g.S.Store old) (state g.S.Store mid) M same rests) is none) fault (h real)) (c.apply_new.ensures.failed clean)

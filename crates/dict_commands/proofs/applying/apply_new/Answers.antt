@@ -1,6 +1,7 @@
 use Rattle.std.proofs.lemmas.Result.{err_from_is_err_and}
 use Rattle.sqlite.specs.Held.{state}
 use Rattle.sqlite.proofs.StateLemmas.{survives_weaker}
+use Rattle.dict_catalogue.specs.Tests.{refusal_of}
 use Rattle.dict_catalogue.specs.Views.{summary_shown, command_shown, command_meant}
 use Rattle.dict_commands.proofs.ApplyLemmas.{declined_answers, failed_answers, acted_answers, left_after, declined_fails, commit_fails, is_planned, holds_after, holds_now, others_spared, others_committed}
 use Rattle.dict_commands.proofs.AboveLemmas.{above_committed, grows_by, none_refused}
@@ -49,8 +50,9 @@ returns-in_err-commit_change-clause-crash g c =
 pub returns-in_err-change-clause-failed : goal.returns-in_err-change-clause-failed
 returns-in_err-change-clause-failed g c clean =
     let fault = c.in_err-change.field-0.0 in
-    passed_on (λ fault. is_failure fault ≡ true → ((fault ≡ Memory) × (c.args.conn.now ≡ c.args.conn.now)) ⊎ _) fault c.from_residual.result c.from_residual.ensures.1
-    (λ real. inl (declined_fails (summary_shown c.args.summary.now) (command_shown c.args.command.now) fault c.in_err-change.ensures.declined real, refl))
+    let none = refusal_of (summary_shown c.args.summary.now) (command_shown c.args.command.now) ≡ None in
+    passed_on (λ fault. is_failure fault ≡ true → ((fault ≡ Memory) × (c.args.conn.now ≡ c.args.conn.now) × none) ⊎ _) fault c.from_residual.result c.from_residual.ensures.1
+    (λ real. let it = declined_fails (summary_shown c.args.summary.now) (command_shown c.args.command.now) fault c.in_err-change.ensures.declined real in inl (it.0, refl, it.1))
 
 pub returns-in_err-commit_change-clause-failed : goal.returns-in_err-commit_change-clause-failed
 returns-in_err-commit_change-clause-failed g c clean =
@@ -61,8 +63,9 @@ returns-in_err-commit_change-clause-failed g c clean =
     let P = λ (db : Database). (M : Catalogue) → Rests known (state g.S.Store old) M → summary_of M ≡ summary → kept_under M.kept c.args.id.now ≡ None → Holds known db (step M c.args.id.now (command_meant c.args.command.now)).catalogue in
     let change = change_by c.args.id.now c.args.command.now c.in_ok-change.change in
     let planned = is_planned c.args.id.now c.args.command.now c.in_ok-change.change summary c.in_ok-change.ensures.planned c.lies_within.ensures (state g.S.Store old) in
-    passed_on (λ fault. is_failure fault ≡ true → ((fault ≡ Memory) × (new ≡ old)) ⊎ FailsToAct g.S.Store summary c.args.id.now (command_meant c.args.command.now) P old new fault) fault c.from_residual-in_err-commit_change.result c.from_residual-in_err-commit_change.ensures.1
-    (λ real. commit_fails g.S.Store summary c.args.id.now (command_meant c.args.command.now) change old planned (Turns (all_after known change) (state g.S.Store old).now) P new fault
+    let none = refusal_of summary (command_shown c.args.command.now) ≡ None in
+    passed_on (λ fault. is_failure fault ≡ true → ((fault ≡ Memory) × (new ≡ old) × none) ⊎ FailsToAct g.S.Store summary c.args.id.now (command_meant c.args.command.now) P old new fault) fault c.from_residual-in_err-commit_change.result c.from_residual-in_err-commit_change.ensures.1
+    (λ real. commit_fails g.S.Store none c.in_ok-change.ensures.planned.0 summary c.args.id.now (command_meant c.args.command.now) change old planned (Turns (all_after known change) (state g.S.Store old).now) P new fault
     (λ db turns M rests is new. holds_after M c.args.id.now c.args.command.now c.in_ok-change.change summary c.requires.id new is c.in_ok-change.ensures.planned c.is_lawful.ensures c.lies_within.ensures (state g.S.Store old).now db (holds_now (state g.S.Store old) M rests) turns)
     (c.in_err-commit_change.ensures.failed clean))
 
