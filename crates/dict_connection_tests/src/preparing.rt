@@ -3,9 +3,8 @@ use crate::checks::same;
 use crate::lines::{After, Talker, turn};
 use crate::rooms::Rooms;
 use dict_connection::{Connection, Stage};
-use dict_desk::PlainDesk;
-use dict_driver_fixtures::{HEAD, PartsDesk};
 use dict_hub::{Hub, Kind};
+use dict_hub_fixtures::{HEAD, PartsDesk};
 use std::alloc::Global;
 use std::test::Fail;
 
@@ -41,7 +40,7 @@ fn open(
 // An editor's connection over a desk that prepares by so many parts: how many turns it is held back, up to so many, and what
 // comes of the next one.
 fn count_turns(alloc: Global, each: u32, most: u32) -> Result<(u32, After), Fail> {
-    let mut desk = PartsDesk::new(PlainDesk::new(alloc), each);
+    let mut desk = PartsDesk::new(alloc, each);
     let mut hub = Hub::new(alloc, "localhost")?;
     let mut one = open(alloc, &mut hub, &mut desk, Kind::Http)?;
     for _ in 0..16u32 {
@@ -59,7 +58,7 @@ fn count_turns(alloc: Global, each: u32, most: u32) -> Result<(u32, After), Fail
 
 // How often such a desk let go of what it had prepared, once the editor was answered.
 fn count_forgotten(alloc: Global) -> Result<u32, Fail> {
-    let mut desk = PartsDesk::new(PlainDesk::new(alloc), 3);
+    let mut desk = PartsDesk::new(alloc, 3);
     let mut hub = Hub::new(alloc, "localhost")?;
     let mut one = open(alloc, &mut hub, &mut desk, Kind::Http)?;
     for _ in 0..30u32 {
@@ -89,7 +88,7 @@ fn turns_in_which_it_is_held_back(rt: HostRuntime) -> Result<(), Fail> {
 
 // A turn of a connection of this kind while what another one sent is prepared.
 fn turn_meanwhile(alloc: Global, kind: Kind) -> Result<After, Fail> {
-    let mut desk = PartsDesk::new(PlainDesk::new(alloc), 3);
+    let mut desk = PartsDesk::new(alloc, 3);
     let mut hub = Hub::new(alloc, "localhost")?;
     let mut one = open(alloc, &mut hub, &mut desk, kind)?;
     Ok(turn(&mut one, &mut hub, &mut desk, true))

@@ -1,6 +1,7 @@
 // Pairs of files.
 use dict_catalogue::Command;
 use dict_desk::{Keeper, PlainDesk};
+use dict_examples::{GEM_INDEX, GEM_TEXT, ORE_INDEX, ORE_TEXT};
 use dict_index::{Edition, IndexFault, read_edition};
 use std::alloc::Global;
 use std::test::Fail;
@@ -38,17 +39,9 @@ pub(crate) fn install_files(
     install(desk, id, name, &edition)
 }
 
-pub(crate) const GEM: Files = Files(
-    "gem",
-    b"00-database-short\tA\tZ\nopal\tZ\tP\nFire Opal\tZ\tP\ndot\to\tF\n",
-    b"00-database-short\n  Gems\nopal\n  a stone\n.dot\n",
-);
+pub(crate) const GEM: Files = Files("gem", GEM_INDEX, GEM_TEXT);
 
-pub(crate) const ORE: Files = Files(
-    "ore",
-    b"00-database-short\tA\tX\niron\tX\tL\n",
-    b"00-database-short\nOres\niron\n  ore\n",
-);
+pub(crate) const ORE: Files = Files("ore", ORE_INDEX, ORE_TEXT);
 
 // `a`, `a` followed by U+10FFFF, and `b`.
 pub(crate) const EDGE: Files = Files(

@@ -1,6 +1,6 @@
 // Peers that don't read, and peers that end their side early.
 use crate::serving::{Part, Play, Step, run_all};
-use dict_driver_fixtures::short_desk;
+use dict_hub_fixtures::short_desk;
 use std::net::{Net, TcpStream};
 use std::test::Fail;
 

@@ -1,8 +1,7 @@
 // An install that is prepared between rounds: the octets that complete it are held back meanwhile.
 use crate::checks::same;
 use crate::serving::{Play, Step};
-use dict_desk::PlainDesk;
-use dict_driver_fixtures::{HEAD, PartsDesk};
+use dict_hub_fixtures::{HEAD, PartsDesk};
 use std::net::{Net, TcpStream};
 use std::test::Fail;
 
@@ -84,7 +83,7 @@ fn be_between(
 #[test]
 fn a_reader_between(rt: HostRuntime) -> Result<(), Fail> {
     let mut play = Play::new(&rt, rt.alloc())?;
-    let mut desk = PartsDesk::new(PlainDesk::new(rt.alloc()), 3);
+    let mut desk = PartsDesk::new(rt.alloc(), 3);
     let came = be_between(&rt, &mut play, &mut desk);
     let counts = (desk.expected, desk.applied);
     drop(play);
@@ -112,7 +111,7 @@ fn leave_meanwhile(
 #[test]
 fn an_editor_that_leaves(rt: HostRuntime) -> Result<(), Fail> {
     let mut play = Play::new(&rt, rt.alloc())?;
-    let mut desk = PartsDesk::new(PlainDesk::new(rt.alloc()), 3);
+    let mut desk = PartsDesk::new(rt.alloc(), 3);
     let end = leave_meanwhile(&rt, &mut play, &mut desk);
     let counts = (desk.expected, desk.applied);
     drop(play);
@@ -165,7 +164,7 @@ fn come_in(
 #[test]
 fn an_editor_that_comes(rt: HostRuntime) -> Result<(), Fail> {
     let mut play = Play::new(&rt, rt.alloc())?;
-    let mut desk = PartsDesk::new(PlainDesk::new(rt.alloc()), 300);
+    let mut desk = PartsDesk::new(rt.alloc(), 300);
     let is_so = come_in(&rt, &mut play, &mut desk);
     let counts = (desk.expected, desk.applied);
     drop(play);

@@ -1,8 +1,8 @@
 // Requests of which a desk is told before they are answered.
 use super::files::{HOST, PUT, told};
 use crate::checks::{same, same_text};
-use crate::noting::NotingDesk;
 use dict_hub::{Event, Hub, Kind};
+use dict_hub_fixtures::PartsDesk;
 use std::alloc::{AllocError, Global};
 use std::process::Abort;
 use std::test::Fail;
@@ -80,7 +80,7 @@ fn request(alloc: Global, head: &str) -> Result<Vec<u8>, AllocError> {
 #[derive(Drop)]
 struct Run {
     hub: Hub<'static>,
-    desk: NotingDesk,
+    desk: PartsDesk,
     foreseen: String,
     answers: String,
 }
@@ -89,7 +89,7 @@ impl Run {
     fn new(alloc: Global) -> Result<Run, Fail> {
         Ok(Run {
             hub: Hub::new(alloc, HOST)?,
-            desk: NotingDesk::new(alloc),
+            desk: PartsDesk::new(alloc, 0),
             foreseen: String::new(alloc),
             answers: String::new(alloc),
         })

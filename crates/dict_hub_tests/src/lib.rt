@@ -15,6 +15,4 @@ mod foreseen;
 #[cfg(test)]
 mod hub;
 #[cfg(test)]
-mod noting;
-#[cfg(test)]
 mod together;

@@ -1,6 +1,7 @@
 // Catalogues in memory.
 use dict_catalogue::Command;
 use dict_desk::{Keeper, PlainDesk};
+use dict_examples::{GEM_INDEX, GEM_TEXT, ORE_INDEX, ORE_TEXT};
 use dict_index::{Edition, read_edition};
 use std::alloc::Global;
 use std::test::Fail;
@@ -9,17 +10,9 @@ use std::test::Fail;
 #[derive(Clone, Copy)]
 pub(crate) struct Files(pub &'static str, pub &'static [u8], pub &'static [u8]);
 
-pub(crate) const GEM: Files = Files(
-    "gem",
-    b"00-database-short\tA\tZ\nopal\tZ\tP\nFire Opal\tZ\tP\ndot\to\tF\n",
-    b"00-database-short\n  Gems\nopal\n  a stone\n.dot\n",
-);
+pub(crate) const GEM: Files = Files("gem", GEM_INDEX, GEM_TEXT);
 
-pub(crate) const ORE: Files = Files(
-    "ore",
-    b"00-database-short\tA\tX\niron\tX\tL\n",
-    b"00-database-short\nOres\niron\n  ore\n",
-);
+pub(crate) const ORE: Files = Files("ore", ORE_INDEX, ORE_TEXT);
 
 /// Two headwords of which one is the other with the last character of all behind it, which is no letter.
 pub(crate) const EDGE: Files = Files(

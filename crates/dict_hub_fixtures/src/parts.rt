@@ -1,29 +1,53 @@
-// A desk in memory that notes which install it is told of.
+// A desk that prepares.
+ghost use Rattle.std.specs.Prelude.{◌≡◌, ℕ};
+
 use dict_catalogue::{Command, Kept, Summary};
 use dict_desk::{End, Fault, Keeper, Lookup, PlainDesk, RowSink, What};
 use dict_match::{Key, Strategy};
 use dict_preparing::Preparer;
 use std::alloc::{AllocError, Global};
 
-/// What it was told of last, as a text. Contracts say nothing of what it shows; it is there to be run.
+/// A request for an install, without the last 65,536 octets of its text.
+pub const HEAD: &[u8] =
+    b"PUT /databases/gem HTTP/1.1\r\nRequest-Id: r1\r\nContent-Length: 65637\r\n\r\n53\n00-database-short\tA\tZ\nopal\tZ\tP\nFire Opal\tZ\tP\ndot\to\tF\n00-database-short\n  Gems\nopal\n  a stone\n.dot\n";
+
+/// A desk in memory that prepares each command by so many parts, in which nothing is done, and notes which it was told of. Contracts
+/// say nothing of what it shows; it is there to be run.
 #[derive(Drop)]
-pub(crate) struct NotingDesk {
+pub struct PartsDesk {
     alloc: Global,
     desk: PlainDesk,
+    // What it was told of last, as a text.
     noted: String,
+    // By how many parts a command is prepared.
+    each: u32,
+    /// How many parts are left of the command that was noted last.
+    pub left: u32,
+    /// How many commands were noted.
+    pub expected: u32,
+    /// How many commands were applied.
+    pub applied: u32,
+    /// How often it let go of what it had prepared.
+    pub forgotten: u32,
 }
 
-impl NotingDesk {
-    pub(crate) fn new(alloc: Global) -> Self {
-        NotingDesk {
+impl PartsDesk {
+    /// An empty desk, which prepares each command by so many parts.
+    pub fn new(alloc: Global, each: u32) -> Self {
+        PartsDesk {
             alloc,
             desk: PlainDesk::new(alloc),
             noted: String::new(alloc),
+            each,
+            left: 0,
+            expected: 0,
+            applied: 0,
+            forgotten: 0,
         }
     }
 
-    /// Of the install that it was told of last: name, title, how many entries and how many octets of text.
-    pub(crate) fn noted(&self) -> &str {
+    /// Of the install that it was told of last, and has not let go of: name, title, how many entries and how many octets of text.
+    pub fn noted(&self) -> &str {
         self.noted.as_str()
     }
 }
@@ -39,9 +63,9 @@ fn noted_of(alloc: Global, command: &Command) -> Result<String, AllocError> {
     Ok(format!(in alloc; "{name} {title} {entries} {octets}")?)
 }
 
-impl Lookup for NotingDesk {
-    ghost use Rattle.std.specs.Prelude.{false, refl};
-    ghost use Rattle.dict_desk.specs.Plain.{WantsMemory};
+impl Lookup for PartsDesk {
+    ghost use Rattle.std.specs.Prelude.{◌≡◌, false};
+    ghost use Rattle.std.proofs.Common.{refl};
 
     ghost shows = { λ _ _. ⊥ };
 
@@ -53,7 +77,7 @@ impl Lookup for NotingDesk {
 
     ghost has_failed = { λ s. s.desk.has_failed };
 
-    ghost gives_way = { λ old new fault. WantsMemory old.desk new.desk fault };
+    ghost gives_way = { λ _ _ _. Unit {0} };
 
     fn summary(&self) -> Result<&Summary, Fault> {
         self.desk.summary()
@@ -100,36 +124,43 @@ impl Lookup for NotingDesk {
     ghost still_open = { λ s h. refl };
 }
 
-impl Keeper for NotingDesk {
-    ghost use Rattle.dict_desk.specs.Plain.{WantsMemory};
-
-    ghost fails_to_apply = { λ old _ new fault. WantsMemory old.desk new.desk fault };
+impl Keeper for PartsDesk {
+    ghost fails_to_apply = { λ _ _ _ _. Unit {0} };
 
     fn kept(&mut self, id: &str) -> Result<Option<Kept>, Fault> {
         self.desk.kept(id)
     }
 
     fn apply(&mut self, id: &str, command: &Command) -> Result<Kept, Fault> {
+        self.applied = self.applied.saturating_add(1);
         self.desk.apply(id, command)
     }
 }
 
-impl Preparer for NotingDesk {
-    ghost fails_to_prepare = { λ _ _ _. ⊥ };
+impl Preparer for PartsDesk {
+    ghost fails_to_prepare = { λ _ _ _. Unit {0} };
 
     fn expect(&mut self, command: &Command) -> Result<(), Fault> {
         if let Ok(noted) = noted_of(self.alloc, command) {
             self.noted = noted;
         }
+        self.expected = self.expected.saturating_add(1);
+        self.left = self.each;
         Ok(())
     }
 
     fn prepare(&mut self) -> Result<bool, Fault> {
-        Ok(false)
+        if self.left == 0 {
+            return Ok(false);
+        }
+        self.left -= 1;
+        Ok(true)
     }
 
     fn forget(&mut self) -> Result<(), Fault> {
         self.noted = String::new(self.alloc);
+        self.forgotten = self.forgotten.saturating_add(1);
+        self.left = 0;
         Ok(())
     }
 }
