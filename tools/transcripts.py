@@ -30,6 +30,12 @@ def words_of(text):
     return [b"\xff" if octet else (plain or re.sub(r"\\(.)", r"\1", quoted)).encode() for quoted, octet, plain in found]
 
 
+def version():
+    """The program's version, which the crate of its command line has."""
+    text = (TOP / "crates" / "dict_arguments" / "src" / "version.rt").read_text(encoding="utf-8")
+    return re.search(r'^pub const VERSION: &str = "([0-9.]+)";$', text, re.M)[1]
+
+
 def read(file):
     """The commands of a transcript."""
     found, rows = [], None
@@ -50,7 +56,7 @@ def read(file):
         elif line[:1] == "!":
             rows[2]["told"] += line[2:].encode() + b"\n"
         else:
-            rows[2]["printed"] += line.encode() + b"\n"
+            rows[2]["printed"] += (f"dictcat {version()}" if line == "dictcat VERSION" else line).encode() + b"\n"
     assert rows is None, f"{rows[0]}: no status"
     return found
 

@@ -5,6 +5,8 @@ mod help;
 mod line;
 mod reading;
 mod task;
+mod version;
 
 pub use reading::read_words;
 pub use task::{ItemChange, Task};
+pub use version::VERSION;

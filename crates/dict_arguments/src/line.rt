@@ -5,6 +5,7 @@ ghost use Rattle.clap.specs.Walk.{rule_of};
 ghost use Rattle.dict_arguments.specs.Line.{word, several, number, setting, count, leaf, alone, required, command_line, with_all, readings, changes, grouping, placing, arrangements, Reads};
 
 use crate::help;
+use crate::version::VERSION;
 use clap::{Arg, Command};
 use std::alloc::{AllocError, Global};
 
@@ -91,7 +92,7 @@ pub(crate) fn command_line<'w>(alloc: Global) -> Result<Command<'w>, AllocError>
     let line = Command::new(alloc, "dictcat")
         .about(help::DICTCAT.0)
         .after_help(help::DICTCAT.1)
-        .version("0.1.0")
+        .version(VERSION)
         .subcommand_required(true);
     let line = with_changes(alloc, with_readings(alloc, line)?)?;
     with_server(alloc, with_arrangements(alloc, line)?)

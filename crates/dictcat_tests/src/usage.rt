@@ -3,6 +3,7 @@ use super::fixtures::{ROOM, Row, differing, run, taken};
 use crate::checks::{holds, same_text};
 use clap::Command;
 use clap::error::ErrorKind;
+use dict_arguments::VERSION;
 use dict_io::LimitedSink;
 use dictcat_lib::refuse_words;
 use std::io;
@@ -97,12 +98,11 @@ Statuses:
   4  memory ran out
 ";
 
-static WORDS: [Row; 10] = [
+static WORDS: [Row; 9] = [
     (&["--help"], "", 0, HELP, ""),
     (&["help"], "", 0, HELP, ""),
     (&["help", "place"], "", 0, PLACE_HELP, ""),
     (&["serve", "--help"], "", 0, SERVE_HELP, ""),
-    (&["--version"], "", 0, "dictcat 0.1.0\n", ""),
     (
         &[],
         "",
@@ -150,6 +150,19 @@ static NAMES: [&str; 11] = [
     "plain", "create", "list", "audit", "session", "install", "rollback", "retire", "virtual",
     "place", "serve",
 ];
+
+#[test]
+fn tells_the_version(rt: HostRuntime) -> Result<(), Fail> {
+    let due = format!(in rt.alloc(); "dictcat {VERSION}\n")?;
+    let (status, shown, told) = run(&rt, "", &["--version"], "", ROOM)?;
+    same_text(&rt, shown.as_str(), due.as_str());
+    holds(
+        &rt,
+        status == 0 && told.is_empty(),
+        "status 0, and nothing on standard error",
+    );
+    Ok(())
+}
 
 // Whether the help of a subcommand has an example and the statuses.
 fn has_example(rt: &HostRuntime, name: &str) -> Result<bool, Fail> {
