@@ -386,6 +386,7 @@ reads_none taken coming made a b reading id stage queue held none took comes cal
 pub leads_by_turn : {T : Type 0} (preparing : Bool) (hub : Hub) (a c : Connection T) (sending : Sent) (reading : Received) (octets : List ℕ) (events : List Accepted) → sending ≢ sents.Failed
     → LeadsFurther (is_handed a.held) (is_deferred preparing a) hub reading octets a c events → LeadsByTurn preparing hub sending reading octets a c events
 leads_by_turn preparing hub a c sents.Nothing reading octets events well leads = leads
+leads_by_turn preparing hub a c sents.Interrupted reading octets events well leads = leads
 leads_by_turn preparing hub a c sents.Some reading octets events well leads = leads
 leads_by_turn preparing hub a c sents.Failed reading octets events well leads = absurd (well refl)
 
@@ -393,6 +394,8 @@ pub calls_of_both : (a b c : Option (List Call)) (clear may : Bool) (sending : S
     → Makes a c (calls_of_turn clear may sending reading ++ within)
 calls_of_both a b c clear may sents.Nothing reading within well first later =
     subst (λ (l : List Call). Makes a c l) (sym (append_assoc (sendings clear sents.Nothing) (readings may reading) within)) (makes_joined a b c (sendings clear sents.Nothing) (readings may reading ++ within) first later)
+calls_of_both a b c clear may sents.Interrupted reading within well first later =
+    subst (λ (l : List Call). Makes a c l) (sym (append_assoc (sendings clear sents.Interrupted) (readings may reading) within)) (makes_joined a b c (sendings clear sents.Interrupted) (readings may reading ++ within) first later)
 calls_of_both a b c clear may sents.Some reading within well first later =
     subst (λ (l : List Call). Makes a c l) (sym (append_assoc (sendings clear sents.Some) (readings may reading) within)) (makes_joined a b c (sendings clear sents.Some) (readings may reading ++ within) first later)
 calls_of_both a b c clear may sents.Failed reading within well first later = absurd (well refl)
@@ -576,6 +579,7 @@ drains_none taken coming made a isnt = record {
 leads_away : {T : Type 0} (made : T → Option (List Call)) (a d : Connection T) (sending : Sent) (told : Bool) (reading : Received) → sending ≢ sents.Failed
     → LeadsOut made sending told reading a d → LeadsAway made sending told reading a d
 leads_away made a d sents.Nothing told reading well leads = leads
+leads_away made a d sents.Interrupted told reading well leads = leads
 leads_away made a d sents.Some told reading well leads = leads
 leads_away made a d sents.Failed told reading well leads = absurd (well refl)
 
@@ -668,6 +672,7 @@ hands_parted a b c events id transport marks held queue stage (hands, only) = (
 
 pub failed_is : (sending : Sent) → has_failed sending ≡ true → sending ≡ sents.Failed
 failed_is sents.Nothing failed = cc
+failed_is sents.Interrupted failed = cc
 failed_is sents.Some failed = cc
 failed_is sents.Failed failed = refl
 
@@ -681,5 +686,6 @@ nothing_came sents.Nothing receiveds.Interrupted still = cc
 nothing_came sents.Nothing (receiveds.Octets count) still = cc
 nothing_came sents.Nothing receiveds.End still = cc
 nothing_came sents.Nothing receiveds.Failed still = cc
+nothing_came sents.Interrupted reading still = cc
 nothing_came sents.Some reading still = cc
 nothing_came sents.Failed reading still = cc

@@ -21,6 +21,7 @@ readings true received = receives 4096 received ∷ []
 abbrev pub calls_of_turn : Bool → Bool → Sent → Received → List Call
 calls_of_turn is_clear may_read sents.Failed received = sendings is_clear sents.Failed
 calls_of_turn is_clear may_read sents.Nothing received = sendings is_clear sents.Nothing ++ readings may_read received
+calls_of_turn is_clear may_read sents.Interrupted received = sendings is_clear sents.Interrupted ++ readings may_read received
 calls_of_turn is_clear may_read sents.Some received = sendings is_clear sents.Some ++ readings may_read received
 
 -- a turn did something, or is to be had again at once: where something was held before, or its reading is deferred; or else the sending or
@@ -34,6 +35,7 @@ has_turned true false sent received = has_moved sent received
 -- interrupted, or one of these is so
 abbrev pub has_departed : Sent → Bool → Bool → Bool
 has_departed sents.Nothing has_finished has_dropped = has_finished || has_dropped
+has_departed sents.Interrupted has_finished has_dropped = true
 has_departed sents.Some has_finished has_dropped = true
 has_departed sents.Failed has_finished has_dropped = true
 

@@ -120,6 +120,7 @@ LeadsFurther true false hub received octets old new events = LeadsByReading hub 
 abbrev pub LeadsByTurn : {T : Type 0} → Bool → Hub → Sent → Received → List ℕ → Connection T → Connection T → List Accepted → Type 0
 LeadsByTurn preparing hub sents.Failed received octets old new events = LeadsByEnd stages.Over old new events
 LeadsByTurn preparing hub sents.Nothing received octets old new events = LeadsFurther (is_handed old.held) (is_deferred preparing old) hub received octets old new events
+LeadsByTurn preparing hub sents.Interrupted received octets old new events = LeadsFurther (is_handed old.held) (is_deferred preparing old) hub received octets old new events
 LeadsByTurn preparing hub sents.Some received octets old new events = LeadsFurther (is_handed old.held) (is_deferred preparing old) hub received octets old new events
 
 -- A front of what waits was sent, which the transport took, by one call where something waits; nothing was read
@@ -262,6 +263,7 @@ LeadsOut made sending is_told reading old new =
 abbrev pub LeadsAway : {T : Type 0} → (T → Option (List Call)) → Sent → Bool → Received → Connection T → Connection T → Type 0
 LeadsAway made sents.Failed is_told reading old new = Makes (made old.transport) (made new.transport) (sends sents.Failed ∷ []) × (new.stage ≡ stages.Over)
 LeadsAway made sents.Nothing is_told reading old new = LeadsOut made sents.Nothing is_told reading old new
+LeadsAway made sents.Interrupted is_told reading old new = LeadsOut made sents.Interrupted is_told reading old new
 LeadsAway made sents.Some is_told reading old new = LeadsOut made sents.Some is_told reading old new
 
 -- A turn of a connection that is no longer open, of which the hub is told nothing: a front of what waited is sent; once nothing waits,

@@ -1,5 +1,5 @@
 // One connection.
-ghost use Rattle.std.specs.Prelude.{◌≡◌, ◌≤◌, ◌<◌, ◌==◌, ◌||◌, ℕ, List, [], ◌∷◌, Option, take, length, IfSome, MatchOption, true, false, ⊤};
+ghost use Rattle.std.specs.Prelude.{◌≡◌, ◌≤◌, ◌<◌, ◌==◌, ◌||◌, ℕ, List, [], ◌∷◌, Option, take, length, vec_capacity, IfSome, MatchOption, true, false, ⊤};
 ghost use Rattle.std.specs.Io.KnownBytes.{Consumes, Keeps};
 ghost use Rattle.dict_connection.specs.Leading.{HasLedOn};
 ghost use Rattle.dict_hub.specs.Events.{opened, ended, is_of_editor};
@@ -106,6 +106,13 @@ impl<T: Transport> Connection<T> {
         ensures most { result ≤ 1048576 }
     {
         self.queue.len()
+    }
+
+    /// For how many octets it has room that wait for its peer.
+    pub fn kept_room(&self) -> usize
+        ensures { result ≡ vec_capacity self.now.queue.octets }
+    {
+        self.queue.capacity()
     }
 
     /// What carries its octets.

@@ -67,6 +67,7 @@ fn deliver_from<T: Transport, K: Keeper, B: Beginning>(
     requires taken { B.taken ≡ T.taken transport }
     requires coming { B.coming ≡ T.coming transport }
     requires made { B.made ≡ T.made transport }
+    requires failures { B.failures ≡ queue.failures }
     ensures led { HasLedOn (K.is_trusted desk.new) (K.shows desk.old) (K.leaves_one_of desk.old) (K.shows desk.new) (K.leaves_one_of desk.new) hub.old hub.new
         (λ events. IsToldThrough T.taken T.coming T.made (happening event.entry) result.0 queue result.1 transport result.2 events) }
     ensures trust { K.is_trusted desk.new → K.is_trusted desk.old }

@@ -125,6 +125,6 @@ pub fn has_departed(sent: Sent, has_finished: bool, has_dropped: bool) -> bool
 {
     match sent {
         Sent::Nothing => has_finished || has_dropped,
-        Sent::Some | Sent::Failed => true,
+        Sent::Interrupted | Sent::Some | Sent::Failed => true,
     }
 }

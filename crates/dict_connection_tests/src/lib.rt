@@ -4,6 +4,8 @@
 #[cfg(test)]
 mod checks;
 #[cfg(test)]
+mod failing;
+#[cfg(test)]
 mod lines;
 #[cfg(test)]
 mod long;

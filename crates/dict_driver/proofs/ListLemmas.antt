@@ -1,5 +1,5 @@
 -- Lists of connections.
-use Rattle.std.specs.Prelude.{◌||◌}
+use Rattle.std.specs.Prelude.{◌||◌, nat_le, if◌then◌else◌}
 use Rattle.std.proofs.Common.{◌≡◌, ◌≢◌, length-append, ◌<◌, ◌≤◌, ◌+◌, ◌⊎◌, ℕ, zero, suc, Bool, true, false, cond, List, [], ◌∷◌, ◌++◌, All, length, get_or, set, length-set, take, drop, refl, sym, ap, ◌∙◌, subst, inl, inr, arith}
 use Rattle.std.specs.List.{AllPairs, remove, filter}
 use Rattle.std.proofs.lemmas.Bool.Decides.{leb_tells, eqb_tells}
@@ -9,7 +9,7 @@ use Rattle.std.proofs.lemmas.List.Elements.{All-push}
 use Rattle.std.proofs.lemmas.List.Quantifiers.{all_pairs_push}
 use Rattle.std.proofs.lemmas.List.Edits.{get_or-remove_below, get_or-remove_above, length-remove}
 use Rattle.dict_outlet.specs.Queues.{waiting}
-use Rattle.dict_driver.specs.Rounds.{WaitsAmong}
+use Rattle.dict_driver.specs.Rounds.{WaitsAmong, fitting, room_of}
 use Rattle.dict_driver.specs.Turning.{MarkAll, any}
 use Rattle.dict_connection.specs.Turns.{IsAtRest}
 use Rattle.dict_driver.proofs.BoolLemmas.{any_more, front_move, last_move}
@@ -65,6 +65,14 @@ pub among_drop : {T : Type 0} (n : ℕ) (xs : List (Connection T)) (id : ℕ) (o
 among_drop zero xs id octets h = h
 among_drop (suc n) [] id octets never = absurd never
 among_drop (suc n) (x ∷ xs) id octets h = inr (among_drop n xs id octets h)
+
+pub among_fitting : {T : Type 0} (most : ℕ) (xs : List (Connection T)) (id : ℕ) (octets : List ℕ) → WaitsAmong (fitting most xs) id octets → WaitsAmong xs id octets
+among_fitting most [] id octets never = absurd never
+among_fitting most (x ∷ xs) id octets h = by_room (λ behind. among_fitting most xs id octets behind) (nat_le (room_of (x ∷ xs)) most) h
+  where
+    by_room : (WaitsAmong (fitting most xs) id octets → WaitsAmong xs id octets) → (b : Bool) → WaitsAmong (if b then x ∷ xs else fitting most xs) id octets → WaitsAmong (x ∷ xs) id octets
+    by_room more true h = h
+    by_room more false h = inr (more h)
 
 pub among_remove : {T : Type 0} (xs : List (Connection T)) (n : ℕ) (id : ℕ) (octets : List ℕ) → WaitsAmong (remove xs n) id octets → WaitsAmong xs id octets
 among_remove xs n id octets h = elim (among_append (take n xs) (drop (suc n) xs) id octets h) [

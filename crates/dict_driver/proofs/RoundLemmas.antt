@@ -29,7 +29,7 @@ use Rattle.dict_outlet.specs.declared.calls.Received.{Received}
 use Rattle.dict_outlet.specs.declared.calls.Received.TheVariants as receiveds
 use Rattle.dict_outlet.specs.declared.calls.Sent.{Sent}
 use Rattle.dict_outlet.specs.declared.calls.Sent.TheVariants as sents
-use Rattle.dict_driver.specs.Rounds.{WaitsAmong, Waits, Flows, HasWaited, Moves, TurnEach}
+use Rattle.dict_driver.specs.Rounds.{WaitsAmong, Waits, Flows, HasWaited, Moves, TurnEach, latest}
 use Rattle.dict_connection.specs.declared.connection.Connection.{Connection}
 use Rattle.dict_driver.specs.declared.connections.Connections.{Connections}
 use Rattle.dict_outlet.specs.declared.transport.Transport.{Ghosts}
@@ -37,7 +37,7 @@ use Rattle.dict_connection.proofs.EventLemmas.{put_joined, events_joined, own_al
 use Rattle.dict_driver.proofs.BoolLemmas.{any_more, front_move, last_move, or_assoc, or_false}
 use Rattle.dict_connection.proofs.OrderLemmas.{turns_of_joined}
 use Rattle.dict_driver.proofs.OrderLemmas.{AreBelow, below_joined, by_id_joined}
-use Rattle.dict_driver.proofs.ListLemmas.{default_free, among_at, place_among, among_append, among_drop, among_filter, HaveSameIds, all_among, marked_among}
+use Rattle.dict_driver.proofs.ListLemmas.{default_free, among_at, place_among, among_append, among_drop, among_filter, among_fitting, HaveSameIds, all_among, marked_among}
 
 pub flows_none : (octets : List ℕ) → Flows octets [] octets
 flows_none octets = record { sent = []; put = []; are_put = refl; order = sym (append-nil octets) }
@@ -109,6 +109,7 @@ leads_kept : {T : Type 0} (preparing : Bool) (from to : Hub) (sending : Sent) (r
     → LeadsByTurn preparing from sending reading octets old new events → LeadsByTurn preparing to sending reading octets old new events
 leads_kept preparing from to sents.Failed reading octets old new events keeps leads = leads
 leads_kept preparing from to sents.Nothing reading octets old new events keeps leads = further_kept (is_handed old.held) (is_deferred preparing old) from to reading octets old new events keeps leads
+leads_kept preparing from to sents.Interrupted reading octets old new events keeps leads = further_kept (is_handed old.held) (is_deferred preparing old) from to reading octets old new events keeps leads
 leads_kept preparing from to sents.Some reading octets old new events keeps leads = further_kept (is_handed old.held) (is_deferred preparing old) from to reading octets old new events keeps leads
 
 turn_kept : {T : Type 0} (taken coming : T → Option (List ℕ)) (made : T → Option (List Call)) (preparing : Bool) (from to : Hub) (old new : Connection T) (moved : Bool) (events : List Accepted) → ((held : Option Holding) → Has to old.id held → Has from old.id held)
@@ -397,7 +398,7 @@ moves_turned {K} {T} {G} {expects} {taken} {coming} {made} {hub} a b moved event
         | inr is ↦
             let all = filter (λ one. is_held one.stage) each.departed ++ filter (λ one. is_departing one.stage) each.turned in
             elim (among_append (filter (λ one. is_held one.stage) each.departed) (filter (λ one. is_departing one.stage) each.turned) id octets
-            (among_drop (length all - 128) all id octets (subst (λ l. WaitsAmong l id octets) each.departing is))) [
+            (among_drop (length all - 128) all id octets (among_fitting 33554432 (latest 128 all) id octets (subst (λ l. WaitsAmong l id octets) each.departing is)))) [
               | inl left ↦ has_departed id octets (among_filter (λ one. is_held one.stage) each.departed id octets left)
               | inr right ↦ is_turned id octets (among_filter (λ one. is_departing one.stage) each.turned id octets right)
             ]

@@ -1,5 +1,5 @@
 -- What a round does with the octets that wait for each connection.
-use Rattle.std.specs.Prelude.{◌≡◌, ◌⊎◌, ◌||◌, Bool, ◌<◌, ◌≤◌, ◌-◌, ◌+◌, ◌^◌, ℕ, true, List, [], ◌∷◌, ◌++◌, drop, filter, length, Option, vec_len}
+use Rattle.std.specs.Prelude.{◌≡◌, ◌⊎◌, ◌||◌, Bool, ◌<◌, ◌≤◌, ◌-◌, ◌+◌, ◌^◌, ℕ, true, List, [], ◌∷◌, ◌++◌, drop, filter, length, sum_by, nat_le, if◌then◌else◌, Option, vec_len, vec_capacity}
 use Rattle.dict_index.specs.Edition.{Edition}
 use Rattle.dict_catalogue.specs.Commands.{Command}
 use Rattle.dict_hub.specs.Runs.{Accepted, events_of}
@@ -56,9 +56,18 @@ pub record Moves {T : Type 0} {G : Ghosts T} (old new : Connections T G) (events
 abbrev pub latest : {A : Type 0} → ℕ → List A → List A
 latest most all = drop (length all - most) all
 
+-- for how many octets these have room together
+abbrev pub room_of : {T : Type 0} → List (Connection T) → ℕ
+room_of all = sum_by (λ one. vec_capacity one.queue.octets) all
+
+-- the last ones that have room for no more than so many octets together
+abbrev pub fitting : {T : Type 0} → ℕ → List (Connection T) → List (Connection T)
+fitting most [] = []
+fitting most (one ∷ others) = if nat_le (room_of (one ∷ others)) most then one ∷ others else fitting most others
+
 -- Each connection that is no longer open had its turn as such, and then each open one by its own events, over what the hub had of it as
--- they began. Those that are open then are the open ones; those that are held and no longer open, of which 128 are kept, stand behind
--- those that were so before; and no other is held. Something happened where it did in a turn of the one sort or the other
+-- they began. Those that are open then are the open ones; those that are held and no longer open, of which the last 128 are kept, and of
+-- these the last that have room for 33,554,432 octets together, stand behind those that were so before; and no other is held. Something happened where it did in a turn of the one sort or the other
 pub record TurnEach {K T : Type 0} {G : Ghosts T} (expects : K → Command Edition → K → Type 0) (taken coming : T → Option (List ℕ)) (made : T → Option (List Call)) (hub : Hub) (old new : Connections T G) (moved : Bool) (events : List Accepted) : Type 0 where
   pub departed : List (Connection T)
   pub by_departing : Bool
@@ -67,7 +76,7 @@ pub record TurnEach {K T : Type 0} {G : Ghosts T} (expects : K → Command Editi
   pub by_open : Bool
   pub turns : TurnAll expects taken coming made hub old.opened.items turned by_open events
   pub opened : new.opened.items ≡ filter (λ one. is_open one.stage) turned
-  pub departing : new.departing.items ≡ latest 128 (filter (λ one. is_held one.stage) departed ++ filter (λ one. is_departing one.stage) turned)
+  pub departing : new.departing.items ≡ fitting 33554432 (latest 128 (filter (λ one. is_held one.stage) departed ++ filter (λ one. is_departing one.stage) turned))
   pub last : new.last ≡ old.last
   pub has_moved : moved ≡ (by_departing || by_open)
 

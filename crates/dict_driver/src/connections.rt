@@ -3,7 +3,7 @@ ghost use Rattle.std.specs.Prelude.{◌≡◌, ◌≢◌, ◌⊎◌, ◌≤◌, 
 ghost use Rattle.std.specs.List.{AllPairs};
 ghost use Rattle.dict_connection.specs.Stages.{is_open};
 
-use crate::turning::{depart_all, is_any_held_back, mark_one, turn_all};
+use crate::turning::{depart_all, have_bounded_room, is_any_held_back, mark_one, turn_all};
 use dict_connection::{Connection, Opening};
 use dict_desk::Keeper;
 use dict_hub::{Hub, Kind, MAX_OPEN};
@@ -14,6 +14,9 @@ use std::alloc::{AllocError, Global};
 /// The most connections that are no longer open and still held, since octets wait for them or all that comes is not
 /// read yet.
 pub const MAX_DEPARTING: usize = 128;
+
+/// The most octets for which these have room together. The oldest is let go where they have room for more.
+pub const MAX_DEPARTING_ROOM: usize = 33_554_432;
 
 /// The connections of a driver, in the order of their ids. Its room is taken when it is made, and never grows.
 #[derive(Drop)]
@@ -38,7 +41,7 @@ impl<T: Transport> Connections<T> {
     ghost use Rattle.dict_connection.specs.Leading.{HasLedOn};
     ghost use Rattle.std.specs.Prelude.{◌++◌, ◌∷◌, ◌==◌, ◌||◌, ◌^◌, true, MatchOption, filter, if◌then◌else◌};
     ghost use Rattle.std.specs.List.{remove};
-    ghost use Rattle.dict_driver.specs.Rounds.{Admits, Moves, TurnEach, Waits, latest};
+    ghost use Rattle.dict_driver.specs.Rounds.{Admits, Moves, TurnEach, Waits, fitting, latest};
     ghost use Rattle.dict_connection.specs.Telling.{KeepsOthers};
     ghost use Rattle.dict_connection.specs.Stages.{is_departing};
     ghost use Rattle.dict_connection.specs.Turns.{IsAtRest};
@@ -143,8 +146,29 @@ impl<T: Transport> Connections<T> {
         mark_one(&mut self.departing, id);
     }
 
-    // Parts those that are no longer open from those that are.
+    // Parts those that are no longer open from those that are, and lets the oldest of them go where they have room for too many octets.
     fn settle(&mut self)
+        ensures opened { self.new.opened.items ≡ filter (λ one. is_open one.stage) self.old.opened.items }
+        ensures departing { self.new.departing.items ≡ fitting 33554432 (latest 128 (self.old.departing.items ++ filter (λ one. is_departing one.stage) self.old.opened.items)) }
+        ensures last { self.new.last ≡ self.old.last }
+    {
+        self.part();
+        self.bound();
+    }
+
+    // Lets the oldest connection go that is no longer open, as often as these have room for too many octets together.
+    fn bound(&mut self)
+        ensures departing { self.new.departing.items ≡ fitting 33554432 self.old.departing.items }
+        ensures opened { self.new.opened ≡ self.old.opened }
+        ensures last { self.new.last ≡ self.old.last }
+    {
+        while !have_bounded_room(self.departing.as_slice(), MAX_DEPARTING_ROOM) {
+            self.departing.remove(0);
+        }
+    }
+
+    // Parts those that are no longer open from those that are.
+    fn part(&mut self)
         ensures opened { self.new.opened.items ≡ filter (λ one. is_open one.stage) self.old.opened.items }
         ensures departing { self.new.departing.items ≡ latest 128 (self.old.departing.items ++ filter (λ one. is_departing one.stage) self.old.opened.items) }
         ensures last { self.new.last ≡ self.old.last }

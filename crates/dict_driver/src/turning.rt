@@ -1,9 +1,10 @@
 // What is done to each connection of a list.
-ghost use Rattle.std.specs.Prelude.{◌≡◌, ◌<◌, ◌==◌, ℕ, false, All, slice_index_or, vec_len, vec_capacity};
+ghost use Rattle.std.specs.Prelude.{◌≡◌, ◌<◌, ◌==◌, ℕ, false, All, nat_le, slice_index_or, vec_len, vec_capacity};
 ghost use Rattle.std.specs.List.{AllPairs};
 ghost use Rattle.dict_connection.specs.Leading.{HasLedOn};
 ghost use Rattle.dict_driver.specs.Turning.{DepartAll, KeepsAllBut, MarkAll, TurnAll, any_held_back};
 ghost use Rattle.dict_connection.specs.Turns.{IsAtRest};
+ghost use Rattle.dict_driver.specs.Rounds.{room_of};
 
 use dict_connection::{Connection, PIECE};
 use dict_hub::Hub;
@@ -77,4 +78,19 @@ pub fn mark_one<T: Transport>(all: &mut Vec<Connection<T>>, id: u64)
     for one in all.iter_mut() {
         one.mark_if(id);
     }
+}
+
+/// Whether these connections have room for no more than so many octets together.
+pub(crate) fn have_bounded_room<T: Transport>(all: &[Connection<T>], most: usize) -> bool
+    ensures { result ≡ nat_le (room_of all.now) most }
+{
+    let mut left = most;
+    for one in all {
+        let room = one.kept_room();
+        if room > left {
+            return false;
+        }
+        left -= room;
+    }
+    true
 }

@@ -8,6 +8,8 @@ mod checks;
 #[cfg(test)]
 mod client;
 #[cfg(test)]
+mod departing;
+#[cfg(test)]
 mod descriptors;
 #[cfg(test)]
 mod ends;

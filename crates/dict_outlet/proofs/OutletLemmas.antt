@@ -1,18 +1,20 @@
 -- What is taken of an event's octets, call by call.
 use Rattle.std.proofs.Common.{◌≡◌, ◌≢◌, ℕ, ◌+◌, ◌≤◌, ◌<◌, Bool, true, false, List, [], ◌∷◌, ◌++◌, ◌-◌, refl, sym, ap, ◌∙◌, rules, subst, append_assoc, append-nil, take, drop, length, All, length-append, arith, ◌⊎◌, inl, inr}
-use Rattle.std.specs.Prelude.{Option, Some, None, Result, Ok, Err, OnErr, vec_capacity}
+use Rattle.std.specs.Prelude.{◌&&◌, ◌==◌, if◌then◌else◌, not, Option, Some, None, Result, Ok, Err, OnErr, vec_capacity}
 use Rattle.std.specs.Io.KnownBytes.{Appends, Keeps}
 use Rattle.std.proofs.KnownBytes.{Appends-nil, Keeps-refl}
 use Rattle.dict_outlet.proofs.CallLemmas.{makes_none}
-use Rattle.std.proofs.lemmas.List.{take-append-le, drop-append-le, take-append-drop, length-take}
+use Rattle.std.proofs.lemmas.List.{take-append-le, drop-append-le, take-append-drop, length-drop, length-take}
 use Rattle.std.proofs.Math.Seq.{take-append_seam, take-append-add, take-length, drop-length}
 use Rattle.std.proofs.lemmas.List.Elements.{All-append, All-nil}
-use Rattle.dict_outlet.specs.Calls.{Call, Makes, sends}
-use Rattle.dict_outlet.specs.Outlets.{HasTaken, MakesSendings, is_sending, PutsSome, Passes}
+use Rattle.dict_outlet.specs.Calls.{Call, Makes, has_failed, is_vain, sends, sent_by}
+use Rattle.std.specs.declared.io.Error.{Error}
+use Rattle.dict_outlet.specs.Outlets.{Follow, HasTaken, IsStuck, MakesSendings, are_well, end_in_vain, is_in_vain, is_sending, is_well, PutsSome, Passes}
 use Rattle.dict_outlet.specs.Queues.{waiting}
 use Rattle.dict_outlet.specs.declared.queue.Queue.{Queue}
 use Rattle.dict_outlet.specs.declared.trail.Trail.{Trail}
 use Rattle.dict_outlet.specs.declared.calls.Sent.{Sent}
+use Rattle.dict_outlet.specs.declared.calls.Sent.TheVariants as sents
 
 appended : (l : List ℕ) (c : Option (List ℕ)) (y : List ℕ) → Appends (Some l) c y → c ≡ Some (l ++ y)
 appended l None y never = absurd never
@@ -71,6 +73,83 @@ calls_none a b same = λ before is. subst (λ (o : Option (List Call)). (o ≢ N
           (take-length before, subst (λ (l : List Call). All (λ call. is_sending call ≡ true) l) (sym (drop-length before)) (All-nil (λ call. is_sending call ≡ true))),
     )
 
+-- no call follows
+pub follow_none : (such : List Call → Bool) (a b : Option (List Call)) → such [] ≡ true → a ≡ b → Follow such a b
+follow_none such a b none same = λ before is. subst (λ (o : Option (List Call)). (o ≢ None) × ((after : List Call) → o ≡ Some after → (take (length before) after ≡ before) × (such (drop (length before) after) ≡ true)))
+    (sym is ∙ same) (
+      (λ never. cc),
+      λ after whole. subst (λ (l : List Call). (take (length before) l ≡ before) × (such (drop (length before) l) ≡ true)) (some_one _ _ whole)
+          (take-length before, ap such (drop-length before) ∙ none),
+    )
+
+one_follows : (first last : List Call → Bool) (call : Call) (before mid : List Call) (c : Option (List Call)) → ((l : List Call) → first l ≡ true → last (l ++ call ∷ []) ≡ true)
+    → (take (length before) mid ≡ before) × (first (drop (length before) mid) ≡ true) → c ≡ Some (mid ++ call ∷ [])
+    → (c ≢ None) × ((after : List Call) → c ≡ Some after → (take (length before) after ≡ before) × (last (drop (length before) after) ≡ true))
+one_follows first last call before mid c so (front, rest) is =
+    let n : length before ≤ length mid = front_within before mid front in
+    rw is (
+      (λ none. cc),
+      λ after whole. subst (λ (l : List Call). (take (length before) l ≡ before) × (last (drop (length before) l) ≡ true)) (some_one _ _ whole) (
+        take-append-le (length before) mid (call ∷ []) n ∙ front,
+        ap last (drop-append-le (length before) mid (call ∷ []) n) ∙ so (drop (length before) mid) rest,
+      ),
+    )
+
+-- one more call follows
+pub follow_more : (first last : List Call → Bool) (call : Call) (a b c : Option (List Call)) → ((l : List Call) → first l ≡ true → last (l ++ call ∷ []) ≡ true)
+    → Follow first a b → Makes b c (call ∷ []) → Follow last a c
+follow_more first last call a None c so has makes = λ before is. absurd ((has before is).0 refl)
+follow_more first last call a (Some mid) c so has makes = λ before is. one_follows first last call before mid c so ((has before is).1 mid refl) makes
+
+and_both : (a b : Bool) → a ≡ true → b ≡ true → (a && b) ≡ true
+and_both true b is more = more
+and_both false b is more = cc
+
+and_first : (a b : Bool) → (a && b) ≡ true → a ≡ true
+and_first true b is = refl
+and_first false b is = cc
+
+and_then : (a b : Bool) → (a && b) ≡ true → b ≡ true
+and_then true b is = is
+and_then false b is = cc
+
+pub well_more : (call : Call) → is_well call ≡ true → (l : List Call) → are_well l ≡ true → are_well (l ++ call ∷ []) ≡ true
+well_more call well [] all = and_both (is_well call) true well refl
+well_more call well (x ∷ xs) all = and_both (is_well x) (are_well (xs ++ call ∷ [])) (and_first (is_well x) (are_well xs) all) (well_more call well xs (and_then (is_well x) (are_well xs) all))
+
+pub vain_more : (call : Call) → is_in_vain call ≡ true → (l : List Call) → are_well l ≡ true → end_in_vain (l ++ call ∷ []) ≡ true
+vain_more call vain [] all = vain
+vain_more call vain (x ∷ []) all = and_both (is_well x) (is_in_vain call) (and_first (is_well x) true all) vain
+vain_more call vain (x ∷ y ∷ xs) all =
+    and_both (is_well x) (end_in_vain ((y ∷ xs) ++ call ∷ [])) (and_first (is_well x) (are_well (y ∷ xs)) all) (vain_more call vain (y ∷ xs) (and_then (is_well x) (are_well (y ∷ xs)) all))
+
+-- a sending that didn't fail follows, or one that took nothing
+pub well_sent : (sent : Sent) (a b c : Option (List Call)) → has_failed sent ≡ false → Follow are_well a b → Makes b c (sends sent ∷ []) → Follow are_well a c
+well_sent sent a b c well has makes = follow_more are_well are_well (sends sent) a b c (well_more (sends sent) (ap not well)) has makes
+
+pub sent_in_vain : (sent : Sent) (a b c : Option (List Call)) → is_vain sent ≡ true → Follow are_well a b → Makes b c (sends sent ∷ []) → Follow end_in_vain a c
+sent_in_vain sent a b c vain has makes = follow_more are_well end_in_vain (sends sent) a b c (vain_more (sends sent) vain) has makes
+
+choice_is_well : (none : Bool) → has_failed (if none then sents.Nothing else sents.Some) ≡ false
+choice_is_well true = refl
+choice_is_well false = refl
+
+-- a call that took octets, or none, didn't fail
+pub ok_is_well : (sent : Sent) (outcome : Result ℕ Error) (count : ℕ) → sent ≡ sent_by outcome → outcome ≡ Ok count → has_failed sent ≡ false
+ok_is_well sent outcome count is ok = ap has_failed (is ∙ ap sent_by ok) ∙ choice_is_well (count == 0)
+
+pub taken_is_well : (sent : Sent) → is_vain sent ≡ false → has_failed sent ≡ false
+taken_is_well sents.Nothing took = cc
+taken_is_well sents.Interrupted took = cc
+taken_is_well sents.Some took = refl
+taken_is_well sents.Failed took = cc
+
+pub failed_in_vain : (sent : Sent) → has_failed sent ≡ true → is_vain sent ≡ true
+failed_in_vain sents.Nothing failed = refl
+failed_in_vain sents.Interrupted failed = refl
+failed_in_vain sents.Some failed = cc
+failed_in_vain sents.Failed failed = refl
+
 -- of lists that are the same with these behind them, a front is put
 pub cut_short : (a b r s : List ℕ) → a ++ r ≡ b ++ s → length r ≤ length s → (k : ℕ) × (k ≤ length s) × (a ≡ b ++ take k s)
 cut_short a b r s same h =
@@ -113,10 +192,24 @@ pub same_waiting : (q r : Queue) → r.octets ≡ q.octets → r.sent ≡ q.sent
 same_waiting q r octets sent = ap (λ o. drop r.sent o.items) octets ∙ ap (λ n. drop n q.octets.items) sent
 
 pub puts_noted : (bytes : List ℕ) (t0 : Trail) (q0 : Queue) (t : Trail) (q r : Queue) → r.octets ≡ q.octets → r.sent ≡ q.sent → PutsSome bytes t0 q0 t q → PutsSome bytes t0 q0 t r
-puts_noted bytes t0 q0 t q r octets sent (k, within, put, inl full) =
-    (k, within, ap (λ w. t.octets ++ w) (same_waiting q r octets sent) ∙ put, inl (ap length (same_waiting q r octets sent) ∙ full))
-puts_noted bytes t0 q0 t q r octets sent (k, within, put, inr less) =
-    (k, within, ap (λ w. t.octets ++ w) (same_waiting q r octets sent) ∙ put, inr (subst (λ o. vec_capacity o < 1048576) (sym octets) less))
+puts_noted bytes t0 q0 t q r octets sent (k, within, put) = (k, within, ap (λ w. t.octets ++ w) (same_waiting q r octets sent) ∙ put)
+
+pub stuck_noted : (a b : Option (List Call)) (q r : Queue) → r.octets ≡ q.octets → r.sent ≡ q.sent → IsStuck a b q → IsStuck a b r
+stuck_noted a b q r octets sent (full, short) = (
+  λ more. let was = full (subst (λ o. 1048576 ≤ vec_capacity o) octets more) in (ap length (same_waiting q r octets sent) ∙ was.0, was.1),
+  λ less. short (subst (λ o. vec_capacity o < 1048576) octets less),
+)
+
+-- as many wait as may, and the last call took nothing
+pub stuck_full : (a b : Option (List Call)) (q : Queue) → length (waiting q) ≡ 1048576 → Follow end_in_vain a b → IsStuck a b q
+stuck_full a b q full vain = (
+  λ more. (full, vain),
+  λ less. absurd (omega (arith, full, less, q.octets.ok.0, q.octets.ok.1, length-drop q.sent q.octets.items)),
+)
+
+-- memory was refused
+pub stuck_short : (a b : Option (List Call)) (q : Queue) → vec_capacity q.octets < 1048576 → Follow are_well a b → IsStuck a b q
+stuck_short a b q short well = (λ more. absurd (omega (arith, short, more)), λ less. well)
 
 pub kept_as : (a b : Option (List ℕ)) → HasTaken a b [] → Keeps a b
 kept_as None b has = tt

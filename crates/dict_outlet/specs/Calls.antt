@@ -9,11 +9,11 @@ use Rattle.dict_outlet.specs.declared.calls.Sent.TheVariants as sents
 use Rattle.dict_outlet.specs.declared.calls.Received.{Received}
 use Rattle.dict_outlet.specs.declared.calls.Received.TheVariants as receiveds
 
--- what a sending with an error of this kind came to: one that would wait took nothing, one that was interrupted may be made again at
--- once, and with each other the transport failed
+-- what a sending with an error of this kind came to: one that would wait took nothing, one that was interrupted took nothing and may be
+-- made again at once, and with each other the transport failed
 abbrev pub sent_by_kind : ErrorKind → Sent
 sent_by_kind kinds.WouldBlock = sents.Nothing
-sent_by_kind kinds.Interrupted = sents.Some
+sent_by_kind kinds.Interrupted = sents.Interrupted
 sent_by_kind _ = sents.Failed
 
 -- what a sending came to
@@ -55,8 +55,16 @@ Makes (Some before) new calls = new ≡ Some (before ++ calls)
 -- the transport failed
 abbrev pub has_failed : Sent → Bool
 has_failed sents.Nothing = false
+has_failed sents.Interrupted = false
 has_failed sents.Some = false
 has_failed sents.Failed = true
+
+-- no octet was taken
+abbrev pub is_vain : Sent → Bool
+is_vain sents.Nothing = true
+is_vain sents.Interrupted = true
+is_vain sents.Some = false
+is_vain sents.Failed = true
 
 -- a reading did something, or may be made again at once
 abbrev pub has_come : Received → Bool
@@ -69,5 +77,6 @@ has_come receiveds.Failed = true
 -- the same of a sending or a reading
 abbrev pub has_moved : Sent → Received → Bool
 has_moved sents.Nothing received = has_come received
+has_moved sents.Interrupted received = true
 has_moved sents.Some received = true
 has_moved sents.Failed received = true

@@ -1,10 +1,11 @@
 -- What an event puts, and what is taken of it at once.
-use Rattle.std.specs.Prelude.{◌≡◌, ◌≢◌, ◌≤◌, ◌<◌, ◌+◌, ◌⊎◌, ℕ, Bool, true, false, All, List, [], ◌++◌, take, drop, length, Option, None, Some, vec_capacity}
+use Rattle.std.specs.Prelude.{◌≡◌, ◌≢◌, ◌≤◌, ◌<◌, ◌+◌, ◌⊎◌, ℕ, Bool, true, false, not, ◌&&◌, All, List, [], ◌∷◌, ◌++◌, take, drop, length, Option, None, Some, vec_capacity}
 use Rattle.std.specs.Io.KnownBytes.{Appends, Keeps}
 use Rattle.dict_io.specs.Streams.{Stream}
-use Rattle.dict_outlet.specs.Calls.{Call, Makes, sends, receives, ends}
+use Rattle.dict_outlet.specs.Calls.{Call, Makes, sends, receives, ends, has_failed, is_vain}
 use Rattle.dict_outlet.specs.Queues.{waiting}
 use Rattle.dict_outlet.specs.declared.queue.Queue.{Queue}
+use Rattle.dict_outlet.specs.declared.calls.Sent.{Sent}
 use Rattle.dict_outlet.specs.declared.trail.Trail.{Trail}
 
 -- what waited as the event began and what it put since: what the transport took of it, and what waits
@@ -29,10 +30,43 @@ abbrev pub MakesSendings : Option (List Call) → Option (List Call) → Type 0
 MakesSendings old new = (before : List Call) → old ≡ Some before
     → (new ≢ None) × ((after : List Call) → new ≡ Some after → (take (length before) after ≡ before) × All (λ call. is_sending call ≡ true) (drop (length before) after))
 
--- a front of the octets was put, and no more may wait, or memory is short
+-- a sending that didn't fail
+abbrev pub is_well : Call → Bool
+is_well (sends sent) = not (has_failed sent)
+is_well (receives room received) = false
+is_well (ends is_told) = false
+
+-- a sending that took nothing
+abbrev pub is_in_vain : Call → Bool
+is_in_vain (sends sent) = is_vain sent
+is_in_vain (receives room received) = false
+is_in_vain (ends is_told) = false
+
+-- sendings, of which none failed
+abbrev pub are_well : List Call → Bool
+are_well [] = true
+are_well (call ∷ calls) = is_well call && are_well calls
+
+-- sendings, of which the last took nothing and no other failed
+abbrev pub end_in_vain : List Call → Bool
+end_in_vain [] = false
+end_in_vain (call ∷ []) = is_in_vain call
+end_in_vain (call ∷ next ∷ calls) = is_well call && end_in_vain (next ∷ calls)
+
+-- behind the calls before, where they are known, such calls were made
+abbrev pub Follow : (List Call → Bool) → Option (List Call) → Option (List Call) → Type 0
+Follow are_such old new = (before : List Call) → old ≡ Some before
+    → (new ≢ None) × ((after : List Call) → new ≡ Some after → (take (length before) after ≡ before) × (are_such (drop (length before) after) ≡ true))
+
+-- Where there is room for 1,048,576 octets, as many wait, and the last of the calls that were made behind those of `old` took nothing.
+-- Where there is less, memory was short, and no sending failed
+abbrev pub IsStuck : Option (List Call) → Option (List Call) → Queue → Type 0
+IsStuck old new queue = (1048576 ≤ vec_capacity queue.octets → (length (waiting queue) ≡ 1048576) × Follow end_in_vain old new)
+    × (vec_capacity queue.octets < 1048576 → Follow are_well old new)
+
+-- a front of the octets was put
 abbrev pub PutsSome : List ℕ → Trail → Queue → Trail → Queue → Type 0
 PutsSome octets taken queue now_taken now = (k : ℕ) × (k ≤ length octets) × (carried now_taken now ≡ carried taken queue ++ take k octets)
-    × ((length (waiting now) ≡ 1048576) ⊎ (vec_capacity now.octets < 1048576))
 
 -- What waited before and what was put: a front of it is sent, which the transport took, and the rest waits. Of the transport no more
 -- was asked than to take octets, and not even that while fewer than 1,048,576 of them were there

@@ -9,7 +9,9 @@ use std::io::{ErrorKind, Result};
 pub enum Sent {
     /// No octet was taken, and the transport tells when to ask again.
     Nothing,
-    /// Octets were taken, or the call was interrupted: it may be asked again at once.
+    /// The call was interrupted, and no octet was taken: it may be asked again at once.
+    Interrupted,
+    /// Octets were taken: it may be asked again at once.
     Some,
     /// The transport failed.
     Failed,
@@ -31,15 +33,25 @@ pub enum Received {
 }
 
 impl Sent {
-    ghost use Rattle.dict_outlet.specs.Calls.{has_failed};
+    ghost use Rattle.dict_outlet.specs.Calls.{has_failed, is_vain};
 
     /// Whether the transport failed.
     pub fn has_failed(self) -> bool
         ensures { result ≡ has_failed self }
     {
         match self {
-            Sent::Nothing | Sent::Some => false,
+            Sent::Nothing | Sent::Interrupted | Sent::Some => false,
             Sent::Failed => true,
+        }
+    }
+
+    /// Whether no octet was taken.
+    pub fn is_vain(self) -> bool
+        ensures { result ≡ is_vain self }
+    {
+        match self {
+            Sent::Nothing | Sent::Interrupted | Sent::Failed => true,
+            Sent::Some => false,
         }
     }
 }
@@ -96,7 +108,7 @@ fn sent_by_kind(kind: ErrorKind) -> Sent
 {
     match kind {
         ErrorKind::WouldBlock => Sent::Nothing,
-        ErrorKind::Interrupted => Sent::Some,
+        ErrorKind::Interrupted => Sent::Interrupted,
         _ => Sent::Failed,
     }
 }
@@ -118,6 +130,6 @@ pub fn has_moved(sent: Sent, received: Received) -> bool
 {
     match sent {
         Sent::Nothing => received.has_come(),
-        Sent::Some | Sent::Failed => true,
+        Sent::Interrupted | Sent::Some | Sent::Failed => true,
     }
 }

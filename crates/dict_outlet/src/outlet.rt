@@ -1,9 +1,10 @@
 // What an event puts, and what its connection's transport takes of it at once.
-ghost use Rattle.std.specs.Prelude.{◌≡◌, ◌+◌, ◌<◌, ◌≤◌, ℕ, List, Option, [], None, length};
+ghost use Rattle.std.specs.Prelude.{◌≡◌, ◌+◌, ◌<◌, ◌≤◌, ℕ, List, Option, [], None, length, true, false};
 ghost use Rattle.dict_outlet.specs.Calls.{Call};
-ghost use Rattle.dict_outlet.specs.Outlets.{HasTaken, MakesSendings};
+ghost use Rattle.dict_outlet.specs.Outlets.{Follow, HasTaken, IsStuck, MakesSendings, are_well};
 ghost use Rattle.dict_outlet.specs.Queues.{waiting};
 
+use crate::calls::{Sent, sent_by};
 use crate::queue::Queue;
 use crate::trail::Trail;
 use crate::transport::Transport;
@@ -35,6 +36,9 @@ pub trait Beginning {
 
     /// The calls that were made of it.
     ghost made: { Option (List Call) };
+
+    /// How many calls of `put` failed before.
+    ghost failures: { ℕ };
 }
 
 impl Beginning for Brand {
@@ -43,10 +47,12 @@ impl Beginning for Brand {
     ghost coming = { None };
 
     ghost made = { None };
+
+    ghost failures = { 0 };
 }
 
 /// Where one event puts its octets: they wait in a queue, and where it is full the transport is asked to take them, some
-/// thousand times where it takes none.
+/// thousand times where it takes none, unless it fails. Once a call of `put` failed, each later one of the event does.
 #[derive(Drop)]
 pub struct Outlet<T: Transport, B: Beginning> {
     queue: Queue,
@@ -55,15 +61,21 @@ pub struct Outlet<T: Transport, B: Beginning> {
     taken: Trail,
     // How often more it may be asked in vain before the event gives up.
     tries: u16,
+    // A call of `put` failed since the event began.
+    has_failed: bool,
     of: PhantomData<B>,
     ghost takes: { HasTaken B.taken (T.taken transport) taken.octets },
     ghost keeps: { HasTaken B.coming (T.coming transport) [] },
     ghost makes: { MakesSendings B.made (T.made transport) },
+    ghost asks: { has_failed ≡ false → Follow are_well B.made (T.made transport) },
+    ghost stuck: { has_failed ≡ true → IsStuck B.made (T.made transport) queue },
+    ghost counts: { has_failed ≡ false → queue.failures ≡ B.failures },
     ghost lazy: { length taken.octets + length (waiting queue) < 1048576 → (taken.octets ≡ []) × (T.made transport ≡ B.made) },
 }
 
 impl<T: Transport, B: Beginning> Outlet<T, B> {
-    ghost use Rattle.std.specs.Prelude.{◌++◌, ◌⊎◌, ◌^◌, ◌-◌, OnOk, OnErr, vec_len, vec_capacity, true, false};
+    ghost use Rattle.std.specs.Prelude.{◌++◌, ◌∷◌, ◌⊎◌, ◌^◌, ◌-◌, OnOk, OnErr, vec_len, vec_capacity, not};
+    ghost use Rattle.dict_outlet.specs.Calls.{Makes, has_failed, is_vain, sends};
     ghost use Rattle.dict_outlet.specs.Outlets.{carried, PutsSome};
 
     /// An event begins.
@@ -71,6 +83,7 @@ impl<T: Transport, B: Beginning> Outlet<T, B> {
         requires taken { B.taken ≡ T.taken transport }
         requires coming { B.coming ≡ T.coming transport }
         requires made { B.made ≡ T.made transport }
+        requires failures { B.failures ≡ queue.failures }
         ensures queue { result.queue ≡ queue }
         ensures transport { result.transport ≡ transport }
         ensures taken { result.taken.octets ≡ [] }
@@ -80,6 +93,7 @@ impl<T: Transport, B: Beginning> Outlet<T, B> {
             transport,
             taken: Trail::new(),
             tries: MAX_TRIES,
+            has_failed: false,
             of: PhantomData,
         }
     }
@@ -95,6 +109,7 @@ impl<T: Transport, B: Beginning> Outlet<T, B> {
             transport,
             taken: _,
             tries: _,
+            has_failed: _,
             of: _,
         } = self;
         (answer, queue, transport)
@@ -102,8 +117,11 @@ impl<T: Transport, B: Beginning> Outlet<T, B> {
 
     // Has all of the octets wait, or be taken at once, or where no more may wait a front of them.
     fn put_all(&mut self, bytes: &[u8]) -> Result<(), SinkFault>
+        requires { self.old.has_failed ≡ false }
         ensures all { OnOk result (carried self.new.taken self.new.queue ≡ carried self.old.taken self.old.queue ++ bytes.now) }
         ensures some { OnErr result (PutsSome bytes.now self.old.taken self.old.queue self.new.taken self.new.queue) }
+        ensures stuck { OnErr result (IsStuck B.made (T.made self.new.transport) self.new.queue) }
+        ensures well { OnOk result (self.new.has_failed ≡ false) }
         ensures failures { self.new.queue.failures ≡ self.old.queue.failures }
     {
         let mut rest = bytes;
@@ -119,42 +137,51 @@ impl<T: Transport, B: Beginning> Outlet<T, B> {
     }
 
     // Asks the transport to take what waits, and where it takes none again, as often as it may be asked in vain within an event: a
-    // peer that reads at once is given the time to. Whether it took any.
+    // peer that reads at once is given the time to. One that failed isn't asked again. Whether it took any.
     fn send(&mut self) -> bool
-        requires { length (waiting self.old.queue) ≡ 1048576 }
+        requires full { length (waiting self.old.queue) ≡ 1048576 }
+        requires well { self.old.has_failed ≡ false }
         ensures carried { carried self.new.taken self.new.queue ≡ carried self.old.taken self.old.queue }
         ensures took { result ≡ true → length (waiting self.new.queue) < 1048576 }
         ensures none { result ≡ false → waiting self.new.queue ≡ waiting self.old.queue }
+        ensures failed { self.new.has_failed ≡ not result }
         ensures failures { self.new.queue.failures ≡ self.old.queue.failures }
     {
         while self.tries > 0 {
-            if self.send_once() {
-                return true;
+            match self.send_once() {
+                Sent::Some => return true,
+                Sent::Failed => return false,
+                Sent::Nothing | Sent::Interrupted => {}
             }
             self.tries -= 1;
             pause(self.tries);
         }
-        self.send_once()
+        let last = self.send_once();
+        self.has_failed = last.is_vain();
+        !self.has_failed
     }
 
-    // Asks the transport once to take what waits. Whether it took any.
-    fn send_once(&mut self) -> bool
-        requires { length (waiting self.old.queue) ≡ 1048576 }
+    // Asks the transport once to take what waits.
+    fn send_once(&mut self) -> Sent
+        requires full { length (waiting self.old.queue) ≡ 1048576 }
+        requires well { self.old.has_failed ≡ false }
         ensures tries { self.new.tries ≡ self.old.tries }
         ensures carried { carried self.new.taken self.new.queue ≡ carried self.old.taken self.old.queue }
-        ensures took { result ≡ true → length (waiting self.new.queue) < 1048576 }
-        ensures none { result ≡ false → waiting self.new.queue ≡ waiting self.old.queue }
+        ensures took { is_vain result ≡ false → length (waiting self.new.queue) < 1048576 }
+        ensures none { is_vain result ≡ true → waiting self.new.queue ≡ waiting self.old.queue }
+        ensures failed { self.new.has_failed ≡ has_failed result }
+        ensures made { Makes (T.made self.old.transport) (T.made self.new.transport) (sends result ∷ []) }
         ensures failures { self.new.queue.failures ≡ self.old.queue.failures }
     {
         let octets = self.queue.as_slice();
-        match self.transport.send(octets) {
-            Ok(count) => {
-                self.taken.note(octets.split_at(count).0);
-                self.queue.pass(count);
-                count > 0
-            }
-            Err(_) => false,
+        let outcome = self.transport.send(octets);
+        let sent = sent_by(&outcome);
+        self.has_failed = sent.has_failed();
+        if let Ok(count) = outcome {
+            self.taken.note(octets.split_at(count).0);
+            self.queue.pass(count);
         }
+        sent
     }
 }
 
@@ -166,20 +193,28 @@ impl<T: Transport, B: Beginning> Sink for Outlet<T, B> {
 
     ghost stream = { λ outlet. stream_through outlet.taken outlet.queue };
 
-    /// All of the octets wait then, or were taken at once. Where it fails a front of them was put: no more may wait, memory is
-    /// short, or it failed too often before.
+    /// All of the octets wait then, or were taken at once. Where it fails a front of them was put: no more may wait, and the
+    /// transport was asked last and took none; or memory is short; or it failed before in this event, or too often.
     fn put(&mut self, bytes: &[u8]) -> Result<(), SinkFault>
         ensures put { Puts result (stream_through self.old.taken self.old.queue) (stream_through self.new.taken self.new.queue) bytes.now }
         ensures worn_out { self.old.queue.failures ≡ 2 ^ 64 - 1
             → IsErr result × Appends (stream_through self.old.taken self.old.queue).octets (stream_through self.new.taken self.new.queue).octets [] }
         ensures some { OnErr result ((self.old.queue.failures ≡ 2 ^ 64 - 1) ⊎ PutsSome bytes.now self.old.taken self.old.queue self.new.taken self.new.queue) }
+        ensures stuck { OnErr result ((self.old.queue.failures ≡ 2 ^ 64 - 1) ⊎ IsStuck B.made (T.made self.new.transport) self.new.queue) }
+        ensures again { self.old.has_failed ≡ true
+            → IsErr result × Appends (stream_through self.old.taken self.old.queue).octets (stream_through self.new.taken self.new.queue).octets [] }
     {
         if self.queue.failures() == u64::MAX {
+            return Err(SinkFault);
+        }
+        if self.has_failed {
+            self.queue.note_failure();
             return Err(SinkFault);
         }
         match self.put_all(bytes) {
             Ok(()) => Ok(()),
             Err(fault) => {
+                self.has_failed = true;
                 self.queue.note_failure();
                 Err(fault)
             }

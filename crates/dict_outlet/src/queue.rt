@@ -67,6 +67,13 @@ impl Queue {
         MAX_WAITING - self.len()
     }
 
+    /// For how many octets it has room.
+    pub fn capacity(&self) -> usize
+        ensures { result ≡ vec_capacity self.now.octets }
+    {
+        self.octets.capacity()
+    }
+
     /// Whether no octet waits.
     pub fn is_empty(&self) -> bool
         ensures { result ≡ (length (waiting self.now) == 0) }

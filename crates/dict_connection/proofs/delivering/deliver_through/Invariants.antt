@@ -5,4 +5,5 @@ ghosts-deliver_from g a = record {
   taken = g.T.Transport.taken a.transport;
   coming = g.T.Transport.coming a.transport;
   made = g.T.Transport.made a.transport;
+  failures = a.queue.failures;
 }

@@ -2,7 +2,7 @@ use Rattle.std.proofs.Common.{◌≡◌, ◌≢◌, ◌≤◌, ◌∙◌, All, a
 use Rattle.std.proofs.lemmas.List.Elements.{All-filter, filter_from_retain}
 use Rattle.std.specs.List.{filter}
 use Rattle.dict_connection.specs.Stages.{is_departing, is_held, is_open}
-use Rattle.dict_driver.specs.Rounds.{TurnEach, latest}
+use Rattle.dict_driver.specs.Rounds.{TurnEach, fitting, latest}
 use Rattle.dict_connection.specs.Turns.{IsAtRest}
 use Rattle.dict_connection.proofs.LeadLemmas.{led_as}
 use Rattle.dict_driver.proofs.ListLemmas.{HaveSameIds, apart_kept, ids_kept, rising_kept}
@@ -20,7 +20,7 @@ returns-then-departed-clause-led g c =
       by_open = c.turn_all-turned.result;
       turns = turned;
       opened = c.settle.ensures.opened;
-      departing = c.settle.ensures.departing ∙ ap (λ l. latest 128 (l ++ filter (λ one. is_departing one.stage) c.turn_all-turned.new.all.items))
+      departing = c.settle.ensures.departing ∙ ap (λ l. fitting 33554432 (latest 128 (l ++ filter (λ one. is_departing one.stage) c.turn_all-turned.new.all.items)))
           (filter_from_retain _ (λ one. is_held one.stage) (λ p x b q t. search rules) _ _ _ c.retain.ensures.filtered);
       last = c.settle.ensures.last;
       has_moved = rw c.if-departed.true refl;
@@ -38,7 +38,7 @@ returns-else-departed-clause-led g c =
       by_open = c.turn_all-turned.result;
       turns = turned;
       opened = c.settle.ensures.opened;
-      departing = c.settle.ensures.departing ∙ ap (λ l. latest 128 (l ++ filter (λ one. is_departing one.stage) c.turn_all-turned.new.all.items))
+      departing = c.settle.ensures.departing ∙ ap (λ l. fitting 33554432 (latest 128 (l ++ filter (λ one. is_departing one.stage) c.turn_all-turned.new.all.items)))
           (filter_from_retain _ (λ one. is_held one.stage) (λ p x b q t. search rules) _ _ _ c.retain.ensures.filtered);
       last = c.settle.ensures.last;
       has_moved = rw c.if-departed.false refl;

@@ -1,7 +1,7 @@
 use Rattle.std.proofs.Common.{◌≡◌, ◌≤◌, ◌++◌, length, ◌∙◌, ap, arith, inl, inr, length-append}
 use Rattle.dict_outlet.specs.Outlets.{carried}
 use Rattle.dict_outlet.specs.Queues.{waiting}
-use Rattle.dict_outlet.proofs.OutletLemmas.{cut_short, halves, joined, on_err, on_err_both, short_memory}
+use Rattle.dict_outlet.proofs.OutletLemmas.{cut_short, halves, joined, on_err, on_err_of, short_memory, stuck_short}
 use Rattle.dict_outlet.proofs.outlet.Outlet.put_all.Goals as goal
 
 pub returns-in_err-append-clause-some : goal.returns-in_err-append-clause-some
@@ -9,7 +9,7 @@ returns-in_err-append-clause-some g c =
     let l = c.loop-rest in
     let same : carried l.self.taken c.append.new.self ≡ carried l.self.taken l.self.queue = ap (λ w. l.self.taken.octets ++ w) c.in_err-append.ensures.none in
     let put = cut_short _ _ l.rest.now c.args.bytes.now (ap (λ w. w ++ l.rest.now) same ∙ l.invariant.whole) l.invariant.within in
-    on_err c.from_residual.result _ (put.0, put.1, put.2, inr (short_memory _ _ _ (omega (arith, c.split_at.ensures.front_len, c.room-in-loop-rest.ensures)) c.in_err-append.ensures.memory))
+    on_err c.from_residual.result _ put
 
 pub returns-then-not-send-clause-some : goal.returns-then-not-send-clause-some
 returns-then-not-send-clause-some g c =
@@ -21,15 +21,11 @@ returns-then-not-send-clause-some g c =
     let rest : a ++ b ≡ l.rest.now = halves _ a b l.rest.now c.split_at.ensures.front c.split_at.ensures.back in
     let whole : carried c.send.new.self.taken c.send.new.self.queue ++ b ≡ carried c.args.self.now.taken c.args.self.now.queue ++ c.args.bytes.now
     = ap (λ x. x ++ b) now ∙ joined l.self.taken.octets (waiting l.self.queue) a b l.rest.now rest ∙ l.invariant.whole in
-    let full : length (waiting c.send.new.self.queue) ≡ 1048576
-    = omega (arith, ap length (c.send.ensures.none c.if-not-send.true ∙ w), length-append (waiting l.self.queue) a, c.split_at.ensures.front_len, c.room-in-loop-rest.ensures) in
     let fits : length b ≤ length c.args.bytes.now = omega (arith, l.invariant.within, c.split_at.ensures.back_len) in
     let put = cut_short _ _ b c.args.bytes.now whole fits in
-    (put.0, put.1, put.2, inl full)
+    put
 
 pub returns-clause-some : goal.returns-clause-some
 returns-clause-some g c =
     let l = c.loop-rest in
-    on_err_both c.append-2.result _ _ _ (λ same memory.
-    let put = cut_short _ _ l.rest.now c.args.bytes.now (ap (λ w. (l.self.taken.octets ++ w) ++ l.rest.now) same ∙ l.invariant.whole) l.invariant.within in
-    (put.0, put.1, put.2, inr (short_memory _ _ _ (omega (arith, c.loop-rest-test.false, c.room.ensures)) memory))) c.append-2.ensures.none c.append-2.ensures.memory
+    on_err_of c.append-2.result _ _ (λ same. cut_short _ _ l.rest.now c.args.bytes.now (ap (λ w. (l.self.taken.octets ++ w) ++ l.rest.now) same ∙ l.invariant.whole) l.invariant.within) c.append-2.ensures.none

@@ -1,4 +1,4 @@
-use Rattle.std.proofs.Common.{◌≡◌}
+use Rattle.std.proofs.Common.{◌≡◌, false}
 use Rattle.dict_outlet.specs.Outlets.{carried}
 use Rattle.dict_outlet.specs.Queues.{waiting}
 use Rattle.dict_outlet.proofs.outlet.Outlet.send.Given as goal
@@ -6,6 +6,7 @@ use Rattle.dict_outlet.proofs.outlet.Outlet.send.Given as goal
 abbrev pub invariant-loop-self : goal.invariant-loop-self
 invariant-loop-self g l = record {
   carried : carried l.self.taken l.self.queue ≡ carried l.fn.self.taken l.fn.self.queue;
+  well : l.self.has_failed ≡ false;
   waits : waiting l.self.queue ≡ waiting l.fn.self.queue;
   failures : l.self.queue.failures ≡ l.fn.self.queue.failures;
 }

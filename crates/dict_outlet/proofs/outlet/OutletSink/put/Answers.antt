@@ -4,5 +4,5 @@ use Rattle.dict_outlet.proofs.outlet.OutletSink.put.Goals as goal
 
 pub returns-in-Err-clause-some : goal.returns-in-Err-clause-some
 returns-in-Err-clause-some g c =
-    inr (puts_noted c.args.bytes.now c.args.self.now.taken c.args.self.now.queue c.put_all.new.self.taken c.put_all.new.self.queue c.note_failure.new.self c.note_failure.ensures.octets
-    c.note_failure.ensures.sent c.in-Err.ensures.some)
+    inr (puts_noted c.args.bytes.now c.args.self.now.taken c.args.self.now.queue c.put_all.new.self.taken c.put_all.new.self.queue c.note_failure-in-Err.new.self c.note_failure-in-Err.ensures.octets
+    c.note_failure-in-Err.ensures.sent c.in-Err.ensures.some)

@@ -1,6 +1,6 @@
 use Rattle.std.proofs.Common.{◌≡◌, ◌-◌, vec_len}
 use Rattle.dict_driver.proofs.SettleLemmas.{AreParted}
-use Rattle.dict_driver.proofs.connections.Connections.settle.Given as goal
+use Rattle.dict_driver.proofs.connections.Connections.part.Given as goal
 
 abbrev pub invariant-loop-place : goal.invariant-loop-place
 invariant-loop-place g l = record {

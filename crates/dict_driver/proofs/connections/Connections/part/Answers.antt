@@ -3,7 +3,7 @@ use Rattle.std.specs.List.{filter}
 use Rattle.dict_connection.specs.Stages.{is_departing, is_open}
 use Rattle.dict_driver.specs.Rounds.{latest}
 use Rattle.dict_driver.proofs.SettleLemmas.{parted_all, parted_close, parted_none, parted_open}
-use Rattle.dict_driver.proofs.connections.Connections.settle.Goals as goal
+use Rattle.dict_driver.proofs.connections.Connections.part.Goals as goal
 
 pub loop-place-init : goal.loop-place-init
 loop-place-init g c =
