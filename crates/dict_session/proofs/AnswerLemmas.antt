@@ -46,7 +46,7 @@ under_known all word n (item ∷ items) = by_test (is_named word item) (under_kn
     by_test true e = refl
     by_test false e = e
 
-names_asked : (M : Catalogue) (word : List ℕ) → names_databases M word ≡ is_some (asked_in M.items word)
+pub names_asked : (M : Catalogue) (word : List ℕ) → names_databases M word ≡ is_some (asked_in M.items word)
 names_asked M word = by_tests (bytes_eq word (codes "*")) (bytes_eq word (codes "!")) (places_under M.items word 0 M.items) (under_known M.items word 0 M.items)
   where
     all : List ℕ

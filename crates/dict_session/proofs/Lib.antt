@@ -9,3 +9,6 @@ pub mod ShortLemmas
 pub mod SpokenLemmas
 pub mod SessionLemmas
 pub mod RunLemmas
+pub mod ThroughLemmas
+pub mod WrittenLemmas
+pub mod LooksLemmas

@@ -55,7 +55,7 @@ wrote_ended d f SinkFailed a b ls ms none (o, ended, spoken, h) =
     (o ++ more, later, longer, front_longer a b o more h)
 wrote_ended d f DeskFailed a b ls ms none (failed, (o, breaks, h)) = (failed, (o, breaks_end d f.closed ls ms o breaks, h))
 
-kept_ended : (course : Course) (s : Session) (rest other : List ℕ) → (course ≡ More → ⊥) → Keeps course s rest → Keeps course s other
+pub kept_ended : (course : Course) (s : Session) (rest other : List ℕ) → (course ≡ More → ⊥) → Keeps course s rest → Keeps course s other
 kept_ended More s rest other none h = absurd (none refl)
 kept_ended Quit s rest other none h = h
 kept_ended SinkFailed s rest other none h = h
@@ -69,3 +69,10 @@ keeps_none More s none = absurd (none refl)
 keeps_none Quit s none = tt
 keeps_none SinkFailed s none = tt
 keeps_none DeskFailed s none = tt
+
+-- a session that has read the same goes on alike
+pub keeps_by : (course : Course) (s t : Session) (rest : List ℕ) → (HasUnfinished s rest → HasUnfinished t rest) → Keeps course s rest → Keeps course t rest
+keeps_by More s t rest so h = so h
+keeps_by Quit s t rest so h = tt
+keeps_by SinkFailed s t rest so h = tt
+keeps_by DeskFailed s t rest so h = tt

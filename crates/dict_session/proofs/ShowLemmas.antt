@@ -17,6 +17,7 @@ use Rattle.dict_desk.specs.Shown.{Row, HasEdition, info_rows, row}
 use Rattle.dict_proto.specs.declared.reply.Reply.TheVariants.{ListEnd, Help, ServerInformation, Done}
 use Rattle.dict_proto.specs.Replies.{reply_octets, list_end_octets, done_octets, invalid_database_octets, info_heading_octets, info_text_octets, no_databases_octets, database_count_octets, unavailable_octets, status_octets}
 use Rattle.dict_session.specs.Answers.{Need, no_rows, one_row}
+use Rattle.dict_session.specs.Through.{has_edition}
 use Rattle.dict_session.specs.Ending.{PutsBeginning, PutsAnswer}
 use Rattle.dict_session.specs.declared.step.Answered.{Answered}
 use Rattle.dict_session.specs.declared.step.Answered.TheVariants.{Whole, Unavailable}
@@ -143,6 +144,14 @@ module _ (M : Catalogue) (name : List ℕ) (items : List (Item (List ℕ))) (e :
   -- the edition that SHOW INFO tells of
   abbrev pub HasInfo : ℕ → Type 0
   HasInfo number = (edition : Edition) × HasEdition M number edition × (info_heading_octets ++ (info_text_octets edition.info ++ done_octets) ≡ info_answer M name)
+
+  pub regular_has_edition : (own : List ℕ) (current : Stored (List ℕ)) (former : Option (Stored (List ℕ))) → Some (regular own current former) ≡ find (is_named name) items → has_edition (find (is_named name) M.items) ≡ true
+  regular_has_edition own current former is = by_item (find (is_named name) M.items) (found_in (Some (regular own current former)) is)
+    where
+      by_item : (o : Option (Item Edition)) → Some (regular own current former) ≡ option_map titled o → has_edition o ≡ true
+      by_item None e = cc
+      by_item (Some (regular other stored before)) e = refl
+      by_item (Some (virtual other title members)) e = cc
 
   pub info_regular : (own : List ℕ) (current : Stored (List ℕ)) (former : Option (Stored (List ℕ))) → Some (regular own current former) ≡ find (is_named name) items → HasInfo current.number
   unfolding info_answer

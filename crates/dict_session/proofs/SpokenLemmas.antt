@@ -51,7 +51,7 @@ speaks_one d k l false e = ([], inl (sym (append-nil (d (meaning l))), rw e (ref
 pub speaks_unavailable : (d : Meaning → List ℕ) (k : Bool) (l : List ℕ) → may_be_unavailable k (meaning l) ≡ true → Speaks d k (l ∷ []) unavailable_octets false
 speaks_unavailable d k l may = ([], inr (may, sym (append-nil unavailable_octets), (refl, refl)))
 
-may_wider : (j k : Bool) → (j ≡ true → k ≡ true) → (asked : Meaning) → may_be_unavailable j asked ≡ true → may_be_unavailable k asked ≡ true
+pub may_wider : (j k : Bool) → (j ≡ true → k ≡ true) → (asked : Meaning) → may_be_unavailable j asked ≡ true → may_be_unavailable k asked ≡ true
 may_wider j k later (define name word) h = h
 may_wider j k later (matching name strategy word) h = h
 may_wider j k later show_databases h = later h

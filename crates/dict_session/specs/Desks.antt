@@ -18,3 +18,7 @@ pub record Stays {S : Type 0} (Shows : S → Catalogue → Type 0) (LeavesOneOf 
   pub shows : IsTrusted new → (catalogue : Catalogue) → Shows old catalogue → Shows new catalogue
   pub leaves : (ms : List (Option Catalogue)) → LeavesOneOf old ms → LeavesOneOf new ms
   pub closed : is_closed old ≡ true → is_closed new ≡ true
+
+-- how a desk stands for the answer to one line: its last call behind the line failed, and it was closed before it
+abbrev pub across : {S : Type 0} → (S → Bool) → (S → Bool) → S → S → Condition
+across has_failed is_closed old new = record { failed = has_failed new; closed = is_closed old }

@@ -9,4 +9,5 @@ pub mod Rows
 pub mod RowLemmas
 pub mod Session
 pub mod Run
+pub mod Through
 pub mod Limits

@@ -1,4 +1,6 @@
 -- The names of hosts, under which each line of a session is short.
+use Rattle.dict_io.specs.Streams.{Stream, AppendsFront}
+use Rattle.dict_proto.specs.ReplyLines.{AreShortLines}
 use Rattle.std.specs.Prelude.{ℕ, Bool, ◌||◌, ◌&&◌, ◌==◌, List}
 use Rattle.std.specs.List.{list_all}
 use Rattle.dict_name.specs.Names.{has_size, is_capital_letter, is_small_letter, is_digit}
@@ -10,3 +12,7 @@ is_host_octet octet = is_capital_letter octet || (is_small_letter octet || (is_d
 -- the name of a host: 1 to 253 of these
 unfoldable pub is_host : List ℕ → Bool
 is_host text = has_size 253 text && list_all is_host_octet text
+
+-- a front of short lines was put
+abbrev pub PutsShort : Stream → Stream → Type 0
+PutsShort old new = (lines : List ℕ) × AreShortLines lines × AppendsFront old.octets new.octets lines

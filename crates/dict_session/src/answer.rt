@@ -1,15 +1,16 @@
 // The answer to one line.
-ghost use Rattle.std.specs.Prelude.{◌≡◌, ℕ, List, Bool, true, false, Err, IfOk, OnOk};
+ghost use Rattle.std.specs.Prelude.{◌≡◌, ◌≢◌, ◌&&◌, ℕ, List, Bool, true, false, Err, IfOk, OnOk, is_some};
 ghost use Rattle.dict_io.specs.Streams.{Stream, Puts};
 ghost use Rattle.dict_line.specs.Meaning.{Meaning};
 ghost use Rattle.dict_line.specs.Told.{Tells, requested};
 ghost use Rattle.dict_catalogue.specs.Steps.{Catalogue};
 ghost use Rattle.dict_proto.specs.Replies.{reply_octets};
 ghost use Rattle.dict_desk.specs.Asked.{strategy_of};
-ghost use Rattle.dict_session.specs.Answers.{answer_to, counted_rows, define_answer, match_answer, Need, need_of, ends_session, may_be_unavailable};
-ghost use Rattle.dict_session.specs.Desks.{Condition, condition, Stays};
+ghost use Rattle.dict_session.specs.Answers.{answer_to, counted_rows, define_answer, match_answer, names_databases, Need, need_of, ends_session, may_be_unavailable};
+ghost use Rattle.dict_session.specs.Desks.{Condition, across, Stays};
 ghost use Rattle.dict_session.specs.Places.{asked_in, HoldsAsked};
 ghost use Rattle.dict_session.specs.Ending.{Finishes, PutsAnswer, PutsLine};
+ghost use Rattle.dict_session.specs.Through.{LooksWhere, looks_up};
 
 use crate::asked::{Asked, asked_places};
 use crate::found::put_found;
@@ -33,8 +34,10 @@ pub(crate) fn answer_line<L: Lookup, K: Sink>(
     sink: &mut K,
 ) -> Course
     ensures value { L.is_trusted desk.new → (M : Catalogue) → L.shows desk.old M → (meaning : Meaning) → Tells asked meaning
-        → Finishes (answer_to M host.now) (condition L.has_failed L.is_closed desk.new) result (K.stream sink.old) (K.stream sink.new) meaning }
+        → Finishes (answer_to M host.now) (across L.has_failed L.is_closed desk.old desk.new) result (K.stream sink.old) (K.stream sink.new) meaning }
     ensures desk { Stays L.shows L.leaves_one_of L.is_trusted L.is_closed desk.old desk.new }
+    ensures looks { (M : Catalogue) → L.shows desk.old M → (meaning : Meaning) → Tells asked meaning → looks_up M meaning ≡ false → desk.new ≡ desk.old }
+    ensures breaks { result ≡ Course.DeskFailed → (M : Catalogue) → L.shows desk.old M → (meaning : Meaning) → Tells asked meaning → looks_up M meaning ≡ true }
 {
     match asked {
         Ok(request) => answer_request(alloc, desk, host, &request, sink),
@@ -44,8 +47,9 @@ pub(crate) fn answer_line<L: Lookup, K: Sink>(
 
 // Puts the answer to a line that is no command.
 fn answer_fault<K: Sink>(fault: LineFault, sink: &mut K) -> Course
-    ensures { (M : Catalogue) (host : List ℕ) (desk : Condition) (meaning : Meaning) → Tells (Err fault) meaning
+    ensures value { (M : Catalogue) (host : List ℕ) (desk : Condition) (meaning : Meaning) → Tells (Err fault) meaning
         → Finishes (answer_to M host) desk result (K.stream sink.old) (K.stream sink.new) meaning }
+    ensures whole { result ≢ Course.DeskFailed }
 {
     match fault {
         LineFault::NotRecognized => put_line(&Reply::NotRecognized, sink),
@@ -74,8 +78,10 @@ fn answer_request<L: Lookup, K: Sink>(
     sink: &mut K,
 ) -> Course
     ensures value { L.is_trusted desk.new → (M : Catalogue) → L.shows desk.old M
-        → Finishes (answer_to M host.now) (condition L.has_failed L.is_closed desk.new) result (K.stream sink.old) (K.stream sink.new) (requested request.now) }
+        → Finishes (answer_to M host.now) (across L.has_failed L.is_closed desk.old desk.new) result (K.stream sink.old) (K.stream sink.new) (requested request.now) }
     ensures desk { Stays L.shows L.leaves_one_of L.is_trusted L.is_closed desk.old desk.new }
+    ensures looks { (M : Catalogue) → L.shows desk.old M → looks_up M (requested request.now) ≡ false → desk.new ≡ desk.old }
+    ensures breaks { result ≡ Course.DeskFailed → (M : Catalogue) → L.shows desk.old M → looks_up M (requested request.now) ≡ true }
 {
     match put_answer(alloc, desk, host, request, sink) {
         Ok(Answered::Whole) if is_quit(request) => Course::Quit,
@@ -101,8 +107,9 @@ fn put_answer<L: Lookup, K: Sink>(
     sink: &mut K,
 ) -> Result<Answered, PutFault>
     ensures value { L.is_trusted desk.new → (M : Catalogue) → L.shows desk.old M
-        → PutsAnswer (L.has_failed desk.new) result (K.stream sink.old) (K.stream sink.new) (answer_to M host.now (requested request.now)) (need_of (requested request.now)) (may_be_unavailable (L.is_closed desk.new) (requested request.now)) }
+        → PutsAnswer (L.has_failed desk.new) result (K.stream sink.old) (K.stream sink.new) (answer_to M host.now (requested request.now)) (need_of (requested request.now)) (may_be_unavailable (L.is_closed desk.old) (requested request.now)) }
     ensures desk { Stays L.shows L.leaves_one_of L.is_trusted L.is_closed desk.old desk.new }
+    ensures looks { (M : Catalogue) → L.shows desk.old M → LooksWhere (looks_up M (requested request.now)) result desk.old desk.new }
 {
     match request {
         Request::Define { database, word } => {
@@ -181,6 +188,7 @@ fn put_define<L: Lookup, K: Sink>(
     ensures value { L.is_trusted desk.new → (M : Catalogue) → L.shows desk.old M
         → PutsAnswer (L.has_failed desk.new) result (K.stream sink.old) (K.stream sink.new) (define_answer M name.now word.now) (counted_rows What.Entries) true }
     ensures desk { Stays L.shows L.leaves_one_of L.is_trusted L.is_closed desk.old desk.new }
+    ensures looks { (M : Catalogue) → L.shows desk.old M → LooksWhere (names_databases M name.now) result desk.old desk.new }
 {
     let asked = match asked_of(desk, name) {
         Ok(Some(asked)) => asked,
@@ -221,6 +229,7 @@ fn put_match<L: Lookup, K: Sink>(
     ensures value { L.is_trusted desk.new → (M : Catalogue) → L.shows desk.old M
         → PutsAnswer (L.has_failed desk.new) result (K.stream sink.old) (K.stream sink.new) (match_answer M name.now strategy.now word.now) (counted_rows What.Headwords) true }
     ensures desk { Stays L.shows L.leaves_one_of L.is_trusted L.is_closed desk.old desk.new }
+    ensures looks { (M : Catalogue) → L.shows desk.old M → LooksWhere (names_databases M name.now && is_some (strategy_of strategy.now)) result desk.old desk.new }
 {
     let asked = match asked_of(desk, name) {
         Ok(Some(asked)) => asked,

@@ -1,7 +1,7 @@
 //! One DICT session: from the octets that a client sends to the octets that it is sent.
 #![tactic(auto)]
 
-ghost use Rattle.std.specs.Prelude.{◌≡◌, ◌⊎◌, ℕ, ◌<◌, ◌^◌, List, ◌++◌, Bool, IsTrue};
+ghost use Rattle.std.specs.Prelude.{◌≡◌, ◌⊎◌, ℕ, ◌<◌, ◌^◌, List, ◌++◌, Bool, IsTrue, Result};
 ghost use Rattle.dict_line.specs.Meaning.{Meaning};
 ghost use Rattle.dict_session.specs.Lines.{AreLines, cut};
 ghost use Rattle.dict_catalogue.specs.Steps.{Catalogue};
@@ -9,8 +9,12 @@ ghost use Rattle.dict_catalogue.specs.WellFormed.{IsWellFormed};
 ghost use Rattle.dict_proto.specs.Replies.{banner_octets};
 ghost use Rattle.dict_proto.specs.ReplyLines.{AreShortLines};
 ghost use Rattle.dict_session.specs.Answers.{answer_to};
-ghost use Rattle.dict_session.specs.Limits.{is_host};
-ghost use Rattle.dict_session.specs.Run.{lines_in};
+ghost use Rattle.dict_io.specs.Streams.{StreamChange};
+ghost use Rattle.dict_session.specs.Desks.{Condition};
+ghost use Rattle.dict_session.specs.Limits.{is_host, PutsShort};
+ghost use Rattle.dict_session.specs.Run.{Ends, lines_in};
+ghost use Rattle.dict_session.specs.declared.session.run.SessionEnd.{SessionEnd as RunEnd};
+ghost use Rattle.dict_session.specs.declared.session.run.SessionFault.{SessionFault as RunFault};
 ghost use Rattle.dict_session.specs.Spoken.{Speaks, HasUnavailable, BreaksOff, answers, has_quit, session};
 
 mod answer;
@@ -57,9 +61,11 @@ pub fn broken_is_a_front()
 {}
 
 /// Where the catalogue keeps its limits, and the host, no line of a session has more than 1,024 octets, its CR LF
-/// counted, also where the 420 line stands in place of answers.
+/// counted, also where the 420 line stands in place of answers. What a run wrote, however it ended, is a front of such lines.
 pub fn session_lines_are_short()
-    ensures { (M : Catalogue) (host : List ℕ) (connection : ℕ) (closed : Bool) (ls : List (List ℕ)) (o : List ℕ) (ended : Bool)
+    ensures runs { (M : Catalogue) (host : List ℕ) (connection : ℕ) (desk : Condition) (end : Result RunEnd RunFault) (reader writer : StreamChange)
+        → IsWellFormed M → IsTrue (is_host host) → connection < 2 ^ 64 → Ends M host connection desk end reader writer → PutsShort writer.old writer.new }
+    ensures spoken { (M : Catalogue) (host : List ℕ) (connection : ℕ) (closed : Bool) (ls : List (List ℕ)) (o : List ℕ) (ended : Bool)
         → IsWellFormed M → IsTrue (is_host host) → connection < 2 ^ 64 → Speaks (answer_to M host) closed ls o ended
         → AreShortLines (banner_octets host connection ++ o) }
 {}

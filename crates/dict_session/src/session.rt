@@ -1,5 +1,5 @@
 // One session in pieces.
-ghost use Rattle.std.specs.Prelude.{◌≡◌, ◌≢◌, ℕ, ◌≤◌, ◌-◌, List, [], ◌∷◌, ◌++◌, IfOk, vec_len, vec_capacity, length, take};
+ghost use Rattle.std.specs.Prelude.{◌≡◌, ◌≢◌, false, All, ℕ, ◌≤◌, ◌-◌, List, [], ◌∷◌, ◌++◌, IfOk, vec_len, vec_capacity, length, take};
 ghost use Rattle.dict_line.specs.Meaning.{meaning};
 ghost use Rattle.dict_line.specs.Told.{Tells};
 ghost use Rattle.dict_proto.specs.Replies.{banner_octets};
@@ -32,9 +32,10 @@ pub struct Session<'h> {
 }
 
 impl<'h> Session<'h> {
-    ghost use Rattle.dict_session.specs.Session.{HasUnfinished, Leaves, EndsLine, IsSameSession, course_of, step_of, host_of, connection_of};
+    ghost use Rattle.dict_session.specs.Session.{HasUnfinished, Leaves, IsSameSession, course_of, step_of, host_of, connection_of};
     ghost use Rattle.dict_session.specs.Ending.{PutsLine};
-    ghost use Rattle.dict_session.specs.Lines.{HasNoLineEnd};
+    ghost use Rattle.dict_session.specs.Through.{AnswersLine, LeavesThrough, looks_up};
+    ghost use Rattle.dict_session.specs.Lines.{HasNoLineEnd, cut};
 
     /// A session that has read nothing, with the name of the server's host and the connection's number. The line's
     /// room is taken here, and never grows.
@@ -88,6 +89,10 @@ impl<'h> Session<'h> {
     ) -> Step
         ensures answers { step_of self.old ≡ More → L.is_trusted desk.new → (M : Catalogue) → L.shows desk.old M → (rest : List ℕ) → HasUnfinished self.old rest
             → Leaves (answer_to M (host_of self.old)) (condition L.has_failed L.is_closed desk.new) (course_of self.new) self.new (K.stream sink.old) (K.stream sink.new) (rest ++ piece.now) }
+        ensures through { step_of self.old ≡ More → L.is_trusted desk.new → (M : Catalogue) → L.shows desk.old M → (rest : List ℕ) → HasUnfinished self.old rest
+            → LeavesThrough (answer_to M (host_of self.old)) (looks_up M) (L.is_closed desk.old) (condition L.has_failed L.is_closed desk.new) (course_of self.new) self.new (K.stream sink.old) (K.stream sink.new) (rest ++ piece.now) }
+        ensures quiet { step_of self.old ≡ More → L.is_trusted desk.new → (M : Catalogue) → L.shows desk.old M → (rest : List ℕ) → HasUnfinished self.old rest
+            → All (λ line. looks_up M (meaning line) ≡ false) (cut (rest ++ piece.now)).lines → desk.new ≡ desk.old }
         ensures desk { Stays L.shows L.leaves_one_of L.is_trusted L.is_closed desk.old desk.new }
         ensures step { step_of self.new ≡ result }
         ensures same { IsSameSession self.old self.new }
@@ -106,6 +111,10 @@ impl<'h> Session<'h> {
     ) -> Course
         ensures answers { step_of self.old ≡ More → L.is_trusted desk.new → (M : Catalogue) → L.shows desk.old M → (rest : List ℕ) → HasUnfinished self.old rest
             → Leaves (answer_to M (host_of self.old)) (condition L.has_failed L.is_closed desk.new) result self.new (K.stream sink.old) (K.stream sink.new) (rest ++ piece.now) }
+        ensures through { step_of self.old ≡ More → L.is_trusted desk.new → (M : Catalogue) → L.shows desk.old M → (rest : List ℕ) → HasUnfinished self.old rest
+            → LeavesThrough (answer_to M (host_of self.old)) (looks_up M) (L.is_closed desk.old) (condition L.has_failed L.is_closed desk.new) result self.new (K.stream sink.old) (K.stream sink.new) (rest ++ piece.now) }
+        ensures quiet { step_of self.old ≡ More → L.is_trusted desk.new → (M : Catalogue) → L.shows desk.old M → (rest : List ℕ) → HasUnfinished self.old rest
+            → All (λ line. looks_up M (meaning line) ≡ false) (cut (rest ++ piece.now)).lines → desk.new ≡ desk.old }
         ensures desk { Stays L.shows L.leaves_one_of L.is_trusted L.is_closed desk.old desk.new }
         ensures course { course_of self.new ≡ result }
         ensures same { IsSameSession self.old self.new }
@@ -114,8 +123,18 @@ impl<'h> Session<'h> {
         if self.last != Course::More {
             return self.last;
         }
-        self.last = self.read(alloc, piece, desk, sink);
-        self.last
+        let course = self.read(alloc, piece, desk, sink);
+        self.note(course);
+        course
+    }
+
+    // Notes how a call ended.
+    fn note(&mut self, course: Course)
+        ensures course { course_of self.new ≡ course }
+        ensures line { (rest : List ℕ) → HasUnfinished self.old rest → HasUnfinished self.new rest }
+        ensures same { IsSameSession self.old self.new }
+    {
+        self.last = course;
     }
 
     // The same for a session that goes on.
@@ -127,7 +146,9 @@ impl<'h> Session<'h> {
         sink: &mut K,
     ) -> Course
         ensures answers { L.is_trusted desk.new → (M : Catalogue) → L.shows desk.old M → (rest : List ℕ) → HasUnfinished self.old rest
-            → Leaves (answer_to M (host_of self.old)) (condition L.has_failed L.is_closed desk.new) result self.new (K.stream sink.old) (K.stream sink.new) (rest ++ piece.now) }
+            → LeavesThrough (answer_to M (host_of self.old)) (looks_up M) (L.is_closed desk.old) (condition L.has_failed L.is_closed desk.new) result self.new (K.stream sink.old) (K.stream sink.new) (rest ++ piece.now) }
+        ensures quiet { L.is_trusted desk.new → (M : Catalogue) → L.shows desk.old M → (rest : List ℕ) → HasUnfinished self.old rest
+            → All (λ line. looks_up M (meaning line) ≡ false) (cut (rest ++ piece.now)).lines → desk.new ≡ desk.old }
         ensures desk { Stays L.shows L.leaves_one_of L.is_trusted L.is_closed desk.old desk.new }
         ensures same { IsSameSession self.old self.new }
     {
@@ -149,7 +170,9 @@ impl<'h> Session<'h> {
         sink: &mut K,
     ) -> Course
         ensures answers { L.is_trusted desk.new → (M : Catalogue) → L.shows desk.old M → (rest : List ℕ) → HasUnfinished self.old rest
-            → Leaves (answer_to M (host_of self.old)) (condition L.has_failed L.is_closed desk.new) result self.new (K.stream sink.old) (K.stream sink.new) (rest ++ octet ∷ []) }
+            → LeavesThrough (answer_to M (host_of self.old)) (looks_up M) (L.is_closed desk.old) (condition L.has_failed L.is_closed desk.new) result self.new (K.stream sink.old) (K.stream sink.new) (rest ++ octet ∷ []) }
+        ensures quiet { L.is_trusted desk.new → (M : Catalogue) → L.shows desk.old M → (rest : List ℕ) → HasUnfinished self.old rest
+            → All (λ line. looks_up M (meaning line) ≡ false) (cut (rest ++ octet ∷ [])).lines → desk.new ≡ desk.old }
         ensures desk { Stays L.shows L.leaves_one_of L.is_trusted L.is_closed desk.old desk.new }
         ensures same { IsSameSession self.old self.new }
     {
@@ -196,7 +219,8 @@ impl<'h> Session<'h> {
     // Answers the line whose CR was read last, at its LF.
     fn end_line<L: Lookup, K: Sink>(&mut self, alloc: Global, desk: &mut L, sink: &mut K) -> Course
         ensures answers { L.is_trusted desk.new → (M : Catalogue) → L.shows desk.old M → (rest : List ℕ) → HasUnfinished self.old rest
-            → EndsLine (answer_to M (host_of self.old)) (condition L.has_failed L.is_closed desk.new) result self.new (K.stream sink.old) (K.stream sink.new) (take (length rest - 1) rest) }
+            → AnswersLine (answer_to M (host_of self.old)) (looks_up M) (L.is_closed desk.old) (condition L.has_failed L.is_closed desk.new) result self.new (K.stream sink.old) (K.stream sink.new) (take (length rest - 1) rest) }
+        ensures quiet { (M : Catalogue) → L.shows desk.old M → (rest : List ℕ) → HasUnfinished self.old rest → looks_up M (meaning (take (length rest - 1) rest)) ≡ false → desk.new ≡ desk.old }
         ensures desk { Stays L.shows L.leaves_one_of L.is_trusted L.is_closed desk.old desk.new }
         ensures same { IsSameSession self.old self.new }
     {

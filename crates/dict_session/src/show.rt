@@ -13,6 +13,7 @@ ghost use Rattle.dict_session.specs.Answers.{no_rows, one_row};
 ghost use Rattle.dict_session.specs.Desks.{Stays};
 ghost use Rattle.dict_session.specs.Ending.{PutsAnswer};
 ghost use Rattle.dict_session.specs.Rows.{shown_line, line_if_named, items_octets, members_octets};
+ghost use Rattle.dict_session.specs.Through.{has_edition, LooksWhere};
 ghost use Rattle.dict_session.specs.Shows.{databases_answer, strategies_answer, strategy_line, server_answer, info_answer, status_answer, help_answer};
 
 use crate::answer::{put_unavailable, put_whole, whole};
@@ -251,6 +252,7 @@ pub(crate) fn put_info<L: Lookup, K: Sink>(
     ensures value { L.is_trusted desk.new → (M : Catalogue) → L.shows desk.old M
         → PutsAnswer (L.has_failed desk.new) result (K.stream sink.old) (K.stream sink.new) (info_answer M name.now) one_row true }
     ensures desk { Stays L.shows L.leaves_one_of L.is_trusted L.is_closed desk.old desk.new }
+    ensures looks { (M : Catalogue) → L.shows desk.old M → LooksWhere (has_edition (find (is_named name.now) M.items)) result desk.old desk.new }
 {
     let Ok(summary) = desk.summary() else {
         return put_unavailable(sink);

@@ -4,6 +4,7 @@ ghost use Rattle.std.specs.Prelude.{◌≡◌, Err};
 ghost use Rattle.dict_catalogue.specs.Steps.{Catalogue};
 ghost use Rattle.dict_session.specs.Desks.{condition, Stays};
 ghost use Rattle.dict_session.specs.Run.{Ends};
+ghost use Rattle.dict_session.specs.Through.{EndsThrough};
 
 use crate::session::Session;
 use crate::step::{Course, Step};
@@ -47,6 +48,8 @@ pub fn run<S: Source, K: Sink, L: Lookup>(
     ensures answers { L.is_trusted desk.new → (M : Catalogue) → L.shows desk.old M → Ends M host.now connection (condition L.has_failed L.is_closed desk.new) result
         (change S.stream reader.old reader.new) (change K.stream writer.old writer.new) }
     ensures desk { Stays L.shows L.leaves_one_of L.is_trusted L.is_closed desk.old desk.new }
+    ensures through { L.is_trusted desk.new → (M : Catalogue) → L.shows desk.old M → EndsThrough M host.now connection (L.is_closed desk.old) (condition L.has_failed L.is_closed desk.new) result
+        (change S.stream reader.old reader.new) (change K.stream writer.old writer.new) }
     ensures memory { result ≡ Err SessionFault.Memory → (reader.new ≡ reader.old) × (writer.new ≡ writer.old) }
 {
     let Ok(mut session) = Session::new(alloc, host, connection) else {

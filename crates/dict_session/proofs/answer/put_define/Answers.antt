@@ -1,13 +1,14 @@
-use Rattle.std.proofs.Common.{List, ℕ, true, sym, ap, ◌∙◌, subst}
-use Rattle.std.specs.Prelude.{Option}
+use Rattle.std.proofs.Common.{List, [], ℕ, true, false, refl, sym, ap, ◌∙◌, subst}
+use Rattle.std.specs.Prelude.{Option, is_some}
 use Rattle.dict_desk.specs.declared.lookup.What.TheVariants.{Entries}
-use Rattle.dict_session.specs.Answers.{counted_rows}
+use Rattle.dict_session.specs.Answers.{counted_rows, names_databases}
 use Rattle.dict_session.specs.Ending.{PutsAnswer}
-use Rattle.dict_session.specs.Places.{HoldsAsked, asked_in}
+use Rattle.dict_session.specs.Places.{Asking, HoldsAsked, asked_in}
 use Rattle.dict_session.specs.Rows.{answering, found_octets}
 use Rattle.dict_session.specs.declared.asked.Asked.{Asked}
 use Rattle.dict_session.proofs.FoundLemmas.{for_definitions}
-use Rattle.dict_session.proofs.AnswerLemmas.{define_unknown, none_asked, some_asked, held_few, define_held}
+use Rattle.dict_session.proofs.AnswerLemmas.{define_unknown, names_asked, none_asked, some_asked, held_few, define_held}
+use Rattle.dict_session.proofs.LooksLemmas.{loud, quiet}
 use Rattle.dict_session.proofs.answer.put_define.Goals as goal
 
 pub returns-in-Ok-None-clause-value : goal.returns-in-Ok-None-clause-value
@@ -25,3 +26,17 @@ returns-clause-value g c = λ trusted M shown.
     subst (λ (answer : List ℕ). PutsAnswer failed c.put_found.result (g.K.Sink.stream c.args.sink.now) (g.K.Sink.stream c.put_found.new.sink) answer (counted_rows Entries) true)
     (ap (λ (key : List ℕ). found_octets (for_definitions key) M.items (answering (for_definitions key) M.items asked.places.items asked.is_first)) c.in-Ok.ensures ∙ define_held M c.args.name.now c.args.word.now asked held)
     (c.put_found.ensures.value trusted M shown (held_few M c.args.name.now asked (g.met.L.Lookup.well_formed c.args.desk.now M shown) held))
+
+pub returns-in-Ok-None-clause-looks : goal.returns-in-Ok-None-clause-looks
+returns-in-Ok-None-clause-looks g c = λ M shown. quiet (names_databases M c.args.name.now) c.put_whole.result _ _ refl _ _ _ _ _ (c.put_whole.ensures false (counted_rows Entries) true)
+
+pub returns-in-Err-clause-looks : goal.returns-in-Err-clause-looks
+returns-in-Err-clause-looks g c = λ M shown. quiet (names_databases M c.args.name.now) c.put_unavailable.result _ _ refl _ _ [] _ _ (c.put_unavailable.ensures [] false (counted_rows Entries))
+
+pub returns-in_default-clause-looks : goal.returns-in_default-clause-looks
+returns-in_default-clause-looks g c = λ M shown. quiet (names_databases M c.args.name.now) c.put_unavailable-in_default.result _ _ refl _ _ [] _ _ (c.put_unavailable-in_default.ensures [] false (counted_rows Entries))
+
+pub returns-clause-looks : goal.returns-clause-looks
+returns-clause-looks g c = λ M shown.
+    let held = some_asked M c.args.name.now c.in-Ok-Some.asked (g.met.L.Lookup.well_formed c.args.desk.now M shown) (subst (λ (o : Option Asked). HoldsAsked o (asked_in M.items c.args.name.now)) c.in-Ok-Some.field-0-is (c.in-Ok-Some.ensures.value M shown)) in
+    loud (names_databases M c.args.name.now) c.put_found.result _ _ (names_asked M c.args.name.now ∙ ap (λ (o : Option Asking). is_some o) held.1)
