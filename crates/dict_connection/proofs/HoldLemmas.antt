@@ -1,11 +1,12 @@
 -- Octets that are held back, and turns in which nothing is read.
 use Rattle.std.proofs.Common.{◌≡◌, ◌≢◌, ◌≤◌, ◌<◌, ℕ, Bool, true, false, List, [], ◌∷◌, ◌++◌, refl, sym, ap, ◌∙◌, subst, append-nil, inl, inr, arith}
 use Rattle.std.proofs.lemmas.List.Elements.{All-nil}
-use Rattle.std.specs.Prelude.{Option, Some, ◌&&◌, if◌then◌else◌}
+use Rattle.std.specs.Prelude.{Option, ◌&&◌, if◌then◌else◌}
 use Rattle.std.specs.Io.KnownBytes.{Consumes, Keeps}
 use Rattle.dict_catalogue.specs.Steps.{Catalogue}
 use Rattle.dict_hub.specs.Events.{is_of_editor}
 use Rattle.dict_hub.specs.Runs.{Accepted, State, IsAt}
+use Rattle.dict_hub.specs.declared.fault.HubFault.{HubFault}
 use Rattle.dict_hub.specs.declared.hub.Hub.{Hub}
 use Rattle.dict_hub.specs.declared.kind.Kind.{Kind}
 use Rattle.dict_outlet.specs.Calls.{Call, Makes, receives}
@@ -22,6 +23,7 @@ use Rattle.dict_connection.specs.Handing.{held_in, is_handed}
 use Rattle.dict_connection.specs.Leading.{HasLedOn}
 use Rattle.dict_connection.specs.Pieces.{next_piece}
 use Rattle.dict_connection.specs.Stages.{is_open}
+use Rattle.dict_connection.specs.Causes.{IsRefused}
 use Rattle.dict_connection.specs.Telling.{KeepsEach}
 use Rattle.dict_connection.specs.Turns.{BringAllOrNone, HandsOver, LeadsByAnswer, LeadsByPiece, LeadsFurther, ReadsOnce, SendsOnce, Turns, is_deferred, may_read}
 use Rattle.dict_connection.specs.declared.connection.Connection.{Connection}
@@ -73,9 +75,9 @@ hands_none taken coming made a b octets same kind held = record {
 }
 
 -- octets that are held back for one turn more
-pub back_once : {T : Type 0} (hub : Hub) (a b : Connection T) → b ≡ record a { held = b.held } → held_in b.held ≡ held_in a.held → (is_of_editor a.held.kind ≡ true) × (b.held.turns_left < a.held.turns_left)
-    → LeadsByPiece hub (held_in a.held) a.held.turns_left a b []
-back_once hub a b same held (editor, fewer) = inr (editor, refl, held, ap (λ it. it.stage) same, fewer)
+pub back_once : {T : Type 0} (refused : ℕ → Kind → Type 0) (a b : Connection T) → b ≡ record a { held = b.held } → held_in b.held ≡ held_in a.held → (is_of_editor a.held.kind ≡ true) × (b.held.turns_left < a.held.turns_left)
+    → LeadsByPiece refused (held_in a.held) a.held.turns_left a b []
+back_once refused a b same held (editor, fewer) = inr (editor, refl, held, ap (λ it. it.stage) same, fewer)
 
 -- a piece is handed of a connection that was as this one, but for the turns that were left
 pub hands_from : {T : Type 0} (taken coming : T → Option (List ℕ)) (made : T → Option (List Call)) (a b c : Connection T) (octets : List ℕ) (events : List Accepted) → b ≡ record a { held = b.held } → b.held.kind ≡ a.held.kind
@@ -96,31 +98,36 @@ hands_from taken coming made a b c octets events same kind hands = record {
 }
 
 -- and so it is answered
-pub handed_from : {T : Type 0} (taken coming : T → Option (List ℕ)) (made : T → Option (List Call)) (hub : Hub) (a b c : Connection T) (events : List Accepted) → b ≡ record a { held = b.held } → b.held.kind ≡ a.held.kind
-    → held_in b.held ≡ held_in a.held → HandsOver taken coming made (held_in b.held) b c events × LeadsByAnswer hub (held_in b.held) b c events
-    → HandsOver taken coming made (held_in a.held) a c events × LeadsByPiece hub (held_in a.held) a.held.turns_left a c events
-handed_from taken coming made hub a b c events same kind held (hands, leads) = (
+pub handed_from : {T : Type 0} (taken coming : T → Option (List ℕ)) (made : T → Option (List Call)) (refused : ℕ → Kind → Type 0) (a b c : Connection T) (events : List Accepted) → b ≡ record a { held = b.held } → b.held.kind ≡ a.held.kind
+    → held_in b.held ≡ held_in a.held → HandsOver taken coming made (held_in b.held) b c events × LeadsByAnswer refused (held_in b.held) b c events
+    → HandsOver taken coming made (held_in a.held) a c events × LeadsByPiece refused (held_in a.held) a.held.turns_left a c events
+handed_from taken coming made refused a b c events same kind held (hands, leads) = (
   subst (λ (l : List ℕ). HandsOver taken coming made l a c events) held (hands_from taken coming made a b c (held_in b.held) events same kind hands),
-  inl (answer_from hub a b c (held_in a.held) events (ap (λ it. it.id) same) (ap (λ it. it.stage) same) kind (subst (λ (l : List ℕ). LeadsByAnswer hub l b c events) held leads)),
+  inl (answer_from refused a b c (held_in a.held) events (ap (λ it. it.id) same) (ap (λ it. it.stage) same) kind (subst (λ (l : List ℕ). LeadsByAnswer refused l b c events) held leads)),
 )
 
--- where a hub has of each connection what another has, an answer by the one is an answer by the other
-answer_over : {T : Type 0} (hub after : Hub) (octets : List ℕ) (b c : Connection T) (events : List Accepted) → KeepsEach hub after → LeadsByAnswer after octets b c events → LeadsByAnswer hub octets b c events
-answer_over hub after octets b c events keeps (inl told) = inl told
-answer_over hub after octets b c events keeps (inr (may, ends, over)) = inr ((λ held has. may held (keeps b.id (Some held) has)), ends, over)
+-- what a hub refused was refused by one that had of each connection what it has
+pub refused_over : (refuses : Hub → ℕ → Kind → Option HubFault → Type 0) (hub after : Hub) → KeepsEach hub after → (id : ℕ) (kind : Kind) → IsRefused refuses after id kind → IsRefused refuses hub id kind
+refused_over refuses hub after keeps id kind (at, same, why) = (at, (λ held has. same held (keeps id held has)), why)
+
+-- an answer where the one may be refused is one where the other may
+answer_over : {T : Type 0} (refused since : ℕ → Kind → Type 0) (octets : List ℕ) (b c : Connection T) (events : List Accepted) → ((id : ℕ) (kind : Kind) → since id kind → refused id kind)
+    → LeadsByAnswer since octets b c events → LeadsByAnswer refused octets b c events
+answer_over refused since octets b c events over (inl told) = inl told
+answer_over refused since octets b c events over (inr (may, ends, is)) = inr (over b.id b.held.kind may, ends, is)
 
 -- where a piece leads that was read into a connection which was as this one, but for what is held
-piece_read : {T : Type 0} (hub after : Hub) (a b c : Connection T) (octets : List ℕ) (events : List Accepted) → KeepsEach hub after → b.id ≡ a.id → b.stage ≡ a.stage → b.held.kind ≡ a.held.kind → b.held.turns_left ≤ 1_000_000
-    → LeadsByPiece after octets b.held.turns_left b c events → LeadsByPiece hub octets 1_000_000 a c events
-piece_read hub after a b c octets events keeps id stage kind few (inl answer) = inl (answer_from hub a b c octets events id stage kind (answer_over hub after octets b c events keeps answer))
-piece_read hub after a b c octets events keeps id stage kind few (inr (editor, none, held, same, fewer)) = inr (ap is_of_editor (sym kind) ∙ editor, none, held, same ∙ stage, omega (arith, few, fewer))
+piece_read : {T : Type 0} (refused since : ℕ → Kind → Type 0) (a b c : Connection T) (octets : List ℕ) (events : List Accepted) → ((id : ℕ) (kind : Kind) → since id kind → refused id kind) → b.id ≡ a.id → b.stage ≡ a.stage
+    → b.held.kind ≡ a.held.kind → b.held.turns_left ≤ 1_000_000 → LeadsByPiece since octets b.held.turns_left b c events → LeadsByPiece refused octets 1_000_000 a c events
+piece_read refused since a b c octets events over id stage kind few (inl answer) = inl (answer_from refused a b c octets events id stage kind (answer_over refused since octets b c events over answer))
+piece_read refused since a b c octets events over id stage kind few (inr (editor, none, held, same, fewer)) = inr (ap is_of_editor (sym kind) ∙ editor, none, held, same ∙ stage, omega (arith, few, fewer))
 
 -- octets came, which are held then, and the hub was told the first piece of them, or they are held back
-pub reads_octets : {T : Type 0} {hub : Hub} (taken coming : T → Option (List ℕ)) (made : T → Option (List Call)) (after : Hub) (a b s c : Connection T) (count : ℕ) (octets : List ℕ) (events : List Accepted)
-    → b ≡ record a { transport = b.transport } → s ≡ record b { held = s.held } → a.may_receive ≡ true → s.held.kind ≡ b.held.kind → held_in s.held ≡ octets → s.held.turns_left ≤ 1_000_000 → KeepsEach hub after
+pub reads_octets : {T : Type 0} {refused : ℕ → Kind → Type 0} (taken coming : T → Option (List ℕ)) (made : T → Option (List Call)) (since : ℕ → Kind → Type 0) (a b s c : Connection T) (count : ℕ) (octets : List ℕ) (events : List Accepted)
+    → b ≡ record a { transport = b.transport } → s ≡ record b { held = s.held } → a.may_receive ≡ true → s.held.kind ≡ b.held.kind → held_in s.held ≡ octets → s.held.turns_left ≤ 1_000_000 → ((id : ℕ) (kind : Kind) → since id kind → refused id kind)
     → Keeps (taken a.transport) (taken b.transport) → Consumes (coming a.transport) (coming b.transport) octets → Makes (made a.transport) (made b.transport) (receives 4096 (receiveds.Octets count) ∷ [])
-    → HandsOver taken coming made (held_in s.held) s c events × LeadsByPiece after (held_in s.held) s.held.turns_left s c events → ReadsOnce taken coming made hub a c (receiveds.Octets count) events
-reads_octets {hub = hub} taken coming made after a b s c count octets events same filled marked kind is few keeps took comes calls (hands, leads) =
+    → HandsOver taken coming made (held_in s.held) s c events × LeadsByPiece since (held_in s.held) s.held.turns_left s c events → ReadsOnce taken coming made refused a c (receiveds.Octets count) events
+reads_octets {refused = refused} taken coming made since a b s c count octets events same filled marked kind is few over took comes calls (hands, leads) =
     let id : s.id ≡ a.id = ap (λ it. it.id) filled ∙ ap (λ it. it.id) same in
     let stage : s.stage ≡ a.stage = ap (λ it. it.stage) filled ∙ ap (λ it. it.stage) same in
     let marks : s.may_receive ≡ a.may_receive = ap (λ it. it.may_receive) filled ∙ ap (λ it. it.may_receive) same in
@@ -132,14 +139,14 @@ reads_octets {hub = hub} taken coming made after a b s c count octets events sam
     (subst (λ t. Consumes (coming a.transport) (coming t) octets) back comes)
     (subst (λ t. Makes (made a.transport) (made t) (receives 4096 (receiveds.Octets count) ∷ [])) back calls)
     (subst (λ (l : List ℕ). HandsOver taken coming made l s c events) is hands) (
-      piece_read hub after a s c octets events keeps id stage kinds few (subst (λ (l : List ℕ). LeadsByPiece after l s.held.turns_left s c events) is leads),
+      piece_read refused since a s c octets events over id stage kinds few (subst (λ (l : List ℕ). LeadsByPiece since l s.held.turns_left s c events) is leads),
       hands.may_receive ∙ marks,
     )
 
 -- a sending, and no reading, since that is deferred
-pub turns_deferred : {T : Type 0} {hub : Hub} (taken coming : T → Option (List ℕ)) (made : T → Option (List Call)) (preparing : Bool) (a b : Connection T) (sending : Sent) → sending ≢ sents.Failed
-    → is_handed b.held ≡ true → is_deferred preparing b ≡ true → SendsOnce taken coming made a b sending → Turns taken coming made preparing hub a b true []
-turns_deferred {hub = hub} taken coming made preparing a b sending well all later first =
+pub turns_deferred : {T : Type 0} {refused : ℕ → Kind → Type 0} (taken coming : T → Option (List ℕ)) (made : T → Option (List Call)) (preparing : Bool) (a b : Connection T) (sending : Sent) → sending ≢ sents.Failed
+    → is_handed b.held ≡ true → is_deferred preparing b ≡ true → SendsOnce taken coming made a b sending → Turns taken coming made preparing refused a b true []
+turns_deferred {refused = refused} taken coming made preparing a b sending well all later first =
     let empty : is_handed a.held ≡ true = ap is_handed (sym first.held) ∙ all in
     let late : is_deferred preparing a ≡ true = ap (λ (h : Held). preparing && is_of_editor h.kind) (sym first.held) ∙ later in
     let may : may_read preparing a ≡ false
@@ -170,6 +177,6 @@ turns_deferred {hub = hub} taken coming made preparing a b sending well all late
       lazy = λ few. refl;
       idle = first.idle;
       unmarked = λ isnt. refl;
-      leads = leads_by_turn preparing hub a b sending receiveds.Nothing [] [] well (subst (λ (e : Bool). LeadsFurther e (is_deferred preparing a) hub receiveds.Nothing [] a b []) (sym empty)
-          (subst (λ (d : Bool). LeadsFurther true d hub receiveds.Nothing [] a b []) (sym late) ((refl, first.stage, still), refl, first.may_receive)));
+      leads = leads_by_turn preparing refused a b sending receiveds.Nothing [] [] well (subst (λ (e : Bool). LeadsFurther e (is_deferred preparing a) refused receiveds.Nothing [] a b []) (sym empty)
+          (subst (λ (d : Bool). LeadsFurther true d refused receiveds.Nothing [] a b []) (sym late) ((refl, first.stage, still), refl, first.may_receive)));
     }

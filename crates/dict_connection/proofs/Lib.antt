@@ -6,3 +6,4 @@ pub mod PieceLemmas
 pub mod TurnLemmas
 pub mod HoldLemmas
 pub mod BackLemmas
+pub mod CauseLemmas

@@ -2,7 +2,7 @@
 use Rattle.std.proofs.Common.{◌≡◌, ◌+◌, ◌<◌, ℕ, Bool, true, List, [], ◌∷◌, ◌++◌, refl, sym, ap, ◌∙◌, subst, append-nil, length, length-append, take, inl, inr, arith}
 use Rattle.std.proofs.Math.Dec.{ltb}
 use Rattle.std.proofs.lemmas.Bool.{eq-eqb, ltb-true, lt-ltb}
-use Rattle.std.specs.Prelude.{Option, Some, None, Ok, if◌then◌else◌}
+use Rattle.std.specs.Prelude.{Option, Some, None, Result, Ok, Err, IfErr, if◌then◌else◌}
 use Rattle.std.specs.Io.KnownBytes.{Appends}
 use Rattle.std.proofs.KnownBytes.{Appends-nil}
 use Rattle.dict_io.specs.Streams.{StreamChange, Stream, AppendsFront}
@@ -77,7 +77,7 @@ serves_grow host desk S B A M held (ended id) out old new serves = grows_same ol
 pub led_accepted : (T : Type 0) (S0 S1 : Catalogue → Type 0) (L0 L1 : List (Option Catalogue) → Type 0) (a b : Hub) (what : Happening) (out : Out) (desk : Condition) (old new : Stream) (P : List Accepted → Type 0)
     → (T → (origin : State) (start : Standing) (events : List Accepted) (state : State) (stands : Standing) → Leads origin start events state stands → IsAt a state → S0 stands.catalogue → L0 stands.leaves
     → LeadsOn S1 L1 origin start events state stands what out desk (record { old = old; new = new }) b)
-    → ((one : Accepted) → one.what ≡ what → one.out ≡ out → one.put ≡ record { old = old; new = new } → Grows old.octets new.octets → P (one ∷ []))
+    → ((one : Accepted) → one.what ≡ what → one.out ≡ out → one.put ≡ record { old = old; new = new } → one.desk ≡ desk → Grows old.octets new.octets → P (one ∷ []))
     → HasLedOn T S0 L0 S1 L1 a b P
 led_accepted T S0 S1 L0 L1 a b what out desk old new P leads holds = record {
   led = λ trusted origin start at shown left.
@@ -92,7 +92,7 @@ led_accepted T S0 S1 L0 L1 a b what out desk old new P leads holds = record {
         is_at = on.is_at;
         shows = on.shows;
         leaves = on.leaves;
-        holds = holds one refl refl refl (serves_grow _ _ _ _ _ _ _ _ _ _ _ step);
+        holds = holds one refl refl refl refl (serves_grow _ _ _ _ _ _ _ _ _ _ _ step.serves);
       };
 }
 
@@ -100,7 +100,7 @@ led_accepted T S0 S1 L0 L1 a b what out desk old new P leads holds = record {
 pub led_greeted : (T : Type 0) (S0 S1 : Catalogue → Type 0) (L0 L1 : List (Option Catalogue) → Type 0) (a b : Hub) (id : ℕ) (kind : Kind) (out : Out) (desk : Condition) (old new : Stream) (P : List Accepted → Type 0)
     → (T → (origin : State) (start : Standing) (events : List Accepted) (state : State) (stands : Standing) → Leads origin start events state stands → IsAt a state → S0 stands.catalogue → L0 stands.leaves
     → LeadsOn S1 L1 origin start events state stands (opened id kind) out desk (record { old = old; new = new }) b)
-    → ((one : Accepted) → one.what ≡ opened id kind → one.out ≡ out → one.put ≡ record { old = old; new = new } → Grows old.octets new.octets → Has b id (left_by kind [] out) → P (one ∷ []))
+    → ((one : Accepted) → one.what ≡ opened id kind → one.out ≡ out → one.put ≡ record { old = old; new = new } → one.desk ≡ desk → Grows old.octets new.octets → Has b id (left_by kind [] out) → P (one ∷ []))
     → HasLedOn T S0 L0 S1 L1 a b P
 led_greeted T S0 S1 L0 L1 a b id kind out desk old new P leads holds = record {
   led = λ trusted origin start at shown left.
@@ -117,7 +117,7 @@ led_greeted T S0 S1 L0 L1 a b id kind out desk old new P leads holds = record {
         is_at = on.is_at;
         shows = on.shows;
         leaves = on.leaves;
-        holds = holds one refl refl refl (greets_grow origin.host id kind out old new step.0) own;
+        holds = holds one refl refl refl refl (greets_grow origin.host id kind out old new step.serves.0) own;
       };
 }
 
@@ -184,13 +184,11 @@ told_through_none taken coming made what old new from to same still = record {
 }
 
 -- octets that the hub refused: where it held a reader's of this id, it would have taken them
-pub refuses_piece : (hub : Hub) (what : Happening) (fault : HubFault)
-    → ((held : Option Holding) → Has hub (id_of what) held → admitted held (greatest_of hub) (count_of hub) what ≡ Ok tt → (fault ≡ Memory) × (takes_memory held what ≡ true))
-    → (id : ℕ) (piece : List ℕ) → what ≡ came id piece → MayRefuse hub id
-refuses_piece hub what fault memory id piece is held has =
-    subst (λ (w : Happening). takes_memory (Some held) w ≡ true) is
-    (memory (Some held) (subst (λ (w : Happening). Has hub (id_of w) (Some held)) (sym is) has)
-    (subst (λ (w : Happening). admitted (Some held) (greatest_of hub) (count_of hub) w ≡ Ok tt) (sym is) refl)).1
+pub may_refuse : (hub : Hub) (id : ℕ) (piece : List ℕ) (result : Result Out HubFault)
+    → ((held : Option Holding) → Has hub id held → admitted held (greatest_of hub) (count_of hub) (came id piece) ≡ Ok tt → IfErr result (λ fault. (fault ≡ Memory) × (takes_memory held (came id piece) ≡ true)))
+    → IfErr result (MayRefuse hub id)
+may_refuse hub id piece (Ok out) memory = tt
+may_refuse hub id piece (Err fault) memory = λ held has. memory (Some held) has refl
 
 pub told_none : (what : Happening) (old new : Queue) → new ≡ old → IsTold what None old new []
 told_none what old new same = record {

@@ -24,8 +24,7 @@ use Rattle.dict_connection.specs.Pieces.{next_piece, behind_piece}
 use Rattle.dict_connection.specs.declared.held.Held.{Held}
 use Rattle.dict_hub.specs.declared.kind.Kind.{Kind}
 use Rattle.dict_outlet.specs.Outlets.{Passes, is_sending}
-use Rattle.dict_connection.specs.Telling.{IsAnswered, IsTold, IsToldThrough, MayRefuse}
-use Rattle.dict_hub.specs.declared.hub.Hub.{Hub}
+use Rattle.dict_connection.specs.Telling.{IsAnswered, IsTold, IsToldThrough}
 use Rattle.dict_connection.specs.Turns.{BringAllOrNone, Hands, HandsOver, LeadsByAnswer, LeadsByEnd, LeadsByPiece, LeadsByReading, LeadsByTurn, LeadsFurther, is_deferred, may_read, SendsOnce, ReadsOnce, Turns, Finishes, Drains, LeadsOut, LeadsAway, Departs, stage_between, stage_drained, dropped_after, marked_after}
 use Rattle.dict_connection.specs.declared.connection.Connection.{Connection}
 use Rattle.dict_outlet.specs.declared.calls.Sent.{Sent}
@@ -183,10 +182,10 @@ hands_over taken coming made a b events none hands = record {
 }
 
 -- an event that was refused, and then the end
-pub hands_refused : {T : Type 0} (hub : Hub) (taken coming : T → Option (List ℕ)) (made : T → Option (List Call)) (a b c : Connection T) (octets : List ℕ) (what : Happening) (es fs : List Accepted) → b.id ≡ a.id → b.may_receive ≡ a.may_receive
+pub hands_refused : {T : Type 0} (refused : ℕ → Kind → Type 0) (taken coming : T → Option (List ℕ)) (made : T → Option (List Call)) (a b c : Connection T) (octets : List ℕ) (what : Happening) (es fs : List Accepted) → b.id ≡ a.id → b.may_receive ≡ a.may_receive
     → b.held ≡ a.held → c.stage ≡ stages.Over → IsToldThrough taken coming made what None a.queue b.queue a.transport b.transport es → Hands [] b c fs × IsOnly (ended b.id) fs
-    → MayRefuse hub a.id → HandsOver taken coming made octets a c (es ++ fs) × LeadsByAnswer hub octets a c (es ++ fs)
-hands_refused hub taken coming made a b c octets what es fs id marks held over told (later, only) refuses =
+    → refused a.id a.held.kind → HandsOver taken coming made octets a c (es ++ fs) × LeadsByAnswer refused octets a c (es ++ fs)
+hands_refused refused taken coming made a b c octets what es fs id marks held over told (later, only) refuses =
     let closed : is_open c.stage ≡ false = ap is_open over in
     let whole : es ++ fs ≡ fs = ap (λ (l : List Accepted). l ++ fs) told.answered in
     rw whole (
@@ -207,9 +206,9 @@ hands_refused hub taken coming made a b c octets what es fs id marks held over t
     )
 
 -- octets of which the hub answered the first piece
-pub leads_answered : {T : Type 0} (hub : Hub) (a b : Connection T) (octets piece : List ℕ) (out : Out) (events : List Accepted) → piece ≡ next_piece a.held.kind octets → held_in b.held ≡ behind_piece a.held.kind octets
-    → b.stage ≡ answered out a.stage → IsAnswered (came a.id piece) (Some out) events → LeadsByAnswer hub octets a b events
-leads_answered hub a b octets piece out events first rest stage (one, is, same, told) =
+pub leads_answered : {T : Type 0} (refused : ℕ → Kind → Type 0) (a b : Connection T) (octets piece : List ℕ) (out : Out) (events : List Accepted) → piece ≡ next_piece a.held.kind octets → held_in b.held ≡ behind_piece a.held.kind octets
+    → b.stage ≡ answered out a.stage → IsAnswered (came a.id piece) (Some out) events → LeadsByAnswer refused octets a b events
+leads_answered refused a b octets piece out events first rest stage (one, is, same, told) =
     inl (one, is, same ∙ ap (λ (l : List ℕ). came a.id l) first, rest, stage ∙ ap (λ (o : Out). answered o a.stage) (sym told))
 
 -- only an open connection goes on
@@ -287,9 +286,9 @@ sends_none taken coming made a clear = record {
 }
 
 -- where an answer leads is told of what was before it
-pub answer_from : {T : Type 0} (hub : Hub) (a b c : Connection T) (octets : List ℕ) (events : List Accepted) → b.id ≡ a.id → b.stage ≡ a.stage → b.held.kind ≡ a.held.kind
-    → LeadsByAnswer hub octets b c events → LeadsByAnswer hub octets a c events
-answer_from hub a b c octets events id stage kind (inl (one, is, same, rest, led)) =
+pub answer_from : {T : Type 0} (refused : ℕ → Kind → Type 0) (a b c : Connection T) (octets : List ℕ) (events : List Accepted) → b.id ≡ a.id → b.stage ≡ a.stage → b.held.kind ≡ a.held.kind
+    → LeadsByAnswer refused octets b c events → LeadsByAnswer refused octets a c events
+answer_from refused a b c octets events id stage kind (inl (one, is, same, rest, led)) =
     inl (
       one,
       is,
@@ -297,30 +296,30 @@ answer_from hub a b c octets events id stage kind (inl (one, is, same, rest, led
       rest ∙ ap (λ (k : Kind). behind_piece k octets) kind,
       led ∙ ap (λ (s : Stage). answered one.out s) stage,
     )
-answer_from hub a b c octets events id stage kind (inr (refuses, only, over)) =
-    inr (subst (λ (i : ℕ). MayRefuse hub i) id refuses, subst (λ (i : ℕ). IsOnly (ended i) events) id only, over)
+answer_from refused a b c octets events id stage kind (inr (refuses, only, over)) =
+    inr (subst (λ (i : ℕ). refused i a.held.kind) id (subst (λ (k : Kind). refused b.id k) kind refuses), subst (λ (i : ℕ). IsOnly (ended i) events) id only, over)
 
 -- and so is where a piece leads that may be held back
-piece_from : {T : Type 0} (hub : Hub) (a b c : Connection T) (octets : List ℕ) (most : ℕ) (events : List Accepted) → b.id ≡ a.id → b.stage ≡ a.stage → b.held.kind ≡ a.held.kind
-    → LeadsByPiece hub octets most b c events → LeadsByPiece hub octets most a c events
-piece_from hub a b c octets most events id stage kind (inl answer) = inl (answer_from hub a b c octets events id stage kind answer)
-piece_from hub a b c octets most events id stage kind (inr (editor, none, held, same, fewer)) = inr (ap is_of_editor (sym kind) ∙ editor, none, held, same ∙ stage, fewer)
+piece_from : {T : Type 0} (refused : ℕ → Kind → Type 0) (a b c : Connection T) (octets : List ℕ) (most : ℕ) (events : List Accepted) → b.id ≡ a.id → b.stage ≡ a.stage → b.held.kind ≡ a.held.kind
+    → LeadsByPiece refused octets most b c events → LeadsByPiece refused octets most a c events
+piece_from refused a b c octets most events id stage kind (inl answer) = inl (answer_from refused a b c octets events id stage kind answer)
+piece_from refused a b c octets most events id stage kind (inr (editor, none, held, same, fewer)) = inr (ap is_of_editor (sym kind) ∙ editor, none, held, same ∙ stage, fewer)
 
 -- and so is where a reading leads
-leads_from : {T : Type 0} (hub : Hub) (a b c : Connection T) (reading : Received) (octets : List ℕ) (events : List Accepted) → b.id ≡ a.id → b.stage ≡ a.stage → b.may_receive ≡ a.may_receive → b.held ≡ a.held
-    → LeadsByReading hub reading octets b c events → LeadsByReading hub reading octets a c events
-leads_from hub a b c receiveds.Nothing octets events id stage marks held ((none, same, kept), still) = ((none, same ∙ stage, kept ∙ ap held_in held), still)
-leads_from hub a b c receiveds.Interrupted octets events id stage marks held ((none, same, kept), still) = ((none, same ∙ stage, kept ∙ ap held_in held), still ∙ marks)
-leads_from hub a b c (receiveds.Octets count) octets events id stage marks held (answer, marked) =
-    (piece_from hub a b c octets 1_000_000 events id stage (ap (λ (h : Held). h.kind) held) answer, marked ∙ marks)
-leads_from hub a b c receiveds.End octets events id stage marks held leads = (subst (λ (i : ℕ). IsOnly (ended i) events) id leads.0, leads.1)
-leads_from hub a b c receiveds.Failed octets events id stage marks held leads = (subst (λ (i : ℕ). IsOnly (ended i) events) id leads.0, leads.1)
+leads_from : {T : Type 0} (refused : ℕ → Kind → Type 0) (a b c : Connection T) (reading : Received) (octets : List ℕ) (events : List Accepted) → b.id ≡ a.id → b.stage ≡ a.stage → b.may_receive ≡ a.may_receive → b.held ≡ a.held
+    → LeadsByReading refused reading octets b c events → LeadsByReading refused reading octets a c events
+leads_from refused a b c receiveds.Nothing octets events id stage marks held ((none, same, kept), still) = ((none, same ∙ stage, kept ∙ ap held_in held), still)
+leads_from refused a b c receiveds.Interrupted octets events id stage marks held ((none, same, kept), still) = ((none, same ∙ stage, kept ∙ ap held_in held), still ∙ marks)
+leads_from refused a b c (receiveds.Octets count) octets events id stage marks held (answer, marked) =
+    (piece_from refused a b c octets 1_000_000 events id stage (ap (λ (h : Held). h.kind) held) answer, marked ∙ marks)
+leads_from refused a b c receiveds.End octets events id stage marks held leads = (subst (λ (i : ℕ). IsOnly (ended i) events) id leads.0, leads.1)
+leads_from refused a b c receiveds.Failed octets events id stage marks held leads = (subst (λ (i : ℕ). IsOnly (ended i) events) id leads.0, leads.1)
 
 -- octets came, or an end, and the hub was told
-pub reads_handed : {T : Type 0} {hub : Hub} (taken coming : T → Option (List ℕ)) (made : T → Option (List Call)) (a b c : Connection T) (reading : Received) (octets : List ℕ) (events : List Accepted)
+pub reads_handed : {T : Type 0} {refused : ℕ → Kind → Type 0} (taken coming : T → Option (List ℕ)) (made : T → Option (List Call)) (a b c : Connection T) (reading : Received) (octets : List ℕ) (events : List Accepted)
     → b.id ≡ a.id → b.stage ≡ a.stage → b.queue ≡ a.queue → b.held.kind ≡ a.held.kind → a.may_receive ≡ true → Keeps (taken a.transport) (taken b.transport) → Consumes (coming a.transport) (coming b.transport) octets
-    → Makes (made a.transport) (made b.transport) (receives 4096 reading ∷ []) → HandsOver taken coming made octets b c events → LeadsByReading hub reading octets a c events → ReadsOnce taken coming made hub a c reading events
-reads_handed {hub = hub} taken coming made a b c reading octets events id stage queue kind marked took comes calls hands leads = record {
+    → Makes (made a.transport) (made b.transport) (receives 4096 reading ∷ []) → HandsOver taken coming made octets b c events → LeadsByReading refused reading octets a c events → ReadsOnce taken coming made refused a c reading events
+reads_handed {refused = refused} taken coming made a b c reading octets events id stage queue kind marked took comes calls hands leads = record {
   id = hands.id ∙ id;
   kind = hands.kind ∙ kind;
   was_open = λ still. ap is_open (sym stage) ∙ hands.was_open still;
@@ -344,22 +343,22 @@ reads_handed {hub = hub} taken coming made a b c reading octets events id stage 
 }
 
 -- an end came, or a failure
-pub reads_still : {T : Type 0} {hub : Hub} (taken coming : T → Option (List ℕ)) (made : T → Option (List Call)) (a b c : Connection T) (reading : Received) (events : List Accepted)
+pub reads_still : {T : Type 0} {refused : ℕ → Kind → Type 0} (taken coming : T → Option (List ℕ)) (made : T → Option (List Call)) (a b c : Connection T) (reading : Received) (events : List Accepted)
     → b ≡ record a { transport = b.transport } → held_in a.held ≡ [] → a.may_receive ≡ true → Keeps (taken a.transport) (taken b.transport) → Consumes (coming a.transport) (coming b.transport) []
-    → Makes (made a.transport) (made b.transport) (receives 4096 reading ∷ []) → Hands [] b c events → LeadsByReading hub reading [] b c events → ReadsOnce taken coming made hub a c reading events
-reads_still {hub = hub} taken coming made a b c reading events same none marked took comes calls hands leads =
+    → Makes (made a.transport) (made b.transport) (receives 4096 reading ∷ []) → Hands [] b c events → LeadsByReading refused reading [] b c events → ReadsOnce taken coming made refused a c reading events
+reads_still {refused = refused} taken coming made a b c reading events same none marked took comes calls hands leads =
     let id : b.id ≡ a.id = ap (λ it. it.id) same in
     let stage : b.stage ≡ a.stage = ap (λ it. it.stage) same in
     let marks : b.may_receive ≡ a.may_receive = ap (λ it. it.may_receive) same in
     let queue : b.queue ≡ a.queue = ap (λ it. it.queue) same in
     let held : b.held ≡ a.held = ap (λ it. it.held) same in
     reads_handed taken coming made a b c reading [] events id stage queue (ap (λ (h : Held). h.kind) held) marked took comes calls
-    (hands_over taken coming made b c events (ap held_in held ∙ none) hands) (leads_from hub a b c reading [] events id stage marks held leads)
+    (hands_over taken coming made b c events (ap held_in held ∙ none) hands) (leads_from refused a b c reading [] events id stage marks held leads)
 
 -- nothing came
-pub reads_none : {T : Type 0} {hub : Hub} (taken coming : T → Option (List ℕ)) (made : T → Option (List Call)) (a b : Connection T) (reading : Received) → b.id ≡ a.id → b.stage ≡ a.stage → b.queue ≡ a.queue
+pub reads_none : {T : Type 0} {refused : ℕ → Kind → Type 0} (taken coming : T → Option (List ℕ)) (made : T → Option (List Call)) (a b : Connection T) (reading : Received) → b.id ≡ a.id → b.stage ≡ a.stage → b.queue ≡ a.queue
     → b.held ≡ a.held → held_in a.held ≡ [] → Keeps (taken a.transport) (taken b.transport) → Consumes (coming a.transport) (coming b.transport) [] → Makes (made a.transport) (made b.transport) (readings a.may_receive reading)
-    → (a.may_receive ≡ false → reading ≡ receiveds.Nothing) → LeadsByReading hub reading [] a b [] → ReadsOnce taken coming made hub a b reading []
+    → (a.may_receive ≡ false → reading ≡ receiveds.Nothing) → LeadsByReading refused reading [] a b [] → ReadsOnce taken coming made refused a b reading []
 reads_none taken coming made a b reading id stage queue held none took comes calls unmarked leads = record {
   id = id;
   kind = ap (λ (h : Held). h.kind) held;
@@ -383,12 +382,12 @@ reads_none taken coming made a b reading id stage queue held none took comes cal
   leads = leads;
 }
 
-pub leads_by_turn : {T : Type 0} (preparing : Bool) (hub : Hub) (a c : Connection T) (sending : Sent) (reading : Received) (octets : List ℕ) (events : List Accepted) → sending ≢ sents.Failed
-    → LeadsFurther (is_handed a.held) (is_deferred preparing a) hub reading octets a c events → LeadsByTurn preparing hub sending reading octets a c events
-leads_by_turn preparing hub a c sents.Nothing reading octets events well leads = leads
-leads_by_turn preparing hub a c sents.Interrupted reading octets events well leads = leads
-leads_by_turn preparing hub a c sents.Some reading octets events well leads = leads
-leads_by_turn preparing hub a c sents.Failed reading octets events well leads = absurd (well refl)
+pub leads_by_turn : {T : Type 0} (preparing : Bool) (refused : ℕ → Kind → Type 0) (a c : Connection T) (sending : Sent) (reading : Received) (octets : List ℕ) (events : List Accepted) → sending ≢ sents.Failed
+    → LeadsFurther (is_handed a.held) (is_deferred preparing a) refused reading octets a c events → LeadsByTurn preparing refused sending reading octets a c events
+leads_by_turn preparing refused a c sents.Nothing reading octets events well leads = leads
+leads_by_turn preparing refused a c sents.Interrupted reading octets events well leads = leads
+leads_by_turn preparing refused a c sents.Some reading octets events well leads = leads
+leads_by_turn preparing refused a c sents.Failed reading octets events well leads = absurd (well refl)
 
 pub calls_of_both : (a b c : Option (List Call)) (clear may : Bool) (sending : Sent) (reading : Received) (within : List Call) → sending ≢ sents.Failed → Makes a b (sendings clear sending) → Makes b c (readings may reading ++ within)
     → Makes a c (calls_of_turn clear may sending reading ++ within)
@@ -401,10 +400,10 @@ calls_of_both a b c clear may sents.Some reading within well first later =
 calls_of_both a b c clear may sents.Failed reading within well first later = absurd (well refl)
 
 -- a sending, and then a reading, where nothing was held and it isn't deferred
-pub turns_read : {T : Type 0} {hub : Hub} (taken coming : T → Option (List ℕ)) (made : T → Option (List Call)) (preparing : Bool) (a b c : Connection T) (sending : Sent) (reading : Received) (events : List Accepted) → sending ≢ sents.Failed
-    → is_handed b.held ≡ true → is_deferred preparing b ≡ false → SendsOnce taken coming made a b sending → ReadsOnce taken coming made hub b c reading events → (moved : Bool) → moved ≡ has_moved sending reading
-    → Turns taken coming made preparing hub a c moved events
-turns_read {hub = hub} taken coming made preparing a b c sending reading events well all soon first later moved is =
+pub turns_read : {T : Type 0} {refused : ℕ → Kind → Type 0} (taken coming : T → Option (List ℕ)) (made : T → Option (List Call)) (preparing : Bool) (a b c : Connection T) (sending : Sent) (reading : Received) (events : List Accepted) → sending ≢ sents.Failed
+    → is_handed b.held ≡ true → is_deferred preparing b ≡ false → SendsOnce taken coming made a b sending → ReadsOnce taken coming made refused b c reading events → (moved : Bool) → moved ≡ has_moved sending reading
+    → Turns taken coming made preparing refused a c moved events
+turns_read {refused = refused} taken coming made preparing a b c sending reading events well all soon first later moved is =
     let empty : is_handed a.held ≡ true = ap is_handed (sym first.held) ∙ all in
     let now : is_deferred preparing a ≡ false = ap (λ (h : Held). preparing && is_of_editor h.kind) (sym first.held) ∙ soon in
     let none : held_in a.held ≡ [] = none_held a.held empty in
@@ -439,16 +438,16 @@ turns_read {hub = hub} taken coming made preparing a b c sending reading events 
       lazy = λ few. (later.lazy (omega (arith, few, ap length first.order, length-append first.sent (waiting b.queue)))).1;
       idle = first.idle;
       unmarked = λ isnt. later.unmarked (first.may_receive ∙ sym may ∙ isnt);
-      leads = leads_by_turn preparing hub a c sending reading later.received events well (subst (λ (e : Bool). LeadsFurther e (is_deferred preparing a) hub reading later.received a c events) (sym empty)
-          (subst (λ (d : Bool). LeadsFurther true d hub reading later.received a c events) (sym now)
-          (leads_from hub a b c reading later.received events first.id first.stage first.may_receive first.held later.leads)));
+      leads = leads_by_turn preparing refused a c sending reading later.received events well (subst (λ (e : Bool). LeadsFurther e (is_deferred preparing a) refused reading later.received a c events) (sym empty)
+          (subst (λ (d : Bool). LeadsFurther true d refused reading later.received a c events) (sym now)
+          (leads_from refused a b c reading later.received events first.id first.stage first.may_receive first.held later.leads)));
     }
 
 -- a sending, and then the next piece of what was held
-pub turns_handed : {T : Type 0} {hub : Hub} (taken coming : T → Option (List ℕ)) (made : T → Option (List Call)) (preparing : Bool) (a b c : Connection T) (sending : Sent) (events : List Accepted) → sending ≢ sents.Failed
-    → is_handed b.held ≡ false → SendsOnce taken coming made a b sending → HandsOver taken coming made (held_in b.held) b c events × LeadsByPiece hub (held_in b.held) b.held.turns_left b c events
-    → Turns taken coming made preparing hub a c true events
-turns_handed {hub = hub} taken coming made preparing a b c sending events well some first (hands, leads) =
+pub turns_handed : {T : Type 0} {refused : ℕ → Kind → Type 0} (taken coming : T → Option (List ℕ)) (made : T → Option (List Call)) (preparing : Bool) (a b c : Connection T) (sending : Sent) (events : List Accepted) → sending ≢ sents.Failed
+    → is_handed b.held ≡ false → SendsOnce taken coming made a b sending → HandsOver taken coming made (held_in b.held) b c events × LeadsByPiece refused (held_in b.held) b.held.turns_left b c events
+    → Turns taken coming made preparing refused a c true events
+turns_handed {refused = refused} taken coming made preparing a b c sending events well some first (hands, leads) =
     let left : is_handed a.held ≡ false = ap is_handed (sym first.held) ∙ some in
     let may : may_read preparing a ≡ false = ap (λ (e : Bool). e && (if is_deferred preparing a then false else a.may_receive)) left in
     let kind : b.held.kind ≡ a.held.kind = ap (λ (h : Held). h.kind) first.held in
@@ -479,8 +478,8 @@ turns_handed {hub = hub} taken coming made preparing a b c sending events well s
       lazy = λ few. (hands.passes.lazy (omega (arith, few, ap length first.order, length-append first.sent (waiting b.queue)))).1;
       idle = first.idle;
       unmarked = λ isnt. refl;
-      leads = leads_by_turn preparing hub a c sending receiveds.Nothing [] events well (subst (λ (e : Bool). LeadsFurther e (is_deferred preparing a) hub receiveds.Nothing [] a c events) (sym left) (
-        piece_from hub a b c (held_in a.held) a.held.turns_left events first.id first.stage kind (subst (λ (h : Held). LeadsByPiece hub (held_in h) h.turns_left b c events) first.held leads),
+      leads = leads_by_turn preparing refused a c sending receiveds.Nothing [] events well (subst (λ (e : Bool). LeadsFurther e (is_deferred preparing a) refused receiveds.Nothing [] a c events) (sym left) (
+        piece_from refused a b c (held_in a.held) a.held.turns_left events first.id first.stage kind (subst (λ (h : Held). LeadsByPiece refused (held_in h) h.turns_left b c events) first.held leads),
         refl,
         hands.may_receive ∙ first.may_receive,
       ));
@@ -492,8 +491,8 @@ turned_failed true false = refl
 turned_failed false d = refl
 
 -- a sending that failed, and then the hub was told the end
-pub turns_failed : {T : Type 0} {hub : Hub} (taken coming : T → Option (List ℕ)) (made : T → Option (List Call)) (preparing : Bool) (a b c : Connection T) (sending : Sent) (events : List Accepted) → sending ≡ sents.Failed
-    → SendsOnce taken coming made a b sending → c.stage ≡ stages.Over → Hands [] b c events × IsOnly (ended b.id) events → Turns taken coming made preparing hub a c true events
+pub turns_failed : {T : Type 0} {refused : ℕ → Kind → Type 0} (taken coming : T → Option (List ℕ)) (made : T → Option (List Call)) (preparing : Bool) (a b c : Connection T) (sending : Sent) (events : List Accepted) → sending ≡ sents.Failed
+    → SendsOnce taken coming made a b sending → c.stage ≡ stages.Over → Hands [] b c events × IsOnly (ended b.id) events → Turns taken coming made preparing refused a c true events
 turns_failed taken coming made preparing a b c sending events failed first over (hands, only) = record {
   has_moved = turned_failed (is_handed a.held) (is_deferred preparing a);
   id = hands.id ∙ first.id;

@@ -1,8 +1,10 @@
 -- What one event leaves of its connection's queue.
-use Rattle.std.specs.Prelude.{true, ◌≡◌, ◌≢◌, ℕ, List, [], ◌∷◌, ◌++◌, Option, None, Some}
+use Rattle.std.specs.Prelude.{true, ◌≡◌, ◌≢◌, ℕ, List, [], ◌∷◌, ◌++◌, Option, None, Some, Result, Ok, Err}
 use Rattle.dict_hub.specs.Events.{Happening, is_of_editor}
 use Rattle.dict_hub.specs.Holding.{Holding}
 use Rattle.dict_hub.specs.Hubs.{Has}
+use Rattle.dict_hub.specs.declared.fault.HubFault.{HubFault}
+use Rattle.dict_hub.specs.declared.fault.HubFault.TheVariants.{Memory}
 use Rattle.dict_hub.specs.declared.hub.Hub.{Hub}
 use Rattle.dict_hub.specs.Runs.{Accepted}
 use Rattle.dict_hub.specs.declared.incoming.Out.{Out}
@@ -12,9 +14,10 @@ use Rattle.dict_outlet.specs.Queues.{waiting}
 use Rattle.dict_connection.specs.Events.{ArePut}
 use Rattle.dict_outlet.specs.declared.queue.Queue.{Queue}
 
--- the hub may refuse octets of this connection: it holds none of its id, or an editor's, whose octets take memory
-abbrev pub MayRefuse : Hub → ℕ → Type 0
-MayRefuse hub id = (held : Holding) → Has hub id (Some held) → is_of_editor held.kind ≡ true
+-- the hub may refuse octets of this connection by this fault: it has none of its id, or an editor's, whose octets take memory, and memory
+-- is wanting
+abbrev pub MayRefuse : Hub → ℕ → HubFault → Type 0
+MayRefuse hub id fault = (held : Holding) → Has hub id (Some held) → (fault ≡ Memory) × (is_of_editor held.kind ≡ true)
 
 -- what the hub has of each connection but that of this id it has still
 abbrev pub KeepsOthers : ℕ → Hub → Hub → Type 0
@@ -23,6 +26,11 @@ KeepsOthers id old new = (other : ℕ) (held : Option Holding) → other ≢ id 
 -- and of each
 abbrev pub KeepsEach : Hub → Hub → Type 0
 KeepsEach old new = (other : ℕ) (held : Option Holding) → Has old other held → Has new other held
+
+-- the answer of a hub that didn't refuse an event
+abbrev pub answer_of : Result Out HubFault → Option Out
+answer_of (Ok out) = Some out
+answer_of (Err fault) = None
 
 -- it is this event alone, which the hub answered so; or the hub refused it, and there is none
 abbrev pub IsAnswered : Happening → Option Out → List Accepted → Type 0

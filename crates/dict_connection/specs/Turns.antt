@@ -17,7 +17,7 @@ use Rattle.dict_connection.specs.Events.{ArePut, AreOf, pieces_of}
 use Rattle.dict_connection.specs.Handing.{held_in, is_handed}
 use Rattle.dict_connection.specs.Pieces.{next_piece, behind_piece}
 use Rattle.dict_connection.specs.Ordering.{AreOfTurns, IsOnly}
-use Rattle.dict_connection.specs.Telling.{MayRefuse}
+use Rattle.dict_connection.specs.Causes.{CountOn}
 use Rattle.dict_hub.specs.declared.hub.Hub.{Hub}
 use Rattle.dict_connection.specs.declared.connection.Connection.{Connection}
 use Rattle.dict_outlet.specs.declared.calls.Sent.{Sent}
@@ -74,13 +74,13 @@ pub record HandsOver {T : Type 0} (taken coming : T → Option (List ℕ)) (made
   pub pieces : BringAllOrNone (next_piece old.held.kind octets) events
   pub handed : is_open new.stage ≡ true → pieces_of events ++ held_in new.held ≡ octets
 
--- the hub, as it was, was told the first piece of these octets, the rest is held, and the stage is that of its answer; or it refused the
--- piece, as it may, was told the end, and the connection is over
-abbrev pub LeadsByAnswer : {T : Type 0} → Hub → List ℕ → Connection T → Connection T → List Accepted → Type 0
-LeadsByAnswer hub octets old new events =
+-- the hub was told the first piece of these octets, the rest is held, and the stage is that of its answer; or it refused the piece, for
+-- a cause by which octets of this id and kind were refused, was told the end, and the connection is over
+abbrev pub LeadsByAnswer : {T : Type 0} → (ℕ → Kind → Type 0) → List ℕ → Connection T → Connection T → List Accepted → Type 0
+LeadsByAnswer refused octets old new events =
     ((one : Accepted) × (events ≡ one ∷ []) × (one.what ≡ came old.id (next_piece old.held.kind octets)) × (held_in new.held ≡ behind_piece old.held.kind octets)
     × (new.stage ≡ answered one.out old.stage))
-    ⊎ (MayRefuse hub old.id × IsOnly (ended old.id) events × (new.stage ≡ stages.Over))
+    ⊎ (refused old.id old.held.kind × IsOnly (ended old.id) events × (new.stage ≡ stages.Over))
 
 -- the hub was told nothing, and these octets of an editor are held back still, as they may be for fewer than so many turns more
 abbrev pub AreHeldBack : {T : Type 0} → List ℕ → ℕ → Connection T → Connection T → List Accepted → Type 0
@@ -88,8 +88,8 @@ AreHeldBack octets most old new events =
     (is_of_editor old.held.kind ≡ true) × (events ≡ []) × (held_in new.held ≡ octets) × (new.stage ≡ old.stage) × (new.held.turns_left < most)
 
 -- one or the other
-abbrev pub LeadsByPiece : {T : Type 0} → Hub → List ℕ → ℕ → Connection T → Connection T → List Accepted → Type 0
-LeadsByPiece hub octets most old new events = LeadsByAnswer hub octets old new events ⊎ AreHeldBack octets most old new events
+abbrev pub LeadsByPiece : {T : Type 0} → (ℕ → Kind → Type 0) → List ℕ → ℕ → Connection T → Connection T → List Accepted → Type 0
+LeadsByPiece refused octets most old new events = LeadsByAnswer refused octets old new events ⊎ AreHeldBack octets most old new events
 
 -- the hub was told the end and nothing else, and this is the stage
 abbrev pub LeadsByEnd : {T : Type 0} → Stage → Connection T → Connection T → List Accepted → Type 0
@@ -101,27 +101,27 @@ LeadsNowhere old new events = (events ≡ []) × (new.stage ≡ old.stage) × (h
 
 -- Where a reading leads, by which these octets came: the answer to their first piece leads on, or to a close, or they are held back; the
 -- end of the peer's side leads to one that is over, once all is sent; a failure to one that is over
-abbrev pub LeadsByReading : {T : Type 0} → Hub → Received → List ℕ → Connection T → Connection T → List Accepted → Type 0
-LeadsByReading hub receiveds.Nothing octets old new events = LeadsNowhere old new events × (new.may_receive ≡ false)
-LeadsByReading hub receiveds.Interrupted octets old new events = LeadsNowhere old new events × (new.may_receive ≡ old.may_receive)
-LeadsByReading hub (receiveds.Octets count) octets old new events = LeadsByPiece hub octets 1_000_000 old new events × (new.may_receive ≡ old.may_receive)
-LeadsByReading hub receiveds.End octets old new events = LeadsByEnd (parted (is_clear new.queue)) old new events
-LeadsByReading hub receiveds.Failed octets old new events = LeadsByEnd stages.Over old new events
+abbrev pub LeadsByReading : {T : Type 0} → (ℕ → Kind → Type 0) → Received → List ℕ → Connection T → Connection T → List Accepted → Type 0
+LeadsByReading refused receiveds.Nothing octets old new events = LeadsNowhere old new events × (new.may_receive ≡ false)
+LeadsByReading refused receiveds.Interrupted octets old new events = LeadsNowhere old new events × (new.may_receive ≡ old.may_receive)
+LeadsByReading refused (receiveds.Octets count) octets old new events = LeadsByPiece refused octets 1_000_000 old new events × (new.may_receive ≡ old.may_receive)
+LeadsByReading refused receiveds.End octets old new events = LeadsByEnd (parted (is_clear new.queue)) old new events
+LeadsByReading refused receiveds.Failed octets old new events = LeadsByEnd stages.Over old new events
 
 -- where what was read leads: where something of it was held before, the answer to the next piece of that, unless it is held back, and
 -- nothing is read; and where all was handed, a reading, or nothing where that is deferred
-abbrev pub LeadsFurther : {T : Type 0} → Bool → Bool → Hub → Received → List ℕ → Connection T → Connection T → List Accepted → Type 0
-LeadsFurther false deferred hub received octets old new events =
-    LeadsByPiece hub (held_in old.held) old.held.turns_left old new events × (octets ≡ []) × (new.may_receive ≡ old.may_receive)
-LeadsFurther true true hub received octets old new events = LeadsNowhere old new events × (octets ≡ []) × (new.may_receive ≡ old.may_receive)
-LeadsFurther true false hub received octets old new events = LeadsByReading hub received octets old new events
+abbrev pub LeadsFurther : {T : Type 0} → Bool → Bool → (ℕ → Kind → Type 0) → Received → List ℕ → Connection T → Connection T → List Accepted → Type 0
+LeadsFurther false deferred refused received octets old new events =
+    LeadsByPiece refused (held_in old.held) old.held.turns_left old new events × (octets ≡ []) × (new.may_receive ≡ old.may_receive)
+LeadsFurther true true refused received octets old new events = LeadsNowhere old new events × (octets ≡ []) × (new.may_receive ≡ old.may_receive)
+LeadsFurther true false refused received octets old new events = LeadsByReading refused received octets old new events
 
 -- where a turn leads: a sending that failed to a connection that is over, and each other where what was read does
-abbrev pub LeadsByTurn : {T : Type 0} → Bool → Hub → Sent → Received → List ℕ → Connection T → Connection T → List Accepted → Type 0
-LeadsByTurn preparing hub sents.Failed received octets old new events = LeadsByEnd stages.Over old new events
-LeadsByTurn preparing hub sents.Nothing received octets old new events = LeadsFurther (is_handed old.held) (is_deferred preparing old) hub received octets old new events
-LeadsByTurn preparing hub sents.Interrupted received octets old new events = LeadsFurther (is_handed old.held) (is_deferred preparing old) hub received octets old new events
-LeadsByTurn preparing hub sents.Some received octets old new events = LeadsFurther (is_handed old.held) (is_deferred preparing old) hub received octets old new events
+abbrev pub LeadsByTurn : {T : Type 0} → Bool → (ℕ → Kind → Type 0) → Sent → Received → List ℕ → Connection T → Connection T → List Accepted → Type 0
+LeadsByTurn preparing refused sents.Failed received octets old new events = LeadsByEnd stages.Over old new events
+LeadsByTurn preparing refused sents.Nothing received octets old new events = LeadsFurther (is_handed old.held) (is_deferred preparing old) refused received octets old new events
+LeadsByTurn preparing refused sents.Interrupted received octets old new events = LeadsFurther (is_handed old.held) (is_deferred preparing old) refused received octets old new events
+LeadsByTurn preparing refused sents.Some received octets old new events = LeadsFurther (is_handed old.held) (is_deferred preparing old) refused received octets old new events
 
 -- A front of what waits was sent, which the transport took, by one call where something waits; nothing was read
 pub record SendsOnce {T : Type 0} (taken coming : T → Option (List ℕ)) (made : T → Option (List Call)) (old new : Connection T) (sending : Sent) : Type 0 where
@@ -141,7 +141,7 @@ pub record SendsOnce {T : Type 0} (taken coming : T → Option (List ℕ)) (made
 -- Of what came, by one call where a reading may give something, the first piece was handed to the hub, or none, and the rest is held
 -- while the connection is open; and then the transport was asked no more than to take octets, and not even that while fewer than
 -- 1,048,576 of them were there
-pub record ReadsOnce {T : Type 0} (taken coming : T → Option (List ℕ)) (made : T → Option (List Call)) (hub : Hub) (old new : Connection T) (reading : Received) (events : List Accepted) : Type 0 where
+pub record ReadsOnce {T : Type 0} (taken coming : T → Option (List ℕ)) (made : T → Option (List Call)) (refused : ℕ → Kind → Type 0) (old new : Connection T) (reading : Received) (events : List Accepted) : Type 0 where
   pub id : new.id ≡ old.id
   pub kind : new.held.kind ≡ old.held.kind
   pub was_open : is_open new.stage ≡ true → is_open old.stage ≡ true
@@ -161,7 +161,7 @@ pub record ReadsOnce {T : Type 0} (taken coming : T → Option (List ℕ)) (made
   pub calls : Makes (made old.transport) (made new.transport) (readings old.may_receive reading ++ within)
   pub lazy : length (waiting old.queue) + length put < 1048576 → (sent ≡ []) × (within ≡ [])
   pub unmarked : old.may_receive ≡ false → reading ≡ receiveds.Nothing
-  pub leads : LeadsByReading hub reading received old new events
+  pub leads : LeadsByReading refused reading received old new events
 
 -- A turn of an open connection. The events are of this connection alone. What waited and what they put: a front of it is sent, which
 -- the transport took, and the rest waits. What was held and what came: its first piece was handed to the hub while the connection is
@@ -170,7 +170,7 @@ pub record ReadsOnce {T : Type 0} (taken coming : T → Option (List ℕ)) (made
 -- prepared, and within the event sendings again, once 1,048,576 octets are there; and what the first two came to, and the hub's answer,
 -- tells the stage. Something happened, or a turn is to be had again at once, where something was held or the reading is deferred, and
 -- else as it is told by what the two came to
-pub record Turns {T : Type 0} (taken coming : T → Option (List ℕ)) (made : T → Option (List Call)) (preparing : Bool) (hub : Hub) (old new : Connection T) (moved : Bool) (events : List Accepted) : Type 0 where
+pub record Turns {T : Type 0} (taken coming : T → Option (List ℕ)) (made : T → Option (List Call)) (preparing : Bool) (refused : ℕ → Kind → Type 0) (old new : Connection T) (moved : Bool) (events : List Accepted) : Type 0 where
   pub id : new.id ≡ old.id
   pub kind : new.held.kind ≡ old.held.kind
   pub was_open : is_open new.stage ≡ true → is_open old.stage ≡ true
@@ -193,14 +193,14 @@ pub record Turns {T : Type 0} (taken coming : T → Option (List ℕ)) (made : T
   pub lazy : length (waiting old.queue) + length put < 1048576 → within ≡ []
   pub idle : is_clear old.queue ≡ true → sending ≡ sents.Nothing
   pub unmarked : may_read preparing old ≡ false → reading ≡ receiveds.Nothing
-  pub leads : LeadsByTurn preparing hub sending reading received old new events
+  pub leads : LeadsByTurn preparing refused sending reading received old new events
   pub has_moved : moved ≡ has_turned (is_handed old.held) (is_deferred preparing old) sending reading
 
 -- A connection was opened under this id: its stage is that of the hub's answer, the hub has it then as one of which nothing came,
--- unless it is closed, and what the event put waits
+-- unless it is closed; what the event put waits, and the failures that it tells are those that its queue counts
 abbrev pub IsOpened : {T : Type 0} → ℕ → Kind → Hub → Connection T → List Accepted → Type 0
 IsOpened id kind hub one events = (accepted : Accepted) × (events ≡ accepted ∷ []) × (accepted.what ≡ opened id kind) × (one.stage ≡ stage_of_new accepted.out)
-    × Has hub id (left_by kind [] accepted.out) × ArePut events (waiting one.queue)
+    × Has hub id (left_by kind [] accepted.out) × ArePut events (waiting one.queue) × CountOn 0 one.queue.failures events
 
 -- the stage once nothing waits, and before that the same
 abbrev pub stage_between : Bool → Stage → Bool → Stage

@@ -1,6 +1,7 @@
 // One connection.
-ghost use Rattle.std.specs.Prelude.{◌≡◌, ◌≤◌, ◌<◌, ◌==◌, ◌||◌, ℕ, List, [], ◌∷◌, Option, take, length, vec_capacity, IfSome, MatchOption, true, false, ⊤};
+ghost use Rattle.std.specs.Prelude.{◌≡◌, ◌≤◌, ◌<◌, ◌==◌, ◌||◌, ℕ, List, [], ◌∷◌, Option, take, length, vec_capacity, IfSome, MatchOption, true, false, ⊤, Ok};
 ghost use Rattle.std.specs.Io.KnownBytes.{Consumes, Keeps};
+ghost use Rattle.dict_session.specs.Desks.{condition};
 ghost use Rattle.dict_connection.specs.Leading.{HasLedOn};
 ghost use Rattle.dict_hub.specs.Events.{opened, ended, is_of_editor};
 ghost use Rattle.dict_hub.specs.Runs.{Accepted, IsAt, State};
@@ -39,7 +40,8 @@ pub struct Connection<T: Transport> {
 impl<T: Transport> Connection<T> {
     ghost use Rattle.dict_outlet.specs.Queues.{waiting, is_clear};
     ghost use Rattle.dict_connection.specs.Handing.{held_in, is_held_back};
-    ghost use Rattle.dict_connection.specs.Foreseen.{AreToldOf, BeginsBy};
+    ghost use Rattle.dict_connection.specs.Causes.{AreCausedBy, IsRefused};
+    ghost use Rattle.dict_connection.specs.Foreseen.{AreToldOf, HoldsBack, HoldsBy};
     ghost use Rattle.dict_connection.specs.Opening.{IsUnopened};
     ghost use Rattle.dict_connection.specs.Pieces.{behind_piece};
     ghost use Rattle.dict_connection.specs.Telling.{KeepsEach, KeepsOthers};
@@ -60,6 +62,7 @@ impl<T: Transport> Connection<T> {
             (λ events. MatchOption result (events ≡ []) (λ one. IsOpened id kind hub.new one events)) }
         ensures trust { K.is_trusted desk.new → K.is_trusted desk.old }
         ensures others { KeepsOthers id hub.old hub.new }
+        ensures unasked { desk.new ≡ desk.old }
         ensures unopened { MatchOption result (IsUnopened O.refuses hub.old id kind × KeepsEach hub.old hub.new) (λ _. ⊤) }
         ensures id { IfSome result (λ one. one.id ≡ id) }
         ensures transport { IfSome result (λ one. one.transport ≡ transport) }
@@ -144,17 +147,19 @@ impl<T: Transport> Connection<T> {
     ///
     /// Where an editor's piece completes an install, the desk prepares that first, a part in each turn, and the piece is held back
     /// meanwhile, for 1,000,000 turns at most. Nothing is read of an editor's connection while octets of one are held back.
-    pub fn turn<K: Preparer>(
+    pub fn turn<K: Preparer, O: Opening>(
         &mut self,
+        opening: &O,
         hub: &mut Hub,
         desk: &mut K,
         room: &mut [u8; PIECE],
         is_preparing: bool,
     ) -> bool
         ensures led { HasLedOn (K.is_trusted desk.new) (K.shows desk.old) (K.leaves_one_of desk.old) (K.shows desk.new) (K.leaves_one_of desk.new) hub.old hub.new
-            (λ events. Turns T.taken T.coming T.made is_preparing hub.old self.old self.new result events) }
-        ensures foreseen { BeginsBy K.expects hub.old self.old self.new }
+            (λ events. Turns T.taken T.coming T.made is_preparing (IsRefused O.refuses hub.old) self.old self.new result events × AreCausedBy (condition K.has_failed K.is_closed desk.new) self.old self.new events) }
+        ensures prepared { HoldsBack K.expects K.prepares hub.old desk.old desk.new self.old self.new }
         ensures trust { K.is_trusted desk.new → K.is_trusted desk.old }
+        ensures closed { K.is_closed desk.old ≡ true → K.is_closed desk.new ≡ true }
         ensures others { KeepsOthers self.old.id hub.old hub.new }
         ensures id { self.new.id ≡ self.old.id }
         ensures idle { result ≡ false → IsAtRest self.new }
@@ -165,13 +170,13 @@ impl<T: Transport> Connection<T> {
             return true;
         }
         if !self.held.is_empty() {
-            self.hand_prepared(hub, desk);
+            self.hand_prepared(opening, hub, desk);
             return true;
         }
         if self.is_deferred(is_preparing) {
             return true;
         }
-        let received = self.read(hub, desk, room);
+        let received = self.read(opening, hub, desk, room);
         has_moved(sent, received)
     }
 
@@ -221,12 +226,19 @@ impl<T: Transport> Connection<T> {
 
     // Reads once where that may give something, and hands the first piece of what came to the hub, unless it is held back, or
     // that nothing more comes.
-    fn read<K: Preparer>(&mut self, hub: &mut Hub, desk: &mut K, room: &mut [u8; PIECE]) -> Received
+    fn read<K: Preparer, O: Opening>(
+        &mut self,
+        opening: &O,
+        hub: &mut Hub,
+        desk: &mut K,
+        room: &mut [u8; PIECE],
+    ) -> Received
         requires { held_in self.old.held ≡ [] }
         ensures led { HasLedOn (K.is_trusted desk.new) (K.shows desk.old) (K.leaves_one_of desk.old) (K.shows desk.new) (K.leaves_one_of desk.new) hub.old hub.new
-            (λ events. ReadsOnce T.taken T.coming T.made hub.old self.old self.new result events) }
-        ensures foreseen { is_open self.new.stage ≡ true → is_held_back self.new.held ≡ true → AreToldOf K.expects hub.old self.old.id (held_in self.new.held) }
+            (λ events. ReadsOnce T.taken T.coming T.made (IsRefused O.refuses hub.old) self.old self.new result events × AreCausedBy (condition K.has_failed K.is_closed desk.new) self.old self.new events) }
+        ensures prepared { is_open self.new.stage ≡ true → is_held_back self.new.held ≡ true → HoldsBy K.expects K.prepares false hub.old desk.old desk.new self.old.id (held_in self.new.held) }
         ensures trust { K.is_trusted desk.new → K.is_trusted desk.old }
+        ensures closed { K.is_closed desk.old ≡ true → K.is_closed desk.new ≡ true }
         ensures others { KeepsOthers self.old.id hub.old hub.new }
         ensures id { self.new.id ≡ self.old.id }
         ensures idle { result ≡ Received.Nothing → IsAtRest self.new }
@@ -239,7 +251,7 @@ impl<T: Transport> Connection<T> {
             Received::Octets(count) => {
                 self.held.fill(&room[..count]);
                 self.foresee(hub, desk);
-                self.hand_prepared(hub, desk);
+                self.hand_prepared(opening, hub, desk);
                 received
             }
             Received::End => {
@@ -261,6 +273,7 @@ impl<T: Transport> Connection<T> {
     // Where the hub foresees that the octets of an editor complete an install, they may be held back.
     fn foresee<K: Preparer>(&mut self, hub: &mut Hub, desk: &mut K)
         ensures trust { K.is_trusted desk.new → K.is_trusted desk.old }
+        ensures closed { K.is_closed desk.old ≡ true → K.is_closed desk.new ≡ true }
         ensures shows { K.is_trusted desk.new → (M : Catalogue) → K.shows desk.old M → K.shows desk.new M }
         ensures leaves { (ms : List (Option Catalogue)) → K.leaves_one_of desk.old ms → K.leaves_one_of desk.new ms }
         ensures state { (state : State) → IsAt hub.old state → IsAt hub.new state }
@@ -269,7 +282,7 @@ impl<T: Transport> Connection<T> {
         ensures octets { held_in self.new.held ≡ held_in self.old.held }
         ensures kind { self.new.held.kind ≡ self.old.held.kind }
         ensures turns { self.old.held.turns_left ≤ 1_000_000 → self.new.held.turns_left ≤ 1_000_000 }
-        ensures told { self.old.held.turns_left ≡ 0 → 0 < self.new.held.turns_left → AreToldOf K.expects hub.old self.old.id (held_in self.new.held) }
+        ensures told { self.old.held.turns_left ≡ 0 → 0 < self.new.held.turns_left → AreToldOf K.expects hub.old self.old.id (held_in self.new.held) desk.new }
     {
         if !self.held.is_of_editor() {
             return;
@@ -281,20 +294,22 @@ impl<T: Transport> Connection<T> {
 
     // Hands the next piece to the hub, unless it is held back for this turn. Once it is handed, the desk lets go of what it prepared
     // for it.
-    fn hand_prepared<K: Preparer>(&mut self, hub: &mut Hub, desk: &mut K)
+    fn hand_prepared<K: Preparer, O: Opening>(&mut self, opening: &O, hub: &mut Hub, desk: &mut K)
         ensures led { HasLedOn (K.is_trusted desk.new) (K.shows desk.old) (K.leaves_one_of desk.old) (K.shows desk.new) (K.leaves_one_of desk.new) hub.old hub.new
             (λ events. HandsOver T.taken T.coming T.made (held_in self.old.held) self.old self.new events
-            × LeadsByPiece hub.old (held_in self.old.held) self.old.held.turns_left self.old self.new events) }
+            × LeadsByPiece (IsRefused O.refuses hub.old) (held_in self.old.held) self.old.held.turns_left self.old self.new events
+            × AreCausedBy (condition K.has_failed K.is_closed desk.new) self.old self.new events) }
         ensures kind { self.new.held.kind ≡ self.old.held.kind }
-        ensures back { is_open self.new.stage ≡ true → is_held_back self.new.held ≡ true → (0 < self.old.held.turns_left) × (held_in self.new.held ≡ held_in self.old.held) }
+        ensures back { is_open self.new.stage ≡ true → is_held_back self.new.held ≡ true → (0 < self.old.held.turns_left) × (held_in self.new.held ≡ held_in self.old.held) × K.prepares desk.old (Ok true) desk.new }
         ensures trust { K.is_trusted desk.new → K.is_trusted desk.old }
+        ensures closed { K.is_closed desk.old ≡ true → K.is_closed desk.new ≡ true }
         ensures others { KeepsOthers self.old.id hub.old hub.new }
         ensures id { self.new.id ≡ self.old.id }
     {
         if self.prepare(desk) {
             return;
         }
-        self.hand(hub, desk);
+        self.hand(opening, hub, desk);
         self.let_go(desk);
     }
 
@@ -302,12 +317,14 @@ impl<T: Transport> Connection<T> {
     // a failure ends the preparing, and they go to the hub as they would have gone without.
     fn prepare<K: Preparer>(&mut self, desk: &mut K) -> bool
         ensures trust { K.is_trusted desk.new → K.is_trusted desk.old }
+        ensures closed { K.is_closed desk.old ≡ true → K.is_closed desk.new ≡ true }
         ensures shows { K.is_trusted desk.new → (M : Catalogue) → K.shows desk.old M → K.shows desk.new M }
         ensures leaves { (ms : List (Option Catalogue)) → K.leaves_one_of desk.old ms → K.leaves_one_of desk.new ms }
         ensures same { self.new ≡ record self.old { held = self.new.held } }
         ensures octets { held_in self.new.held ≡ held_in self.old.held }
         ensures kind { self.new.held.kind ≡ self.old.held.kind }
         ensures fewer { result ≡ true → (is_of_editor self.old.held.kind ≡ true) × (self.new.held.turns_left < self.old.held.turns_left) }
+        ensures prepared { result ≡ true → K.prepares desk.old (Ok true) desk.new }
     {
         if !self.held.begin_turn() {
             return false;
@@ -322,43 +339,51 @@ impl<T: Transport> Connection<T> {
     // failure is told by what is asked of the desk next.
     fn let_go<K: Preparer>(&self, desk: &mut K)
         ensures trust { K.is_trusted desk.new → K.is_trusted desk.old }
+        ensures closed { K.is_closed desk.old ≡ true → K.is_closed desk.new ≡ true }
         ensures shows { K.is_trusted desk.new → (M : Catalogue) → K.shows desk.old M → K.shows desk.new M }
         ensures leaves { (ms : List (Option Catalogue)) → K.leaves_one_of desk.old ms → K.leaves_one_of desk.new ms }
+        ensures reader { is_of_editor self.now.held.kind ≡ false → desk.new ≡ desk.old }
     {
-        if self.held.is_foreseen() {
+        if self.held.is_of_editor() && self.held.is_foreseen() {
             let _ = desk.forget();
         }
     }
 
     // Hands the next piece to the hub. Where the hub closes the connection, what waits is still sent; and where it refuses
     // the octets, nothing is.
-    fn hand<K: Keeper>(&mut self, hub: &mut Hub, desk: &mut K)
+    fn hand<K: Keeper, O: Opening>(&mut self, opening: &O, hub: &mut Hub, desk: &mut K)
         ensures led { HasLedOn (K.is_trusted desk.new) (K.shows desk.old) (K.leaves_one_of desk.old) (K.shows desk.new) (K.leaves_one_of desk.new) hub.old hub.new
-            (λ events. HandsOver T.taken T.coming T.made (held_in self.old.held) self.old self.new events × LeadsByAnswer hub.old (held_in self.old.held) self.old self.new events) }
+            (λ events. HandsOver T.taken T.coming T.made (held_in self.old.held) self.old self.new events × LeadsByAnswer (IsRefused O.refuses hub.old) (held_in self.old.held) self.old self.new events
+            × AreCausedBy (condition K.has_failed K.is_closed desk.new) self.old self.new events) }
         ensures kind { self.new.held.kind ≡ self.old.held.kind }
         ensures whole { is_open self.new.stage ≡ true → held_in self.new.held ≡ behind_piece self.old.held.kind (held_in self.old.held) }
         ensures trust { K.is_trusted desk.new → K.is_trusted desk.old }
+        ensures closed { K.is_closed desk.old ≡ true → K.is_closed desk.new ≡ true }
         ensures others { KeepsOthers self.old.id hub.old hub.new }
         ensures id { self.new.id ≡ self.old.id }
     {
+        let kind = self.held.kind();
         let piece = self.held.next_piece();
         let count = piece.len();
-        let event = Event::Bytes(self.id, piece);
-        match deliver_through(hub, desk, event, &mut self.queue, &mut self.transport) {
-            Some(out) => {
+        let queue = &mut self.queue;
+        let transport = &mut self.transport;
+        match deliver_through(opening, hub, desk, self.id, kind, piece, queue, transport) {
+            Ok(out) => {
                 self.held.pass(count);
                 self.stage = answered(out, self.stage);
             }
-            None => self.end(hub, desk),
+            Err(_) => self.end(hub, desk),
         }
     }
 
     // The peer ended its side. What waits is still sent.
     fn end_input<K: Keeper>(&mut self, hub: &mut Hub, desk: &mut K)
         ensures led { HasLedOn (K.is_trusted desk.new) (K.shows desk.old) (K.leaves_one_of desk.old) (K.shows desk.new) (K.leaves_one_of desk.new) hub.old hub.new
-            (λ events. Hands [] self.old self.new events × LeadsByEnd (parted (is_clear self.new.queue)) self.old self.new events) }
+            (λ events. Hands [] self.old self.new events × LeadsByEnd (parted (is_clear self.new.queue)) self.old self.new events
+            × AreCausedBy (condition K.has_failed K.is_closed desk.new) self.old self.new events) }
         ensures held { self.new.held ≡ self.old.held }
         ensures trust { K.is_trusted desk.new → K.is_trusted desk.old }
+        ensures closed { K.is_closed desk.old ≡ true → K.is_closed desk.new ≡ true }
         ensures others { KeepsOthers self.old.id hub.old hub.new }
         ensures id { self.new.id ≡ self.old.id }
     {
@@ -369,8 +394,9 @@ impl<T: Transport> Connection<T> {
     // Nothing more comes, and nothing more is sent.
     fn end<K: Keeper>(&mut self, hub: &mut Hub, desk: &mut K)
         ensures led { HasLedOn (K.is_trusted desk.new) (K.shows desk.old) (K.leaves_one_of desk.old) (K.shows desk.new) (K.leaves_one_of desk.new) hub.old hub.new
-            (λ events. Hands [] self.old self.new events × IsOnly (ended self.old.id) events) }
+            (λ events. Hands [] self.old self.new events × IsOnly (ended self.old.id) events × AreCausedBy (condition K.has_failed K.is_closed desk.new) self.old self.new events) }
         ensures trust { K.is_trusted desk.new → K.is_trusted desk.old }
+        ensures closed { K.is_closed desk.old ≡ true → K.is_closed desk.new ≡ true }
         ensures others { KeepsOthers self.old.id hub.old hub.new }
         ensures id { self.new.id ≡ self.old.id }
         ensures over { self.new.stage ≡ Stage.Over }

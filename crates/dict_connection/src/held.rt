@@ -56,6 +56,13 @@ impl Held {
         self.handed == self.octets.len()
     }
 
+    /// Of which kind their connection is.
+    pub fn kind(&self) -> Kind
+        ensures { result ≡ self.now.kind }
+    {
+        self.kind
+    }
+
     /// Whether they are of an editor's connection.
     pub fn is_of_editor(&self) -> bool
         ensures { result ≡ is_of_editor self.now.kind }

@@ -9,5 +9,5 @@ mod stage;
 
 pub use connection::Connection;
 pub use held::PIECE;
-pub use opening::{Opening, greet_by_hub};
+pub use opening::{Opening, greet_by_hub, hand_by_hub};
 pub use stage::Stage;

@@ -80,7 +80,7 @@ pub(crate) fn turn<K: Preparer>(
 ) -> After {
     let mut room = [0u8; 4_096];
     if one.stage().is_open() {
-        one.turn(hub, desk, &mut room, is_preparing);
+        one.turn(&Rooms, hub, desk, &mut room, is_preparing);
     } else {
         one.linger(&mut room);
     }

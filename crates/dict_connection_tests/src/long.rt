@@ -121,7 +121,7 @@ impl Run {
     fn turn(&mut self, desk: &mut PlainDesk) {
         let mut room = [0u8; 4_096];
         if self.one.stage().is_open() {
-            self.one.turn(&mut self.hub, desk, &mut room, false);
+            self.one.turn(&Rooms, &mut self.hub, desk, &mut room, false);
         } else {
             self.one.linger(&mut room);
         }

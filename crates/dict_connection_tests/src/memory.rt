@@ -88,7 +88,7 @@ impl Run {
         let mut room = [0u8; 4_096];
         if self.one.stage().is_open() {
             self.one
-                .turn(&mut self.hub, &mut self.desk, &mut room, false);
+                .turn(&Rooms, &mut self.hub, &mut self.desk, &mut room, false);
         } else {
             self.one.linger(&mut room);
         }

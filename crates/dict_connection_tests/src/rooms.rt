@@ -1,9 +1,10 @@
 // What a connection takes that is opened by itself.
 ghost use Rattle.std.specs.Prelude.{⊤};
 
-use dict_connection::{Opening, greet_by_hub};
+use dict_connection::{Opening, greet_by_hub, hand_by_hub};
 use dict_desk::Keeper;
 use dict_hub::{Hub, HubFault, Kind, Out};
+use dict_io::Sink;
 use dict_outlet::Queue;
 use std::alloc::{AllocError, Global};
 
@@ -33,5 +34,17 @@ impl Opening for Rooms {
         queue: &mut Queue,
     ) -> Result<Out, HubFault> {
         greet_by_hub(hub, desk, id, kind, queue)
+    }
+
+    fn hand<K: Keeper, S: Sink>(
+        &self,
+        hub: &mut Hub,
+        desk: &mut K,
+        id: u64,
+        _kind: Kind,
+        piece: &[u8],
+        sink: &mut S,
+    ) -> Result<Out, HubFault> {
+        hand_by_hub(hub, desk, id, piece, sink)
     }
 }

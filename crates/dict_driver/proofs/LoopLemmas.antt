@@ -1,9 +1,11 @@
 -- A round, step by step.
 use Rattle.std.proofs.Common.{◌≡◌, ℕ, Bool, true, List, [], ◌∷◌, ◌++◌, sym, ap, ◌∙◌, subst, append_assoc}
-use Rattle.std.specs.Prelude.{Option, Result, ◌||◌, is_ok}
-use Rattle.std.specs.declared.io.Error.{Error}
 use Rattle.dict_index.specs.Edition.{Edition}
 use Rattle.dict_catalogue.specs.Commands.{Command}
+use Rattle.dict_desk.specs.declared.fault.Fault.{Fault}
+use Rattle.std.specs.Prelude.{Option, Result, ◌||◌, is_ok}
+use Rattle.std.specs.declared.io.Error.{Error}
+use Rattle.dict_session.specs.Desks.{Condition}
 use Rattle.dict_hub.specs.Runs.{Accepted}
 use Rattle.dict_hub.specs.declared.fault.HubFault.{HubFault}
 use Rattle.dict_hub.specs.declared.hub.Hub.{Hub}
@@ -35,11 +37,11 @@ module _ {T S : Type 0} {G : transport.Ghosts T} (refuses : Hub → ℕ → Kind
     pub by_http : HasLetIn refuses asked with_reader with_editor editors
 
   -- what a look, two listening sockets and the turns come to
-  pub round_made : {K : Type 0} (expects : K → Command Edition → K → Type 0) (taken coming : T → Option (List ℕ)) (made : T → Option (List Call)) (told : List ℕ) (result : Result (Unit {0}) Error) (a b c d e : EventLoop T S G) (moved turned : Bool) (es fs : List Accepted)
-      → is_ok result ≡ true → Looks asked 0 told result a b → AreTaken b c d es → TurnEach expects taken coming made d.hub d.connections e.connections turned fs → KeepsAllBut d.connections.opened.items d.hub e.hub → e.sockets ≡ d.sockets
+  pub round_made : {K : Type 0} (stands : K → Condition) (expects : K → Command Edition → K → Type 0) (prepares : K → Result Bool Fault → K → Type 0) (taken coming : T → Option (List ℕ)) (made : T → Option (List Call)) (told : List ℕ) (result : Result (Unit {0}) Error) (from to : K) (a b c d e : EventLoop T S G) (moved turned : Bool) (es fs : List Accepted)
+      → is_ok result ≡ true → Looks asked 0 told result a b → AreTaken b c d es → TurnEach stands expects prepares taken coming made refuses d.hub from to d.connections e.connections turned fs → KeepsAllBut d.connections.opened.items d.hub e.hub → e.sockets ≡ d.sockets
       → e.dict_listening ≡ c.dict_listening → e.http_listening ≡ d.http_listening → c.http_listening ≡ b.http_listening
-      → moved ≡ (is_ready c.dict_listening || (is_ready d.http_listening || turned)) → HasRound expects taken coming made refuses asked a e moved (es ++ fs)
-  round_made expects taken coming made told result a b c d e moved turned es fs well looked taken_two turn others sockets_same dict http other is =
+      → moved ≡ (is_ready c.dict_listening || (is_ready d.http_listening || turned)) → HasRound stands expects prepares taken coming made refuses asked from to a e moved (es ++ fs)
+  round_made stands expects prepares taken coming made told result from to a b c d e moved turned es fs well looked taken_two turn others sockets_same dict http other is =
       let calls_dict = taken_two.by_dict.0 in
       let calls_http = taken_two.by_http.0 in
       record {

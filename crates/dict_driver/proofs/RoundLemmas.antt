@@ -1,13 +1,15 @@
 -- What a round does with the octets that wait.
 use Rattle.std.proofs.Common.{◌≡◌, ◌≢◌, ◌<◌, ◌≤◌, ◌+◌, ℕ, Bool, true, false, ◌-◌, All, List, [], ◌∷◌, ◌++◌, length, length-set, length-append, get_or, set, take, ◌||◌, refl, sym, ap, ◌∙◌, subst, inl, inr, arith, append_assoc, append-nil}
-use Rattle.std.specs.Prelude.{Option, Some}
+use Rattle.dict_index.specs.Edition.{Edition}
+use Rattle.dict_catalogue.specs.Commands.{Command}
+use Rattle.dict_desk.specs.declared.fault.Fault.{Fault}
+use Rattle.std.specs.Prelude.{Option, Some, Result}
 use Rattle.std.specs.List.{AllPairs, filter}
 use Rattle.std.proofs.lemmas.Bool.{ne_eqb}
 use Rattle.std.proofs.lemmas.Bool.Decides.{eqb_tells}
-use Rattle.std.proofs.lemmas.List.{get_or-set_other, take-set-le, take_more_set}
+use Rattle.std.proofs.Math.Seq.{get_or-append_seam}
+use Rattle.std.proofs.lemmas.List.{get_or_append_left, get_or-set_other, take-set-le, take_more_set}
 use Rattle.std.proofs.lemmas.Grind.{get_or-set_at}
-use Rattle.dict_index.specs.Edition.{Edition}
-use Rattle.dict_catalogue.specs.Commands.{Command}
 use Rattle.dict_hub.specs.Events.{id_of}
 use Rattle.dict_hub.specs.Holding.{Holding}
 use Rattle.dict_hub.specs.Hubs.{Has}
@@ -20,7 +22,10 @@ use Rattle.dict_outlet.specs.Calls.{Call}
 use Rattle.dict_connection.specs.Ordering.{AreOfTurns}
 use Rattle.dict_driver.specs.Ordering.{ComeById, IsOpeningOf}
 use Rattle.dict_hub.specs.declared.kind.Kind.{Kind}
-use Rattle.dict_connection.specs.Foreseen.{BeginsBy}
+use Rattle.dict_session.specs.Desks.{Condition}
+use Rattle.dict_hub.specs.declared.fault.HubFault.{HubFault}
+use Rattle.dict_connection.specs.Causes.{AreCausedBy, IsRefused}
+use Rattle.dict_connection.specs.Foreseen.{HoldsBack, HoldsBy}
 use Rattle.dict_connection.specs.Handing.{held_in, is_handed, is_held_back}
 use Rattle.dict_connection.specs.Telling.{KeepsOthers}
 use Rattle.dict_connection.specs.Turns.{Departs, IsOpened, LeadsByAnswer, LeadsByPiece, LeadsByReading, LeadsByTurn, LeadsFurther, Turns, is_deferred}
@@ -51,7 +56,7 @@ flows_joined before es between fs after first then = record {
       ∙ ap (λ (l : List ℕ). l ++ then.put) first.order ∙ append_assoc before first.put then.put;
 }
 
-pub flows_turn : {T : Type 0} {hub : Hub} {preparing moved : Bool} (taken coming : T → Option (List ℕ)) (made : T → Option (List Call)) (a b : Connection T) (events : List Accepted) → Turns taken coming made preparing hub a b moved events
+pub flows_turn : {T : Type 0} {refused : ℕ → Kind → Type 0} {preparing moved : Bool} (taken coming : T → Option (List ℕ)) (made : T → Option (List Call)) (a b : Connection T) (events : List Accepted) → Turns taken coming made preparing refused a b moved events
     → Flows (waiting a.queue) events (waiting b.queue)
 flows_turn taken coming made a b events turns = record { sent = turns.sent; put = turns.put; are_put = turns.are_put; order = turns.order }
 
@@ -80,18 +85,18 @@ below_none id (one ∷ events) (under, below) =
     let differs = ne_eqb id (id_of one.what) (λ same. absurd (omega (arith, under, same))) in
     rw differs (below_none id events below)
 
--- where one hub has all of a connection that another has, what is said of a turn over the one is so over the other
-answer_kept : {T : Type 0} (from to : Hub) (octets : List ℕ) (old new : Connection T) (events : List Accepted) → ((held : Option Holding) → Has to old.id held → Has from old.id held)
+-- where octets may be refused by the one, if they may by the other, what is said of a turn by that is so by the one
+answer_kept : {T : Type 0} (from to : ℕ → Kind → Type 0) (octets : List ℕ) (old new : Connection T) (events : List Accepted) → (from old.id old.held.kind → to old.id old.held.kind)
     → LeadsByAnswer from octets old new events → LeadsByAnswer to octets old new events
 answer_kept from to octets old new events keeps (inl told) = inl told
-answer_kept from to octets old new events keeps (inr (may, ends, over)) = inr ((λ held has. may held (keeps (Some held) has)), ends, over)
+answer_kept from to octets old new events keeps (inr (may, ends, over)) = inr (keeps may, ends, over)
 
-piece_kept : {T : Type 0} (from to : Hub) (octets : List ℕ) (most : ℕ) (old new : Connection T) (events : List Accepted) → ((held : Option Holding) → Has to old.id held → Has from old.id held)
+piece_kept : {T : Type 0} (from to : ℕ → Kind → Type 0) (octets : List ℕ) (most : ℕ) (old new : Connection T) (events : List Accepted) → (from old.id old.held.kind → to old.id old.held.kind)
     → LeadsByPiece from octets most old new events → LeadsByPiece to octets most old new events
 piece_kept from to octets most old new events keeps (inl answer) = inl (answer_kept from to octets old new events keeps answer)
 piece_kept from to octets most old new events keeps (inr back) = inr back
 
-reading_kept : {T : Type 0} (from to : Hub) (reading : Received) (octets : List ℕ) (old new : Connection T) (events : List Accepted) → ((held : Option Holding) → Has to old.id held → Has from old.id held)
+reading_kept : {T : Type 0} (from to : ℕ → Kind → Type 0) (reading : Received) (octets : List ℕ) (old new : Connection T) (events : List Accepted) → (from old.id old.held.kind → to old.id old.held.kind)
     → LeadsByReading from reading octets old new events → LeadsByReading to reading octets old new events
 reading_kept from to receiveds.Nothing octets old new events keeps leads = leads
 reading_kept from to receiveds.Interrupted octets old new events keeps leads = leads
@@ -99,20 +104,20 @@ reading_kept from to (receiveds.Octets count) octets old new events keeps (leads
 reading_kept from to receiveds.End octets old new events keeps leads = leads
 reading_kept from to receiveds.Failed octets old new events keeps leads = leads
 
-further_kept : {T : Type 0} (whole deferred : Bool) (from to : Hub) (reading : Received) (octets : List ℕ) (old new : Connection T) (events : List Accepted) → ((held : Option Holding) → Has to old.id held → Has from old.id held)
+further_kept : {T : Type 0} (whole deferred : Bool) (from to : ℕ → Kind → Type 0) (reading : Received) (octets : List ℕ) (old new : Connection T) (events : List Accepted) → (from old.id old.held.kind → to old.id old.held.kind)
     → LeadsFurther whole deferred from reading octets old new events → LeadsFurther whole deferred to reading octets old new events
 further_kept true true from to reading octets old new events keeps leads = leads
 further_kept true false from to reading octets old new events keeps leads = reading_kept from to reading octets old new events keeps leads
 further_kept false deferred from to reading octets old new events keeps (leads, none, same) = (piece_kept from to (held_in old.held) old.held.turns_left old new events keeps leads, none, same)
 
-leads_kept : {T : Type 0} (preparing : Bool) (from to : Hub) (sending : Sent) (reading : Received) (octets : List ℕ) (old new : Connection T) (events : List Accepted) → ((held : Option Holding) → Has to old.id held → Has from old.id held)
+leads_kept : {T : Type 0} (preparing : Bool) (from to : ℕ → Kind → Type 0) (sending : Sent) (reading : Received) (octets : List ℕ) (old new : Connection T) (events : List Accepted) → (from old.id old.held.kind → to old.id old.held.kind)
     → LeadsByTurn preparing from sending reading octets old new events → LeadsByTurn preparing to sending reading octets old new events
 leads_kept preparing from to sents.Failed reading octets old new events keeps leads = leads
 leads_kept preparing from to sents.Nothing reading octets old new events keeps leads = further_kept (is_handed old.held) (is_deferred preparing old) from to reading octets old new events keeps leads
 leads_kept preparing from to sents.Interrupted reading octets old new events keeps leads = further_kept (is_handed old.held) (is_deferred preparing old) from to reading octets old new events keeps leads
 leads_kept preparing from to sents.Some reading octets old new events keeps leads = further_kept (is_handed old.held) (is_deferred preparing old) from to reading octets old new events keeps leads
 
-turn_kept : {T : Type 0} (taken coming : T → Option (List ℕ)) (made : T → Option (List Call)) (preparing : Bool) (from to : Hub) (old new : Connection T) (moved : Bool) (events : List Accepted) → ((held : Option Holding) → Has to old.id held → Has from old.id held)
+turn_kept : {T : Type 0} (taken coming : T → Option (List ℕ)) (made : T → Option (List Call)) (preparing : Bool) (from to : ℕ → Kind → Type 0) (old new : Connection T) (moved : Bool) (events : List Accepted) → (from old.id old.held.kind → to old.id old.held.kind)
     → Turns taken coming made preparing from old new moved events → Turns taken coming made preparing to old new moved events
 turn_kept taken coming made preparing from to old new moved events keeps turns = record {
   id = turns.id;
@@ -141,10 +146,15 @@ turn_kept taken coming made preparing from to old new moved events keeps turns =
   has_moved = turns.has_moved;
 }
 
--- and so is why octets begin to be held back
-begins_kept : {K T : Type 0} (expects : K → Command Edition → K → Type 0) (from to : Hub) (old new : Connection T) → ((held : Option Holding) → Has to old.id held → Has from old.id held)
-    → BeginsBy expects from old new → BeginsBy expects to old new
-begins_kept expects from to old new keeps begins isnt still back held has = begins isnt still back held (keeps held has)
+-- and so is why octets are held back, where one hub has all of the connection that another has
+holds_by_kept : {K : Type 0} (expects : K → Command Edition → K → Type 0) (prepares : K → Result Bool Fault → K → Type 0) (was : Bool) (between hub : Hub) (from to : K) (id : ℕ) (octets : List ℕ) → ((held : Option Holding) → Has hub id held → Has between id held)
+    → HoldsBy expects prepares was between from to id octets → HoldsBy expects prepares was hub from to id octets
+holds_by_kept expects prepares true between hub from to id octets keeps by = by
+holds_by_kept expects prepares false between hub from to id octets keeps (told, are, prepared) = (told, (λ held has. are held (keeps held has)), prepared)
+
+holds_kept : {K T : Type 0} (expects : K → Command Edition → K → Type 0) (prepares : K → Result Bool Fault → K → Type 0) (between hub : Hub) (from to : K) (old new : Connection T) → ((held : Option Holding) → Has hub old.id held → Has between old.id held)
+    → HoldsBack expects prepares between from to old new → HoldsBack expects prepares hub from to old new
+holds_kept expects prepares between hub from to old new keeps back still is = holds_by_kept expects prepares (is_held_back old.held) between hub from to old.id (held_in new.held) keeps (back still is)
 
 -- what a hub has of each connection but those before this place another has
 abbrev pub KeepsFrom : {T : Type 0} → List (Connection T) → ℕ → Hub → Hub → Type 0
@@ -177,32 +187,42 @@ preparing_more old now i after before both in_now is more =
     ∙ ap (λ b. any_held_back old || b) (sym (held_back_more (take i now) after) ∙ ap any_held_back (sym (take_more_set now i after in_now)))
 
 -- the connections before this place had their turns, and the others are as they were; octets are held back or not
-pub record TurnUpTo {K T : Type 0} (expects : K → Command Edition → K → Type 0) (taken coming : T → Option (List ℕ)) (made : T → Option (List Call)) (hub : Hub) (old now : List (Connection T)) (i : ℕ) (preparing moved : Bool) (events : List Accepted) : Type 0 where
+pub record TurnUpTo {K T : Type 0} (stands : K → Condition) (expects : K → Command Edition → K → Type 0) (prepares : K → Result Bool Fault → K → Type 0) (taken coming : T → Option (List ℕ)) (made : T → Option (List Call)) (refuses : Hub → ℕ → Kind → Option HubFault → Type 0) (hub : Hub) (from to : K) (old now : List (Connection T)) (i : ℕ) (preparing moved : Bool) (events : List Accepted) : Type 0 where
   pub len : length now ≡ length old
   pub moves : List Bool
   pub count : length moves ≡ i
+  pub left : List K
+  pub desks : length left ≡ i
+  pub last : to ≡ get_or (from ∷ left) i from
+  pub closed : (k : ℕ) → k < i → (stands (get_or (from ∷ left) k from)).closed ≡ true → (stands (get_or left k from)).closed ≡ true
   pub within : i ≤ length old
   pub has_moved : moved ≡ any moves
   pub prepares : preparing ≡ is_preparing old now i
   pub turns : (k : ℕ) (d : Connection T) → k < i → k < length old
-      → Turns taken coming made (is_preparing old now k) hub (get_or old k d) (get_or now k d) (get_or moves k false) (events_of (get_or old k d).id events)
-  pub foreseen : (k : ℕ) (d : Connection T) → k < i → k < length old → BeginsBy expects hub (get_or old k d) (get_or now k d)
+      → Turns taken coming made (is_preparing old now k) (IsRefused refuses hub) (get_or old k d) (get_or now k d) (get_or moves k false) (events_of (get_or old k d).id events)
+  pub caused : (k : ℕ) (d : Connection T) → k < i → k < length old → AreCausedBy (stands (get_or left k from)) (get_or old k d) (get_or now k d) (events_of (get_or old k d).id events)
+  pub prepared : (k : ℕ) (d : Connection T) → k < i → k < length old → HoldsBack expects prepares hub (get_or (from ∷ left) k from) (get_or left k from) (get_or old k d) (get_or now k d)
   pub rest : (k : ℕ) (d : Connection T) → i ≤ k → k < length old → get_or now k d ≡ get_or old k d
   pub below : AreBelowFrom old i events
   pub no_other : (id : ℕ) → ((k : ℕ) (d : Connection T) → k < length old → (get_or old k d).id ≢ id) → events_of id events ≡ []
   pub are_turns : AreOfTurns events
   pub by_id : ComeById events
 
-pub turn_none : {K T : Type 0} (expects : K → Command Edition → K → Type 0) (taken coming : T → Option (List ℕ)) (made : T → Option (List Call)) (hub : Hub) (all : List (Connection T)) (preparing : Bool) → preparing ≡ any_held_back all → TurnUpTo expects taken coming made hub all all 0 preparing false []
-turn_none expects taken coming made hub all preparing is = record {
+pub turn_none : {K T : Type 0} (stands : K → Condition) (expects : K → Command Edition → K → Type 0) (prepares : K → Result Bool Fault → K → Type 0) (taken coming : T → Option (List ℕ)) (made : T → Option (List Call)) (refuses : Hub → ℕ → Kind → Option HubFault → Type 0) (hub : Hub) (from : K) (all : List (Connection T)) (preparing : Bool) → preparing ≡ any_held_back all → TurnUpTo stands expects prepares taken coming made refuses hub from from all all 0 preparing false []
+turn_none stands expects prepares taken coming made refuses hub from all preparing is = record {
   prepares = is ∙ sym (or_false (any_held_back all));
   len = refl;
   moves = [];
   count = refl;
   within = omega arith;
   has_moved = refl;
+  left = [];
+  desks = refl;
+  last = refl;
+  closed = λ k before. absurd (omega (arith, before));
   turns = λ k d before within. absurd (omega (arith, before));
-  foreseen = λ k d before within. absurd (omega (arith, before));
+  caused = λ k d before within. absurd (omega (arith, before));
+  prepared = λ k d before within. absurd (omega (arith, before));
   rest = λ k d from within. refl;
   below = λ k d from within. tt;
   no_other = λ id apart. refl;
@@ -210,19 +230,34 @@ turn_none expects taken coming made hub all preparing is = record {
   by_id = tt;
 }
 
+-- one desk more
+last_desk : {K : Type 0} (left : List K) (i : ℕ) (to d : K) → i ≡ length left → get_or (left ++ to ∷ []) i d ≡ to
+last_desk left i to d is = ap (λ (k : ℕ). get_or (left ++ to ∷ []) k d) is ∙ get_or-append_seam left to [] d
+
+front_desk : {K : Type 0} (left : List K) (to : K) (k : ℕ) (d : K) → k < length left → get_or (left ++ to ∷ []) k d ≡ get_or left k d
+front_desk left to k d under = get_or_append_left left (to ∷ []) d k under
+
 -- one more connection had its turn
-pub turn_more : {K T : Type 0} (expects : K → Command Edition → K → Type 0) (taken coming : T → Option (List ℕ)) (made : T → Option (List Call)) (hub between : Hub) (old now : List (Connection T)) (i : ℕ) (one after : Connection T) (preparing prepares before here both : Bool) (es fs : List Accepted)
+pub turn_more : {K T : Type 0} (stands : K → Condition) (expects : K → Command Edition → K → Type 0) (prepares : K → Result Bool Fault → K → Type 0) (taken coming : T → Option (List ℕ)) (made : T → Option (List Call)) (refuses : Hub → ℕ → Kind → Option HubFault → Type 0) (hub between : Hub) (from mid to : K) (old now : List (Connection T)) (i : ℕ) (one after : Connection T) (preparing prepares before here both : Bool) (es fs : List Accepted)
     → AllPairs (λ a b. a.id < b.id) old → i < length old → get_or now i one ≡ one → prepares ≡ preparing || is_held_back after.held → both ≡ before || here → KeepsFrom old i hub between
-    → Turns taken coming made preparing between one after here fs → BeginsBy expects between one after → TurnUpTo expects taken coming made hub old now i preparing before es → TurnUpTo expects taken coming made hub old (set now i after) (i + 1) prepares both (es ++ fs)
-turn_more {K} {T} expects taken coming made hub between old now i one after preparing prepares before here both es fs rising within is holds moved keeps over begun all =
+    → Turns taken coming made preparing (IsRefused refuses between) one after here fs → AreCausedBy (stands to) one after fs → HoldsBack expects prepares between mid to one after → ((stands mid).closed ≡ true → (stands to).closed ≡ true)
+    → TurnUpTo stands expects prepares taken coming made refuses hub from mid old now i preparing before es → TurnUpTo stands expects prepares taken coming made refuses hub from to old (set now i after) (i + 1) prepares both (es ++ fs)
+turn_more {K} {T} stands expects prepares taken coming made refuses hub between from mid to old now i one after preparing prepares before here both es fs rising within is holds moved keeps over cause back shuts all =
     let len = all.len in
     let count = all.count in
     let in_now : i < length now = omega arith in
     let was : (d : Connection T) → get_or old i d ≡ one = λ d. sym (all.rest i d (omega arith) within) ∙ default_free now i d one in_now ∙ is in
     let own_id : (d : Connection T) → (get_or old i d).id ≡ one.id = λ d. ap (λ it. it.id) (was d) in
     let own = keeps_own old i one.id hub between rising within own_id keeps in
-    let turns : Turns taken coming made preparing hub one after here fs = turn_kept taken coming made preparing between hub one after here fs own over in
-    let begins : BeginsBy expects hub one after = begins_kept expects between hub one after own begun in
+    let turns : Turns taken coming made preparing (IsRefused refuses hub) one after here fs
+    = turn_kept taken coming made preparing (IsRefused refuses between) (IsRefused refuses hub) one after here fs (λ (at, same, why). (at, (λ held has. same held (own held has)), why)) over in
+    let backs : HoldsBack expects prepares hub mid to one after = holds_kept expects prepares between hub mid to one after own back in
+    let desks = all.desks in
+    let left = all.left ++ to ∷ [] in
+    let at_now : get_or left i from ≡ to = last_desk all.left i to from (sym desks) in
+    let at_mid : get_or (from ∷ left) i from ≡ mid = front_desk (from ∷ all.left) to i from (omega (arith, desks)) ∙ sym all.last in
+    let front : (k : ℕ) → k < i → get_or left k from ≡ get_or all.left k from = λ k under. front_desk all.left to k from (omega (arith, desks, under)) in
+    let front_from : (k : ℕ) → k < i → get_or (from ∷ left) k from ≡ get_or (from ∷ all.left) k from = λ k under. front_desk (from ∷ all.left) to k from (omega (arith, desks, under)) in
     record {
       len = length-set now i after ∙ len;
       moves = all.moves ++ here ∷ [];
@@ -239,7 +274,7 @@ turn_more {K} {T} expects taken coming made hub between old now i one after prep
             let last : get_or (all.moves ++ here ∷ []) k false ≡ here = last_move all.moves k here (same.1 ∙ sym count) in
             let front : take k (set now i after) ≡ take k now = take-set-le k now i after (omega (arith, same.1)) in
             let were : preparing ≡ is_preparing old now k = all.prepares ∙ ap (λ (j : ℕ). is_preparing old now j) (sym same.1) in
-            rw (front, get_or-set_at now i k after d same.1 in_now, at, events, last) (subst (λ (p : Bool). Turns taken coming made p hub one after here fs) were turns)
+            rw (front, get_or-set_at now i k after d same.1 in_now, at, events, last) (subst (λ (b : Bool). Turns taken coming made b (IsRefused refuses hub) one after here fs) were turns)
         | inr other ↦
             let earlier : k < i = omega (arith, under, other.1) in
             let moves : get_or (all.moves ++ here ∷ []) k false ≡ get_or all.moves k false = front_move all.moves here k (omega (arith, earlier, count)) in
@@ -249,13 +284,37 @@ turn_more {K} {T} expects taken coming made hub between old now i one after prep
             = events_joined (get_or old k d).id es fs ∙ ap (λ l. events_of (get_or old k d).id es ++ l) (own_none one.id (get_or old k d).id fs turns.own apart) ∙ append-nil (events_of (get_or old k d).id es) in
             rw (front, get_or-set_other now i k after d other.1, events, moves) (all.turns k d earlier below)
       ];
-      foreseen = λ k d under below. elim (eqb_tells k i) [
+      left = left;
+      desks = length-append all.left (to ∷ []) ∙ ap (λ n. n + 1) desks;
+      last = sym (last_desk (from ∷ all.left) (i + 1) to from (omega (arith, desks)));
+      closed = λ k under. elim (eqb_tells k i) [
+        | inl same ↦ subst (λ (j : ℕ). (stands (get_or (from ∷ left) j from)).closed ≡ true → (stands (get_or left j from)).closed ≡ true) (sym same.1) (rw (at_mid, at_now) shuts)
+        | inr other ↦ let earlier : k < i = omega (arith, under, other.1) in rw (front k earlier, front_from k earlier) (all.closed k earlier)
+      ];
+      caused = λ k d under below. elim (eqb_tells k i) [
         | inl same ↦
             let at : get_or old k d ≡ one = ap (λ (j : ℕ). get_or old j d) same.1 ∙ was d in
-            let then : get_or (set now i after) k d ≡ after = get_or-set_at now i k after d same.1 in_now in
-            subst (λ (it : Connection T). BeginsBy expects hub it (get_or (set now i after) k d)) (sym at) (subst (λ (it : Connection T). BeginsBy expects hub one it) (sym then) begins)
+            let less : AreBelow one.id es = subst (λ it. AreBelow it.id es) (was d) (all.below i d (omega arith) within) in
+            let events : events_of one.id (es ++ fs) ≡ fs
+            = events_joined one.id es fs ∙ ap (λ l. l ++ events_of one.id fs) (below_none one.id es less) ∙ own_all one.id fs turns.own in
+            let desk : get_or left k from ≡ to = ap (λ (j : ℕ). get_or left j from) same.1 ∙ at_now in
+            rw (get_or-set_at now i k after d same.1 in_now, at, events, desk) cause
         | inr other ↦
-            subst (λ (it : Connection T). BeginsBy expects hub (get_or old k d) it) (sym (get_or-set_other now i k after d other.1)) (all.foreseen k d (omega (arith, under, other.1)) below)
+            let earlier : k < i = omega (arith, under, other.1) in
+            let apart : one.id ≢ (get_or old k d).id = λ same. (let lt = rising k i d earlier within in let e = own_id d in absurd (omega (arith, lt, e, same))) in
+            let events : events_of (get_or old k d).id (es ++ fs) ≡ events_of (get_or old k d).id es
+            = events_joined (get_or old k d).id es fs ∙ ap (λ l. events_of (get_or old k d).id es ++ l) (own_none one.id (get_or old k d).id fs turns.own apart) ∙ append-nil (events_of (get_or old k d).id es) in
+            rw (get_or-set_other now i k after d other.1, events, front k earlier) (all.caused k d earlier below)
+      ];
+      prepared = λ k d under below. elim (eqb_tells k i) [
+        | inl same ↦
+            let at : get_or old k d ≡ one = ap (λ (j : ℕ). get_or old j d) same.1 ∙ was d in
+            let before_it : get_or (from ∷ left) k from ≡ mid = ap (λ (j : ℕ). get_or (from ∷ left) j from) same.1 ∙ at_mid in
+            let behind_it : get_or left k from ≡ to = ap (λ (j : ℕ). get_or left j from) same.1 ∙ at_now in
+            rw (get_or-set_at now i k after d same.1 in_now, at, before_it, behind_it) backs
+        | inr other ↦
+            let earlier : k < i = omega (arith, under, other.1) in
+            rw (get_or-set_other now i k after d other.1, front k earlier, front_from k earlier) (all.prepared k d earlier below)
       ];
       rest = λ k d from below. rw (get_or-set_other now i k after d (λ same. absurd (omega (arith, from, same)))) (all.rest k d (omega (arith, from)) below);
       below = below_from_more old i one.id es fs rising within own_id all.below turns.own;
@@ -267,21 +326,28 @@ turn_more {K} {T} expects taken coming made hub between old now i one after prep
     }
 
 -- each had its turn
-pub turn_whole : {K T : Type 0} (expects : K → Command Edition → K → Type 0) (taken coming : T → Option (List ℕ)) (made : T → Option (List Call)) (hub : Hub) (old now : List (Connection T)) (i : ℕ) (preparing moved : Bool) (events : List Accepted) → length old ≤ i
-    → TurnUpTo expects taken coming made hub old now i preparing moved events → TurnAll expects taken coming made hub old now moved events
-turn_whole expects taken coming made hub old now i preparing moved events whole all = record {
-  len = all.len;
-  moves = all.moves;
-  count = let in_all = all.within in let count = all.count in omega (arith, whole, in_all, count);
-  has_moved = all.has_moved;
-  turns = λ k d within. all.turns k d (omega (arith, within)) within;
-  foreseen = λ k d within. all.foreseen k d (omega (arith, within)) within;
-  no_other = all.no_other;
-  are_turns = all.are_turns;
-  by_id = all.by_id;
-}
+pub turn_whole : {K T : Type 0} (stands : K → Condition) (expects : K → Command Edition → K → Type 0) (prepares : K → Result Bool Fault → K → Type 0) (taken coming : T → Option (List ℕ)) (made : T → Option (List Call)) (refuses : Hub → ℕ → Kind → Option HubFault → Type 0) (hub : Hub) (from to : K) (old now : List (Connection T)) (i : ℕ) (preparing moved : Bool) (events : List Accepted) → length old ≤ i
+    → TurnUpTo stands expects prepares taken coming made refuses hub from to old now i preparing moved events → TurnAll stands expects prepares taken coming made refuses hub from to old now moved events
+turn_whole stands expects prepares taken coming made refuses hub from to old now i preparing moved events whole all =
+    let at : i ≡ length old = let in_all = all.within in omega (arith, whole, in_all) in
+    record {
+      len = all.len;
+      moves = all.moves;
+      count = let in_all = all.within in let count = all.count in omega (arith, whole, in_all, count);
+      has_moved = all.has_moved;
+      turns = λ k d within. all.turns k d (omega (arith, within, at)) within;
+      left = all.left;
+      desks = all.desks ∙ at;
+      last = all.last ∙ ap (λ (k : ℕ). get_or (from ∷ all.left) k from) at;
+      closed = λ k within. all.closed k (omega (arith, within, at));
+      caused = λ k d within. all.caused k d (omega (arith, within, at)) within;
+      prepared = λ k d within. all.prepared k d (omega (arith, within, at)) within;
+      no_other = all.no_other;
+      are_turns = all.are_turns;
+      by_id = all.by_id;
+    }
 
-pub turn_ids : {K T : Type 0} {expects : K → Command Edition → K → Type 0} {moved : Bool} {taken coming : T → Option (List ℕ)} {made : T → Option (List Call)} {hub : Hub} (old new : List (Connection T)) (events : List Accepted) → TurnAll expects taken coming made hub old new moved events → HaveSameIds old new
+pub turn_ids : {K T : Type 0} {stands : K → Condition} {expects : K → Command Edition → K → Type 0} {prepares : K → Result Bool Fault → K → Type 0} {moved : Bool} {taken coming : T → Option (List ℕ)} {made : T → Option (List Call)} {refuses : Hub → ℕ → Kind → Option HubFault → Type 0} {hub : Hub} {from to : K} (old new : List (Connection T)) (events : List Accepted) → TurnAll stands expects prepares taken coming made refuses hub from to old new moved events → HaveSameIds old new
 turn_ids old new events all = record { len = all.len; same = λ k d within. (all.turns k d within).id }
 
 pub depart_ids : {T : Type 0} {moved : Bool} {taken coming : T → Option (List ℕ)} {made : T → Option (List Call)} (old new : List (Connection T)) → DepartAll taken coming made old new moved → HaveSameIds old new
@@ -356,8 +422,8 @@ moves_opened a b one events opened departing last above own flows =
     }
 
 -- each had its turn
-pub moves_turned : {K T : Type 0} {G : Ghosts T} {expects : K → Command Edition → K → Type 0} {taken coming : T → Option (List ℕ)} {made : T → Option (List Call)} {hub : Hub} (a b : Connections T G) (moved : Bool) (events : List Accepted) → TurnEach expects taken coming made hub a b moved events → Moves a b events
-moves_turned {K} {T} {G} {expects} {taken} {coming} {made} {hub} a b moved events each =
+pub moves_turned : {K T : Type 0} {G : Ghosts T} {stands : K → Condition} {expects : K → Command Edition → K → Type 0} {prepares : K → Result Bool Fault → K → Type 0} {taken coming : T → Option (List ℕ)} {made : T → Option (List Call)} {refuses : Hub → ℕ → Kind → Option HubFault → Type 0} {hub : Hub} {from to : K} (a b : Connections T G) (moved : Bool) (events : List Accepted) → TurnEach stands expects prepares taken coming made refuses hub from to a b moved events → Moves a b events
+moves_turned {taken = taken} {coming = coming} {made = made} a b moved events each =
     let last = each.last in
     let ids = turn_ids a.opened.items each.turned events each.turns in
     let same_len = ids.len in
@@ -413,13 +479,13 @@ moves_marked is_told a b opened departing id octets (inr is) = inr (marked_among
 
 -- what the opening of a connection is
 pub opened_own : {T : Type 0} (id : ℕ) (kind : Kind) (hub : Hub) (one : Connection T) (events : List Accepted) → IsOpened id kind hub one events → AreOf id events
-opened_own id kind hub one events (accepted, are, is, stage, has, put) = rw are (ap id_of is, tt)
+opened_own id kind hub one events (accepted, are, is, stage, has, put, count) = rw are (ap id_of is, tt)
 
 pub opened_is : {T : Type 0} (id : ℕ) (kind : Kind) (hub : Hub) (one : Connection T) (events : List Accepted) → IsOpened id kind hub one events → IsOpeningOf kind events
-opened_is id kind hub one events (accepted, are, is, stage, has, put) = rw are (id, is)
+opened_is id kind hub one events (accepted, are, is, stage, has, put, count) = rw are (id, is)
 
 pub opened_flows : {T : Type 0} (id : ℕ) (kind : Kind) (hub : Hub) (one : Connection T) (events : List Accepted) → IsOpened id kind hub one events → Flows [] events (waiting one.queue)
-opened_flows id kind hub one events (accepted, are, is, stage, has, put) = record { sent = []; put = waiting one.queue; are_put = put; order = refl }
+opened_flows id kind hub one events (accepted, are, is, stage, has, put, count) = record { sent = []; put = waiting one.queue; are_put = put; order = refl }
 
 -- those that are no longer open stay so
 pub departed_closed : {T : Type 0} {moved : Bool} {taken coming : T → Option (List ℕ)} {made : T → Option (List Call)} (old new : List (Connection T)) → DepartAll taken coming made old new moved

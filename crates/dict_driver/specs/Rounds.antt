@@ -1,7 +1,9 @@
 -- What a round does with the octets that wait for each connection.
-use Rattle.std.specs.Prelude.{◌≡◌, ◌⊎◌, ◌||◌, Bool, ◌<◌, ◌≤◌, ◌-◌, ◌+◌, ◌^◌, ℕ, true, List, [], ◌∷◌, ◌++◌, drop, filter, length, sum_by, nat_le, if◌then◌else◌, Option, vec_len, vec_capacity}
+use Rattle.std.specs.Prelude.{◌≡◌, ◌⊎◌, ◌||◌, Bool, ◌<◌, ◌≤◌, ◌-◌, ◌+◌, ◌^◌, ℕ, true, List, [], ◌∷◌, ◌++◌, drop, filter, length, sum_by, nat_le, if◌then◌else◌, Option, vec_len, vec_capacity, Result}
 use Rattle.dict_index.specs.Edition.{Edition}
 use Rattle.dict_catalogue.specs.Commands.{Command}
+use Rattle.dict_desk.specs.declared.fault.Fault.{Fault}
+use Rattle.dict_session.specs.Desks.{Condition}
 use Rattle.dict_hub.specs.Runs.{Accepted, events_of}
 use Rattle.dict_outlet.specs.Queues.{waiting}
 use Rattle.dict_outlet.specs.Calls.{Call}
@@ -66,15 +68,16 @@ fitting most [] = []
 fitting most (one ∷ others) = if nat_le (room_of (one ∷ others)) most then one ∷ others else fitting most others
 
 -- Each connection that is no longer open had its turn as such, and then each open one by its own events, over what the hub had of it as
--- they began. Those that are open then are the open ones; those that are held and no longer open, of which the last 128 are kept, and of
--- these the last that have room for 33,554,432 octets together, stand behind those that were so before; and no other is held. Something happened where it did in a turn of the one sort or the other
-pub record TurnEach {K T : Type 0} {G : Ghosts T} (expects : K → Command Edition → K → Type 0) (taken coming : T → Option (List ℕ)) (made : T → Option (List Call)) (hub : Hub) (old new : Connections T G) (moved : Bool) (events : List Accepted) : Type 0 where
+-- they began, from this desk to that. Those that are open then are the open ones; those that are held and no longer open, of which the last 128
+-- are kept, and of these the last that have room for 33,554,432 octets together, stand behind those that were so before; and no other is held.
+-- Something happened where it did in a turn of the one sort or the other
+pub record TurnEach {K T : Type 0} {G : Ghosts T} (stands : K → Condition) (expects : K → Command Edition → K → Type 0) (prepares : K → Result Bool Fault → K → Type 0) (taken coming : T → Option (List ℕ)) (made : T → Option (List Call)) (refuses : Hub → ℕ → Kind → Option HubFault → Type 0) (hub : Hub) (from to : K) (old new : Connections T G) (moved : Bool) (events : List Accepted) : Type 0 where
   pub departed : List (Connection T)
   pub by_departing : Bool
   pub departs : DepartAll taken coming made old.departing.items departed by_departing
   pub turned : List (Connection T)
   pub by_open : Bool
-  pub turns : TurnAll expects taken coming made hub old.opened.items turned by_open events
+  pub turns : TurnAll stands expects prepares taken coming made refuses hub from to old.opened.items turned by_open events
   pub opened : new.opened.items ≡ filter (λ one. is_open one.stage) turned
   pub departing : new.departing.items ≡ fitting 33554432 (latest 128 (filter (λ one. is_held one.stage) departed ++ filter (λ one. is_departing one.stage) turned))
   pub last : new.last ≡ old.last

@@ -1,13 +1,18 @@
 -- What is done to each connection of a list, place by place.
-use Rattle.std.specs.Prelude.{◌≡◌, ◌≢◌, ◌<◌, ◌||◌, ℕ, Bool, false, List, [], ◌∷◌, Option, length, slice_index_or, take}
+use Rattle.std.specs.Prelude.{◌≡◌, ◌≢◌, ◌<◌, ◌||◌, ℕ, Bool, true, false, List, [], ◌∷◌, Option, length, slice_index_or, take, Result}
 use Rattle.dict_index.specs.Edition.{Edition}
 use Rattle.dict_catalogue.specs.Commands.{Command}
+use Rattle.dict_desk.specs.declared.fault.Fault.{Fault}
+use Rattle.dict_session.specs.Desks.{Condition}
 use Rattle.dict_hub.specs.Holding.{Holding}
 use Rattle.dict_hub.specs.Hubs.{Has}
 use Rattle.dict_hub.specs.Runs.{Accepted, events_of}
+use Rattle.dict_hub.specs.declared.fault.HubFault.{HubFault}
 use Rattle.dict_hub.specs.declared.hub.Hub.{Hub}
+use Rattle.dict_hub.specs.declared.kind.Kind.{Kind}
 use Rattle.dict_outlet.specs.Calls.{Call}
-use Rattle.dict_connection.specs.Foreseen.{BeginsBy}
+use Rattle.dict_connection.specs.Causes.{AreCausedBy, IsRefused}
+use Rattle.dict_connection.specs.Foreseen.{HoldsBack}
 use Rattle.dict_connection.specs.Handing.{is_held_back}
 use Rattle.dict_connection.specs.Ordering.{AreOfTurns}
 use Rattle.dict_driver.specs.Ordering.{ComeById}
@@ -47,15 +52,23 @@ pub record DepartAll {T : Type 0} (taken coming : T → Option (List ℕ)) (made
   pub has_moved : moved ≡ any moves
 
 -- Each connection had its turn, by its own events, over what the hub had of it as they began, an editor's without a reading where what
--- one sent is being prepared; where octets of it begin to be held back, they make an install whole, and a desk was told of that; and each
--- event is of one of these connections, in the order of their ids. Something happened where it did in one of the turns
-pub record TurnAll {K T : Type 0} (expects : K → Command Edition → K → Type 0) (taken coming : T → Option (List ℕ)) (made : T → Option (List Call)) (hub : Hub) (old new : List (Connection T)) (moved : Bool) (events : List Accepted) : Type 0 where
+-- one sent is being prepared. The first was over this desk, each other over the one that the turn before it left, and the last left that
+-- one; a closed desk stays closed. What failed, and why octets are held back, is told of the desks of its turn. Each event is of one of
+-- these connections, in the order of their ids. Something happened where it did in one of the turns
+pub record TurnAll {K T : Type 0} (stands : K → Condition) (expects : K → Command Edition → K → Type 0) (prepares : K → Result Bool Fault → K → Type 0) (taken coming : T → Option (List ℕ)) (made : T → Option (List Call)) (refuses : Hub → ℕ → Kind → Option HubFault → Type 0) (hub : Hub) (from to : K) (old new : List (Connection T)) (moved : Bool) (events : List Accepted) : Type 0 where
   pub len : length new ≡ length old
   pub moves : List Bool
   pub count : length moves ≡ length old
+  pub left : List K
+  pub desks : length left ≡ length old
+  pub last : to ≡ slice_index_or (from ∷ left) (length old) from
+  pub closed : (k : ℕ) → k < length old → (stands (slice_index_or (from ∷ left) k from)).closed ≡ true → (stands (slice_index_or left k from)).closed ≡ true
   pub turns : (k : ℕ) (d : Connection T) → k < length old
-      → Turns taken coming made (is_preparing old new k) hub (slice_index_or old k d) (slice_index_or new k d) (slice_index_or moves k false) (events_of (slice_index_or old k d).id events)
-  pub foreseen : (k : ℕ) (d : Connection T) → k < length old → BeginsBy expects hub (slice_index_or old k d) (slice_index_or new k d)
+      → Turns taken coming made (is_preparing old new k) (IsRefused refuses hub) (slice_index_or old k d) (slice_index_or new k d) (slice_index_or moves k false) (events_of (slice_index_or old k d).id events)
+  pub caused : (k : ℕ) (d : Connection T) → k < length old
+      → AreCausedBy (stands (slice_index_or left k from)) (slice_index_or old k d) (slice_index_or new k d) (events_of (slice_index_or old k d).id events)
+  pub prepared : (k : ℕ) (d : Connection T) → k < length old
+      → HoldsBack expects prepares hub (slice_index_or (from ∷ left) k from) (slice_index_or left k from) (slice_index_or old k d) (slice_index_or new k d)
   pub has_moved : moved ≡ any moves
   pub no_other : (id : ℕ) → ((k : ℕ) (d : Connection T) → k < length old → (slice_index_or old k d).id ≢ id) → events_of id events ≡ []
   pub are_turns : AreOfTurns events

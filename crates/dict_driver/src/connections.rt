@@ -38,6 +38,7 @@ pub struct Connections<T: Transport> {
 }
 
 impl<T: Transport> Connections<T> {
+    ghost use Rattle.dict_session.specs.Desks.{condition};
     ghost use Rattle.dict_connection.specs.Leading.{HasLedOn};
     ghost use Rattle.std.specs.Prelude.{◌++◌, ◌∷◌, ◌==◌, ◌||◌, ◌^◌, true, MatchOption, filter, if◌then◌else◌};
     ghost use Rattle.std.specs.List.{remove};
@@ -110,6 +111,7 @@ impl<T: Transport> Connections<T> {
             (λ events. Moves self.old self.new events × IsOpeningOf kind events × Admits O.refuses transport kind hub.old hub.new self.old self.new events) }
         ensures trust { K.is_trusted desk.new → K.is_trusted desk.old }
         ensures others { KeepsOthers (self.old.last + 1) hub.old hub.new }
+        ensures unasked { desk.new ≡ desk.old }
     {
         let Some(id) = self.next_id() else {
             return;
@@ -122,16 +124,22 @@ impl<T: Transport> Connections<T> {
 
     /// A turn of each connection: those that are no longer open, and then the open ones in the order of their ids. Those
     /// that are over are dropped. Whether anything happened.
-    pub fn turn<K: Preparer>(&mut self, hub: &mut Hub, desk: &mut K) -> bool
+    pub fn turn<K: Preparer, O: Opening>(
+        &mut self,
+        opening: &O,
+        hub: &mut Hub,
+        desk: &mut K,
+    ) -> bool
         ensures led { HasLedOn (K.is_trusted desk.new) (K.shows desk.old) (K.leaves_one_of desk.old) (K.shows desk.new) (K.leaves_one_of desk.new) hub.old hub.new
-            (λ events. Moves self.old self.new events × AreOfTurns events × ComeById events × TurnEach K.expects T.taken T.coming T.made hub.old self.old self.new result events) }
+            (λ events. Moves self.old self.new events × AreOfTurns events × ComeById events × TurnEach (condition K.has_failed K.is_closed) K.expects K.prepares T.taken T.coming T.made O.refuses hub.old desk.old desk.new self.old self.new result events) }
         ensures trust { K.is_trusted desk.new → K.is_trusted desk.old }
         ensures others { KeepsAllBut self.old.opened.items hub.old hub.new }
+        ensures closed { K.is_closed desk.old ≡ true → K.is_closed desk.new ≡ true }
         ensures idle { result ≡ false → All IsAtRest self.new.opened.items }
     {
         let departed = depart_all(&mut self.departing);
         self.departing.retain(|one| one.stage().is_held());
-        let turned = turn_all(&mut self.opened, hub, desk);
+        let turned = turn_all(opening, &mut self.opened, hub, desk);
         self.settle();
         departed || turned
     }

@@ -31,6 +31,8 @@ pub struct EventLoop<'h, T: Transport, S: Sockets<T>> {
 }
 
 impl<'h, T: Transport, S: Sockets<T>> EventLoop<'h, T, S> {
+    ghost use Rattle.dict_session.specs.Desks.{condition};
+    ghost use Rattle.std.specs.Prelude.{true};
     ghost use Rattle.dict_hub.specs.Runs.{IsAt, beginning};
     ghost use Rattle.dict_connection.specs.Leading.{HasLedOn};
     ghost use Rattle.dict_driver.specs.Rounds.{Moves};
@@ -93,8 +95,9 @@ impl<'h, T: Transport, S: Sockets<T>> EventLoop<'h, T, S> {
     /// before the next round.
     pub fn round<K: Preparer>(&mut self, desk: &mut K) -> io::Result<bool>
         ensures led { HasLedOn (K.is_trusted desk.new) (K.shows desk.old) (K.leaves_one_of desk.old) (K.shows desk.new) (K.leaves_one_of desk.new) self.old.hub self.new.hub
-            (λ events. Moves self.old.connections self.new.connections events × AreOfRound events × GoesRound K.expects T.taken T.coming T.made S.refuses S.asked S.told result self.old self.new events) }
+            (λ events. Moves self.old.connections self.new.connections events × AreOfRound events × GoesRound (condition K.has_failed K.is_closed) K.expects K.prepares T.taken T.coming T.made S.refuses S.asked S.told result desk.old desk.new self.old self.new events) }
         ensures trust { K.is_trusted desk.new → K.is_trusted desk.old }
+        ensures closed { K.is_closed desk.old ≡ true → K.is_closed desk.new ≡ true }
         ensures rounds { IsCounted result self.old.rounds self.new.rounds }
         ensures grown { self.old.rounds ≤ self.new.rounds }
         ensures idle { IfOk result (λ has_moved. has_moved ≡ false → IsIdle self.new) }
@@ -106,7 +109,7 @@ impl<'h, T: Transport, S: Sockets<T>> EventLoop<'h, T, S> {
         }
         let by_dict = self.accept(Kind::Dict, desk);
         let by_http = self.accept_editor(desk);
-        let turned = self.connections.turn(&mut self.hub, desk);
+        let turned = self.connections.turn(&self.sockets, &mut self.hub, desk);
         self.rounds = self.rounds.saturating_add(1);
         Ok(has_any(by_dict, by_http, turned))
     }
@@ -138,6 +141,7 @@ impl<'h, T: Transport, S: Sockets<T>> EventLoop<'h, T, S> {
             (λ events. Moves self.old.connections self.new.connections events × IsOpeningOf kind events × HasAccepted S.refuses S.asked kind self.old self.new events) }
         ensures trust { K.is_trusted desk.new → K.is_trusted desk.old }
         ensures others { KeepsOthers (self.old.connections.last + 1) self.old.hub self.new.hub }
+        ensures unasked { desk.new ≡ desk.old }
         ensures kept { IsKept self.old self.new }
         ensures asked { result ≡ is_ready (listening_of kind self.new) }
         ensures other { listening_of (other_kind kind) self.new ≡ listening_of (other_kind kind) self.old }
@@ -166,6 +170,7 @@ impl<'h, T: Transport, S: Sockets<T>> EventLoop<'h, T, S> {
             (λ events. Moves self.old.connections self.new.connections events × IsOpeningOf Kind.Http events × HasLetIn S.refuses S.asked self.old self.new events) }
         ensures trust { K.is_trusted desk.new → K.is_trusted desk.old }
         ensures others { KeepsOthers (self.old.connections.last + 1) self.old.hub self.new.hub }
+        ensures unasked { desk.new ≡ desk.old }
         ensures kept { IsKept self.old self.new }
         ensures asked { result ≡ is_ready self.new.http_listening }
         ensures dict { self.new.dict_listening ≡ self.old.dict_listening }
@@ -207,6 +212,7 @@ impl<'h, T: Transport, S: Sockets<T>> EventLoop<'h, T, S> {
             (λ events. Moves self.old.connections self.new.connections events × IsOpeningOf kind events × HasTaken S.refuses S.asked transport kind self.old self.new events) }
         ensures trust { K.is_trusted desk.new → K.is_trusted desk.old }
         ensures others { KeepsOthers (self.old.connections.last + 1) self.old.hub self.new.hub }
+        ensures unasked { desk.new ≡ desk.old }
         ensures kept { IsKept self.old self.new }
         ensures dict { self.new.dict_listening ≡ self.old.dict_listening }
         ensures http { self.new.http_listening ≡ self.old.http_listening }

@@ -6,9 +6,10 @@ ghost use Rattle.mio.specs.Event.{event_token};
 ghost use Rattle.mio.specs.Events.{items};
 ghost use Rattle.dict_driver.specs.Asking.{Asking, Asks, looks, accepts, watches};
 
-use dict_connection::{Opening, PIECE, greet_by_hub};
+use dict_connection::{Opening, PIECE, greet_by_hub, hand_by_hub};
 use dict_desk::Keeper;
 use dict_hub::{Hub, HubFault, Kind, Out};
+use dict_io::Sink;
 use dict_outlet::{Queue, Socket, Transport};
 use mio::net::TcpListener;
 use mio::{Events, Poll, Token};
@@ -98,6 +99,18 @@ impl Opening for SystemSockets {
         queue: &mut Queue,
     ) -> Result<Out, HubFault> {
         greet_by_hub(hub, desk, id, kind, queue)
+    }
+
+    fn hand<K: Keeper, S: Sink>(
+        &self,
+        hub: &mut Hub,
+        desk: &mut K,
+        id: u64,
+        _kind: Kind,
+        piece: &[u8],
+        sink: &mut S,
+    ) -> Result<Out, HubFault> {
+        hand_by_hub(hub, desk, id, piece, sink)
     }
 }
 

@@ -1,27 +1,30 @@
 // What is done to each connection of a list.
-ghost use Rattle.std.specs.Prelude.{◌≡◌, ◌<◌, ◌==◌, ℕ, false, All, nat_le, slice_index_or, vec_len, vec_capacity};
+ghost use Rattle.std.specs.Prelude.{◌≡◌, ◌<◌, ◌==◌, ℕ, false, All, nat_le, slice_index_or, vec_len, vec_capacity, true};
 ghost use Rattle.std.specs.List.{AllPairs};
+ghost use Rattle.dict_session.specs.Desks.{condition};
 ghost use Rattle.dict_connection.specs.Leading.{HasLedOn};
 ghost use Rattle.dict_driver.specs.Turning.{DepartAll, KeepsAllBut, MarkAll, TurnAll, any_held_back};
 ghost use Rattle.dict_connection.specs.Turns.{IsAtRest};
 ghost use Rattle.dict_driver.specs.Rounds.{room_of};
 
-use dict_connection::{Connection, PIECE};
+use dict_connection::{Connection, Opening, PIECE};
 use dict_hub::Hub;
 use dict_outlet::Transport;
 use dict_preparing::Preparer;
 
 /// A turn of each open connection, in order. Whether anything happened, or a turn is to be had again at once.
-pub fn turn_all<T: Transport, K: Preparer>(
+pub fn turn_all<T: Transport, K: Preparer, O: Opening>(
+    opening: &O,
     all: &mut Vec<Connection<T>>,
     hub: &mut Hub,
     desk: &mut K,
 ) -> bool
     requires { AllPairs (λ a b. a.id < b.id) all.old.items }
     ensures led { HasLedOn (K.is_trusted desk.new) (K.shows desk.old) (K.leaves_one_of desk.old) (K.shows desk.new) (K.leaves_one_of desk.new) hub.old hub.new
-        (λ events. TurnAll K.expects T.taken T.coming T.made hub.old all.old.items all.new.items result events) }
+        (λ events. TurnAll (condition K.has_failed K.is_closed) K.expects K.prepares T.taken T.coming T.made O.refuses hub.old desk.old desk.new all.old.items all.new.items result events) }
     ensures trust { K.is_trusted desk.new → K.is_trusted desk.old }
     ensures others { KeepsAllBut all.old.items hub.old hub.new }
+    ensures closed { K.is_closed desk.old ≡ true → K.is_closed desk.new ≡ true }
     ensures idle { result ≡ false → All IsAtRest all.new.items }
     ensures ids { (k : ℕ) (d : _) → k < vec_len all.old → (slice_index_or all.new.items k d).id ≡ (slice_index_or all.old.items k d).id }
     ensures len { vec_len all.new ≡ vec_len all.old }
@@ -31,7 +34,7 @@ pub fn turn_all<T: Transport, K: Preparer>(
     let mut has_moved = false;
     let mut is_preparing = is_any_held_back(all.as_slice());
     for one in all.iter_mut() {
-        if one.turn(hub, desk, &mut room, is_preparing) {
+        if one.turn(opening, hub, desk, &mut room, is_preparing) {
             has_moved = true;
         }
         if one.is_held_back() {

@@ -2,10 +2,11 @@
 ghost use Rattle.std.specs.Prelude.{None, ⊤};
 
 use crate::checks::same;
-use dict_connection::{Opening, greet_by_hub};
+use dict_connection::{Opening, greet_by_hub, hand_by_hub};
 use dict_desk::{Keeper, PlainDesk};
 use dict_driver::{EventLoop, Sockets};
 use dict_hub::{Hub, HubFault, Kind, Out};
+use dict_io::Sink;
 use dict_outlet::{Queue, Transport};
 use std::alloc::{AllocError, Global};
 use std::io::{Error, ErrorKind, Result as IoResult};
@@ -74,6 +75,18 @@ impl Opening for Few {
         queue: &mut Queue,
     ) -> Result<Out, HubFault> {
         greet_by_hub(hub, desk, id, kind, queue)
+    }
+
+    fn hand<K: Keeper, S: Sink>(
+        &self,
+        hub: &mut Hub,
+        desk: &mut K,
+        id: u64,
+        _kind: Kind,
+        piece: &[u8],
+        sink: &mut S,
+    ) -> Result<Out, HubFault> {
+        hand_by_hub(hub, desk, id, piece, sink)
     }
 }
 

@@ -1,5 +1,5 @@
 // What a request that changes does.
-ghost use Rattle.std.specs.Prelude.{◌≡◌, ◌≢◌, List, IfOk, None};
+ghost use Rattle.std.specs.Prelude.{◌≡◌, ◌≢◌, true, List, IfOk, None};
 ghost use Rattle.dict_index.specs.Edition.{edition_of};
 ghost use Rattle.dict_catalogue.specs.Commands.{install};
 ghost use Rattle.dict_catalogue.specs.Steps.{Catalogue, kept_under};
@@ -73,6 +73,7 @@ fn refused_edition(alloc: Global, refusal: EditionRefusal, line: Option<usize>) 
 fn apply<K: Keeper>(alloc: Global, desk: &mut K, id: &str, command: &Command) -> Answer
     ensures ends { K.is_trusted desk.new → (M : Catalogue) → K.shows desk.old M → kept_under M.kept id.now ≡ None → Ends (K.shows desk.new) (K.leaves_one_of desk.old) (K.leaves_one_of desk.new) M (applied M id.now (command_meant command.now)) (octets_of result) }
     ensures trust { K.is_trusted desk.new → K.is_trusted desk.old }
+    ensures closed { K.is_closed desk.old ≡ true → K.is_closed desk.new ≡ true }
 {
     match desk.apply(id, command) {
         Ok(kept) => kept_answer(alloc, &kept),
@@ -91,6 +92,7 @@ fn install_edition<K: Keeper>(
 ) -> Answer
     ensures ends { K.is_trusted desk.new → (M : Catalogue) → K.shows desk.old M → kept_under M.kept id.now ≡ None → Ends (K.shows desk.new) (K.leaves_one_of desk.old) (K.leaves_one_of desk.new) M (applied M id.now (install name.now (edition_of edition.now))) (octets_of result) }
     ensures trust { K.is_trusted desk.new → K.is_trusted desk.old }
+    ensures closed { K.is_closed desk.old ≡ true → K.is_closed desk.new ≡ true }
 {
     apply(alloc, desk, id, &Command::Install { name, edition })
 }
@@ -99,6 +101,7 @@ fn install_edition<K: Keeper>(
 fn install<K: Keeper>(alloc: Global, desk: &mut K, id: &str, name: &str, body: &[u8]) -> Answer
     ensures responds { K.is_trusted desk.new → (M : Catalogue) → K.shows desk.old M → kept_under M.kept id.now ≡ None → Responds (K.shows desk.new) (K.leaves_one_of desk.old) (K.leaves_one_of desk.new) M (SettlesNew M id.now actions.Install name.now body.now) (octets_of result) }
     ensures trust { K.is_trusted desk.new → K.is_trusted desk.old }
+    ensures closed { K.is_closed desk.old ≡ true → K.is_closed desk.new ≡ true }
 {
     let Some((index, text)) = parts_of(body) else {
         return bad_request();
@@ -114,6 +117,7 @@ fn install<K: Keeper>(alloc: Global, desk: &mut K, id: &str, name: &str, body: &
 fn place<K: Keeper>(alloc: Global, desk: &mut K, id: &str, name: &str, body: &[u8]) -> Answer
     ensures responds { K.is_trusted desk.new → (M : Catalogue) → K.shows desk.old M → kept_under M.kept id.now ≡ None → Responds (K.shows desk.new) (K.leaves_one_of desk.old) (K.leaves_one_of desk.new) M (SettlesNew M id.now actions.Place name.now body.now) (octets_of result) }
     ensures trust { K.is_trusted desk.new → K.is_trusted desk.old }
+    ensures closed { K.is_closed desk.old ≡ true → K.is_closed desk.new ≡ true }
 {
     match read_place(alloc, body) {
         Ok(Some(place)) => apply(
@@ -134,6 +138,7 @@ fn place<K: Keeper>(alloc: Global, desk: &mut K, id: &str, name: &str, body: &[u
 fn put_virtual<K: Keeper>(alloc: Global, desk: &mut K, id: &str, name: &str, body: &[u8]) -> Answer
     ensures responds { K.is_trusted desk.new → (M : Catalogue) → K.shows desk.old M → kept_under M.kept id.now ≡ None → Responds (K.shows desk.new) (K.leaves_one_of desk.old) (K.leaves_one_of desk.new) M (SettlesNew M id.now actions.PutVirtual name.now body.now) (octets_of result) }
     ensures trust { K.is_trusted desk.new → K.is_trusted desk.old }
+    ensures closed { K.is_closed desk.old ≡ true → K.is_closed desk.new ≡ true }
 {
     let value = match read_json(alloc, body) {
         Ok(Some(value)) => value,
@@ -168,6 +173,7 @@ fn change_anew<K: Keeper>(
     requires { action ≢ actions.List }
     ensures responds { K.is_trusted desk.new → (M : Catalogue) → K.shows desk.old M → kept_under M.kept id.now ≡ None → Responds (K.shows desk.new) (K.leaves_one_of desk.old) (K.leaves_one_of desk.new) M (SettlesNew M id.now action name.now body.now) (octets_of result) }
     ensures trust { K.is_trusted desk.new → K.is_trusted desk.old }
+    ensures closed { K.is_closed desk.old ≡ true → K.is_closed desk.new ≡ true }
 {
     match action {
         Action::List => unreachable!(),
@@ -191,6 +197,7 @@ pub fn change<K: Keeper>(
     requires { action ≢ actions.List }
     ensures responds { K.is_trusted desk.new → (M : Catalogue) → K.shows desk.old M → Responds (K.shows desk.new) (K.leaves_one_of desk.old) (K.leaves_one_of desk.new) M (SettlesChange M id.now action name.now body.now) (octets_of result) }
     ensures trust { K.is_trusted desk.new → K.is_trusted desk.old }
+    ensures closed { K.is_closed desk.old ≡ true → K.is_closed desk.new ≡ true }
 {
     match desk.kept(id) {
         Ok(Some(kept)) => kept_answer(alloc, &kept),

@@ -22,6 +22,7 @@ fn may_act<K: Keeper>(desk: &mut K, id: &str) -> bool
     ensures lawful { result ≡ true → is_request_id id.now ≡ true }
     ensures anew { result ≡ true → K.is_trusted desk.new → (M : Catalogue) → K.shows desk.old M → kept_under M.kept id.now ≡ None }
     ensures trust { K.is_trusted desk.new → K.is_trusted desk.old }
+    ensures closed { K.is_closed desk.old ≡ true → K.is_closed desk.new ≡ true }
     ensures shows { K.is_trusted desk.new → (M : Catalogue) → K.shows desk.old M → K.shows desk.new M }
     ensures leaves { (ms : List (Option Catalogue)) → K.leaves_one_of desk.old ms → K.leaves_one_of desk.new ms }
 {
@@ -38,6 +39,7 @@ fn may_act<K: Keeper>(desk: &mut K, id: &str) -> bool
 fn expect_install<K: Preparer>(desk: &mut K, name: &str, edition: &Edition) -> bool
     ensures told { K.expects desk.old (install name.now (edition_of edition.now)) desk.new }
     ensures trust { K.is_trusted desk.new → K.is_trusted desk.old }
+    ensures closed { K.is_closed desk.old ≡ true → K.is_closed desk.new ≡ true }
     ensures shows { K.is_trusted desk.new → (M : Catalogue) → K.shows desk.old M → K.shows desk.new M }
     ensures leaves { (ms : List (Option Catalogue)) → K.leaves_one_of desk.old ms → K.leaves_one_of desk.new ms }
 {
@@ -48,6 +50,7 @@ fn expect_install<K: Preparer>(desk: &mut K, name: &str, edition: &Edition) -> b
 fn expect_edition<K: Preparer>(alloc: Global, desk: &mut K, name: &str, body: &[u8]) -> bool
     ensures foreseen { result ≡ true → HasForeseen K.expects (SaysInstall name.now body.now) desk.new }
     ensures trust { K.is_trusted desk.new → K.is_trusted desk.old }
+    ensures closed { K.is_closed desk.old ≡ true → K.is_closed desk.new ≡ true }
     ensures shows { K.is_trusted desk.new → (M : Catalogue) → K.shows desk.old M → K.shows desk.new M }
     ensures leaves { (ms : List (Option Catalogue)) → K.leaves_one_of desk.old ms → K.leaves_one_of desk.new ms }
 {
@@ -72,6 +75,7 @@ pub fn foresee_install<K: Preparer>(
     ensures foreseen { result ≡ true → (values : List (List ℕ)) → AreValues ids.entry values → HasForeseen K.expects (AsksBy values name.now body.now) desk.new }
     ensures anew { result ≡ true → K.is_trusted desk.new → (M : Catalogue) → K.shows desk.old M → (values : List (List ℕ)) → AreValues ids.entry values → HasForeseen K.expects (AsksAnewBy M values name.now body.now) desk.new }
     ensures trust { K.is_trusted desk.new → K.is_trusted desk.old }
+    ensures closed { K.is_closed desk.old ≡ true → K.is_closed desk.new ≡ true }
     ensures shows { K.is_trusted desk.new → (M : Catalogue) → K.shows desk.old M → K.shows desk.new M }
     ensures leaves { (ms : List (Option Catalogue)) → K.leaves_one_of desk.old ms → K.leaves_one_of desk.new ms }
 {

@@ -65,6 +65,7 @@ fn act<K: Keeper>(
 ) -> Answer
     ensures responds { K.is_trusted desk.new → (M : Catalogue) (asked : WholeRequest) → K.shows desk.old M → AreValues ids.entry asked.ids → body.now ≡ asked.body → Responds (K.shows desk.new) (K.leaves_one_of desk.old) (K.leaves_one_of desk.new) M (SettlesAction M asked action name.now) (octets_of result) }
     ensures trust { K.is_trusted desk.new → K.is_trusted desk.old }
+    ensures closed { K.is_closed desk.old ≡ true → K.is_closed desk.new ≡ true }
 {
     if action == Action::List {
         return list(alloc, desk);
@@ -86,6 +87,7 @@ impl Service {
     fn respond_to<K: Keeper>(&self, alloc: Global, request: Request<'_>, desk: &mut K) -> Answer
         ensures responds { K.is_trusted desk.new → (M : Catalogue) (asked : WholeRequest) → K.shows desk.old M → Tells request.entry asked → Responds (K.shows desk.new) (K.leaves_one_of desk.old) (K.leaves_one_of desk.new) M (SettlesRequest M asked) (octets_of result) }
         ensures trust { K.is_trusted desk.new → K.is_trusted desk.old }
+        ensures closed { K.is_closed desk.old ≡ true → K.is_closed desk.new ≡ true }
     {
         let Some(found) = self.routes.find(request.target) else {
             return not_found();
@@ -105,6 +107,7 @@ impl Service {
         requires whole { ¬ Needs octets.now needs.More }
         ensures responds { K.is_trusted desk.new → (M : Catalogue) → K.shows desk.old M → Responds (K.shows desk.new) (K.leaves_one_of desk.old) (K.leaves_one_of desk.new) M (Settles M octets.now) (octets_of result) }
         ensures trust { K.is_trusted desk.new → K.is_trusted desk.old }
+        ensures closed { K.is_closed desk.old ≡ true → K.is_closed desk.new ≡ true }
     {
         match read_request(octets) {
             Reading::More(_) => unreachable!(),
@@ -123,6 +126,7 @@ impl Service {
         ensures foreseen { result ≡ true → HasForeseen K.expects (AsksForInstall octets.now) desk.new }
         ensures anew { result ≡ true → K.is_trusted desk.new → (M : Catalogue) → K.shows desk.old M → HasForeseen K.expects (AsksAnewForInstall M octets.now) desk.new }
         ensures trust { K.is_trusted desk.new → K.is_trusted desk.old }
+        ensures closed { K.is_closed desk.old ≡ true → K.is_closed desk.new ≡ true }
         ensures shows { K.is_trusted desk.new → (M : Catalogue) → K.shows desk.old M → K.shows desk.new M }
         ensures leaves { (ms : List (Option Catalogue)) → K.leaves_one_of desk.old ms → K.leaves_one_of desk.new ms }
     {

@@ -73,9 +73,9 @@ answers_gave host desk before after l k octets old new given =
     elim given.puts [
       | inl puts ↦ elim given.responds [
         | responded settled is (answered text shows leaves) ↦ inl (given.answer, inr (settled, is, served_as _ _ _ _ _ _ refl text (sym shows)), puts)
-        | responded settled is (unchanged text shows leaves) ↦ inr (inr (unavailable text puts))
-        | responded settled is (unknown text shows leaves) ↦ inr (inr (unavailable text puts))
-        | unresponded text shows leaves ↦ inr (inr (unavailable text puts))
+        | responded settled is (unchanged text shows leaves) ↦ inr (inr (refl, given.whole, unavailable text puts))
+        | responded settled is (unknown text shows leaves) ↦ inr (inr (refl, given.whole, unavailable text puts))
+        | unresponded text shows leaves ↦ inr (inr (refl, given.whole, unavailable text puts))
       ]
       | inr front ↦ inr (inl front.failures)
     ]
@@ -109,7 +109,7 @@ pub undisturbed_or : ((answer : Meaning → List ℕ) (closed : Bool) (ls : List
     → ((o ≡ answers answer ls) × (ended ≡ has_quit ls)) ⊎ HasUnavailable answer closed ls o)
     → (state : State) (one : Accepted) → IsStep state one → IsUndisturbed state one ⊎ HasDisturbance state one
 unfolding Gave IsLaw
-undisturbed_or law state one step = serves_gave law state.host one.desk one.before.catalogue one.after.catalogue one.before.leaves one.after.leaves (state.held (id_of one.what)) one.what one.out one.put.old one.put.new step
+undisturbed_or law state one step = serves_gave law state.host one.desk one.before.catalogue one.after.catalogue one.before.leaves one.after.leaves (state.held (id_of one.what)) one.what one.out one.put.old one.put.new step.serves
 
 -- octets that are served so are served in one way
 one_of_octets : ((M : Catalogue) (x : List ℕ) (a b : Settled) → Settles M x a → Settles M x b → a ≡ b) → ((M : Catalogue) (x : List ℕ) (a : Settled) → Needs x NeedsMore → Settles M x a → ⊥)

@@ -97,7 +97,7 @@ pub some_turns : (id : ℕ) (a a' : State) (p p' : Standing) (events : List Acce
 some_turns id a a' p p' [] leads = ([], refl)
 some_turns id a a' p p' (one ∷ events) leads =
     let rest = some_turns id (state_after a one.what one.out) a' one.after p' events leads.2 in
-    let by = by_serves a.host one.desk one.before.catalogue one.after.catalogue one.before.leaves one.after.leaves (a.held (id_of one.what)) one.what one.out one.put.old one.put.new leads.1 in
+    let by = by_serves a.host one.desk one.before.catalogue one.after.catalogue one.before.leaves one.after.leaves (a.held (id_of one.what)) one.what one.out one.put.old one.put.new leads.1.serves in
     let told : (b : Bool) → (id_of one.what == id) ≡ b → (turns : List Observation) × AreObservations id (one ∷ events) turns
     = λ b. elim b as (λ v. (id_of one.what == id) ≡ v → (turns : List Observation) × AreObservations id (one ∷ events) turns) [
       | true ↦ λ e. (own one.what ∷ rest.0, inl (eqb-true _ _ e, (rest.0, refl, rest.1)))

@@ -1,5 +1,5 @@
 -- Where one more event leads.
-use Rattle.std.proofs.Common.{◌≡◌, ◌≢◌, ◌==◌, ℕ, Bool, true, false, List, [], ◌∷◌, ◌++◌, refl, sym, ap, ◌∙◌, subst, inl, inr}
+use Rattle.std.proofs.Common.{◌≡◌, ◌≢◌, ◌==◌, ◌-◌, ℕ, All, length, Bool, true, false, List, [], ◌∷◌, ◌++◌, refl, sym, ap, ◌∙◌, subst, inl, inr}
 use Rattle.std.specs.Prelude.{Option, Some, None, Result, Ok, Err, IfOk, OnOk, MatchBool, if◌then◌else◌}
 use Rattle.std.proofs.lemmas.Bool.{eqb-true, eq-eqb}
 use Rattle.dict_io.specs.Streams.{Stream, StreamChange}
@@ -9,10 +9,12 @@ use Rattle.dict_http.specs.Responding.{Ends, Responds}
 use Rattle.dict_http.specs.Responding.Ends.{answered, unchanged, unknown}
 use Rattle.dict_http.specs.Responding.Responds.{ended as responded, failed as unresponded}
 use Rattle.dict_http.specs.Settling.{Settled, Settles}
-use Rattle.dict_hub.specs.Holding.{Holding}
+use Rattle.std.proofs.lemmas.List.{length_push}
+use Rattle.dict_hub.specs.Books.{opening, is_given}
+use Rattle.dict_hub.specs.Holding.{Holding, left_by}
 use Rattle.dict_hub.specs.Given.{Greets, Stays, Gets}
-use Rattle.dict_hub.specs.Hubs.{Has, host_of, greatest_of}
-use Rattle.dict_hub.specs.Events.{Happening, opened, came, ended, id_of, greatest_after, held_after, Serves}
+use Rattle.dict_hub.specs.Hubs.{Has, host_of, greatest_of, count_of}
+use Rattle.dict_hub.specs.Events.{Happening, opened, came, ended, id_of, of_open, admitted, count_after, greatest_after, held_after, Serves}
 use Rattle.dict_hub.specs.Runs.{State, Standing, Accepted, state_after, IsAt, IsStep, Leads, LeadsOn}
 use Rattle.dict_hub.specs.declared.kind.Kind.{Kind}
 use Rattle.dict_hub.specs.declared.kind.Kind.TheVariants.{Dict, Http}
@@ -20,6 +22,8 @@ use Rattle.dict_hub.specs.declared.hub.Hub.{Hub}
 use Rattle.dict_hub.specs.declared.incoming.Out.{Out}
 use Rattle.dict_hub.specs.declared.incoming.Out.TheVariants.{More, Close}
 use Rattle.dict_hub.specs.declared.fault.HubFault.{HubFault}
+use Rattle.dict_hub.specs.declared.fault.HubFault.TheVariants.{UnknownConnection}
+use Rattle.dict_hub.proofs.HubLemmas.{new_absent}
 use Rattle.dict_session.specs.Desks.{Condition}
 
 -- one of the states that a stop may leave lists, after an answer that acted or not
@@ -79,7 +83,7 @@ pinned_gets host desk Shows Before After before l Http octets More old new here 
     record { at = p.at; shows = p.shows; leaves = p.leaves; holds = (gets.0, gets.1, p.holds) }
 pinned_gets host desk Shows Before After before l Http octets Close old new here gets =
     let p = pinned_responds Shows Before After before l (Settles before octets) gets.answer here gets.responds in
-    record { at = p.at; shows = p.shows; leaves = p.leaves; holds = record { answer = gets.answer; responds = p.holds; puts = gets.puts } }
+    record { at = p.at; shows = p.shows; leaves = p.leaves; holds = record { whole = gets.whole; answer = gets.answer; responds = p.holds; puts = gets.puts } }
 
 pinned_serves : (host : List ℕ) (desk : Condition) (Shows : Catalogue → Type 0) (Before After : List (Option Catalogue) → Type 0) (before : Catalogue) (l : List (Option Catalogue)) (held : Option Holding) (what : Happening) (out : Out) (old new : Stream)
     → Before l → Serves host desk Shows Before After before held what out old new
@@ -116,6 +120,11 @@ held_all hub state what out own others id =
     ] in
     told (id == id_of what) refl
 
+-- an event that was accepted was admitted
+passes_unless : (test : Result (Unit {0}) HubFault) (out : Out) → ((fault : HubFault) → test ≡ Err fault → let told : Result Out HubFault = Ok out in told ≡ Err fault) → test ≡ Ok tt
+passes_unless (Ok passed) out never = refl
+passes_unless (Err fault) out never = let e = never fault refl in cc e
+
 -- an event that was served so, of a hub at a state, leads on
 pub leads_on : (Shows : Catalogue → Type 0) (Before After : List (Option Catalogue) → Type 0) (origin : State) (start : Standing) (events : List Accepted) (state : State) (stands : Standing)
     (what : Happening) (desk : Condition) (put : StreamChange) (old hub : Hub) (result : Result Out HubFault)
@@ -125,19 +134,25 @@ pub leads_on : (Shows : Catalogue → Type 0) (Before After : List (Option Catal
     → OnOk result ((other : ℕ) (held : Option Holding) → other ≢ id_of what → Has old other held → Has hub other held)
     → OnOk result (greatest_of hub ≡ greatest_after (greatest_of old) what)
     → host_of hub ≡ host_of old
+    → ((held : Option Holding) → Has old (id_of what) held → (fault : HubFault) → admitted held (greatest_of old) (count_of old) what ≡ Err fault → result ≡ Err fault)
+    → ((held : Option Holding) → Has old (id_of what) held → IfOk result (λ out. count_of hub ≡ count_after (count_of old) held (held_after held what out)))
     → IfOk result (λ out. LeadsOn Shows After origin start events state stands what out desk put hub)
-leads_on Shows Before After origin start events state stands what desk put old hub (Err fault) leads at here serves own others greatest host = tt
-leads_on Shows Before After origin start events state stands what desk put old hub (Ok out) leads at here serves own others greatest host =
+leads_on Shows Before After origin start events state stands what desk put old hub (Err fault) leads at here serves own others greatest host refused count = tt
+leads_on Shows Before After origin start events state stands what desk put old hub (Ok out) leads at here serves own others greatest host refused count =
     let held = state.held (id_of what) in
     let there = at.held (id_of what) in
     let served = subst (λ (h : List ℕ). Serves h desk Shows Before After stands.catalogue held what out put.old put.new) at.host (serves held there) in
     let p = pinned_serves state.host desk Shows Before After stands.catalogue stands.leaves held what out put.old put.new here served in
+    let passed : admitted held (greatest_of old) (count_of old) what ≡ Ok tt = passes_unless (admitted held (greatest_of old) (count_of old) what) out (refused held there) in
+    let passes : admitted held state.greatest state.count what ≡ Ok tt
+    = subst (λ (g : Option ℕ). admitted held g state.count what ≡ Ok tt) at.greatest (subst (λ (n : ℕ). admitted held (greatest_of old) n what ≡ Ok tt) at.count passed) in
     record {
       after = p.at;
-      leads = leads_further origin start events state stands (record { what = what; out = out; desk = desk; put = put; before = stands; after = p.at }) leads refl p.holds;
+      leads = leads_further origin start events state stands (record { what = what; out = out; desk = desk; put = put; before = stands; after = p.at }) leads refl (record { passes = passes; serves = p.holds });
       is_at = record {
         host = host ∙ at.host;
         greatest = greatest ∙ ap (λ g. greatest_after g what) at.greatest;
+        count = count held there ∙ ap (λ n. count_after n held (held_after held what out)) at.count;
         held = held_all hub state what out (own held there) (λ other ne. others other (state.held other) ne (at.held other));
       };
       shows = p.shows;
@@ -171,3 +186,36 @@ own_ended hub (Some one) id fault (Err other) absent known = tt
 pub on_ok : {T E : Type 0} {P : Type 0} (result : Result T E) → P → OnOk result P
 on_ok (Ok done) p = p
 on_ok (Err fault) p = tt
+
+-- what is refused of octets or an end
+pub refused_unless : (held : Option Holding) (result : Result Out HubFault) → (held ≡ None → result ≡ Err UnknownConnection) → (fault : HubFault) → of_open held ≡ Err fault → result ≡ Err fault
+refused_unless None result absent fault is = let e = absent refl in cc (e, is)
+refused_unless (Some one) result absent fault is = cc is
+
+-- how many are open then
+pub count_piece : (before : ℕ) (now : ℕ) (held : Option Holding) (piece : List ℕ) (result : Result Out HubFault) → (held ≡ None → result ≡ Err UnknownConnection)
+    → ((one : Holding) → held ≡ Some one → IfOk result (λ out. now ≡ count_after before (Some one) (left_by one.kind (one.octets ++ piece) out)))
+    → (id : ℕ) → IfOk result (λ out. now ≡ count_after before held (held_after held (came id piece) out))
+count_piece before now None piece result absent known id = subst (λ r. IfOk r (λ out. now ≡ before)) (sym (absent refl)) tt
+count_piece before now (Some one) piece result absent known id = known one refl
+
+pub count_ended : (before : ℕ) (now : ℕ) (held : Option Holding) (result : Result Out HubFault) → (held ≡ None → result ≡ Err UnknownConnection) → OnOk result (now ≡ before - 1)
+    → (id : ℕ) → IfOk result (λ out. now ≡ count_after before held (held_after held (ended id) out))
+count_ended before now None result absent count id = subst (λ r. IfOk r (λ out. now ≡ before)) (sym (absent refl)) tt
+count_ended before now (Some one) (Ok out) absent count id = count
+count_ended before now (Some one) (Err fault) absent count id = tt
+
+-- an opening that is accepted is of an id that stood nowhere
+pub count_opened : (hub : Hub) (now : ℕ) (id : ℕ) (kind : Kind) (held : Option Holding) (result : Result Out HubFault) → All (λ one. is_given hub.book.greatest one ≡ true) hub.book.ids.items → Has hub id held
+    → ((fault : HubFault) → opening id (greatest_of hub) (count_of hub) ≡ Err fault → result ≡ Err fault)
+    → IfOk result (λ out. now ≡ count_after (count_of hub) None (left_by kind [] out)) → IfOk result (λ out. now ≡ count_after (count_of hub) held (left_by kind [] out))
+count_opened hub now id kind held (Err fault) given has tests count = tt
+count_opened hub now id kind None (Ok out) given has tests count = count
+count_opened hub now id kind (Some one) (Ok out) given has tests count =
+    absurd (new_absent hub.book.ids.items id hub.book.greatest (count_of hub) (passes_unless (opening id (greatest_of hub) (count_of hub)) out tests) given has.place has.within has.is)
+
+-- how many are open once one was greeted, and is kept or only its id is given
+pub count_kept : (ids ids' : List ℕ) (id : ℕ) (kind : Kind) (out : Out) (P Q : Type 0) → (out ≡ More → (ids' ≡ ids ++ id ∷ []) × P) → (out ≡ Close → (ids' ≡ ids) × Q)
+    → length ids' ≡ count_after (length ids) None (left_by kind [] out)
+count_kept ids ids' id kind More P Q more close = ap length (more refl).0 ∙ length_push ids id
+count_kept ids ids' id kind Close P Q more close = ap length (close refl).0

@@ -1,5 +1,5 @@
 -- What an event is, and what it does to its connection.
-use Rattle.std.specs.Prelude.{◌≡◌, ℕ, Bool, true, false, List, [], ◌++◌, Option, Some, None, Result, Ok, Err}
+use Rattle.std.specs.Prelude.{◌≡◌, ◌+◌, ◌-◌, ℕ, Bool, true, false, List, [], ◌++◌, Option, Some, None, Result, Ok, Err}
 use Rattle.dict_io.specs.Streams.{Stream}
 use Rattle.dict_catalogue.specs.Steps.{Catalogue}
 use Rattle.dict_session.specs.Desks.{Condition}
@@ -31,6 +31,12 @@ abbrev pub id_of : Happening → ℕ
 id_of (opened id kind) = id
 id_of (came id piece) = id
 id_of (ended id) = id
+
+-- the desk may be asked something: octets came
+abbrev pub asks_desk : Happening → Bool
+asks_desk (opened id kind) = false
+asks_desk (came id piece) = true
+asks_desk (ended id) = false
 
 -- what comes of an open connection alone
 abbrev pub of_open : Option Holding → Result (Unit {0}) HubFault
@@ -75,6 +81,13 @@ abbrev pub held_after : Option Holding → Happening → Out → Option Holding
 held_after held (opened id kind) out = left_by kind [] out
 held_after held (came id piece) out = held_after_piece held piece out
 held_after held (ended id) out = None
+
+-- how many connections are open once this is held of one of which that was held
+abbrev pub count_after : ℕ → Option Holding → Option Holding → ℕ
+count_after count None None = count
+count_after count None (Some left) = count + 1
+count_after count (Some held) None = count - 1
+count_after count (Some held) (Some left) = count
 
 -- what octets that came put, where the connection is open
 abbrev pub ServesPiece : List ℕ → Condition → (Catalogue → Type 0) → (List (Option Catalogue) → Type 0) → (List (Option Catalogue) → Type 0) → Catalogue → Option Holding → List ℕ → Out → Stream → Stream → Type 0

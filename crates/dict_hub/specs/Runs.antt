@@ -1,30 +1,32 @@
 -- Runs of events: where a list of accepted events leads, from a state of a hub and what its desk stands at.
-use Rattle.std.specs.Prelude.{◌≡◌, ◌==◌, ℕ, List, [], ◌∷◌, ◌++◌, filter, Option, None, if◌then◌else◌}
+use Rattle.std.specs.Prelude.{◌≡◌, ◌==◌, ℕ, List, [], ◌∷◌, ◌++◌, filter, Option, None, Ok, if◌then◌else◌}
 use Rattle.dict_io.specs.Streams.{StreamChange, PutsAll}
 use Rattle.dict_catalogue.specs.Steps.{Catalogue}
 use Rattle.dict_session.specs.Desks.{Condition}
 use Rattle.dict_hub.specs.Holding.{Holding}
-use Rattle.dict_hub.specs.Events.{Happening, id_of, greatest_after, held_after, Serves}
+use Rattle.dict_hub.specs.Events.{Happening, id_of, admitted, count_after, greatest_after, held_after, Serves}
 use Rattle.dict_hub.specs.Undisturbed.{IsServed, IsDisturbed}
-use Rattle.dict_hub.specs.Hubs.{Has, host_of, greatest_of}
+use Rattle.dict_hub.specs.Hubs.{Has, host_of, greatest_of, count_of}
 use Rattle.dict_hub.specs.declared.incoming.Out.{Out}
 use Rattle.dict_hub.specs.declared.hub.Hub.{Hub}
 
--- a state of a hub: the host's name, the greatest id that was given, and what is held of each id
+-- a state of a hub: the host's name, the greatest id that was given, how many connections are open, and what is held of each id
 pub record State : Type 0 where
   pub host : List ℕ
   pub greatest : Option ℕ
+  pub count : ℕ
   pub held : ℕ → Option Holding
 
 -- no connection is open, and no id was given
 abbrev pub beginning : List ℕ → State
-beginning host = record { host = host; greatest = None; held = λ id. None }
+beginning host = record { host = host; greatest = None; count = 0; held = λ id. None }
 
 -- the state after an event that was answered so: what is held of its own connection changes, and of no other
 abbrev pub state_after : State → Happening → Out → State
 state_after state what out = record {
   host = state.host;
   greatest = greatest_after state.greatest what;
+  count = count_after state.count (state.held (id_of what)) (held_after (state.held (id_of what)) what out);
   held = λ id. if id == id_of what then held_after (state.held (id_of what)) what out else state.held id;
 }
 
@@ -32,6 +34,7 @@ state_after state what out = record {
 pub record IsAt (hub : Hub) (state : State) : Type 0 where
   pub host : host_of hub ≡ state.host
   pub greatest : greatest_of hub ≡ state.greatest
+  pub count : count_of hub ≡ state.count
   pub held : (id : ℕ) → Has hub id (state.held id)
 
 -- the catalogue that a desk shows, and a list of which a stop may leave one
@@ -49,10 +52,11 @@ pub record Accepted : Type 0 where
   pub before : Standing
   pub after : Standing
 
--- at this state the event is served so
-abbrev pub IsStep : State → Accepted → Type 0
-IsStep state one = Serves state.host one.desk (λ M. M ≡ one.after.catalogue) (λ ms. ms ≡ one.before.leaves) (λ ms. ms ≡ one.after.leaves)
-    one.before.catalogue (state.held (id_of one.what)) one.what one.out one.put.old one.put.new
+-- at this state the event is admitted, and served so
+pub record IsStep (state : State) (one : Accepted) : Type 0 where
+  pub passes : admitted (state.held (id_of one.what)) state.greatest state.count one.what ≡ Ok tt
+  pub serves : Serves state.host one.desk (λ M. M ≡ one.after.catalogue) (λ ms. ms ≡ one.before.leaves) (λ ms. ms ≡ one.after.leaves)
+      one.before.catalogue (state.held (id_of one.what)) one.what one.out one.put.old one.put.new
 
 -- the events lead from a state and what the desk stands at to another
 abbrev pub Leads : State → Standing → List Accepted → State → Standing → Type 0

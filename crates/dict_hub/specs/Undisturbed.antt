@@ -62,12 +62,12 @@ IsServed host before held (came id piece) served = IsServedPiece host before hel
 IsServed host before held (ended id) served = served ≡ goes_on before []
 
 -- a reader is closed where the desk's last call failed, behind the first octet of an answer, or gets the 420 line in place of
--- one; an editor gets the 503
+-- one; an editor whose octets need no more gets the 503, and is closed
 abbrev pub Lacks : List ℕ → Condition → Catalogue → Kind → List ℕ → Out → Stream → Stream → Type 0
 Lacks host desk before Dict octets out old new =
     ((out ≡ Close) × (desk.failed ≡ true) × ((put : List ℕ) × BreaksOff (answer_to before host) desk.closed (cut octets).lines put × PutsAll old new put))
     ⊎ ((put : List ℕ) × HasUnavailable (answer_to before host) desk.closed (cut octets).lines put × PutsAll old new put)
-Lacks host desk before Http octets out old new = PutsAll old new unavailable_text
+Lacks host desk before Http octets out old new = (out ≡ Close) × (Needs octets NeedsMore → ⊥) × PutsAll old new unavailable_text
 
 abbrev pub LacksPiece : List ℕ → Condition → Catalogue → Option Holding → List ℕ → Out → Stream → Stream → Type 0
 LacksPiece host desk before None piece out old new = ⊥

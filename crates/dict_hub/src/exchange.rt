@@ -82,6 +82,7 @@ impl<'h> Exchange<'h> {
         ensures left { K.is_trusted desk.new → (M : Catalogue) → K.shows desk.old M → (host : List ℕ) (id : ℕ) (held : Holding) → Holds host id self.old held
             → IfOk result (λ out. IsLeft host id self.new (left_by held.kind (held.octets ++ piece.now) out)) }
         ensures trust { K.is_trusted desk.new → K.is_trusted desk.old }
+        ensures closed { K.is_closed desk.old ≡ true → K.is_closed desk.new ≡ true }
         ensures memory { IfErr result (λ fault. fault ≡ Memory) }
         ensures editor { (host : List ℕ) (id : ℕ) (held : Holding) → Holds host id self.old held → IfErr result (λ fault. held.kind ≡ Http) }
         ensures held { OnErr result ((host : List ℕ) (id : ℕ) (held : Holding) → Holds host id self.old held → Holds host id self.new held) }
@@ -107,6 +108,7 @@ impl<'h> Exchange<'h> {
         ensures foreseen { result ≡ true → (host : List ℕ) (id : ℕ) (held : Holding) → Holds host id self.old held → IsForeseen K.expects AsksForInstall held piece.now desk.new }
         ensures anew { result ≡ true → K.is_trusted desk.new → (M : Catalogue) → K.shows desk.old M → (host : List ℕ) (id : ℕ) (held : Holding) → Holds host id self.old held → IsForeseen K.expects (AsksAnewForInstall M) held piece.now desk.new }
         ensures trust { K.is_trusted desk.new → K.is_trusted desk.old }
+        ensures closed { K.is_closed desk.old ≡ true → K.is_closed desk.new ≡ true }
         ensures shows { K.is_trusted desk.new → (M : Catalogue) → K.shows desk.old M → K.shows desk.new M }
         ensures leaves { (ms : List (Option Catalogue)) → K.leaves_one_of desk.old ms → K.leaves_one_of desk.new ms }
     {

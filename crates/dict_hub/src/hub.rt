@@ -1,5 +1,5 @@
 // The open connections of readers and editors.
-ghost use Rattle.std.specs.Prelude.{◌≡◌, ◌≢◌, ◌++◌, ◌<◌, ℕ, List, Option, [], ◌∷◌, true, None, Some, Ok, Err, IfOk, IfErr, OnOk, OnErr, vec_len, vec_capacity, remove};
+ghost use Rattle.std.specs.Prelude.{◌≡◌, ◌≢◌, ◌-◌, ◌++◌, ◌<◌, ℕ, List, Option, [], ◌∷◌, true, false, None, Some, Ok, Err, IfOk, IfErr, OnOk, OnErr, vec_len, vec_capacity, remove};
 ghost use Rattle.dict_catalogue.specs.Steps.{Catalogue};
 ghost use Rattle.dict_session.specs.Desks.{condition};
 ghost use Rattle.dict_hub.specs.Books.{IsRefusal, opening, place_of};
@@ -48,7 +48,7 @@ pub struct Hub<'h> {
 
 impl<'h> Hub<'h> {
     ghost use Rattle.dict_hub.specs.Hubs.{Has, host_of, greatest_of, count_of};
-    ghost use Rattle.dict_hub.specs.Events.{opened, happening, id_of, admitted, takes_memory, greatest_after, held_after, Serves};
+    ghost use Rattle.dict_hub.specs.Events.{opened, happening, id_of, admitted, asks_desk, takes_memory, count_after, greatest_after, held_after, Serves};
     ghost use Rattle.dict_hub.specs.Runs.{State, Standing, Accepted, IsAt, Leads, LeadsOn, beginning};
     ghost use Rattle.dict_io.specs.Streams.{change};
 
@@ -89,12 +89,17 @@ impl<'h> Hub<'h> {
             → IfOk result (λ out. Has self.new (id_of (happening event.entry)) (held_after held (happening event.entry) out)) }
         ensures others { (other : ℕ) (held : Option Holding) → other ≢ id_of (happening event.entry) → Has self.old other held → Has self.new other held }
         ensures greatest { OnOk result (greatest_of self.new ≡ greatest_after (greatest_of self.old) (happening event.entry)) }
+        ensures count { (held : Option Holding) → Has self.old (id_of (happening event.entry)) held
+            → IfOk result (λ out. count_of self.new ≡ count_after (count_of self.old) held (held_after held (happening event.entry) out)) }
         ensures host { host_of self.new ≡ host_of self.old }
         ensures trust { K.is_trusted desk.new → K.is_trusted desk.old }
+        ensures closed { K.is_closed desk.old ≡ true → K.is_closed desk.new ≡ true }
         ensures kept { OnErr result ((other : ℕ) (held : Option Holding) → Has self.old other held → Has self.new other held) }
         ensures given { OnErr result (greatest_of self.new ≡ greatest_of self.old) }
+        ensures number { OnErr result (count_of self.new ≡ count_of self.old) }
         ensures desk { OnErr result (desk.new ≡ desk.old) }
         ensures sink { OnErr result (sink.new ≡ sink.old) }
+        ensures unasked { asks_desk (happening event.entry) ≡ false → desk.new ≡ desk.old }
         ensures leads { K.is_trusted desk.new → (origin : State) (start : Standing) (events : List Accepted) (state : State) (stands : Standing) → Leads origin start events state stands
             → IsAt self.old state → K.shows desk.old stands.catalogue → K.leaves_one_of desk.old stands.leaves
             → IfOk result (λ out. LeadsOn (K.shows desk.new) (K.leaves_one_of desk.new) origin start events state stands (happening event.entry) out (condition K.has_failed K.is_closed desk.new) (change S.stream sink.old sink.new) self.new) }
@@ -119,8 +124,10 @@ impl<'h> Hub<'h> {
         ensures kept { (other : ℕ) (held : Option Holding) → Has self.old other held → Has self.new other held }
         ensures state { (state : State) → IsAt self.old state → IsAt self.new state }
         ensures given { greatest_of self.new ≡ greatest_of self.old }
+        ensures count { count_of self.new ≡ count_of self.old }
         ensures host { host_of self.new ≡ host_of self.old }
         ensures trust { K.is_trusted desk.new → K.is_trusted desk.old }
+        ensures closed { K.is_closed desk.old ≡ true → K.is_closed desk.new ≡ true }
         ensures shows { K.is_trusted desk.new → (M : Catalogue) → K.shows desk.old M → K.shows desk.new M }
         ensures leaves { (ms : List (Option Catalogue)) → K.leaves_one_of desk.old ms → K.leaves_one_of desk.new ms }
     {
@@ -137,10 +144,12 @@ impl<'h> Hub<'h> {
         ensures own { IfOk result (λ out. Has self.new id (left_by kind [] out)) }
         ensures greets { IfOk result (λ out. Greets (host_of self.old) id kind out (S.stream sink.old) (S.stream sink.new)) }
         ensures greatest { OnOk result (greatest_of self.new ≡ Some id) }
+        ensures count { IfOk result (λ out. count_of self.new ≡ count_after (count_of self.old) None (left_by kind [] out)) }
         ensures others { OnOk result ((other : ℕ) (held : Option Holding) → other ≢ id → Has self.old other held → Has self.new other held) }
         ensures host { host_of self.new ≡ host_of self.old }
         ensures kept { OnErr result ((other : ℕ) (held : Option Holding) → Has self.old other held → Has self.new other held) }
         ensures given { OnErr result (greatest_of self.new ≡ greatest_of self.old) }
+        ensures number { OnErr result (count_of self.new ≡ count_of self.old) }
         ensures sink { OnErr result (sink.new ≡ sink.old) }
     {
         self.book.admits(id)?;
@@ -199,11 +208,14 @@ impl<'h> Hub<'h> {
             → IfOk result (λ out. Gets (host_of self.old) (condition K.has_failed K.is_closed desk.new) (K.shows desk.new) (K.leaves_one_of desk.old) (K.leaves_one_of desk.new) M held.kind (held.octets ++ piece.now) out (S.stream sink.old) (S.stream sink.new)) }
         ensures own { K.is_trusted desk.new → (M : Catalogue) → K.shows desk.old M → (held : Holding) → Has self.old id (Some held)
             → IfOk result (λ out. Has self.new id (left_by held.kind (held.octets ++ piece.now) out)) }
+        ensures count { (held : Holding) → Has self.old id (Some held) → IfOk result (λ out. count_of self.new ≡ count_after (count_of self.old) (Some held) (left_by held.kind (held.octets ++ piece.now) out)) }
         ensures others { (other : ℕ) (held : Option Holding) → other ≢ id → Has self.old other held → Has self.new other held }
         ensures greatest { greatest_of self.new ≡ greatest_of self.old }
         ensures host { host_of self.new ≡ host_of self.old }
         ensures trust { K.is_trusted desk.new → K.is_trusted desk.old }
+        ensures closed { K.is_closed desk.old ≡ true → K.is_closed desk.new ≡ true }
         ensures kept { OnErr result ((held : Option Holding) → Has self.old id held → Has self.new id held) }
+        ensures number { OnErr result (count_of self.new ≡ count_of self.old) }
         ensures desk { OnErr result (desk.new ≡ desk.old) }
         ensures sink { OnErr result (sink.new ≡ sink.old) }
     {
@@ -223,10 +235,12 @@ impl<'h> Hub<'h> {
     fn ended(&mut self, id: u64) -> Result<Out, HubFault>
         ensures unknown { Has self.old id None → result ≡ Err UnknownConnection }
         ensures known { (held : Holding) → Has self.old id (Some held) → (result ≡ Ok outs.More) × Has self.new id None }
+        ensures count { OnOk result (count_of self.new ≡ count_of self.old - 1) }
         ensures others { (other : ℕ) (held : Option Holding) → other ≢ id → Has self.old other held → Has self.new other held }
         ensures greatest { greatest_of self.new ≡ greatest_of self.old }
         ensures host { host_of self.new ≡ host_of self.old }
         ensures kept { OnErr result ((held : Option Holding) → Has self.old id held → Has self.new id held) }
+        ensures number { OnErr result (count_of self.new ≡ count_of self.old) }
     {
         let Some(place) = self.book.place_of(id) else {
             return Err(HubFault::UnknownConnection);

@@ -138,6 +138,12 @@ impl Keeper for PartsDesk {
 }
 
 impl Preparer for PartsDesk {
+    ghost use Rattle.std.specs.Prelude.{◌⊎◌, ◌+◌, true, false, Ok};
+
+    ghost expects = { λ old _ new. new.left ≡ old.each };
+
+    ghost prepares = { λ old result new. ((result ≡ Ok false) × (old.left ≡ 0)) ⊎ ((result ≡ Ok true) × (new.left + 1 ≡ old.left)) };
+
     ghost fails_to_prepare = { λ _ _ _. Unit {0} };
 
     fn expect(&mut self, command: &Command) -> Result<(), Fault> {

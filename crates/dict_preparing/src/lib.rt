@@ -1,7 +1,7 @@
 //! A keeper that prepares a command before it comes.
 #![tactic(auto)]
 
-ghost use Rattle.std.specs.Prelude.{◌≡◌, ◌↔◌, ◌||◌, true, List, Option, IfErr, Err, ⊤};
+ghost use Rattle.std.specs.Prelude.{◌≡◌, ◌↔◌, ◌||◌, Bool, true, false, List, Option, Result, IfErr, Ok, Err};
 ghost use Rattle.dict_index.specs.Edition.{Edition};
 ghost use Rattle.dict_catalogue.specs.Commands.{Command as Asked};
 ghost use Rattle.dict_catalogue.specs.Steps.{Catalogue};
@@ -18,7 +18,11 @@ use dict_desk::{Fault, Keeper, PlainDesk};
 /// was expected need not come, and another one may.
 pub trait Preparer: Keeper {
     // Between two of its states it was told of this command. What foresees commands tells by it which one that was.
-    ghost expects: { Self → Asked Edition → Self → Type 0 } = { λ _ _ _. ⊤ };
+    ghost expects: { Self → Asked Edition → Self → Type 0 };
+
+    // Between two of its states it was asked to prepare a part of what it was told of last, and answered so. What holds a command
+    // back tells by it that there is more of it to prepare.
+    ghost prepares: { Self → Result Bool Failure → Self → Type 0 };
 
     // Between two of its states a call that prepares failed by this fault, for a cause that this names.
     ghost fails_to_prepare: { Self → Self → Failure → Type 0 };
@@ -37,6 +41,7 @@ pub trait Preparer: Keeper {
 
     /// Prepares a bounded part of the command that was noted last. Whether there is more to prepare.
     fn prepare(&mut self) -> Result<bool, Fault>
+        ensures prepared { prepares self.old result self.new }
         ensures trust { Self.is_trusted self.new → Self.is_trusted self.old }
         ensures shows { Self.is_trusted self.new → (M : Catalogue) → Self.shows self.old M → Self.shows self.new M }
         ensures leaves { (ms : List (Option Catalogue)) → Self.leaves_one_of self.old ms → Self.leaves_one_of self.new ms }
@@ -60,6 +65,10 @@ pub trait Preparer: Keeper {
 
 /// A catalogue in memory prepares nothing.
 impl Preparer for PlainDesk {
+    ghost expects = { λ old _ new. new ≡ old };
+
+    ghost prepares = { λ old result new. (result ≡ Ok false) × (new ≡ old) };
+
     ghost fails_to_prepare = { λ _ _ _. ⊥ };
 
     fn expect(&mut self, _command: &Command) -> Result<(), Fault> {

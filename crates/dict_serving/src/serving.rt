@@ -34,7 +34,7 @@ pub fn serve_catalogue<'w, K: Preparer + Drop, D: DeskOpener<K>, W: Sink>(
     writer: &mut W,
     kept: &mut Option<Driver<'static>>,
 ) -> Result<(), ProgramFault<'w>>
-    ensures { ServeEnds K.shows K.leaves_one_of K.is_trusted D.is_opened K.is_closed K.expects (λ path. D.is_unopened path desks.old desks.new) (WasShut K.shows K.leaves_one_of K.is_trusted D.is_safe D.holds_alone D.still_leaves D.is_uncopied desks.new) (IsNotReopened K.leaves_one_of D.is_unreopened D.still_leaves desks.new) (D.history desks.old) (D.history desks.new) path.entry.now wanted.now.dict.now wanted.now.http.now wanted.now.rounds result
+    ensures { ServeEnds K.shows K.leaves_one_of K.is_trusted D.is_opened K.has_failed K.is_closed K.expects K.prepares (λ path. D.is_unopened path desks.old desks.new) (WasShut K.shows K.leaves_one_of K.is_trusted D.is_safe D.holds_alone D.still_leaves D.is_uncopied desks.new) (IsNotReopened K.leaves_one_of D.is_unreopened D.still_leaves desks.new) (D.history desks.old) (D.history desks.new) path.entry.now wanted.now.dict.now wanted.now.http.now wanted.now.rounds result
         (change W.stream writer.old writer.new) kept.new }
 {
     *kept = None;
@@ -67,7 +67,7 @@ pub fn serve_rounds<'w, K: Preparer + Drop, D: DeskOpener<K>>(
 ) -> Result<K, ProgramFault<'w>>
     requires { IsNew K.shows K.leaves_one_of K.is_trusted (WasOpened D.is_opened) desk }
     ensures stands { IfOk result (IsOpen K.is_closed (IsNew K.shows K.leaves_one_of K.is_trusted (WasOpened D.is_opened))) }
-    ensures served { (stretches : List (Stretch K)) × AreServed K.shows K.leaves_one_of K.is_trusted D.is_opened K.is_closed K.expects stretches driver.old driver.new × IsFirst rounds desk stretches
+    ensures served { (stretches : List (Stretch K)) × AreServed K.shows K.leaves_one_of K.is_trusted D.is_opened K.has_failed K.is_closed K.expects K.prepares stretches driver.old driver.new × IsFirst rounds desk stretches
         × Ends K.is_closed (WasShut K.shows K.leaves_one_of K.is_trusted D.is_safe D.holds_alone D.still_leaves D.is_uncopied desks.new) (IsNotReopened K.leaves_one_of D.is_unreopened D.still_leaves desks.new path.entry.now) stretches driver.new result
         × HasDone path.entry.now desk stretches (got result) (D.history desks.old) (D.history desks.new) }
     ensures made { AreMade rounds result driver.old.event_loop.rounds driver.new.event_loop.rounds }
@@ -97,7 +97,7 @@ fn serve_stretch<'w, K: Preparer + Drop, D: DeskOpener<K>>(
 ) -> Result<Pending<K>, ProgramFault<'w>>
     requires opened { IsNew K.shows K.leaves_one_of K.is_trusted (WasOpened D.is_opened) pending.desk }
     requires some { 0 < pending.left }
-    ensures served { (left : K) × (ended : Result Served Error) × IsOver K.shows K.leaves_one_of K.is_trusted D.is_opened K.is_closed K.expects
+    ensures served { (left : K) × (ended : Result Served Error) × IsOver K.shows K.leaves_one_of K.is_trusted D.is_opened K.has_failed K.is_closed K.expects K.prepares
         (record { opened = pending.desk; left = left; asked = pending.left; rounds = driver.new.event_loop.rounds - driver.old.event_loop.rounds; ended = ended }) driver.old driver.new
         × Ends K.is_closed (WasShut K.shows K.leaves_one_of K.is_trusted D.is_safe D.holds_alone D.still_leaves D.is_uncopied desks.new) (IsNotReopened K.leaves_one_of D.is_unreopened D.still_leaves desks.new path.entry.now) (record { opened = pending.desk; left = left; asked = pending.left; rounds = driver.new.event_loop.rounds - driver.old.event_loop.rounds; ended = ended } ∷ []) driver.new result
         × IfOk result (λ next. 0 < next.left → (K.is_closed left ≡ true) × Follows K.shows K.leaves_one_of K.is_trusted left next.desk × D.is_opened (Some left) next.desk × AreLeft ended next.left

@@ -1,5 +1,5 @@
 // What a desk prepares of a change that may come.
-ghost use Rattle.std.specs.Prelude.{◌≡◌, false, IsTrue, IfErr};
+ghost use Rattle.std.specs.Prelude.{◌≡◌, ◌⊎◌, true, false, IsTrue, IfErr, Ok};
 ghost use Rattle.sqlite.specs.Disk.{MoreFaults};
 ghost use Rattle.sqlite.specs.State.{HasCleanDisk, KeepsCommit, Survives};
 ghost use Rattle.sqlite.specs.Held.{state};
@@ -8,7 +8,7 @@ ghost use Rattle.dict_commands.specs.Committed.{IsOfStore};
 ghost use Rattle.dict_commands.specs.Filing.{rested};
 ghost use Rattle.dict_commands.specs.Kept.{IsUsable};
 ghost use Rattle.dict_store.specs.Causes.{FailsToPrepare};
-ghost use Rattle.dict_store.specs.Desk.{HasFiled};
+ghost use Rattle.dict_store.specs.Desk.{HasFiled, has_failed};
 ghost use Rattle.dict_store.specs.Prepared.{LetsGo, last_behind};
 
 use crate::desk::Desk;
@@ -53,6 +53,7 @@ fn file_next<S: Alter>(
     ensures settled { HasCleanDisk (state S.Store conn.new) → IsTrue (state S.Store conn.new).is_open → conn.new.in_transaction ≡ false → (state S.Store conn.new).now ≡ (state S.Store conn.new).committed }
     ensures faulted { HasCleanDisk (state S.Store conn.new) → IfErr result (λ fault. fault ≡ Fault.Disk → MoreFaults (state S.Store conn.old).faults (state S.Store conn.new).faults) }
     ensures kinds { IfErr result IsOfStore }
+    ensures inside { HasCleanDisk (state S.Store conn.new) → result ≡ Ok true → conn.new.in_transaction ≡ true }
     ensures survives { Survives (state S.Store conn.old) (state S.Store conn.new) (λ _. ⊥) }
 {
     let Some(planned) = filing else {
@@ -83,6 +84,12 @@ fn last_behind<T>(last: LastCall, outcome: &Result<T, Fault>) -> LastCall
 /// A filing is at most begun three times: a lookup that is refused memory undoes it. What is filed is let go of where another command, a
 /// lookup in an edition that goes or comes, or a call that hands the connection out comes first.
 impl<S: Alter + Drop> Preparer for Desk<S> {
+    // It failed, or what was prepared before is let go of: no transaction is open.
+    ghost expects = { λ _ _ desk. (has_failed desk.last ≡ true) ⊎ (desk.conn.in_transaction ≡ false) };
+
+    // Where there is more to prepare, a transaction is open, in which rows of it are filed.
+    ghost prepares = { λ _ result desk. HasCleanDisk (state S.Store desk.conn) → result ≡ Ok true → desk.conn.in_transaction ≡ true };
+
     ghost fails_to_prepare = { FailsToPrepare S.Store };
 
     fn expect(&mut self, command: &Command) -> Result<(), Fault> {

@@ -9,7 +9,7 @@ use Rattle.dict_catalogue.specs.Commands.{Command, rollback, retire, put_virtual
 use Rattle.dict_serving.specs.declared.desks.DeskOpener as desks
 use Rattle.dict_catalogue.specs.declared.reply.Kept.{Kept}
 use Rattle.dict_catalogue.specs.Steps.{Catalogue}
-use Rattle.dict_desk.specs.declared.fault.Fault.{Fault as DeskFault}
+use Rattle.dict_desk.specs.declared.fault.Fault.{Fault as DeskFault, Fault}
 use Rattle.dict_messages.specs.Faults.{status_of}
 use Rattle.dict_messages.specs.Writing.{IsUntouched, Writes}
 use Rattle.dict_messages.specs.declared.fault.ProgramFault.{ProgramFault}
@@ -89,9 +89,9 @@ module _ {K D : Type 0} (k : lookup.Ghosts K) (d : desks.Ghosts D K) where
   task_spoils files old new path name id (Virtual title members) fault writer h = change_spoils path id (put_virtual name title.now (words_shown members.items)) old new fault writer h
   task_spoils files old new path name id (Place at) fault writer h = change_spoils path id (place name at) old new fault writer h
 
-  module _ (expects : K → Command AnEdition → K → Type 0) (old new : D) where
-    serves_spoils : (path dict http : List ℕ) (rounds : Option ℕ) (fault : ProgramFault) (writer : StreamChange) → ServesOn k d expects path dict http rounds old new (Err fault) writer
-        → Spoils fault writer ⊎ IsServedUntil k d expects path dict http rounds old new fault writer
+  module _ (expects : K → Command AnEdition → K → Type 0) (prepares : K → Result Bool Fault → K → Type 0) (old new : D) where
+    serves_spoils : (path dict http : List ℕ) (rounds : Option ℕ) (fault : ProgramFault) (writer : StreamChange) → ServesOn k d expects prepares path dict http rounds old new (Err fault) writer
+        → Spoils fault writer ⊎ IsServedUntil k d expects prepares path dict http rounds old new fault writer
     unfolding Rattle.dictcat_lib.specs.Working.ServesOn
     serves_spoils path dict http rounds fault writer (kept, inl h) = inl (inl h.3)
     serves_spoils path dict http rounds fault writer (kept, inr (desk, opened, inl (other, is, inl h, does, shut, none))) = inl (inl h.3)
@@ -101,18 +101,18 @@ module _ {K D : Type 0} (k : lookup.Ghosts K) (d : desks.Ghosts D K) where
     serves_spoils path dict http rounds fault writer (kept, inr (desk, opened, inr (served, done, same))) = inr (desk, served, done)
 
     -- a server is never refused
-    pub serves_refused : (path dict http : List ℕ) (rounds : Option ℕ) (fault : ProgramFault) (writer : StreamChange) → 1 ≡ status_of fault → ServesOn k d expects path dict http rounds old new (Err fault) writer → IsUntouched writer
+    pub serves_refused : (path dict http : List ℕ) (rounds : Option ℕ) (fault : ProgramFault) (writer : StreamChange) → 1 ≡ status_of fault → ServesOn k d expects prepares path dict http rounds old new (Err fault) writer → IsUntouched writer
     serves_refused path dict http rounds fault writer e h = elim (serves_spoils path dict http rounds fault writer h) [
       | inl spoils ↦ spoils_not_3 fault writer (λ f. omega (arith, e, f)) spoils
       | inr served ↦ absurd (ends_not_1 k.is_closed (WasShutBy k d new) (IsNotReopened k.leaves_one_of d.is_unreopened d.still_leaves new path) served.1.stretches served.1.last fault served.1.ends e)
     ]
 
     -- memory ran out before anything was written, or in the server
-    pub serves_memory : (path dict http : List ℕ) (rounds : Option ℕ) (fault : ProgramFault) (writer : StreamChange) → 4 ≡ status_of fault → ServesOn k d expects path dict http rounds old new (Err fault) writer
-        → IsUntouched writer ⊎ IsServedUntil k d expects path dict http rounds old new Memory writer
+    pub serves_memory : (path dict http : List ℕ) (rounds : Option ℕ) (fault : ProgramFault) (writer : StreamChange) → 4 ≡ status_of fault → ServesOn k d expects prepares path dict http rounds old new (Err fault) writer
+        → IsUntouched writer ⊎ IsServedUntil k d expects prepares path dict http rounds old new Memory writer
     serves_memory path dict http rounds fault writer e h = elim (serves_spoils path dict http rounds fault writer h) [
       | inl spoils ↦ inl (spoils_not_3 fault writer (λ f. omega (arith, e, f)) spoils)
-      | inr served ↦ inr (subst (λ (f : ProgramFault). IsServedUntil k d expects path dict http rounds old new f writer) (memory_by_status fault e) served)
+      | inr served ↦ inr (subst (λ (f : ProgramFault). IsServedUntil k d expects prepares path dict http rounds old new f writer) (memory_by_status fault e) served)
     ]
 
 module _ {K D : Type 0} (k : lookup.Ghosts K) (d : desks.Ghosts D K) (c : catalogues.Ghosts D K) where
@@ -120,16 +120,16 @@ module _ {K D : Type 0} (k : lookup.Ghosts K) (d : desks.Ghosts D K) (c : catalo
   audit_spoils path old new fault writer (inl h) = inl h.4
   audit_spoils path old new fault writer (inr (desk, left, closed, is, does, shut, (audited, read, stays, told, alone))) = sound_spoils audited closed fault writer told
 
-  module _ (expects : K → Command AnEdition → K → Type 0) (plain : PlainState) (old new : D) where
-    pub spoiled_failed : (words : List (List ℕ)) (fault : ProgramFault) (reader writer : StreamChange) → IsUntouched reader → Spoils fault writer → IsFailed k d c expects plain old new words reader writer
+  module _ (expects : K → Command AnEdition → K → Type 0) (prepares : K → Result Bool Fault → K → Type 0) (plain : PlainState) (old new : D) where
+    pub spoiled_failed : (words : List (List ℕ)) (fault : ProgramFault) (reader writer : StreamChange) → IsUntouched reader → Spoils fault writer → IsFailed k d c expects prepares plain old new words reader writer
     spoiled_failed words fault reader writer r (inl h) = inl (r, h)
     spoiled_failed words fault reader writer r (inr h) = inr (inr (inl (r, h.1)))
 
     -- the server failed before it told its addresses, or afterwards
     pub serves_failed : (words : List (List ℕ)) (path dict http : List ℕ) (rounds : Option ℕ) (fault : ProgramFault) (reader writer : StreamChange) → IsUntouched reader → 3 ≡ status_of fault
-        → (IsServedUntil k d expects path dict http rounds old new fault writer → IsCutOff k d c expects old new words fault reader writer) → ServesOn k d expects path dict http rounds old new (Err fault) writer
-        → IsFailed k d c expects plain old new words reader writer
-    serves_failed words path dict http rounds fault reader writer r e cut h = elim (serves_spoils k d expects old new path dict http rounds fault writer h) [
+        → (IsServedUntil k d expects prepares path dict http rounds old new fault writer → IsCutOff k d c expects prepares old new words fault reader writer) → ServesOn k d expects prepares path dict http rounds old new (Err fault) writer
+        → IsFailed k d c expects prepares plain old new words reader writer
+    serves_failed words path dict http rounds fault reader writer r e cut h = elim (serves_spoils k d expects prepares old new path dict http rounds fault writer h) [
       | inl spoils ↦ spoiled_failed words fault reader writer r spoils
       | inr served ↦ inr (inr (inr (fault, e, cut served)))
     ]

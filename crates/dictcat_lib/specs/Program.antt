@@ -1,12 +1,13 @@
 -- How the program ends.
-use Rattle.std.specs.Prelude.{◌≡◌, ◌≢◌, ℕ, ◌⊎◌, List, ◌++◌, Option, Result, Ok, Err, codes, ⊤}
+use Rattle.std.specs.Prelude.{◌≡◌, ◌≢◌, ℕ, ◌⊎◌, List, ◌++◌, Option, Result, Ok, Err, codes, ⊤, Bool}
+use Rattle.dict_index.specs.Edition.{Edition}
+use Rattle.dict_desk.specs.declared.fault.Fault.{Fault}
 use Rattle.clap.specs.Kinds.{IsAmong}
 use Rattle.clap.specs.declared.error.kind.ErrorKind.{ErrorKind}
 use Rattle.clap.specs.declared.error.kind.ErrorKind.TheVariants as kinds
 use Rattle.dict_catalogue.specs.Commands.{Command, rollback, retire, put_virtual, place}
 use Rattle.dict_desk.specs.Plain.{PlainState}
 use Rattle.dict_desk.specs.declared.lookup.Lookup as lookup
-use Rattle.dict_index.specs.Edition.{Edition}
 use Rattle.dict_io.specs.Streams.{StreamChange, HasFailed, Puts, PutsAll, PutsFront}
 use Rattle.dict_io.specs.declared.sink.SinkFault.{SinkFault}
 use Rattle.dict_session.specs.Desks.{Stays as DeskStays}
@@ -84,9 +85,9 @@ AnswerEnds words status reader writer faults =
     ((end : Result (Unit {0}) ProgramFault) × IsShown words end reader writer × Closes end status faults)
     ⊎ Misreads words status reader writer faults
 
--- By what is known of desks, and of what makes, opens and closes them, and what desks were told to expect; of the catalogue in memory as
+-- By what is known of desks, and of what makes, opens and closes them, and what desks were told of and prepared; of the catalogue in memory as
 -- it was left, and of these before and after.
-module _ {K D : Type 0} (k : lookup.Ghosts K) (d : desks.Ghosts D K) (c : catalogues.Ghosts D K) (expects : K → Command Edition → K → Type 0) where
+module _ {K D : Type 0} (k : lookup.Ghosts K) (d : desks.Ghosts D K) (c : catalogues.Ghosts D K) (expects : K → Command Edition → K → Type 0) (prepares : K → Result Bool Fault → K → Type 0) where
   -- a session over a lawful database, or over the catalogue of the file that was asked for, was ended by a fault of its reader, its
   -- writer or its desk
   abbrev pub IsBroken : PlainState → D → D → List (List ℕ) → StreamChange → StreamChange → Type 0
@@ -96,7 +97,7 @@ module _ {K D : Type 0} (k : lookup.Ghosts K) (d : desks.Ghosts D K) (c : catalo
 
   -- the task is to serve, and its catalogue was served until this fault ended it
   abbrev pub WasServed : D → D → Task → ProgramFault → StreamChange → Type 0
-  WasServed old new (tasks.Serve file dict http rounds) fault writer = IsServedUntil k d expects file.now dict.now http.now rounds old new fault writer
+  WasServed old new (tasks.Serve file dict http rounds) fault writer = IsServedUntil k d expects prepares file.now dict.now http.now rounds old new fault writer
   WasServed old new _ fault writer = ⊥
 
   -- the words ask for a server, which read nothing, listened at its two addresses, told them, and served until this fault ended it
@@ -133,7 +134,7 @@ module _ {K D : Type 0} (k : lookup.Ghosts K) (d : desks.Ghosts D K) (files : Li
   ChangeTaskEnds old new file name id (changes.Virtual title members) end writer = ChangeEnds k d file id (put_virtual name title.now (words_shown members.items)) old new end writer
   ChangeTaskEnds old new file name id (changes.Place at) end writer = ChangeEnds k d file id (place name at) old new end writer
 
-module _ {K D : Type 0} (k : lookup.Ghosts K) (d : desks.Ghosts D K) (c : catalogues.Ghosts D K) (expects : K → Command Edition → K → Type 0) (files : List ℕ → Option (List ℕ)) (plain : PlainState) (old new : D) where
+module _ {K D : Type 0} (k : lookup.Ghosts K) (d : desks.Ghosts D K) (c : catalogues.Ghosts D K) (expects : K → Command Edition → K → Type 0) (prepares : K → Result Bool Fault → K → Type 0) (files : List ℕ → Option (List ℕ)) (plain : PlainState) (old new : D) where
   -- a task ends so
   abbrev pub TaskEnds : Task → Result (Unit {0}) ProgramFault → StreamChange → StreamChange → Type 0
   TaskEnds (tasks.Plain name index text) end reader writer = FilesEnd (standing plain) files name.now index.now text.now end reader writer × (new ≡ old)
@@ -142,7 +143,7 @@ module _ {K D : Type 0} (k : lookup.Ghosts K) (d : desks.Ghosts D K) (c : catalo
   TaskEnds (tasks.Audit file) end reader writer = AuditEnds k d c file.now old new end writer × IsUntouched reader
   TaskEnds (tasks.Session file) end reader writer = SessionEnds k d c file.now old new end reader writer
   TaskEnds (tasks.Change file name id what) end reader writer = ChangeTaskEnds k d files old new file.now name.now id.now what end writer × IsUntouched reader
-  TaskEnds (tasks.Serve file dict http rounds) end reader writer = ServesOn k d expects file.now dict.now http.now rounds old new end writer × IsUntouched reader
+  TaskEnds (tasks.Serve file dict http rounds) end reader writer = ServesOn k d expects prepares file.now dict.now http.now rounds old new end writer × IsUntouched reader
 
   -- what was asked for was done or not: a task, or help or the version, for which no file was opened; or memory ran out before
   abbrev pub Attempts : List (List ℕ) → Result (Unit {0}) ProgramFault → StreamChange → StreamChange → Type 0

@@ -45,7 +45,7 @@ pub fn command<
     writer: &mut W,
     faults: &mut F,
 ) -> u8
-    ensures { CommandEnds K.Lookup D.DeskOpener D.Catalogues.own K.expects (I.octets files.now) plain.new desks.old desks.new (map A.text words.now) result
+    ensures { CommandEnds K.Lookup D.DeskOpener D.Catalogues.own K.expects K.prepares (I.octets files.now) plain.new desks.old desks.new (map A.text words.now) result
         (change S.stream reader.old reader.new) (change W.stream writer.old writer.new) (change F.stream faults.old faults.new) }
 {
     match read_words(rt.alloc(), words) {

@@ -29,7 +29,7 @@ pub fn perform<'w, K: Preparer + Drop, D: Catalogues<K>, I: InputFiles, S: Sourc
     reader: &mut S,
     writer: &mut W,
 ) -> Result<(), ProgramFault<'w>>
-    ensures { TaskEnds K.Lookup D.DeskOpener D.Catalogues.own K.expects (I.octets files.now) plain.new desks.old desks.new task.now result
+    ensures { TaskEnds K.Lookup D.DeskOpener D.Catalogues.own K.expects K.prepares (I.octets files.now) plain.new desks.old desks.new task.now result
         (change S.stream reader.old reader.new) (change W.stream writer.old writer.new) }
 {
     match task {
@@ -80,7 +80,7 @@ fn serve<'w, K: Preparer + Drop, D: DeskOpener<K>, W: Sink>(
     wanted: &ServerOptions<'w>,
     writer: &mut W,
 ) -> Result<(), ProgramFault<'w>>
-    ensures { ServesOn K.Lookup D.DeskOpener K.expects file.entry.now wanted.now.dict.now wanted.now.http.now wanted.now.rounds desks.old desks.new result
+    ensures { ServesOn K.Lookup D.DeskOpener K.expects K.prepares file.entry.now wanted.now.dict.now wanted.now.http.now wanted.now.rounds desks.old desks.new result
         (change W.stream writer.old writer.new) }
 {
     let mut driver = None;

@@ -1,4 +1,5 @@
 use Rattle.std.proofs.Common.{◌≡◌, ◌<◌, ◌≤◌, true, false, rules, length, get_or, arith, sym, ap, ◌∙◌}
+use Rattle.dict_session.specs.Desks.{condition}
 use Rattle.dict_connection.specs.Handing.{is_held_back}
 use Rattle.dict_driver.specs.Turning.{any_held_back}
 use Rattle.dict_driver.proofs.BoolLemmas.{so_still, so_then}
@@ -14,8 +15,9 @@ loop-one-init g c =
       ids = ids_same c.args.all.now.items;
       idle = λ still k d before within. absurd (omega (arith, before));
       trust = λ trusted. trusted;
+      closed = λ is. is;
       others = λ other held apart has. has;
-      led = led_still (turn_none g.K.Preparer.expects g.T.Transport.taken g.T.Transport.coming g.T.Transport.made c.args.hub.now c.args.all.now.items c.is_any_held_back-is_preparing.result
+      led = led_still (turn_none (condition g.K.Lookup.has_failed g.K.Lookup.is_closed) g.K.Preparer.expects g.K.Preparer.prepares g.T.Transport.taken g.T.Transport.coming g.T.Transport.made g.O.Opening.refuses c.args.hub.now c.args.desk.now c.args.all.now.items c.is_any_held_back-is_preparing.result
           (c.is_any_held_back-is_preparing.ensures ∙ ap (λ all. any_held_back all) c.as_slice.ensures.value));
     })
 
@@ -36,9 +38,10 @@ loop-one-preserved g c =
         | else-turn w ↦ λ still. idle_more now i c.turn.new.self in_now (c.loop-one.invariant.idle (sym w.has_moved-is ∙ still)) (c.turn.ensures.idle w.if-turn.false)
       ];
       trust = λ trusted. c.loop-one.invariant.trust (c.turn.ensures.trust trusted);
+      closed = λ is. c.turn.ensures.closed (c.loop-one.invariant.closed is);
       others = keeps_more c.args.all.now.items i one c.args.hub.now c.loop-one.hub c.turn.new.hub within was c.loop-one.invariant.others c.turn.ensures.others;
       led = led_joined c.loop-one.invariant.led c.turn.ensures.led c.turn.ensures.trust
-          (λ es fs all turns. turn_more g.K.Preparer.expects g.T.Transport.taken g.T.Transport.coming g.T.Transport.made c.args.hub.now c.loop-one.hub c.args.all.now.items now i one c.turn.new.self c.loop-one.is_preparing _ c.loop-one.has_moved c.turn.result _ es fs c.requires within
+          (λ es fs all turns. turn_more (condition g.K.Lookup.has_failed g.K.Lookup.is_closed) g.K.Preparer.expects g.K.Preparer.prepares g.T.Transport.taken g.T.Transport.coming g.T.Transport.made g.O.Opening.refuses c.args.hub.now c.loop-one.hub c.args.desk.now c.loop-one.desk c.turn.new.desk c.args.all.now.items now i one c.turn.new.self c.loop-one.is_preparing _ c.loop-one.has_moved c.turn.result _ es fs c.requires within
           (default_free now i one c.one-item.result in_now)
           (elim c.if-is_held_back.branch [
             | then-is_held_back w ↦ so_then _ c.loop-one.is_preparing (is_held_back c.turn.new.self.held) w.is_preparing-is (sym c.is_held_back.ensures ∙ w.if-is_held_back.true)
@@ -48,7 +51,7 @@ loop-one-preserved g c =
             | then-turn w ↦ so_then _ c.loop-one.has_moved c.turn.result w.has_moved-is w.if-turn.true
             | else-turn w ↦ so_still _ c.loop-one.has_moved c.turn.result w.has_moved-is w.if-turn.false
           ])
-          c.loop-one.invariant.others turns c.turn.ensures.foreseen all);
+          c.loop-one.invariant.others turns.0 turns.1 c.turn.ensures.prepared c.turn.ensures.closed all);
     }
 
 pub returns-clause-led : goal.returns-clause-led
@@ -58,7 +61,7 @@ returns-clause-led g c =
     let done : length c.args.all.now.items ≤ c.loop-one.one-index = omega (arith, all, c.loop-one-test.false) in
     rw taken_whole
     (led_as c.loop-one.invariant.led
-    (λ events up_to. turn_whole g.K.Preparer.expects g.T.Transport.taken g.T.Transport.coming g.T.Transport.made c.args.hub.now c.args.all.now.items c.loop-one.one-items c.loop-one.one-index c.loop-one.is_preparing c.loop-one.has_moved events done up_to))
+    (λ events up_to. turn_whole (condition g.K.Lookup.has_failed g.K.Lookup.is_closed) g.K.Preparer.expects g.K.Preparer.prepares g.T.Transport.taken g.T.Transport.coming g.T.Transport.made g.O.Opening.refuses c.args.hub.now c.args.desk.now _ c.args.all.now.items c.loop-one.one-items c.loop-one.one-index c.loop-one.is_preparing c.loop-one.has_moved events done up_to))
 
 pub returns-clause-others : goal.returns-clause-others
 returns-clause-others g c =

@@ -1,4 +1,5 @@
-use Rattle.std.proofs.Common.{◌≡◌, ◌<◌, ℕ, false, length, get_or}
+use Rattle.std.proofs.Common.{◌≡◌, ◌<◌, ℕ, true, false, length, get_or}
+use Rattle.dict_session.specs.Desks.{condition}
 use Rattle.dict_connection.specs.Leading.{HasLedOn}
 use Rattle.dict_connection.specs.Turns.{IsAtRest}
 use Rattle.dict_driver.proofs.ListLemmas.{HaveSameIds}
@@ -10,7 +11,8 @@ invariant-loop-one g l = record {
   ids : HaveSameIds l.fn.all.items l.one-items;
   idle : l.has_moved ≡ false → (k : ℕ) (d : _) → k < l.one-index → k < length l.one-items → IsAtRest (get_or l.one-items k d);
   trust : g.K.Lookup.is_trusted l.desk → g.K.Lookup.is_trusted l.fn.desk;
+  closed : g.K.Lookup.is_closed l.fn.desk ≡ true → g.K.Lookup.is_closed l.desk ≡ true;
   others : KeepsFrom l.fn.all.items l.one-index l.fn.hub l.hub;
   led : HasLedOn (g.K.Lookup.is_trusted l.desk) (g.K.Lookup.shows l.fn.desk) (g.K.Lookup.leaves_one_of l.fn.desk) (g.K.Lookup.shows l.desk) (g.K.Lookup.leaves_one_of l.desk) l.fn.hub l.hub
-      (λ events. TurnUpTo g.K.Preparer.expects g.T.Transport.taken g.T.Transport.coming g.T.Transport.made l.fn.hub l.fn.all.items l.one-items l.one-index l.is_preparing l.has_moved events);
+      (λ events. TurnUpTo (condition g.K.Lookup.has_failed g.K.Lookup.is_closed) g.K.Preparer.expects g.K.Preparer.prepares g.T.Transport.taken g.T.Transport.coming g.T.Transport.made g.O.Opening.refuses l.fn.hub l.fn.desk l.desk l.fn.all.items l.one-items l.one-index l.is_preparing l.has_moved events);
 }

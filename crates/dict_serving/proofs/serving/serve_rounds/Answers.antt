@@ -18,7 +18,7 @@ returns-in_err-pending-clause-served g c =
     let one : Stretch _ = record { opened = c.loop-pending.pending.desk; left = over.0; asked = c.loop-pending.pending.left; rounds = c.serve_stretch.new.driver.event_loop.rounds - c.loop-pending.driver.event_loop.rounds; ended = over.1 } in
     let error = err_from_is_err_and c.from_residual.result c.from_residual.ensures.1 in (
       held.0 ++ one ∷ [],
-      served_more g.K.Lookup.shows g.K.Lookup.leaves_one_of g.K.Lookup.is_trusted g.D.DeskOpener.is_opened g.K.Lookup.is_closed g.K.Preparer.expects c.args.rounds c.args.desk held.0 one c.args.driver.now c.loop-pending.driver
+      served_more g.K.Lookup.shows g.K.Lookup.leaves_one_of g.K.Lookup.is_trusted g.D.DeskOpener.is_opened g.K.Lookup.is_closed g.K.Lookup.has_failed g.K.Preparer.expects g.K.Preparer.prepares c.args.rounds c.args.desk held.0 one c.args.driver.now c.loop-pending.driver
           c.serve_stretch.new.driver held.1 goes over.2,
       first_goes g.K.Lookup.shows g.K.Lookup.leaves_one_of g.K.Lookup.is_trusted g.D.DeskOpener.is_opened g.K.Lookup.is_closed c.args.rounds c.args.desk held.0 one held.2 goes,
       rw (error.1, error.2) (ends_more g.K.Lookup.shows g.K.Lookup.leaves_one_of g.K.Lookup.is_trusted g.D.DeskOpener.is_opened g.K.Lookup.is_closed (WasShut g.K.Lookup.shows g.K.Lookup.leaves_one_of g.K.Lookup.is_trusted g.D.DeskOpener.is_safe g.D.DeskOpener.holds_alone g.D.DeskOpener.still_leaves g.D.DeskOpener.is_uncopied c.serve_stretch.new.desks) (IsNotReopened g.K.Lookup.leaves_one_of g.D.DeskOpener.is_unreopened g.D.DeskOpener.still_leaves c.serve_stretch.new.desks c.args.path.now) held.0 one
@@ -36,7 +36,7 @@ loop-pending-preserved g c =
     record {
       served = (
         held.0 ++ one ∷ [],
-        served_more g.K.Lookup.shows g.K.Lookup.leaves_one_of g.K.Lookup.is_trusted g.D.DeskOpener.is_opened g.K.Lookup.is_closed g.K.Preparer.expects c.args.rounds c.args.desk held.0 one c.args.driver.now c.loop-pending.driver
+        served_more g.K.Lookup.shows g.K.Lookup.leaves_one_of g.K.Lookup.is_trusted g.D.DeskOpener.is_opened g.K.Lookup.is_closed g.K.Lookup.has_failed g.K.Preparer.expects g.K.Preparer.prepares c.args.rounds c.args.desk held.0 one c.args.driver.now c.loop-pending.driver
             c.serve_stretch.new.driver held.1 goes over.2,
         first_goes g.K.Lookup.shows g.K.Lookup.leaves_one_of g.K.Lookup.is_trusted g.D.DeskOpener.is_opened g.K.Lookup.is_closed c.args.rounds c.args.desk held.0 one held.2 goes,
         λ some. (let gave = over.4 some in

@@ -38,3 +38,6 @@ returns-in_default-clause-keeps g c clean = record { was_open = λ live. live; c
 
 pub returns-in_default-clause-survives : goal.returns-in_default-clause-survives
 returns-in_default-clause-survives g c = survives_itself (state g.S.Store c.args.conn.now) (λ _. ⊥)
+
+pub returns-in-Ok-clause-inside : goal.returns-in-Ok-clause-inside
+returns-in-Ok-clause-inside g c = λ clean is. c.in-Ok.ensures.inside clean

@@ -1,4 +1,8 @@
 use Rattle.std.proofs.Common.{refl, ap, ◌∙◌, arith}
+use Rattle.dict_session.specs.Desks.{condition}
+use Rattle.dict_hub.specs.Events.{is_of_editor}
+use Rattle.dict_connection.specs.Causes.{IsRefused}
+use Rattle.dict_connection.proofs.CauseLemmas.{caused_behind, caused_from, caused_still}
 use Rattle.dict_connection.proofs.BackLemmas.{back_never, rest_back}
 use Rattle.dict_connection.specs.Handing.{held_in}
 use Rattle.dict_connection.proofs.HoldLemmas.{back_once, handed_from, hands_none, led_before, led_behind, led_quiet}
@@ -10,7 +14,8 @@ returns-then-prepare-clause-led g c =
     let kept = c.prepare.ensures in
     led_quiet kept.shows kept.leaves (λ state at. at) (
       hands_none g.T.Transport.taken g.T.Transport.coming g.T.Transport.made old c.prepare.new.self (held_in old.held) kept.same kept.kind kept.octets,
-      back_once c.args.hub.now old c.prepare.new.self kept.same kept.octets (kept.fewer c.if-prepare.true),
+      back_once (IsRefused g.O.Opening.refuses c.args.hub.now) old c.prepare.new.self kept.same kept.octets (kept.fewer c.if-prepare.true),
+      caused_still _ old c.prepare.new.self (ap (λ it. it.queue.failures) kept.same),
     )
 
 pub returns-clause-led : goal.returns-clause-led
@@ -18,9 +23,17 @@ returns-clause-led g c =
     let old = c.args.self.now in
     let kept = c.prepare.ensures in
     let gone = c.let_go.ensures in
+    let stood = condition g.K.Lookup.has_failed g.K.Lookup.is_closed in
     led_before
     (led_behind (led_quiet kept.shows kept.leaves (λ state at. at) refl) c.hand.ensures.led c.hand.ensures.trust
-    (λ events handed. handed_from g.T.Transport.taken g.T.Transport.coming g.T.Transport.made c.args.hub.now old c.prepare.new.self c.hand.new.self events kept.same kept.kind kept.octets handed))
+    (λ events handed.
+    let both = handed_from g.T.Transport.taken g.T.Transport.coming g.T.Transport.made (IsRefused g.O.Opening.refuses c.args.hub.now) old c.prepare.new.self c.hand.new.self events kept.same kept.kind kept.octets (handed.0, handed.1) in (
+      both.0,
+      both.1,
+      caused_behind (stood c.hand.new.desk) (stood c.let_go.new.desk) old c.hand.new.self events
+          (λ reader. ap stood (gone.reader (ap is_of_editor (c.hand.ensures.kind ∙ kept.kind) ∙ reader)))
+          (caused_from (stood c.hand.new.desk) old c.prepare.new.self c.hand.new.self events (ap (λ it. it.queue.failures) kept.same) kept.kind handed.2),
+    )))
     (led_quiet gone.shows gone.leaves (λ state at. at) refl) gone.trust
 
 pub returns-clause-others : goal.returns-clause-others
@@ -29,7 +42,7 @@ returns-clause-others g c = λ other held apart has. c.hand.ensures.others other
 pub returns-then-prepare-clause-back : goal.returns-then-prepare-clause-back
 returns-then-prepare-clause-back g c = λ still back.
     let fewer = (c.prepare.ensures.fewer c.if-prepare.true).1 in
-    (omega (arith, fewer), c.prepare.ensures.octets)
+    (omega (arith, fewer), c.prepare.ensures.octets, c.prepare.ensures.prepared c.if-prepare.true)
 
 pub returns-clause-back : goal.returns-clause-back
 returns-clause-back g c = λ still back. back_never _ (rest_back c.hand.new.self.held _ _ c.hand.ensures.kind (c.hand.ensures.whole still)) back

@@ -1,6 +1,7 @@
-use Rattle.std.proofs.Common.{◌∙◌, sym, ap, refl}
+use Rattle.std.proofs.Common.{◌∙◌, sym, ap}
 use Rattle.dict_connection.specs.Handing.{is_held_back}
-use Rattle.dict_connection.proofs.BackLemmas.{back_never, over_closed, reader_back, told_as}
+use Rattle.dict_connection.proofs.BackLemmas.{back_never, begins_to, holds_on, none_back, over_closed, was_back}
+use Rattle.dict_connection.proofs.CauseLemmas.{caused_from, caused_still}
 use Rattle.dict_connection.proofs.HoldLemmas.{turns_deferred}
 use Rattle.dict_connection.proofs.LeadLemmas.{led_as, led_still}
 use Rattle.dict_connection.proofs.PieceLemmas.{none_held}
@@ -10,19 +11,28 @@ use Rattle.dict_connection.proofs.connection.Connection.turn.Goals as goal
 pub returns-then-has_failed-clause-led : goal.returns-then-has_failed-clause-led
 returns-then-has_failed-clause-led g c =
     led_as c.end.ensures.led
-    (λ events ended. turns_failed g.T.Transport.taken g.T.Transport.coming g.T.Transport.made c.args.is_preparing c.args.self.now c.send-sent.new.self _ c.send-sent.result events
-    (failed_is c.send-sent.result (sym c.has_failed.ensures ∙ c.if-has_failed.true)) c.send-sent.ensures c.end.ensures.over ended)
+    (λ events ended. (
+      turns_failed g.T.Transport.taken g.T.Transport.coming g.T.Transport.made c.args.is_preparing c.args.self.now c.send-sent.new.self _ c.send-sent.result events
+          (failed_is c.send-sent.result (sym c.has_failed.ensures ∙ c.if-has_failed.true)) c.send-sent.ensures c.end.ensures.over (ended.0, ended.1),
+      caused_from _ c.args.self.now c.send-sent.new.self c.end.new.self events c.send-sent.ensures.failures (ap (λ h. h.kind) c.send-sent.ensures.held) ended.2,
+    ))
 
 pub returns-then-not-is_empty-clause-led : goal.returns-then-not-is_empty-clause-led
 returns-then-not-is_empty-clause-led g c =
     led_as c.hand_prepared.ensures.led
-    (λ events handed. turns_handed g.T.Transport.taken g.T.Transport.coming g.T.Transport.made c.args.is_preparing c.args.self.now c.send-sent.new.self _ c.send-sent.result events
-    (well_isnt c.send-sent.result (sym c.has_failed.ensures ∙ c.if-has_failed.false)) (sym c.is_empty.ensures ∙ c.if-not-is_empty.true) c.send-sent.ensures handed)
+    (λ events handed. (
+      turns_handed g.T.Transport.taken g.T.Transport.coming g.T.Transport.made c.args.is_preparing c.args.self.now c.send-sent.new.self _ c.send-sent.result events
+          (well_isnt c.send-sent.result (sym c.has_failed.ensures ∙ c.if-has_failed.false)) (sym c.is_empty.ensures ∙ c.if-not-is_empty.true) c.send-sent.ensures (handed.0, handed.1),
+      caused_from _ c.args.self.now c.send-sent.new.self c.hand_prepared.new.self events c.send-sent.ensures.failures (ap (λ h. h.kind) c.send-sent.ensures.held) handed.2,
+    ))
 
 pub returns-then-is_deferred-clause-led : goal.returns-then-is_deferred-clause-led
 returns-then-is_deferred-clause-led g c =
-    led_still (turns_deferred g.T.Transport.taken g.T.Transport.coming g.T.Transport.made c.args.is_preparing c.args.self.now c.send-sent.new.self c.send-sent.result
-    (well_isnt c.send-sent.result (sym c.has_failed.ensures ∙ c.if-has_failed.false)) (sym c.is_empty.ensures ∙ c.if-not-is_empty.false) (sym c.is_deferred.ensures ∙ c.if-is_deferred.true) c.send-sent.ensures)
+    led_still (
+      turns_deferred g.T.Transport.taken g.T.Transport.coming g.T.Transport.made c.args.is_preparing c.args.self.now c.send-sent.new.self c.send-sent.result
+          (well_isnt c.send-sent.result (sym c.has_failed.ensures ∙ c.if-has_failed.false)) (sym c.is_empty.ensures ∙ c.if-not-is_empty.false) (sym c.is_deferred.ensures ∙ c.if-is_deferred.true) c.send-sent.ensures,
+      caused_still _ c.args.self.now c.send-sent.new.self c.send-sent.ensures.failures,
+    )
 
 pub read-received-requires : goal.read-received-requires
 read-received-requires g c = none_held c.send-sent.new.self.held (sym c.is_empty.ensures ∙ c.if-not-is_empty.false)
@@ -30,8 +40,11 @@ read-received-requires g c = none_held c.send-sent.new.self.held (sym c.is_empty
 pub returns-clause-led : goal.returns-clause-led
 returns-clause-led g c =
     led_as c.read-received.ensures.led
-    (λ events reads. turns_read g.T.Transport.taken g.T.Transport.coming g.T.Transport.made c.args.is_preparing c.args.self.now c.send-sent.new.self _ c.send-sent.result c.read-received.result events
-    (well_isnt c.send-sent.result (sym c.has_failed.ensures ∙ c.if-has_failed.false)) (sym c.is_empty.ensures ∙ c.if-not-is_empty.false) (sym c.is_deferred.ensures ∙ c.if-is_deferred.false) c.send-sent.ensures reads c.has_moved.result c.has_moved.ensures)
+    (λ events reads. (
+      turns_read g.T.Transport.taken g.T.Transport.coming g.T.Transport.made c.args.is_preparing c.args.self.now c.send-sent.new.self _ c.send-sent.result c.read-received.result events
+          (well_isnt c.send-sent.result (sym c.has_failed.ensures ∙ c.if-has_failed.false)) (sym c.is_empty.ensures ∙ c.if-not-is_empty.false) (sym c.is_deferred.ensures ∙ c.if-is_deferred.false) c.send-sent.ensures reads.0 c.has_moved.result c.has_moved.ensures,
+      caused_from _ c.args.self.now c.send-sent.new.self c.read-received.new.self events c.send-sent.ensures.failures (ap (λ h. h.kind) c.send-sent.ensures.held) reads.1,
+    ))
 
 pub returns-clause-idle : goal.returns-clause-idle
 returns-clause-idle g c = λ still. c.read-received.ensures.idle (nothing_came c.send-sent.result c.read-received.result (sym c.has_moved.ensures ∙ still))
@@ -45,16 +58,20 @@ returns-then-not-is_empty-clause-others g c = λ other held apart has. c.hand_pr
 pub returns-clause-others : goal.returns-clause-others
 returns-clause-others g c = λ other held apart has. c.read-received.ensures.others other held (λ same. apart (same ∙ c.send-sent.ensures.id)) has
 
-pub returns-then-has_failed-clause-foreseen : goal.returns-then-has_failed-clause-foreseen
-returns-then-has_failed-clause-foreseen g c = λ isnt still back. over_closed _ c.end.ensures.over still
+pub returns-then-has_failed-clause-prepared : goal.returns-then-has_failed-clause-prepared
+returns-then-has_failed-clause-prepared g c = λ still back. over_closed _ c.end.ensures.over still
 
-pub returns-then-not-is_empty-clause-foreseen : goal.returns-then-not-is_empty-clause-foreseen
-returns-then-not-is_empty-clause-foreseen g c = λ isnt still back.
-    let held = c.send-sent.ensures.held in
-    back_never _ (reader_back c.send-sent.new.self.held c.hand_prepared.new.self.held (ap is_held_back held ∙ isnt) (sym c.is_empty.ensures ∙ c.if-not-is_empty.true) c.hand_prepared.ensures.kind) back
+pub returns-then-not-is_empty-clause-prepared : goal.returns-then-not-is_empty-clause-prepared
+returns-then-not-is_empty-clause-prepared g c = λ still back.
+    let before = was_back c.send-sent.new.self.held c.hand_prepared.new.self.held (sym c.is_empty.ensures ∙ c.if-not-is_empty.true) c.hand_prepared.ensures.kind back in
+    holds_on g.K.Preparer.expects g.K.Preparer.prepares _ c.args.hub.now c.args.desk.now c.hand_prepared.new.desk c.args.self.now.id _ (ap is_held_back (sym c.send-sent.ensures.held) ∙ before) (c.hand_prepared.ensures.back still back).2
 
-pub returns-then-is_deferred-clause-foreseen : goal.returns-then-is_deferred-clause-foreseen
-returns-then-is_deferred-clause-foreseen g c = λ isnt still back. back_never _ (ap is_held_back c.send-sent.ensures.held ∙ isnt) back
+pub returns-then-is_deferred-clause-prepared : goal.returns-then-is_deferred-clause-prepared
+returns-then-is_deferred-clause-prepared g c = λ still back.
+    back_never _ (none_back c.send-sent.new.self.held (none_held c.send-sent.new.self.held (sym c.is_empty.ensures ∙ c.if-not-is_empty.false))) back
 
-pub returns-clause-foreseen : goal.returns-clause-foreseen
-returns-clause-foreseen g c = λ isnt still back. told_as g.K.Preparer.expects c.args.hub.now _ _ _ _ c.send-sent.ensures.id refl (c.read-received.ensures.foreseen still back)
+pub returns-clause-prepared : goal.returns-clause-prepared
+returns-clause-prepared g c = λ still back.
+    let none = none_back c.send-sent.new.self.held (none_held c.send-sent.new.self.held (sym c.is_empty.ensures ∙ c.if-not-is_empty.false)) in
+    begins_to g.K.Preparer.expects g.K.Preparer.prepares _ c.args.hub.now c.args.desk.now c.read-received.new.desk c.send-sent.new.self.id c.args.self.now.id _ (ap is_held_back (sym c.send-sent.ensures.held) ∙ none) c.send-sent.ensures.id
+    (c.read-received.ensures.prepared still back)

@@ -1,12 +1,13 @@
 use Rattle.std.proofs.Common.{◌≡◌, ◌∙◌, List, [], ◌++◌, true, false, is_ok, sym, ap, subst, refl}
 use Rattle.std.specs.Prelude.{◌||◌}
+use Rattle.dict_session.specs.Desks.{condition}
 use Rattle.dict_hub.specs.Runs.{Accepted, IsAt}
 use Rattle.dict_hub.specs.declared.kind.Kind.TheVariants.{Dict}
 use Rattle.dict_driver.specs.Accepting.{HasAccepted}
 use Rattle.dict_driver.specs.Listening.{is_ready}
 use Rattle.dict_driver.specs.Looking.{Looks}
 use Rattle.dict_driver.specs.Ordering.{AreOfRound, IsOpeningOf}
-use Rattle.dict_driver.specs.Rounds.{Moves}
+use Rattle.dict_driver.specs.Rounds.{Moves, TurnEach}
 use Rattle.dict_driver.proofs.BoolLemmas.{none_of}
 use Rattle.dict_connection.proofs.LeadLemmas.{led_joined, led_none}
 use Rattle.dict_driver.proofs.LookLemmas.{moves_looked}
@@ -20,7 +21,7 @@ returns-in-Err-clause-led g c =
     led_none (λ state at. subst (λ h. IsAt h state) (sym c.poll.ensures.hub) at) (
       moves_looked (g.S.Sockets.told c.poll.new.self.sockets) c.poll.result c.args.self.now c.poll.new.self c.poll.ensures,
       round_none,
-      (refl, subst (λ r. Looks g.S.Sockets.asked 0 (g.S.Sockets.told c.poll.new.self.sockets) r c.args.self.now c.poll.new.self) c.in-Err.is c.poll.ensures),
+      (refl, refl, subst (λ r. Looks g.S.Sockets.asked 0 (g.S.Sockets.told c.poll.new.self.sockets) r c.args.self.now c.poll.new.self) c.in-Err.is c.poll.ensures),
     )
 
 pub returns-clause-led : goal.returns-clause-led
@@ -47,8 +48,10 @@ returns-clause-led g c =
     (λ es fs before then. (
       moves_joined self.connections c.accept_editor-by_http.new.self.connections c.turn-turned.new.self es fs before.0 then.0,
       subst (λ (l : List Accepted). AreOfRound (l ++ fs)) (sym before.1.whole) (round_whole before.1.readers before.1.editors fs before.1.dict before.1.http then.1 then.2),
-      round_made g.S.Opening.refuses asked g.K.Preparer.expects g.T.Transport.taken g.T.Transport.coming g.T.Transport.made (g.S.Sockets.told c.poll.new.self.sockets) c.poll.result self c.poll.new.self c.accept-by_dict.new.self c.accept_editor-by_http.new.self _
-          c.has_any.result c.turn-turned.result es fs (ap is_ok c.in-Ok.is) c.poll.ensures before.1 then.3 c.turn-turned.ensures.others refl c.accept_editor-by_http.ensures.dict refl c.accept-by_dict.ensures.other
+      round_made g.S.Opening.refuses asked (condition g.K.Lookup.has_failed g.K.Lookup.is_closed) g.K.Preparer.expects g.K.Preparer.prepares g.T.Transport.taken g.T.Transport.coming g.T.Transport.made (g.S.Sockets.told c.poll.new.self.sockets) c.poll.result c.args.desk.now c.turn-turned.new.desk self c.poll.new.self c.accept-by_dict.new.self c.accept_editor-by_http.new.self _
+          c.has_any.result c.turn-turned.result es fs (ap is_ok c.in-Ok.is) c.poll.ensures before.1
+          (subst (λ d. TurnEach (condition g.K.Lookup.has_failed g.K.Lookup.is_closed) g.K.Preparer.expects g.K.Preparer.prepares g.T.Transport.taken g.T.Transport.coming g.T.Transport.made g.S.Opening.refuses c.accept_editor-by_http.new.self.hub d c.turn-turned.new.desk c.accept_editor-by_http.new.self.connections c.turn-turned.new.self c.turn-turned.result fs)
+          (c.accept_editor-by_http.ensures.unasked ∙ c.accept-by_dict.ensures.unasked) then.3) c.turn-turned.ensures.others refl c.accept_editor-by_http.ensures.dict refl c.accept-by_dict.ensures.other
           (c.has_any.ensures ∙ ap (λ b. b || (c.accept_editor-by_http.result || c.turn-turned.result)) c.accept-by_dict.ensures.asked
           ∙ ap (λ b. is_ready c.accept-by_dict.new.self.dict_listening || (b || c.turn-turned.result)) c.accept_editor-by_http.ensures.asked),
     ))

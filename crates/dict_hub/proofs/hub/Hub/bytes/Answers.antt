@@ -1,6 +1,7 @@
-use Rattle.std.proofs.Common.{◌≡◌, ◌++◌, ℕ, List, length, sym, subst, arith}
+use Rattle.std.proofs.Common.{◌≡◌, ◌++◌, ℕ, List, length, ap, sym, subst, arith}
 use Rattle.std.specs.Prelude.{slice_set}
 use Rattle.std.proofs.lemmas.List.{length-set}
+use Rattle.std.proofs.lemmas.List.Edits.{length-remove}
 use Rattle.dict_hub.specs.Given.{Gets}
 use Rattle.dict_hub.specs.Holding.{left_by}
 use Rattle.dict_hub.specs.Lines.{Holds, IsLeft}
@@ -88,3 +89,9 @@ returns-in-Close-clause-others g c = λ other held ne at.
     stands_as _ _ _ _ _ _ other held c.close.ensures.host c.close.ensures.ids c.close.ensures.lines
     (remove_others c.args.self.now.host.now c.args.self.now.book.ids.items changed c.in-Some.place c.args.id even f.0 f.1 other held ne
     (set_others c.args.self.now.host.now c.args.self.now.book.ids.items c.args.self.now.lines.items c.in-Some.place c.args.id c.take.new.self f.1 other held ne at))
+
+pub returns-in-Close-clause-count : goal.returns-in-Close-clause-count
+returns-in-Close-clause-count g c = λ held at.
+    let f = found_at c.args.self.now.book.ids.items c.args.id c.in-Some.place (sym c.in-Some.ensures.value) in
+    let shorter = length-remove c.args.self.now.book.ids.items c.in-Some.place f.0 in
+    omega (arith, ap length c.close.ensures.ids, shorter)

@@ -1,4 +1,5 @@
-use Rattle.std.proofs.Common.{◌≡◌, ℕ, List, length, refl, sym, subst, arith}
+use Rattle.std.proofs.Common.{◌≡◌, ℕ, List, length, ap, refl, sym, subst, arith}
+use Rattle.std.proofs.lemmas.List.Edits.{length-remove}
 use Rattle.dict_hub.specs.Hubs.{IsAbsent}
 use Rattle.dict_hub.proofs.HubLemmas.{found_at, not_found, remove_own, remove_others, stands_as}
 use Rattle.dict_hub.proofs.hub.Hub.ended.Goals as goal
@@ -25,3 +26,9 @@ returns-clause-others c = λ other held ne at.
     let even : length c.args.self.now.lines.items ≡ length c.args.self.now.book.ids.items = omega (arith, c.args.self.now.even, c.args.self.now.lines.ok.0, c.args.self.now.book.ids.ok.0) in
     stands_as _ _ _ _ _ _ other held c.close.ensures.host c.close.ensures.ids c.close.ensures.lines
     (remove_others c.args.self.now.host.now c.args.self.now.book.ids.items c.args.self.now.lines.items c.in-Some.place c.args.id even f.0 f.1 other held ne at)
+
+pub returns-clause-count : goal.returns-clause-count
+returns-clause-count c =
+    let f = found_at c.args.self.now.book.ids.items c.args.id c.in-Some.place (sym c.in-Some.ensures.value) in
+    let shorter = length-remove c.args.self.now.book.ids.items c.in-Some.place f.0 in
+    omega (arith, ap length c.close.ensures.ids, shorter)

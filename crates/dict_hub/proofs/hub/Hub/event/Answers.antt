@@ -1,13 +1,13 @@
 use Rattle.std.proofs.Common.{◌≡◌, ◌∙◌, ap, sym, subst, refl}
-use Rattle.std.specs.Prelude.{IfErr, IfOk}
+use Rattle.std.specs.Prelude.{IfErr, IfOk, true, false}
 use Rattle.dict_io.specs.Streams.{change}
 use Rattle.dict_hub.specs.Books.{IsRefusal, opening}
 use Rattle.dict_hub.specs.Hubs.{Has, count_of, greatest_of}
-use Rattle.dict_hub.specs.Events.{happening, opened, came, ended, id_of}
+use Rattle.dict_hub.specs.Events.{happening, asks_desk, opened, came, ended, id_of, count_after, held_after}
 use Rattle.dict_hub.specs.Runs.{LeadsOn}
 use Rattle.dict_hub.specs.declared.fault.HubFault.TheVariants.{UnknownConnection}
 use Rattle.dict_hub.proofs.EventLemmas.{refusal_of, serves_piece, own_piece}
-use Rattle.dict_hub.proofs.RunLemmas.{leads_on, serves_opened, serves_ended, own_ended, on_ok}
+use Rattle.dict_hub.proofs.RunLemmas.{leads_on, serves_opened, serves_ended, own_ended, on_ok, refused_unless, count_piece, count_ended, count_opened}
 use Rattle.dict_session.specs.Desks.{condition}
 use Rattle.dict_hub.proofs.hub.Hub.event.Goals as goal
 
@@ -40,7 +40,9 @@ returns-in-Opened-clause-leads g c = λ trusted origin start events state stands
     (λ held there. serves_opened c.args.self.now.host.now desk (g.K.Lookup.shows c.args.desk.now) (g.K.Lookup.leaves_one_of c.args.desk.now) (g.K.Lookup.leaves_one_of c.args.desk.now) stands.catalogue
     held c.in-Opened.id c.in-Opened.kind put.old put.new c.opened.result (record { shows = shown; leaves = λ ms before. before }) c.opened.ensures.greets)
     (λ held there. c.opened.ensures.own)
-    c.opened.ensures.others c.opened.ensures.greatest c.opened.ensures.host)
+    c.opened.ensures.others c.opened.ensures.greatest c.opened.ensures.host
+    (λ held there. c.opened.ensures.tests)
+    (λ held there. count_opened c.args.self.now (count_of c.opened.new.self) c.in-Opened.id c.in-Opened.kind held c.opened.result c.args.self.now.book.given there c.opened.ensures.tests c.opened.ensures.count))
 
 pub returns-in-Bytes-clause-leads : goal.returns-in-Bytes-clause-leads
 returns-in-Bytes-clause-leads g c = λ trusted origin start events state stands leads at shown here.
@@ -58,7 +60,11 @@ returns-in-Bytes-clause-leads g c = λ trusted origin start events state stands 
     (λ held there. own_piece c.bytes.new.self held what c.in-Bytes.id c.in-Bytes.piece.now c.bytes.result refl
     (λ none. c.bytes.ensures.unknown (subst (λ one. Has c.args.self.now c.in-Bytes.id one) none there))
     (λ one some. c.bytes.ensures.own trusted stands.catalogue shown one (subst (λ it. Has c.args.self.now c.in-Bytes.id it) some there)))
-    (on_ok c.bytes.result c.bytes.ensures.others) (on_ok c.bytes.result c.bytes.ensures.greatest) c.bytes.ensures.host)
+    (on_ok c.bytes.result c.bytes.ensures.others) (on_ok c.bytes.result c.bytes.ensures.greatest) c.bytes.ensures.host
+    (λ held there. refused_unless held c.bytes.result (λ none. c.bytes.ensures.unknown (subst (λ one. Has c.args.self.now c.in-Bytes.id one) none there)))
+    (λ held there. count_piece (count_of c.args.self.now) (count_of c.bytes.new.self) held c.in-Bytes.piece.now c.bytes.result
+    (λ none. c.bytes.ensures.unknown (subst (λ one. Has c.args.self.now c.in-Bytes.id one) none there))
+    (λ one some. c.bytes.ensures.count one (subst (λ it. Has c.args.self.now c.in-Bytes.id it) some there)) c.in-Bytes.id))
 
 pub returns-in-Ended-clause-leads : goal.returns-in-Ended-clause-leads
 returns-in-Ended-clause-leads g c = λ trusted origin start events state stands leads at shown here.
@@ -76,7 +82,10 @@ returns-in-Ended-clause-leads g c = λ trusted origin start events state stands 
     (λ held there. own_ended c.ended.new.self held c.in-Ended.id UnknownConnection c.ended.result
     (λ none. c.ended.ensures.unknown (subst (λ one. Has c.args.self.now c.in-Ended.id one) none there))
     (λ one some. (c.ended.ensures.known one (subst (λ it. Has c.args.self.now c.in-Ended.id it) some there)).1))
-    (on_ok c.ended.result c.ended.ensures.others) (on_ok c.ended.result c.ended.ensures.greatest) c.ended.ensures.host)
+    (on_ok c.ended.result c.ended.ensures.others) (on_ok c.ended.result c.ended.ensures.greatest) c.ended.ensures.host
+    (λ held there. refused_unless held c.ended.result (λ none. c.ended.ensures.unknown (subst (λ one. Has c.args.self.now c.in-Ended.id one) none there)))
+    (λ held there. count_ended (count_of c.args.self.now) (count_of c.ended.new.self) held c.ended.result
+    (λ none. c.ended.ensures.unknown (subst (λ one. Has c.args.self.now c.in-Ended.id one) none there)) c.ended.ensures.count c.in-Ended.id))
 
 pub returns-in-Opened-clause-opening : goal.returns-in-Opened-clause-opening
 returns-in-Opened-clause-opening g c = λ id kind is.
@@ -89,3 +98,33 @@ returns-in-Bytes-clause-opening g c = λ id kind is. absurd (let never : came c.
 
 pub returns-in-Ended-clause-opening : goal.returns-in-Ended-clause-opening
 returns-in-Ended-clause-opening g c = λ id kind is. absurd (let never : ended c.in-Ended.id ≡ opened id kind = sym (ap happening c.in-Ended.is) ∙ is in cc)
+
+pub returns-in-Opened-clause-count : goal.returns-in-Opened-clause-count
+returns-in-Opened-clause-count g c = λ held at.
+    let what = opened c.in-Opened.id c.in-Opened.kind in
+    let e : happening c.args.event ≡ what = ap happening c.in-Opened.is in
+    subst (λ it. IfOk c.opened.result (λ out. count_of c.opened.new.self ≡ count_after (count_of c.args.self.now) held (held_after held it out))) (sym e)
+    (count_opened c.args.self.now (count_of c.opened.new.self) c.in-Opened.id c.in-Opened.kind held c.opened.result c.args.self.now.book.given (subst (λ it. Has c.args.self.now (id_of it) held) e at)
+    c.opened.ensures.tests c.opened.ensures.count)
+
+pub returns-in-Bytes-clause-count : goal.returns-in-Bytes-clause-count
+returns-in-Bytes-clause-count g c = λ held at.
+    let what = came c.in-Bytes.id c.in-Bytes.piece.now in
+    let e : happening c.args.event ≡ what = ap happening c.in-Bytes.is in
+    let there : Has c.args.self.now c.in-Bytes.id held = subst (λ it. Has c.args.self.now (id_of it) held) e at in
+    subst (λ it. IfOk c.bytes.result (λ out. count_of c.bytes.new.self ≡ count_after (count_of c.args.self.now) held (held_after held it out))) (sym e)
+    (count_piece (count_of c.args.self.now) (count_of c.bytes.new.self) held c.in-Bytes.piece.now c.bytes.result
+    (λ none. c.bytes.ensures.unknown (subst (λ one. Has c.args.self.now c.in-Bytes.id one) none there))
+    (λ one some. c.bytes.ensures.count one (subst (λ it. Has c.args.self.now c.in-Bytes.id it) some there)) c.in-Bytes.id)
+
+pub returns-in-Ended-clause-count : goal.returns-in-Ended-clause-count
+returns-in-Ended-clause-count g c = λ held at.
+    let what = ended c.in-Ended.id in
+    let e : happening c.args.event ≡ what = ap happening c.in-Ended.is in
+    let there : Has c.args.self.now c.in-Ended.id held = subst (λ it. Has c.args.self.now (id_of it) held) e at in
+    subst (λ it. IfOk c.ended.result (λ out. count_of c.ended.new.self ≡ count_after (count_of c.args.self.now) held (held_after held it out))) (sym e)
+    (count_ended (count_of c.args.self.now) (count_of c.ended.new.self) held c.ended.result (λ none. c.ended.ensures.unknown (subst (λ one. Has c.args.self.now c.in-Ended.id one) none there))
+    c.ended.ensures.count c.in-Ended.id)
+
+pub returns-in-Bytes-clause-unasked : goal.returns-in-Bytes-clause-unasked
+returns-in-Bytes-clause-unasked g c = λ isnt. absurd (let never : true ≡ false = sym (ap (λ it. asks_desk (happening it)) c.in-Bytes.is) ∙ isnt in cc)

@@ -29,6 +29,7 @@ returns-clause-state g c = λ state at.
     record {
       host = at.host;
       greatest = at.greatest;
+      count = at.count;
       held = λ other. set_each c.args.self.now.host.now c.args.self.now.book.ids.items c.args.self.now.lines.items c.in-Some.place c.args.id c.index_mut.result.now c.foresee.new.self c.args.self.now.book.rising even f.0 f.1
           c.index_mut.ensures.value (λ one h. c.foresee.ensures.holds c.args.self.now.host.now c.args.id one h) other (state.held other) (at.held other);
     }

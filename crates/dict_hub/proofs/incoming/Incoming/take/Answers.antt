@@ -1,4 +1,9 @@
-use Rattle.std.proofs.Common.{◌≡◌, ◌<◌, ◌++◌, ℕ, List, length, refl, sym, ap, ◌∙◌, subst, arith, append_assoc}
+use Rattle.std.proofs.Common.{◌≡◌, ◌<◌, ◌++◌, ℕ, List, length, refl, sym, ap, ◌∙◌, subst, arith, append_assoc, inl, inr}
+use Rattle.std.specs.Prelude.{◌⊎◌, Result, Ok, Err}
+use Rattle.dict_io.specs.Streams.{Stream, Puts, PutsAll, PutsFront}
+use Rattle.dict_http.specs.Answers.{octets_of}
+use Rattle.dict_http.specs.Responding.{Responds}
+use Rattle.dict_http.specs.Settling.{Settles}
 use Rattle.std.proofs.lemmas.Grind.{common_steps}
 use Rattle.dict_head.specs.Heads.{Needs}
 use Rattle.dict_head.specs.Requests.{IsAwaited, IsReading}
@@ -45,3 +50,20 @@ respond-answer-requires g c = record {
   whole = λ given. needs_no_more c.deref.result.now c.read_request.result c.read_request.ensures c.in_default.not-More
       (subst (λ o. Needs o needs.More) (c.deref-2.ensures.value ∙ sym c.deref.ensures.value) given);
 }
+
+-- a call put all, or where it failed a front
+puts_either : {T E : Type 0} (result : Result T E) (old new : Stream) (octets : List ℕ) → Puts result old new octets → PutsAll old new octets ⊎ PutsFront old new octets
+puts_either (Ok value) old new octets puts = inl puts
+puts_either (Err fault) old new octets puts = inr puts
+
+pub returns-clause-answers : goal.returns-clause-answers
+returns-clause-answers g c = λ close trusted M shown.
+    let whole : c.extend_from_slice.new.self.items ≡ c.args.self.now.octets.items ++ c.args.piece.now
+    = grind (arith, common_steps, c.extend_from_slice.ensures.items, c.reserve.ensures.items, c.if-is_err-2.ensures.value) in
+    record {
+      whole = λ given. needs_no_more c.deref.result.now c.read_request.result c.read_request.ensures c.in_default.not-More (subst (λ o. Needs o needs.More) (sym (c.deref.ensures.value ∙ whole)) given);
+      answer = octets_of c.respond-answer.result;
+      responds = subst (λ o. Responds (g.K.Lookup.shows c.respond-answer.new.desk) (g.K.Lookup.leaves_one_of c.args.desk.now) (g.K.Lookup.leaves_one_of c.respond-answer.new.desk) M (Settles M o) (octets_of c.respond-answer.result))
+          (c.deref-2.ensures.value ∙ whole) (c.respond-answer.ensures.responds trusted M shown);
+      puts = puts_either c.put.result (g.S.Sink.stream c.args.sink.now) (g.S.Sink.stream c.put.new.sink) (octets_of c.respond-answer.result) c.put.ensures;
+    }

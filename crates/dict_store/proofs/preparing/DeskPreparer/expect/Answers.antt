@@ -1,4 +1,4 @@
-use Rattle.std.proofs.Common.{◌≡◌, ◌||◌, false, sym, ap, subst, ◌∙◌}
+use Rattle.std.proofs.Common.{◌≡◌, ◌||◌, false, sym, ap, subst, ◌∙◌, inr}
 use Rattle.std.specs.Prelude.{Ok, Err}
 use Rattle.sqlite.specs.Held.{state}
 use Rattle.sqlite.specs.State.{HasCleanDisk, KeepsCommit}
@@ -69,3 +69,6 @@ returns-in-Ok-clause-closed g c = open_closed {T = Unit {0}} c.args.self.now.las
 
 pub returns-in-Err-clause-closed : goal.returns-in-Err-clause-closed
 returns-in-Err-clause-closed g c = open_closed {T = Unit {0}} c.args.self.now.last (Err Memory) c.in_ok-withdraw.ensures.open tt
+
+pub returns-in-Ok-clause-told : goal.returns-in-Ok-clause-told
+returns-in-Ok-clause-told g c = inr (ap (λ (d : DeskState _). d.conn.in_transaction) c.self.view_is ∙ c.in_ok-withdraw.ensures.ended)
