@@ -3,7 +3,7 @@ use Rattle.std.proofs.Common.{◌≡◌, ◌≢◌, ◌<◌, ◌≤◌, ◌+◌,
 use Rattle.dict_index.specs.Edition.{Edition}
 use Rattle.dict_catalogue.specs.Commands.{Command}
 use Rattle.dict_desk.specs.declared.fault.Fault.{Fault}
-use Rattle.std.specs.Prelude.{Option, Some, Result}
+use Rattle.std.specs.Prelude.{Option, Result}
 use Rattle.std.specs.List.{AllPairs, filter}
 use Rattle.std.proofs.lemmas.Bool.{ne_eqb}
 use Rattle.std.proofs.lemmas.Bool.Decides.{eqb_tells}
@@ -197,7 +197,7 @@ pub record TurnUpTo {K T : Type 0} (stands : K → Condition) (expects : K → C
   pub closed : (k : ℕ) → k < i → (stands (get_or (from ∷ left) k from)).closed ≡ true → (stands (get_or left k from)).closed ≡ true
   pub within : i ≤ length old
   pub has_moved : moved ≡ any moves
-  pub prepares : preparing ≡ is_preparing old now i
+  pub is_now : preparing ≡ is_preparing old now i
   pub turns : (k : ℕ) (d : Connection T) → k < i → k < length old
       → Turns taken coming made (is_preparing old now k) (IsRefused refuses hub) (get_or old k d) (get_or now k d) (get_or moves k false) (events_of (get_or old k d).id events)
   pub caused : (k : ℕ) (d : Connection T) → k < i → k < length old → AreCausedBy (stands (get_or left k from)) (get_or old k d) (get_or now k d) (events_of (get_or old k d).id events)
@@ -210,7 +210,7 @@ pub record TurnUpTo {K T : Type 0} (stands : K → Condition) (expects : K → C
 
 pub turn_none : {K T : Type 0} (stands : K → Condition) (expects : K → Command Edition → K → Type 0) (prepares : K → Result Bool Fault → K → Type 0) (taken coming : T → Option (List ℕ)) (made : T → Option (List Call)) (refuses : Hub → ℕ → Kind → Option HubFault → Type 0) (hub : Hub) (from : K) (all : List (Connection T)) (preparing : Bool) → preparing ≡ any_held_back all → TurnUpTo stands expects prepares taken coming made refuses hub from from all all 0 preparing false []
 turn_none stands expects prepares taken coming made refuses hub from all preparing is = record {
-  prepares = is ∙ sym (or_false (any_held_back all));
+  is_now = is ∙ sym (or_false (any_held_back all));
   len = refl;
   moves = [];
   count = refl;
@@ -238,11 +238,11 @@ front_desk : {K : Type 0} (left : List K) (to : K) (k : ℕ) (d : K) → k < len
 front_desk left to k d under = get_or_append_left left (to ∷ []) d k under
 
 -- one more connection had its turn
-pub turn_more : {K T : Type 0} (stands : K → Condition) (expects : K → Command Edition → K → Type 0) (prepares : K → Result Bool Fault → K → Type 0) (taken coming : T → Option (List ℕ)) (made : T → Option (List Call)) (refuses : Hub → ℕ → Kind → Option HubFault → Type 0) (hub between : Hub) (from mid to : K) (old now : List (Connection T)) (i : ℕ) (one after : Connection T) (preparing prepares before here both : Bool) (es fs : List Accepted)
-    → AllPairs (λ a b. a.id < b.id) old → i < length old → get_or now i one ≡ one → prepares ≡ preparing || is_held_back after.held → both ≡ before || here → KeepsFrom old i hub between
+pub turn_more : {K T : Type 0} (stands : K → Condition) (expects : K → Command Edition → K → Type 0) (prepares : K → Result Bool Fault → K → Type 0) (taken coming : T → Option (List ℕ)) (made : T → Option (List Call)) (refuses : Hub → ℕ → Kind → Option HubFault → Type 0) (hub between : Hub) (from mid to : K) (old now : List (Connection T)) (i : ℕ) (one after : Connection T) (preparing later before here both : Bool) (es fs : List Accepted)
+    → AllPairs (λ a b. a.id < b.id) old → i < length old → get_or now i one ≡ one → later ≡ preparing || is_held_back after.held → both ≡ before || here → KeepsFrom old i hub between
     → Turns taken coming made preparing (IsRefused refuses between) one after here fs → AreCausedBy (stands to) one after fs → HoldsBack expects prepares between mid to one after → ((stands mid).closed ≡ true → (stands to).closed ≡ true)
-    → TurnUpTo stands expects prepares taken coming made refuses hub from mid old now i preparing before es → TurnUpTo stands expects prepares taken coming made refuses hub from to old (set now i after) (i + 1) prepares both (es ++ fs)
-turn_more {K} {T} stands expects prepares taken coming made refuses hub between from mid to old now i one after preparing prepares before here both es fs rising within is holds moved keeps over cause back shuts all =
+    → TurnUpTo stands expects prepares taken coming made refuses hub from mid old now i preparing before es → TurnUpTo stands expects prepares taken coming made refuses hub from to old (set now i after) (i + 1) later both (es ++ fs)
+turn_more {K} {T} stands expects prepares taken coming made refuses hub between from mid to old now i one after preparing later before here both es fs rising within is holds moved keeps over cause back shuts all =
     let len = all.len in
     let count = all.count in
     let in_now : i < length now = omega arith in
@@ -264,7 +264,7 @@ turn_more {K} {T} stands expects prepares taken coming made refuses hub between 
       count = length-append all.moves (here ∷ []) ∙ ap (λ n. n + 1) count;
       within = omega (arith, within);
       has_moved = moved ∙ ap (λ b. b || here) all.has_moved ∙ sym (any_more all.moves here);
-      prepares = preparing_more old now i after preparing prepares in_now all.prepares holds;
+      is_now = preparing_more old now i after preparing later in_now all.is_now holds;
       turns = λ k d under below. elim (eqb_tells k i) [
         | inl same ↦
             let at : get_or old k d ≡ one = ap (λ (j : ℕ). get_or old j d) same.1 ∙ was d in
@@ -273,7 +273,7 @@ turn_more {K} {T} stands expects prepares taken coming made refuses hub between 
             = events_joined one.id es fs ∙ ap (λ l. l ++ events_of one.id fs) (below_none one.id es less) ∙ own_all one.id fs turns.own in
             let last : get_or (all.moves ++ here ∷ []) k false ≡ here = last_move all.moves k here (same.1 ∙ sym count) in
             let front : take k (set now i after) ≡ take k now = take-set-le k now i after (omega (arith, same.1)) in
-            let were : preparing ≡ is_preparing old now k = all.prepares ∙ ap (λ (j : ℕ). is_preparing old now j) (sym same.1) in
+            let were : preparing ≡ is_preparing old now k = all.is_now ∙ ap (λ (j : ℕ). is_preparing old now j) (sym same.1) in
             rw (front, get_or-set_at now i k after d same.1 in_now, at, events, last) (subst (λ (b : Bool). Turns taken coming made b (IsRefused refuses hub) one after here fs) were turns)
         | inr other ↦
             let earlier : k < i = omega (arith, under, other.1) in
