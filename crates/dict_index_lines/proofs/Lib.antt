@@ -1,0 +1,5 @@
+pub mod OctetLemmas
+pub mod SpellingLemmas
+pub mod ColumnLemmas
+pub mod StoredLemmas
+pub mod IndexLemmas

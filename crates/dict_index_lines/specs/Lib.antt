@@ -1,0 +1,4 @@
+pub mod Spelling
+pub mod Stored
+pub mod Views
+pub mod Appended
