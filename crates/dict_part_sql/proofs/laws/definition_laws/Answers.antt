@@ -1,0 +1,14 @@
+use Rattle.dict_part_sql.proofs.DefinitionLemmas.{part_defined, from_store, from_keyed, from_helper}
+use Rattle.dict_part_sql.proofs.laws.definition_laws.Goals as goal
+
+pub returns-clause-part : goal.returns-clause-part
+returns-clause-part c = part_defined
+
+pub returns-clause-store : goal.returns-clause-store
+returns-clause-store c = from_store
+
+pub returns-clause-keyed : goal.returns-clause-keyed
+returns-clause-keyed c = from_keyed
+
+pub returns-clause-helper : goal.returns-clause-helper
+returns-clause-helper c = from_helper
