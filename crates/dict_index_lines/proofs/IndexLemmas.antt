@@ -1,5 +1,5 @@
 -- Stored lines one after another.
-use Rattle.std.proofs.Common.{◌≡◌, ℕ, List, [], ◌∷◌, ◌++◌, length, map, refl, ap, sym, ◌∙◌, arith, false, eqb, append-nil, append_assoc}
+use Rattle.std.proofs.Common.{◌≡◌, ◌≢◌, ℕ, List, [], ◌∷◌, ◌++◌, length, map, refl, ap, sym, ◌∙◌, subst, arith, false, eqb, append-nil, append_assoc}
 use Rattle.std.proofs.lemmas.Bool.Decides.{nat_tests}
 use Rattle.std.specs.List.{AllByRecursion}
 use Rattle.dict_text.specs.Lines.{text_lines, onto_first_line}
@@ -45,6 +45,31 @@ says_one_list lines others h k e =
     none : (more : List Line) → [] ≡ stored_index more → more ≡ []
     none [] e = refl
     none (said ∷ more) e = absurd (nothing_in_front (stored_line said) (stored_index more) (e ∙ first_and_others said more))
+
+-- one line more behind others
+pub pushed : (front : List Line) (said : Line) → stored_index (front ++ said ∷ []) ≡ stored_index front ++ (stored_line said ++ 10 ∷ [])
+pushed [] said = append-nil (stored_line said ++ 10 ∷ [])
+pushed (x ∷ front) said = ap (λ l. (stored_line x ++ 10 ∷ []) ++ l) (pushed front said) ∙ sym (append_assoc (stored_line x ++ 10 ∷ []) (stored_index front) (stored_line said ++ 10 ∷ []))
+
+pub one_more : (front : List Line) (said : Line) (behind : List ℕ) → stored_index front ++ (stored_line said ++ 10 ∷ behind) ≡ stored_index (front ++ said ∷ []) ++ behind
+one_more front said behind =
+    sym (ap (λ l. l ++ behind) (pushed front said)
+    ∙ (append_assoc (stored_index front) (stored_line said ++ 10 ∷ []) behind ∙ ap (λ l. stored_index front ++ l) (append_assoc (stored_line said) (10 ∷ []) behind)))
+
+all_behind : (front more : List Line) → AllByRecursion IsStorable (front ++ more) → AllByRecursion IsStorable more
+all_behind [] more all = all
+all_behind (x ∷ front) more all = all_behind front more all.1
+
+-- what is left and doesn't begin with a stored line is the end of no index
+pub no_more : (front lines : List Line) (rest : List ℕ) → AllByRecursion IsStorable front → AllByRecursion IsStorable lines → rest ≢ []
+    → ((said : Line) (behind : List ℕ) → IsStorable said → rest ≢ stored_line said ++ 10 ∷ behind) → stored_index lines ≢ stored_index front ++ rest
+no_more front lines rest h k some none e =
+    let others = goes_on front lines rest h k e in
+    at others.0 (all_behind front others.0 (subst (AllByRecursion IsStorable) others.1 k)) others.2
+  where
+    at : (more : List Line) → AllByRecursion IsStorable more → rest ≡ stored_index more → ⊥
+    at [] all is = some is
+    at (said ∷ more) all is = none said (stored_index more) all.0 (is ∙ first_and_others said more)
 
 -- what was put of a line, piece by piece
 pub put_pieces : (before h o s f one two three four five : List ℕ) → one ≡ before ++ h → two ≡ one ++ 9 ∷ o → three ≡ two ++ 9 ∷ s → four ≡ three ++ f → five ≡ four ++ 10 ∷ []

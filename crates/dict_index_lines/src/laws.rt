@@ -1,5 +1,5 @@
 // What holds of every stored line, and of every index of such lines.
-ghost use Rattle.std.specs.Prelude.{◌≡◌, ◌≢◌, ◌+◌, ◌≤◌, ◌^◌, ◌<◌, ◌++◌, ℕ, List, length, map, Some};
+ghost use Rattle.std.specs.Prelude.{◌≡◌, ◌≢◌, ◌+◌, ◌≤◌, ◌^◌, ◌<◌, ◌++◌, ◌∷◌, [], ℕ, List, length, map, Some};
 ghost use Rattle.std.specs.List.{AllByRecursion};
 ghost use Rattle.dict_b64.specs.Number.{Spells};
 ghost use Rattle.dict_text.specs.Lines.{text_lines};
@@ -25,7 +25,8 @@ pub fn stored_lines()
 {}
 
 /// The lines of a stored index are the stored ones, in order, so it says one list of lines; and what goes on from the lines of
-/// a front is the index of the others.
+/// a front is the index of the others: of one more, where that is written or read behind them, and of none, where what is left
+/// doesn't begin with a stored line.
 ///
 /// It does nothing. Its clauses are the law.
 pub fn stored_indexes()
@@ -33,4 +34,8 @@ pub fn stored_indexes()
     ensures says_one { (lines others : List Line) → AllByRecursion IsStorable lines → AllByRecursion IsStorable others → stored_index lines ≡ stored_index others → lines ≡ others }
     ensures goes_on { (front lines : List Line) (rest : List ℕ) → AllByRecursion IsStorable front → AllByRecursion IsStorable lines → stored_index lines ≡ stored_index front ++ rest →
         (more : List Line) × (lines ≡ front ++ more) × (rest ≡ stored_index more) }
+    ensures pushed { (front : List Line) (said : Line) → stored_index (front ++ said ∷ []) ≡ stored_index front ++ (stored_line said ++ 10 ∷ []) }
+    ensures one_more { (front : List Line) (said : Line) (behind : List ℕ) → stored_index front ++ (stored_line said ++ 10 ∷ behind) ≡ stored_index (front ++ said ∷ []) ++ behind }
+    ensures no_more { (front lines : List Line) (rest : List ℕ) → AllByRecursion IsStorable front → AllByRecursion IsStorable lines → rest ≢ [] →
+        ((said : Line) (behind : List ℕ) → IsStorable said → rest ≢ stored_line said ++ 10 ∷ behind) → stored_index lines ≢ stored_index front ++ rest }
 {}

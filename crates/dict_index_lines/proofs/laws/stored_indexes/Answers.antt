@@ -1,4 +1,4 @@
-use Rattle.dict_index_lines.proofs.IndexLemmas.{lines_of_index, says_one_list, goes_on}
+use Rattle.dict_index_lines.proofs.IndexLemmas.{lines_of_index, says_one_list, goes_on, pushed, one_more, no_more}
 use Rattle.dict_index_lines.proofs.laws.stored_indexes.Goals as goal
 
 pub returns-clause-lines : goal.returns-clause-lines
@@ -9,3 +9,12 @@ returns-clause-says_one c = says_one_list
 
 pub returns-clause-goes_on : goal.returns-clause-goes_on
 returns-clause-goes_on c = goes_on
+
+pub returns-clause-pushed : goal.returns-clause-pushed
+returns-clause-pushed c = pushed
+
+pub returns-clause-one_more : goal.returns-clause-one_more
+returns-clause-one_more c = one_more
+
+pub returns-clause-no_more : goal.returns-clause-no_more
+returns-clause-no_more c = no_more
