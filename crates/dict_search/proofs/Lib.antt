@@ -1,0 +1,5 @@
+pub mod ListLemmas
+pub mod PieceLemmas
+pub mod PlaceLemmas
+pub mod PlacedLemmas
+pub mod RunLemmas

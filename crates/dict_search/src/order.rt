@@ -1,0 +1,100 @@
+//! Places in the order of their texts, and those whose text lies between two others.
+ghost use Rattle.std.specs.Prelude.{◌≡◌, length, map, filter, reverse, IfOk};
+ghost use Rattle.std.specs.List.{range_with_len};
+ghost use Rattle.std.specs.Ordering.{is_lt, is_le};
+ghost use Rattle.dict_derived.specs.Derived.{octets_cmp};
+ghost use Rattle.dict_search.specs.Places.{key_at, places_where};
+ghost use Rattle.dict_search.specs.Orders.{place_cmp, IsOrderOf};
+ghost use Rattle.dict_search.specs.Selected.{is_between};
+
+use crate::texts::Texts;
+use std::alloc::{AllocError, Global};
+use std::cmp::Ordering;
+
+/// The places of all texts, in the order of the texts' octets, and of the places where these are the same.
+pub(crate) fn sorted_places(
+    alloc: Global,
+    texts: &Texts,
+    count: u32,
+) -> Result<Vec<u32>, AllocError>
+    requires { count ≡ length texts.now }
+    ensures { IfOk result (λ places. IsOrderOf texts.now places.items) }
+{
+    let mut places = first_places(alloc, count)?;
+    places.sort_unstable_by(|a, b| compare(texts, *a, *b));
+    Ok(places)
+}
+
+/// The places below `count`.
+pub(crate) fn first_places(alloc: Global, count: u32) -> Result<Vec<u32>, AllocError>
+    ensures { IfOk result (λ places. places.items ≡ range_with_len 0 count) }
+{
+    (0..count).collect(alloc)
+}
+
+fn compare(texts: &Texts, a: u32, b: u32) -> Ordering
+    ensures { result ≡ place_cmp texts.now a b }
+{
+    let one = texts.get(a as usize);
+    let other = texts.get(b as usize);
+    one.cmp(other).then(a.cmp(&b))
+}
+
+/// The texts, each with its octets in reverse order.
+pub(crate) fn reversed_texts(alloc: Global, texts: &Texts) -> Result<Texts, AllocError>
+    ensures { IfOk result (λ turned. turned ≡ map reverse texts.now) }
+{
+    let mut all = Texts::new(alloc);
+    for at in 0..texts.len() {
+        let turned = reversed(alloc, texts.get(at))?;
+        all.push(turned.as_slice())?;
+    }
+    Ok(all)
+}
+
+fn reversed(alloc: Global, octets: &[u8]) -> Result<Vec<u8>, AllocError>
+    ensures { IfOk result (λ turned. turned.items ≡ reverse octets.now) }
+{
+    octets.iter().rev().copied().collect(alloc)
+}
+
+/// The places whose text lies between both ends, which are taken in, rising.
+pub(crate) fn places_between(
+    alloc: Global,
+    texts: &Texts,
+    sorted: &[u32],
+    low: &[u8],
+    high: &[u8],
+) -> Result<Vec<u32>, AllocError>
+    requires { IsOrderOf texts.now sorted.now }
+    ensures { IfOk result (λ places. places.items ≡ places_where (is_between low.now high.now) texts.now) }
+{
+    let run = run_between(texts, sorted, low, high);
+    let mut places = Vec::from_slice(alloc, run)?;
+    places.sort_unstable();
+    Ok(places)
+}
+
+/// Those of the sorted places whose text lies between both ends.
+fn run_between<'a>(texts: &Texts, sorted: &'a [u32], low: &[u8], high: &[u8]) -> &'a [u32]
+    requires { IsOrderOf texts.now sorted.now }
+    ensures { result.now ≡ filter (λ place. is_between low.now high.now (key_at texts.now place)) sorted.now }
+{
+    let from = sorted.partition_point(|place| is_before(texts, *place, low));
+    let (_, rest) = sorted.split_at(from);
+    let count = rest.partition_point(|place| is_up_to(texts, *place, high));
+    let (run, _) = rest.split_at(count);
+    run
+}
+
+fn is_before(texts: &Texts, place: u32, low: &[u8]) -> bool
+    ensures { result ≡ is_lt (octets_cmp (key_at texts.now place) low.now) }
+{
+    texts.get(place as usize).cmp(low).is_lt()
+}
+
+fn is_up_to(texts: &Texts, place: u32, high: &[u8]) -> bool
+    ensures { result ≡ is_le (octets_cmp (key_at texts.now place) high.now) }
+{
+    texts.get(place as usize).cmp(high).is_le()
+}

@@ -1,0 +1,162 @@
+//! The pieces of keys, each once with the places of the keys that have it.
+ghost use Rattle.std.specs.Prelude.{◌≡◌, ◌<◌, ◌++◌, ◌∷◌, ◌&&◌, [], ℕ, Bool, List, IfOk, OnOk, MatchOption, length, slice_index_or, if◌then◌else◌, nat_eq};
+ghost use Rattle.std.specs.List.{Contains, list_any};
+ghost use Rattle.std.specs.List.Sorted.{IsStrictlySortedBy, IsStrictlyIncreasing};
+ghost use Rattle.dict_match.specs.Words.{words_between_blanks};
+ghost use Rattle.dict_derived.specs.Derived.{grams, octets_cmp};
+ghost use Rattle.dict_search.specs.Places.{places_where};
+ghost use Rattle.dict_search.specs.Selected.{has_piece};
+ghost use Rattle.dict_search.specs.Pieces.{pairs_of, ends_with_piece, AreOccurrences, ArePlaced};
+ghost use Rattle.dict_search.specs.PlacedPieces.{words_placed, grams_placed};
+
+use crate::lists::PlaceLists;
+use crate::placed::{PlacedGram, PlacedWord, sorted_grams, sorted_words};
+use crate::texts::Texts;
+use std::alloc::{AllocError, Global};
+use std::cmp::Ordering;
+
+/// Pieces that rise, and for each the places of the keys that have it.
+#[derive(Drop)]
+pub(crate) struct Pieces {
+    pub texts: Texts,
+    pub lists: PlaceLists,
+}
+
+/// The words of these keys. The only error is refused memory.
+pub(crate) fn words_of(alloc: Global, keys: &Texts, count: u32) -> Result<Pieces, AllocError>
+    requires { count ≡ length keys.now }
+    ensures { IfOk result (λ pieces. ArePlaced words_between_blanks keys.now pieces.texts pieces.lists) }
+{
+    let placed = sorted_words(alloc, keys, count)?;
+    let mut texts = Texts::new(alloc);
+    let mut lists = PlaceLists::new(alloc);
+    group_words(&mut texts, &mut lists, placed.as_slice())?;
+    Ok(Pieces { texts, lists })
+}
+
+/// The runs of three octets of these keys. The only error is refused memory.
+pub(crate) fn grams_of(alloc: Global, keys: &Texts, count: u32) -> Result<Pieces, AllocError>
+    requires { count ≡ length keys.now }
+    ensures { IfOk result (λ pieces. ArePlaced grams keys.now pieces.texts pieces.lists) }
+{
+    let placed = sorted_grams(alloc, keys, count)?;
+    let mut texts = Texts::new(alloc);
+    let mut lists = PlaceLists::new(alloc);
+    group_grams(&mut texts, &mut lists, placed.as_slice())?;
+    Ok(Pieces { texts, lists })
+}
+
+/// Groups words that are in order, each with the places that stand beside it.
+fn group_words(
+    texts: &mut Texts,
+    lists: &mut PlaceLists,
+    placed: &[PlacedWord],
+) -> Result<(), AllocError>
+    requires texts { texts.old ≡ [] }
+    requires lists { lists.old ≡ [] }
+    ensures { OnOk result ((keys : List (List ℕ)) → AreOccurrences words_between_blanks keys (words_placed placed.now) → ArePlaced words_between_blanks keys texts.new lists.new) }
+{
+    for one in placed {
+        put(texts, lists, one.word, one.place)?;
+    }
+    Ok(())
+}
+
+/// Groups runs of three octets that are in order, each with the places that stand beside it.
+fn group_grams(
+    texts: &mut Texts,
+    lists: &mut PlaceLists,
+    placed: &[PlacedGram],
+) -> Result<(), AllocError>
+    requires texts { texts.old ≡ [] }
+    requires lists { lists.old ≡ [] }
+    ensures { OnOk result ((keys : List (List ℕ)) → AreOccurrences grams keys (grams_placed placed.now) → ArePlaced grams keys texts.new lists.new) }
+{
+    for one in placed {
+        put(texts, lists, one.gram.as_slice(), one.place)?;
+    }
+    Ok(())
+}
+
+/// Puts a place behind those of a piece that is the last one, or comes behind it.
+fn put(
+    texts: &mut Texts,
+    lists: &mut PlaceLists,
+    piece: &[u8],
+    place: u32,
+) -> Result<(), AllocError>
+    requires { length texts.old ≡ length lists.old }
+    ensures pairs { OnOk result (pairs_of texts.new lists.new ≡ pairs_of texts.old lists.old ++ (piece.now, place) ∷ []) }
+    ensures texts { OnOk result (texts.new ≡ (if ends_with_piece texts.old piece.now then texts.old else texts.old ++ piece.now ∷ [])) }
+    ensures same { OnOk result (length texts.new ≡ length lists.new) }
+{
+    if is_last(texts, piece) {
+        return lists.push_last(place);
+    }
+    texts.push(piece)?;
+    lists.push_new(place)
+}
+
+/// Whether the piece is the last of the texts.
+fn is_last(texts: &Texts, piece: &[u8]) -> bool
+    ensures { result ≡ ends_with_piece texts.now piece.now }
+{
+    let count = texts.len();
+    count > 0 && texts.get(count - 1) == piece
+}
+
+impl Pieces {
+    /// The places of the keys that have the piece, rising.
+    pub(crate) fn places(&self, piece: &[u8]) -> &[u32]
+        requires { IsStrictlySortedBy octets_cmp self.now.texts }
+        ensures { (pieces_in : List ℕ → List (List ℕ)) (keys : List (List ℕ)) → ArePlaced pieces_in keys self.now.texts self.now.lists → result.now ≡ places_where (has_piece pieces_in piece.now) keys }
+    {
+        match place_of(&self.texts, piece) {
+            Some(at) => self.lists.get(at),
+            None => &[],
+        }
+    }
+}
+
+/// Where a text stands among those that rise, if it does.
+fn place_of(texts: &Texts, wanted: &[u8]) -> Option<usize>
+    requires { IsStrictlySortedBy octets_cmp texts.now }
+    ensures { MatchOption result (Contains texts.now wanted.now → ⊥) (λ at. (at < length texts.now) × (slice_index_or texts.now at [] ≡ wanted.now)) }
+{
+    let mut low = 0;
+    let mut high = texts.len();
+    while low < high {
+        let middle = low + (high - low) / 2;
+        match texts.get(middle).cmp(wanted) {
+            Ordering::Less => low = middle + 1,
+            Ordering::Equal => return Some(middle),
+            Ordering::Greater => high = middle,
+        }
+    }
+    None
+}
+
+/// The places that both lists have, rising. The second one is searched for each of the first: so the first is to be the
+/// shorter one. The only error is refused memory.
+pub(crate) fn common_places(
+    alloc: Global,
+    fewer: &[u32],
+    more: &[u32],
+) -> Result<Vec<u32>, AllocError>
+    ensures { IfOk result (λ both. (p q : List ℕ → Bool) (keys : List (List ℕ)) → fewer.now ≡ places_where p keys → more.now ≡ places_where q keys → both.items ≡ places_where (λ key. p key && q key) keys) }
+{
+    let mut both = Vec::new(alloc);
+    for place in fewer {
+        if is_among(more, *place) {
+            both.push(*place)?;
+        }
+    }
+    Ok(both)
+}
+
+/// Whether a place is among others, which rise.
+fn is_among(others: &[u32], place: u32) -> bool
+    ensures { IsStrictlyIncreasing others.now → result ≡ list_any (nat_eq place) others.now }
+{
+    others.binary_search(&place).is_ok()
+}

@@ -1,0 +1,88 @@
+//! All words and all runs of three octets of keys, each with the place of its key.
+ghost use Rattle.std.specs.Prelude.{◌≡◌, ◌+◌, ◌-◌, ◌<◌, ◌≤◌, ◌^◌, ◌++◌, ◌↔◌, IfOk, OnOk, length, map, ℕ, List};
+ghost use Rattle.std.specs.List.{Contains};
+ghost use Rattle.std.specs.List.Sorted.{IsStrictlySortedBy};
+ghost use Rattle.dict_match.specs.Words.{words_between_blanks};
+ghost use Rattle.dict_derived.specs.Derived.{grams};
+ghost use Rattle.dict_search.specs.Pieces.{Placed, at_place, occurrences_from, pair_cmp, AreOccurrences};
+ghost use Rattle.dict_search.specs.PlacedPieces.{words_placed, grams_placed};
+
+use crate::texts::Texts;
+use dict_match::words;
+use std::alloc::{AllocError, Global};
+
+/// A word of the key at a place.
+#[derive(Clone, Copy, Debug, PartialEq, Eq, PartialOrd, Ord)]
+pub(crate) struct PlacedWord<'a> {
+    pub word: &'a [u8],
+    pub place: u32,
+}
+
+/// A run of three octets of the key at a place.
+#[derive(Clone, Copy, Debug, PartialEq, Eq, PartialOrd, Ord)]
+pub(crate) struct PlacedGram {
+    pub gram: [u8; 3],
+    pub place: u32,
+}
+
+/// Puts the words of the key at a place behind the list, each as often as it stands there.
+fn add_words<'a>(
+    list: &mut Vec<PlacedWord<'a>>,
+    key: &'a [u8],
+    place: u32,
+) -> Result<(), AllocError>
+    ensures { OnOk result (words_placed list.new.items ≡ words_placed list.old.items ++ map (at_place place) (words_between_blanks key.now)) }
+{
+    for word in words(key) {
+        list.push(PlacedWord { word, place })?;
+    }
+    Ok(())
+}
+
+/// Puts the runs of three octets of the key at a place behind the list, each as often as it stands there.
+fn add_grams(list: &mut Vec<PlacedGram>, key: &[u8], place: u32) -> Result<(), AllocError>
+    ensures { OnOk result (grams_placed list.new.items ≡ grams_placed list.old.items ++ map (at_place place) (grams key.now)) }
+{
+    for end in 3..key.len() + 1 {
+        let gram = [key[end - 3], key[end - 2], key[end - 1]];
+        list.push(PlacedGram { gram, place })?;
+    }
+    Ok(())
+}
+
+/// Each word of each key, with the place of its key, in the order of the words and then of the places, once. The only
+/// error is refused memory.
+pub(crate) fn sorted_words<'a>(
+    alloc: Global,
+    keys: &'a Texts,
+    count: u32,
+) -> Result<Vec<PlacedWord<'a>>, AllocError>
+    requires { count ≡ length keys.now }
+    ensures { IfOk result (λ list. AreOccurrences words_between_blanks keys.now (words_placed list.items)) }
+{
+    let mut list = Vec::new(alloc);
+    for place in 0..count {
+        add_words(&mut list, keys.get(place as usize), place)?;
+    }
+    list.sort_unstable();
+    list.dedup();
+    Ok(list)
+}
+
+/// The same of each run of three octets of each key.
+pub(crate) fn sorted_grams(
+    alloc: Global,
+    keys: &Texts,
+    count: u32,
+) -> Result<Vec<PlacedGram>, AllocError>
+    requires { count ≡ length keys.now }
+    ensures { IfOk result (λ list. AreOccurrences grams keys.now (grams_placed list.items)) }
+{
+    let mut list = Vec::new(alloc);
+    for place in 0..count {
+        add_grams(&mut list, keys.get(place as usize), place)?;
+    }
+    list.sort_unstable();
+    list.dedup();
+    Ok(list)
+}
