@@ -1,5 +1,9 @@
+pub mod EditionLemmas
+pub mod IndexLemmas
 pub mod ListLemmas
 pub mod PieceLemmas
 pub mod PlaceLemmas
 pub mod PlacedLemmas
 pub mod RunLemmas
+pub mod ShownLemmas
+pub mod StoredLemmas

@@ -1,5 +1,5 @@
 -- Pairs of a piece and a place, grouped by pieces; and a piece looked for among those that rise.
-use Rattle.std.proofs.Common.{◌≡◌, ◌↔◌, ℕ, zero, suc, ◌+◌, ◌-◌, ◌<◌, ◌≤◌, Bool, true, false, cond, ◌&&◌, List, [], ◌∷◌, ◌++◌, map, take, drop, length, get_or, filter, refl, ap, sym, ◌∙◌, subst, inl, inr, ◌⊎◌, arith, append_assoc, append-nil, length-append, nat_eq, nat_lt, Result, Ok, Err}
+use Rattle.std.proofs.Common.{◌≡◌, ◌↔◌, ℕ, zero, suc, ◌+◌, ◌-◌, ◌<◌, ◌≤◌, Bool, true, false, cond, ◌&&◌, List, [], ◌∷◌, ◌++◌, map, take, length, get_or, filter, refl, ap, sym, ◌∙◌, subst, inl, inr, arith, append_assoc, append-nil, length-append, nat_eq, nat_lt, Result, Ok, Err}
 use Rattle.std.specs.Bool.{Decides}
 use Rattle.std.specs.Result.{MatchResult, OnOk, is_ok}
 use Rattle.std.specs.declared.cmp.Ordering.{Ordering}
@@ -10,13 +10,13 @@ use Rattle.std.specs.List.Sorted.{IsBinarySearchResult, IsStrictlySortedBy, IsSt
 use Rattle.std.specs.Str.{bytes_eq}
 use Rattle.std.proofs.lemmas.Bool.{false≢true, cases_lt}
 use Rattle.std.proofs.lemmas.Bool.Decides.{nat_tests}
-use Rattle.std.proofs.lemmas.Cmp.{nat_cmp_total, nat_list_cmp_total, tied_itself, on_total, then_total}
-use Rattle.std.proofs.lemmas.List.{map-append, take_more, take_all, length-map, get_or-map, get_or_append_left, get_or_default, get_or_push, get_or_past, length-take-le, length_push, get_or-take}
-use Rattle.std.proofs.lemmas.List.Elements.{filter_more, Contains-get_or, Contains-append_left, Contains-append_right, Contains-append_cases}
+use Rattle.std.proofs.lemmas.Cmp.{nat_list_cmp_total, tied_itself}
+use Rattle.std.proofs.lemmas.List.{map-append, take_more, take_all, length-map, get_or-map, get_or_append_left, get_or_default, get_or_push, length-take-le}
+use Rattle.std.proofs.lemmas.List.Elements.{filter_more, Contains-append_left, Contains-append_right, Contains-append_cases}
 use Rattle.std.proofs.lemmas.List.FromFn.{length-range_with_len, get_or-range_with_len}
 use Rattle.std.proofs.lemmas.List.Kept.{IsStrictlyIncreasing-filter}
 use Rattle.std.proofs.lemmas.List.Sorted.{searched}
-use Rattle.std.proofs.lemmas.Map.Keys.{non_decreasing_from_sorted, sorted_head, sorted_tail, sorted_from_strictly_increasing, sorted_from_all_adjacent, Less-from_sorted}
+use Rattle.std.proofs.lemmas.Map.Keys.{non_decreasing_from_sorted, sorted_tail, sorted_from_strictly_increasing, sorted_from_all_adjacent, Less-from_sorted}
 use Rattle.std.proofs.lemmas.Map.Lookups.{exact_bytes}
 use Rattle.std.proofs.lemmas.Map.Made.{is_member-Decides}
 use Rattle.std.proofs.lemmas.Slice.Eq.{bytes_eq-Decides}
@@ -64,12 +64,12 @@ pairs_grown pieces lists lists' piece place same some is grows =
     let here = map (with_piece p) l in
     let before : pairs_of pieces lists ≡ pairs_of ps ls ++ here = ap (λ x. pairs_of x lists) pieces_is ∙ ap (pairs_of (ps ++ p ∷ [])) lists_is ∙ pairs_more ps ls p l alike in (
       ap (λ x. pairs_of x lists') pieces_is
-      ∙ ap (pairs_of (ps ++ p ∷ [])) now
-      ∙ pairs_more ps ls p (l ++ place ∷ []) alike
-      ∙ ap (λ x. pairs_of ps ls ++ x) (map-append (with_piece p) l (place ∷ []))
-      ∙ sym (append_assoc (pairs_of ps ls) here ((p, place) ∷ []))
-      ∙ ap (λ x. x ++ (p, place) ∷ []) (sym before)
-      ∙ ap (λ w. pairs_of pieces lists ++ (w, place) ∷ []) is,
+          ∙ ap (pairs_of (ps ++ p ∷ [])) now
+          ∙ pairs_more ps ls p (l ++ place ∷ []) alike
+          ∙ ap (λ x. pairs_of ps ls ++ x) (map-append (with_piece p) l (place ∷ []))
+          ∙ sym (append_assoc (pairs_of ps ls) here ((p, place) ∷ []))
+          ∙ ap (λ x. x ++ (p, place) ∷ []) (sym before)
+          ∙ ap (λ w. pairs_of pieces lists ++ (w, place) ∷ []) is,
       omega (arith, ap length now, length-append ls ((l ++ place ∷ []) ∷ []), but_last_size lists some_too, same, some),
     )
 
@@ -180,13 +180,13 @@ next_grouped pairs i pieces lists pieces' lists' q up lt at old put is same = re
     by false e =
         let size = length-append pieces (q.0 ∷ []) in (
           rising_push pieces q.0 old.rising (λ some.
-          let before : 0 < i = elim (cases_lt 0 i) [ inl less ↦ less | inr le ↦ absurd (omega (arith, some, old.none (omega arith))) ] in
-          let of_last : get_or pieces (length pieces - 1) [] ≡ (get_or pairs (i - 1) q).0 = (old.last q before).1 in
-          let down : pair_cmp (get_or pairs (i - 1) q) (get_or pairs i q) ≡ Less = Less-from_sorted pair_cmp pairs (i - 1) i q up (omega arith) lt in
-          let of_this : (get_or pairs i q).0 ≡ q.0 = ap (λ (p : Placed). p.0) (sym at) in
-          let apart : octets_cmp (get_or pieces (length pieces - 1) []) q.0 ≡ Equal → ⊥ = differs (get_or pieces (length pieces - 1) []) q.0 (not_last pieces q.0 some e) in
-          let lower : ordering_then (octets_cmp (get_or pieces (length pieces - 1) []) q.0) (nat_cmp (get_or pairs (i - 1) q).1 (get_or pairs i q).1) ≡ Less = ap (λ a. ordering_then (octets_cmp a q.0) (nat_cmp (get_or pairs (i - 1) q).1 (get_or pairs i q).1)) of_last ∙ ap (λ a. ordering_then (octets_cmp (get_or pairs (i - 1) q).0 a) (nat_cmp (get_or pairs (i - 1) q).1 (get_or pairs i q).1)) (sym of_this) ∙ down in
-          first_below (octets_cmp (get_or pieces (length pieces - 1) []) q.0) (nat_cmp (get_or pairs (i - 1) q).1 (get_or pairs i q).1) lower apart),
+              let before : 0 < i = elim (cases_lt 0 i) [ inl less ↦ less | inr le ↦ absurd (omega (arith, some, old.none (omega arith))) ] in
+              let of_last : get_or pieces (length pieces - 1) [] ≡ (get_or pairs (i - 1) q).0 = (old.last q before).1 in
+              let down : pair_cmp (get_or pairs (i - 1) q) (get_or pairs i q) ≡ Less = Less-from_sorted pair_cmp pairs (i - 1) i q up (omega arith) lt in
+              let of_this : (get_or pairs i q).0 ≡ q.0 = ap (λ (p : Placed). p.0) (sym at) in
+              let apart : octets_cmp (get_or pieces (length pieces - 1) []) q.0 ≡ Equal → ⊥ = differs (get_or pieces (length pieces - 1) []) q.0 (not_last pieces q.0 some e) in
+              let lower : ordering_then (octets_cmp (get_or pieces (length pieces - 1) []) q.0) (nat_cmp (get_or pairs (i - 1) q).1 (get_or pairs i q).1) ≡ Less = ap (λ a. ordering_then (octets_cmp a q.0) (nat_cmp (get_or pairs (i - 1) q).1 (get_or pairs i q).1)) of_last ∙ ap (λ a. ordering_then (octets_cmp (get_or pairs (i - 1) q).0 a) (nat_cmp (get_or pairs (i - 1) q).1 (get_or pairs i q).1)) (sym of_this) ∙ down in
+              first_below (octets_cmp (get_or pieces (length pieces - 1) []) q.0) (nat_cmp (get_or pairs (i - 1) q).1 (get_or pairs i q).1) lower apart),
           (omega (arith, size), get_or_push pieces q.0 [] (length (pieces ++ q.0 ∷ []) - 1) (omega (arith, size))),
         )
 

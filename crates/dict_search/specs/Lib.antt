@@ -6,3 +6,5 @@ pub mod Runs
 pub mod Orders
 pub mod Pieces
 pub mod PlacedPieces
+pub mod Stored
+pub mod Indexes

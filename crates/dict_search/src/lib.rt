@@ -1,9 +1,21 @@
 //! What lookups ask of an edition, in memory: which entries a query finds, and what is shown of them.
 #![tactic(auto)]
 
+mod builder;
+mod entries;
+mod found;
+mod index;
+mod keeping;
+mod laws;
 mod lists;
 mod order;
 mod pieces;
 mod placed;
 mod reversed;
+mod shown;
 mod texts;
+
+pub use builder::IndexBuilder;
+pub use found::{Counted, Found};
+pub use index::{Index, IndexedEntry};
+pub use laws::{edition_laws, selection_law};

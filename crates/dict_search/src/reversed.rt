@@ -28,12 +28,7 @@ pub(crate) fn places_between_reversed(
 }
 
 /// Those of the sorted places whose text, read from behind, lies between both ends.
-fn run_between_reversed<'a>(
-    texts: &Texts,
-    sorted: &'a [u32],
-    low: &[u8],
-    high: &[u8],
-) -> &'a [u32]
+fn run_between_reversed<'a>(texts: &Texts, sorted: &'a [u32], low: &[u8], high: &[u8]) -> &'a [u32]
     requires { IsOrderOf (map reverse texts.now) sorted.now }
     ensures { result.now ≡ filter (λ place. is_between low.now high.now (key_at (map reverse texts.now) place)) sorted.now }
 {

@@ -1,4 +1,4 @@
-use Rattle.std.proofs.Common.{◌≡◌, ◌≤◌, length, filter, nat_eq, ℕ, Bool, true, false, Vec, Global, append-nil, get_or, refl, ap, sym, ◌∙◌, subst}
+use Rattle.std.proofs.Common.{filter, nat_eq, ℕ, Bool, true, false, Vec, Global, append-nil, get_or, refl, ap, sym, ◌∙◌, subst}
 use Rattle.std.specs.List.{list_any}
 use Rattle.std.specs.List.Sorted.{IsStrictlyIncreasing}
 use Rattle.std.proofs.lemmas.List.{take_all}

@@ -1,4 +1,4 @@
-use Rattle.std.proofs.Common.{◌≡◌, ap, sym, ◌∙◌, subst}
+use Rattle.std.proofs.Common.{sym, subst}
 use Rattle.dict_derived.specs.Derived.{grams}
 use Rattle.dict_search.specs.Pieces.{AreOccurrences}
 use Rattle.dict_search.specs.PlacedPieces.{grams_placed}

@@ -1,4 +1,4 @@
-use Rattle.std.proofs.Common.{◌≡◌, ◌≤◌, ◌<◌, List, ℕ, [], get_or, length, arith}
+use Rattle.std.proofs.Common.{◌≤◌, [], get_or, length, arith}
 use Rattle.std.proofs.lemmas.List.{length-map}
 use Rattle.dict_match.specs.Words.{words_between_blanks}
 use Rattle.dict_search.specs.declared.placed.PlacedWord.{PlacedWord}

@@ -1,4 +1,4 @@
-use Rattle.std.proofs.Common.{◌≡◌, ◌∙◌}
+use Rattle.std.proofs.Common.{◌∙◌}
 use Rattle.dict_search.proofs.PieceLemmas.{among_by_search}
 use Rattle.dict_search.proofs.pieces.is_among.Goals as goal
 

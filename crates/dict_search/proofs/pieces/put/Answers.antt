@@ -1,4 +1,4 @@
-use Rattle.std.proofs.Common.{◌≡◌, ◌∷◌, [], sym, ◌∙◌, true, false}
+use Rattle.std.proofs.Common.{◌≡◌, sym, ◌∙◌, true, false}
 use Rattle.dict_search.specs.Pieces.{ends_with_piece}
 use Rattle.dict_search.proofs.PieceLemmas.{put_grown, put_begun}
 use Rattle.dict_search.proofs.pieces.put.Goals as goal

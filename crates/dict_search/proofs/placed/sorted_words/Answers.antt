@@ -1,9 +1,8 @@
-use Rattle.std.proofs.Common.{◌≡◌, ◌++◌, ◌<◌, ◌≤◌, map, length, take, ap, sym, ◌∙◌, arith, rules}
+use Rattle.std.proofs.Common.{◌++◌, ◌<◌, ◌≤◌, map, length, ap, sym, ◌∙◌, arith}
 use Rattle.std.proofs.lemmas.List.{take_all}
 use Rattle.std.proofs.lemmas.List.Filters.{dedup_is}
 use Rattle.dict_match.specs.Words.{words_between_blanks}
 use Rattle.dict_search.specs.Pieces.{at_place, occurrences_from}
-use Rattle.dict_search.specs.PlacedPieces.{words_placed}
 use Rattle.dict_search.proofs.PlacedLemmas.{next_key, placed_words, pieces_tie}
 use Rattle.dict_search.proofs.placed.sorted_words.Goals as goal
 

@@ -1,4 +1,4 @@
-use Rattle.std.proofs.Common.{◌≡◌, ◌∙◌, map, reverse, subst, length}
+use Rattle.std.proofs.Common.{◌∙◌, map, reverse, subst, length}
 use Rattle.std.specs.List.Sorted.{IsPermutation}
 use Rattle.std.proofs.lemmas.List.Sorted.{IsNonDecreasingBy-from_sort}
 use Rattle.dict_search.specs.Places.{key_at}

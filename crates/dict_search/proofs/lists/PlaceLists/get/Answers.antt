@@ -1,4 +1,4 @@
-use Rattle.std.proofs.Common.{◌≡◌, ◌+◌, ◌≤◌, ◌<◌, length, get_or, ap, sym, ◌∙◌, arith, rules}
+use Rattle.std.proofs.Common.{◌≡◌, ◌+◌, ◌≤◌, ◌<◌, length, get_or, ap, ◌∙◌, arith, rules}
 use Rattle.std.proofs.lemmas.List.{get_or_default}
 use Rattle.dict_search.specs.Runs.{end_at}
 use Rattle.dict_search.proofs.RunLemmas.{run_past, run_read, end_bounds}

@@ -1,4 +1,4 @@
-use Rattle.std.proofs.Common.{◌≡◌, ◌∷◌, ◌++◌, [], ap, sym, ◌∙◌, subst}
+use Rattle.std.proofs.Common.{◌∷◌, [], ap, sym, ◌∙◌, subst}
 use Rattle.dict_search.specs.Runs.{AreBegins, runs}
 use Rattle.dict_search.proofs.RunLemmas.{grown, grown_are}
 use Rattle.dict_search.proofs.lists.PlaceLists.push_last.Goals as goal

@@ -1,4 +1,4 @@
-use Rattle.std.proofs.Common.{◌≡◌, List, ℕ, ◌∷◌, ◌++◌, [], ap, sym, ◌∙◌}
+use Rattle.std.proofs.Common.{◌∷◌, []}
 use Rattle.dict_search.proofs.RunLemmas.{put_are, put_runs}
 use Rattle.dict_search.proofs.lists.PlaceLists.push_new.Goals as goal
 

@@ -1,4 +1,4 @@
-use Rattle.std.proofs.Common.{◌≡◌, [], get_or, ap, sym, ◌∙◌}
+use Rattle.std.proofs.Common.{ap, sym, ◌∙◌}
 use Rattle.dict_search.specs.Places.{places_where}
 use Rattle.dict_search.specs.Selected.{has_piece}
 use Rattle.dict_search.proofs.pieces.Pieces.places.Goals as goal

@@ -1,4 +1,4 @@
-use Rattle.std.proofs.Common.{◌≡◌, List, ℕ, ◌∷◌, ◌++◌, [], take, ap, sym, ◌∙◌, subst}
+use Rattle.std.proofs.Common.{ap, sym, ◌∙◌, subst}
 use Rattle.dict_search.specs.Runs.{AreBegins, runs}
 use Rattle.dict_search.proofs.RunLemmas.{cut, cut_are}
 use Rattle.dict_search.proofs.texts.Texts.pop.Goals as goal

@@ -1,4 +1,3 @@
-use Rattle.std.proofs.Common.{◌≡◌, List, ℕ, ◌∷◌, ◌++◌, [], ap, sym, ◌∙◌}
 use Rattle.dict_search.proofs.RunLemmas.{put_are, put_runs}
 use Rattle.dict_search.proofs.texts.Texts.push.Goals as goal
 

@@ -1,0 +1,22 @@
+use Rattle.std.proofs.Common.{◌≡◌, ap, ◌∙◌, rules, length}
+use Rattle.dict_match.specs.Matching.{is_hit}
+use Rattle.dict_derived.specs.Search.{rows_for}
+use Rattle.dict_search.specs.Entries.{entries_at, keys_of}
+use Rattle.dict_search.specs.Places.{places_where}
+use Rattle.dict_search.specs.Selected.{is_selected}
+use Rattle.dict_search.proofs.EditionLemmas.{entries_there, count_there}
+use Rattle.dict_search.proofs.index.Index.find.Goals as goal
+
+pub returns-clause-entries : goal.returns-clause-entries
+returns-clause-entries c =
+    let entries = c.args.self.now in
+    let hit = is_hit c.args.strategy c.args.query.now in
+    ap (entries_at entries) (c.keep_hits.ensures ∙ ap (places_where hit) (c.keys.ensures.keys ∙ ap keys_of c.self.view_is)) ∙ entries_there hit entries
+
+pub returns-clause-looked_at : goal.returns-clause-looked_at
+returns-clause-looked_at c =
+    let entries = c.args.self.now in
+    let many : c.len-looked_at.result ≡ length c.in_ok-places.places.items = search rules in
+    many
+    ∙ ap length (c.in_ok-places.ensures.value ∙ ap (λ rows. places_where (is_selected rows) (keys_of entries)) c.in_ok-selection.ensures)
+    ∙ count_there (is_selected (rows_for c.args.strategy c.args.query.now)) entries

@@ -1,0 +1,12 @@
+use Rattle.std.proofs.Common.{ap, sym, ◌∙◌}
+use Rattle.dict_derived.specs.Search.{rows_of}
+use Rattle.dict_search.specs.Entries.{keys_of}
+use Rattle.dict_search.specs.Places.{places_where}
+use Rattle.dict_search.specs.Selected.{is_selected}
+use Rattle.dict_search.proofs.IndexLemmas.{none_where}
+use Rattle.dict_search.proofs.index.Index.selected_places.Goals as goal
+
+pub returns-in-Nothing : goal.returns-in-Nothing
+returns-in-Nothing c =
+    let keys = keys_of c.args.self.now in
+    c.new.ensures.items ∙ none_where keys ∙ sym (ap (λ s. places_where (is_selected (rows_of s)) keys) c.in-Nothing.is)

@@ -1,0 +1,5 @@
+use Rattle.dict_search.proofs.EditionLemmas.{selects}
+use Rattle.dict_search.proofs.laws.selection_law.Goals as goal
+
+pub returns : goal.returns
+returns c = selects

@@ -1,0 +1,126 @@
+//! The entries of an edition, one after another.
+ghost use Rattle.std.specs.Prelude.{◌≡◌, [], ◌∷◌, ◌++◌, All, length, OnOk, OnErr};
+ghost use Rattle.std.specs.Str.{IsUtf8};
+ghost use Rattle.dict_search.specs.Entries.{Indexed, entry_at, keys_of};
+
+use crate::texts::Texts;
+use std::alloc::{AllocError, Global};
+use std::marker::Model;
+use std::str;
+
+/// Where the text of an entry begins in that of its edition, and how long it is, in octets.
+#[derive(Clone, Copy, Debug, PartialEq, Eq)]
+pub(crate) struct Span {
+    pub start: u32,
+    pub size: u32,
+}
+
+/// Entries, in the order in which they were put.
+#[derive(Drop)]
+pub(crate) struct Entries {
+    keys: Texts,
+    shown: Texts,
+    spans: Vec<Span>,
+}
+
+impl Model for Entries {
+    ghost use Rattle.std.specs.Prelude.{List};
+    ghost use Rattle.dict_search.specs.Entries.{Indexed};
+
+    ghost Value = { List Indexed };
+
+    ghost use Rattle.dict_search.specs.Stored.{stored, AreStored};
+
+    ghost view = { λ entries. stored entries.keys entries.shown entries.spans.items };
+
+    ghost invariant = { λ entries. AreStored entries.keys entries.shown entries.spans.items };
+}
+
+impl Entries {
+    pub(crate) fn new(alloc: Global) -> Entries
+        ensures { result ≡ [] }
+    {
+        Entries {
+            keys: Texts::new(alloc),
+            shown: Texts::new(alloc),
+            spans: Vec::new(alloc),
+        }
+    }
+
+    pub(crate) fn len(&self) -> usize
+        ensures { result ≡ length self.now }
+    {
+        self.spans.len()
+    }
+
+    /// The keys of all entries, in their order.
+    pub(crate) fn keys(&self) -> &Texts
+        ensures keys { result.now ≡ keys_of self.now }
+        ensures text { All IsUtf8 (keys_of self.now) }
+    {
+        &self.keys
+    }
+
+    /// What replies show of the entry at a place; nothing where there is none.
+    pub(crate) fn shown(&self, at: usize) -> &str
+        ensures { result.now ≡ (entry_at self.now at).shown }
+    {
+        match str::from_utf8(self.shown.get(at)) {
+            Ok(text) => text,
+            Err(_) => "",
+        }
+    }
+
+    /// Where the text of the entry at a place stands; an empty span where there is none.
+    pub(crate) fn span(&self, at: usize) -> Span
+        ensures start { result.start ≡ (entry_at self.now at).start }
+        ensures size { result.size ≡ (entry_at self.now at).size }
+    {
+        if at >= self.spans.len() {
+            return Span { start: 0, size: 0 };
+        }
+        self.spans[at]
+    }
+
+    /// Puts an entry behind the others. The only error is refused memory; then they are as they were.
+    pub(crate) fn push(&mut self, key: &[u8], shown: &str, span: Span) -> Result<(), AllocError>
+        requires { IsUtf8 key.now }
+        ensures pushed { OnOk result (self.new ≡ self.old ++ record { key = key.now; shown = shown.now; start = span.start; size = span.size } ∷ []) }
+        ensures refused { OnErr result (self.new ≡ self.old) }
+    {
+        put_entry(
+            &mut self.keys,
+            &mut self.shown,
+            &mut self.spans,
+            key,
+            shown,
+            span,
+        )
+    }
+}
+
+/// Puts the parts of an entry behind those of the others; or leaves all as they were.
+fn put_entry(
+    keys: &mut Texts,
+    shown: &mut Texts,
+    spans: &mut Vec<Span>,
+    key: &[u8],
+    text: &str,
+    span: Span,
+) -> Result<(), AllocError>
+    ensures keys { OnOk result (keys.new ≡ keys.old ++ key.now ∷ []) }
+    ensures shown { OnOk result (shown.new ≡ shown.old ++ text.now ∷ []) }
+    ensures spans { OnOk result (spans.new.items ≡ spans.old.items ++ span ∷ []) }
+    ensures keys_refused { OnErr result (keys.new ≡ keys.old) }
+    ensures shown_refused { OnErr result (shown.new ≡ shown.old) }
+    ensures spans_refused { OnErr result (spans.new.items ≡ spans.old.items) }
+{
+    spans.reserve(1)?;
+    keys.push(key)?;
+    if let Err(error) = shown.push(text.as_bytes()) {
+        keys.pop();
+        return Err(error);
+    }
+    spans.push(span)?;
+    Ok(())
+}

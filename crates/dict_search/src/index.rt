@@ -1,0 +1,243 @@
+//! The index of an edition, and what it is asked.
+ghost use Rattle.std.specs.Prelude.{◌≡◌, ◌&&◌, true, IfOk, length, map, reverse};
+ghost use Rattle.std.specs.Str.{bytes_eq};
+ghost use Rattle.dict_derived.specs.Search.{rows_of};
+ghost use Rattle.dict_search.specs.Entries.{entry_at, entries_at, keys_of, shown_of};
+ghost use Rattle.dict_search.specs.Places.{places_where};
+ghost use Rattle.dict_search.specs.Orders.{IsOrderOf};
+ghost use Rattle.dict_search.specs.Selected.{is_selected, has_gram, has_word, AreSelected};
+ghost use Rattle.dict_search.specs.Found.{found_places, found_entries, found_headwords, count_selected};
+
+use crate::entries::Entries;
+use crate::found::{Counted, Found};
+use crate::keeping::keep_hits;
+use crate::order::{first_places, places_between, reversed_texts, sorted_places};
+use crate::pieces::{Pieces, common_places, grams_of, words_of};
+use crate::reversed::places_between_reversed;
+use crate::shown::first_shown;
+use dict_derived::{Selection, select};
+use dict_match::Strategy;
+use std::alloc::{AllocError, Global};
+use std::marker::Model;
+
+/// What lookups ask of an edition: its entries, in their order, and the places of their keys in several orders. Contracts
+/// see it as the list of its entries.
+#[derive(Drop)]
+pub struct Index {
+    entries: Entries,
+    by_key: Vec<u32>,
+    by_reversed_key: Vec<u32>,
+    words: Pieces,
+    grams: Pieces,
+}
+
+impl Model for Index {
+    ghost use Rattle.std.specs.Prelude.{List};
+    ghost use Rattle.dict_search.specs.Entries.{Indexed};
+
+    ghost Value = { List Indexed };
+
+    ghost use Rattle.dict_search.specs.Indexes.{IsIndexed};
+
+    ghost view = { λ index. index.entries };
+
+    ghost invariant = { λ index. IsIndexed index.entries index.by_key.items index.by_reversed_key.items index.words index.grams };
+}
+
+/// The entry at a place: what is shown of it, and where its text begins in that of its edition and how long it is, in
+/// octets.
+#[derive(Clone, Copy, Debug)]
+pub struct IndexedEntry<'a> {
+    pub shown: &'a str,
+    pub start: u32,
+    pub size: u32,
+}
+
+/// The index of these entries. The only error is refused memory.
+pub(crate) fn index_of(alloc: Global, entries: Entries, count: u32) -> Result<Index, AllocError>
+    requires { count ≡ length entries }
+    ensures { IfOk result (λ index. index ≡ entries) }
+{
+    let by_key = sorted_places(alloc, entries.keys(), count)?;
+    let by_reversed_key = reversed_places(alloc, &entries, count)?;
+    let words = words_of(alloc, entries.keys(), count)?;
+    let grams = grams_of(alloc, entries.keys(), count)?;
+    Ok(Index {
+        entries,
+        by_key,
+        by_reversed_key,
+        words,
+        grams,
+    })
+}
+
+/// The places of all entries, in the order of their keys as these are read from behind.
+fn reversed_places(alloc: Global, entries: &Entries, count: u32) -> Result<Vec<u32>, AllocError>
+    requires { count ≡ length entries.now }
+    ensures { IfOk result (λ places. IsOrderOf (map reverse (keys_of entries.now)) places.items) }
+{
+    let turned = reversed_texts(alloc, entries.keys())?;
+    sorted_places(alloc, &turned, count)
+}
+
+impl Index {
+    /// How many entries it has.
+    pub fn len(&self) -> usize
+        ensures { result ≡ length self.now }
+    {
+        self.entries.len()
+    }
+
+    /// The entry at a place, counted from 0; an empty one where there is none. No memory is taken.
+    pub fn entry(&self, place: u32) -> IndexedEntry<'_>
+        ensures shown { result.shown.now ≡ (entry_at self.now place).shown }
+        ensures start { result.start ≡ (entry_at self.now place).start }
+        ensures size { result.size ≡ (entry_at self.now place).size }
+    {
+        let at = place as usize;
+        let span = self.entries.span(at);
+        IndexedEntry {
+            shown: self.entries.shown(at),
+            start: span.start,
+            size: span.size,
+        }
+    }
+
+    /// The places of the entries that a selection has, each once, rising. The only error is refused memory.
+    pub fn candidates(&self, alloc: Global, selection: &Selection) -> Result<Vec<u32>, AllocError>
+        ensures value { IfOk result (λ places. places.items ≡ places_where (is_selected (rows_of selection.now)) (keys_of self.now)) }
+        ensures selected { IfOk result (λ places. AreSelected (rows_of selection.now) self.now places.items) }
+    {
+        self.selected_places(alloc, selection)
+    }
+
+    fn selected_places(&self, alloc: Global, selection: &Selection) -> Result<Vec<u32>, AllocError>
+        ensures { IfOk result (λ places. places.items ≡ places_where (is_selected (rows_of selection.now)) (keys_of self.now)) }
+    {
+        match selection {
+            Selection::Nothing => Ok(Vec::new(alloc)),
+            Selection::All => self.all_places(alloc),
+            Selection::Key(key) => self.with_key(alloc, key.as_slice()),
+            Selection::Keys(low, high) => places_between(
+                alloc,
+                self.entries.keys(),
+                self.by_key.as_slice(),
+                low.as_slice(),
+                high.as_slice(),
+            ),
+            Selection::ReversedKeys(low, high) => places_between_reversed(
+                alloc,
+                self.entries.keys(),
+                self.by_reversed_key.as_slice(),
+                low.as_slice(),
+                high.as_slice(),
+            ),
+            Selection::Grams(first, last) => self.with_grams(alloc, first, last),
+            Selection::Word(word) => self.with_word(alloc, word.as_slice()),
+        }
+    }
+
+    fn all_places(&self, alloc: Global) -> Result<Vec<u32>, AllocError>
+        ensures { IfOk result (λ places. places.items ≡ places_where (λ key. true) (keys_of self.now)) }
+    {
+        first_places(alloc, self.entries.len() as u32)
+    }
+
+    /// The places of the entries with this key.
+    fn with_key(&self, alloc: Global, key: &[u8]) -> Result<Vec<u32>, AllocError>
+        ensures { IfOk result (λ places. places.items ≡ places_where (λ other. bytes_eq other key.now) (keys_of self.now)) }
+    {
+        places_between(alloc, self.entries.keys(), self.by_key.as_slice(), key, key)
+    }
+
+    /// The places of the entries whose keys have this word.
+    fn with_word(&self, alloc: Global, word: &[u8]) -> Result<Vec<u32>, AllocError>
+        ensures { IfOk result (λ places. places.items ≡ places_where (has_word word.now) (keys_of self.now)) }
+    {
+        Vec::from_slice(alloc, self.words.places(word))
+    }
+
+    /// The places of the entries whose keys have both runs of three octets.
+    fn with_grams(
+        &self,
+        alloc: Global,
+        first: &[u8; 3],
+        last: &[u8; 3],
+    ) -> Result<Vec<u32>, AllocError>
+        ensures { IfOk result (λ places. places.items ≡ places_where (λ key. has_gram first.now key && has_gram last.now key) (keys_of self.now)) }
+    {
+        let one = self.grams.places(first.as_slice());
+        let other = self.grams.places(last.as_slice());
+        if one.len() <= other.len() {
+            common_places(alloc, one, other)
+        } else {
+            common_places(alloc, other, one)
+        }
+    }
+
+    /// The entries that a query's key finds by a strategy. The only error is refused memory.
+    pub fn find(&self, alloc: Global, strategy: Strategy, query: &[u8]) -> Result<Found, AllocError>
+        ensures places { IfOk result (λ found. found.places.items ≡ found_places strategy query.now self.now) }
+        ensures entries { IfOk result (λ found. entries_at self.now found.places.items ≡ found_entries strategy query.now self.now) }
+        ensures looked_at { IfOk result (λ found. found.looked_at ≡ count_selected strategy query.now self.now) }
+    {
+        let selection = select(alloc, strategy, query)?;
+        let mut places = self.candidates(alloc, &selection)?;
+        let looked_at = places.len();
+        keep_hits(self.entries.keys(), &mut places, strategy, query);
+        Ok(Found { places, looked_at })
+    }
+
+    /// Of the headwords shown of the entries found, each once, in the order in which they first stand among these: the
+    /// place of an entry that shows it. The only error is refused memory.
+    pub fn find_headwords(
+        &self,
+        alloc: Global,
+        strategy: Strategy,
+        query: &[u8],
+    ) -> Result<Found, AllocError>
+        ensures shown { IfOk result (λ found. map shown_of (entries_at self.now found.places.items) ≡ found_headwords strategy query.now self.now) }
+        ensures looked_at { IfOk result (λ found. found.looked_at ≡ count_selected strategy query.now self.now) }
+    {
+        let found = self.find(alloc, strategy, query)?;
+        let places = first_shown(alloc, &self.entries, found.places.as_slice())?;
+        Ok(Found {
+            places,
+            looked_at: found.looked_at,
+        })
+    }
+
+    /// How many entries a query's key finds by a strategy. The only error is refused memory.
+    pub fn count_entries(
+        &self,
+        alloc: Global,
+        strategy: Strategy,
+        query: &[u8],
+    ) -> Result<Counted, AllocError>
+        ensures count { IfOk result (λ counted. counted.count ≡ length (found_entries strategy query.now self.now)) }
+        ensures looked_at { IfOk result (λ counted. counted.looked_at ≡ count_selected strategy query.now self.now) }
+    {
+        let found = self.find(alloc, strategy, query)?;
+        Ok(Counted {
+            count: found.places.len(),
+            looked_at: found.looked_at,
+        })
+    }
+
+    /// How many headwords are shown of them, each once. The only error is refused memory.
+    pub fn count_headwords(
+        &self,
+        alloc: Global,
+        strategy: Strategy,
+        query: &[u8],
+    ) -> Result<Counted, AllocError>
+        ensures count { IfOk result (λ counted. counted.count ≡ length (found_headwords strategy query.now self.now)) }
+        ensures looked_at { IfOk result (λ counted. counted.looked_at ≡ count_selected strategy query.now self.now) }
+    {
+        let found = self.find_headwords(alloc, strategy, query)?;
+        Ok(Counted {
+            count: found.places.len(),
+            looked_at: found.looked_at,
+        })
+    }
+}

@@ -1,0 +1,28 @@
+//! What is shown of entries, each text once.
+ghost use Rattle.std.specs.Prelude.{◌≡◌, IfOk, map};
+ghost use Rattle.dict_desk.specs.Found.{distinct};
+ghost use Rattle.dict_search.specs.Entries.{entries_at, shown_of};
+
+use crate::entries::Entries;
+use dict_desk::distinct_law;
+use std::alloc::{AllocError, Global};
+use std::collections::BTreeSet;
+
+/// Of these places those whose text that is shown is none of the earlier ones'. The only error is refused memory.
+pub(crate) fn first_shown(
+    alloc: Global,
+    entries: &Entries,
+    places: &[u32],
+) -> Result<Vec<u32>, AllocError>
+    ensures { IfOk result (λ firsts. map shown_of (entries_at entries.now firsts.items) ≡ distinct (map shown_of (entries_at entries.now places.now))) }
+{
+    distinct_law();
+    let mut seen = BTreeSet::new(alloc);
+    let mut firsts = Vec::new(alloc);
+    for place in places {
+        if seen.insert(entries.shown(*place as usize).as_bytes())? {
+            firsts.push(*place)?;
+        }
+    }
+    Ok(firsts)
+}
