@@ -78,11 +78,11 @@ pub(crate) fn sorted_grams(
     requires { count ≡ length keys.now }
     ensures { IfOk result (λ list. AreOccurrences grams keys.now (grams_placed list.items)) }
 {
-    let mut list = Vec::new(alloc);
+    let mut runs = Vec::new(alloc);
     for place in 0..count {
-        add_grams(&mut list, keys.get(place as usize), place)?;
+        add_grams(&mut runs, keys.get(place as usize), place)?;
     }
-    list.sort_unstable();
-    list.dedup();
-    Ok(list)
+    runs.sort_unstable();
+    runs.dedup();
+    Ok(runs)
 }

@@ -20,5 +20,5 @@ returns c =
     let keys = c.args.keys.now in
     let place = c.loop-place.place in
     let past : length keys ≤ place = omega (arith, c.loop-place-test.false, c.requires) in
-    placed_grams grams keys c.loop-place.list.items c.sort_unstable.new.self.items c.dedup.new.self.items _ (λ x y. pieces_tie x.gram y.gram x.place y.place)
+    placed_grams grams keys c.loop-place.runs.items c.sort_unstable.new.self.items c.dedup.new.self.items _ (λ x y. pieces_tie x.gram y.gram x.place y.place)
     (c.loop-place.invariant ∙ ap (occurrences_from grams 0) (take_all place keys past)) c.sort_unstable.ensures.permutation c.sort_unstable.ensures.sorted (dedup_is _ _ _ c.dedup.ensures.filtered)

@@ -6,4 +6,4 @@ use Rattle.dict_search.proofs.placed.sorted_grams.Given as goal
 
 -- the list has what stands in the keys so far
 abbrev pub invariant-loop-place : goal.invariant-loop-place
-invariant-loop-place l = grams_placed l.list.items ≡ occurrences_from grams 0 (take l.place l.keys)
+invariant-loop-place l = grams_placed l.runs.items ≡ occurrences_from grams 0 (take l.place l.keys)
