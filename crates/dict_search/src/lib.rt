@@ -13,6 +13,8 @@ mod pieces;
 mod placed;
 mod reversed;
 mod shown;
+#[cfg(test)]
+mod tests;
 mod texts;
 
 pub use builder::IndexBuilder;
