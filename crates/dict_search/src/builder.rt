@@ -48,8 +48,8 @@ impl IndexBuilder {
         &mut self,
         headword: &str,
         shown: &str,
-        start: u32,
-        size: u32,
+        start: usize,
+        size: usize,
     ) -> Result<(), AllocError>
         ensures pushed { OnOk result (self.new ≡ self.old ++ record { key = key_of headword.now; shown = shown.now; start = start; size = size } ∷ []) }
         ensures refused { OnErr result (self.new ≡ self.old) }

@@ -11,8 +11,8 @@ use std::str;
 /// Where the text of an entry begins in that of its edition, and how long it is, in octets.
 #[derive(Clone, Copy, Debug, PartialEq, Eq)]
 pub(crate) struct Span {
-    pub start: u32,
-    pub size: u32,
+    pub start: usize,
+    pub size: usize,
 }
 
 /// Entries, in the order in which they were put.

@@ -49,8 +49,8 @@ impl Model for Index {
 #[derive(Clone, Copy, Debug)]
 pub struct IndexedEntry<'a> {
     pub shown: &'a str,
-    pub start: u32,
-    pub size: u32,
+    pub start: usize,
+    pub size: usize,
 }
 
 /// The index of these entries. The only error is refused memory.

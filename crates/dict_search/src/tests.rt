@@ -6,7 +6,7 @@ use std::process::Abort;
 use std::test::Fail;
 
 // What a line of an index says: a headword, what is shown, and where the text begins and how long it is.
-type Line = (&'static str, &'static str, u32, u32);
+type Line = (&'static str, &'static str, usize, usize);
 
 static LINES: [Line; 10] = [
     ("opal", "opal", 0, 3),
