@@ -78,7 +78,7 @@ fn a_peer_that_is_gone(rt: HostRuntime) -> Result<(), Fail> {
         return Err(Fail::new("refused"));
     };
     let mut room = [0u8; 4_096];
-    one.turn(&mut hub, &mut desk, &mut room, false);
+    one.turn(&Rooms, &mut hub, &mut desk, &mut room, false);
     let first = (one.stage(), one.transport().calls);
     one.linger(&mut room);
     let then = (one.stage(), one.transport().calls);

@@ -2,11 +2,12 @@
 ghost use Rattle.std.specs.Prelude.{None, ⊤};
 
 use crate::checks::same;
-use dict_connection::{Opening, greet_by_hub};
+use dict_connection::{Opening, greet_by_hub, hand_by_hub};
 use dict_desk::Keeper;
 use dict_driver::{EventLoop, Sockets};
 use dict_hub::{Hub, HubFault, Kind, Out};
 use dict_hub_fixtures::long_desk;
+use dict_io::Sink;
 use dict_outlet::{Queue, Transport};
 use std::alloc::{AllocError, Global};
 use std::io::{Error, ErrorKind, Result as IoResult};
@@ -79,6 +80,18 @@ impl Opening for Crowd {
         queue: &mut Queue,
     ) -> Result<Out, HubFault> {
         greet_by_hub(hub, desk, id, kind, queue)
+    }
+
+    fn hand<K: Keeper, S: Sink>(
+        &self,
+        hub: &mut Hub,
+        desk: &mut K,
+        id: u64,
+        _kind: Kind,
+        piece: &[u8],
+        sink: &mut S,
+    ) -> Result<Out, HubFault> {
+        hand_by_hub(hub, desk, id, piece, sink)
     }
 }
 
