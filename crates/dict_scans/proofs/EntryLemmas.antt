@@ -19,15 +19,14 @@ use Rattle.dict_sql.specs.Reads.{IsSelection}
 use Rattle.dict_sql.specs.Streams.Scan.{EntriesOf}
 use Rattle.dict_rows.specs.Given.{entries_given}
 use Rattle.dict_rows.specs.Versions.{Layout, Plain, Keyed, Shown}
-use Rattle.dict_rows.specs.declared.reader.Reader.{Reader}
 use Rattle.dict_derived.specs.Entries.{Filed, filed, plain}
 use Rattle.dict_holdings.specs.Readings.{AreShownIn, filed_row}
 use Rattle.dict_scans.specs.Cursors.{Cursor, IsWhole, IsFront}
 use Rattle.dict_scans.specs.Cursors.Cursor.{InStore, KeyedOf, OldEntriesOf}
 use Rattle.dict_scans.specs.Entries.{behind, entry_cells, HasEntries, BeginsWithEntries, IsNoEntryRow, TakesEntries, HasWrongEntries}
-use Rattle.dict_scans.specs.Filing.{OldRow, entry_filed, old_entry_in, IsFiled, keys_of, takes_old, refuses_old, TakesFiled, refuses_filed}
+use Rattle.dict_scans.specs.Filing.{EntryRow, OldRow, entry_filed, old_entry_in, IsFiled, keys_of, takes_plain, refuses_plain, takes_old, refuses_old, TakesFiled, refuses_filed}
+use Rattle.dict_scans.specs.Indexing.{indexed_of}
 use Rattle.dict_scans.specs.Scans.{TakesAll, HasNoRecordIn, IsWrong}
-use Rattle.dict_scans.specs.Takers.{EntryRow, takes_entries, refuses_entries}
 use Rattle.dict_scans.specs.declared.filing.EditionReader.{EditionReader}
 use Rattle.dict_scans.proofs.PlaceLemmas.{last_holds, last_there}
 use Rattle.dict_scans.proofs.TypedLemmas.{old_typed}
@@ -71,11 +70,11 @@ plain_shown : (given : List EntryRow) → AllByRecursion ShowsHeadword (map (λ 
 plain_shown [] = tt
 plain_shown (row ∷ given) = (refl, plain_shown given)
 
-module _ (db : Database) (number : ℤ) (first : Reader) where
-  pub plain_whole : (last : Reader) → TakesAll stored_entry takes_entries (InStore (EntriesOf number)) db first last → (all : List Entry) × TakesEntries Plain db number first last all
-  plain_whole last h = (entries_given h.0, (has_entries stored_entry (λ (row : EntryRow). owned_entry row.value) Plain (λ _. Unit {0}) (λ r u. refl) plain_shown (InStore (EntriesOf number)) db number (λ rows s. s) h.0 (all_units h.0) h.1, h.2))
+module _ (db : Database) (number : ℤ) (first : EditionReader) where
+  pub plain_whole : (last : EditionReader) → TakesAll stored_entry takes_plain (InStore (EntriesOf number)) db first last → (all : List Entry) × TakesEntries Plain db number first.reader last.reader all × (last.index ≡ first.index ++ map indexed_of all)
+  plain_whole last h = (entries_given h.0, (has_entries stored_entry (λ (row : EntryRow). owned_entry row.value) Plain (λ _. Unit {0}) (λ r u. refl) plain_shown (InStore (EntriesOf number)) db number (λ rows s. s) h.0 (all_units h.0) h.1, h.2.taken), h.2.index)
 
-  pub plain_wrong : IsWrong stored_entry entry_columns refuses_entries (InStore (EntriesOf number)) db first → HasWrongEntries Plain db number first
+  pub plain_wrong : IsWrong stored_entry entry_columns refuses_plain (InStore (EntriesOf number)) db first → HasWrongEntries Plain db number first.reader
   plain_wrong (inl w) = inl (no_entry stored_entry (λ (row : EntryRow). owned_entry row.value) Plain (λ _. Unit {0}) (λ r u. refl) plain_shown (InStore (EntriesOf number)) db number (λ rows s. s) entry_columns (λ row there none has e is. none has) w)
   plain_wrong (inr w) = inr (entries_given w.0, begins_with stored_entry (λ (row : EntryRow). owned_entry row.value) Plain (λ _. Unit {0}) (λ r u. refl) plain_shown (InStore (EntriesOf number)) db number (λ rows s. s) w.0 (all_units w.0) w.1, w.2)
 
@@ -85,11 +84,11 @@ old_shown : (given : List OldRow) → AllByRecursion ShowsHeadword (map old_entr
 old_shown [] = tt
 old_shown (row ∷ given) = (refl, old_shown given)
 
-module _ (db : Database) (number : ℤ) (first : Reader) where
-  pub old_whole : (last : Reader) → TakesAll stored_old_entry takes_old (OldEntriesOf number) db first last → (all : List Entry) × TakesEntries Keyed db number first last all
-  old_whole last h = (map old_entry_in h.0, (has_entries stored_old_entry old_entry_in Keyed (λ _. Unit {0}) (λ r u. refl) old_shown (OldEntriesOf number) db number (λ rows s. s) h.0 (all_units h.0) h.1, h.2))
+module _ (db : Database) (number : ℤ) (first : EditionReader) where
+  pub old_whole : (last : EditionReader) → TakesAll stored_old_entry takes_old (OldEntriesOf number) db first last → (all : List Entry) × TakesEntries Keyed db number first.reader last.reader all × (last.index ≡ first.index ++ map indexed_of all)
+  old_whole last h = (map old_entry_in h.0, (has_entries stored_old_entry old_entry_in Keyed (λ _. Unit {0}) (λ r u. refl) old_shown (OldEntriesOf number) db number (λ rows s. s) h.0 (all_units h.0) h.1, h.2.taken), h.2.index)
 
-  pub old_wrong : IsDatabase db → Has old_entry db → IsWrong stored_old_entry old_entry_columns refuses_old (OldEntriesOf number) db first → HasWrongEntries Keyed db number first
+  pub old_wrong : IsDatabase db → Has old_entry db → IsWrong stored_old_entry old_entry_columns refuses_old (OldEntriesOf number) db first → HasWrongEntries Keyed db number first.reader
   old_wrong sound has (inl w) =
       let same = w.2.1.same in
       let typed = last_holds (λ row. HasColumns entry_columns (take 6 row) → HasColumns old_entry_columns row) (edition_rows number db) (map stored_old_entry w.0) w.2.0 w.1 (all_filter (λ row. HasColumns entry_columns (take 6 row) → HasColumns old_entry_columns row) (equals_number 1 number) (rows_of (codes "entry") db) (old_typed db sound has)) same in
@@ -112,9 +111,9 @@ filed_is f e same =
     is ∙ sym (ap (λ (g : Filed). filed (plain g)) is)
 
 module _ (db : Database) (number : ℤ) (first : EditionReader) where
-  pub filed_whole : (last : EditionReader) → TakesAll stored_keyed_entry TakesFiled (KeyedOf keyed.Entry number) db first last → (all : List Entry) × TakesEntries Shown db number first.reader last.reader all × (last.keys.items ≡ first.keys.items ++ keys_of all)
+  pub filed_whole : (last : EditionReader) → TakesAll stored_keyed_entry TakesFiled (KeyedOf keyed.Entry number) db first last → (all : List Entry) × TakesEntries Shown db number first.reader last.reader all × (last.keys.items ≡ first.keys.items ++ keys_of all) × (last.index ≡ first.index ++ map indexed_of all)
   filed_whole last h =
-      (map entry_filed h.0, (has_entries stored_keyed_entry entry_filed Shown IsFiled (λ r fits. ap filed_row fits) (λ given. tt) (KeyedOf keyed.Entry number) db number (λ rows s. s) h.0 h.2.filed h.1, h.2.taken), h.2.keys)
+      (map entry_filed h.0, (has_entries stored_keyed_entry entry_filed Shown IsFiled (λ r fits. ap filed_row fits) (λ given. tt) (KeyedOf keyed.Entry number) db number (λ rows s. s) h.0 h.2.filed h.1, h.2.added.taken), h.2.keys, h.2.added.index)
 
   pub filed_wrong : IsWrong stored_keyed_entry keyed_entry_columns refuses_filed (KeyedOf keyed.Entry number) db first → HasWrongEntries Shown db number first.reader
   filed_wrong (inl w) = inl (no_entry stored_keyed_entry entry_filed Shown IsFiled (λ r fits. ap filed_row fits) (λ given. tt) (KeyedOf keyed.Entry number) db number (λ rows s. s) keyed_entry_columns (λ row there none has e is. none has) w)

@@ -23,7 +23,8 @@ use Rattle.dict_rows.specs.declared.fault.RowsFault.TheVariants.{Damaged, Memory
 use Rattle.dict_scans.specs.declared.takers.Strays.{Strays}
 use Rattle.dict_match.specs.Key.{key_of}
 use Rattle.dict_scans.specs.Entries.{AreTaken, AreNotTaken}
-use Rattle.dict_scans.specs.Filing.{FiledRow, entry_filed, IsFiled, keys_of, TakesFiled, refuses_filed}
+use Rattle.dict_scans.specs.Filing.{FiledRow, entry_filed, IsFiled, keys_of, AreAdded, TakesFiled, refuses_filed}
+use Rattle.dict_scans.specs.Indexing.{indexed_of}
 use Rattle.dict_scans.specs.declared.filing.EditionReader.{EditionReader}
 use Rattle.dict_scans.specs.Takers.{KeptRow, AreRowids, takes_rowids, refuses_rowids, takes_replies, refuses_replies, ids_given, takes_ids, refuses_ids, IsStray, takes_known, refuses_stray}
 
@@ -79,6 +80,21 @@ module _ {R : Type 0} (entry : R → spec.Entry) (first : Reader) (given : List 
       let parts = all_append_parts (IsOfLast taken) (map entry given) (entry next ∷ []) (subst (AreOf taken) (map-append entry given (next ∷ [])) are) in
       subst (λ (entries : List spec.Entry). StandsForNone version (record taken { entries = entries })) (entries_are taken.entries) (wrong version (with_entries taken (map entry given)) (t version taken h) parts.1)
 
+-- ---- entries, and the index of them
+
+module _ {R : Type 0} (entry : R → spec.Entry) (first : EditionReader) (given : List R) (next : R) (old : EditionReader) (t : AreAdded first old (map entry given)) where
+  indexed_more : map indexed_of (map entry (given ++ next ∷ [])) ≡ map indexed_of (map entry given) ++ indexed_of (entry next) ∷ []
+  indexed_more = ap (map indexed_of) (map-append entry given (next ∷ [])) ∙ map-append indexed_of (map entry given) (entry next ∷ [])
+
+  pub added_next : (new : EditionReader) → AreAdded old new (entry next ∷ []) → AreAdded first new (map entry (given ++ next ∷ []))
+  added_next new more = record {
+    taken = entries_next entry first.reader given next old.reader t.taken new.reader more.taken;
+    index = more.index ∙ ap (λ l. l ++ indexed_of (entry next) ∷ []) t.index ∙ append_assoc first.index (map indexed_of (map entry given)) (indexed_of (entry next) ∷ []) ∙ ap (λ l. first.index ++ l) (sym indexed_more);
+  }
+
+  pub added_refused : AreNotTaken old.reader (entry next ∷ []) → AreNotTaken first.reader (map entry (given ++ next ∷ []))
+  added_refused wrong = entries_refused entry first.reader given next old.reader t.taken wrong
+
 -- ---- kept replies
 
 module _ (first : Reader) (given : List KeptRow) (next : KeptRow) (old : Reader) (t : takes_replies first given old) where
@@ -111,14 +127,14 @@ stray_refused number first old given next h stray = (given, next, refl, subst (�
 -- ---- entries with keys
 
 module _ (first : EditionReader) (given : List FiledRow) (next : FiledRow) (old : EditionReader) (t : TakesFiled first given old) (fits : IsFiled next) where
-  pub filed_next : (new : EditionReader) (key : List ℕ) → key ≡ key_of (entry_filed next).headword → AreTaken old.reader new.reader (entry_filed next ∷ []) → new.keys.items ≡ old.keys.items ++ key ∷ [] → TakesFiled first (given ++ next ∷ []) new
+  pub filed_next : (new : EditionReader) (key : List ℕ) → key ≡ key_of (entry_filed next).headword → AreAdded old new (entry_filed next ∷ []) → new.keys.items ≡ old.keys.items ++ key ∷ [] → TakesFiled first (given ++ next ∷ []) new
   filed_next new key is more kept = record {
     filed = all_push IsFiled given next t.filed fits;
     keys = kept ∙ ap (λ l. l ++ key ∷ []) t.keys ∙ append_assoc first.keys.items (keys_of (map entry_filed given)) (key ∷ [])
         ∙ ap (λ (k : List ℕ). first.keys.items ++ (keys_of (map entry_filed given) ++ k ∷ [])) is
         ∙ ap (λ l. first.keys.items ++ l) (sym (ap keys_of (map-append entry_filed given (next ∷ [])) ∙ map-append (λ (e : spec.Entry). key_of e.headword) (map entry_filed given) (entry_filed next ∷ [])));
-    taken = entries_next entry_filed first.reader given next old.reader t.taken new.reader more;
+    added = added_next entry_filed first given next old t.added new more;
   }
 
   pub filed_refused : AreNotTaken old.reader (entry_filed next ∷ []) → refuses_filed first (given ++ next ∷ [])
-  filed_refused wrong = inr (all_push IsFiled given next t.filed fits, entries_refused entry_filed first.reader given next old.reader t.taken wrong)
+  filed_refused wrong = inr (all_push IsFiled given next t.filed fits, added_refused entry_filed first given next old t.added wrong)

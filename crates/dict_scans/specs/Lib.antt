@@ -2,6 +2,7 @@ pub mod Reading
 pub mod Cursors
 pub mod Scans
 pub mod Entries
+pub mod Indexing
 pub mod Filing
 pub mod PieceRows
 pub mod Takers

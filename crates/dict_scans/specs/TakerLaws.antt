@@ -11,9 +11,9 @@ use Rattle.dict_records.specs.Keyed.{Piece}
 use Rattle.dict_derived.specs.declared.reader.PieceReader.{PieceReader}
 use Rattle.dict_scans.specs.declared.census.Census.{Census}
 use Rattle.dict_scans.specs.declared.filing.EditionReader.{EditionReader}
-use Rattle.dict_scans.specs.Takers.{takes_rowids, takes_entries, takes_replies, takes_ids}
+use Rattle.dict_scans.specs.Takers.{takes_rowids, takes_replies, takes_ids}
 use Rattle.dict_scans.specs.Entries.{AreTaken}
-use Rattle.dict_scans.specs.Filing.{takes_old, TakesFiled}
+use Rattle.dict_scans.specs.Filing.{AreAdded, takes_plain, takes_old, TakesFiled}
 use Rattle.dict_scans.specs.PieceRows.{takes_pieces}
 use Rattle.dict_scans.specs.Census.{TakesCensus}
 
@@ -23,14 +23,17 @@ no_rowids stored rowids = ([], refl, λ before h. subst (HasTakenRowids rowids) 
 pub no_taken : (reader : Reader) → AreTaken reader reader []
 no_taken reader version taken h = subst (λ (entries : List spec.Entry). HasTaken version reader (record taken { entries = entries })) (sym (append-nil taken.entries)) h
 
-pub no_entries : (reader : Reader) → takes_entries reader [] reader
-no_entries = no_taken
+pub no_added : (taker : EditionReader) → AreAdded taker taker []
+no_added taker = record { taken = no_taken taker.reader; index = sym (append-nil taker.index) }
 
-pub no_old : (reader : Reader) → takes_old reader [] reader
-no_old = no_taken
+pub no_plain : (taker : EditionReader) → takes_plain taker [] taker
+no_plain = no_added
+
+pub no_old : (taker : EditionReader) → takes_old taker [] taker
+no_old = no_added
 
 pub no_filed : (taker : EditionReader) → TakesFiled taker [] taker
-no_filed taker = record { filed = tt; keys = sym (append-nil taker.keys.items); taken = no_taken taker.reader }
+no_filed taker = record { filed = tt; keys = sym (append-nil taker.keys.items); added = no_added taker }
 
 pub no_replies : (reader : Reader) → takes_replies reader [] reader
 no_replies reader version taken h = subst (λ (kept : List spec.Kept). HasTaken version reader (record taken { kept = kept })) (sym (append-nil taken.kept)) h

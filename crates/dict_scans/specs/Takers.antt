@@ -15,11 +15,10 @@ use Rattle.dict_sql.specs.declared.records.EditionNumber.{EditionNumber}
 use Rattle.dict_catalogue.specs.Steps.{Catalogue}
 use Rattle.dict_catalogue.specs.WellFormed.{IsEachOnce}
 use Rattle.dict_rows.specs.Tables.{Tables}
-use Rattle.dict_rows.specs.Given.{entries_given, kept_given}
+use Rattle.dict_rows.specs.Given.{kept_given}
 use Rattle.dict_rows.specs.Stands.{Stands, has_number}
 use Rattle.dict_rows.specs.Taken.{HasTaken, StandsForNone, GoesOn, items_in}
 use Rattle.dict_rows.specs.Whole.{with_replies}
-use Rattle.dict_scans.specs.Entries.{AreTaken, AreNotTaken}
 use Rattle.dict_rows.specs.Order.{InOrder}
 use Rattle.dict_rows.specs.Apart.{HasTakenIds, HasTakenRowids, HaveApartNeighbours}
 use Rattle.dict_rows.specs.declared.reader.Reader.{Reader}
@@ -33,9 +32,6 @@ EditionRow = Stored (typed.Edition.Edition (String Global) (Vec ℕ Global))
 -- the rowid and the number of an edition
 abbrev pub NumberRow : Type 0
 NumberRow = Stored EditionNumber
-
-abbrev pub EntryRow : Type 0
-EntryRow = Stored (typed.Entry.Entry (String Global))
 
 abbrev pub KeptRow : Type 0
 KeptRow = Stored (typed.Kept.Kept (String Global))
@@ -52,13 +48,7 @@ takes_rowids stored first given last = (ids : List ℤ) × AreRowids stored give
 abbrev pub refuses_rowids : {R : Type 0} → (R → Row) → RowidReader → List R → Type 0
 refuses_rowids stored first given = (ids : List ℤ) × AreRowids stored given ids × ((before : List ℤ) → HasTakenRowids first before → InOrder (λ a b. a ≡ b → ⊥) (before ++ ids) → ⊥)
 
--- ---- the entries of an edition, and the kept replies
-
-abbrev pub takes_entries : Reader → List EntryRow → Reader → Type 0
-takes_entries first given last = AreTaken first last (entries_given given)
-
-abbrev pub refuses_entries : Reader → List EntryRow → Type 0
-refuses_entries first given = AreNotTaken first (entries_given given)
+-- ---- the kept replies
 
 abbrev pub takes_replies : Reader → List KeptRow → Reader → Type 0
 takes_replies first given last = (version : ℕ) (taken : Tables) → HasTaken version first taken → HasTaken version last (with_replies taken (kept_given given))

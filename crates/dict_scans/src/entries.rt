@@ -1,5 +1,5 @@
 // The entries of one edition, read row by row, as each layout files them.
-ghost use Rattle.std.specs.Prelude.{◌≡◌, ◌++◌, List, IfErr, OnOk};
+ghost use Rattle.std.specs.Prelude.{◌≡◌, ◌++◌, List, map, IfErr, OnOk};
 ghost use Rattle.sqlite.specs.State.{HasCleanDisk, IsLive};
 ghost use Rattle.sqlite.specs.Held.{state};
 ghost use Rattle.dict_tables.specs.Tables.{entry};
@@ -10,63 +10,64 @@ ghost use Rattle.dict_rows.specs.Versions.{Plain, Keyed, Shown};
 ghost use Rattle.dict_scans.specs.Reading.{Same, OnlyReads, IsExcused};
 ghost use Rattle.dict_scans.specs.Entries.{TakesEntries, HasWrongEntries};
 ghost use Rattle.dict_scans.specs.Filing.{keys_of};
+ghost use Rattle.dict_scans.specs.Indexing.{indexed_of};
 
 use crate::fault::{ReadingFault, fault_of_store};
 use crate::filing::EditionReader;
 use crate::scan::take_all;
 use dict_keyed_sql::{read_old_rows_of, read_rows_of};
 use dict_records::{Entry, KeyedEntry, OldEntry, Stored};
-use dict_rows::Reader;
 use dict_sql::stream::read_entries_of;
 use dict_tables::KeyedTable;
 use sqlite::{Alter, Connection};
 use std::alloc::Global;
 
-/// Takes the entries of the edition that was taken last, which has this number, from tables without keys.
+/// Takes the entries of the edition that was taken last, which has this number, from tables without keys, and adds them to the index.
 pub fn read_plain_entries<S: Alter>(
     alloc: Global,
     conn: &mut Connection<S>,
     number: i64,
-    reader: &mut Reader,
+    reader: &mut EditionReader,
 ) -> Result<(), ReadingFault>
     requires { WhileOpen (state S.Store conn.old) (Has entry) }
     ensures reads { OnlyReads (state S.Store conn.old) (state S.Store conn.new) }
     ensures failed { HasCleanDisk (state S.Store conn.new) → IfErr result (IsExcused (state S.Store conn.old) (state S.Store conn.new)) }
     ensures same { HasCleanDisk (state S.Store conn.new) → OnOk result (Same (state S.Store conn.old) (state S.Store conn.new)) }
-    ensures whole { HasCleanDisk (state S.Store conn.new) → OnOk result ((all : List AnEntry) × TakesEntries Plain (state S.Store conn.old).now number reader.old reader.new all) }
-    ensures damaged { HasCleanDisk (state S.Store conn.new) → IfErr result (λ fault. fault ≡ ReadingFault.Damaged → HasWrongEntries Plain (state S.Store conn.old).now number reader.old) }
+    ensures whole { HasCleanDisk (state S.Store conn.new) → OnOk result ((all : List AnEntry) × TakesEntries Plain (state S.Store conn.old).now number reader.old.reader reader.new.reader all × (reader.new.index ≡ reader.old.index ++ map indexed_of all)) }
+    ensures damaged { HasCleanDisk (state S.Store conn.new) → IfErr result (λ fault. fault ≡ ReadingFault.Damaged → HasWrongEntries Plain (state S.Store conn.old).now number reader.old.reader) }
 {
     let mut rows = match read_entries_of(conn, number) {
         Ok(rows) => rows,
         Err(error) => return Err(fault_of_store(error)),
     };
-    take_all::<S, Stored<Entry<String>>, Reader>(alloc, &mut rows, reader)
+    take_all::<S, Stored<Entry<String>>, EditionReader>(alloc, &mut rows, reader)
 }
 
-/// Takes the entries of the edition that was taken last, which has this number, from the tables of schemas 2 and 3. Of each
-/// row five columns are looked at.
+/// Takes the entries of the edition that was taken last, which has this number, from the tables of schemas 2 and 3, and adds
+/// them to the index. Of each row five columns are looked at.
 pub fn read_old_entries<S: Alter>(
     alloc: Global,
     conn: &mut Connection<S>,
     number: i64,
-    reader: &mut Reader,
+    reader: &mut EditionReader,
 ) -> Result<(), ReadingFault>
     requires { WhileOpen (state S.Store conn.old) (Has old_entry) }
     ensures reads { OnlyReads (state S.Store conn.old) (state S.Store conn.new) }
     ensures failed { HasCleanDisk (state S.Store conn.new) → IfErr result (IsExcused (state S.Store conn.old) (state S.Store conn.new)) }
     ensures same { HasCleanDisk (state S.Store conn.new) → OnOk result (Same (state S.Store conn.old) (state S.Store conn.new)) }
-    ensures whole { HasCleanDisk (state S.Store conn.new) → OnOk result ((all : List AnEntry) × TakesEntries Keyed (state S.Store conn.old).now number reader.old reader.new all) }
-    ensures damaged { HasCleanDisk (state S.Store conn.new) → IfErr result (λ fault. fault ≡ ReadingFault.Damaged → HasWrongEntries Keyed (state S.Store conn.old).now number reader.old) }
+    ensures whole { HasCleanDisk (state S.Store conn.new) → OnOk result ((all : List AnEntry) × TakesEntries Keyed (state S.Store conn.old).now number reader.old.reader reader.new.reader all × (reader.new.index ≡ reader.old.index ++ map indexed_of all)) }
+    ensures damaged { HasCleanDisk (state S.Store conn.new) → IfErr result (λ fault. fault ≡ ReadingFault.Damaged → HasWrongEntries Keyed (state S.Store conn.old).now number reader.old.reader) }
 {
     is_live(conn);
     let mut rows = match read_old_rows_of(conn, number) {
         Ok(rows) => rows,
         Err(error) => return Err(fault_of_store(error)),
     };
-    take_all::<S, Stored<OldEntry<String, Vec<u8>>>, Reader>(alloc, &mut rows, reader)
+    take_all::<S, Stored<OldEntry<String, Vec<u8>>>, EditionReader>(alloc, &mut rows, reader)
 }
 
-/// Takes the entries of the edition that was taken last, which has this number, from tables with keys, and keeps their keys.
+/// Takes the entries of the edition that was taken last, which has this number, from tables with keys, adds them to the index, and keeps
+/// their keys.
 /// Each row is to have the key of its headword, and the key's octets in reverse order.
 pub fn read_filed_entries<S: Alter>(
     alloc: Global,
@@ -78,7 +79,7 @@ pub fn read_filed_entries<S: Alter>(
     ensures reads { OnlyReads (state S.Store conn.old) (state S.Store conn.new) }
     ensures failed { HasCleanDisk (state S.Store conn.new) → IfErr result (IsExcused (state S.Store conn.old) (state S.Store conn.new)) }
     ensures same { HasCleanDisk (state S.Store conn.new) → OnOk result (Same (state S.Store conn.old) (state S.Store conn.new)) }
-    ensures whole { HasCleanDisk (state S.Store conn.new) → OnOk result ((all : List AnEntry) × TakesEntries Shown (state S.Store conn.old).now number reader.old.reader reader.new.reader all × (reader.new.keys.items ≡ reader.old.keys.items ++ keys_of all)) }
+    ensures whole { HasCleanDisk (state S.Store conn.new) → OnOk result ((all : List AnEntry) × TakesEntries Shown (state S.Store conn.old).now number reader.old.reader reader.new.reader all × (reader.new.keys.items ≡ reader.old.keys.items ++ keys_of all) × (reader.new.index ≡ reader.old.index ++ map indexed_of all)) }
     ensures damaged { HasCleanDisk (state S.Store conn.new) → IfErr result (λ fault. fault ≡ ReadingFault.Damaged → HasWrongEntries Shown (state S.Store conn.old).now number reader.old.reader) }
 {
     let mut rows = match read_rows_of(conn, KeyedTable::Entry, number) {

@@ -1,10 +1,10 @@
 // What takes the records of the tables.
 ghost use Rattle.std.specs.Prelude.{◌≡◌, ◌∷◌, ◌++◌, List, IfOk, IfErr, OnOk};
-ghost use Rattle.dict_scans.specs.Takers.{takes_rowids, refuses_rowids, takes_entries, refuses_entries, takes_replies, refuses_replies, takes_ids, refuses_ids, takes_known, refuses_stray, number_given, IsKnown, IsStray};
-ghost use Rattle.dict_scans.specs.TakerLaws.{no_rowids, no_entries, no_replies, no_ids};
+ghost use Rattle.dict_scans.specs.Takers.{takes_rowids, refuses_rowids, takes_replies, refuses_replies, takes_ids, refuses_ids, takes_known, refuses_stray, number_given, IsKnown, IsStray};
+ghost use Rattle.dict_scans.specs.TakerLaws.{no_rowids, no_replies, no_ids};
 
 use crate::scan::Taker;
-use dict_records::{Entry, Kept, Stored};
+use dict_records::{Kept, Stored};
 use dict_rows::{IdReader, Reader, RowidReader, RowsFault};
 use dict_sql::records::{EditionNumber, Record};
 use std::alloc::Global;
@@ -20,19 +20,6 @@ impl<R: Record + Drop> Taker<R> for RowidReader {
     }
 
     ghost none = { no_rowids R.stored };
-}
-
-/// The entries of the edition that was taken last.
-impl Taker<Stored<Entry<String>>> for Reader {
-    ghost takes = { takes_entries };
-
-    ghost refuses = { refuses_entries };
-
-    fn take(&mut self, alloc: Global, next: Stored<Entry<String>>) -> Result<(), RowsFault> {
-        self.entry(alloc, &next.value, next.value.headword.as_str())
-    }
-
-    ghost none = { no_entries };
 }
 
 /// The kept replies, in the order of their numbers.

@@ -12,7 +12,7 @@ use Rattle.dict_sql.specs.Streams.Scan.{EntriesOf}
 use Rattle.dict_sql.specs.Encodings.{stored_entry}
 use Rattle.dict_sql.specs.Columns.{entry_columns}
 use Rattle.dict_scans.specs.Cursors.Cursor.{InStore}
-use Rattle.dict_scans.specs.Takers.{takes_entries, refuses_entries}
+use Rattle.dict_scans.specs.Filing.{takes_plain, refuses_plain}
 use Rattle.dict_scans.proofs.EntryLemmas.{plain_whole, plain_wrong}
 use Rattle.dict_scans.proofs.BeginLemmas.{reads_on, whole_on, damaged_on}
 use Rattle.dict_scans.proofs.TakerLemmas.{if_err_then}
@@ -35,7 +35,7 @@ returns-clause-whole g c clean =
     let end = c.take_all.new.rows.conn.now in
     let same : end ≡ c.conn-2-1.given.0 = search rules in
     let late : HasCleanDisk (state g.S.Store end) = subst (λ h. HasCleanDisk (state g.S.Store h)) (sym same) clean in
-    on_ok_weaker c.take_all.result (λ all. plain_whole (state g.S.Store old).now c.args.number c.args.reader.now c.take_all.new.taker all) (whole_on g.S.Store (InStore (EntriesOf c.args.number)) old mid end (rw (to_z-of_z w64 c.args.number c.ranges.number) at c.in-Ok.ensures.begun) c.take_all.ensures.survives c.take_all.result (λ what db. TakesAll stored_entry takes_entries what db c.args.reader.now c.take_all.new.taker) c.take_all.ensures.whole late)
+    on_ok_weaker c.take_all.result (λ all. plain_whole (state g.S.Store old).now c.args.number c.args.reader.now c.take_all.new.taker all) (whole_on g.S.Store (InStore (EntriesOf c.args.number)) old mid end (rw (to_z-of_z w64 c.args.number c.ranges.number) at c.in-Ok.ensures.begun) c.take_all.ensures.survives c.take_all.result (λ what db. TakesAll stored_entry takes_plain what db c.args.reader.now c.take_all.new.taker) c.take_all.ensures.whole late)
 
 pub returns-clause-damaged : goal.returns-clause-damaged
 returns-clause-damaged g c clean =
@@ -44,7 +44,7 @@ returns-clause-damaged g c clean =
     let end = c.take_all.new.rows.conn.now in
     let same : end ≡ c.conn-2-1.given.0 = search rules in
     let late : HasCleanDisk (state g.S.Store end) = subst (λ h. HasCleanDisk (state g.S.Store h)) (sym same) clean in
-    if_err_then _ _ c.take_all.result (λ fault wrong is. plain_wrong (state g.S.Store old).now c.args.number c.args.reader.now (wrong is)) (damaged_on g.S.Store (InStore (EntriesOf c.args.number)) old mid end (rw (to_z-of_z w64 c.args.number c.ranges.number) at c.in-Ok.ensures.begun) c.take_all.ensures.survives c.take_all.result (λ what db. IsWrong stored_entry entry_columns refuses_entries what db c.args.reader.now) c.take_all.ensures.damaged late)
+    if_err_then _ _ c.take_all.result (λ fault wrong is. plain_wrong (state g.S.Store old).now c.args.number c.args.reader.now (wrong is)) (damaged_on g.S.Store (InStore (EntriesOf c.args.number)) old mid end (rw (to_z-of_z w64 c.args.number c.ranges.number) at c.in-Ok.ensures.begun) c.take_all.ensures.survives c.take_all.result (λ what db. IsWrong stored_entry entry_columns refuses_plain what db c.args.reader.now) c.take_all.ensures.damaged late)
 
 pub returns-clause-failed : goal.returns-clause-failed
 returns-clause-failed g c clean =
