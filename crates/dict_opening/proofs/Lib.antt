@@ -15,3 +15,4 @@ pub mod WrongLemmas
 pub mod CloseLemmas
 pub mod HoldLemmas
 pub mod MarkLemmas
+pub mod IndexLemmas

@@ -1,5 +1,5 @@
 // The editions that the items name, each with its entries, and with what is derived of them where it is looked at.
-ghost use Rattle.std.specs.Prelude.{◌≡◌, ◌⊎◌, ℕ, List, [], ◌∷◌, codes, IfOk, IfErr, OnOk};
+ghost use Rattle.std.specs.Prelude.{◌≡◌, ◌⊎◌, ◌++◌, ℕ, pos, List, [], ◌∷◌, map, codes, IfOk, IfErr, OnOk};
 ghost use Rattle.sqlite.specs.State.{HasCleanDisk};
 ghost use Rattle.sqlite.specs.Held.{state};
 ghost use Rattle.dict_tables.specs.Keyed.{word, gram};
@@ -13,21 +13,26 @@ ghost use Rattle.dict_rows.specs.Tables.{Tables};
 ghost use Rattle.dict_rows.specs.Taken.{HasTaken, with_edition};
 ghost use Rattle.dict_rows.specs.Versions.{layout_of as layout_at};
 ghost use Rattle.dict_scans.specs.Reading.{Same, OnlyReads, IsExcused};
-ghost use Rattle.dict_scans.specs.Entries.{HasWrongEntries, TakesEntries};
+ghost use Rattle.dict_scans.specs.Entries.{HasEntries, HasWrongEntries, TakesEntries};
+ghost use Rattle.dict_scans.specs.Indexing.{indexed_of};
+ghost use Rattle.dict_opening.specs.Indexed.{HasPut, HaveRowsIndexed};
 ghost use Rattle.dict_opening.specs.Layouts.{layout_in};
 ghost use Rattle.dict_opening.specs.Opens.{KeepsNone, HasVersionTables, HasTablesOf, IsNotOne, CanReadOne, HasReadOne, CanRead, HasRead, IsWrongEdition, HasKeys, HasBoth, HasNotBoth, HasPieces, IsKeyed, IsNotKeyed};
 
 use crate::layout::{TableLayout, layout_of};
 use dict_derived::Pieces;
+use dict_indexes::Indexes;
 use dict_match::Key;
 use dict_records::{Edition, Stored};
+use dict_rows::number_in;
 use dict_scans::{
-    EditionReader, ReadingFault, fault_of_read, fault_of_rows, read_filed_entries,
+    EditionIndex, EditionReader, ReadingFault, fault_of_read, fault_of_rows, read_filed_entries,
     read_old_entries, read_plain_entries, test_pieces,
 };
 use dict_sql::read::editions_numbered;
 use sqlite::{Alter, Connection};
 use std::alloc::Global;
+use std::mem::replace;
 
 /// The one edition of this number.
 fn edition_numbered<S: Alter>(
@@ -52,8 +57,8 @@ fn edition_numbered<S: Alter>(
     Ok(all.remove(0))
 }
 
-/// Takes the entries of the edition that was taken last, which has this number, and behind those that it holds the key of each
-/// where these are looked at.
+/// Takes the entries of the edition that was taken last, which has this number, adds them to the index, and behind those that it
+/// holds the key of each where these are looked at.
 fn read_entries<S: Alter>(
     alloc: Global,
     conn: &mut Connection<S>,
@@ -65,12 +70,12 @@ fn read_entries<S: Alter>(
     ensures reads { OnlyReads (state S.Store conn.old) (state S.Store conn.new) }
     ensures failed { HasCleanDisk (state S.Store conn.new) → IfErr result (IsExcused (state S.Store conn.old) (state S.Store conn.new)) }
     ensures same { HasCleanDisk (state S.Store conn.new) → OnOk result (Same (state S.Store conn.old) (state S.Store conn.new)) }
-    ensures whole { HasCleanDisk (state S.Store conn.new) → OnOk result ((es : List EntryRecord) × TakesEntries (layout_in layout) (state S.Store conn.old).now number reader.old.reader reader.new.reader es × HasKeys (layout_in layout) reader.old.keys.items es reader.new.keys.items) }
+    ensures whole { HasCleanDisk (state S.Store conn.new) → OnOk result ((es : List EntryRecord) × TakesEntries (layout_in layout) (state S.Store conn.old).now number reader.old.reader reader.new.reader es × HasKeys (layout_in layout) reader.old.keys.items es reader.new.keys.items × (reader.new.index ≡ reader.old.index ++ map indexed_of es)) }
     ensures damaged { HasCleanDisk (state S.Store conn.new) → IfErr result (λ fault. fault ≡ ReadingFault.Damaged → HasWrongEntries (layout_in layout) (state S.Store conn.old).now number reader.old.reader) }
 {
     match layout {
-        TableLayout::Plain => read_plain_entries(alloc, conn, number, &mut reader.reader),
-        TableLayout::Keyed => read_old_entries(alloc, conn, number, &mut reader.reader),
+        TableLayout::Plain => read_plain_entries(alloc, conn, number, reader),
+        TableLayout::Keyed => read_old_entries(alloc, conn, number, reader),
         TableLayout::Shown => read_filed_entries(alloc, conn, number, reader),
     }
 }
@@ -116,7 +121,7 @@ fn test_derived<S: Alter>(
 }
 
 /// Takes the entries of the edition that was taken last, which has this number, and tests what is derived of them. It holds the
-/// keys of this edition alone.
+/// keys of this edition alone, and makes the index of it.
 fn read_with_derived<S: Alter>(
     alloc: Global,
     conn: &mut Connection<S>,
@@ -128,15 +133,16 @@ fn read_with_derived<S: Alter>(
     ensures reads { OnlyReads (state S.Store conn.old) (state S.Store conn.new) }
     ensures failed { HasCleanDisk (state S.Store conn.new) → IfErr result (IsExcused (state S.Store conn.old) (state S.Store conn.new)) }
     ensures same { HasCleanDisk (state S.Store conn.new) → OnOk result (Same (state S.Store conn.old) (state S.Store conn.new)) }
-    ensures whole { HasCleanDisk (state S.Store conn.new) → OnOk result ((es : List EntryRecord) × TakesEntries (layout_in layout) (state S.Store conn.old).now number reader.old.reader reader.new.reader es × HasPieces (layout_in layout) (state S.Store conn.old).now number es) }
+    ensures whole { HasCleanDisk (state S.Store conn.new) → OnOk result ((es : List EntryRecord) × TakesEntries (layout_in layout) (state S.Store conn.old).now number reader.old.reader reader.new.reader es × HasPieces (layout_in layout) (state S.Store conn.old).now number es × (reader.new.index ≡ map indexed_of es)) }
     ensures damaged { HasCleanDisk (state S.Store conn.new) → IfErr result (λ fault. fault ≡ ReadingFault.Damaged → IsWrongEdition (layout_in layout) (state S.Store conn.old).now number reader.old.reader) }
 {
     reader.keys = Vec::new(alloc);
+    reader.index = EditionIndex::new(alloc);
     read_entries(alloc, conn, layout, number, reader)?;
     test_derived(alloc, conn, layout, number, &reader.keys)
 }
 
-/// Takes the edition of this number, with its entries.
+/// Takes the edition of this number, with its entries, and makes the index of it.
 fn read_number<S: Alter>(
     alloc: Global,
     conn: &mut Connection<S>,
@@ -149,6 +155,7 @@ fn read_number<S: Alter>(
     ensures failed { HasCleanDisk (state S.Store conn.new) → IfErr result (IsExcused (state S.Store conn.old) (state S.Store conn.new)) }
     ensures same { HasCleanDisk (state S.Store conn.new) → OnOk result (Same (state S.Store conn.old) (state S.Store conn.new)) }
     ensures whole { HasCleanDisk (state S.Store conn.new) → OnOk result ((taken : Tables) → HasTaken version reader.old.reader taken → (after : Tables) × HasTaken version reader.new.reader after × HasReadOne (layout_at version) (state S.Store conn.old).now number taken after) }
+    ensures indexed { HasCleanDisk (state S.Store conn.new) → OnOk result ((given : List EntryRecord) × HasEntries (layout_at version) (state S.Store conn.old).now number given × (reader.new.index ≡ map indexed_of given)) }
     ensures damaged { HasCleanDisk (state S.Store conn.new) → IfErr result (λ fault. fault ≡ ReadingFault.Damaged → (taken : Tables) → HasTaken version reader.old.reader taken → CanReadOne version (state S.Store conn.old).now taken number → KeepsNone version (state S.Store conn.old).now taken.members) }
 {
     reader.reader.let_go();
@@ -159,23 +166,49 @@ fn read_number<S: Alter>(
     read_with_derived(alloc, conn, layout_of(version), number, reader)
 }
 
-/// Takes the editions of these numbers, each with its entries.
+/// Puts the index that was made under the number of its edition, and begins another one.
+fn put_index(
+    alloc: Global,
+    number: i64,
+    index: &mut EditionIndex,
+    indexes: &mut Indexes,
+) -> Result<(), ReadingFault>
+    ensures put { OnOk result ((n : ℕ) → number ≡ pos n → HasPut n index.old indexes.old indexes.new) }
+    ensures only { IfErr result (λ fault. fault ≡ ReadingFault.Memory) }
+{
+    let taken = replace(index, EditionIndex::new(alloc));
+    let Some(number) = number_in(&number) else {
+        return Ok(());
+    };
+    let Ok(made) = taken.finish() else {
+        return Err(ReadingFault::Memory);
+    };
+    match indexes.put(number, made) {
+        Ok(()) => Ok(()),
+        Err(_) => Err(ReadingFault::Memory),
+    }
+}
+
+/// Takes the editions of these numbers, each with its entries, and puts an index of each under its number.
 pub(crate) fn read_numbered_editions<S: Alter>(
     alloc: Global,
     conn: &mut Connection<S>,
     version: u64,
     numbers: &[i64],
     reader: &mut EditionReader,
+    indexes: &mut Indexes,
 ) -> Result<(), ReadingFault>
     requires { WhileOpen (state S.Store conn.old) (HasVersionTables version) }
     ensures reads { OnlyReads (state S.Store conn.old) (state S.Store conn.new) }
     ensures failed { HasCleanDisk (state S.Store conn.new) → IfErr result (IsExcused (state S.Store conn.old) (state S.Store conn.new)) }
     ensures same { HasCleanDisk (state S.Store conn.new) → OnOk result (Same (state S.Store conn.old) (state S.Store conn.new)) }
     ensures whole { HasCleanDisk (state S.Store conn.new) → OnOk result ((front : Tables) → CanRead version (state S.Store conn.old).now reader.old.reader numbers.now front → (after : Tables) × HasTaken version reader.new.reader after × HasRead version (state S.Store conn.old).now numbers.now front after) }
+    ensures indexed { HasCleanDisk (state S.Store conn.new) → OnOk result ((ns : List ℕ) → numbers.now ≡ map pos ns → HaveRowsIndexed (layout_at version) (state S.Store conn.old).now ns indexes.new) }
     ensures damaged { HasCleanDisk (state S.Store conn.new) → IfErr result (λ fault. fault ≡ ReadingFault.Damaged → (front : Tables) → CanRead version (state S.Store conn.old).now reader.old.reader numbers.now front → KeepsNone version (state S.Store conn.old).now front.members) }
 {
     for number in numbers {
         read_number(alloc, conn, version, *number, reader)?;
+        put_index(alloc, *number, &mut reader.index, indexes)?;
     }
     Ok(())
 }

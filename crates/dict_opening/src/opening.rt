@@ -9,6 +9,7 @@ ghost use Rattle.dict_catalogue.specs.Steps.{Catalogue, summary_of};
 ghost use Rattle.dict_catalogue.specs.Views.{summary_shown};
 ghost use Rattle.dict_holdings.specs.Holds.{Holds, Rests};
 ghost use Rattle.dict_scans.specs.Reading.{Same, OnlyReads, IsOfOpening, IsExcused, HasFailed, fault_told};
+ghost use Rattle.dict_opening.specs.Indexed.{IsIndexed};
 ghost use Rattle.dict_opening.specs.Opens.{HoldsNone, HoldsNoneAs, HasMark, HasKnownMark, IsMarked, marked};
 ghost use Rattle.dict_rows.specs.Versions.{known, IsVersion};
 
@@ -20,6 +21,7 @@ use crate::rowids::test_other_rowids;
 use dict_catalogue::Summary;
 use dict_desk::Fault;
 use dict_holdings::fault_of;
+use dict_indexes::Indexes;
 use dict_records::{Mark, Stored};
 use dict_rows::{KNOWN_VERSION, number_in};
 use dict_scans::ReadingFault;
@@ -27,26 +29,26 @@ use dict_sql::records::ReadError;
 use sqlite::{Alter, Connection};
 use std::alloc::Global;
 
-/// The summary of the catalogue that the tables hold, where these are the records of the mark, which is of this version. Editions are read first: what
+/// The summary of the catalogue that the tables hold, and indexes of its editions, where these are the records of the mark, which is of this version. Editions are read first: what
 /// is read before them leaves less room for their texts.
 fn read_tables<S: Alter>(
     alloc: Global,
     conn: &mut Connection<S>,
     version: u64,
     marks: &[Stored<Mark<String>>],
-) -> Result<Summary, ReadingFault>
+) -> Result<(Summary, Indexes), ReadingFault>
     ensures reads { OnlyReads (state S.Store conn.old) (state S.Store conn.new) }
     ensures failed { HasCleanDisk (state S.Store conn.new) → IfErr result (IsExcused (state S.Store conn.old) (state S.Store conn.new)) }
     ensures same { HasCleanDisk (state S.Store conn.new) → OnOk result (Same (state S.Store conn.old) (state S.Store conn.new)) }
-    ensures holds { HasCleanDisk (state S.Store conn.new) → IfOk result (λ summary. IsListing (codes "mark") (1 ∷ []) (state S.Store conn.old).now (map stored_mark marks.now) → (M : Catalogue) × Holds version (state S.Store conn.old).now M × (summary_of M ≡ summary_shown summary)) }
+    ensures holds { HasCleanDisk (state S.Store conn.new) → IfOk result (λ read. IsListing (codes "mark") (1 ∷ []) (state S.Store conn.old).now (map stored_mark marks.now) → (M : Catalogue) × Holds version (state S.Store conn.old).now M × (summary_of M ≡ summary_shown read.0) × IsIndexed version (state S.Store conn.old).now M read.1) }
     ensures damaged { HasCleanDisk (state S.Store conn.new) → IfErr result (λ fault. fault ≡ ReadingFault.Damaged → IsListing (codes "mark") (1 ∷ []) (state S.Store conn.old).now (map stored_mark marks.now) → HoldsNoneAs version (state S.Store conn.old).now) }
 {
     if !has_layout(conn.schema(), version) {
         return Err(ReadingFault::Damaged);
     }
-    let summary = read_records(alloc, conn, version, marks)?;
+    let read = read_records(alloc, conn, version, marks)?;
     test_other_rowids(alloc, conn, version)?;
-    Ok(summary)
+    Ok(read)
 }
 
 fn is_one(found: &i64) -> bool
@@ -126,8 +128,9 @@ fn told(fault: ReadingFault) -> Fault
     }
 }
 
-/// Reads a file whole, and gives its version and the summary of the catalogue that it holds. Nothing is written. It takes memory by the
-/// largest edition, and not by their sum.
+/// Reads a file whole, and gives its version, the summary of the catalogue that it holds, and an index of each of its editions, current
+/// and former, under the edition's number. Nothing is written. Beside the indexes it takes memory by the largest edition, and not by
+/// their sum.
 ///
 /// `NotACatalogue` tells that there is no readable mark, `NewerSchema` that the mark is of a version above the known one,
 /// and `Damaged` that the mark is readable and of a known version, and the tables that this version has hold no catalogue, or a foreign
@@ -136,9 +139,9 @@ fn told(fault: ReadingFault) -> Fault
 pub fn read_catalogue<S: Alter>(
     alloc: Global,
     conn: &mut Connection<S>,
-) -> Result<(u64, Summary), Fault>
+) -> Result<(u64, Summary, Indexes), Fault>
     requires { conn.old.in_transaction ≡ false }
-    ensures rests { HasCleanDisk (state S.Store conn.new) → IfOk result (λ found. (M : Catalogue) × Rests found.0 (state S.Store conn.new) M × (summary_of M ≡ summary_shown found.1)) }
+    ensures rests { HasCleanDisk (state S.Store conn.new) → IfOk result (λ found. (M : Catalogue) × Rests found.0 (state S.Store conn.new) M × (summary_of M ≡ summary_shown found.1) × IsIndexed found.0 (state S.Store conn.new).committed M found.2) }
     ensures known { IfOk result (λ found. IsVersion found.0) }
     ensures damaged { HasCleanDisk (state S.Store conn.new) → result ≡ Err Fault.Damaged → HasKnownMark (state S.Store conn.old).now × HoldsNone (state S.Store conn.old).now }
     ensures newer { HasCleanDisk (state S.Store conn.new) → result ≡ Err Fault.NewerSchema → (version : ℕ) × HasMark (state S.Store conn.old).now version × (known < version) }
@@ -156,7 +159,7 @@ pub fn read_catalogue<S: Alter>(
     }
     let (version, marks) = read_mark(alloc, conn)?;
     match read_tables(alloc, conn, version, &marks) {
-        Ok(summary) => Ok((version, summary)),
+        Ok((summary, indexes)) => Ok((version, summary, indexes)),
         Err(fault) => Err(told(fault)),
     }
 }

@@ -6,18 +6,22 @@ ghost use Rattle.dict_sql.specs.Effects.{WhileOpen};
 ghost use Rattle.dict_sql.specs.Encodings.{stored_mark};
 ghost use Rattle.dict_sql.specs.Reads.{IsListing};
 ghost use Rattle.dict_rows.specs.Tables.{Tables};
-ghost use Rattle.dict_rows.specs.Taken.{HasTaken};
+ghost use Rattle.dict_rows.specs.Taken.{HasTaken, items_in};
+ghost use Rattle.dict_rows.specs.Versions.{layout_of as layout_at};
+ghost use Rattle.dict_catalogue.specs.Items.{edition_numbers};
 ghost use Rattle.dict_catalogue.specs.Views.{summary_shown};
 ghost use Rattle.dict_scans.specs.Reading.{Same, OnlyReads, IsExcused};
+ghost use Rattle.dict_opening.specs.Indexed.{HaveRowsIndexed};
 ghost use Rattle.dict_opening.specs.Opens.{HasVersionTables, KeepsNone, HoldsNoneAs, HasBegun, Fits, HasNamed, AreAllKnown, HasReplies, HasAll, HasSummary};
 
 use crate::editions::read_numbered_editions;
 use crate::strays::test_strays;
 use dict_catalogue::Summary;
+use dict_indexes::Indexes;
 use dict_records::{Mark, Stored};
 use dict_rows::Reader;
 use dict_scans::{
-    EditionReader, ReadingFault, fault_of_read, fault_of_rows, read_replies, test_ids,
+    EditionIndex, EditionReader, ReadingFault, fault_of_read, fault_of_rows, read_replies, test_ids,
 };
 use dict_sql::read::{items, members};
 use sqlite::{Alter, Connection};
@@ -51,17 +55,19 @@ fn begin<S: Alter>(
     }
 }
 
-/// Takes the editions that the items name with their entries.
+/// Takes the editions that the items name with their entries, and puts an index of each under its number.
 fn read_named<S: Alter>(
     alloc: Global,
     conn: &mut Connection<S>,
     version: u64,
     reader: &mut EditionReader,
+    indexes: &mut Indexes,
 ) -> Result<(), ReadingFault>
     requires { WhileOpen (state S.Store conn.old) (HasVersionTables version) }
     ensures reads { OnlyReads (state S.Store conn.old) (state S.Store conn.new) }
     ensures failed { HasCleanDisk (state S.Store conn.new) → IfErr result (IsExcused (state S.Store conn.old) (state S.Store conn.new)) }
     ensures same { HasCleanDisk (state S.Store conn.new) → OnOk result (Same (state S.Store conn.old) (state S.Store conn.new)) }
+    ensures indexed { HasCleanDisk (state S.Store conn.new) → OnOk result (HaveRowsIndexed (layout_at version) (state S.Store conn.old).now (edition_numbers (items_in reader.old.reader)) indexes.new) }
     ensures named { HasCleanDisk (state S.Store conn.new) → OnOk result ((front : Tables) → HasTaken version reader.old.reader front → HasBegun version (state S.Store conn.old).now front → (after : Tables) × HasTaken version reader.new.reader after × HasNamed version (state S.Store conn.old).now reader.old.reader front after) }
     ensures damaged { HasCleanDisk (state S.Store conn.new) → IfErr result (λ fault. fault ≡ ReadingFault.Damaged → (front : Tables) → HasTaken version reader.old.reader front → HasBegun version (state S.Store conn.old).now front → HoldsNoneAs version (state S.Store conn.old).now) }
 {
@@ -69,7 +75,7 @@ fn read_named<S: Alter>(
         Ok(numbers) => numbers,
         Err(fault) => return Err(fault_of_rows(fault)),
     };
-    read_numbered_editions(alloc, conn, version, &numbers, reader)
+    read_numbered_editions(alloc, conn, version, &numbers, reader, indexes)
 }
 
 /// Takes all kept replies, no two of which have one id.
@@ -90,47 +96,53 @@ fn read_kept<S: Alter>(
     test_ids(alloc, conn)
 }
 
-/// Takes the editions, the entries and the kept replies: all that are there.
+/// Takes the editions, the entries and the kept replies: all that are there. An index of each edition is put under its number.
 fn read_all<S: Alter>(
     alloc: Global,
     conn: &mut Connection<S>,
     version: u64,
     reader: &mut EditionReader,
+    indexes: &mut Indexes,
 ) -> Result<(), ReadingFault>
     requires { WhileOpen (state S.Store conn.old) (HasVersionTables version) }
     ensures reads { OnlyReads (state S.Store conn.old) (state S.Store conn.new) }
     ensures failed { HasCleanDisk (state S.Store conn.new) → IfErr result (IsExcused (state S.Store conn.old) (state S.Store conn.new)) }
     ensures same { HasCleanDisk (state S.Store conn.new) → OnOk result (Same (state S.Store conn.old) (state S.Store conn.new)) }
+    ensures indexed { HasCleanDisk (state S.Store conn.new) → OnOk result (HaveRowsIndexed (layout_at version) (state S.Store conn.old).now (edition_numbers (items_in reader.old.reader)) indexes.new) }
     ensures all { HasCleanDisk (state S.Store conn.new) → OnOk result ((front : Tables) → HasTaken version reader.old.reader front → HasBegun version (state S.Store conn.old).now front → (after : Tables) × HasTaken version reader.new.reader after × HasAll version (state S.Store conn.old).now reader.old.reader front after) }
     ensures damaged { HasCleanDisk (state S.Store conn.new) → IfErr result (λ fault. fault ≡ ReadingFault.Damaged → (front : Tables) → HasTaken version reader.old.reader front → HasBegun version (state S.Store conn.old).now front → HoldsNoneAs version (state S.Store conn.old).now) }
 {
     test_strays(alloc, conn, version, &reader.reader)?;
-    read_named(alloc, conn, version, reader)?;
+    read_named(alloc, conn, version, reader, indexes)?;
     read_kept(alloc, conn, version, &mut reader.reader)
 }
 
-/// The summary of the catalogue that the records of all tables stand for, where these are those of the mark, which is of this version.
+/// The summary of the catalogue that the records of all tables stand for, where these are those of the mark, which is of this version;
+/// and indexes of its editions.
 pub(crate) fn read_records<S: Alter>(
     alloc: Global,
     conn: &mut Connection<S>,
     version: u64,
     marks: &[Stored<Mark<String>>],
-) -> Result<Summary, ReadingFault>
+) -> Result<(Summary, Indexes), ReadingFault>
     requires { WhileOpen (state S.Store conn.old) (HasVersionTables version) }
     ensures reads { OnlyReads (state S.Store conn.old) (state S.Store conn.new) }
     ensures failed { HasCleanDisk (state S.Store conn.new) → IfErr result (IsExcused (state S.Store conn.old) (state S.Store conn.new)) }
     ensures same { HasCleanDisk (state S.Store conn.new) → OnOk result (Same (state S.Store conn.old) (state S.Store conn.new)) }
-    ensures stands { HasCleanDisk (state S.Store conn.new) → IfOk result (λ summary. IsListing (codes "mark") (1 ∷ []) (state S.Store conn.old).now (map stored_mark marks.now) → HasSummary version (state S.Store conn.old).now (summary_shown summary)) }
+    ensures stands { HasCleanDisk (state S.Store conn.new) → IfOk result (λ read. IsListing (codes "mark") (1 ∷ []) (state S.Store conn.old).now (map stored_mark marks.now) → HasSummary version (state S.Store conn.old).now (summary_shown read.0)) }
+    ensures indexed { HasCleanDisk (state S.Store conn.new) → IfOk result (λ read. IsListing (codes "mark") (1 ∷ []) (state S.Store conn.old).now (map stored_mark marks.now) → HaveRowsIndexed (layout_at version) (state S.Store conn.old).now (edition_numbers (summary_shown read.0).items) read.1) }
     ensures damaged { HasCleanDisk (state S.Store conn.new) → IfErr result (λ fault. fault ≡ ReadingFault.Damaged → IsListing (codes "mark") (1 ∷ []) (state S.Store conn.old).now (map stored_mark marks.now) → HoldsNoneAs version (state S.Store conn.old).now) }
 {
     let reader = begin(alloc, conn, version, marks)?;
     let mut reader = EditionReader {
         reader,
         keys: Vec::new(alloc),
+        index: EditionIndex::new(alloc),
     };
-    read_all(alloc, conn, version, &mut reader)?;
+    let mut indexes = Indexes::new(alloc);
+    read_all(alloc, conn, version, &mut reader, &mut indexes)?;
     match reader.reader.finish() {
-        Ok(summary) => Ok(summary),
+        Ok(summary) => Ok((summary, indexes)),
         Err(fault) => Err(fault_of_rows(fault)),
     }
 }

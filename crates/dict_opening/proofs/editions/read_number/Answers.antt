@@ -74,6 +74,24 @@ returns-clause-whole g c clean =
     ))
     (c.read_with_derived.ensures.whole clean)
 
+pub returns-clause-indexed : goal.returns-clause-indexed
+returns-clause-indexed g c clean =
+    let old = state g.S.Store c.args.conn.now in
+    let mid = state g.S.Store c.edition_numbered.new.conn in
+    let new = state g.S.Store c.read_with_derived.new.conn in
+    let n = c.args.number in
+    let layout = layout_of c.args.version in
+    let is = c.layout_of.ensures in
+    let early : HasCleanDisk mid = clean_before old mid new c.read_with_derived.ensures.reads.survives clean in
+    let same = (c.in_ok-row.ensures.same early).now in
+    on_ok_weaker c.read_with_derived.result
+    (λ all. (
+      all.0,
+      subst (λ (d : Database). HasEntries layout d n all.0) same (subst (λ m. HasEntries layout mid.now m all.0) (to_z-of_z w64 n c.ranges.number) (subst (λ l. HasEntries l mid.now (to_z w64 (of_z w64 n)) all.0) is all.1.0)),
+      all.3,
+    ))
+    (c.read_with_derived.ensures.whole clean)
+
 pub returns-clause-damaged : goal.returns-clause-damaged
 returns-clause-damaged g c clean =
     let old = state g.S.Store c.args.conn.now in

@@ -1,6 +1,10 @@
-use Rattle.std.proofs.Common.{◌≡◌, true, ◌<◌, ◌≤◌, pos, length, take, get_or, rules, arith, sym, subst}
+use Rattle.std.proofs.Common.{◌≡◌, true, ◌<◌, ◌≤◌, ◌∙◌, ap, pos, length, take, get_or, rules, arith, sym, subst}
 use Rattle.std.proofs.lemmas.Int.{to_z-of_z}
-use Rattle.std.proofs.lemmas.List.{take_all, take_more, get_or_default}
+use Rattle.std.proofs.lemmas.List.{take_all, take_more, get_or_default, length-map}
+use Rattle.std.proofs.Math.ListN.{get_or-map}
+use Rattle.dict_scans.specs.Entries.{HasEntries}
+use Rattle.dict_opening.specs.Indexed.{HaveRowsIndexed}
+use Rattle.dict_opening.proofs.IndexLemmas.{next_indexed}
 use mir.Syntax.{w64}
 use mir.Val.{SFits}
 use Rattle.sqlite.specs.Effect.{Database}
@@ -25,6 +29,7 @@ loop-number-init g c = record {
   mode = (λ m. m);
   survives = survives_itself (state g.S.Store c.args.conn.now);
   same = (λ clean. same_itself (state g.S.Store c.args.conn.now));
+  indexed = (λ clean ns is. tt);
   read = (λ clean front can. (front, can.taken, read_none c.args.version (state g.S.Store c.args.conn.now).now c.args.reader.now.reader c.args.numbers.now front can));
 }
 
@@ -72,6 +77,18 @@ loop-number-preserved g c =
       mode = (λ m. c.read_number.ensures.reads.mode (c.loop-number.invariant.mode m));
       survives = survives_then old mid new (λ _. ⊥) (λ _. ⊥) (λ _. ⊥) (λ _ db none. none) (λ _ db none. none) c.loop-number.invariant.survives c.read_number.ensures.reads.survives;
       same = (λ clean. same_then old mid new (c.loop-number.invariant.same (clean_before old mid new c.read_number.ensures.reads.survives clean)) (c.in_ok-read_number.ensures.same clean));
+      indexed = (λ clean ns is.
+          let version = c.args.version in
+          let layout = layout_of version in
+          let early = clean_before old mid new c.read_number.ensures.reads.survives clean in
+          let same = (c.loop-number.invariant.same early).now in
+          let got = c.in_ok-read_number.ensures.indexed clean in
+          let m = get_or ns i 0 in
+          let long : i < length ns = omega (arith, lt, ap length is, length-map ns pos) in
+          let here : n ≡ pos m = ap (λ l. get_or l i (pos 0)) is ∙ get_or-map pos ns i 0 in
+          let back = to_z-of_z w64 n fits in
+          let entries = subst (λ k. HasEntries layout old.now k got.0) here (subst (λ (d : Database). HasEntries layout d n got.0) same (subst (λ k. HasEntries layout mid.now k got.0) back got.1)) in
+          next_indexed layout old.now ns i got.0 c.read_number.new.reader.index c.loop-number.indexes c.put_index.new.indexes long (c.loop-number.invariant.indexed early ns is) entries got.2 (c.in_ok-put_index.ensures.put m (back ∙ here)));
       read = (λ clean front can.
           let version = c.args.version in
           let early = clean_before old mid new c.read_number.ensures.reads.survives clean in
@@ -91,6 +108,13 @@ returns-clause-whole g c clean front can =
     let had = c.loop-number.invariant.read clean front can in
     let past : length c.args.numbers.now ≤ c.loop-number.number-index = omega arith in
     (had.0, had.1, subst (λ ns. HasRead c.args.version old.now ns front had.0) (take_all c.loop-number.number-index c.args.numbers.now past) had.2)
+
+pub returns-clause-indexed : goal.returns-clause-indexed
+returns-clause-indexed g c clean ns is =
+    let old = state g.S.Store c.args.conn.now in
+    let layout = layout_of c.args.version in
+    let past : length ns ≤ c.loop-number.number-index = omega (arith, ap length is, length-map ns pos) in
+    subst (λ ms. HaveRowsIndexed layout old.now ms c.loop-number.indexes) (take_all c.loop-number.number-index ns past) (c.loop-number.invariant.indexed clean ns is)
 
 pub returns-in_err-read_number-clause-failed : goal.returns-in_err-read_number-clause-failed
 returns-in_err-read_number-clause-failed g c clean =

@@ -1,9 +1,11 @@
-use Rattle.std.proofs.Common.{◌≡◌, false, take}
+use Rattle.std.proofs.Common.{◌≡◌, ℕ, pos, List, map, false, take}
 use Rattle.sqlite.specs.State.{HasCleanDisk, Survives}
 use Rattle.sqlite.specs.Held.{state}
 use Rattle.dict_rows.specs.Tables.{Tables}
 use Rattle.dict_rows.specs.Taken.{HasTaken}
 use Rattle.dict_scans.specs.Reading.{Same}
+use Rattle.dict_rows.specs.Versions.{layout_of}
+use Rattle.dict_opening.specs.Indexed.{HaveRowsIndexed}
 use Rattle.dict_opening.specs.Opens.{CanRead, HasRead}
 use Rattle.dict_opening.proofs.editions.read_numbered_editions.Given as goal
 
@@ -15,5 +17,6 @@ invariant-loop-number g l =
       mode : old.in_transaction ≡ false → now.in_transaction ≡ false;
       survives : Survives old now (λ _. ⊥);
       same : HasCleanDisk now → Same old now;
+      indexed : HasCleanDisk now → (ns : List ℕ) → l.numbers ≡ map pos ns → HaveRowsIndexed (layout_of l.version) old.now (take l.number-index ns) l.indexes;
       read : HasCleanDisk now → (front : Tables) → CanRead l.version old.now l.fn.reader.reader l.numbers front → (after : Tables) × HasTaken l.version l.reader.reader after × HasRead l.version old.now (take l.number-index l.numbers) front after;
     }

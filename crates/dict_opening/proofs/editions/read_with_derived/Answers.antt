@@ -1,4 +1,4 @@
-use Rattle.std.proofs.Common.{◌≡◌, inl, inr, subst}
+use Rattle.std.proofs.Common.{◌≡◌, ◌++◌, ◌∙◌, ap, map, inl, inr, subst}
 use Rattle.std.proofs.lemmas.Int.{to_z-of_z}
 use Rattle.std.proofs.lemmas.Result.{on_ok_weaker}
 use mir.Syntax.{w64}
@@ -8,6 +8,7 @@ use Rattle.sqlite.specs.State.{HasCleanDisk}
 use Rattle.sqlite.specs.Held.{state}
 use Rattle.dict_sql.proofs.StreamLemmas.{passed_on}
 use Rattle.dict_scans.specs.Entries.{HasEntries, TakesEntries, HasWrongEntries}
+use Rattle.dict_scans.specs.Indexing.{indexed_of}
 use Rattle.dict_scans.specs.declared.fault.ReadingFault.{ReadingFault}
 use Rattle.dict_scans.specs.declared.fault.ReadingFault.TheVariants.{Damaged}
 use Rattle.dict_scans.proofs.CauseLemmas.{cause_passed, cause_last}
@@ -52,6 +53,7 @@ returns-clause-whole g c clean =
       keys_are layout old.now n _ read.0 c.read_entries.new.reader.keys.items c.new.ensures.items read.2
           (subst (λ (d : Database). IsKeyed layout d n c.read_entries.new.reader.keys.items) same
           (subst (λ m. IsKeyed layout mid.now m c.read_entries.new.reader.keys.items) back (subst (λ ks. IsKeyed layout mid.now (to_z w64 (of_z w64 n)) ks) c.deref.ensures.value keyed))),
+      read.3 ∙ ap (λ l. l ++ map indexed_of read.0) c.new-2.ensures,
     ))
     (c.test_derived.ensures.whole clean)
 

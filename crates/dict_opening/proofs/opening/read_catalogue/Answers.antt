@@ -7,6 +7,7 @@ use Rattle.dict_sql.specs.Encodings.{stored_mark}
 use Rattle.dict_sql.specs.Reads.{IsListing}
 use Rattle.dict_holdings.specs.Holds.{Holds}
 use Rattle.dict_desk.specs.declared.fault.Fault.TheVariants as desk
+use Rattle.dict_opening.specs.Indexed.{IsIndexed}
 use Rattle.dict_opening.specs.Opens.{HoldsNoneAs}
 use Rattle.dict_scans.proofs.StateLemmas.{clean_before, reads_then}
 use Rattle.dict_opening.proofs.MarkLemmas.{err_is, told_damaged, none_held, MarkRow}
@@ -40,7 +41,7 @@ returns-in-Ok-clause-rests g c clean =
     let settled = c.is_autocommit.ensures.settled auto' open' in
     let one = then.now ∙ first.0.now in
     let two = then.committed ∙ first.0.committed in
-    (found.0, record { is_open = then.is_open ∙ first.1; settled = one ∙ settled ∙ sym two; holds = subst (λ (d : Database). Holds c.in_ok-version.version d found.0) (first.0.now ∙ settled ∙ sym two) found.1 }, found.2)
+    (found.0, record { is_open = then.is_open ∙ first.1; settled = one ∙ settled ∙ sym two; holds = subst (λ (d : Database). Holds c.in_ok-version.version d found.0) (first.0.now ∙ settled ∙ sym two) found.1 }, found.2, subst (λ (d : Database). IsIndexed c.in_ok-version.version d found.0 c.in-Ok.indexes) (first.0.now ∙ settled ∙ sym two) found.3)
 
 pub returns-clause-damaged : goal.returns-clause-damaged
 returns-clause-damaged g c clean is =

@@ -1,4 +1,5 @@
-use Rattle.std.proofs.Common.{◌≡◌, [], ◌∷◌, map, codes, rules, sym, subst}
+use Rattle.std.proofs.Common.{◌≡◌, false, [], ◌∷◌, ◌∙◌, map, codes, rules, sym, subst}
+use Rattle.std.proofs.lemmas.Bool.{false≢true}
 use Rattle.std.specs.Prelude.{IsTrue}
 use Rattle.sqlite.specs.Effect.{Database}
 use Rattle.sqlite.specs.State.{HasCleanDisk}
@@ -14,7 +15,10 @@ use Rattle.dict_scans.specs.declared.fault.ReadingFault.TheVariants.{Damaged}
 use Rattle.dict_scans.proofs.CauseLemmas.{cause_passed, cause_later}
 use Rattle.dict_scans.proofs.StateLemmas.{clean_before, reads_then, while_same}
 use Rattle.dict_opening.specs.Opens.{HasVersionTables, HasOthersApart, HoldsNoneAs}
+use Rattle.dict_catalogue.specs.Views.{summary_shown}
+use Rattle.dict_opening.specs.Indexed.{HaveRowsIndexed}
 use Rattle.dict_opening.proofs.HoldLemmas.{holds_of, none_without, others_apart}
+use Rattle.dict_opening.proofs.IndexLemmas.{numbers_summed, is_indexed}
 use Rattle.dict_opening.proofs.opening.read_tables.Goals as goal
 
 pub read_records-requires : goal.read_records-requires
@@ -27,18 +31,18 @@ returns-then-not-has_layout-clause-damaged g c = λ clean is listed.
     let old = state g.S.Store c.args.conn.now in
     none_without c.args.version old.now (λ own.
     let there = c.has_layout.ensures.1 (subst (HasLayout (layout_of c.args.version)) (sym c.schema.ensures.value) own) in
-    let wrong : ⊥ = cc in wrong)
+    let no' : c.has_layout.result ≡ false = search rules in false≢true (sym no' ∙ there))
 
-pub returns-in_err-summary-clause-damaged : goal.returns-in_err-summary-clause-damaged
-returns-in_err-summary-clause-damaged g c clean =
+pub returns-in_err-read-clause-damaged : goal.returns-in_err-read-clause-damaged
+returns-in_err-read-clause-damaged g c clean =
     let old = state g.S.Store c.args.conn.now in
     let wrong : (fault : ReadingFault) → Type 0 = λ fault. fault ≡ Damaged → IsListing (codes "mark") (1 ∷ []) old.now (map stored_mark c.args.marks.now) → HoldsNoneAs c.args.version old.now in
-    passed_on wrong c.in_err-summary.field-0.0 c.from_residual.result c.from_residual.ensures.1 (c.in_err-summary.ensures.damaged clean)
+    passed_on wrong c.in_err-read.field-0.0 c.from_residual.result c.from_residual.ensures.1 (c.in_err-read.ensures.damaged clean)
 
 pub test_other_rowids-requires : goal.test_other_rowids-requires
 test_other_rowids-requires g c =
     let yes : IsTrue c.has_layout.result = search rules in
-    while_same (HasVersionTables c.args.version) (state g.S.Store c.args.conn.now) (state g.S.Store c.read_records.new.conn) c.read_records.ensures.reads.survives c.in_ok-summary.ensures.same
+    while_same (HasVersionTables c.args.version) (state g.S.Store c.args.conn.now) (state g.S.Store c.read_records.new.conn) c.read_records.ensures.reads.survives c.in_ok-read.ensures.same
     (λ clean o. (subst (HasLayout (layout_of c.args.version)) c.schema.ensures.value (c.has_layout.ensures.0 yes)).tables)
 
 pub returns-in_err-test_other_rowids-clause-reads : goal.returns-in_err-test_other_rowids-clause-reads
@@ -53,21 +57,21 @@ returns-in_err-test_other_rowids-clause-damaged g c clean =
     let mid = state g.S.Store c.read_records.new.conn in
     let new = state g.S.Store c.test_other_rowids.new.conn in
     let early : HasCleanDisk mid = clean_before old mid new c.test_other_rowids.ensures.reads.survives clean in
-    let same = (c.in_ok-summary.ensures.same early).now in
+    let same = (c.in_ok-read.ensures.same early).now in
     let wrong : (fault : ReadingFault) → Type 0 = λ fault. fault ≡ Damaged → IsListing (codes "mark") (1 ∷ []) old.now (map stored_mark c.args.marks.now) → HoldsNoneAs c.args.version old.now in
     passed_on wrong c.in_err-test_other_rowids.field-0.0 c.from_residual-in_err-test_other_rowids.result c.from_residual-in_err-test_other_rowids.ensures.1
     (λ is lm M h.
     c.in_err-test_other_rowids.ensures.damaged clean is (held_readable c.args.version mid.now M (subst (λ (d : Database). Holds c.args.version d M) (sym same) h))
     (subst HasOthersApart (sym same) (others_apart c.args.version old.now M h)))
 
-pub returns-in_err-summary-clause-failed : goal.returns-in_err-summary-clause-failed
-returns-in_err-summary-clause-failed g c clean =
-    cause_passed (state g.S.Store c.args.conn.now) (state g.S.Store c.read_records.new.conn) c.in_err-summary.field-0.0 c.from_residual.result c.from_residual.ensures.1 (c.in_err-summary.ensures.failed clean)
+pub returns-in_err-read-clause-failed : goal.returns-in_err-read-clause-failed
+returns-in_err-read-clause-failed g c clean =
+    cause_passed (state g.S.Store c.args.conn.now) (state g.S.Store c.read_records.new.conn) c.in_err-read.field-0.0 c.from_residual.result c.from_residual.ensures.1 (c.in_err-read.ensures.failed clean)
 
 pub returns-in_err-test_other_rowids-clause-failed : goal.returns-in_err-test_other_rowids-clause-failed
 returns-in_err-test_other_rowids-clause-failed g c clean =
     cause_later (state g.S.Store c.args.conn.now) (state g.S.Store c.read_records.new.conn) (state g.S.Store c.test_other_rowids.new.conn) c.in_err-test_other_rowids.field-0.0 c.from_residual-in_err-test_other_rowids.result c.from_residual-in_err-test_other_rowids.ensures.1 c.read_records.ensures.reads.survives c.test_other_rowids.ensures.reads.survives
-    c.in_ok-summary.ensures.same clean (c.in_err-test_other_rowids.ensures.failed clean)
+    c.in_ok-read.ensures.same clean (c.in_err-test_other_rowids.ensures.failed clean)
 
 pub returns-clause-holds : goal.returns-clause-holds
 returns-clause-holds g c clean listed =
@@ -75,7 +79,9 @@ returns-clause-holds g c clean listed =
     let mid = state g.S.Store c.read_records.new.conn in
     let new = state g.S.Store c.test_other_rowids.new.conn in
     let early : HasCleanDisk mid = clean_before old mid new c.test_other_rowids.ensures.reads.survives clean in
-    let same = (c.in_ok-summary.ensures.same early).now in
+    let same = (c.in_ok-read.ensures.same early).now in
     let yes : IsTrue c.has_layout.result = search rules in
     let there = subst (HasLayout (layout_of c.args.version)) c.schema.ensures.value (c.has_layout.ensures.0 yes) in
-    holds_of c.args.version old.now _ there (subst HasOthersApart same (c.in_ok-test_other_rowids.ensures.apart clean)) (c.in_ok-summary.ensures.stands early listed)
+    let held = holds_of c.args.version old.now _ there (subst HasOthersApart same (c.in_ok-test_other_rowids.ensures.apart clean)) (c.in_ok-read.ensures.stands early listed) in
+    let rows = subst (λ ns. HaveRowsIndexed (layout_of c.args.version) old.now ns c.in_ok-read.read.1) (sym (numbers_summed held.0 (summary_shown c.in_ok-read.read.0) held.2)) (c.in_ok-read.ensures.indexed early listed) in
+    (held.0, held.1, held.2, is_indexed c.args.version old.now held.0 held.1 c.in_ok-read.read.1 rows)

@@ -5,7 +5,10 @@ use Rattle.sqlite.specs.State.{HasCleanDisk}
 use Rattle.sqlite.specs.Held.{state}
 use Rattle.dict_sql.proofs.StreamLemmas.{passed_on}
 use Rattle.dict_rows.specs.Tables.{Tables}
-use Rattle.dict_rows.specs.Taken.{HasTaken}
+use Rattle.dict_catalogue.specs.Items.{edition_numbers}
+use Rattle.dict_rows.specs.Taken.{HasTaken, items_in}
+use Rattle.dict_rows.specs.Versions.{layout_of}
+use Rattle.dict_opening.specs.Indexed.{HaveRowsIndexed}
 use Rattle.dict_scans.specs.declared.fault.ReadingFault.{ReadingFault}
 use Rattle.dict_scans.specs.declared.fault.ReadingFault.TheVariants.{Damaged}
 use Rattle.dict_scans.proofs.StateLemmas.{clean_before, reads_then, same_then}
@@ -41,6 +44,19 @@ read_kept-requires g c =
     let two = state g.S.Store c.read_named.new.conn in
     let both = reads_then old mid two c.test_strays.ensures.reads c.read_named.ensures.reads in
     while_same (HasVersionTables c.args.version) old two both.survives (λ clean. same_then old mid two (c.in_ok-test_strays.ensures.same (clean_before old mid two c.read_named.ensures.reads.survives clean)) (c.in_ok-read_named.ensures.same clean)) c.requires
+
+pub returns-clause-indexed : goal.returns-clause-indexed
+returns-clause-indexed g c clean =
+    let old = state g.S.Store c.args.conn.now in
+    let mid = state g.S.Store c.test_strays.new.conn in
+    let two = state g.S.Store c.read_named.new.conn in
+    let new = state g.S.Store c.read_kept.new.conn in
+    let late : HasCleanDisk two = clean_before mid two new c.read_kept.ensures.reads.survives clean in
+    let early : HasCleanDisk mid = clean_before old mid two c.read_named.ensures.reads.survives late in
+    let one = (c.in_ok-test_strays.ensures.same early).now in
+    on_ok_weaker c.read_kept.result
+    (λ replies. subst (λ (d : Database). HaveRowsIndexed (layout_of c.args.version) d (edition_numbers (items_in c.args.reader.now.reader)) c.read_named.new.indexes) one (c.in_ok-read_named.ensures.indexed late))
+    (c.read_kept.ensures.replies clean)
 
 pub returns-clause-all : goal.returns-clause-all
 returns-clause-all g c clean =

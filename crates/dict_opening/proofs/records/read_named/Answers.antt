@@ -2,6 +2,8 @@ use Rattle.std.proofs.Common.{sym, subst, ◌∙◌}
 use Rattle.std.proofs.lemmas.Result.{on_ok_weaker}
 use Rattle.sqlite.specs.Held.{state}
 use Rattle.dict_scans.proofs.TakerLemmas.{if_err_then}
+use Rattle.dict_catalogue.specs.Items.{edition_numbers}
+use Rattle.dict_rows.specs.Taken.{items_in}
 use Rattle.dict_opening.specs.Opens.{CanRead, HasRead}
 use Rattle.dict_opening.proofs.WrongLemmas.{can_read}
 use Rattle.dict_scans.specs.Reading.{IsExcused}
@@ -19,6 +21,11 @@ returns-clause-named g c clean =
     let got = read front (subst (λ ns. CanRead c.args.version old.now c.args.reader.now.reader ns front) (sym are) (can_read c.args.version old.now c.args.reader.now.reader front h b)) in
     (got.0, got.1, subst (λ ns. HasRead c.args.version old.now ns front got.0) are got.2))
     (c.read_numbered_editions.ensures.whole clean)
+
+pub returns-clause-indexed : goal.returns-clause-indexed
+returns-clause-indexed g c clean =
+    let are = c.deref.ensures.value ∙ c.in-Ok.ensures.numbers in
+    on_ok_weaker c.read_numbered_editions.result (λ read. read (edition_numbers (items_in c.args.reader.now.reader)) are) (c.read_numbered_editions.ensures.indexed clean)
 
 pub returns-clause-damaged : goal.returns-clause-damaged
 returns-clause-damaged g c clean =

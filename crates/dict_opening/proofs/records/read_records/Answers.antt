@@ -1,4 +1,4 @@
-use Rattle.std.proofs.Common.{◌≡◌, [], ◌∷◌, map, codes, sym, subst}
+use Rattle.std.proofs.Common.{◌≡◌, [], ◌∷◌, ◌∙◌, map, codes, sym, subst}
 use Rattle.sqlite.specs.Effect.{Database}
 use Rattle.sqlite.specs.State.{HasCleanDisk}
 use Rattle.sqlite.specs.Held.{state}
@@ -11,7 +11,14 @@ use Rattle.dict_sql.specs.Reads.{IsListing}
 use Rattle.dict_opening.specs.Opens.{HasVersionTables, KeepsNone, HoldsNoneAs, HasBegun, HasAll}
 use Rattle.dict_scans.proofs.StateLemmas.{while_same}
 use Rattle.dict_opening.proofs.CloseLemmas.{finish_wrong}
+use Rattle.dict_catalogue.specs.Items.{edition_numbers}
+use Rattle.dict_catalogue.specs.Views.{summary_shown}
+use Rattle.dict_rows.specs.Taken.{items_in}
+use Rattle.dict_rows.specs.Versions.{layout_of}
+use Rattle.dict_rows.proofs.StrayLemmas.{numbers_taken}
+use Rattle.dict_opening.specs.Indexed.{HaveRowsIndexed}
 use Rattle.dict_opening.proofs.HoldLemmas.{has_summary}
+use Rattle.dict_opening.proofs.IndexLemmas.{numbers_summed}
 use Rattle.dict_scans.proofs.CauseLemmas.{cause_passed, cause_later, rows_cause}
 use Rattle.dict_scans.specs.Reading.{IsExcused}
 use Rattle.dict_opening.proofs.records.read_records.Goals as goal
@@ -49,6 +56,21 @@ returns-in-Ok-clause-stands g c clean lm =
     let has = subst (λ (d : Database). HasAll c.args.version d c.in_ok-reader.reader begun.0 all.0) same all.2 in
     let found = c.in-Ok.ensures.stands c.args.version all.0 all.1 has.ids in
     has_summary c.args.version old.now c.in_ok-reader.reader begun.0 all.0 begun.1 has found.0 found.1 _ found.2
+
+pub returns-in-Ok-clause-indexed : goal.returns-in-Ok-clause-indexed
+returns-in-Ok-clause-indexed g c clean lm =
+    let old = state g.S.Store c.args.conn.now in
+    let mid = state g.S.Store c.begin.new.conn in
+    let new = state g.S.Store c.read_all.new.conn in
+    let version = c.args.version in
+    let early : HasCleanDisk mid = clean_before old mid new c.read_all.ensures.reads.survives clean in
+    let same = (c.in_ok-reader.ensures.same early).now in
+    let begun = c.in_ok-reader.ensures.begun early lm in
+    let all = c.in_ok-read_all.ensures.all clean begun.0 begun.1 (subst (λ (d : Database). HasBegun version d begun.0) (sym same) begun.2) in
+    let has = subst (λ (d : Database). HasAll version d c.in_ok-reader.reader begun.0 all.0) same all.2 in
+    let found = c.in-Ok.ensures.stands version all.0 all.1 has.ids in
+    let numbers = sym (numbers_taken version c.in_ok-reader.reader begun.0 all.0 found.0 begun.1 has.goes found.1) ∙ numbers_summed found.0 (summary_shown c.in-Ok.summary) found.2 in
+    subst (λ ns. HaveRowsIndexed (layout_of version) old.now ns c.read_all.new.indexes) numbers (subst (λ (d : Database). HaveRowsIndexed (layout_of version) d (edition_numbers (items_in c.in_ok-reader.reader)) c.read_all.new.indexes) same (c.in_ok-read_all.ensures.indexed clean))
 
 pub returns-clause-damaged : goal.returns-clause-damaged
 returns-clause-damaged g c clean is lm =
