@@ -1,57 +1,45 @@
 -- What lookups find in a database that holds a catalogue, with what is derived of it.
 use Rattle.std.proofs.Common.{◌≡◌, ℕ, ◌+◌, ◌≤◌, Bool, true, false, cond, Ordering, Less, Equal, Greater, List, [], ◌∷◌, length, map, drop, codes, refl, ap, sym, subst, ◌∙◌, arith}
-use Rattle.std.specs.Prelude.{ℤ, pos, ◌<ℤ◌, IsTrue, filter, flat_map, Contains, IsPermutation}
+use Rattle.std.specs.Prelude.{ℤ, pos, ◌<ℤ◌, IsTrue, filter, Contains, IsPermutation}
 use Rattle.std.specs.List.{AllByRecursion}
 use Rattle.std.specs.Str.{IsUtf8}
 use Rattle.std.specs.Ordering.{is_eq, int_cmp, MatchOrdering}
 use Rattle.std.proofs.lemmas.Bool.{false≢true}
 use Rattle.std.proofs.lemmas.Cmp.{int_ranked}
 use Rattle.std.proofs.lemmas.Int.{ints}
-use Rattle.std.proofs.lemmas.List.{length-map}
 use Rattle.std.proofs.lemmas.List.Elements.{All-contains_itself, recursion_from_All}
-use Rattle.std.proofs.lemmas.List.Sorted.{IsPermutation-map, IsPermutation-refl, IsPermutation-trans}
+use Rattle.std.proofs.lemmas.List.Sorted.{IsPermutation-map, IsPermutation-refl}
 use Rattle.sqlite_value.proofs.OrderLemmas.{value_cmp-Int}
 use Rattle.sqlite.specs.Order.{Row, column}
 use Rattle.sqlite.specs.Effect.{Database}
 use Rattle.sqlite.specs.Table.{Table}
 use Rattle.sqlite.specs.declared.types.Value.TheVariants.{Null, Int}
-use Rattle.dict_index.specs.Limits.{most_entries}
 use Rattle.dict_text.proofs.AllLemmas.{all_filter, all_flat_map, all_flat_map_parts, all_map, all_weaker}
-use Rattle.dict_records.specs.Records.{Edition, Entry}
-use Rattle.dict_records.specs.Keyed.{Piece}
+use Rattle.dict_records.specs.Records.{Edition}
 use Rattle.dict_tables.specs.Found.{HasOwn}
 use Rattle.dict_sql.specs.Columns.{Content, Number, Name, Octets, HasColumns}
 use Rattle.dict_sql.specs.Effects.{Has, rows_of, equals_number, same_value}
 use Rattle.dict_sql.specs.Encodings.{edition_row}
-use Rattle.dict_sql.specs.Keyed.{keyed_entry_row, keyed_entry_cells, piece_row}
-use Rattle.dict_index.specs.Line.{Line}
-use Rattle.dict_index.specs.Edition.{Edition as AnEdition, ReadEdition, edition_of, entry_in}
-use Rattle.dict_index.specs.WellFormed.{IsEntryHeadword, IsWellFormedEntry, IsWellFormedEdition}
+use Rattle.dict_index.specs.Edition.{Edition as AnEdition, ReadEdition, edition_of}
+use Rattle.dict_index.specs.WellFormed.{IsWellFormedEdition}
 use Rattle.dict_catalogue.specs.Items.{Stored, Item, name_of, editions_of, numbers_of, edition_numbers}
 use Rattle.dict_catalogue.specs.Steps.{Catalogue, KeptFor}
 use Rattle.dict_catalogue.specs.WellFormed.{IsLawfulItem, HasWellFormedEditions, how_many, is_install}
-use Rattle.dict_rows.specs.Tables.{Tables, same_number, editions_numbered, entries_of}
-use Rattle.dict_rows.specs.Written.{numbered, entry_record}
+use Rattle.dict_rows.specs.Tables.{Tables, same_number, editions_numbered}
 use Rattle.dict_rows.specs.Stands.{HoldsEdition, HoldsEditions, has_number, Stands}
 use Rattle.dict_rows.specs.Versions.{Shown, layout_of, known}
 use Rattle.dict_rows.proofs.OrderLemmas.{all_same, all_with}
 use Rattle.dict_rows.proofs.TakenLemmas.{nat_same, same_number_is, same_itself}
-use Rattle.dict_derived.specs.declared.reader.Pieces.{Pieces}
-use Rattle.dict_derived.specs.declared.reader.Pieces.TheVariants.{Words, Grams}
-use Rattle.dict_derived.specs.Entries.{Filed, filed, derived, derived_from}
 use Rattle.dict_derived.specs.AllTables.{with_derived}
-use Rattle.dict_derived.proofs.AfterLemmas.{derived_part, derived_due}
-use Rattle.dict_derived.proofs.SortedLemmas.{some_derived}
-use Rattle.dict_keyed_sql.specs.Pieces.{HasDerived, name_for}
 use Rattle.dict_desk.specs.Shown.{HasEdition}
 use Rattle.dict_holdings.specs.Readings.{KeepsAll}
 use Rattle.dict_holdings.specs.Holds.{HasLayout, Holds}
 use Rattle.dict_holdings.proofs.ReadableLemmas.{any_holds, item_name}
-use Rattle.dict_lookup.specs.Searches.{HasLookupTables, HoldsLines, HoldsOne, IsReadable, rows_under, filed_lines, filed_of, keys_of, number_in, octets_in}
+use Rattle.dict_lookup.specs.Searches.{HasLookupTables, HoldsOne, IsReadable, rows_under}
 use Rattle.dict_lookup.proofs.FailLemmas.{all_contains}
-use Rattle.dict_lookup.proofs.FiledLemmas.{IsRead, column_behind, selected, selected_read}
+use Rattle.dict_lookup.proofs.ReadLemmas.{IsRead, column_behind, selected, selected_read}
 use Rattle.dict_lookup.proofs.RecordLemmas.{decode_edition}
-use Rattle.dict_lookup.proofs.SortLemmas.{all_unmapped}
+use Rattle.dict_lookup.proofs.ListLemmas.{all_unmapped}
 
 -- ---- the rows of a table under a number, of the records that it keeps
 
@@ -86,59 +74,11 @@ numbered_as r s m n read is = ap (λ v. same_value v (Int n)) (column_behind r 0
 edition_test : (n : ℤ) (r : Row) → drop 1 r ≡ edition_row (decode_edition (drop 1 r)) → equals_number 1 n r ≡ same_number (decode_edition (drop 1 r)).number n
 edition_test n r read = let e = decode_edition (drop 1 r) in numbered_as r (edition_row e) e.number n read refl
 
-filed_test : (n : ℤ) (r : Row) → drop 1 r ≡ keyed_entry_row (filed_of (drop 1 r)) → equals_number 1 n r ≡ same_number (filed_of (drop 1 r)).edition n
-filed_test n r read = let f = filed_of (drop 1 r) in numbered_as r (keyed_entry_row f) f.edition n read refl
-
-abbrev decode_piece : Row → Piece
-decode_piece r = record { edition = number_in (column r 0); piece = octets_in (column r 1); ord = number_in (column r 2) }
-
-piece_test : (n : ℤ) (r : Row) → drop 1 r ≡ piece_row (decode_piece (drop 1 r)) → equals_number 1 n r ≡ same_number (decode_piece (drop 1 r)).edition n
-piece_test n r read = let p = decode_piece (drop 1 r) in numbered_as r (piece_row p) p.edition n read refl
-
--- ---- entries, words and grams
-
-filed_part : (n : ℤ) (xs : List Entry) → filter (λ (f : Filed). same_number f.edition n) (map filed xs) ≡ map filed (entries_of n xs)
-filed_part n [] = refl
-filed_part n (e ∷ xs) = by_test (same_number e.edition n) (filed_part n xs)
-  where
-    by_test : (b : Bool) → filter (λ (f : Filed). same_number f.edition n) (map filed xs) ≡ map filed (entries_of n xs)
-        → cond b (filed e ∷ filter (λ (f : Filed). same_number f.edition n) (map filed xs)) (filter (λ (f : Filed). same_number f.edition n) (map filed xs)) ≡ map filed (cond b (e ∷ entries_of n xs) (entries_of n xs))
-    by_test true h = ap (λ l. filed e ∷ l) h
-    by_test false h = h
-
-kept_pieces : (pieces : Pieces) (db : Database) (T : Tables) → KeepsAll Shown db (with_derived T) → IsPermutation (map piece_row (flat_map (derived pieces) T.entries)) (map (drop 1) (rows_of (name_for pieces) db))
-kept_pieces Words db T k = k.1.1.1.1.1.1.0.rows
-kept_pieces Grams db T k = k.1.1.1.1.1.1.1.0.rows
-
 module _ (db : Database) (T : Tables) (k : KeepsAll Shown db (with_derived T)) (number : ℕ) where
   editions_under : IsPermutation (map edition_row (editions_numbered (pos number) T.editions)) (rows_under (codes "edition") number db)
   editions_under = kept_under edition_row decode_edition (λ r. refl) (codes "edition") db T.editions k.1.1.1.0.rows (pos number) (λ (e : Edition). same_number e.number (pos number)) (edition_test (pos number))
 
-  module _ (lines : List Line) (are : entries_of (pos number) T.entries ≡ numbered (entry_record number) 0 lines) where
-    entries_under : IsPermutation (map keyed_entry_row (filed_lines number lines)) (rows_under (codes "entry") number db)
-    entries_under =
-        subst (λ (l : List Filed). IsPermutation (map keyed_entry_row l) (rows_under (codes "entry") number db)) (filed_part (pos number) T.entries ∙ ap (map filed) are)
-        (kept_under keyed_entry_row filed_of (λ f. refl) (codes "entry") db (map filed T.entries) k.1.1.1.1.0.rows (pos number) (λ (f : Filed). same_number f.edition (pos number)) (filed_test (pos number)))
-
-    pieces_under : (pieces : Pieces) → HasDerived pieces (pos number) (keys_of lines) db
-    pieces_under pieces =
-        let due : List Piece = derived_from pieces (pos number) 0 (keys_of lines) in
-        let some = some_derived pieces (pos number) (keys_of lines) in
-        let part : List Row = rows_under (name_for pieces) number db in
-        let is = derived_part pieces (pos number) T.entries ∙ (ap (flat_map (derived pieces)) are ∙ derived_due pieces number lines) in
-        let held : IsPermutation (map piece_row due) part =
-        subst (λ (l : List Piece). IsPermutation (map piece_row l) part) is
-        (kept_under piece_row decode_piece (λ p. refl) (name_for pieces) db (flat_map (derived pieces) T.entries) (kept_pieces pieces db T k) (pos number) (λ (p : Piece). same_number p.edition (pos number)) (piece_test (pos number))) in
-        record {
-          rows = some.0;
-          derived = some.2;
-          stored = IsPermutation-trans (map piece_row some.0) (map piece_row due) part (IsPermutation-map piece_row some.0 due some.1) held;
-        }
-
-    lines_under : AllByRecursion (λ (line : Line). IsEntryHeadword line.headword) lines → length lines ≤ most_entries → HoldsLines db number lines
-    lines_under headwords few = record { headwords = headwords; few = few; entries = entries_under; words = pieces_under Words; grams = pieces_under Grams }
-
--- ---- what the records have under a number: an edition's record and its lines, or neither
+-- ---- what the records have under a number: an edition's record, or none
 
 abbrev edition_cells : List Content
 edition_cells = Number ∷ Name ∷ Name ∷ Name ∷ Octets ∷ []
@@ -146,27 +86,14 @@ edition_cells = Number ∷ Name ∷ Name ∷ Name ∷ Octets ∷ []
 abbrev EditionRow : Edition → Type 0
 EditionRow e = HasColumns edition_cells (edition_row e)
 
-record Under (T : Tables) (number : ℕ) : Type 0 where
-  lines : List Line
-  headwords : AllByRecursion (λ (line : Line). IsEntryHeadword line.headword) lines
-  shown : AllByRecursion (λ (line : Line). IsUtf8 line.shown) lines
-  few : length lines ≤ most_entries
-  are : entries_of (pos number) T.entries ≡ numbered (entry_record number) 0 lines
-  editions : AllByRecursion EditionRow (editions_numbered (pos number) T.editions)
+abbrev Under : Tables → ℕ → Type 0
+Under T number = AllByRecursion EditionRow (editions_numbered (pos number) T.editions)
 
 stored_under : (T : Tables) (owner : List ℕ) → IsUtf8 owner → (stored : Stored AnEdition) → IsWellFormedEdition stored.content → HoldsEdition T owner stored → Under T stored.number
 stored_under T owner named stored well h =
     let reading = h.reading in
     let content = subst IsWellFormedEdition h.says well in
-    record {
-      lines = reading.lines;
-      headwords = all_weaker (λ (line : Line). IsWellFormedEntry (entry_in reading.text line)) (λ (line : Line). IsEntryHeadword line.headword) (λ line good. good.headword) reading.lines (all_unmapped IsWellFormedEntry (entry_in reading.text) reading.lines content.entries);
-      shown = all_weaker (λ (line : Line). IsWellFormedEntry (entry_in reading.text line)) (λ (line : Line). IsUtf8 line.shown) (λ line good. good.shown.0) reading.lines (all_unmapped IsWellFormedEntry (entry_in reading.text) reading.lines content.entries);
-      few = let size = length-map reading.lines (entry_in reading.text) in omega (arith, content.few, size);
-      are = h.entries;
-      editions = subst (AllByRecursion EditionRow) (sym h.row)
-          (((pos stored.number, refl), ((owner, refl, named), ((reading.title, refl, content.title.0), ((reading.info, refl, content.info.0.0), ((reading.text, refl), tt))))), tt);
-    }
+    subst (AllByRecursion EditionRow) (sym h.row) (((pos stored.number, refl), ((owner, refl, named), ((reading.title, refl, content.title.0), ((reading.info, refl, content.info.0.0), ((reading.text, refl), tt))))), tt)
 
 item_under : (T : Tables) (item : Item AnEdition) → IsLawfulItem item → HasWellFormedEditions item × HoldsEditions T item → AllByRecursion (Under T) (numbers_of item)
 item_under T item h both =
@@ -191,14 +118,7 @@ none_under key items number unknown (x ∷ xs) h = by_test (same_number (key x) 
 
 under_by : (version : ℕ) (T : Tables) (M : Catalogue) → Stands version T M → (number : ℕ) (b : Bool) → has_number M.items (pos number) ≡ b → Under T number
 under_by version T M s number true known = known_under version T M s number known
-under_by version T M s number false unknown = record {
-  lines = [];
-  headwords = tt;
-  shown = tt;
-  few = omega arith;
-  are = none_under (λ (e : Entry). e.edition) M.items (pos number) unknown T.entries s.entries;
-  editions = subst (AllByRecursion EditionRow) (sym (none_under (λ (e : Edition). e.number) M.items (pos number) unknown T.editions s.numbers)) tt;
-}
+under_by version T M s number false unknown = subst (AllByRecursion EditionRow) (sym (none_under (λ (e : Edition). e.number) M.items (pos number) unknown T.editions s.numbers)) tt
 
 -- ---- each row under a number stands for a record
 
@@ -210,32 +130,15 @@ whole_rows : (columns : List Content) (rows : List Row) → AllByRecursion (HasC
 whole_rows columns [] h ids = tt
 whole_rows columns (row ∷ rows) h ids = (whole_row columns row h.0 ids.0, whole_rows columns rows h.1 ids.1)
 
-filed_columns : (number place : ℕ) (lines : List Line) → AllByRecursion (λ (line : Line). IsEntryHeadword line.headword) lines → AllByRecursion (λ (line : Line). IsUtf8 line.shown) lines → AllByRecursion (HasColumns keyed_entry_cells) (map keyed_entry_row (map filed (numbered (entry_record number) place lines)))
-filed_columns number place [] h shown = tt
-filed_columns number place (line ∷ lines) h shown =
-    let f : Filed = filed (entry_record number place line) in (
-      ((pos number, refl), ((pos place, refl), ((line.headword, refl, h.0.0), ((pos line.offset, refl), ((pos line.size, refl), ((f.key, refl), ((f.reversed, refl), ((line.shown, refl, shown.0), tt)))))))),
-      filed_columns number (place + 1) lines h.1 shown.1,
-    )
-
 pub held_readable : (db : Database) (M : Catalogue) (number : ℕ) → Holds known db M → IsReadable db number
 held_readable db M number holds =
     let T = holds.tables in
     let k : KeepsAll Shown db (with_derived T) = holds.keeps in
     let under = under_by known T M holds.stands number (has_number M.items (pos number)) refl in
-    let lines = lines_under db T k number under.lines under.are under.headwords under.few in
-    let entries : List Row = filter (equals_number 1 (pos number)) (rows_of (codes "entry") db) in
     let editions : List Row = filter (equals_number 1 (pos number)) (rows_of (codes "edition") db) in
-    record {
-      lines = under.lines;
-      holds = lines;
-      entries = whole_rows keyed_entry_cells entries
-          (all_same (HasColumns keyed_entry_cells) (map keyed_entry_row (filed_lines number under.lines)) (map (drop 1) entries) lines.entries (filed_columns number 0 under.lines under.headwords under.shown))
-          (all_filter (λ row. (n : ℤ) × (column row 0 ≡ Int n)) (equals_number 1 (pos number)) (rows_of (codes "entry") db) k.1.1.1.1.0.apart.integers);
-      editions = whole_rows edition_cells editions
-          (all_same (HasColumns edition_cells) (map edition_row (editions_numbered (pos number) T.editions)) (map (drop 1) editions) (editions_under db T k number) (all_map EditionRow (HasColumns edition_cells) edition_row (λ e h. h) (editions_numbered (pos number) T.editions) under.editions))
-          (all_filter (λ row. (n : ℤ) × (column row 0 ≡ Int n)) (equals_number 1 (pos number)) (rows_of (codes "edition") db) k.1.1.1.0.apart.integers);
-    }
+    whole_rows edition_cells editions
+    (all_same (HasColumns edition_cells) (map edition_row (editions_numbered (pos number) T.editions)) (map (drop 1) editions) (editions_under db T k number) (all_map EditionRow (HasColumns edition_cells) edition_row (λ e h. h) (editions_numbered (pos number) T.editions) under))
+    (all_filter (λ row. (n : ℤ) × (column row 0 ≡ Int n)) (equals_number 1 (pos number)) (rows_of (codes "edition") db) k.1.1.1.0.apart.integers)
 
 -- ---- the edition of a number
 
@@ -251,16 +154,13 @@ number_all : {A : Type 0} (P : ℕ → Type 0) (stored : List (Stored A)) (one :
 number_all P stored one all at = all_contains (λ s. P s.number) stored one (all_unmapped P (λ s. s.number) stored all) at
 
 pub held_one : (db : Database) (M : Catalogue) (number : ℕ) (edition : AnEdition) → Holds known db M → HasEdition M number edition → (reading : ReadEdition) × HoldsOne db number reading × (edition ≡ edition_of reading)
-unfolding stored_under
 held_one db M number edition holds has =
     let T = holds.tables in
     let k : KeepsAll Shown db (with_derived T) = holds.keeps in
     let well = holds.stands.well_formed in
     let item = has.item in
     let stored : Stored AnEdition = record { number = number; content = edition } in
-    let good = all_contains (λ (s : Stored AnEdition). IsWellFormedEdition s.content) (editions_of item) stored (all_contains HasWellFormedEditions M.items item well.editions has.stands) has.stored in
     let one : HoldsEdition T (name_of item) stored = all_contains (HoldsEdition T (name_of item)) (editions_of item) stored (all_contains (HoldsEditions T) M.items item holds.stands.editions has.stands) has.stored in
-    let under = stored_under T (name_of item) (item_name item (all_contains IsLawfulItem M.items item well.items has.stands)) stored good one in
     let ranges = all_flat_map_parts (λ n. (1 ≤ n) × (n ≤ M.installs)) numbers_of M.items well.edition_range in
     let within : (1 ≤ number) × (number ≤ M.installs) = number_all (λ n. (1 ≤ n) × (n ≤ M.installs)) (editions_of item) stored
     (all_contains (λ (i : Item AnEdition). AllByRecursion (λ n. (1 ≤ n) × (n ≤ M.installs)) (numbers_of i)) M.items item ranges has.stands) has.stored in
@@ -271,7 +171,6 @@ held_one db M number edition holds has =
         few = most;
         owner = name_of item;
         row = subst (λ (l : List Edition). IsPermutation (map edition_row l) (rows_under (codes "edition") number db)) one.row (editions_under db T k number);
-        lines = lines_under db T k number one.reading.lines one.entries under.headwords under.few;
       },
       one.says,
     )
@@ -311,6 +210,4 @@ had : (table : ℕ → Table) (db : Database) → HasOwn db.schema table → Has
 had table db own = (own.at, own.tree, own.has)
 
 pub held_tables : (db : Database) → HasLayout (layout_of known) db.schema → HasLookupTables db
-held_tables db own =
-    let all = own.tables in
-    (had _ db all.1.1.1.0, had _ db all.1.1.1.1.0, had _ db all.1.1.1.1.1.1.0, had _ db all.1.1.1.1.1.1.1.0)
+held_tables db own = had _ db own.tables.1.1.1.0

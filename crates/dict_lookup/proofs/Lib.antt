@@ -1,11 +1,10 @@
-pub mod CountedLemmas
 pub mod FailLemmas
-pub mod FiledLemmas
-pub mod FoundLemmas
 pub mod HandLemmas
 pub mod HeldLemmas
+pub mod IndexLemmas
+pub mod ListLemmas
+pub mod ReadLemmas
 pub mod RecordLemmas
-pub mod SortLemmas
 pub mod StateLemmas
-pub mod StreamLemmas
+pub mod TakenLemmas
 pub mod TextLemmas

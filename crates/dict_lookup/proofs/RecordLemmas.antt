@@ -11,7 +11,7 @@ use mir.Syntax.{w64}
 use Rattle.sqlite.specs.Order.{Row, column}
 use Rattle.sqlite.specs.Effect.{Database}
 use Rattle.sqlite.specs.declared.types.Value.{Value}
-use Rattle.sqlite.specs.declared.types.Value.TheVariants.{Text as Letters}
+use Rattle.sqlite.specs.declared.types.Value.TheVariants.{Int, Blob, Text as Letters}
 use Rattle.dict_text.proofs.AllLemmas.{all_map}
 use Rattle.dict_records.specs.Records.{Edition}
 use Rattle.dict_records.specs.Typed.{owned_edition}
@@ -25,9 +25,22 @@ use Rattle.dict_index.specs.Edition.{ReadEdition}
 use Rattle.dict_rows.specs.Written.{edition_record}
 use Rattle.dict_rows.proofs.OrderLemmas.{same_from, one_once}
 use Rattle.dict_keyed_sql.specs.Infos.{editions_with, informed, informed_columns}
-use Rattle.dict_lookup.specs.Searches.{HoldsOne, column_of, number_in, text_in, octets_in}
-use Rattle.dict_lookup.proofs.FiledLemmas.{column_behind, same_records}
-use Rattle.dict_lookup.proofs.SortLemmas.{map_twice}
+use Rattle.dict_lookup.specs.Searches.{HoldsOne, column_of}
+use Rattle.dict_lookup.proofs.ReadLemmas.{column_behind, same_records}
+use Rattle.dict_lookup.proofs.ListLemmas.{map_twice}
+
+-- what stands in a column of numbers, of texts, or of octets
+abbrev pub number_in : Value → ℤ
+number_in (Int n) = n
+number_in _ = pos 0
+
+abbrev pub text_in : Value → List ℕ
+text_in (Letters t) = t
+text_in _ = []
+
+abbrev pub octets_in : Value → List ℕ
+octets_in (Blob b) = b
+octets_in _ = []
 
 abbrev pub decode_edition : Row → Edition
 decode_edition r = record { number = number_in (column r 0); owner = text_in (column r 1); title = text_in (column r 2); info = text_in (column r 3); body = octets_in (column r 4) }

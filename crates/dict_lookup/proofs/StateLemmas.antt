@@ -1,6 +1,6 @@
 -- What a connection is left as by steps that read.
 use Rattle.std.proofs.Common.{arith}
-use Rattle.std.specs.Prelude.{Result, Ok, Err, IfErr}
+use Rattle.std.specs.Prelude.{Result, Ok, Err, IfErr, IfOk}
 use Rattle.sqlite.specs.State.{State, HasCleanDisk, Survives}
 
 pub clean_before : (old new : State) → Survives old new (λ _. ⊥) → HasCleanDisk new → HasCleanDisk old
@@ -9,3 +9,7 @@ clean_before old new survives clean = omega (arith, survives.clean)
 pub each_err : {X E : Type 0} (result : Result X E) (P Q : E → Type 0) → ((e : E) → P e → Q e) → IfErr result P → IfErr result Q
 each_err (Ok x) P Q f h = h
 each_err (Err e) P Q f h = f e h
+
+pub each_ok : {X E : Type 0} (result : Result X E) (P Q : X → Type 0) → ((x : X) → P x → Q x) → IfOk result P → IfOk result Q
+each_ok (Ok x) P Q f h = f x h
+each_ok (Err e) P Q f h = h

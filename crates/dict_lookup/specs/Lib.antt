@@ -1,5 +1,3 @@
 pub mod Searches
 pub mod Texts
-pub mod Handed
-pub mod Counts
-pub mod CountLemmas
+pub mod Taken

@@ -11,6 +11,7 @@ ghost use Rattle.dict_sql.specs.Effects.{Has, WhileOpen};
 ghost use Rattle.dict_index.specs.Edition.{ReadEdition};
 ghost use Rattle.dict_rows.specs.Written.{edition_record};
 ghost use Rattle.dict_lookup.specs.Searches.{HoldsOne, FailsToLookUp, IsOfStore, column_of};
+ghost use Rattle.dict_lookup.specs.Taken.{more_taken};
 
 use dict_desk::Fault;
 use dict_holdings::fault_of_read;
@@ -47,6 +48,7 @@ pub(crate) fn edition_of_number<S: Alter>(
 ) -> Result<Option<Edition<String, Vec<u8>>>, Fault>
     requires { WhileOpen (state S.Store conn.old) (Has edition_table) }
     ensures value { HasCleanDisk (state S.Store conn.new) → IfOk result (λ found. (reading : ReadEdition) (one : HoldsOne (state S.Store conn.old).now number reading) → option_map owned_edition found ≡ Some (edition_record one.owner number reading)) }
+    ensures taken { HasCleanDisk (state S.Store conn.new) → (reading : ReadEdition) → HoldsOne (state S.Store conn.old).now number reading → OnOk result (rows_taken.new ≡ more_taken rows_taken.old 1) }
     ensures same { HasCleanDisk (state S.Store conn.new) → OnOk result (IsUnchanged (state S.Store conn.old) (state S.Store conn.new)) }
     ensures failed { HasCleanDisk (state S.Store conn.new) → IfErr result (FailsToLookUp (column_of number) (state S.Store conn.old) (state S.Store conn.new)) }
     ensures shut { HasCleanDisk (state S.Store conn.new) → (state S.Store conn.old).is_open ≡ false → IsErr result }
@@ -56,7 +58,7 @@ pub(crate) fn edition_of_number<S: Alter>(
 {
     match editions_numbered(alloc, conn, column_number(number)) {
         Ok(mut rows) => {
-            *rows_taken = rows_taken.saturating_add(rows.len() as u64);
+            *rows_taken = rows_taken.saturating_add(rows.as_slice().len() as u64);
             Ok(taken(&mut rows))
         }
         Err(error) => Err(fault_of_read(error)),
@@ -80,6 +82,7 @@ pub(crate) fn info_of_number<S: Alter>(
 ) -> Result<Option<String>, Fault>
     requires { WhileOpen (state S.Store conn.old) (Has edition_table) }
     ensures value { HasCleanDisk (state S.Store conn.new) → IfOk result (λ found. (reading : ReadEdition) → HoldsOne (state S.Store conn.old).now number reading → option_map string_bytes found ≡ Some reading.info) }
+    ensures taken { HasCleanDisk (state S.Store conn.new) → (reading : ReadEdition) → HoldsOne (state S.Store conn.old).now number reading → OnOk result (rows_taken.new ≡ more_taken rows_taken.old 1) }
     ensures same { HasCleanDisk (state S.Store conn.new) → OnOk result (IsUnchanged (state S.Store conn.old) (state S.Store conn.new)) }
     ensures failed { HasCleanDisk (state S.Store conn.new) → IfErr result (FailsToLookUp (column_of number) (state S.Store conn.old) (state S.Store conn.new)) }
     ensures shut { HasCleanDisk (state S.Store conn.new) → (state S.Store conn.old).is_open ≡ false → IsErr result }
@@ -89,7 +92,7 @@ pub(crate) fn info_of_number<S: Alter>(
 {
     match infos_numbered(alloc, conn, column_number(number)) {
         Ok(mut infos) => {
-            *rows_taken = rows_taken.saturating_add(infos.len() as u64);
+            *rows_taken = rows_taken.saturating_add(infos.as_slice().len() as u64);
             Ok(last_info(&mut infos))
         }
         Err(error) => Err(fault_of_read(error)),

@@ -1,8 +1,6 @@
-use Rattle.std.proofs.Common.{◌≡◌, ◌≤◌, length}
-use Rattle.dict_lookup.specs.Handed.{rows_found}
-use Rattle.dict_lookup.proofs.HandLemmas.{Goes}
+use Rattle.std.proofs.Common.{map, take}
+use Rattle.dict_search.specs.Entries.{entries_at, row_in}
 use Rattle.dict_lookup.proofs.found.hand_found.Given as goal
 
-abbrev pub invariant-entries : goal.invariant-entries
-invariant-entries g l = (l.rows.conn.ghost_name ≡ l.initial.rows.conn.ghost_name)
-    × Goes g.S.Store g.T.RowSink.takes g.T.RowSink.stops (rows_found l.text l.strategy l.query) l.initial.rows.conn.now l.initial.sink (λ done. l._turn ≤ length done) l.rows.conn.now l.sink
+abbrev pub invariant-loop-place : goal.invariant-loop-place
+invariant-loop-place g l = g.T.RowSink.takes l.initial.sink (map (row_in l.text) (entries_at l.index (take l.place-index l.places))) l.sink

@@ -1,119 +1,93 @@
-use Rattle.std.proofs.Common.{◌≡◌, ℕ, List, sym, subst, ap, ◌∙◌}
-use Rattle.std.proofs.lemmas.Bool.{false≢true}
-use Rattle.std.proofs.lemmas.Result.{on_ok_weaker}
-use Rattle.sqlite.proofs.Callers.{unchanged_then}
-use Rattle.sqlite.specs.Effect.{Database}
-use Rattle.sqlite.specs.State.{HasCleanDisk}
+use Rattle.std.proofs.Common.{◌≡◌, ◌+◌, ℕ, List, [], map, nat_eq, refl, sym, ap, subst, ◌∙◌}
+use Rattle.std.specs.Map.{lookup}
+use Rattle.std.proofs.lemmas.Result.{err_from_is_err_and}
 use Rattle.sqlite.specs.Held.{state}
-use Rattle.dict_records.specs.Records as spec
-use Rattle.dict_rows.specs.Written.{edition_record}
-use Rattle.dict_lookup.specs.Searches.{HoldsOne, FailsToLookUp, column_of}
-use Rattle.dict_lookup.specs.Texts.{IsTextOf}
-use Rattle.dict_lookup.proofs.FailLemmas.{fails_behind}
-use Rattle.dict_lookup.proofs.RecordLemmas.{record_there, record_told}
-use Rattle.dict_lookup.proofs.StateLemmas.{clean_before, each_err}
-use Rattle.dict_lookup.proofs.TextLemmas.{texts_kept, made_kept, texts_left, made_left, taken_is}
+use Rattle.dict_desk.specs.Shown.{Row, found_rows}
+use Rattle.dict_desk.proofs.HandingLemmas.{hands_all, hands_end, hands_front}
+use Rattle.dict_search.specs.Entries.{entries_at, row_in}
+use Rattle.dict_search.specs.Found.{found_entries, count_selected}
+use Rattle.dict_lookup.specs.Texts.{AreCutFrom, HoldsCut}
+use Rattle.dict_lookup.specs.Taken.{more_taken, rows_for}
+use Rattle.dict_lookup.proofs.IndexLemmas.{rows_cut}
+use Rattle.dict_lookup.proofs.TextLemmas.{cut_kept, cut_left, made_kept, made_left, told_cuts}
+use Rattle.dict_lookup.proofs.TakenLemmas.{more_twice, none_there, some_read}
 use Rattle.dict_lookup.proofs.lookups.find.Goals as goal
 
--- ---- a text that is kept
+-- ---- nothing is found
 
-pub returns-in-Some-clause-value : goal.returns-in-Some-clause-value
-returns-in-Some-clause-value g c clean are reading one =
-    let is : IsTextOf (state g.S.Store c.args.conn.now).now (c.args.number, c.in-Some.text.items) = taken_is (state g.S.Store c.args.conn.now).now c.args.number c.in-Some.text.items c.args.texts.now (sym c.in-Some.ensures.text) are in
-    c.find_and_keep.ensures.value clean is reading one
+pub returns-then-is_empty-clause-value : goal.returns-then-is_empty-clause-value
+returns-then-is_empty-clause-value g c clean edition is cut held =
+    let index = c.args.index.now in
+    let query = c.args.query.now in
+    let entries : entries_at index c.as_slice-places.result.now ≡ found_entries c.args.strategy query index =
+    ap (entries_at index) c.as_slice-places.ensures.value ∙ (c.in_ok-found.ensures.entries ∙ ap (λ (q : List ℕ). found_entries c.args.strategy q index) c.as_bytes.ensures) in
+    let none : c.as_slice-places.result.now ≡ [] = none_there c.as_slice-places.result.now (sym c.is_empty.ensures ∙ c.if-is_empty.true) in
+    let rows : [] ≡ found_rows c.args.strategy query edition = ap (map (row_in is.0)) (sym (ap (entries_at index) none) ∙ entries) ∙ rows_cut c.args.strategy query index edition c.edition_laws.ensures.rows is.0 is.1 in
+    hands_all g.T.RowSink.takes g.T.RowSink.stops c.args.sink.now c.args.sink.now (found_rows c.args.strategy query edition) (subst (λ (all : List Row). g.T.RowSink.takes c.args.sink.now all c.args.sink.now) rows (g.met.T.RowSink.none c.args.sink.now))
 
-pub returns-in-Some-clause-texts : goal.returns-in-Some-clause-texts
-returns-in-Some-clause-texts g c clean are =
-    let db = (state g.S.Store c.args.conn.now).now in
-    texts_kept db c.args.installs c.args.number c.in-Some.text.items c.take.new.self c.find_and_keep.new.texts c.find_and_keep.ensures.kept
-    (taken_is db c.args.number c.in-Some.text.items c.args.texts.now (sym c.in-Some.ensures.text) are) (texts_left c.args.number c.args.texts.now c.take.new.self c.take.ensures.rest db are)
+-- ---- some is
 
-pub returns-in-Some-clause-beside : goal.returns-in-Some-clause-beside
-returns-in-Some-clause-beside g c clean are other same have =
-    let db = (state g.S.Store c.args.conn.now).now in
-    texts_kept other c.args.installs c.args.number c.in-Some.text.items c.take.new.self c.find_and_keep.new.texts c.find_and_keep.ensures.kept
-    (same c.in-Some.text.items (taken_is db c.args.number c.in-Some.text.items c.args.texts.now (sym c.in-Some.ensures.text) are)) (texts_left c.args.number c.args.texts.now c.take.new.self c.take.ensures.rest other have)
+pub returns-in_err-text-clause-texts : goal.returns-in_err-text-clause-texts
+returns-in_err-text-clause-texts g c clean other entries edition are held = cut_left c.args.number c.args.texts.now c.take_text.new.texts c.take_text.ensures.left other entries edition are
 
-pub returns-in-Some-clause-made : goal.returns-in-Some-clause-made
-returns-in-Some-clause-made g c made =
-    let db = (state g.S.Store c.args.conn.now).now in
-    made_kept db c.args.installs c.args.number c.in-Some.text.items c.take.new.self c.find_and_keep.new.texts c.find_and_keep.ensures.kept (made_left c.args.number c.args.texts.now c.take.new.self c.take.ensures.rest c.args.installs made)
+pub returns-in_err-text-clause-made : goal.returns-in_err-text-clause-made
+returns-in_err-text-clause-made g c made = made_left c.args.number c.args.texts.now c.take_text.new.texts c.take_text.ensures.left c.args.installs made
 
--- ---- one that is read
+pub returns-in_err-text-clause-handed : goal.returns-in_err-text-clause-handed
+returns-in_err-text-clause-handed g c =
+    let p = err_from_is_err_and c.from_residual-in_err-text.result c.from_residual-in_err-text.ensures.1 in
+    ([], rw (p.1, p.2) (hands_front g.T.RowSink.takes g.T.RowSink.stops c.args.sink.now c.args.sink.now _ [] [] [] refl (g.met.T.RowSink.none c.args.sink.now)))
 
-pub returns-in_default-2-clause-value : goal.returns-in_default-2-clause-value
-returns-in_default-2-clause-value g c clean are reading one = absurd (record_there c.in_ok-edition.field-0 (edition_record one.owner c.args.number reading) (c.in_ok-edition.ensures.value clean reading one) c.in_default-2.not-Some)
+pub returns-in_default-clause-texts : goal.returns-in_default-clause-texts
+returns-in_default-clause-texts g c clean other entries edition are held = cut_left c.args.number c.args.texts.now c.take_text.new.texts c.take_text.ensures.left other entries edition are
 
-pub returns-in_default-2-clause-texts : goal.returns-in_default-2-clause-texts
-returns-in_default-2-clause-texts g c clean are = texts_left c.args.number c.args.texts.now c.take.new.self c.take.ensures.rest (state g.S.Store c.args.conn.now).now are
+pub returns-in_default-clause-made : goal.returns-in_default-clause-made
+returns-in_default-clause-made g c made = made_left c.args.number c.args.texts.now c.take_text.new.texts c.take_text.ensures.left c.args.installs made
 
-pub returns-in_default-2-clause-beside : goal.returns-in_default-2-clause-beside
-returns-in_default-2-clause-beside g c clean are other same have = texts_left c.args.number c.args.texts.now c.take.new.self c.take.ensures.rest other have
+pub returns-in_default-clause-taken : goal.returns-in_default-clause-taken
+returns-in_default-clause-taken g c clean reading one =
+    let index = c.args.index.now in
+    let query = c.args.query.now in
+    let kept = lookup (nat_eq c.args.number) c.args.texts.now in
+    let entries : entries_at index c.as_slice-places.result.now ≡ found_entries c.args.strategy query index =
+    ap (entries_at index) c.as_slice-places.ensures.value ∙ (c.in_ok-found.ensures.entries ∙ ap (λ (q : List ℕ). found_entries c.args.strategy q index) c.as_bytes.ensures) in
+    let looked : c.in_ok-found.found.looked_at ≡ count_selected c.args.strategy query index = c.in_ok-found.ensures.looked_at ∙ ap (λ (q : List ℕ). count_selected c.args.strategy q index) c.as_bytes.ensures in
+    c.in_ok-text.ensures.taken clean reading one ∙ (ap (λ (n : ℕ). more_taken n (rows_for kept)) (c.saturating_add.ensures ∙ ap (more_taken c.args.rows_taken.now) looked)
+    ∙ (more_twice c.args.rows_taken.now (count_selected c.args.strategy query index) (rows_for kept) ∙ ap (λ (n : ℕ). more_taken c.args.rows_taken.now (count_selected c.args.strategy query index + n)) (some_read index kept (found_entries c.args.strategy query index) c.as_slice-places.result.now entries (sym c.is_empty.ensures ∙ c.if-is_empty.false))))
 
-pub returns-in_default-2-clause-made : goal.returns-in_default-2-clause-made
-returns-in_default-2-clause-made g c made = made_left c.args.number c.args.texts.now c.take.new.self c.take.ensures.rest c.args.installs made
-
--- what was read is the text of the edition
 pub returns-clause-value : goal.returns-clause-value
-returns-clause-value g c clean are reading one =
-    let db = (state g.S.Store c.args.conn.now).now in
-    let mid = c.edition_of_number.new.conn in
-    let before : HasCleanDisk (state g.S.Store mid) = clean_before (state g.S.Store mid) (state g.S.Store c.find_and_keep-2.new.conn) c.find_and_keep-2.ensures.survives clean in
-    let there : db ≡ (state g.S.Store mid).now = sym (c.in_ok-edition.ensures.same before).0.now_is in
-    let is : IsTextOf db (c.args.number, c.in-Some-2.edition.body.items) = λ reading one. ap (λ (r : spec.Edition). r.body) (record_told c.in_ok-edition.field-0 c.in-Some-2.edition (edition_record one.owner c.args.number reading) (c.in_ok-edition.ensures.value before reading one) c.in-Some-2.is) in
-    c.find_and_keep-2.ensures.value clean (subst (λ (db : Database). IsTextOf db (c.args.number, c.in-Some-2.edition.body.items)) there is)
-    reading (subst (λ (db : Database). HoldsOne db c.args.number reading) there one)
-
-pub returns-clause-same : goal.returns-clause-same
-returns-clause-same g c clean =
-    let mid = state g.S.Store c.edition_of_number.new.conn in
-    let first = c.in_ok-edition.ensures.same (clean_before mid (state g.S.Store c.find_and_keep-2.new.conn) c.find_and_keep-2.ensures.survives clean) in
-    on_ok_weaker c.find_and_keep-2.result (unchanged_then (state g.S.Store c.args.conn.now) mid (state g.S.Store c.find_and_keep-2.new.conn) first) (c.find_and_keep-2.ensures.same clean)
-
-pub returns-clause-shut : goal.returns-clause-shut
-returns-clause-shut g c clean shut =
-    let mid = state g.S.Store c.edition_of_number.new.conn in
-    let first = c.in_ok-edition.ensures.same (clean_before mid (state g.S.Store c.find_and_keep-2.new.conn) c.find_and_keep-2.ensures.survives clean) in
-    absurd (false≢true (sym shut ∙ first.0.was_open))
+returns-clause-value g c clean edition is cut held =
+    let index = c.args.index.now in
+    let query = c.args.query.now in
+    let all = found_rows c.args.strategy query edition in
+    let entries : entries_at index c.as_slice-places.result.now ≡ found_entries c.args.strategy query index =
+    ap (entries_at index) c.as_slice-places.ensures.value ∙ (c.in_ok-found.ensures.entries ∙ ap (λ (q : List ℕ). found_entries c.args.strategy q index) c.as_bytes.ensures) in
+    let cuts = told_cuts index edition c.in_ok-text.field-0 c.in-Some.text c.in-Some.is (c.in_ok-text.ensures.cut clean index edition cut held) in
+    let rows : map (row_in c.as_slice.result.now) (entries_at index c.as_slice-places.result.now) ≡ all =
+    ap (λ (t : List ℕ). map (row_in t) (entries_at index c.as_slice-places.result.now)) c.as_slice.ensures.value ∙ (ap (map (row_in c.in-Some.text.items)) entries ∙ rows_cut c.args.strategy query index edition c.edition_laws.ensures.rows c.in-Some.text.items cuts) in
+    hands_end g.T.RowSink.takes g.T.RowSink.stops c.args.sink.now c.hand_found-end.new.sink c.hand_found-end.result all
+    (λ e. subst (λ (rs : List Row). g.T.RowSink.takes c.args.sink.now rs c.hand_found-end.new.sink) rows (c.hand_found-end.ensures.all e)) (λ e. subst (λ (rs : List Row). g.T.RowSink.stops c.args.sink.now rs c.hand_found-end.new.sink) rows (c.hand_found-end.ensures.stopped e))
 
 pub returns-clause-texts : goal.returns-clause-texts
-returns-clause-texts g c clean are =
+returns-clause-texts g c clean other entries edition are held =
     let db = (state g.S.Store c.args.conn.now).now in
-    let mid = c.edition_of_number.new.conn in
-    let before : HasCleanDisk (state g.S.Store mid) = clean_before (state g.S.Store mid) (state g.S.Store c.find_and_keep-2.new.conn) c.find_and_keep-2.ensures.survives clean in
-    texts_kept db c.args.installs c.args.number c.in-Some-2.edition.body.items c.take.new.self c.find_and_keep-2.new.texts c.find_and_keep-2.ensures.kept
-    (λ reading one. ap (λ (r : spec.Edition). r.body) (record_told c.in_ok-edition.field-0 c.in-Some-2.edition (edition_record one.owner c.args.number reading) (c.in_ok-edition.ensures.value before reading one) c.in-Some-2.is))
-    (texts_left c.args.number c.args.texts.now c.take.new.self c.take.ensures.rest db are)
-
-pub returns-clause-beside : goal.returns-clause-beside
-returns-clause-beside g c clean are other same have =
-    let mid = c.edition_of_number.new.conn in
-    let before : HasCleanDisk (state g.S.Store mid) = clean_before (state g.S.Store mid) (state g.S.Store c.find_and_keep-2.new.conn) c.find_and_keep-2.ensures.survives clean in
-    texts_kept other c.args.installs c.args.number c.in-Some-2.edition.body.items c.take.new.self c.find_and_keep-2.new.texts c.find_and_keep-2.ensures.kept
-    (same c.in-Some-2.edition.body.items
-    (λ reading one. ap (λ (r : spec.Edition). r.body) (record_told c.in_ok-edition.field-0 c.in-Some-2.edition (edition_record one.owner c.args.number reading) (c.in_ok-edition.ensures.value before reading one) c.in-Some-2.is)))
-    (texts_left c.args.number c.args.texts.now c.take.new.self c.take.ensures.rest other have)
+    cut_kept c.args.installs c.args.number c.in-Some.text.items c.take_text.new.texts c.keep.new.texts c.keep.ensures other entries edition
+    (λ same.
+    told_cuts entries edition c.in_ok-text.field-0 c.in-Some.text c.in-Some.is
+    (c.in_ok-text.ensures.cut clean entries edition (subst (λ (n : ℕ). AreCutFrom n entries edition c.args.texts.now) (sym same) are) (λ live. subst (λ (n : ℕ). HoldsCut db n entries edition) (sym same) (held (sym same) live))))
+    (cut_left c.args.number c.args.texts.now c.take_text.new.texts c.take_text.ensures.left other entries edition are)
 
 pub returns-clause-made : goal.returns-clause-made
 returns-clause-made g c made =
-    let db = (state g.S.Store c.args.conn.now).now in
-    made_kept db c.args.installs c.args.number c.in-Some-2.edition.body.items c.take.new.self c.find_and_keep-2.new.texts c.find_and_keep-2.ensures.kept (made_left c.args.number c.args.texts.now c.take.new.self c.take.ensures.rest c.args.installs made)
+    made_kept c.args.installs c.args.number c.in-Some.text.items c.take_text.new.texts c.keep.new.texts c.keep.ensures (made_left c.args.number c.args.texts.now c.take_text.new.texts c.take_text.ensures.left c.args.installs made)
 
-pub returns-clause-failed : goal.returns-clause-failed
-returns-clause-failed g c clean =
-    let number = column_of c.args.number in
-    let old = state g.S.Store c.args.conn.now in
-    let mid = state g.S.Store c.edition_of_number.new.conn in
-    let new = state g.S.Store c.find_and_keep-2.new.conn in
-    each_err c.find_and_keep-2.result (FailsToLookUp number mid new) (FailsToLookUp number old new)
-    (fails_behind number old mid new (c.in_ok-edition.ensures.same (clean_before mid new c.find_and_keep-2.ensures.survives clean)) c.edition_of_number.ensures.survives) (c.find_and_keep-2.ensures.failed clean)
-
--- nothing was read
-pub returns-in_err-edition-clause-texts : goal.returns-in_err-edition-clause-texts
-returns-in_err-edition-clause-texts g c clean are = texts_left c.args.number c.args.texts.now c.take.new.self c.take.ensures.rest (state g.S.Store c.args.conn.now).now are
-
-pub returns-in_err-edition-clause-beside : goal.returns-in_err-edition-clause-beside
-returns-in_err-edition-clause-beside g c clean are other same have = texts_left c.args.number c.args.texts.now c.take.new.self c.take.ensures.rest other have
-
-pub returns-in_err-edition-clause-made : goal.returns-in_err-edition-clause-made
-returns-in_err-edition-clause-made g c made = made_left c.args.number c.args.texts.now c.take.new.self c.take.ensures.rest c.args.installs made
+pub returns-clause-taken : goal.returns-clause-taken
+returns-clause-taken g c clean reading one =
+    let index = c.args.index.now in
+    let query = c.args.query.now in
+    let kept = lookup (nat_eq c.args.number) c.args.texts.now in
+    let entries : entries_at index c.as_slice-places.result.now ≡ found_entries c.args.strategy query index =
+    ap (entries_at index) c.as_slice-places.ensures.value ∙ (c.in_ok-found.ensures.entries ∙ ap (λ (q : List ℕ). found_entries c.args.strategy q index) c.as_bytes.ensures) in
+    let looked : c.in_ok-found.found.looked_at ≡ count_selected c.args.strategy query index = c.in_ok-found.ensures.looked_at ∙ ap (λ (q : List ℕ). count_selected c.args.strategy q index) c.as_bytes.ensures in
+    c.in_ok-text.ensures.taken clean reading one ∙ (ap (λ (n : ℕ). more_taken n (rows_for kept)) (c.saturating_add.ensures ∙ ap (more_taken c.args.rows_taken.now) looked)
+    ∙ (more_twice c.args.rows_taken.now (count_selected c.args.strategy query index) (rows_for kept) ∙ ap (λ (n : ℕ). more_taken c.args.rows_taken.now (count_selected c.args.strategy query index + n)) (some_read index kept (found_entries c.args.strategy query index) c.as_slice-places.result.now entries (sym c.is_empty.ensures ∙ c.if-is_empty.false))))

@@ -1,9 +1,10 @@
-use Rattle.std.proofs.Common.{ap, sym, subst, codes, filter, ◌∙◌, Some}
+use Rattle.std.proofs.Common.{ap, sym, subst, codes, filter, length, ◌∙◌, Some}
 use Rattle.std.specs.Prelude.{ℤ, pos}
 use Rattle.dict_sql.specs.Columns.{edition_columns}
 use Rattle.dict_sql.specs.Effects.{equals_number, rows_of}
 use Rattle.dict_sql.specs.Reads.{FailsToList}
 use Rattle.dict_lookup.specs.Searches.{FailsToLookUp, column_of}
+use Rattle.dict_lookup.specs.Taken.{more_taken}
 use Rattle.dict_lookup.proofs.FailLemmas.{list_fails}
 use Rattle.dict_lookup.proofs.RecordLemmas.{edition_owned, column_back, column_is, value_told}
 use Rattle.dict_lookup.proofs.record.edition_of_number.Goals as goal
@@ -22,4 +23,10 @@ returns-in-Err-clause-failed g c clean =
     let column = column_back c.args.number c.column_number.result c.column_number.ensures in
     let failed = subst (λ (z : ℤ). FailsToList edition_columns (filter (equals_number 1 z) (rows_of (codes "edition") old.now)) old new c.in-Err.error) column (c.in-Err.ensures.failed clean) in
     subst (FailsToLookUp (column_of c.args.number) old new) (sym c.fault_of_read.ensures.is)
-    (list_fails (column_of c.args.number) (λ db. filter (equals_number 1 (pos (column_of c.args.number))) (rows_of (codes "edition") db)) edition_columns old new (λ h. h.editions) c.in-Err.error failed)
+    (list_fails (column_of c.args.number) (λ db. filter (equals_number 1 (pos (column_of c.args.number))) (rows_of (codes "edition") db)) edition_columns old new (λ h. h) c.in-Err.error failed)
+
+pub returns-in-Ok-clause-taken : goal.returns-in-Ok-clause-taken
+returns-in-Ok-clause-taken g c clean reading one =
+    let column = column_back c.args.number c.column_number.result c.column_number.ensures ∙ ap pos (column_is c.args.number one.few) in
+    let read = edition_owned (state g.S.Store c.args.conn.now).now c.args.number reading c.in-Ok.rows.items one _ column (c.in-Ok.ensures.selected clean).0 in
+    c.saturating_add.ensures ∙ ap (more_taken c.args.rows_taken.now) (ap length c.as_slice.ensures.value ∙ ap length read.1)

@@ -1,8 +1,9 @@
-use Rattle.std.proofs.Common.{ap, sym, subst, map, ◌∙◌, Some, string_bytes, option_map}
+use Rattle.std.proofs.Common.{ap, sym, subst, length, map, ◌∙◌, Some, string_bytes, option_map}
 use Rattle.std.specs.Prelude.{ℤ, pos}
 use Rattle.dict_keyed_sql.specs.Infos.{editions_with, informed, informed_columns}
 use Rattle.dict_sql.specs.Reads.{FailsToList}
 use Rattle.dict_lookup.specs.Searches.{FailsToLookUp, column_of}
+use Rattle.dict_lookup.specs.Taken.{more_taken}
 use Rattle.dict_lookup.proofs.FailLemmas.{list_fails}
 use Rattle.dict_lookup.proofs.RecordLemmas.{info_told, last_told, informed_rows, column_back, column_is}
 use Rattle.dict_lookup.proofs.record.info_of_number.Goals as goal
@@ -21,4 +22,10 @@ returns-in-Err-clause-failed g c clean =
     let column = column_back c.args.number c.column_number.result c.column_number.ensures in
     let failed = subst (λ (z : ℤ). FailsToList informed_columns (map informed (editions_with z old.now)) old new c.in-Err.error) column (c.in-Err.ensures.failed clean) in
     subst (FailsToLookUp (column_of c.args.number) old new) (sym c.fault_of_read.ensures.is)
-    (list_fails (column_of c.args.number) (λ db. map informed (editions_with (pos (column_of c.args.number)) db)) informed_columns old new (λ h. informed_rows (editions_with (pos (column_of c.args.number)) old.now) h.editions) c.in-Err.error failed)
+    (list_fails (column_of c.args.number) (λ db. map informed (editions_with (pos (column_of c.args.number)) db)) informed_columns old new (λ h. informed_rows (editions_with (pos (column_of c.args.number)) old.now) h) c.in-Err.error failed)
+
+pub returns-in-Ok-clause-taken : goal.returns-in-Ok-clause-taken
+returns-in-Ok-clause-taken g c clean reading one =
+    let column = column_back c.args.number c.column_number.result c.column_number.ensures ∙ ap pos (column_is c.args.number one.few) in
+    let read = info_told (state g.S.Store c.args.conn.now).now c.args.number reading one c.in-Ok.infos.items _ column (c.in-Ok.ensures.selected clean).0 in
+    c.saturating_add.ensures ∙ ap (more_taken c.args.rows_taken.now) (ap length c.as_slice.ensures.value ∙ ap length read.1)
