@@ -12,7 +12,7 @@ ghost use Rattle.dict_rows.specs.Versions.{layout_of, known};
 ghost use Rattle.dict_sql.specs.Effects.{WhileOpen, seen};
 ghost use Rattle.dict_holdings.specs.Holds.{Holds, IsLeftAs, Rests};
 ghost use Rattle.dict_holdings.specs.Writing.{Stays};
-ghost use Rattle.dict_migration.specs.Migrated.{MayMigrate};
+ghost use Rattle.dict_migration.specs.Migrated.{IsMigrated, MayMigrate};
 ghost use Rattle.dict_migration.specs.Moved.{AreTreesOf, IsCommitted, IsOfMigration, IsOutcome, IsRefilled};
 ghost use Rattle.dict_migration.specs.Older.{IsOld, layout_as};
 ghost use Rattle.dict_migration.specs.Places.{InMove, InRefill};
@@ -151,7 +151,7 @@ fn older_layout(version: u64) -> Older
 }
 
 /// Makes of the tables of an older version those of the known one, by one commit: of the same catalogue, each entry with its key,
-/// and the words and the grams of all keys. It holds one edition at a time.
+/// and the words and the grams of all keys. The record of an edition, with its text, stays as it was. It holds one edition at a time.
 ///
 /// `Memory` tells that a growth was refused before the commit: all is as it was. `Disk` tells that a statement failed for
 /// another cause, or the commit did, for whatever cause: the next opening finds the catalogue under the older version or under
@@ -166,6 +166,7 @@ pub fn migrate<S: Alter>(
     requires older { (1 ≤ version) × (version < known) }
     requires holds { HasCleanDisk (state S.Store conn.old) → IsTrue (state S.Store conn.old).is_open → (M : Catalogue) × Rests version (state S.Store conn.old) M × (summary_of M ≡ summary_shown summary.now) }
     ensures rests { HasCleanDisk (state S.Store conn.new) → OnOk result ((M : Catalogue) → Holds version (state S.Store conn.old).committed M → Rests known (state S.Store conn.new) M) }
+    ensures migrated { HasCleanDisk (state S.Store conn.new) → OnOk result (IsMigrated version (state S.Store conn.old).committed (state S.Store conn.new).committed) }
     ensures only { HasCleanDisk (state S.Store conn.new) → OnOk result ((M : Catalogue) → Holds version (state S.Store conn.old).committed M → (trees : Trees) → (state S.Store conn.new).may_leave trees → IsLeftAs known M trees) }
     ensures lives { HasCleanDisk (state S.Store conn.new) → IsTrue (state S.Store conn.new).is_open → IsTrue (state S.Store conn.old).is_open }
     ensures stays { HasCleanDisk (state S.Store conn.new) → OnErr result (Stays (state S.Store conn.old) (state S.Store conn.new)) }

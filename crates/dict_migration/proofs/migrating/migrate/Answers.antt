@@ -11,7 +11,7 @@ use Rattle.dict_migration.proofs.FailLemmas.{why_not_begun}
 use Rattle.dict_migration.specs.Migrated.{MayMigrate}
 use Rattle.dict_holdings.specs.Writing.{Stays}
 use Rattle.dict_migration.specs.Moved.{AreTreesOf, IsCommitted, IsOutcome}
-use Rattle.dict_migration.proofs.EndLemmas.{is_old, outcome_holds, outcome_left, outcome_may, summary_installs, summary_numbers}
+use Rattle.dict_migration.proofs.EndLemmas.{is_old, outcome_holds, outcome_left, outcome_may, outcome_migrated, summary_installs, summary_numbers}
 use Rattle.dict_migration.proofs.migrating.migrate.Goals as goal
 
 pub migrate_from-requires-clause-old : goal.migrate_from-requires-clause-old
@@ -35,6 +35,20 @@ returns-clause-rests g c clean =
       holds = outcome_holds c.args.version c.older_layout.result c.older_layout.ensures old it.0 it.1 (c.is_live.ensures opened).0 c.deref.result.now c.args.summary.now.installs
           (c.deref.ensures.value ∙ (c.in-Ok.ensures.same ∙ summary_numbers it.0 summary it.2)) (summary_installs it.0 summary it.2) new.committed made.holds M held;
     })
+    (c.migrate_from.ensures.made clean)
+
+pub returns-clause-migrated : goal.returns-clause-migrated
+returns-clause-migrated g c clean =
+    let old = state g.S.Store c.args.conn.now in
+    let new = state g.S.Store c.migrate_from.new.conn in
+    let summary = summary_shown c.args.summary.now in
+    let clean0 : HasCleanDisk old = omega (arith, c.migrate_from.ensures.crash.clean, clean) in
+    on_ok_weaker c.migrate_from.result
+    (λ made.
+    let opened = made.holds.was_open in
+    let it = c.requires.holds clean0 opened in
+    outcome_migrated c.args.version c.older_layout.result c.older_layout.ensures old it.0 it.1 (c.is_live.ensures opened).0 c.deref.result.now c.args.summary.now.installs
+    (c.deref.ensures.value ∙ (c.in-Ok.ensures.same ∙ summary_numbers it.0 summary it.2)) (summary_installs it.0 summary it.2) new.committed made.holds)
     (c.migrate_from.ensures.made clean)
 
 pub returns-clause-only : goal.returns-clause-only
