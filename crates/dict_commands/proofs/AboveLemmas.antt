@@ -1,6 +1,6 @@
 -- A command adds no edition under a number that an install was given before.
-use Rattle.std.proofs.Common.{◌≡◌, ℕ, ◌+◌, ◌≤◌, ◌<◌, Bool, true, false, cond, List, [], ◌∷◌, ◌++◌, map, drop, filter, codes, not, Some, None, refl, sym, ap, subst, ◌∙◌, arith}
-use Rattle.std.specs.Prelude.{pos, Option, IfSome, IsTrue, Contains, IsPermutation, Result, Ok, Err}
+use Rattle.std.proofs.Common.{◌≡◌, ℕ, ◌≤◌, ◌<◌, Bool, true, false, cond, List, [], ◌∷◌, ◌++◌, map, drop, filter, codes, not, Some, None, refl, sym, ap, subst, ◌∙◌, arith}
+use Rattle.std.specs.Prelude.{pos, Option, IfSome, IsTrue, Contains, IsPermutation}
 use Rattle.std.specs.List.{AllByRecursion}
 use Rattle.std.proofs.lemmas.Bool.{false≢true}
 use Rattle.std.proofs.lemmas.List.Elements.{All-contains_itself, recursion_from_All}
@@ -10,7 +10,6 @@ use Rattle.sqlite.specs.Effect.{Database}
 use Rattle.sqlite.specs.Order.{Row}
 use Rattle.sqlite.specs.State.{State, HasCleanDisk}
 use Rattle.dict_text.proofs.AllLemmas.{all_append, all_filter, all_map}
-use Rattle.dict_index.specs.Edition.{Edition}
 use Rattle.dict_records.specs.Records as spec
 use Rattle.dict_sql.specs.Effects.{equals_number, rows_of}
 use Rattle.dict_sql.specs.Encodings.{edition_row}
@@ -23,17 +22,18 @@ use Rattle.dict_catalogue.specs.declared.planning.PlannedChange.{PlannedChange a
 use Rattle.dict_desk.specs.Faults.{is_failure}
 use Rattle.dict_desk.specs.declared.fault.Fault.{Fault}
 use Rattle.dict_desk.specs.declared.fault.Fault.TheVariants.{Refused, Memory, Disk, Closed, NotACatalogue, Damaged, NewerSchema}
-use Rattle.dict_rows.specs.After.{TableChange, Installed, is_gone, installed_editions}
+use Rattle.dict_rows.specs.After.{Installed, is_gone, installed_editions}
 use Rattle.dict_rows.specs.Tables.{same_number}
 use Rattle.dict_rows.specs.Versions.{known}
 use Rattle.dict_rows.specs.Written.{edition_record}
 use Rattle.dict_rows.proofs.OrderLemmas.{all_same}
-use Rattle.dict_rows.proofs.TakenLemmas.{nat_same}
+use Rattle.dict_rows.proofs.TakenLemmas.{nat_same, same_itself}
 use Rattle.dict_derived.specs.AllTables.{AllTables, with_derived, all_after}
 use Rattle.dict_holdings.specs.Holds.{Keeps}
 use Rattle.dict_commands.specs.Kept.{HasRecords, Turns, AddsAbove, edition_records}
 use Rattle.dict_commands.specs.Changes.{change_by, installed_by}
 use Rattle.dict_commands.specs.Committed.{IsCommitted, IsOfStore}
+use Rattle.dict_commands.specs.Installed.{HasRecordOf}
 use Rattle.dict_commands.specs.Answers.{HoldsBy}
 use Rattle.dict_commands.proofs.ApplyLemmas.{holds_now}
 use Rattle.dict_commands.proofs.RowLemmas.{compared_values, filter_map, next_column}
@@ -133,6 +133,35 @@ above_committed summary id command planned change old new holds clean live done 
     let after : HasRecords new.now (all_after known (change_by id command planned) all) = subst (λ (db : Database). HasRecords db (all_after known (change_by id command planned) all)) (sym done.settled) (done.holds all before).0 in
     stays number summary.installs old.now new.now planned.gone.items all.editions (installed_by planned.summary.installs command) (editions_kept old.now all before) (editions_kept new.now (all_after known (change_by id command planned) all) after)
     (installed_above command summary.installs planned.summary.installs (counted summary command planned change)) low
+
+-- the last of a list
+last_of : {X : Type 0} (P : X → Type 0) (xs : List X) (x : X) → AllByRecursion P (xs ++ x ∷ []) → P x
+last_of P [] x h = h.0
+last_of P (y ∷ xs) x h = last_of P xs x h.1
+
+-- the record of an edition that comes last stands under its number
+record_there : (number : ℕ) (db : Database) (front : List spec.Edition) (one : spec.Edition) → one.number ≡ pos number → Keeps (codes "edition") edition_row db (front ++ one ∷ []) → Contains (edition_records number db) (edition_row one)
+record_there number db front one is keeps =
+    let P : Row → Type 0 = Contains (edition_records number db) in
+    let all : List spec.Edition = front ++ one ∷ [] in
+    let there : AllByRecursion P (filter (test number) (map edition_row all)) = all_same P (edition_records number db) (filter (test number) (map edition_row all)) (IsPermutation-sym (filter (test number) (map edition_row all)) (edition_records number db) (under number db all keeps)) (all_there (edition_records number db)) in
+    let each : AllByRecursion (λ (e : spec.Edition). test number (edition_row e) ≡ true → P (edition_row e)) all = unmapped (λ row. test number row ≡ true → P row) edition_row all (passing P (test number) (map edition_row all) there) in
+    last_of (λ (e : spec.Edition). test number (edition_row e) ≡ true → P (edition_row e)) front one each (compared_values (pos number) one.number ∙ (ap (same_number (pos number)) is ∙ same_itself (pos number)))
+
+-- so it is of the edition that a command installs
+pub installed_there : (summary : Holdings (List ℕ)) (id : List ℕ) (command : Command) (planned : Planned) → (old new : State) → HoldsBy summary old → HasCleanDisk old → IsTrue old.is_open
+    → IsCommitted (Turns (all_after known (change_by id command planned)) old.now) new → HasRecordOf command planned.summary.installs new.now
+installed_there summary id (Install name edition) planned old new holds clean live done =
+    let it = holds clean live in
+    let held = holds_now old it.0 it.1 in
+    let all : AllTables = with_derived held.tables in
+    let after : HasRecords new.now (all_after known (change_by id (Install name edition) planned) all) = subst (λ (db : Database). HasRecords db (all_after known (change_by id (Install name edition) planned) all)) (sym done.settled) (done.holds all (record { own = held.own; keeps = held.keeps })).0 in
+    record_there planned.summary.installs new.now (filter (λ (e : spec.Edition). not (is_gone planned.gone.items e.number)) all.editions) (edition_record name.now planned.summary.installs edition.now) refl
+    (editions_kept new.now (all_after known (change_by id (Install name edition) planned) all) after)
+installed_there summary id (Rollback name) planned old new holds clean live done = tt
+installed_there summary id (Retire name) planned old new holds clean live done = tt
+installed_there summary id (PutVirtual name title members) planned old new holds clean live done = tt
+installed_there summary id (Place name at) planned old new holds clean live done = tt
 
 -- nothing has changed
 pub above_same : (installs : ℕ) (old new : Database) → new ≡ old → AddsAbove installs old new

@@ -32,21 +32,14 @@ use Rattle.dict_holdings.proofs.ReadingLemmas.{replies_kept}
 use Rattle.dict_rows.specs.Versions.{known, layout_of}
 use Rattle.std.specs.Prelude.{Result, IfErr, IsErrAnd}
 use Rattle.std.specs.List.{AllByRecursion, Contains}
-use Rattle.std.proofs.lemmas.List.Elements.{All-from_recursion}
-use Rattle.sqlite.specs.State.{State, IsUnchanged}
-use Rattle.sqlite.specs.declared.error.Error.{Error}
-use Rattle.dict_text.proofs.AllLemmas.{all_filter}
-use Rattle.dict_sql.specs.Columns.{HasColumns, kept_columns}
-use Rattle.dict_sql.specs.Reads.{FailsToRead, FailsToList}
+use Rattle.sqlite.specs.State.{State}
+use Rattle.dict_sql.specs.Columns.{kept_columns}
+use Rattle.dict_sql.specs.Reads.{FailsToList}
 use Rattle.dict_sql.specs.declared.records.ReadError.{ReadError}
-use Rattle.dict_sql.specs.declared.records.ReadError.TheVariants.{NoRecord, Store}
-use Rattle.dict_sql.proofs.StreamLemmas.{passed_on}
-use Rattle.dict_desk.specs.declared.fault.Fault.{Fault}
-use Rattle.dict_desk.specs.declared.fault.Fault.TheVariants.{Memory}
-use Rattle.dict_holdings.specs.Faults.{fault_of, fault_of_read}
+use Rattle.dict_holdings.specs.Faults.{fault_of_read}
 use Rattle.dict_holdings.proofs.FailLemmas.{list_fails}
 use Rattle.dict_holdings.proofs.ReadableLemmas.{held_replies}
-use Rattle.dict_holdings.specs.Faults.{IsUnread, FailsToLookUp}
+use Rattle.dict_holdings.specs.Faults.{FailsToLookUp}
 
 abbrev ReadKept : Type 0
 ReadKept = Stored (typed.Kept (String Global))

@@ -9,3 +9,4 @@ pub mod Answers
 pub mod Filing
 pub mod Parts
 pub mod Finishing
+pub mod Installed

@@ -1,5 +1,5 @@
 // A command on the tables of one database.
-ghost use Rattle.std.specs.Prelude.{◌≡◌, ◌⊎◌, ◌≤◌, false, true, None, IsTrue, IfErr, OnOk};
+ghost use Rattle.std.specs.Prelude.{◌≡◌, ◌⊎◌, ◌≤◌, false, true, None, IsTrue, IfErr, OnErr, OnOk};
 ghost use Rattle.sqlite.specs.State.{HasCleanDisk, Survives};
 ghost use Rattle.sqlite.specs.Held.{state};
 ghost use Rattle.dict_name.specs.Names.{is_request_id};
@@ -12,6 +12,7 @@ ghost use Rattle.dict_commands.specs.Kept.{SparesOthers, AddsAbove};
 ghost use Rattle.dict_commands.specs.Changes.{IsInRange};
 ghost use Rattle.dict_commands.specs.Committed.{IsTreesOf};
 ghost use Rattle.dict_commands.specs.Answers.{HoldsBy, Answers, has_written, summary_after, IsOfApply, IsOfShut, FailsToAct, FailsToApply};
+ghost use Rattle.dict_commands.specs.Installed.{HasInstalled};
 ghost use Rattle.dict_rows.specs.Versions.{known};
 
 use crate::applied::Applied;
@@ -46,6 +47,8 @@ fn apply_new<S: Alter>(
     ensures others { HasCleanDisk (state S.Store conn.new) → OnOk result (SparesOthers (state S.Store conn.old).now (state S.Store conn.new).now) }
     ensures beside { Survives (state S.Store conn.old) (state S.Store conn.new) (λ trees. IsTrue (state S.Store conn.old).is_open → IsTreesOf (SparesOthers (state S.Store conn.old).now) trees) }
     ensures above { HasCleanDisk (state S.Store conn.new) → OnOk result (AddsAbove summary.now.installs (state S.Store conn.old).now (state S.Store conn.new).now) }
+    ensures installed { HasCleanDisk (state S.Store conn.new) → HasInstalled command.now result (state S.Store conn.new).now }
+    ensures stays { HasCleanDisk (state S.Store conn.new) → IsTrue (state S.Store conn.new).is_open → OnErr result ((state S.Store conn.new).committed ≡ (state S.Store conn.old).committed) }
     ensures refused { IfErr result (λ fault. is_failure fault ≡ false → (state S.Store conn.new).now ≡ (state S.Store conn.old).now) }
     ensures grows { summary.now.installs ≤ (summary_after (summary_shown summary.now) result).installs }
     ensures kinds { IfErr result IsOfApply }
@@ -67,7 +70,8 @@ fn apply_new<S: Alter>(
 /// else the command's own tests decide, and then it does its effect, and its reply is kept. All memory for the answer is
 /// taken before the commit, which is the last call of the store. What is derived of an edition that is installed is made
 /// before anything is written. Tables that are none of the product's keep their rows, also in what a stop leaves. An edition that
-/// is installed gets a number above that of each install before, and one that stays keeps its record as it was.
+/// is installed gets a number above that of each install before, and stands under it with its title, its info and its text; one that
+/// stays keeps its record as it was.
 ///
 /// `Memory` tells that a growth was refused before the commit: nothing has changed while the store is open. `Disk` tells
 /// that a read or a statement failed for another cause, or the commit did, for whatever cause: what a stop leaves is what it
@@ -93,6 +97,8 @@ pub fn apply<S: Alter>(
     ensures others { HasCleanDisk (state S.Store conn.new) → OnOk result (SparesOthers (state S.Store conn.old).now (state S.Store conn.new).now) }
     ensures beside { Survives (state S.Store conn.old) (state S.Store conn.new) (IsTreesOf (SparesOthers (state S.Store conn.old).now)) }
     ensures above { HasCleanDisk (state S.Store conn.new) → OnOk result (AddsAbove summary.now.installs (state S.Store conn.old).now (state S.Store conn.new).now) }
+    ensures installed { HasCleanDisk (state S.Store conn.new) → HasInstalled command.now result (state S.Store conn.new).now }
+    ensures stays { HasCleanDisk (state S.Store conn.new) → IsTrue (state S.Store conn.new).is_open → OnErr result ((state S.Store conn.new).committed ≡ (state S.Store conn.old).committed) }
     ensures refused { HasCleanDisk (state S.Store conn.new) → IfErr result (λ fault. is_failure fault ≡ false → (state S.Store conn.new).now ≡ (state S.Store conn.old).now) }
     ensures grows { summary.now.installs ≤ (summary_after (summary_shown summary.now) result).installs }
     ensures kinds { IfErr result IsOfApply }

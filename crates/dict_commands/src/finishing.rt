@@ -25,6 +25,7 @@ ghost use Rattle.dict_commands.specs.Committed.{IsCommitted, IsOfStore, IsTreesO
 ghost use Rattle.dict_commands.specs.Answers.{HoldsBy, Answers, summary_after, FailsToApply};
 ghost use Rattle.dict_commands.specs.Writes.{Wrote, FailsToWrite, Spares};
 ghost use Rattle.dict_commands.specs.Filing.{entry_of, IsDrawnUp, IsUnderway, rested, FailsInside};
+ghost use Rattle.dict_commands.specs.Installed.{HasInstalled};
 ghost use Rattle.dict_commands.specs.Finishing.{finishing, finished, AwaitsRest, IsOfChange, IsAppliedOver, FailsToFinish, FailsToApplyFiled};
 
 use crate::applied::Applied;
@@ -240,6 +241,8 @@ fn apply_anew<S: Alter>(
     requires range { IsInRange (summary_shown summary.now) }
     ensures applied { IsAppliedOver (summary_shown summary.now) id.now (command_meant command.now) (state S.Store conn.old) (state S.Store conn.new) result }
     ensures failed { HasCleanDisk (state S.Store conn.new) → IfErr result (λ fault. is_failure fault ≡ true → (mid : Held S) × KeepsCommit (state S.Store conn.old) (state S.Store mid) × Survives (state S.Store conn.old) (state S.Store mid) (λ _. ⊥) × FailsToApply S.Store (summary_shown summary.now) id.now (command_meant command.now) mid conn.new fault) }
+    ensures installed { HasCleanDisk (state S.Store conn.new) → IsTrue (state S.Store conn.new).is_open → HasInstalled command.now result (state S.Store conn.new).committed }
+    ensures stays { HasCleanDisk (state S.Store conn.new) → IsTrue (state S.Store conn.new).is_open → OnErr result ((state S.Store conn.new).committed ≡ (state S.Store conn.old).committed) }
 {
     roll_back(conn);
     if !conn.is_autocommit() {
@@ -265,6 +268,8 @@ fn apply_rest<S: Alter>(
     requires range { IsInRange (summary_shown summary.now) }
     ensures applied { IsAppliedOver (summary_shown summary.now) id.now (command_meant command.now) (state S.Store conn.old) (state S.Store conn.new) result }
     ensures failed { HasCleanDisk (state S.Store conn.new) → IfErr result (λ fault. is_failure fault ≡ true → FailsToFinish S.Store (summary_shown summary.now) id.now (command_meant command.now) conn.old conn.new fault) }
+    ensures installed { HasCleanDisk (state S.Store conn.new) → IsTrue (state S.Store conn.new).is_open → HasInstalled command.now result (state S.Store conn.new).committed }
+    ensures stays { HasCleanDisk (state S.Store conn.new) → IsTrue (state S.Store conn.new).is_open → OnErr result ((state S.Store conn.new).committed ≡ (state S.Store conn.old).committed) }
 {
     command.is_lawful();
     lies_within(command);
@@ -291,6 +296,8 @@ fn apply_lawful<S: Alter>(
     requires range { IsInRange (summary_shown summary.now) }
     ensures applied { IsAppliedOver (summary_shown summary.now) id.now (command_meant command.now) (state S.Store conn.old) (state S.Store conn.new) result }
     ensures failed { HasCleanDisk (state S.Store conn.new) → IfErr result (λ fault. is_failure fault ≡ true → FailsToApplyFiled S.Store (summary_shown summary.now) id.now (command_meant command.now) conn.old conn.new fault) }
+    ensures installed { HasCleanDisk (state S.Store conn.new) → IsTrue (state S.Store conn.new).is_open → HasInstalled command.now result (state S.Store conn.new).committed }
+    ensures stays { HasCleanDisk (state S.Store conn.new) → IsTrue (state S.Store conn.new).is_open → OnErr result ((state S.Store conn.new).committed ≡ (state S.Store conn.old).committed) }
 {
     match filed_change(alloc, conn, summary, id, command, filing) {
         Some(change) => apply_rest(conn, summary, id, command, change),
@@ -323,6 +330,8 @@ pub fn apply_filed<S: Alter>(
     ensures failed { HasCleanDisk (state S.Store conn.new) → IfErr result (λ fault. is_failure fault ≡ true → FailsToApplyFiled S.Store (summary_shown summary.now) id.now (command_meant command.now) conn.old conn.new fault) }
     ensures holds { HoldsBy (summary_after (summary_shown summary.now) result) (rested (state S.Store conn.new)) }
     ensures settled { HasCleanDisk (state S.Store conn.new) → is_request_id id.now ≡ true → IsTrue (state S.Store conn.new).is_open → (state S.Store conn.new).now ≡ (state S.Store conn.new).committed }
+    ensures installed { HasCleanDisk (state S.Store conn.new) → IsTrue (state S.Store conn.new).is_open → HasInstalled command.now result (state S.Store conn.new).committed }
+    ensures stays { HasCleanDisk (state S.Store conn.new) → IsTrue (state S.Store conn.new).is_open → OnErr result ((state S.Store conn.new).committed ≡ (state S.Store conn.old).committed) }
 {
     if !is_request_id(id) {
         return Err(Fault::Refused(CommandRefusal::BadRequestId));

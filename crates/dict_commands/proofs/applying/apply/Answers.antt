@@ -1,4 +1,4 @@
-use Rattle.std.proofs.Common.{◌≡◌, true, false, None, Some, sym, subst, rules, ◌⊎◌, ◌∙◌, inl, OnOk}
+use Rattle.std.proofs.Common.{◌≡◌, true, false, None, Some, sym, subst, rules, ◌⊎◌, ◌∙◌, inl, OnErr, OnOk}
 use Rattle.sqlite.specs.State.{HasCleanDisk}
 use Rattle.sqlite.specs.Held.{state}
 use Rattle.sqlite.proofs.StateLemmas.{survives_then}
@@ -139,3 +139,15 @@ returns-in_err-kept-clause-refused g c = λ clean.
     let new = state g.S.Store c.kept_reply.new.conn in
     let fault = c.in_err-kept.field-0.0 in
     passed_on (λ fault. is_failure fault ≡ false → new.now ≡ old.now) fault c.from_residual.result c.from_residual.ensures.1 (λ no. absurd (none_refused fault c.in_err-kept.ensures.kinds no))
+
+pub returns-in_err-kept-clause-stays : goal.returns-in_err-kept-clause-stays
+returns-in_err-kept-clause-stays g c = λ clean live.
+    let p = err_from_is_err_and c.from_residual.result c.from_residual.ensures.1 in
+    rw p.1 ((c.in_err-kept.ensures.stays clean).committed live)
+
+pub returns-clause-stays : goal.returns-clause-stays
+returns-clause-stays g c = λ clean live.
+    let mid = state g.S.Store c.kept_reply.new.conn in
+    let new = state g.S.Store c.apply_new.new.conn in
+    let same = (c.in_ok-kept.ensures.same (clean_before mid new c.apply_new.ensures.crash clean)).0.committed_is in
+    subst (λ (db : Database). OnErr c.apply_new.result (new.committed ≡ db)) same (c.apply_new.ensures.stays clean live)

@@ -4,7 +4,7 @@ use Rattle.sqlite.proofs.StateLemmas.{survives_weaker}
 use Rattle.dict_catalogue.specs.Tests.{refusal_of}
 use Rattle.dict_catalogue.specs.Views.{summary_shown, command_shown, command_meant}
 use Rattle.dict_commands.proofs.ApplyLemmas.{declined_answers, failed_answers, acted_answers, left_after, declined_fails, commit_fails, is_planned, holds_after, holds_now, others_spared, others_committed}
-use Rattle.dict_commands.proofs.AboveLemmas.{above_committed, grows_by, none_refused}
+use Rattle.dict_commands.proofs.AboveLemmas.{above_committed, grows_by, installed_there, none_refused}
 use Rattle.dict_commands.proofs.WriteLemmas.{clean_before}
 use Rattle.std.proofs.Common.{◌≡◌, ◌⊎◌, inl, refl, true, false, None}
 use Rattle.sqlite.specs.Effect.{Database}
@@ -106,6 +106,13 @@ returns-clause-above g c clean =
     let done = c.in_ok-commit_change.ensures.made clean in
     above_committed (summary_shown c.args.summary.now) c.args.id.now c.args.command.now c.in_ok-change.change c.in_ok-change.ensures.planned old new c.requires.holds (clean_before old new c.commit_change.ensures.crash clean) (c.commit_change.ensures.lives clean done.is_open) done
 
+pub returns-clause-installed : goal.returns-clause-installed
+returns-clause-installed g c clean =
+    let old = state g.S.Store c.args.conn.now in
+    let new = state g.S.Store c.commit_change.new.conn in
+    let done = c.in_ok-commit_change.ensures.made clean in
+    installed_there (summary_shown c.args.summary.now) c.args.id.now c.args.command.now c.in_ok-change.change old new c.requires.holds (clean_before old new c.commit_change.ensures.crash clean) (c.commit_change.ensures.lives clean done.is_open) done
+
 pub returns-clause-grows : goal.returns-clause-grows
 returns-clause-grows g c = grows_by (summary_shown c.args.summary.now) c.args.command.now c.in_ok-change.change c.in_ok-change.ensures.planned
 
@@ -115,3 +122,8 @@ returns-in_err-commit_change-clause-refused g c =
     let new = state g.S.Store c.commit_change.new.conn in
     let fault = c.in_err-commit_change.field-0.0 in
     passed_on (λ fault. is_failure fault ≡ false → new.now ≡ old.now) fault c.from_residual-in_err-commit_change.result c.from_residual-in_err-commit_change.ensures.1 (λ no. absurd (none_refused fault c.in_err-commit_change.ensures.kinds no))
+
+pub returns-in_err-commit_change-clause-stays : goal.returns-in_err-commit_change-clause-stays
+returns-in_err-commit_change-clause-stays g c = λ clean live.
+    let p = err_from_is_err_and c.from_residual-in_err-commit_change.result c.from_residual-in_err-commit_change.ensures.1 in
+    rw p.1 ((c.in_err-commit_change.ensures.stays clean).committed live)

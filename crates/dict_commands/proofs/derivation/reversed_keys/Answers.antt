@@ -1,4 +1,4 @@
-use Rattle.std.proofs.Common.{◌≡◌, ◌<◌, ◌++◌, ◌∙◌, take, length, reverse, ap, sym}
+use Rattle.std.proofs.Common.{◌<◌, ◌++◌, ◌∙◌, take, length, reverse, ap, sym}
 use Rattle.std.specs.Prelude.{flat_map}
 use Rattle.dict_commands.proofs.ListedLemmas.{reversed_more}
 use Rattle.dict_commands.proofs.derivation.reversed_keys.Goals as goal

@@ -1,4 +1,4 @@
-use Rattle.std.proofs.Common.{refl, subst, codes, get_or, pos, [], ◌∷◌, ◌∙◌}
+use Rattle.std.proofs.Common.{refl, subst, codes, get_or, [], ◌∷◌, ◌∙◌}
 use Rattle.std.proofs.lemmas.List.{take_all}
 use mir.Val.{to_z}
 use mir.Syntax.{w64}

@@ -1,7 +1,9 @@
-use Rattle.std.proofs.Common.{rules}
+use Rattle.std.proofs.Common.{◌≡◌, OnErr, rules, subst}
+use Rattle.sqlite.specs.Effect.{Database}
 use Rattle.sqlite.specs.State.{HasCleanDisk}
 use Rattle.sqlite.specs.Held.{state}
 use Rattle.dict_catalogue.specs.Views.{command_meant, summary_shown}
+use Rattle.dict_commands.specs.Installed.{HasInstalled}
 use Rattle.dict_commands.proofs.FinishLemmas.{IsReturned, undone_keeps, holds_back, anew_applied}
 use Rattle.dict_commands.proofs.LoopLemmas.{each_err}
 use Rattle.dict_commands.proofs.WriteLemmas.{clean_before}
@@ -30,3 +32,13 @@ returns-clause-failed g c clean =
     let new = c.apply.new.conn in
     let early = clean_before (state g.S.Store mid) (state g.S.Store new) c.apply.ensures.crash clean in
     each_err c.apply.result _ _ (λ fault h real. (mid, undone_keeps g.S.Store old mid (c.roll_back.ensures.undone early) c.roll_back.ensures.unchanged, c.roll_back.ensures.survives, h real)) (c.apply.ensures.failed clean)
+
+pub returns-clause-installed : goal.returns-clause-installed
+returns-clause-installed g c = λ clean live. subst (λ (db : Database). HasInstalled c.args.command.now c.apply.result db) (c.apply.ensures.holds clean live).1.settled (c.apply.ensures.installed clean)
+
+pub returns-clause-stays : goal.returns-clause-stays
+returns-clause-stays g c = λ clean live.
+    let mid = state g.S.Store c.roll_back.new.conn in
+    let new = state g.S.Store c.apply.new.conn in
+    let keeps = undone_keeps g.S.Store c.args.conn.now c.roll_back.new.conn (c.roll_back.ensures.undone (clean_before mid new c.apply.ensures.crash clean)) c.roll_back.ensures.unchanged in
+    subst (λ (db : Database). OnErr c.apply.result (new.committed ≡ db)) (keeps.committed (c.apply.ensures.lives clean live)) (c.apply.ensures.stays clean live)

@@ -1,4 +1,5 @@
-use Rattle.std.proofs.Common.{inl, inr}
+use Rattle.std.proofs.Common.{◌≡◌, OnErr, inl, inr, subst}
+use Rattle.sqlite.specs.Effect.{Database}
 use Rattle.sqlite.specs.Held.{state}
 use Rattle.dict_catalogue.specs.Views.{command_meant, summary_shown}
 use Rattle.dict_commands.proofs.FinishLemmas.{applied_later, holds_kept}
@@ -41,3 +42,17 @@ returns-in-None-clause-failed g c clean =
     each_err c.apply_anew.result _ _
     (λ fault h real. let it = h real in inl (it.0, keeps_then (state g.S.Store old) (state g.S.Store mid) (state g.S.Store it.0) (c.filed_change.ensures.keeps early) it.1, survives_then (state g.S.Store old) (state g.S.Store mid) (state g.S.Store it.0) (λ _. ⊥) (λ _. ⊥) (λ _. ⊥) (λ _ db none. none) (λ _ db none. none) c.filed_change.ensures.survives it.2, it.3))
     (c.apply_anew.ensures.failed clean)
+
+pub returns-in-Some-clause-stays : goal.returns-in-Some-clause-stays
+returns-in-Some-clause-stays g c = λ clean live.
+    let mid = state g.S.Store c.filed_change.new.conn in
+    let new = state g.S.Store c.apply_rest.new.conn in
+    let keeps = c.filed_change.ensures.keeps (clean_before mid new c.apply_rest.ensures.applied.crash clean) in
+    subst (λ (db : Database). OnErr c.apply_rest.result (new.committed ≡ db)) (keeps.committed (c.apply_rest.ensures.applied.lives clean live)) (c.apply_rest.ensures.stays clean live)
+
+pub returns-in-None-clause-stays : goal.returns-in-None-clause-stays
+returns-in-None-clause-stays g c = λ clean live.
+    let mid = state g.S.Store c.filed_change.new.conn in
+    let new = state g.S.Store c.apply_anew.new.conn in
+    let keeps = c.filed_change.ensures.keeps (clean_before mid new c.apply_anew.ensures.applied.crash clean) in
+    subst (λ (db : Database). OnErr c.apply_anew.result (new.committed ≡ db)) (keeps.committed (c.apply_anew.ensures.applied.lives clean live)) (c.apply_anew.ensures.stays clean live)

@@ -1,6 +1,13 @@
+use Rattle.std.proofs.Common.{refl}
 use Rattle.sqlite.specs.Held.{state}
 use Rattle.dict_catalogue.specs.Views.{summary_shown}
-use Rattle.dict_derived.specs.AllTables.{with_derived}
+use Rattle.dict_derived.specs.AllTables.{all_after, with_derived}
+use Rattle.dict_rows.specs.Versions.{known}
+use Rattle.dict_commands.specs.Kept.{Turns}
+use Rattle.dict_commands.specs.Committed.{IsCommitted}
+use Rattle.dict_commands.specs.Changes.{change_by}
+use Rattle.dict_commands.specs.Filing.{rested}
+use Rattle.dict_commands.proofs.AboveLemmas.{installed_there}
 use Rattle.dict_commands.proofs.FinishLemmas.{rest_done, rest_failed, rest_fails}
 use Rattle.dict_commands.proofs.WriteLemmas.{clean_before}
 use Rattle.dict_commands.proofs.finishing.apply_rest.Goals as goal
@@ -22,3 +29,15 @@ pub returns-in-Err-clause-failed : goal.returns-in-Err-clause-failed
 returns-in-Err-clause-failed g c clean = λ real.
     rest_fails g.S.Store (summary_shown c.args.summary.now) c.args.id.now c.args.command.now c.args.change c.args.conn.now c.commit_rest.new.conn c.requires.id c.requires.planned.0 c.is_lawful.ensures c.lies_within.ensures
     (c.requires.free (clean_before (state g.S.Store c.args.conn.now) (state g.S.Store c.commit_rest.new.conn) c.commit_rest.ensures.crash clean)) c.in-Err.fault (c.in-Err.ensures.failed clean)
+
+pub returns-clause-installed : goal.returns-clause-installed
+returns-clause-installed g c = λ clean live.
+    let old = state g.S.Store c.args.conn.now in
+    let new = state g.S.Store c.commit_rest.new.conn in
+    let made = c.in_default.ensures.made clean in
+    let done : IsCommitted (Turns (all_after known (change_by c.args.id.now c.args.command.now c.args.change)) old.committed) (rested new) = record { is_open = made.is_open; settled = refl; holds = made.holds; only = made.only } in
+    installed_there (summary_shown c.args.summary.now) c.args.id.now c.args.command.now c.args.change (rested old) (rested new) c.requires.holds (clean_before old new c.commit_rest.ensures.crash clean) (c.commit_rest.ensures.lives clean live)
+    done
+
+pub returns-in-Err-clause-stays : goal.returns-in-Err-clause-stays
+returns-in-Err-clause-stays g c = λ clean live. (c.in-Err.ensures.keeps clean).committed live
