@@ -24,6 +24,7 @@ use Rattle.dict_index.specs.Edition.{Edition as AnEdition, ReadEdition, edition_
 use Rattle.dict_index.specs.WellFormed.{IsWellFormedEdition}
 use Rattle.dict_catalogue.specs.Items.{Stored, Item, name_of, editions_of, numbers_of, edition_numbers}
 use Rattle.dict_catalogue.specs.Steps.{Catalogue, KeptFor}
+use Rattle.dict_catalogue.specs.WellFormed.{IsWellFormed}
 use Rattle.dict_catalogue.specs.WellFormed.{IsLawfulItem, HasWellFormedEditions, how_many, is_install}
 use Rattle.dict_rows.specs.Tables.{Tables, same_number, editions_numbered}
 use Rattle.dict_rows.specs.Stands.{HoldsEdition, HoldsEditions, has_number, Stands}
@@ -75,7 +76,7 @@ edition_test : (n : ℤ) (r : Row) → drop 1 r ≡ edition_row (decode_edition 
 edition_test n r read = let e = decode_edition (drop 1 r) in numbered_as r (edition_row e) e.number n read refl
 
 module _ (db : Database) (T : Tables) (k : KeepsAll Shown db (with_derived T)) (number : ℕ) where
-  editions_under : IsPermutation (map edition_row (editions_numbered (pos number) T.editions)) (rows_under (codes "edition") number db)
+  pub editions_under : IsPermutation (map edition_row (editions_numbered (pos number) T.editions)) (rows_under (codes "edition") number db)
   editions_under = kept_under edition_row decode_edition (λ r. refl) (codes "edition") db T.editions k.1.1.1.0.rows (pos number) (λ (e : Edition). same_number e.number (pos number)) (edition_test (pos number))
 
 -- ---- what the records have under a number: an edition's record, or none
@@ -153,30 +154,35 @@ how_many_few test (x ∷ xs) = by_test (test x) (how_many_few test xs)
 number_all : {A : Type 0} (P : ℕ → Type 0) (stored : List (Stored A)) (one : Stored A) → AllByRecursion P (map (λ s. s.number) stored) → Contains stored one → P one.number
 number_all P stored one all at = all_contains (λ s. P s.number) stored one (all_unmapped P (λ s. s.number) stored all) at
 
-pub held_one : (db : Database) (M : Catalogue) (number : ℕ) (edition : AnEdition) → Holds known db M → HasEdition M number edition → (reading : ReadEdition) × HoldsOne db number reading × (edition ≡ edition_of reading)
-held_one db M number edition holds has =
-    let T = holds.tables in
-    let k : KeepsAll Shown db (with_derived T) = holds.keeps in
-    let well = holds.stands.well_formed in
+-- a number is that of no more than the commands that were kept
+pub number_few : (M : Catalogue) → IsWellFormed M → (number : ℕ) (edition : AnEdition) → HasEdition M number edition → number ≤ 9223372036854775807
+number_few M well number edition has =
     let item = has.item in
     let stored : Stored AnEdition = record { number = number; content = edition } in
-    let one : HoldsEdition T (name_of item) stored = all_contains (HoldsEdition T (name_of item)) (editions_of item) stored (all_contains (HoldsEditions T) M.items item holds.stands.editions has.stands) has.stored in
     let ranges = all_flat_map_parts (λ n. (1 ≤ n) × (n ≤ M.installs)) numbers_of M.items well.edition_range in
     let within : (1 ≤ number) × (number ≤ M.installs) = number_all (λ n. (1 ≤ n) × (n ≤ M.installs)) (editions_of item) stored
     (all_contains (λ (i : Item AnEdition). AllByRecursion (λ n. (1 ≤ n) × (n ≤ M.installs)) (numbers_of i)) M.items item ranges has.stands) has.stored in
     let few = how_many_few (λ (kept : KeptFor). is_install kept.reply.verb) M.kept in
-    let most : number ≤ 9223372036854775807 = bound number M.installs (how_many (λ (kept : KeptFor). is_install kept.reply.verb) M.kept) (length M.kept) 9223372036854775807 within.1 well.installs few well.accepted_limit in (
+    bound number M.installs (how_many (λ (kept : KeptFor). is_install kept.reply.verb) M.kept) (length M.kept) 9223372036854775807 within.1 well.installs few well.accepted_limit
+  where
+    bound : (a b c d e : ℕ) → a ≤ b → b ≡ c → c ≤ d → d ≤ e → a ≤ e
+    bound a b c d e p q r s = omega arith
+
+pub held_one : (db : Database) (M : Catalogue) (number : ℕ) (edition : AnEdition) → Holds known db M → HasEdition M number edition → (reading : ReadEdition) × HoldsOne db number reading × (edition ≡ edition_of reading)
+held_one db M number edition holds has =
+    let T = holds.tables in
+    let k : KeepsAll Shown db (with_derived T) = holds.keeps in
+    let item = has.item in
+    let stored : Stored AnEdition = record { number = number; content = edition } in
+    let one : HoldsEdition T (name_of item) stored = all_contains (HoldsEdition T (name_of item)) (editions_of item) stored (all_contains (HoldsEditions T) M.items item holds.stands.editions has.stands) has.stored in (
       one.reading,
       record {
-        few = most;
+        few = number_few M holds.stands.well_formed number edition has;
         owner = name_of item;
         row = subst (λ (l : List Edition). IsPermutation (map edition_row l) (rows_under (codes "edition") number db)) one.row (editions_under db T k number);
       },
       one.says,
     )
-  where
-    bound : (a b c d e : ℕ) → a ≤ b → b ≡ c → c ≤ d → d ≤ e → a ≤ e
-    bound a b c d e p q r s = omega arith
 
 -- ---- a record that stands under a number
 
