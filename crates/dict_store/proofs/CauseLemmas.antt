@@ -1,5 +1,5 @@
 -- Why a call of a desk failed.
-use Rattle.std.proofs.Common.{◌≡◌, ◌⊎◌, inl, inr, ℕ, true, false, List, sym, ap, subst, ◌∙◌, arith}
+use Rattle.std.proofs.Common.{◌≡◌, ◌⊎◌, inl, inr, ℕ, true, false, List, refl, sym, ap, subst, ◌∙◌, arith}
 use Rattle.std.specs.Prelude.{IsTrue, Option, None, IsSome, is_some, Result, Ok, Err, IfErr}
 use Rattle.std.proofs.lemmas.Bool.{false≢true}
 use Rattle.sqlite.specs.Effect.{Database}
@@ -25,6 +25,7 @@ use Rattle.dict_commands.specs.Answers.{IsOfApply}
 use Rattle.dict_commands.specs.declared.filing.Filing.{Filing}
 use Rattle.dict_commands.specs.declared.applied.Applied.{Applied}
 use Rattle.dict_commands.specs.declared.applied.Applied.TheVariants.{Repeated, Done}
+use Rattle.dict_search.specs.Entries.{Indexed}
 use Rattle.dict_store.specs.Desk.{DeskState, IsAtRest, is_closed, reply_of}
 use Rattle.dict_store.specs.Causes.{GivesWay, FailsToApplyOver, FailsToApplyTo}
 use Rattle.dict_store.specs.Prepared.{IsAlike, Undoes}
@@ -34,7 +35,7 @@ no_limit : (limit : Option ℕ) → limit ≡ None → IsSome limit → ⊥
 no_limit limit is some = false≢true (sym (ap is_some is) ∙ some)
 
 -- a lookup, or a reading of a kept reply, behind what was undone of what was prepared
-module _ {S : Type 0} (g : Ghosts S) (first : DeskState S) (old new : Held S) (summary : Holdings (List ℕ)) (filing : Option Filing) (before after : LastCall) (open_before : is_closed before ≡ false) (rest : IsAtRest g before summary filing old)
+module _ {S : Type 0} (g : Ghosts S) (first : DeskState S) (old new : Held S) (summary : Holdings (List ℕ)) (filing : Option Filing) (indexes : List (ℕ × List Indexed)) (texts : List (ℕ × List ℕ)) (before after : LastCall) (open_before : is_closed before ≡ false) (rest : IsAtRest g before summary filing old)
     (survives : Survives (state g old) (state g new) (λ _. ⊥)) (undone : HasCleanDisk (state g new) → Undoes g first.conn old) where
   -- what an open desk has committed is a catalogue's, and it has no limit on steps
   read_holds : HasCleanDisk (state g new) → IsUnchanged (state g old) (state g new) → (M : Catalogue) × Holds known (state g old).committed M
@@ -56,10 +57,10 @@ module _ {S : Type 0} (g : Ghosts S) (first : DeskState S) (old new : Held S) (s
   -- why it isn't read, where its store doesn't fail
   module _ (Why : Fault → Type 0) (never : HasCleanDisk (state g new) → IsUnchanged (state g old) (state g new) → Why Disk → ⊥) where
     fails_for : HasCleanDisk (state g new) → (fault : Fault) → IsOfStore fault → (IsUnchanged (state g old) (state g new) × Why fault) ⊎ ((e : Error) × (fault ≡ fault_of e) × Fails (state g old) (state g new) ⊥ e)
-        → GivesWay g first (record { conn = new; summary = summary; last = after }) fault
+        → GivesWay g first (record { conn = new; summary = summary; last = after; indexes = indexes; texts = texts }) fault
     fails_for clean (Refused refusal) kind h = absurd kind
-    fails_for clean Memory kind (inl h) = (old, undone clean, inl (h.0, tt))
-    fails_for clean Memory kind (inr h) = (old, undone clean, inr h)
+    fails_for clean Memory kind (inl h) = (old, undone clean, inr (inl (h.0, tt)))
+    fails_for clean Memory kind (inr h) = (old, undone clean, inr (inr h))
     fails_for clean Disk kind (inl h) = absurd (never clean h.0 h.1)
     fails_for clean Disk kind (inr h) = (old, undone clean, h)
     fails_for clean Closed kind h = absurd kind
@@ -69,17 +70,29 @@ module _ {S : Type 0} (g : Ghosts S) (first : DeskState S) (old new : Held S) (s
 
     gives_for : {T : Type 0} (result : Result T Fault) → IfErr result IsOfStore
         → (HasCleanDisk (state g new) → IfErr result (λ fault. (IsUnchanged (state g old) (state g new) × Why fault) ⊎ ((e : Error) × (fault ≡ fault_of e) × Fails (state g old) (state g new) ⊥ e)))
-        → HasCleanDisk (state g new) → IfErr result (GivesWay g first (record { conn = new; summary = summary; last = after }))
+        → HasCleanDisk (state g new) → IfErr result (GivesWay g first (record { conn = new; summary = summary; last = after; indexes = indexes; texts = texts }))
     gives_for (Ok value) kind failed clean = tt
     gives_for (Err fault) kind failed clean = fails_for clean fault kind (failed clean)
 
   pub lookup_gives_way : {T : Type 0} (number : ℕ) → (HasCleanDisk (state g old) → IsTrue (state g old).is_open → IsAlike number (state g old).committed (state g old).now) → (result : Result T Fault) → IfErr result IsOfStore
       → (HasCleanDisk (state g new) → IfErr result (search.FailsToLookUp (search.column_of number) (state g old) (state g new)))
-      → HasCleanDisk (state g new) → IfErr result (GivesWay g first (record { conn = new; summary = summary; last = after }))
+      → HasCleanDisk (state g new) → IfErr result (GivesWay g first (record { conn = new; summary = summary; last = after; indexes = indexes; texts = texts }))
   lookup_gives_way number alike result kind failed = gives_for (search.IsUnread (search.column_of number) (state g old)) (rows_read number alike) result kind failed
 
+  -- and of a lookup that asks the store for a text at most
+  found_for : (number : ℕ) → (HasCleanDisk (state g old) → IsTrue (state g old).is_open → IsAlike number (state g old).committed (state g old).now) → HasCleanDisk (state g new) → (fault : Fault) → IsOfStore fault
+      → ((fault ≡ Memory) × (new ≡ old)) ⊎ search.FailsToLookUp (search.column_of number) (state g old) (state g new) fault → GivesWay g first (record { conn = new; summary = summary; last = after; indexes = indexes; texts = texts }) fault
+  found_for number alike clean fault kind (inl h) = subst (GivesWay g first (record { conn = new; summary = summary; last = after; indexes = indexes; texts = texts })) (sym h.0) (old, undone clean, inl h.1)
+  found_for number alike clean fault kind (inr h) = fails_for (search.IsUnread (search.column_of number) (state g old)) (rows_read number alike) clean fault kind h
+
+  pub found_gives_way : {T : Type 0} (number : ℕ) → (HasCleanDisk (state g old) → IsTrue (state g old).is_open → IsAlike number (state g old).committed (state g old).now) → (result : Result T Fault) → IfErr result IsOfStore
+      → (HasCleanDisk (state g new) → IfErr result (λ fault. ((fault ≡ Memory) × (new ≡ old)) ⊎ search.FailsToLookUp (search.column_of number) (state g old) (state g new) fault))
+      → HasCleanDisk (state g new) → IfErr result (GivesWay g first (record { conn = new; summary = summary; last = after; indexes = indexes; texts = texts }))
+  found_gives_way number alike (Ok value) kind failed clean = tt
+  found_gives_way number alike (Err fault) kind failed clean = found_for number alike clean fault kind (failed clean)
+
   pub reply_gives_way : {T : Type 0} → old.in_transaction ≡ false → (result : Result T Fault) → IfErr result IsOfStore → (HasCleanDisk (state g new) → IfErr result (FailsToLookUp (state g old) (state g new)))
-      → HasCleanDisk (state g new) → IfErr result (GivesWay g first (record { conn = new; summary = summary; last = after }))
+      → HasCleanDisk (state g new) → IfErr result (GivesWay g first (record { conn = new; summary = summary; last = after; indexes = indexes; texts = texts }))
   reply_gives_way alone result kind failed = gives_for (IsUnread (state g old)) (reply_read alone) result kind failed
 
 -- a desk that was closed is as it was
@@ -90,7 +103,7 @@ closed_gives_way g old new fault h = subst (GivesWay g old new) (sym h.0) (h.1, 
 module _ {S : Type 0} (g : Ghosts S) (old : DeskState S) (id : List ℕ) (command : Command Edition) (new : DeskState S) where
   fails_as : (fault : Fault) → IsOfApply fault → (is_failure fault ≡ true → FailsToApplyOver g old.summary id command old.conn new.conn fault) → is_failure fault ≡ true → FailsToApplyTo g old (record { id = id; command = command }) new fault
   fails_as (Refused refusal) kind h failure = absurd (false≢true failure)
-  fails_as Memory kind h failure = h failure
+  fails_as Memory kind h failure = inr (h failure)
   fails_as Disk kind h failure = h failure
   fails_as Closed kind h failure = absurd kind
   fails_as NotACatalogue kind h failure = absurd kind
@@ -108,3 +121,8 @@ module _ {S : Type 0} (g : Ghosts S) (old : DeskState S) (id : List ℕ) (comman
       → IfErr told (λ fault. is_failure fault ≡ true → FailsToApplyTo g old (record { id = id; command = command }) new fault)
   fails_to_apply result told is kind h =
       subst (λ (r : Result Kept Fault). IfErr r (λ fault. is_failure fault ≡ true → FailsToApplyTo g old (record { id = id; command = command }) new fault)) (sym is) (fails_by result kind h)
+
+-- a lookup that asks no store
+pub memory_gives_way : {S T : Type 0} (g : Ghosts S) (old new : DeskState S) → new.conn ≡ old.conn → (result : Result T Fault) → IfErr result (λ fault. fault ≡ Memory) → IfErr result (GivesWay g old new)
+memory_gives_way g old new same (Ok value) h = tt
+memory_gives_way g old new same (Err fault) h = subst (GivesWay g old new) (sym h) (old.conn, inl refl, inl same)

@@ -5,7 +5,7 @@ use Rattle.std.proofs.Math.Logic.{∥∥₁_map}
 use Rattle.sqlite.specs.Closing.{IsCopied}
 use Rattle.sqlite.specs.Closing as copies
 use Rattle.sqlite.specs.FileStore.{view, faults, recovers, is_shielded}
-use Rattle.sqlite.specs.Files.{file_state, over_files, HoldsDatabase}
+use Rattle.sqlite.specs.Files.{file_state, over_files}
 use Rattle.sqlite.specs.Held.{Held, state}
 use Rattle.sqlite.specs.Recovery.{Image}
 use Rattle.sqlite.specs.State.{HasCleanDisk, IsLive}
@@ -18,6 +18,7 @@ use Rattle.sqlite_trees.specs.declared.store.Store as store
 use Rattle.dict_catalogue.specs.Steps.{Catalogue}
 use Rattle.dict_catalogue.specs.Tests.{Holdings}
 use Rattle.dict_holdings.specs.Holds.{IsLeft}
+use Rattle.dict_search.specs.Entries.{Indexed}
 use Rattle.dict_store.specs.Closed.{HoldsAlone, IsInAlone, StoreLeaves}
 use Rattle.dict_store.specs.Desk.{DeskState, LeavesOneOf, Shows, is_closed}
 use Rattle.dict_store.specs.declared.last.LastCall.{LastCall}
@@ -25,10 +26,10 @@ use Rattle.std.proofs.Common.{ℕ}
 use Rattle.dict_holdings.proofs.OneLemmas.{held_known}
 
 -- what is shown is committed
-pub committed_holds : {S : Type 0} (g : store.Ghosts S) (conn : Held S) (summary : Holdings (List ℕ)) (last : LastCall) → IsLive (state g conn)
-    → is_closed last ≡ false → HasCleanDisk (state g conn) → IsTrue (state g conn).is_open → (M : Catalogue) → Shows g (record { conn = conn; summary = summary; last = last }) M
+pub committed_holds : {S : Type 0} (g : store.Ghosts S) (conn : Held S) (summary : Holdings (List ℕ)) (last : LastCall) (indexes : List (ℕ × List Indexed)) (texts : List (ℕ × List ℕ)) → IsLive (state g conn)
+    → is_closed last ≡ false → HasCleanDisk (state g conn) → IsTrue (state g conn).is_open → (M : Catalogue) → Shows g (record { conn = conn; summary = summary; last = last; indexes = indexes; texts = texts }) M
     → IsLeft M (state g conn).committed.trees
-committed_holds g conn summary last whole fine clean live M shown = ((state g conn).committed, refl, (whole live).1, held_known (state g conn).committed M (shown.holds fine clean live))
+committed_holds g conn summary last indexes texts whole fine clean live M shown = ((state g conn).committed, refl, (whole live).1, held_known (state g conn).committed M (shown.holds fine clean live))
 
 in_alone : (M : Catalogue) (image : Image) (trees : Trees) → IsLeft M trees → copies.HoldsAlone image trees → IsInAlone M image
 in_alone M image trees left holds = record {

@@ -1,39 +1,44 @@
 -- What a lookup leaves of a desk.
 use Rattle.std.proofs.Common.{◌≡◌, ◌⊎◌, inl, inr, ℕ, Bool, true, false, List, [], ◌∷◌, refl, sym, subst, ◌∙◌, arith}
-use Rattle.std.specs.Prelude.{IsTrue, Option, Some, None, Contains, Result, Ok, Err, OnOk, IfOk, IfErr, IsErr}
+use Rattle.std.specs.Prelude.{IsTrue, Option, Some, None, Contains, Result, Ok, Err, OnOk, IfErr, IsErr}
 use Rattle.std.proofs.lemmas.Bool.{false≢true}
 use Rattle.sqlite.specs.Effect.{Database, IsDatabase}
 use Rattle.sqlite.specs.Tree.{Trees}
 use Rattle.sqlite.specs.State.{State, HasCleanDisk, IsUnchanged, IsRolledBack, Survives}
 use Rattle.sqlite.specs.Held.{Held, state}
 use Rattle.sqlite_trees.specs.declared.store.Store.{Ghosts}
+use Rattle.dict_index.specs.Edition.{Edition}
+use Rattle.dict_catalogue.specs.Items.{Stored}
 use Rattle.dict_catalogue.specs.Tests.{Holdings}
 use Rattle.dict_catalogue.specs.Steps.{Catalogue}
 use Rattle.dict_desk.specs.Shown.{Row}
 use Rattle.dict_desk.specs.Handing.{Hands}
 use Rattle.dict_desk.specs.declared.fault.Fault.{Fault}
-use Rattle.dict_desk.specs.declared.fault.Fault.TheVariants.{Refused, Memory, Disk, Closed as Shut, NotACatalogue, Damaged, NewerSchema}
+use Rattle.dict_desk.specs.declared.fault.Fault.TheVariants.{Memory}
 use Rattle.dict_desk.specs.declared.lookup.End.{End}
 use Rattle.dict_desk.proofs.HandingLemmas.{hands_front}
 use Rattle.dict_holdings.specs.Faults as reading
 use Rattle.dict_holdings.specs.Holds.{HasLayout, Holds, IsLeft}
-use Rattle.dict_lookup.specs.Counts.{AreAnswersOf}
-use Rattle.dict_lookup.specs.Searches.{FailsToLookUp, IsOfStore}
-use Rattle.dict_lookup.specs.Texts.{AreMade, AreTextsOf}
+use Rattle.dict_lookup.specs.Searches.{FailsToLookUp}
+use Rattle.dict_lookup.specs.Texts.{AreCutFrom, AreMade, IsAtMostRead}
 use Rattle.dict_commands.specs.Changes.{IsInRange}
 use Rattle.dict_commands.specs.Filing.{IsAhead}
 use Rattle.dict_commands.specs.declared.filing.Filing.{Filing}
-use Rattle.dict_store.specs.Desk.{DeskState, HasCommitted, HasFiled, IsAtRest, Shows, LeavesOneOf, is_closed, last_by}
-use Rattle.dict_store.specs.Kept.{KeepsCache, cache_after, without_counts}
+use Rattle.dict_store.specs.Desk.{DeskState, HasCommitted, HasFiled, IsAtRest, IsServed, Shows, LeavesOneOf, is_closed}
+use Rattle.dict_store.specs.Kept.{KeepsTexts, texts_after}
 use Rattle.dict_store.specs.Prepared.{Continues, LetsGo, Undoes}
-use Rattle.dict_store.specs.declared.kept.Cache.{Cache}
 use Rattle.dict_store.specs.declared.last.LastCall.{LastCall}
 use Rattle.dict_store.specs.declared.last.LastCall.TheVariants.{Fine, Failed, Closed}
 use Rattle.dict_store.proofs.FiledLemmas.{layout_still}
+use Rattle.dict_store.proofs.ServedLemmas.{served_still}
+use Rattle.dict_search.specs.Entries.{Indexed}
 use Rattle.dict_rows.specs.Versions.{known, layout_of}
 use Rattle.dict_holdings.proofs.OneLemmas.{held_known}
 
 -- ---- what a call leaves of a store
+
+pub same_continues : (s : State) → Continues s s
+same_continues s = record { was_open = λ live. live; committed = λ live. refl; now = λ live. inl (refl, refl) }
 
 pub unchanged_continues : (old new : State) → IsUnchanged old new → Continues old new
 unchanged_continues old new same = record { was_open = λ live. same.0.was_open; committed = λ live. same.0.committed_is; now = λ live. inl (same.0.now_is, same.0.mode) }
@@ -49,6 +54,13 @@ pub continues_by : {T : Type 0} (number : ℕ) (old new : State) (result : Resul
 continues_by number old new (Ok value) same failed = unchanged_continues old new same
 continues_by number old new (Err fault) same failed = fails_continues number old new fault failed
 
+-- of a lookup that asks the store for a text at most
+pub found_continues : {S T : Type 0} (g : Ghosts S) (number : ℕ) (old new : Held S) (result : Result T Fault) → OnOk result (IsAtMostRead g old new) → IfErr result (λ fault. ((fault ≡ Memory) × (new ≡ old)) ⊎ FailsToLookUp number (state g old) (state g new) fault) → Continues (state g old) (state g new)
+found_continues g number old new (Ok value) (inl same) failed = subst (λ (h : Held _). Continues (state g old) (state g h)) (sym same) (same_continues (state g old))
+found_continues g number old new (Ok value) (inr same) failed = unchanged_continues (state g old) (state g new) same
+found_continues g number old new (Err fault) same (inl h) = subst (λ (h : Held _). Continues (state g old) (state g h)) (sym h.1) (same_continues (state g old))
+found_continues g number old new (Err fault) same (inr h) = fails_continues number (state g old) (state g new) fault h
+
 pub reply_continues : (old new : State) (fault : Fault) → reading.FailsToLookUp old new fault → Continues old new
 reply_continues old new fault (inl same) = unchanged_continues old new same.0
 reply_continues old new fault (inr h) = rolled_continues old new h.2.3
@@ -56,9 +68,6 @@ reply_continues old new fault (inr h) = rolled_continues old new h.2.3
 pub replies_continue : {T : Type 0} (old new : State) (result : Result T Fault) → OnOk result (IsUnchanged old new) → IfErr result (reading.FailsToLookUp old new) → Continues old new
 replies_continue old new (Ok value) same failed = unchanged_continues old new same
 replies_continue old new (Err fault) same failed = reply_continues old new fault failed
-
-pub same_continues : (s : State) → Continues s s
-same_continues s = record { was_open = λ live. live; committed = λ live. refl; now = λ live. inl (refl, refl) }
 
 -- and a reading behind it, in no transaction
 pub continues_then : (old mid new : State) → old.in_transaction ≡ false → Continues old mid → (IsTrue new.is_open → IsTrue mid.is_open) → (IsTrue new.is_open → new.now ≡ mid.now) → (IsTrue new.is_open → new.committed ≡ mid.committed) → new.in_transaction ≡ false → Continues old new
@@ -145,6 +154,18 @@ module _ {S : Type 0} (g : Ghosts S) (old new : Held S) (first : HasCleanDisk (s
         ],
   )
 
+-- ---- the texts that are kept
+
+pub texts_keep : (last : LastCall) (summary : Holdings (List ℕ)) (texts : List (ℕ × List ℕ)) → AreMade summary.installs texts → KeepsTexts last summary (texts_after last texts)
+texts_keep Fine summary texts made = record { made = made; none = λ failed. absurd (false≢true failed) }
+texts_keep Failed summary texts made = record { made = tt; none = λ failed. refl }
+texts_keep Closed summary texts made = record { made = tt; none = λ failed. refl }
+
+pub cut_after : (last : LastCall) (number : ℕ) (index : List Indexed) (edition : Edition) (texts : List (ℕ × List ℕ)) → AreCutFrom number index edition texts → AreCutFrom number index edition (texts_after last texts)
+cut_after Fine number index edition texts are = are
+cut_after Failed number index edition texts are = tt
+cut_after Closed number index edition texts are = tt
+
 module _ {S : Type 0} (g : Ghosts S) (old new : Held S) (summary : Holdings (List ℕ)) (filing : Option Filing) (before after : LastCall) (open_before : is_closed before ≡ false) (rest : IsAtRest g before summary filing old)
     (survives : Survives (state g old) (state g new) (λ _. ⊥)) (goes : HasCleanDisk (state g new) → Continues (state g old) (state g new)) where
   clean_first : HasCleanDisk (state g new) → HasCleanDisk (state g old)
@@ -165,61 +186,24 @@ module _ {S : Type 0} (g : Ghosts S) (old new : Held S) (summary : Holdings (Lis
   pub rests_on : (old.in_transaction ≡ false → new.in_transaction ≡ false) → IsAtRest g after summary filing new
   rests_on mode = at_rest g after summary filing new (survives.limit ∙ rest.limit) rest.range (λ fine. committed_on) (λ fine. settled_on) (λ fine. filed_still g old new clean_first goes mode filing (rest.filed open_before))
 
-  -- what is kept is of the same editions
-  pub keeps_on : {T : Type 0} (result : Result T Fault) → IfErr result IsOfStore → (HasCleanDisk (state g new) → OnOk result (IsUnchanged (state g old) (state g new))) → (kept : Cache) → AreMade summary.installs kept.texts
-      → (HasCleanDisk (state g new) → IsTrue (state g old).is_open → AreTextsOf (state g old).committed kept.texts) → (HasCleanDisk (state g new) → IsTrue (state g old).is_open → AreAnswersOf (state g old).now kept.counted)
-      → KeepsCache g (last_by result) summary (cache_after (last_by result) kept) new
-  keeps_on (Ok value) kind same kept made texts counted = record {
-    made = made;
-    texts = λ fine clean live. subst (λ (db : Database). AreTextsOf db kept.texts) (sym ((goes clean).committed live)) (texts clean ((goes clean).was_open live));
-    counted = λ fine clean live. subst (λ (db : Database). AreAnswersOf db kept.counted) (sym (same clean).0.now_is) (counted clean ((goes clean).was_open live));
-    awake = λ fine clean. inr (same clean).0.is_open;
-  }
-  keeps_on (Err (Refused refusal)) kind same kept made texts counted = absurd kind
-  keeps_on (Err Memory) kind same kept made texts counted = record { made = tt; texts = λ fine clean live. tt; counted = λ fine clean live. tt; awake = λ fine clean. inl refl }
-  keeps_on (Err Disk) kind same kept made texts counted = record { made = tt; texts = λ fine clean live. tt; counted = λ fine clean live. tt; awake = λ fine clean. inl refl }
-  keeps_on (Err Shut) kind same kept made texts counted = absurd kind
-  keeps_on (Err NotACatalogue) kind same kept made texts counted = absurd kind
-  keeps_on (Err Damaged) kind same kept made texts counted = absurd kind
-  keeps_on (Err NewerSchema) kind same kept made texts counted = absurd kind
+  -- the desk, which keeps these texts now
+  pub desk_on : (old.in_transaction ≡ false → new.in_transaction ≡ false) → (kept texts : List (ℕ × List ℕ)) → texts ≡ texts_after after kept → AreMade summary.installs kept → IsAtRest g after summary filing new × KeepsTexts after summary texts
+  desk_on mode kept texts is made = (rests_on mode, subst (KeepsTexts after summary) (sym is) (texts_keep after summary kept made))
 
-  -- the desk, which keeps this now
-  pub desk_on : {T : Type 0} → (old.in_transaction ≡ false → new.in_transaction ≡ false) → (result : Result T Fault) → after ≡ last_by result → IfErr result IsOfStore → (HasCleanDisk (state g new) → OnOk result (IsUnchanged (state g old) (state g new)))
-      → (kept cache : Cache) → cache ≡ cache_after after kept → AreMade summary.installs kept.texts
-      → (HasCleanDisk (state g new) → IsTrue (state g old).is_open → AreTextsOf (state g old).committed kept.texts) → (HasCleanDisk (state g new) → IsTrue (state g old).is_open → AreAnswersOf (state g old).now kept.counted)
-      → IsAtRest g after summary filing new × KeepsCache g after summary cache new
-  desk_on mode result by kind same kept cache is made texts counted = (
-    rests_on mode,
-    subst (λ (k : Cache). KeepsCache g after summary k new) (sym is) (subst (λ (l : LastCall). KeepsCache g l summary (cache_after l kept) new) (sym by) (keeps_on result kind same kept made texts counted)),
-  )
-
-  -- what the call left as it was
-  pub desk_still : {T : Type 0} → (old.in_transaction ≡ false → new.in_transaction ≡ false) → (result : Result T Fault) → after ≡ last_by result → IfErr result IsOfStore → (HasCleanDisk (state g new) → OnOk result (IsUnchanged (state g old) (state g new)))
-      → (kept cache : Cache) → cache ≡ cache_after after kept → KeepsCache g before summary kept old → IsAtRest g after summary filing new × KeepsCache g after summary cache new
-  desk_still mode result by kind same kept cache is keeps =
-      desk_on mode result by kind same kept cache is keeps.made (λ clean live. keeps.texts open_before (clean_first clean) live) (λ clean live. keeps.counted open_before (clean_first clean) live)
-
-  -- where no transaction was open, and what was counted is let go of
-  pub desk_alone : old.in_transaction ≡ false → (old.in_transaction ≡ false → new.in_transaction ≡ false) → (kept cache : Cache) → cache ≡ cache_after after (without_counts kept) → KeepsCache g before summary kept old → IsAtRest g after summary filing new × KeepsCache g after summary cache new
-  desk_alone none mode kept cache is keeps = (rests_on mode, subst (λ (k : Cache). KeepsCache g after summary k new) (sym is) (by_last after))
-    where
-      by_last : (last : LastCall) → KeepsCache g last summary (cache_after last (without_counts kept)) new
-      by_last Fine = record {
-        made = keeps.made;
-        texts = λ fine clean live. subst (λ (db : Database). AreTextsOf db kept.texts) (sym ((goes clean).committed live)) (keeps.texts open_before (clean_first clean) ((goes clean).was_open live));
-        counted = λ fine clean live. tt;
-        awake = λ fine clean. inl refl;
-      }
-      by_last Failed = record { made = tt; texts = λ fine clean live. tt; counted = λ fine clean live. tt; awake = λ fine clean. inl refl }
-      by_last Closed = record { made = tt; texts = λ fine clean live. tt; counted = λ fine clean live. tt; awake = λ fine clean. inl refl }
-
-  module _ (M : Catalogue) (shown : Shows g (record { conn = old; summary = summary; last = before }) M) where
-    pub shows_on : Shows g (record { conn = new; summary = summary; last = after }) M
-    shows_on = record {
+  module _ (indexes : List (ℕ × List Indexed)) (kept : List (ℕ × List ℕ)) (M : Catalogue) (shown : Shows g (record { conn = old; summary = summary; last = before; indexes = indexes; texts = kept }) M) where
+    -- what is shown, with these texts
+    pub shows_with : (texts : List (ℕ × List ℕ))
+        → (HasCleanDisk (state g new) → (stored : Stored Edition) (one : IsServed g (record { conn = old; summary = summary; last = before; indexes = indexes; texts = kept }) stored) → AreCutFrom stored.number one.index stored.content texts)
+        → Shows g (record { conn = new; summary = summary; last = after; indexes = indexes; texts = texts }) M
+    shows_with texts cut = record {
       summary = shown.summary;
       well_formed = shown.well_formed;
       holds = λ fine clean live. subst (λ (db : Database). Holds known db M) (sym ((goes clean).committed live)) (shown.holds open_before (clean_first clean) ((goes clean).was_open live));
+      served = λ clean. served_still g (record { conn = old; summary = summary; last = before; indexes = indexes; texts = kept }) (record { conn = new; summary = summary; last = after; indexes = indexes; texts = texts }) (λ q. refl) (λ _. open_before) (goes clean).was_open (goes clean).committed (cut clean) M (shown.served (clean_first clean));
     }
+
+    pub shows_on : (texts : List (ℕ × List ℕ)) → texts ≡ texts_after after kept → Shows g (record { conn = new; summary = summary; last = after; indexes = indexes; texts = texts }) M
+    shows_on texts is = shows_with texts (λ clean stored one. subst (AreCutFrom stored.number one.index stored.content) (sym is) (cut_after after stored.number one.index stored.content kept one.kept))
 
     pub held : HasCleanDisk (state g new) → IsTrue (state g old).is_open → Holds known (state g old).committed M
     held clean live = shown.holds open_before (clean_first clean) live
@@ -241,8 +225,3 @@ alone M = (0, omega arith, refl)
 pub left_alone : {S : Type 0} (g : Ghosts S) (conn : Held S) (M : Catalogue) → ((db : Trees) → IsTrue (state g conn).is_open → (state g conn).may_leave db → db ≡ (state g conn).committed.trees)
     → IsTrue (state g conn).is_open → IsDatabase (state g conn).committed → Holds known (state g conn).committed M → (trees : Trees) → (state g conn).may_leave trees → IsLeft M trees
 left_alone g conn M settled live sound holds trees may = ((state g conn).committed, settled trees live may, sound, held_known (state g conn).committed M holds)
-
--- what was counted, which tells that the store was open
-pub value_by : {T : Type 0} (P : T → Type 0) (result : Result T Fault) (old new : State) → OnOk result (IsUnchanged old new) → (IsTrue old.is_open → IfOk result P) → IfOk result P
-value_by P (Ok value) old new same h = h same.0.was_open
-value_by P (Err fault) old new same h = tt

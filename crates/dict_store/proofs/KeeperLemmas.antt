@@ -1,6 +1,7 @@
 -- What a command leaves of a desk.
+use Rattle.dict_search.specs.Entries.{Indexed}
 use Rattle.std.proofs.Common.{◌≡◌, inl, inr, ℕ, Bool, true, false, List, [], ◌∷◌, refl, sym, ap, subst, ◌∙◌, arith, ◌≤◌}
-use Rattle.std.specs.Prelude.{IsTrue, Option, Some, is_some, Contains, Result, Ok, Err, OnOk, None, IfNone, IfOk, IfErr, MatchBool}
+use Rattle.std.specs.Prelude.{IsTrue, Option, Some, is_some, Contains, Result, Ok, Err, OnOk, OnErr, None, IfNone, IfOk, IfErr, MatchBool}
 use Rattle.std.proofs.lemmas.Bool.{false≢true}
 use Rattle.sqlite.specs.Tree.{Trees}
 use Rattle.sqlite.specs.State.{State, HasCleanDisk, IsUnchanged, Survives}
@@ -27,13 +28,12 @@ use Rattle.dict_commands.specs.declared.filing.Filing.{Filing}
 use Rattle.dict_commands.specs.declared.applied.Applied.{Applied}
 use Rattle.dict_commands.specs.declared.applied.Applied.TheVariants.{Repeated, Done}
 use Rattle.dict_store.specs.Applied.{AppliesOver}
-use Rattle.dict_store.specs.Desk.{DeskState, HasFiled, IsAtRest, Shows, LeavesOneOf, StandsFor, is_closed, has_failed, last_by, reply_of}
+use Rattle.dict_store.specs.Desk.{DeskState, HasFiled, IsAtRest, Shows, AreServed, LeavesOneOf, StandsFor, is_closed, has_failed, last_by, reply_of}
 use Rattle.dict_store.specs.Prepared.{LetsGo}
-use Rattle.dict_store.specs.Kept.{KeepsCache, without_counts, cache_after}
-use Rattle.dict_store.specs.declared.kept.Cache.{Cache}
-use Rattle.dict_store.proofs.TextLemmas.{texts_applied}
+use Rattle.dict_store.specs.Kept.{KeepsTexts, texts_after}
+use Rattle.dict_store.proofs.TextLemmas.{more_installs}
 use Rattle.dict_store.specs.declared.last.LastCall.{LastCall}
-use Rattle.dict_store.proofs.DeskLemmas.{at_rest, filed_less}
+use Rattle.dict_store.proofs.DeskLemmas.{at_rest, filed_less, texts_keep}
 use Rattle.dict_rows.specs.Versions.{known}
 use Rattle.dict_holdings.proofs.OneLemmas.{left_known}
 
@@ -49,47 +49,64 @@ pub none_by : {T P : Type 0} (told : Option T) → ((value : T) → told ≡ Som
 none_by None never h = h
 none_by (Some value) never h = absurd (never value refl)
 
+-- and where it wasn't done
+pub err_by : {T E P : Type 0} (told : Result T E) → ((value : T) → told ≡ Ok value → ⊥) → OnErr told P → P
+err_by (Ok value) never h = absurd (never value refl)
+err_by (Err fault) never h = h
+
 -- ---- commands
 
+-- the catalogue by which lookups are answered behind a command: the outcome's where it acted
+abbrev pub catalogue_by : Catalogue → Outcome → Result Applied Fault → Catalogue
+catalogue_by M outcome (Ok (Repeated kept)) = M
+catalogue_by M outcome (Ok (Done kept summary)) = outcome.catalogue
+catalogue_by M outcome (Err fault) = M
+
 -- what a command answers over a store that is open
-module _ {S : Type 0} (g : Ghosts S) (new : Held S) (M : Catalogue) (id : List ℕ) (outcome : Outcome) where
-  shown_by : (summary : Holdings (List ℕ)) (last : LastCall) (N : Catalogue) → summary ≡ summary_of N → IsWellFormed N → (IsTrue (state g new).is_open → Rests known (rested (state g new)) N) → Shows g (record { conn = new; summary = summary; last = last }) N
-  shown_by summary last N is well rests = record { summary = is; well_formed = well; holds = λ fine clean live. (rests live).holds }
+module _ {S : Type 0} (g : Ghosts S) (new : Held S) (M : Catalogue) (id : List ℕ) (outcome : Outcome) (indexes : List (ℕ × List Indexed)) (texts : List (ℕ × List ℕ)) where
+  abbrev desk_by : Holdings (List ℕ) → LastCall → DeskState S
+  desk_by summary last = record { conn = new; summary = summary; last = last; indexes = indexes; texts = texts }
+
+  shown_by : (summary : Holdings (List ℕ)) (last : LastCall) (N : Catalogue) → summary ≡ summary_of N → IsWellFormed N → (IsTrue (state g new).is_open → Rests known (rested (state g new)) N) → (HasCleanDisk (state g new) → AreServed g (desk_by summary last) N) → Shows g (desk_by summary last) N
+  shown_by summary last N is well rests served = record { summary = is; well_formed = well; holds = λ fine clean live. (rests live).holds; served = served }
 
   pub applies_open : (summary : Holdings (List ℕ)) (result : Result Applied Fault) → summary ≡ summary_of M → IsWellFormed M → Answers (rested (state g new)) M id outcome result
-      → Applies (Shows g (record { conn = new; summary = summary_after summary result; last = last_by result })) M outcome (reply_of result)
-  applies_open summary (Ok (Repeated kept)) is well h = (
+      → (HasCleanDisk (state g new) → AreServed g (desk_by (summary_after summary result) (last_by result)) (catalogue_by M outcome result))
+      → Applies (Shows g (desk_by (summary_after summary result) (last_by result))) M outcome (reply_of result)
+  applies_open summary (Ok (Repeated kept)) is well h served = (
     ap (λ (o : Outcome). o.reply) h.1,
-    subst (λ (o : Outcome). Shows g (record { conn = new; summary = summary; last = last_by (Ok (Repeated kept)) }) o.catalogue) (sym h.1) (shown_by summary (last_by (Ok (Repeated kept))) M is well (λ live. h.2)),
+    subst (λ (o : Outcome). Shows g (desk_by summary (last_by (Ok (Repeated kept)))) o.catalogue) (sym h.1) (shown_by summary (last_by (Ok (Repeated kept))) M is well (λ live. h.2) served),
   )
-  applies_open summary (Ok (Done kept after)) is well h = (h.1, shown_by (summary_after summary (Ok (Done kept after))) (last_by (Ok (Done kept after))) outcome.catalogue (sym h.2) h.3.holds.stands.well_formed (λ live. h.3))
-  applies_open summary (Err (Refused refusal)) is well h = (
+  applies_open summary (Ok (Done kept after)) is well h served = (h.1, shown_by (summary_after summary (Ok (Done kept after))) (last_by (Ok (Done kept after))) outcome.catalogue (sym h.2) h.3.holds.stands.well_formed (λ live. h.3) served)
+  applies_open summary (Err (Refused refusal)) is well h served = (
     ap (λ (o : Outcome). o.reply) h.0,
-    subst (λ (o : Outcome). Shows g (record { conn = new; summary = summary; last = last_by {T = Applied} (Err (Refused refusal)) }) o.catalogue) (sym h.0) (shown_by summary (last_by {T = Applied} (Err (Refused refusal))) M is well (λ live. h.1)),
+    subst (λ (o : Outcome). Shows g (desk_by summary (last_by {T = Applied} (Err (Refused refusal)))) o.catalogue) (sym h.0) (shown_by summary (last_by {T = Applied} (Err (Refused refusal))) M is well (λ live. h.1) served),
   )
-  applies_open summary (Err Memory) is well h = shown_by summary (last_by {T = Applied} (Err Memory)) M is well h
-  applies_open summary (Err Disk) is well h = inl (shown_by summary (last_by {T = Applied} (Err Disk)) M is well h)
-  applies_open summary (Err Closed) is well h = absurd h
-  applies_open summary (Err NotACatalogue) is well h = absurd h
-  applies_open summary (Err Damaged) is well h = absurd h
-  applies_open summary (Err NewerSchema) is well h = absurd h
+  applies_open summary (Err Memory) is well h served = shown_by summary (last_by {T = Applied} (Err Memory)) M is well h served
+  applies_open summary (Err Disk) is well h served = inl (shown_by summary (last_by {T = Applied} (Err Disk)) M is well h served)
+  applies_open summary (Err Closed) is well h served = absurd h
+  applies_open summary (Err NotACatalogue) is well h served = absurd h
+  applies_open summary (Err Damaged) is well h served = absurd h
+  applies_open summary (Err NewerSchema) is well h served = absurd h
 
 unlawful_step : (M : Catalogue) (id : List ℕ) (command : Command Edition) → is_request_id id ≡ false → step M id command ≡ record { reply = refused BadRequestId; catalogue = M }
 unlawful_step M id command unlawful = rw unlawful refl
 
 -- and over one that is shut
-pub applies_shut : {S : Type 0} (g : Ghosts S) (new : Held S) (M : Catalogue) (id : List ℕ) (command : Command Edition) (summary : Holdings (List ℕ)) (result : Result Applied Fault) → IsOfShut id result
-    → ((last : LastCall) → Shows g (record { conn = new; summary = summary; last = last }) M) → Applies (Shows g (record { conn = new; summary = summary_after summary result; last = last_by result })) M (step M id command) (reply_of result)
-applies_shut g new M id command summary (Ok applied) h shown = absurd h
-applies_shut g new M id command summary (Err (Refused refusal)) h shown =
+pub applies_shut : {S : Type 0} (g : Ghosts S) (new : Held S) (M : Catalogue) (id : List ℕ) (command : Command Edition) (indexes : List (ℕ × List Indexed)) (texts : List (ℕ × List ℕ)) (summary : Holdings (List ℕ)) (result : Result Applied Fault) → IsOfShut id result
+    → (HasCleanDisk (state g new) → AreServed g (desk_by g new M id (step M id command) indexes texts (summary_after summary result) (last_by result)) (catalogue_by M (step M id command) result))
+    → ((last : LastCall) → (HasCleanDisk (state g new) → AreServed g (desk_by g new M id (step M id command) indexes texts summary last) M) → Shows g (desk_by g new M id (step M id command) indexes texts summary last) M)
+    → Applies (Shows g (desk_by g new M id (step M id command) indexes texts (summary_after summary result) (last_by result))) M (step M id command) (reply_of result)
+applies_shut g new M id command indexes texts summary (Ok applied) h served shown = absurd h
+applies_shut g new M id command indexes texts summary (Err (Refused refusal)) h served shown =
     let is = unlawful_step M id command h.0 in
-    (ap (λ (o : Outcome). o.reply) is ∙ ap refused (sym h.1), subst (λ (o : Outcome). Shows g (record { conn = new; summary = summary; last = last_by {T = Applied} (Err (Refused refusal)) }) o.catalogue) (sym is) (shown (last_by {T = Applied} (Err (Refused refusal)))))
-applies_shut g new M id command summary (Err Memory) h shown = shown (last_by {T = Applied} (Err Memory))
-applies_shut g new M id command summary (Err Disk) h shown = inl (shown (last_by {T = Applied} (Err Disk)))
-applies_shut g new M id command summary (Err Closed) h shown = absurd h
-applies_shut g new M id command summary (Err NotACatalogue) h shown = absurd h
-applies_shut g new M id command summary (Err Damaged) h shown = absurd h
-applies_shut g new M id command summary (Err NewerSchema) h shown = absurd h
+    (ap (λ (o : Outcome). o.reply) is ∙ ap refused (sym h.1), subst (λ (o : Outcome). Shows g (desk_by g new M id (step M id command) indexes texts summary (last_by {T = Applied} (Err (Refused refusal)))) o.catalogue) (sym is) (shown (last_by {T = Applied} (Err (Refused refusal))) served))
+applies_shut g new M id command indexes texts summary (Err Memory) h served shown = shown (last_by {T = Applied} (Err Memory)) served
+applies_shut g new M id command indexes texts summary (Err Disk) h served shown = inl (shown (last_by {T = Applied} (Err Disk)) served)
+applies_shut g new M id command indexes texts summary (Err Closed) h served shown = absurd h
+applies_shut g new M id command indexes texts summary (Err NotACatalogue) h served shown = absurd h
+applies_shut g new M id command indexes texts summary (Err Damaged) h served shown = absurd h
+applies_shut g new M id command indexes texts summary (Err NewerSchema) h served shown = absurd h
 
 -- ---- what a stop may leave
 
@@ -152,19 +169,15 @@ closed_by (Err NewerSchema) = refl
 -- ---- a desk
 
 module _ {S : Type 0} (g : Ghosts S) (old new : Held S) (summary : Holdings (List ℕ)) (filing : Option Filing) (before : LastCall) (id : List ℕ) (command : Command Edition) (result : Result Applied Fault)
-    (open_before : is_closed before ≡ false) (rest : IsAtRest g before summary filing old) (over : AppliesOver g summary id command old new result) where
+    (open_before : is_closed before ≡ false) (rest : IsAtRest g before summary filing old) (over : AppliesOver g summary id command old new result) (indexes mid settled : List (ℕ × List Indexed)) (kept texts : List (ℕ × List ℕ)) where
   clean_first : HasCleanDisk (state g new) → HasCleanDisk (state g old)
   clean_first clean = omega (arith, over.crash.clean)
 
   abbrev desk_before : DeskState S
-  desk_before = record { conn = old; summary = summary; last = before }
+  desk_before = record { conn = old; summary = summary; last = before; indexes = indexes; texts = kept }
 
   abbrev desk_after : DeskState S
-  desk_after = record { conn = new; summary = summary_after summary result; last = last_by result }
-
-  -- what is shown still
-  same_shown : (M : Catalogue) (after : LastCall) → Shows g desk_before M → (IsTrue (state g new).is_open → Rests known (rested (state g new)) M) → Shows g (record { conn = new; summary = summary; last = after }) M
-  same_shown M after shown rests = record { summary = shown.summary; well_formed = shown.well_formed; holds = λ fine clean live. (rests live).holds }
+  desk_after = record { conn = new; summary = summary_after summary result; last = last_by result; indexes = settled; texts = texts }
 
   no_more : Survives (state g old) (state g new) (λ _. ⊥) → (ms : List (Option Catalogue)) → LeavesOneOf g desk_before ms → LeavesOneOf g desk_after ms
   no_more survives ms left clean trees may = left (clean_first clean) trees (elim (survives.crash clean trees may) as (λ _. (state g old).may_leave trees) [ inl h ↦ h | inr h ↦ absurd h ])
@@ -187,10 +200,10 @@ module _ {S : Type 0} (g : Ghosts S) (old new : Held S) (summary : Holdings (Lis
   by_open A true if_open if_shut = if_open refl
   by_open A false if_open if_shut = if_shut refl
 
-  pub applies : HasCleanDisk (state g new) → (M : Catalogue) → Shows g desk_before M → Applies (Shows g desk_after) M (step M id command) (reply_of result)
-  applies clean M shown = by_open (Applies (Shows g desk_after) M (step M id command) (reply_of result)) (state g old).is_open
-      (λ live. applies_open g new M id (step M id command) summary result shown.summary shown.well_formed (over.value clean M (rests_before M shown clean live) (sym shown.summary)))
-      (λ closed. applies_shut g new M id command summary result (over.shut clean closed) (λ last. same_shown M last shown (shut_after clean closed M)))
+  pub applies : HasCleanDisk (state g new) → (M : Catalogue) → Shows g desk_before M → (HasCleanDisk (state g new) → AreServed g desk_after (catalogue_by M (step M id command) result)) → Applies (Shows g desk_after) M (step M id command) (reply_of result)
+  applies clean M shown served = by_open (Applies (Shows g desk_after) M (step M id command) (reply_of result)) (state g old).is_open
+      (λ live. applies_open g new M id (step M id command) settled texts summary result shown.summary shown.well_formed (over.value clean M (rests_before M shown clean live) (sym shown.summary)) served)
+      (λ closed. applies_shut g new M id command settled texts summary result (over.shut clean closed) served (λ last served. record { summary = shown.summary; well_formed = shown.well_formed; holds = λ fine clean live. (shut_after clean closed M live).holds; served = served }))
 
   pub spared : has_written result ≡ false → LeavesNoMore (LeavesOneOf g desk_before) (LeavesOneOf g desk_after)
   spared none = no_more (over.spares none)
@@ -219,28 +232,29 @@ module _ {S : Type 0} (g : Ghosts S) (old new : Held S) (summary : Holdings (Lis
 
   -- the desk after the call, by what its fields became
   module _ (after : Holdings (List ℕ)) (last : LastCall) (told : Result Kept Fault) (after_is : after ≡ summary_after summary result) (last_is : last ≡ last_by result) (told_is : told ≡ reply_of result) where
-    desk_is : desk_after ≡ record { conn = new; summary = after; last = last }
-    desk_is = ap {B = DeskState S} (λ (s : Holdings (List ℕ)). record { conn = new; summary = s; last = last_by result }) (sym after_is) ∙ ap {B = DeskState S} (λ (l : LastCall). record { conn = new; summary = after; last = l }) (sym last_is)
+    desk_is : desk_after ≡ record { conn = new; summary = after; last = last; indexes = settled; texts = texts }
+    desk_is = ap {B = DeskState S} (λ (s : Holdings (List ℕ)). record { conn = new; summary = s; last = last_by result; indexes = settled; texts = texts }) (sym after_is) ∙ ap {B = DeskState S} (λ (l : LastCall). record { conn = new; summary = after; last = l; indexes = settled; texts = texts }) (sym last_is)
+
+    abbrev desk_told : DeskState S
+    desk_told = record { conn = new; summary = after; last = last; indexes = settled; texts = texts }
 
     -- what is true of it
-    pub told_rests : (kept cache : Cache) → cache ≡ cache_after last (without_counts kept) → KeepsCache g before summary kept old → (left : Option Filing) → LetsGo new filing left → IsAtRest g last after left new × KeepsCache g last after cache new
-    told_rests kept cache is keeps left less =
-        let both : IsAtRest g (last_by result) (summary_after summary result) left new × KeepsCache g (last_by result) (summary_after summary result) (cache_after (last_by result) (without_counts kept)) new = (
-          rests_after left less,
-          texts_applied g old new summary before open_before kept keeps (rest.holds open_before) clean_first over.lives result over.above over.refused over.grows,
-        ) in
-        subst (λ (k : Cache). IsAtRest g last after left new × KeepsCache g last after k new) (sym is)
-        (subst (λ (s : Holdings (List ℕ)). IsAtRest g last s left new × KeepsCache g last s (cache_after last (without_counts kept)) new) (sym after_is)
-        (subst (λ (l : LastCall). IsAtRest g l (summary_after summary result) left new × KeepsCache g l (summary_after summary result) (cache_after l (without_counts kept)) new) (sym last_is) both))
+    pub told_rests : texts ≡ texts_after last kept → KeepsTexts before summary kept → (left : Option Filing) → LetsGo new filing left → IsAtRest g last after left new × KeepsTexts last after texts
+    told_rests is keeps left less =
+        let rests : IsAtRest g (last_by result) (summary_after summary result) left new = rests_after left less in
+        let more : summary.installs ≤ after.installs = subst (λ (s : Holdings (List ℕ)). summary.installs ≤ s.installs) (sym after_is) over.grows in (
+          subst (λ (s : Holdings (List ℕ)). IsAtRest g last s left new) (sym after_is) (subst (λ (l : LastCall). IsAtRest g l (summary_after summary result) left new) (sym last_is) rests),
+          subst (KeepsTexts last after) (sym is) (texts_keep last after kept (more_installs summary.installs after.installs more kept keeps.made)),
+        )
 
-    pub told_applies : HasCleanDisk (state g new) → (M : Catalogue) → Shows g desk_before M → Applies (Shows g (record { conn = new; summary = after; last = last })) M (step M id command) told
-    told_applies clean M shown = subst (λ (r : Result Kept Fault). Applies (Shows g (record { conn = new; summary = after; last = last })) M (step M id command) r) (sym told_is)
-        (subst (λ (d : DeskState S). Applies (Shows g d) M (step M id command) (reply_of result)) desk_is (applies clean M shown))
+    pub told_applies : HasCleanDisk (state g new) → (M : Catalogue) → Shows g desk_before M → (HasCleanDisk (state g new) → AreServed g desk_after (catalogue_by M (step M id command) result)) → Applies (Shows g desk_told) M (step M id command) told
+    told_applies clean M shown served = subst (λ (r : Result Kept Fault). Applies (Shows g desk_told) M (step M id command) r) (sym told_is)
+        (subst (λ (d : DeskState S). Applies (Shows g d) M (step M id command) (reply_of result)) desk_is (applies clean M shown served))
 
-    pub told_leaves : HasCleanDisk (state g new) → (M : Catalogue) → Shows g desk_before M → Leaves (LeavesOneOf g desk_before) (LeavesOneOf g (record { conn = new; summary = after; last = last })) (is_some (kept_under M.kept id)) (step M id command).catalogue told
-    told_leaves clean M shown = subst (λ (r : Result Kept Fault). Leaves (LeavesOneOf g desk_before) (LeavesOneOf g (record { conn = new; summary = after; last = last })) (is_some (kept_under M.kept id)) (step M id command).catalogue r) (sym told_is)
+    pub told_leaves : HasCleanDisk (state g new) → (M : Catalogue) → Shows g desk_before M → Leaves (LeavesOneOf g desk_before) (LeavesOneOf g desk_told) (is_some (kept_under M.kept id)) (step M id command).catalogue told
+    told_leaves clean M shown = subst (λ (r : Result Kept Fault). Leaves (LeavesOneOf g desk_before) (LeavesOneOf g desk_told) (is_some (kept_under M.kept id)) (step M id command).catalogue r) (sym told_is)
         (subst (λ (d : DeskState S). Leaves (LeavesOneOf g desk_before) (LeavesOneOf g d) (is_some (kept_under M.kept id)) (step M id command).catalogue (reply_of result)) desk_is (leaves clean M shown))
 
-    pub told_spares : (ms : List (Option Catalogue)) → LeavesOneOf g desk_before ms → IfErr told (λ fault. is_disk fault ≡ false → LeavesOneOf g (record { conn = new; summary = after; last = last }) ms)
-    told_spares ms left = subst (λ (r : Result Kept Fault). IfErr r (λ fault. is_disk fault ≡ false → LeavesOneOf g (record { conn = new; summary = after; last = last }) ms)) (sym told_is)
+    pub told_spares : (ms : List (Option Catalogue)) → LeavesOneOf g desk_before ms → IfErr told (λ fault. is_disk fault ≡ false → LeavesOneOf g desk_told ms)
+    told_spares ms left = subst (λ (r : Result Kept Fault). IfErr r (λ fault. is_disk fault ≡ false → LeavesOneOf g desk_told ms)) (sym told_is)
         (subst (λ (d : DeskState S). IfErr (reply_of result) (λ fault. is_disk fault ≡ false → LeavesOneOf g d ms)) desk_is (spares_all ms left))

@@ -7,7 +7,6 @@ use Rattle.sqlite.specs.Effect.{Database}
 use Rattle.sqlite.specs.State.{HasCleanDisk}
 use Rattle.sqlite.specs.Held.{Held, state}
 use Rattle.sqlite_trees.specs.declared.store.Store.{Ghosts}
-use Rattle.dict_index.specs.Edition.{ReadEdition}
 use Rattle.dict_catalogue.specs.Steps.{Catalogue}
 use Rattle.dict_catalogue.specs.Tests.{Holdings}
 use Rattle.dict_rows.specs.After.{is_gone}
@@ -19,7 +18,6 @@ use Rattle.dict_holdings.specs.Holds.{HasLayout, Holds}
 use Rattle.dict_sql.specs.Effects.{Has}
 use Rattle.dict_tables.specs.Tables.{kept}
 use Rattle.dict_lookup.specs.Searches.{HoldsOne, IsReadable, column_of}
-use Rattle.dict_lookup.specs.Texts.{AreMade, AreTextsOf}
 use Rattle.dict_commands.specs.Kept.{IsUsable, HoldsReplies}
 use Rattle.dict_commands.specs.Filing.{IsAhead, KeepsEdition, ShowsStill}
 use Rattle.dict_commands.specs.declared.filing.Filing.{Filing}
@@ -27,8 +25,7 @@ use Rattle.dict_commands.proofs.KeptLemmas.{holds_replies}
 use Rattle.dict_store.specs.Desk.{HasFiled, IsAtRest, is_closed}
 use Rattle.dict_store.specs.Prepared.{IsAlike, IsApart}
 use Rattle.dict_store.specs.declared.last.LastCall.{LastCall}
-use Rattle.dict_store.proofs.FiledLemmas.{one_still, readable_still, editions_still, replies_still}
-use Rattle.dict_store.proofs.TextLemmas.{all_carried}
+use Rattle.dict_store.proofs.FiledLemmas.{one_still, readable_still, replies_still}
 
 -- none of the numbers is this one
 stays_by : (number one : ℕ) (gone : List ℕ) (b : Bool) → same_number (pos one) (pos number) ≡ b → one ≢ number → is_gone gone (pos number) ≡ false → (b || is_gone gone (pos number)) ≡ false
@@ -92,7 +89,7 @@ pub apart_alone : {S : Type 0} (filing : Option Filing) (number : ℕ) (h : Held
 apart_alone None number h none = none
 apart_alone (Some f) number h none = inl none
 
--- ---- texts and replies
+-- ---- replies
 
 module _ {S : Type 0} (g : Ghosts S) (last : LastCall) (summary : Holdings (List ℕ)) (filing : Option Filing) (h : Held S) (fine : is_closed last ≡ false) (rest : IsAtRest g last summary filing h) (clean : HasCleanDisk (state g h)) (live : IsTrue (state g h).is_open) where
   abbrev committed : Database
@@ -113,11 +110,7 @@ module _ {S : Type 0} (g : Ghosts S) (last : LastCall) (summary : Holdings (List
       by_mode false none = subst P (sym (rest.settled fine clean live none)) before
       by_mode true inside = by_filing filing (rest.filed fine) inside
 
-  -- texts that are kept are those of the editions that are seen
-  pub texts_seen : (texts : List (ℕ × List ℕ)) → AreMade summary.installs texts → AreTextsOf committed texts → AreTextsOf now texts
-  texts_seen texts made are = either (λ (db : Database). AreTextsOf db texts) are (λ f M holds ahead. all_carried committed now M holds summary.installs (editions_still f committed now M holds ahead summary.installs) texts made are)
-
-  -- and so are the replies
+  -- the replies that are kept are those that are seen
   pub replies_seen : (M : Catalogue) → Holds known committed M → HoldsReplies now M.kept
   replies_seen M holds = either (λ (db : Database). HoldsReplies db M.kept) (holds_replies known committed M holds) (λ f N held ahead. replies_still f committed now M holds ahead)
 

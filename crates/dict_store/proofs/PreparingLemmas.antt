@@ -1,5 +1,5 @@
 -- What a desk is behind what is prepared, and behind what was prepared is undone.
-use Rattle.std.proofs.Common.{◌≡◌, inl, inr, ℕ, ◌||◌, Bool, true, false, List, [], refl, sym, ap, subst, ◌∙◌, arith}
+use Rattle.std.proofs.Common.{◌≡◌, inl, inr, ℕ, ◌||◌, Bool, true, false, List, refl, sym, ap, subst, ◌∙◌, arith}
 use Rattle.std.specs.Prelude.{◌↔◌, IsTrue, IfSome, Option, Some, None, Result, Ok, Err, OnOk, OnErr, IfErr}
 use Rattle.std.proofs.lemmas.Bool.{false≢true, true≢false}
 use Rattle.sqlite.specs.Effect.{Database}
@@ -10,24 +10,27 @@ use Rattle.sqlite.specs.Held.{Held, state}
 use Rattle.sqlite_trees.specs.declared.store.Store.{Ghosts}
 use Rattle.dict_catalogue.specs.Steps.{Catalogue}
 use Rattle.dict_catalogue.specs.Tests.{Holdings}
-use Rattle.dict_desk.specs.Faults.{is_disk, is_failure, has_failed_by, has_closed_by, IsOfLookup}
+use Rattle.dict_desk.specs.Faults.{is_disk, is_failure, has_failed_by, has_closed_by}
 use Rattle.dict_desk.specs.declared.fault.Fault.{Fault}
 use Rattle.dict_desk.specs.declared.fault.Fault.TheVariants.{Refused, Memory, Disk, Closed as Shut, NotACatalogue, Damaged, NewerSchema}
 use Rattle.dict_rows.specs.Versions.{known}
 use Rattle.dict_holdings.specs.Faults.{FailsToLookUp}
 use Rattle.dict_holdings.specs.Holds.{Holds}
-use Rattle.dict_lookup.specs.Texts.{AreTextsOf}
+use Rattle.dict_index.specs.Edition.{Edition}
+use Rattle.dict_lookup.specs.Texts.{AreCutFrom}
+use Rattle.dict_search.specs.Entries.{Indexed}
 use Rattle.dict_commands.specs.Committed.{IsOfStore}
 use Rattle.dict_commands.specs.Filing.{IsDrawnUp}
 use Rattle.dict_commands.specs.declared.filing.Filing.{Filing}
+use Rattle.dict_indexes.specs.Indexes.{entries_under}
 use Rattle.dict_store.specs.Causes.{FailsToPrepare}
 use Rattle.dict_store.specs.Desk.{DeskState, HasCommitted, HasFiled, IsAtRest, Shows, has_failed, is_closed}
-use Rattle.dict_store.specs.Kept.{KeepsCache, cache_after, without_counts}
-use Rattle.dict_store.specs.Prepared.{Undoes, cache_behind, last_behind}
-use Rattle.dict_store.specs.declared.kept.Cache.{Cache}
+use Rattle.dict_store.specs.Kept.{KeepsTexts, texts_after, texts_behind}
+use Rattle.dict_store.specs.Prepared.{Undoes, last_behind}
 use Rattle.dict_store.specs.declared.last.LastCall.{LastCall}
-use Rattle.dict_store.specs.declared.last.LastCall.TheVariants.{Fine, Failed, Closed}
-use Rattle.dict_store.proofs.DeskLemmas.{at_rest, committed_on, settled_on, shows_on, undone_continues}
+use Rattle.dict_store.specs.declared.last.LastCall.TheVariants.{Closed}
+use Rattle.dict_store.proofs.DeskLemmas.{at_rest, committed_on, cut_after, settled_on, shows_with, undone_continues}
+use Rattle.dict_store.proofs.ServedLemmas.{served_still}
 
 pub or_true : (b : Bool) → (b || true) ≡ true
 or_true false = refl
@@ -37,6 +40,11 @@ pub or_false : (b : Bool) → (b || false) ≡ b
 or_false false = refl
 or_false true = refl
 
+-- the texts that are kept behind what was prepared
+pub cut_behind : {T : Type 0} (result : Result T Fault) (number : ℕ) (index : List Indexed) (edition : Edition) (texts : List (ℕ × List ℕ)) → AreCutFrom number index edition texts → AreCutFrom number index edition (texts_behind result texts)
+cut_behind (Ok value) number index edition texts are = are
+cut_behind (Err fault) number index edition texts are = tt
+
 module _ {S : Type 0} (g : Ghosts S) where
   -- ---- a desk that is closed
 
@@ -44,19 +52,20 @@ module _ {S : Type 0} (g : Ghosts S) where
   closed_rests summary filing left before old new rest survives =
       at_rest g Closed summary left new (survives.limit ∙ rest.limit) rest.range (λ fine. absurd (true≢false fine)) (λ fine. absurd (true≢false fine)) (λ fine. absurd (true≢false fine))
 
-  pub closed_keeps : (summary : Holdings (List ℕ)) (cache : Cache) (new : Held S) → KeepsCache g Closed summary (cache_after Closed cache) new
-  closed_keeps summary cache new = record { made = tt; texts = λ fine clean live. tt; counted = λ fine clean live. tt; awake = λ fine clean. inl refl }
-
-  pub failed_keeps : (summary : Holdings (List ℕ)) (cache : Cache) (new : Held S) → KeepsCache g Failed summary (cache_after Failed cache) new
-  failed_keeps summary cache new = record { made = tt; texts = λ fine clean live. tt; counted = λ fine clean live. tt; awake = λ fine clean. inl refl }
-
   -- ---- a call that failed, or prepared something, and changed nothing else
 
   pub rests_as : (summary : Holdings (List ℕ)) (filing : Option Filing) (before after : LastCall) (h : Held S) → is_closed before ≡ false → IsAtRest g before summary filing h → (left : Option Filing) → HasFiled g left h → IsAtRest g after summary left h
   rests_as summary filing before after h fine rest left filed = at_rest g after summary left h rest.limit rest.range (λ _. rest.holds fine) (λ _. rest.settled fine) (λ _. filed)
 
-  pub shows_as : (summary : Holdings (List ℕ)) (before after : LastCall) (h : Held S) → is_closed before ≡ false → (M : Catalogue) → Shows g (record { conn = h; summary = summary; last = before }) M → Shows g (record { conn = h; summary = summary; last = after }) M
-  shows_as summary before after h fine M shown = record { summary = shown.summary; well_formed = shown.well_formed; holds = λ _ clean live. shown.holds fine clean live }
+  pub shows_as : (summary : Holdings (List ℕ)) (before after : LastCall) (h : Held S) → is_closed before ≡ false → (old new : List (ℕ × List Indexed)) → ((q : ℕ) → entries_under q new ≡ entries_under q old) → (kept texts : List (ℕ × List ℕ)) → texts ≡ texts_after after kept
+      → (M : Catalogue) → Shows g (record { conn = h; summary = summary; last = before; indexes = old; texts = kept }) M → Shows g (record { conn = h; summary = summary; last = after; indexes = new; texts = texts }) M
+  shows_as summary before after h fine old new same kept texts is M shown = record {
+    summary = shown.summary;
+    well_formed = shown.well_formed;
+    holds = λ _ clean live. shown.holds fine clean live;
+    served = λ clean. served_still g (record { conn = h; summary = summary; last = before; indexes = old; texts = kept }) (record { conn = h; summary = summary; last = after; indexes = new; texts = texts }) same (λ _. fine) (λ live. live) (λ live. refl)
+        (λ stored one. subst (AreCutFrom stored.number one.index stored.content) (sym is) (cut_after after stored.number one.index stored.content kept one.kept)) M (shown.served clean);
+  }
 
   -- nothing is prepared
   pub none_filed : (found : Option Filing) (h : Held S) → ((f : Filing) → found ≡ Some f → ⊥) → HasFiled g found h → HasFiled g None h
@@ -78,18 +87,8 @@ module _ {S : Type 0} (g : Ghosts S) (old new : Held S) (summary : Holdings (Lis
       (λ _. settled_on g old new summary filing last last fine rest survives (λ clean. undone_continues g old new (undone clean)))
       (λ _. filed)
 
-  pub undone_keeps : (cache : Cache) → KeepsCache g last summary cache old → KeepsCache g last summary (without_counts cache) new
-  undone_keeps cache keeps = record {
-    made = keeps.made;
-    texts = λ open' clean live.
-        let goes = undone_continues g old new (undone clean) in
-        subst (λ (db : Database). AreTextsOf db cache.texts) (sym (goes.committed live)) (keeps.texts fine (let first : HasCleanDisk (state g old) = omega (arith, survives.clean, clean) in first) (goes.was_open live));
-    counted = λ open' clean live. tt;
-    awake = λ open' clean. inl refl;
-  }
-
-  pub undone_shows : (after : LastCall) (M : Catalogue) → Shows g (record { conn = old; summary = summary; last = last }) M → Shows g (record { conn = new; summary = summary; last = after }) M
-  undone_shows after M shown = shows_on g old new summary filing last after fine rest survives (λ clean. undone_continues g old new (undone clean)) M shown
+  pub undone_shows : (after : LastCall) (indexes : List (ℕ × List Indexed)) (texts : List (ℕ × List ℕ)) (M : Catalogue) → Shows g (record { conn = old; summary = summary; last = last; indexes = indexes; texts = texts }) M → Shows g (record { conn = new; summary = summary; last = after; indexes = indexes; texts = texts }) M
+  undone_shows after indexes texts M shown = shows_with g old new summary filing last after fine rest survives (λ clean. undone_continues g old new (undone clean)) indexes texts M shown texts (λ clean stored one. one.kept)
 
 -- ---- a reading beside what was prepared failed, and that was undone
 
@@ -133,20 +132,18 @@ module _ {S : Type 0} (g : Ghosts S) (old new : Held S) (summary : Holdings (Lis
   pub prepared_rests : (after : LastCall) (left : Option Filing) → (HasCleanDisk (state g new) → IsTrue (state g new).is_open → new.in_transaction ≡ false → (state g new).now ≡ (state g new).committed) → HasFiled g left new → IsAtRest g after summary left new
   prepared_rests after left settled filed = at_rest g after summary left new (survives.limit ∙ rest.limit) rest.range (λ _. prepared_committed) (λ _. settled) (λ _. filed)
 
-  pub prepared_keeps : {T : Type 0} (result : Result T Fault) (after : LastCall) (cache : Cache) → KeepsCache g before summary cache old → KeepsCache g after summary (cache_behind result cache) new
-  prepared_keeps (Ok value) after cache kept = record {
-    made = kept.made;
-    texts = λ open' clean live. subst (λ (db : Database). AreTextsOf db cache.texts) (sym ((keeps clean).committed live)) (kept.texts fine (clean_first clean) ((keeps clean).was_open live));
-    counted = λ open' clean live. tt;
-    awake = λ open' clean. inl refl;
-  }
-  prepared_keeps (Err fault) after cache kept = record { made = tt; texts = λ open' clean live. tt; counted = λ open' clean live. tt; awake = λ open' clean. inl refl }
+  pub prepared_keeps : {T : Type 0} (result : Result T Fault) (after : LastCall) → after ≡ last_behind before result → (kept texts : List (ℕ × List ℕ)) → texts ≡ texts_behind result kept → KeepsTexts before summary kept → KeepsTexts after summary texts
+  prepared_keeps (Ok value) after by kept texts is keeps = subst (KeepsTexts after summary) (sym is) (subst (λ (l : LastCall). KeepsTexts l summary kept) (sym by) keeps)
+  prepared_keeps (Err fault) after by kept texts is keeps = subst (KeepsTexts after summary) (sym is) (record { made = tt; none = λ failed. refl })
 
-  pub prepared_shows : (after : LastCall) (M : Catalogue) → Shows g (record { conn = old; summary = summary; last = before }) M → Shows g (record { conn = new; summary = summary; last = after }) M
-  prepared_shows after M shown = record {
+  pub prepared_shows : {T : Type 0} (result : Result T Fault) (after : LastCall) (indexes : List (ℕ × List Indexed)) (kept texts : List (ℕ × List ℕ)) → texts ≡ texts_behind result kept → (M : Catalogue)
+      → Shows g (record { conn = old; summary = summary; last = before; indexes = indexes; texts = kept }) M → Shows g (record { conn = new; summary = summary; last = after; indexes = indexes; texts = texts }) M
+  prepared_shows result after indexes kept texts is M shown = record {
     summary = shown.summary;
     well_formed = shown.well_formed;
     holds = λ open' clean live. subst (λ (db : Database). Holds known db M) (sym ((keeps clean).committed live)) (shown.holds fine (clean_first clean) ((keeps clean).was_open live));
+    served = λ clean. served_still g (record { conn = old; summary = summary; last = before; indexes = indexes; texts = kept }) (record { conn = new; summary = summary; last = after; indexes = indexes; texts = texts }) (λ q. refl) (λ _. fine) (keeps clean).was_open (keeps clean).committed
+        (λ stored one. subst (AreCutFrom stored.number one.index stored.content) (sym is) (cut_behind result stored.number one.index stored.content kept one.kept)) M (shown.served (clean_first clean));
   }
 
 -- behind a part a transaction is open, or it failed, and what is seen is committed

@@ -1,5 +1,5 @@
 -- From one run to the next: what is opened over the files that a stop left, or that were left with no stop; and what is left of them.
-use Rattle.std.proofs.Common.{◌≡◌, inl, inr, ℕ, List, IsTrue, take, refl, sym, subst, ◌∙◌, arith}
+use Rattle.std.proofs.Common.{ℕ, List, IsTrue, take, refl, sym, subst, ◌∙◌, arith}
 use Rattle.std.specs.Prelude.{Option, Some, None, Contains}
 use Rattle.std.proofs.Math.Logic.{∥∥₁_map, ∥∥₁_elim}
 use Rattle.sqlite_disk.specs.declared.Disk.{Ghosts}

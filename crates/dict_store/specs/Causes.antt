@@ -6,9 +6,10 @@ use Rattle.sqlite.specs.Held.{Held, state}
 use Rattle.sqlite.specs.declared.error.Error.{Error}
 use Rattle.sqlite_trees.specs.declared.store.Store.{Ghosts}
 use Rattle.dict_index.specs.Edition.{Edition}
-use Rattle.dict_catalogue.specs.Commands.{Command}
+use Rattle.dict_catalogue.specs.Commands.{Command, verb_of}
 use Rattle.dict_catalogue.specs.Tests.{Holdings}
 use Rattle.dict_catalogue.specs.Steps.{Catalogue, Request, kept_under, step}
+use Rattle.dict_catalogue.specs.WellFormed.{is_install}
 use Rattle.dict_catalogue.specs.declared.reply.Kept.{Kept}
 use Rattle.dict_desk.specs.Applying.{Applies, Leaves}
 use Rattle.dict_desk.specs.Faults.{is_disk, is_failure}
@@ -26,11 +27,11 @@ abbrev pub StoreFails : State → State → Type 0
 StoreFails old new = (e : Error) × (Disk ≡ fault_of e) × Fails old new ⊥ e
 
 module _ {S : Type 0} (g : Ghosts S) where
-  -- A call that changes no catalogue failed, behind what it undid of what was prepared: memory was refused, to it or to the store; the
-  -- store failed between just these two states of the connection; or the desk was closed, and is as it was.
+  -- A call that changes no catalogue failed, behind what it undid of what was prepared: memory was refused, to it, before it asked the
+  -- store or in its asking, or to the store; the store failed between just these two states of the connection; or the desk was closed, and is as it was.
   abbrev pub GivesWay : DeskState S → DeskState S → Fault → Type 0
   GivesWay old new (Refused refusal) = ⊥
-  GivesWay old new Memory = (mid : Held S) × Undoes g old.conn mid × FailsToLookUp (state g mid) (state g new.conn) Memory
+  GivesWay old new Memory = (mid : Held S) × Undoes g old.conn mid × ((new.conn ≡ mid) ⊎ FailsToLookUp (state g mid) (state g new.conn) Memory)
   GivesWay old new Disk = (mid : Held S) × Undoes g old.conn mid × StoreFails (state g mid) (state g new.conn)
   GivesWay old new Closed = (is_closed old.last ≡ true) × (new ≡ old)
   GivesWay old new NotACatalogue = ⊥
@@ -53,10 +54,11 @@ module _ {S : Type 0} (g : Ghosts S) where
   abbrev pub FailsToApplyOver : Holdings (List ℕ) → List ℕ → Command Edition → Held S → Held S → Fault → Type 0
   FailsToApplyOver summary id command old new fault = FailsToApply g summary id command old new fault ⊎ (IsTrue old.in_transaction × FailsToApplyFiled g summary id command old new fault)
 
-  -- A command that is not refused failed so; or the desk was closed, and is as it was.
+  -- A command that is not refused failed so; or it installs an edition, and memory was refused to the index of this, before the store was
+  -- asked; or the desk was closed, and is as it was.
   abbrev pub FailsToApplyTo : DeskState S → Request → DeskState S → Fault → Type 0
   FailsToApplyTo old request new (Refused refusal) = ⊥
-  FailsToApplyTo old request new Memory = FailsToApplyOver old.summary request.id request.command old.conn new.conn Memory
+  FailsToApplyTo old request new Memory = ((is_install (verb_of request.command) ≡ true) × (new.conn ≡ old.conn)) ⊎ FailsToApplyOver old.summary request.id request.command old.conn new.conn Memory
   FailsToApplyTo old request new Disk = FailsToApplyOver old.summary request.id request.command old.conn new.conn Disk
   FailsToApplyTo old request new Closed = (is_closed old.last ≡ true) × (new ≡ old)
   FailsToApplyTo old request new NotACatalogue = ⊥

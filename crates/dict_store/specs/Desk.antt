@@ -1,16 +1,22 @@
 -- A desk over one database: what it is seen as, which catalogue it shows, and what a stop may leave of it.
 use Rattle.std.specs.Prelude.{◌≡◌, ℕ, Bool, true, false, IsTrue, List, Option, None, Some, Contains, Result, Ok, Err, if◌then◌else◌}
+use Rattle.std.specs.List.{AllByRecursion}
 use Rattle.sqlite.specs.Tree.{Trees}
 use Rattle.sqlite.specs.State.{State, HasCleanDisk}
 use Rattle.sqlite.specs.Held.{Held, state}
 use Rattle.sqlite_trees.specs.declared.store.Store.{Ghosts}
+use Rattle.dict_index.specs.Edition.{Edition}
+use Rattle.dict_catalogue.specs.Items.{Stored, editions_of}
 use Rattle.dict_catalogue.specs.Tests.{Holdings}
 use Rattle.dict_catalogue.specs.Steps.{Catalogue, summary_of}
 use Rattle.dict_catalogue.specs.WellFormed.{IsWellFormed}
 use Rattle.dict_desk.specs.Faults.{is_disk, is_failure}
 use Rattle.dict_desk.specs.declared.fault.Fault.{Fault}
 use Rattle.dict_holdings.specs.Holds.{HasLayout, Holds}
+use Rattle.dict_indexes.specs.Indexes.{entries_under}
+use Rattle.dict_lookup.specs.Texts.{AreCutFrom, HoldsCut, IsIndexOf}
 pub use Rattle.dict_migration.specs.Leaves.{StandsFor}
+use Rattle.dict_search.specs.Entries.{Indexed}
 use Rattle.dict_commands.specs.Changes.{IsInRange}
 use Rattle.dict_commands.specs.Filing.{IsDrawnUp, IsUnderway}
 use Rattle.dict_commands.specs.declared.filing.Filing.{Filing}
@@ -21,11 +27,14 @@ use Rattle.dict_store.specs.declared.last.LastCall.{LastCall}
 use Rattle.dict_store.specs.declared.last.LastCall.TheVariants.{Fine, Failed, Closed}
 use Rattle.dict_rows.specs.Versions.{known, layout_of}
 
--- the connection, the summary in memory, and how the last call by `&mut` ended
+-- the connection, the summary in memory, and how the last call by `&mut` ended; the indexes of editions by their numbers, and the texts
+-- that are kept
 pub record DeskState (S : Type 0) : Type 0 where
   pub conn : Held S
   pub summary : Holdings (List ℕ)
   pub last : LastCall
+  pub indexes : List (ℕ × List Indexed)
+  pub texts : List (ℕ × List ℕ)
 
 abbrev pub is_closed : LastCall → Bool
 is_closed Fine = false
@@ -71,13 +80,27 @@ module _ {S : Type 0} (g : Ghosts S) where
     pub filed : is_closed last ≡ false → HasFiled filing h
     pub own : is_closed last ≡ false → HasCleanDisk (state g h) → IsTrue (state g h).is_open → HasLayout (layout_of known) (state g h).now.schema
 
-  -- The catalogue is shown: the summary is its, and while the desk isn't closed and the store is open, the database holds it, as it was
-  -- committed. While a change is prepared, the connection sees more rows than these, and fewer of editions that are to go: none of them
+  -- Lookups in an edition are answered by it: under its number stands an index of it; and the index cuts its entries out of each text
+  -- that is kept under the number, and while the desk isn't closed and the store is open, out of the one that is committed under it.
+  pub record IsServed (desk : DeskState S) (stored : Stored Edition) : Type 0 where
+    pub index : List Indexed
+    pub stands : entries_under stored.number desk.indexes ≡ Some index
+    pub is : IsIndexOf index stored.content
+    pub kept : AreCutFrom stored.number index stored.content desk.texts
+    pub held : is_closed desk.last ≡ false → IsTrue (state g desk.conn).is_open → HoldsCut (state g desk.conn).committed stored.number index stored.content
+
+  -- so it is of each edition of the catalogue, current and former
+  abbrev pub AreServed : DeskState S → Catalogue → Type 0
+  AreServed desk M = AllByRecursion (λ item. AllByRecursion (IsServed desk) (editions_of item)) M.items
+
+  -- The catalogue is shown: the summary is its, lookups are answered by its editions, and while the desk isn't closed and the store is
+  -- open, the database holds it, as it was committed. While a change is prepared, the connection sees more rows than these, and fewer of editions that are to go: none of them
   -- is shown, and none is committed.
   pub record Shows (desk : DeskState S) (M : Catalogue) : Type 0 where
     pub summary : desk.summary ≡ summary_of M
     pub well_formed : IsWellFormed M
     pub holds : is_closed desk.last ≡ false → HasCleanDisk (state g desk.conn) → IsTrue (state g desk.conn).is_open → Holds known (state g desk.conn).committed M
+    pub served : HasCleanDisk (state g desk.conn) → AreServed desk M
 
   -- whatever a stop now leaves stands for one of these
   abbrev pub LeavesOneOf : DeskState S → List (Option Catalogue) → Type 0

@@ -1,38 +1,24 @@
--- What a desk keeps in memory for lookups.
-use Rattle.std.specs.Prelude.{◌≡◌, ◌⊎◌, ℕ, false, IsTrue, List, []}
-use Rattle.sqlite.specs.State.{State, HasCleanDisk}
-use Rattle.sqlite.specs.Held.{Held, state}
-use Rattle.sqlite_trees.specs.declared.store.Store.{Ghosts}
+-- What a desk keeps in memory for lookups besides its indexes.
+use Rattle.std.specs.Prelude.{◌≡◌, ℕ, true, List, [], Result, Ok, Err}
 use Rattle.dict_catalogue.specs.Tests.{Holdings}
-use Rattle.dict_lookup.specs.Texts.{AreTextsOf, AreMade}
-use Rattle.dict_lookup.specs.Counts.{Answer, AreAnswersOf}
-use Rattle.dict_store.specs.Desk.{is_closed}
-use Rattle.dict_store.specs.declared.kept.Cache.{Cache}
+use Rattle.dict_desk.specs.declared.fault.Fault.{Fault}
+use Rattle.dict_lookup.specs.Texts.{AreMade}
+use Rattle.dict_store.specs.Desk.{has_failed}
 use Rattle.dict_store.specs.declared.last.LastCall.{LastCall}
 use Rattle.dict_store.specs.declared.last.LastCall.TheVariants.{Fine, Failed, Closed}
 
--- nothing is kept, or the store is open
-abbrev pub IsAwake : List Answer → State → Type 0
-IsAwake kept s = (kept ≡ []) ⊎ IsTrue s.is_open
+-- the texts that are kept after a call that ended so
+abbrev pub texts_after : LastCall → List (ℕ × List ℕ) → List (ℕ × List ℕ)
+texts_after Fine texts = texts
+texts_after Failed texts = []
+texts_after Closed texts = []
 
-abbrev pub no_cache : Cache
-no_cache = record { texts = []; counted = [] }
+-- and behind what was prepared
+abbrev pub texts_behind : {T : Type 0} → Result T Fault → List (ℕ × List ℕ) → List (ℕ × List ℕ)
+texts_behind (Ok value) texts = texts
+texts_behind (Err fault) texts = []
 
-abbrev pub without_counts : Cache → Cache
-without_counts cache = record { texts = cache.texts; counted = [] }
-
--- what is kept after a call that ended so
-abbrev pub cache_after : LastCall → Cache → Cache
-cache_after Fine cache = cache
-cache_after Failed cache = no_cache
-cache_after Closed cache = no_cache
-
-module _ {S : Type 0} (g : Ghosts S) where
-  -- What is kept in memory is of the editions of the catalogue, while the desk isn't closed and the store is open: each text is that of
-  -- the edition which is committed under its number, the number of an install; and what was counted was counted in what is seen. Where
-  -- something is kept of what was counted, the store is open.
-  pub record KeepsCache (last : LastCall) (summary : Holdings (List ℕ)) (cache : Cache) (h : Held S) : Type 0 where
-    pub made : AreMade summary.installs cache.texts
-    pub texts : is_closed last ≡ false → HasCleanDisk (state g h) → IsTrue (state g h).is_open → AreTextsOf (state g h).committed cache.texts
-    pub counted : is_closed last ≡ false → HasCleanDisk (state g h) → IsTrue (state g h).is_open → AreAnswersOf (state g h).now cache.counted
-    pub awake : is_closed last ≡ false → HasCleanDisk (state g h) → IsAwake cache.counted (state g h)
+-- Each text is kept under a number that an install has made, and none behind a fault from 40 on.
+pub record KeepsTexts (last : LastCall) (summary : Holdings (List ℕ)) (texts : List (ℕ × List ℕ)) : Type 0 where
+  pub made : AreMade summary.installs texts
+  pub none : has_failed last ≡ true → texts ≡ []

@@ -11,8 +11,6 @@ use Rattle.dict_lookup.specs.Searches.{HoldsOne, IsReadable, column_of}
 pub use Rattle.dict_commands.specs.Filing.{rested}
 use Rattle.dict_commands.specs.declared.filing.Filing.{Filing}
 use Rattle.dict_store.specs.Desk.{last_by}
-use Rattle.dict_store.specs.Kept.{no_cache, without_counts}
-use Rattle.dict_store.specs.declared.kept.Cache.{Cache}
 use Rattle.dict_store.specs.declared.last.LastCall.{LastCall}
 
 -- how the last call ended, where something was prepared behind it: that tells nothing unless it failed
@@ -20,12 +18,7 @@ abbrev pub last_behind : {T : Type 0} → LastCall → Result T Fault → LastCa
 last_behind last (Ok value) = last
 last_behind last (Err fault) = last_by {T = Unit {0}} (Err fault)
 
--- what is kept in memory behind it
-abbrev pub cache_behind : {T : Type 0} → Result T Fault → Cache → Cache
-cache_behind (Ok value) cache = without_counts cache
-cache_behind (Err fault) cache = no_cache
-
--- Under this number the edition is seen that is committed under it; and what stands there can be read, if it could.
+-- Under this number the record is seen that is committed under it; and what stands there can be read, if it could.
 pub record IsAlike (number : ℕ) (committed now : Database) : Type 0 where
   pub one : (reading : ReadEdition) → HoldsOne committed number reading → HoldsOne now number reading
   pub readable : IsReadable committed (column_of number) → IsReadable now (column_of number)

@@ -24,7 +24,6 @@ use Rattle.sqlite_store.specs.declared.store.FileStore.{FileStore}
 use Rattle.dict_catalogue.specs.Steps.{Catalogue, Request}
 use Rattle.dict_desk.specs.declared.fault.Fault.{Fault}
 use Rattle.dict_desk.specs.declared.fault.Fault.TheVariants.{Memory, Disk, NotACatalogue}
-use Rattle.dict_holdings.specs.Holds.{IsLeft}
 use Rattle.dict_opening.specs.Reading.{IsOfOpening}
 use Rattle.dict_store.specs.Desk.{DeskState, LeavesOneOf, StandsFor}
 use Rattle.dict_store.specs.Opened.{IsNotLeft}

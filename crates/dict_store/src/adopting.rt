@@ -1,5 +1,5 @@
 // A desk over a database that holds a catalogue.
-ghost use Rattle.std.specs.Prelude.{◌≡◌, ◌<◌, ◌↔◌, ◌||◌, false, true, Some, None, [], ◌∷◌, IsTrue, IfOk, IfErr, OnOk, OnErr, Err};
+ghost use Rattle.std.specs.Prelude.{◌≡◌, ◌<◌, ◌↔◌, ◌||◌, ℕ, List, false, true, Some, None, [], ◌∷◌, IsTrue, IfOk, IfErr, OnOk, OnErr, Err};
 ghost use Rattle.sqlite.specs.Effect.{Database};
 ghost use Rattle.sqlite.specs.State.{HasCleanDisk, IsLive, Survives};
 ghost use Rattle.sqlite.specs.Held.{state};
@@ -19,15 +19,19 @@ ghost use Rattle.dict_opening.specs.Reading.{IsOfOpening, HasFailed};
 ghost use Rattle.dict_store.specs.Desk.{Shows, LeavesOneOf, is_closed, has_failed};
 ghost use Rattle.dict_store.specs.Opened.{IsTold, IsNotHeld, IsNotLeft, HoldsItsTrees};
 ghost use Rattle.dict_store.specs.Prepared.{Continues};
+ghost use Rattle.dict_opening.specs.Indexed.{IsIndexed};
+ghost use Rattle.dict_store.specs.Indexed.{AreHeldCut};
+ghost use Rattle.dict_search.specs.Entries.{Indexed};
 ghost use Rattle.dict_rows.specs.Versions.{known, IsVersion};
 ghost use Rattle.dict_store.specs.Adopted.{FailsToOpen};
 
 use crate::desk::Desk;
-use crate::kept::forget_after;
+use crate::kept::forget_by;
 use crate::last::{LastCall, last_by};
 use dict_catalogue::{Summary, edition_numbers};
 use dict_commands::{kept_reply, summaries_in_range};
 use dict_desk::Fault;
+use dict_indexes::Indexes;
 use dict_migration::migrate;
 use dict_opening::{held_is_marked, one_is_held, read_catalogue};
 use dict_rows::KNOWN_VERSION;
@@ -52,10 +56,11 @@ pub(crate) fn is_whole<S: Alter>(conn: &Connection<S>)
     let _schema = conn.schema();
 }
 
-// Reads a database whole: the version of its tables, and the summary of the catalogue that it holds. Nothing is written.
-fn read<S: Alter>(alloc: Global, conn: &mut Connection<S>) -> Result<(u64, Summary), Fault>
+// Reads a database whole: the version of its tables, the summary of the catalogue that it holds, and the indexes of its editions. Nothing
+// is written.
+fn read<S: Alter>(alloc: Global, conn: &mut Connection<S>) -> Result<(u64, Summary, Indexes), Fault>
     requires { conn.old.in_transaction ≡ false }
-    ensures rests { HasCleanDisk (state S.Store conn.new) → IfOk result (λ found. (M : Catalogue) × Rests found.0 (state S.Store conn.new) M × (summary_of M ≡ summary_shown found.1)) }
+    ensures rests { HasCleanDisk (state S.Store conn.new) → IfOk result (λ found. (M : Catalogue) × Rests found.0 (state S.Store conn.new) M × (summary_of M ≡ summary_shown found.1) × IsIndexed found.0 (state S.Store conn.new).committed M found.2) }
     ensures version { IfOk result (λ found. IsVersion found.0) }
     ensures range { IfOk result (λ found. IsInRange (summary_shown found.1)) }
     ensures kinds { IfErr result IsOfOpening }
@@ -90,6 +95,7 @@ fn renew<S: Alter>(
     requires version { IsVersion version }
     requires holds { HasCleanDisk (state S.Store conn.old) → (M : Catalogue) × Rests version (state S.Store conn.old) M × (summary_of M ≡ summary_shown summary.now) }
     ensures rests { HasCleanDisk (state S.Store conn.new) → OnOk result ((M : Catalogue) → Holds version (state S.Store conn.old).committed M → Rests known (state S.Store conn.new) M) }
+    ensures cut { HasCleanDisk (state S.Store conn.new) → OnOk result ((M : Catalogue) (indexes : List (ℕ × List Indexed)) → IsIndexed version (state S.Store conn.old).committed M indexes → AreHeldCut (state S.Store conn.new).committed M indexes) }
     ensures unwritten { version ≡ known → conn.new ≡ conn.old }
     ensures lives { HasCleanDisk (state S.Store conn.new) → IsTrue (state S.Store conn.new).is_open → IsTrue (state S.Store conn.old).is_open }
     ensures stays { HasCleanDisk (state S.Store conn.new) → OnErr result (Stays (state S.Store conn.old) (state S.Store conn.new)) }
@@ -106,14 +112,18 @@ fn renew<S: Alter>(
     }
 }
 
-// Reads a database whole, whose tables are those of the known version then: the summary of the catalogue that it holds.
-fn read_renewed<S: Alter>(alloc: Global, conn: &mut Connection<S>) -> Result<Summary, Fault>
+// Reads a database whole, whose tables are those of the known version then: the summary of the catalogue that it holds, and the indexes of
+// its editions.
+fn read_renewed<S: Alter>(
+    alloc: Global,
+    conn: &mut Connection<S>,
+) -> Result<(Summary, Indexes), Fault>
     requires { conn.old.in_transaction ≡ false }
-    ensures rests { HasCleanDisk (state S.Store conn.new) → IfOk result (λ summary. (M : Catalogue) × Rests known (state S.Store conn.new) M × (summary_of M ≡ summary_shown summary)) }
-    ensures every { HasCleanDisk (state S.Store conn.new) → IfOk result (λ summary. (M : Catalogue) → IsHeld (state S.Store conn.old).committed M → Rests known (state S.Store conn.new) M × (summary_of M ≡ summary_shown summary)) }
+    ensures rests { HasCleanDisk (state S.Store conn.new) → IfOk result (λ found. (M : Catalogue) × Rests known (state S.Store conn.new) M × (summary_of M ≡ summary_shown found.0) × AreHeldCut (state S.Store conn.new).committed M found.1) }
+    ensures every { HasCleanDisk (state S.Store conn.new) → IfOk result (λ found. (M : Catalogue) → IsHeld (state S.Store conn.old).committed M → Rests known (state S.Store conn.new) M × (summary_of M ≡ summary_shown found.0) × AreHeldCut (state S.Store conn.new).committed M found.1) }
     ensures same { HasCleanDisk (state S.Store conn.new) → OnOk result ((M : Catalogue) → IsHeld (state S.Store conn.old).committed M ↔ Holds known (state S.Store conn.new).committed M) }
     ensures unwritten { HasCleanDisk (state S.Store conn.new) → OnOk result ((M : Catalogue) → Holds known (state S.Store conn.old).committed M → (state S.Store conn.new).committed ≡ (state S.Store conn.old).committed) }
-    ensures range { IfOk result (λ summary. IsInRange (summary_shown summary)) }
+    ensures range { IfOk result (λ found. IsInRange (summary_shown found.0)) }
     ensures kinds { IfErr result IsOfOpening }
     ensures failed { HasCleanDisk (state S.Store conn.new) → IfErr result (λ fault. fault ≡ Fault.Disk → FailsToOpen S.Store conn.old conn.new) }
     ensures told { HasCleanDisk (state S.Store conn.new) → IfErr result (IsTold (state S.Store conn.old).now) }
@@ -125,9 +135,9 @@ fn read_renewed<S: Alter>(alloc: Global, conn: &mut Connection<S>) -> Result<Sum
     ensures crash { Survives (state S.Store conn.old) (state S.Store conn.new) (MayMigrate (state S.Store conn.old)) }
 {
     one_is_held();
-    let (version, summary) = read(alloc, conn)?;
+    let (version, summary, indexes) = read(alloc, conn)?;
     renew(alloc, conn, version, &summary)?;
-    Ok(summary)
+    Ok((summary, indexes))
 }
 
 // Reads a database whole whose tables are those of the known version. Nothing is written.
@@ -147,7 +157,7 @@ fn read_again<S: Alter>(alloc: Global, conn: &mut Connection<S>) -> Result<(), F
 {
     one_is_held();
     match read(alloc, conn) {
-        Ok((version, _)) => {
+        Ok((version, _, _)) => {
             if version == KNOWN_VERSION {
                 Ok(())
             } else {
@@ -216,9 +226,9 @@ impl<S: Alter + Drop> Desk<S> {
         is_whole(&conn);
         conn.set_step_limit(None);
         match read_renewed(alloc, &mut conn) {
-            Ok(summary) => {
+            Ok((summary, indexes)) => {
                 is_whole(&conn);
-                Ok(Desk::over(alloc, conn, summary))
+                Ok(Desk::over(alloc, conn, summary, indexes))
             }
             Err(fault) => Err((conn, fault)),
         }
@@ -245,7 +255,7 @@ impl<S: Alter + Drop> Desk<S> {
         self.withdraw()?;
         let outcome = read_committed(self.alloc, &mut self.conn);
         self.last = last_by(&outcome);
-        forget_after(&mut self.cache, self.last);
+        forget_by(&mut self.texts, self.last);
         outcome
     }
 }

@@ -12,23 +12,25 @@ ghost use Rattle.dict_migration.specs.Making.{creation, FailsToEnd};
 ghost use Rattle.dict_commands.specs.Changes.{IsInRange};
 ghost use Rattle.dict_commands.specs.Answers.{HoldsBy};
 ghost use Rattle.dict_store.specs.Desk.{Shows, LeavesOneOf, is_closed};
+ghost use Rattle.dict_store.specs.Indexed.{AreHeldCut};
 ghost use Rattle.dict_store.specs.Prepared.{Undoes};
 ghost use Rattle.dict_rows.specs.Versions.{known};
 
-use crate::kept::Cache;
 use crate::last::LastCall;
 use crate::withdrawing::undo;
 use dict_catalogue::Summary;
 use dict_commands::Filing;
 use dict_desk::Fault;
+use dict_indexes::Indexes;
 use dict_migration::create;
+use dict_texts::Texts;
 use sqlite::{Alter, Connection};
 use std::alloc::Global;
 use std::marker::Model;
 
-/// A desk over one database: the connection to it, and the summary of the catalogue that it holds. The texts of editions from which
-/// entries were handed out last are kept in memory, up to `dict_texts::MAX_OCTETS`, and the rows that were counted last, up to
-/// `dict_lookup::MAX_COUNTED`; what is shown never rests on them. Between two calls a transaction may be open, in which rows of a
+/// A desk over one database: the connection to it, the summary of the catalogue that it holds, and an index of each of its editions,
+/// current and former, which counts and finds. The texts of editions from which entries were handed out last are kept in memory, up to
+/// `dict_texts::MAX_OCTETS`. Between two calls a transaction may be open, in which rows of a
 /// change that may come are filed: none of them is shown before that change is applied.
 #[derive(Drop)]
 pub struct Desk<S: Alter + Drop> {
@@ -36,9 +38,11 @@ pub struct Desk<S: Alter + Drop> {
     pub(crate) conn: Connection<S>,
     pub(crate) summary: Summary,
     pub(crate) last: LastCall,
-    // What lookups keep. The texts of a database stay as a command changes another one.
-    pub(crate) cache: Cache,
-    // The rows that the statements of lookups have handed over. Nothing rests on it.
+    // The indexes of the editions by their numbers.
+    pub(crate) indexes: Indexes,
+    // The texts of editions that lookups keep. Those of a database stay as a command changes another one.
+    pub(crate) texts: Texts,
+    // The entries that lookups have looked at, and the rows that their statements have handed over. Nothing rests on it.
     pub(crate) rows_taken: u64,
     // What is prepared of a change that may come: rows of it are filed in the transaction that is open, if one is.
     pub(crate) filing: Option<Filing>,
@@ -51,33 +55,39 @@ impl<S: Alter + Drop> Model for Desk<S> {
     ghost use Rattle.std.specs.Coded.{codes};
     ghost use Rattle.sqlite.specs.Held.{held_code};
     ghost use Rattle.dict_store.specs.Desk.{DeskState, IsAtRest};
-    ghost use Rattle.dict_store.specs.Kept.{KeepsCache};
+    ghost use Rattle.dict_store.specs.Kept.{KeepsTexts};
 
     ghost Value = { DeskState S };
 
     ghost coded = { Prim.hlevel (codes, held_code S.code) };
 
-    ghost view = { λ d. record { conn = d.conn; summary = summary_shown d.summary; last = d.last } };
+    ghost view = { λ d. record { conn = d.conn; summary = summary_shown d.summary; last = d.last; indexes = d.indexes; texts = d.texts } };
 
-    ghost invariant = { λ d. IsAtRest S.Store d.last (summary_shown d.summary) d.filing d.conn × KeepsCache S.Store d.last (summary_shown d.summary) d.cache d.conn };
+    ghost invariant = { λ d. IsAtRest S.Store d.last (summary_shown d.summary) d.filing d.conn × KeepsTexts d.last (summary_shown d.summary) d.texts };
 }
 
 impl<S: Alter + Drop> Desk<S> {
-    // The desk over a database at rest that holds a catalogue of this summary.
-    pub(crate) fn over(alloc: Global, conn: Connection<S>, summary: Summary) -> Desk<S>
+    // The desk over a database at rest that holds a catalogue of this summary, of whose editions these are the indexes.
+    pub(crate) fn over(
+        alloc: Global,
+        conn: Connection<S>,
+        summary: Summary,
+        indexes: Indexes,
+    ) -> Desk<S>
         requires autocommit { conn.in_transaction ≡ false }
         requires limit { conn.step_limit ≡ None }
         requires range { IsInRange (summary_shown summary) }
         requires holds { HoldsBy (summary_shown summary) (state S.Store conn) }
-        ensures is { result ≡ record { conn = conn; summary = summary_shown summary; last = LastCall.Fine } }
-        ensures shows { (M : Catalogue) → summary_shown summary ≡ summary_of M → IsWellFormed M → (HasCleanDisk (state S.Store conn) → Rests known (state S.Store conn) M) → Shows S.Store result M }
+        ensures is { result ≡ record { conn = conn; summary = summary_shown summary; last = LastCall.Fine; indexes = indexes; texts = [] } }
+        ensures shows { (M : Catalogue) → summary_shown summary ≡ summary_of M → IsWellFormed M → (HasCleanDisk (state S.Store conn) → Rests known (state S.Store conn) M) → (HasCleanDisk (state S.Store conn) → AreHeldCut (state S.Store conn).committed M indexes) → Shows S.Store result M }
     {
         Desk {
             alloc,
             conn,
             summary,
             last: LastCall::Fine,
-            cache: Cache::new(alloc),
+            indexes,
+            texts: Texts::new(alloc),
             rows_taken: 0,
             filing: None,
             begins: 0,
@@ -108,7 +118,7 @@ impl<S: Alter + Drop> Desk<S> {
         let mut conn = conn;
         conn.set_step_limit(None);
         match create(&mut conn) {
-            Ok(()) => Ok(Desk::over(alloc, conn, Summary::new(alloc))),
+            Ok(()) => Ok(Desk::over(alloc, conn, Summary::new(alloc), Indexes::new(alloc))),
             Err(fault) => Err((conn, fault)),
         }
     }
@@ -120,8 +130,8 @@ impl<S: Alter + Drop> Desk<S> {
         self.last == LastCall::Closed
     }
 
-    /// How many rows the statements of this desk's lookups have handed over since it was opened, up to the greatest number of its
-    /// type, where it stays. Nothing rests on it: it tells what lookups cost.
+    /// How many entries this desk's lookups have looked at, and how many rows their statements have handed over, since it was opened, up to
+    /// the greatest number of its type, where it stays. Nothing rests on it: it tells what lookups cost.
     pub fn rows_taken(&self) -> u64 {
         self.rows_taken
     }

@@ -1,15 +1,17 @@
 // What editors change of a desk.
-ghost use Rattle.std.specs.Prelude.{◌≡◌, false, IsTrue};
+ghost use Rattle.std.specs.Prelude.{◌≡◌, false, IsTrue, OnErr};
 ghost use Rattle.sqlite.specs.State.{HasCleanDisk};
 ghost use Rattle.sqlite.specs.Held.{state};
 ghost use Rattle.dict_catalogue.specs.Views.{summary_shown, command_meant};
 ghost use Rattle.dict_commands.specs.Answers.{summary_after};
 ghost use Rattle.dict_commands.specs.Changes.{IsInRange};
+ghost use Rattle.dict_commands.specs.Installed.{HasInstalled};
 ghost use Rattle.dict_store.specs.Applied.{AppliesOver};
 ghost use Rattle.dict_store.specs.Desk.{HasCommitted, HasFiled, reply_of};
 
 use crate::desk::Desk;
-use crate::kept::{forget_after, forget_by, forget_counts};
+use crate::indexing::{put_coming, settle};
+use crate::kept::forget_by;
 use crate::last::{LastCall, last_by};
 use crate::withdrawing::let_go_when_ended;
 use dict_catalogue::{Command, Kept, Summary};
@@ -31,7 +33,9 @@ fn apply_over<S: Alter>(
     requires settled { HasCleanDisk (state S.Store conn.old) → IsTrue (state S.Store conn.old).is_open → conn.old.in_transaction ≡ false → (state S.Store conn.old).now ≡ (state S.Store conn.old).committed }
     requires holds { HasCommitted (summary_shown summary.now) (state S.Store conn.old) }
     requires range { IsInRange (summary_shown summary.now) }
-    ensures { AppliesOver S.Store (summary_shown summary.now) id.now (command_meant command.now) conn.old conn.new result }
+    ensures over { AppliesOver S.Store (summary_shown summary.now) id.now (command_meant command.now) conn.old conn.new result }
+    ensures installed { HasCleanDisk (state S.Store conn.new) → IsTrue (state S.Store conn.new).is_open → HasInstalled command.now result (state S.Store conn.new).committed }
+    ensures stays { HasCleanDisk (state S.Store conn.new) → IsTrue (state S.Store conn.new).is_open → OnErr result ((state S.Store conn.new).committed ≡ (state S.Store conn.old).committed) }
 {
     if conn.is_autocommit() {
         return apply(alloc, conn, summary, id, command);
@@ -71,7 +75,7 @@ impl<S: Alter + Drop> Keeper for Desk<S> {
         self.withdraw()?;
         let outcome = kept_reply(self.alloc, &mut self.conn, id);
         self.last = last_by(&outcome);
-        forget_after(&mut self.cache, self.last);
+        forget_by(&mut self.texts, self.last);
         outcome
     }
 
@@ -79,6 +83,12 @@ impl<S: Alter + Drop> Keeper for Desk<S> {
         if self.last == LastCall::Closed {
             return Err(Fault::Closed);
         }
+        let number = self.summary.installs.saturating_add(1);
+        let Ok(()) = put_coming(self.alloc, &mut self.indexes, number, command) else {
+            self.last = LastCall::Failed;
+            forget_by(&mut self.texts, LastCall::Failed);
+            return Err(Fault::Memory);
+        };
         let outcome = apply_over(
             self.alloc,
             &mut self.conn,
@@ -88,9 +98,9 @@ impl<S: Alter + Drop> Keeper for Desk<S> {
             command,
         );
         self.last = last_by(&outcome);
-        forget_counts(&mut self.cache);
-        forget_by(&mut self.cache, self.last);
+        forget_by(&mut self.texts, self.last);
         let_go_when_ended(&self.conn, &mut self.filing);
+        settle(&mut self.indexes, &self.summary.items, number, &outcome);
         take_over(&mut self.summary, outcome)
     }
 }

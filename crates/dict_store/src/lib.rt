@@ -5,6 +5,7 @@ mod adopting;
 mod answering;
 mod closing;
 mod desk;
+mod indexing;
 mod keeper;
 mod kept;
 mod last;

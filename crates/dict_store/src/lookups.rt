@@ -1,5 +1,5 @@
 // What readers ask of a desk.
-use crate::answering::{count_or_kept, find_or_kept, heads_or_kept};
+use crate::answering::{count_under, find_under, heads_under};
 use crate::desk::Desk;
 use crate::kept::forget_by;
 use crate::last::{LastCall, last_by};
@@ -45,7 +45,7 @@ impl<S: Alter + Drop> Lookup for Desk<S> {
             &mut self.rows_taken,
         );
         self.last = last_by(&outcome);
-        forget_by(&mut self.cache, self.last);
+        forget_by(&mut self.texts, self.last);
         outcome
     }
 
@@ -56,12 +56,12 @@ impl<S: Alter + Drop> Lookup for Desk<S> {
         query: &Key,
         what: What,
     ) -> Result<u64, Fault> {
-        self.make_ready(number)?;
-        let outcome = count_or_kept(
+        if self.last == LastCall::Closed {
+            return Err(Fault::Closed);
+        }
+        let outcome = count_under(
             self.alloc,
-            &mut self.conn,
-            &self.cache.texts,
-            &mut self.cache.counted,
+            &self.indexes,
             number,
             strategy,
             query,
@@ -69,7 +69,7 @@ impl<S: Alter + Drop> Lookup for Desk<S> {
             &mut self.rows_taken,
         );
         self.last = last_by(&outcome);
-        forget_by(&mut self.cache, self.last);
+        forget_by(&mut self.texts, self.last);
         outcome
     }
 
@@ -81,12 +81,12 @@ impl<S: Alter + Drop> Lookup for Desk<S> {
         sink: &mut T,
     ) -> Result<End, Fault> {
         self.make_ready(number)?;
-        let outcome = find_or_kept(
+        let outcome = find_under(
             self.alloc,
             &mut self.conn,
-            &mut self.cache.texts,
-            &self.cache.counted,
+            &mut self.texts,
             self.summary.installs,
+            &self.indexes,
             number,
             strategy,
             query,
@@ -94,7 +94,7 @@ impl<S: Alter + Drop> Lookup for Desk<S> {
             &mut self.rows_taken,
         );
         self.last = last_by(&outcome);
-        forget_by(&mut self.cache, self.last);
+        forget_by(&mut self.texts, self.last);
         outcome
     }
 
@@ -105,11 +105,12 @@ impl<S: Alter + Drop> Lookup for Desk<S> {
         query: &Key,
         sink: &mut T,
     ) -> Result<End, Fault> {
-        self.make_ready(number)?;
-        let outcome = heads_or_kept(
+        if self.last == LastCall::Closed {
+            return Err(Fault::Closed);
+        }
+        let outcome = heads_under(
             self.alloc,
-            &mut self.conn,
-            &self.cache.counted,
+            &self.indexes,
             number,
             strategy,
             query,
@@ -117,7 +118,7 @@ impl<S: Alter + Drop> Lookup for Desk<S> {
             &mut self.rows_taken,
         );
         self.last = last_by(&outcome);
-        forget_by(&mut self.cache, self.last);
+        forget_by(&mut self.texts, self.last);
         outcome
     }
 

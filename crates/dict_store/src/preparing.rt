@@ -82,7 +82,7 @@ fn last_behind<T>(last: LastCall, outcome: &Result<T, Fault>) -> LastCall
 }
 
 /// A filing is at most begun three times: a lookup that is refused memory undoes it. What is filed is let go of where another command, a
-/// lookup in an edition that goes or comes, or a call that hands the connection out comes first.
+/// lookup in the text of an edition that goes or comes, or a call that hands the connection out comes first.
 impl<S: Alter + Drop> Preparer for Desk<S> {
     // It failed, or what was prepared before is let go of: no transaction is open.
     ghost expects = { λ _ _ desk. (has_failed desk.last ≡ true) ⊎ (desk.conn.in_transaction ≡ false) };
@@ -102,7 +102,7 @@ impl<S: Alter + Drop> Preparer for Desk<S> {
             }
             Err(_) => {
                 self.last = LastCall::Failed;
-                forget_by(&mut self.cache, LastCall::Failed);
+                forget_by(&mut self.texts, LastCall::Failed);
                 Err(Fault::Memory)
             }
         }
@@ -114,7 +114,7 @@ impl<S: Alter + Drop> Preparer for Desk<S> {
         }
         count_begin(&self.conn, &mut self.filing, &mut self.begins);
         let outcome = file_next(&mut self.conn, &self.summary, &mut self.filing);
-        forget_behind(&mut self.cache, &outcome);
+        forget_behind(&mut self.texts, &outcome);
         self.last = last_behind(self.last, &outcome);
         let_go_when_ended(&self.conn, &mut self.filing);
         outcome

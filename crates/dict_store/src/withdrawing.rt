@@ -10,7 +10,7 @@ ghost use Rattle.dict_store.specs.Desk.{Shows, is_closed, has_failed};
 ghost use Rattle.dict_store.specs.Prepared.{IsAlike, IsApart, LetsGo, Undoes};
 
 use crate::desk::Desk;
-use crate::kept::{forget_by, forget_counts};
+use crate::kept::forget_by;
 use crate::last::LastCall;
 use dict_catalogue::Kept;
 use dict_commands::{Filing, kept_reply, shows_still};
@@ -96,12 +96,11 @@ impl<S: Alter + Drop> Desk<S> {
             return Err(Fault::Closed);
         }
         self.filing = None;
-        forget_counts(&mut self.cache);
         if undo(&mut self.conn) {
             return Ok(());
         }
         self.last = LastCall::Closed;
-        forget_by(&mut self.cache, LastCall::Closed);
+        forget_by(&mut self.texts, LastCall::Closed);
         Err(Fault::Disk)
     }
 
@@ -159,7 +158,6 @@ impl<S: Alter + Drop> Desk<S> {
             }
             Err(_) => {
                 undo(&mut self.conn);
-                forget_counts(&mut self.cache);
                 let_go_when_ended(&self.conn, &mut self.filing);
                 None
             }

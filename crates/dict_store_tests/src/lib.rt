@@ -8,9 +8,9 @@ mod commands;
 #[cfg(test)]
 mod full;
 #[cfg(test)]
-mod kept_counts;
-#[cfg(test)]
 mod kept_texts;
+#[cfg(test)]
+mod looked_at;
 #[cfg(test)]
 mod looking;
 #[cfg(test)]

@@ -1,10 +1,9 @@
-use Rattle.std.proofs.Common.{◌≡◌, Err, ap, sym, subst, ◌∙◌, arith}
+use Rattle.std.proofs.Common.{Err, ap, subst, arith}
 use Rattle.std.proofs.lemmas.Result.{err_from_is_err_and}
 use Rattle.sqlite.specs.Held.{state}
 use Rattle.dict_commands.specs.Changes.{IsInRange}
 use Rattle.dict_store.proofs.DeskLemmas.{not_both}
 use Rattle.dict_store.proofs.adopting.read.Goals as goal
-use Rattle.dict_rows.specs.Versions.{known}
 
 pub returns-in_err-found-clause-told : goal.returns-in_err-found-clause-told
 returns-in_err-found-clause-told g c = λ clean.

@@ -1,7 +1,4 @@
-use Rattle.std.proofs.Common.{sym, subst, arith}
-use Rattle.std.proofs.lemmas.Result.{on_ok_weaker}
 use Rattle.sqlite.specs.Held.{state}
-use Rattle.sqlite.specs.State.{HasCleanDisk}
 use Rattle.sqlite.proofs.StateLemmas.{survives_then}
 use Rattle.dict_commands.proofs.ApplyLemmas.{rests_unchanged}
 use Rattle.dict_store.proofs.AuditLemmas.{store_told, reply_failed, told_still, not_held_still, failed_still}

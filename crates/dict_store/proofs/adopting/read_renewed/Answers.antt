@@ -1,5 +1,4 @@
 use Rattle.std.proofs.Common.{◌≡◌, ◌⊎◌, ℕ, List, sym, subst, arith, inr}
-use Rattle.std.specs.Prelude.{IsTrue}
 use Rattle.std.proofs.lemmas.Result.{err_from_is_err_and}
 use Rattle.sqlite.specs.Effect.{Database}
 use Rattle.sqlite.specs.State.{HasCleanDisk}
@@ -11,6 +10,7 @@ use Rattle.dict_holdings.specs.Holds.{Holds, IsHeld, Rests, IsLeftAs}
 use Rattle.dict_desk.specs.declared.fault.Fault.TheVariants.{Disk}
 use Rattle.dict_catalogue.specs.Tests.{Holdings}
 use Rattle.dict_migration.specs.Failing.{FailsToMigrate, FailsToMove, IsBeyond}
+use Rattle.dict_store.specs.Indexed.{AreHeldCut}
 use Rattle.dict_store.proofs.RenewLemmas.{renews_read}
 use Rattle.dict_migration.specs.Migrated.{MayMigrate, HoldsOlder}
 use Rattle.dict_rows.specs.Versions.{known}
@@ -76,7 +76,7 @@ returns-clause-rests g c = λ clean.
     let one = c.renew.ensures.crash.clean in
     let there : HasCleanDisk (state g.S.Store c.read.new.conn) = omega (arith, one, clean) in
     let found = c.in_ok-version.ensures.rests there in
-    (found.0, c.in_ok-renew.ensures.rests clean found.0 found.1.holds, found.2)
+    (found.0, c.in_ok-renew.ensures.rests clean found.0 found.1.holds, found.2, c.in_ok-renew.ensures.cut clean found.0 c.in_ok-version.indexes found.3)
 
 pub returns-clause-every : goal.returns-clause-every
 returns-clause-every g c = λ clean M held.
@@ -88,7 +88,7 @@ returns-clause-every g c = λ clean M held.
     let same = c.in_ok-version.ensures.committed there found.1.is_open in
     let first : IsHeld old.committed found.0 = record { version = c.in_ok-version.version; known = c.in_ok-version.ensures.version; holds = subst (λ (db : Database). Holds c.in_ok-version.version db found.0) same found.1.holds } in
     let is = c.one_is_held.ensures.held old.committed found.0 M first held in
-    subst (λ (N : Catalogue). Rests known new N × (summary_of N ≡ summary_shown c.in_ok-version.summary)) is (c.in_ok-renew.ensures.rests clean found.0 found.1.holds, found.2)
+    subst (λ (N : Catalogue). Rests known new N × (summary_of N ≡ summary_shown c.in_ok-version.summary) × AreHeldCut new.committed N c.in_ok-version.indexes) is (c.in_ok-renew.ensures.rests clean found.0 found.1.holds, found.2, c.in_ok-renew.ensures.cut clean found.0 c.in_ok-version.indexes found.3)
 
 pub returns-clause-same : goal.returns-clause-same
 returns-clause-same g c = λ clean M.

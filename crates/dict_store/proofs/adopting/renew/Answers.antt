@@ -2,6 +2,9 @@ use Rattle.std.proofs.Common.{◌≡◌, subst, arith}
 use Rattle.sqlite.specs.Held.{state}
 use Rattle.dict_holdings.specs.Holds.{Holds}
 use Rattle.dict_rows.specs.Versions.{known}
+use Rattle.std.proofs.lemmas.Result.{on_ok_weaker}
+use Rattle.dict_opening.specs.Indexed.{IsIndexed}
+use Rattle.dict_store.proofs.OpenedLemmas.{indexed_known, indexed_moved}
 use Rattle.dict_store.proofs.adopting.renew.Goals as goal
 
 -- what has the known version already is left as it is
@@ -16,3 +19,14 @@ returns-else-version-lt-KNOWN_VERSION-clause-rests g c = λ clean M held.
       settled = it.1.settled;
       holds = subst (λ v. Holds v (state g.S.Store c.args.conn.now).committed M) is held;
     }
+
+pub returns-else-version-lt-KNOWN_VERSION-clause-cut : goal.returns-else-version-lt-KNOWN_VERSION-clause-cut
+returns-else-version-lt-KNOWN_VERSION-clause-cut g c = λ clean M indexes indexed.
+    let within = c.requires.version.within in
+    let least = c.if-version-lt-KNOWN_VERSION.false in
+    let is : c.args.version ≡ known = omega (arith, within, least) in
+    indexed_known (state g.S.Store c.args.conn.now).committed M indexes (subst (λ v. IsIndexed v (state g.S.Store c.args.conn.now).committed M indexes) is indexed)
+
+pub returns-then-version-lt-KNOWN_VERSION-clause-cut : goal.returns-then-version-lt-KNOWN_VERSION-clause-cut
+returns-then-version-lt-KNOWN_VERSION-clause-cut g c = λ clean.
+    on_ok_weaker c.migrate.result (λ migrated M indexes indexed. indexed_moved c.args.version (state g.S.Store c.args.conn.now).committed (state g.S.Store c.migrate.new.conn).committed migrated M indexes indexed) (c.migrate.ensures.migrated clean)

@@ -13,4 +13,4 @@ returns-clause-holds g c =
     subst
     (λ (desk : DeskState _). is_closed desk.last ≡ false → HasCleanDisk (state g.S.Store desk.conn) → IsTrue (state g.S.Store desk.conn).is_open → (M : Catalogue) → Shows g.S.Store desk M → IsLeft M (state g.S.Store desk.conn).committed.trees)
     c.desk.view_is
-    (committed_holds g.S.Store c.desk.inside.conn (summary_shown c.desk.inside.summary) c.desk.inside.last c.is_whole.ensures.live)
+    (committed_holds g.S.Store c.desk.inside.conn (summary_shown c.desk.inside.summary) c.desk.inside.last c.desk.inside.indexes c.desk.inside.texts c.is_whole.ensures.live)

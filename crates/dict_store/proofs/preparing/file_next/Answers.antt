@@ -1,4 +1,4 @@
-use Rattle.std.proofs.Common.{◌≡◌, refl, ap, subst, ◌∙◌}
+use Rattle.std.proofs.Common.{refl, ap, subst, ◌∙◌}
 use Rattle.std.specs.Prelude.{Option, Some, IfSome}
 use Rattle.sqlite.specs.Held.{state}
 use Rattle.dict_desk.specs.declared.fault.Fault.{Fault}

@@ -18,7 +18,7 @@ returns-in-Ok-clause-left g c = λ clean M left.
     let live = subst (λ conn. IsTrue (state g.S.Store conn).is_open) c.set_step_limit.ensures (c.in-Ok.ensures.lives there rests.is_open) in
     let held = (c.is_whole.ensures.whole live).committed M left in
     let it = c.in-Ok.ensures.every there M (subst (λ conn. IsHeld (state g.S.Store conn).committed M) (sym c.set_step_limit.ensures) held) in
-    c.over.ensures.shows M (sym it.1) it.0.holds.stands.well_formed (λ _. it.0)
+    c.over.ensures.shows M (sym it.1) it.0.holds.stands.well_formed (λ _. it.0) (λ _. it.2)
 
 pub returns-in-Ok-clause-only : goal.returns-in-Ok-clause-only
 returns-in-Ok-clause-only g c = λ M shown clean trees may.

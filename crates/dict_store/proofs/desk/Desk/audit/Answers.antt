@@ -1,5 +1,5 @@
 use Rattle.std.proofs.Common.{◌≡◌, false, sym, ap, subst, ◌∙◌}
-use Rattle.std.specs.Prelude.{Result, Ok, Err, OnOk, IfOk, IfErr}
+use Rattle.std.specs.Prelude.{Result, Ok, Err, OnOk, IfOk}
 use Rattle.sqlite.specs.Held.{state}
 use Rattle.sqlite.specs.State.{HasCleanDisk, Survives}
 use Rattle.sqlite.proofs.StateLemmas.{survives_then}
@@ -9,7 +9,7 @@ use Rattle.dict_store.specs.Desk.{DeskState, Shows, is_closed}
 use Rattle.dict_store.specs.Prepared.{Continues}
 use Rattle.dict_store.proofs.AppliedLemmas.{err_clean, err_weaker}
 use Rattle.dict_store.proofs.AuditLemmas.{failed_behind}
-use Rattle.dict_store.proofs.DeskLemmas.{clean_behind, desk_alone, shows_on, undone_continues}
+use Rattle.dict_store.proofs.DeskLemmas.{clean_behind, desk_on, shows_on, undone_continues}
 use Rattle.dict_store.proofs.PreparedLemmas.{kept_there}
 use Rattle.dict_store.proofs.desk.Desk.audit.Goals as goal
 
@@ -33,9 +33,8 @@ read_committed-outcome-requires-clause-holds g c = λ clean live.
 pub invariant_of-self : goal.invariant_of-self
 invariant_of-self g c =
     let before : is_closed c.self.inside.last ≡ false = ap is_closed (ap (λ (d : DeskState _). d.last) c.self.view_is ∙ c.in_ok-withdraw.ensures.last) ∙ c.in_ok-withdraw.ensures.open in
-    let none = ap (λ (d : DeskState _). d.conn.in_transaction) c.self.view_is ∙ c.in_ok-withdraw.ensures.ended in
-    desk_alone g.S.Store c.self.inside.conn c.read_committed-outcome.new.conn (summary_shown c.self.inside.summary) c.self.inside.filing c.self.inside.last c.last_by-self-inside.result before c.self.invariant.0 c.read_committed-outcome.ensures.survives
-    c.read_committed-outcome.ensures.continues none (λ _. c.read_committed-outcome.ensures.autocommit) c.self.inside.cache c.forget_after.new.cache c.forget_after.ensures c.self.invariant.1
+    desk_on g.S.Store c.self.inside.conn c.read_committed-outcome.new.conn (summary_shown c.self.inside.summary) c.self.inside.filing c.self.inside.last c.last_by-self-inside.result before c.self.invariant.0 c.read_committed-outcome.ensures.survives
+    c.read_committed-outcome.ensures.continues (λ _. c.read_committed-outcome.ensures.autocommit) c.self.inside.texts c.forget_by.new.texts c.forget_by.ensures c.self.invariant.1.made
 
 ok_clean : {T E : Type 0} (C X : Type 0) (result : Result T E) → (C → OnOk result X) → IfOk result (λ _. C → X)
 ok_clean C X (Ok value) h = h
@@ -50,7 +49,7 @@ returns-clause-shows g c = λ clean M shown.
     let honest = clean_behind (state g.S.Store c.self.inside.conn) (state g.S.Store c.read_committed-outcome.new.conn) c.read_committed-outcome.ensures.survives clean in
     let mid = subst (λ (d : DeskState _). HasCleanDisk (state g.S.Store d.conn)) c.self.view_is honest in
     shows_on g.S.Store c.self.inside.conn c.read_committed-outcome.new.conn (summary_shown c.self.inside.summary) c.self.inside.filing c.self.inside.last c.last_by-self-inside.result before c.self.invariant.0 c.read_committed-outcome.ensures.survives c.read_committed-outcome.ensures.continues
-    M (subst (λ (d : DeskState _). Shows g.S.Store d M) (sym c.self.view_is) (c.withdraw.ensures.shows mid M shown))
+    c.self.inside.indexes c.self.inside.texts M (subst (λ (d : DeskState _). Shows g.S.Store d M) (sym c.self.view_is) (c.withdraw.ensures.shows mid M shown)) c.forget_by.new.texts c.forget_by.ensures
 
 pub returns-clause-spares : goal.returns-clause-spares
 returns-clause-spares g c =

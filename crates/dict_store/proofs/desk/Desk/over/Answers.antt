@@ -1,7 +1,11 @@
-use Rattle.std.proofs.Common.{inl, refl, sym, subst}
+use Rattle.std.proofs.Common.{refl, sym, subst}
+use Rattle.sqlite.specs.Held.{state}
+use Rattle.dict_lookup.specs.Texts.{AreCutFrom}
 use Rattle.dict_catalogue.specs.Views.{summary_shown}
-use Rattle.dict_store.specs.Kept.{KeepsCache}
-use Rattle.dict_store.specs.declared.kept.Cache.{Cache}
+use Rattle.dict_store.specs.Desk.{IsServed}
+use Rattle.dict_store.specs.Indexed.{IsHeldCut}
+use Rattle.dict_store.specs.Kept.{KeepsTexts}
+use Rattle.dict_store.proofs.ServedLemmas.{each_edition}
 use Rattle.dict_store.specs.declared.last.LastCall.TheVariants.{Fine}
 use Rattle.sqlite.specs.Effect.{Database}
 use Rattle.dict_holdings.specs.Holds.{HasLayout}
@@ -18,8 +22,14 @@ invariant_of-result g c = (
     filed = λ fine clean. c.requires.autocommit;
     own = λ fine clean live. let rests = (c.requires.holds clean live).1 in subst (λ (db : Database). HasLayout (layout_of known) db.schema) (sym rests.settled) rests.holds.own;
   },
-  subst (λ (cache : Cache). KeepsCache g.S.Store Fine (summary_shown c.args.summary) cache c.args.conn) (sym c.new.ensures) (record { made = tt; texts = λ fine clean live. tt; counted = λ fine clean live. tt; awake = λ fine clean. inl refl }),
+  subst (KeepsTexts Fine (summary_shown c.args.summary)) (sym c.new.ensures) (record { made = tt; none = λ failed. refl }),
 )
 
 pub returns-clause-shows : goal.returns-clause-shows
-returns-clause-shows g c = λ M summary well rests. record { summary = summary; well_formed = well; holds = λ fine clean live. (rests clean).holds }
+returns-clause-shows g c = λ M summary well rests indexed. record {
+  summary = summary;
+  well_formed = well;
+  holds = λ fine clean live. (rests clean).holds;
+  served = λ clean. each_edition (IsHeldCut (state g.S.Store c.args.conn).committed c.args.indexes) (IsServed g.S.Store (record { conn = c.args.conn; summary = summary_shown c.args.summary; last = Fine; indexes = c.args.indexes; texts = c.new.result }))
+      (λ stored one. record { index = one.index; stands = one.stands; is = (one.held.reading.text, one.held.cuts); kept = subst (AreCutFrom stored.number one.index stored.content) (sym c.new.ensures) tt; held = λ fine live. one.held }) M.items (indexed clean);
+}

@@ -1,28 +1,25 @@
 use Rattle.std.proofs.Common.{◌≡◌, false, sym, subst, rules}
 use Rattle.std.specs.Prelude.{None}
-use Rattle.sqlite.specs.Held.{state}
 use Rattle.dict_catalogue.specs.Views.{summary_shown}
 use Rattle.dict_store.specs.Desk.{DeskState, Shows, is_closed}
-use Rattle.dict_store.specs.Kept.{KeepsCache}
+use Rattle.dict_store.specs.Kept.{KeepsTexts}
 use Rattle.dict_store.specs.Prepared.{Undoes}
-use Rattle.dict_store.specs.declared.kept.Cache.{Cache}
 use Rattle.dict_store.specs.declared.last.LastCall.TheVariants.{Closed}
-use Rattle.dict_store.proofs.DeskLemmas.{not_both, settled_on, undone_continues}
-use Rattle.dict_store.proofs.PreparingLemmas.{undone_rests, undone_keeps, undone_shows, closed_rests, closed_keeps}
+use Rattle.dict_store.proofs.DeskLemmas.{not_both, settled_on, texts_keep, undone_continues}
+use Rattle.dict_store.proofs.PreparingLemmas.{undone_rests, undone_shows, closed_rests}
 use Rattle.dict_store.proofs.desk.Desk.withdraw.Goals as goal
 
 pub invariant_of-self : goal.invariant_of-self
 invariant_of-self g c =
     let before : is_closed c.self.inside.last ≡ false = search rules in (
       undone_rests g.S.Store c.self.inside.conn c.undo.new.conn (summary_shown c.self.inside.summary) c.self.inside.filing c.self.inside.last before c.self.invariant.0 c.undo.ensures.survives c.undo.ensures.undone None c.undo.ensures.ended,
-      subst (λ (cache : Cache). KeepsCache g.S.Store c.self.inside.last (summary_shown c.self.inside.summary) cache c.undo.new.conn) (sym c.forget_counts.ensures)
-          (undone_keeps g.S.Store c.self.inside.conn c.undo.new.conn (summary_shown c.self.inside.summary) c.self.inside.filing c.self.inside.last before c.self.invariant.0 c.undo.ensures.survives c.undo.ensures.undone c.self.inside.cache c.self.invariant.1),
+      c.self.invariant.1,
     )
 
 pub invariant_of-self-2 : goal.invariant_of-self-2
 invariant_of-self-2 g c = (
   closed_rests g.S.Store (summary_shown c.self.inside.summary) c.self.inside.filing None c.self.inside.last c.self.inside.conn c.undo.new.conn c.self.invariant.0 c.undo.ensures.survives,
-  subst (λ (cache : Cache). KeepsCache g.S.Store Closed (summary_shown c.self.inside.summary) cache c.undo.new.conn) (sym c.forget_by.ensures) (closed_keeps g.S.Store (summary_shown c.self.inside.summary) c.forget_counts.new.cache c.undo.new.conn),
+  subst (KeepsTexts Closed (summary_shown c.self.inside.summary)) (sym c.forget_by.ensures) (texts_keep Closed (summary_shown c.self.inside.summary) c.self.inside.texts c.self.invariant.1.made),
 )
 
 pub returns-then-undo-clause-undone : goal.returns-then-undo-clause-undone
@@ -38,7 +35,7 @@ pub returns-then-undo-clause-shows : goal.returns-then-undo-clause-shows
 returns-then-undo-clause-shows g c clean M shown =
     let before : is_closed c.self.inside.last ≡ false = search rules in
     undone_shows g.S.Store c.self.inside.conn c.undo.new.conn (summary_shown c.self.inside.summary) c.self.inside.filing c.self.inside.last before c.self.invariant.0 c.undo.ensures.survives c.undo.ensures.undone c.self.inside.last
-    M (subst (λ (d : DeskState _). Shows g.S.Store d M) (sym c.self.view_is) shown)
+    c.self.inside.indexes c.self.inside.texts M (subst (λ (d : DeskState _). Shows g.S.Store d M) (sym c.self.view_is) shown)
 
 pub returns-clause-undone : goal.returns-clause-undone
 returns-clause-undone g c clean = subst (λ (d : DeskState _). Undoes g.S.Store d.conn c.undo.new.conn) c.self.view_is (c.undo.ensures.undone clean)

@@ -1,68 +1,35 @@
-use Rattle.std.proofs.Common.{◌≡◌, false, sym, ap, subst, ◌∙◌}
-use Rattle.std.specs.Prelude.{IsTrue}
-use Rattle.dict_index.specs.Edition.{Edition}
-use Rattle.sqlite.specs.Held.{state}
-use Rattle.sqlite.specs.State.{HasCleanDisk}
+use Rattle.std.proofs.Common.{◌≡◌, false, refl, sym, ap, subst, rules}
 use Rattle.dict_catalogue.specs.Views.{summary_shown}
-use Rattle.dict_store.specs.Kept.{IsAwake}
-use Rattle.dict_lookup.specs.Searches.{column_of}
-use Rattle.dict_lookup.proofs.HeldLemmas.{held_one, held_tables}
 use Rattle.dict_store.specs.Desk.{DeskState, Shows, LeavesOneOf, is_closed}
-use Rattle.dict_store.specs.Prepared.{IsAlike, Undoes}
-use Rattle.dict_store.proofs.CauseLemmas.{lookup_gives_way}
-use Rattle.dict_store.proofs.DeskLemmas.{clean_behind, continues_by, leaves_on, desk_still, handed_by, shows_on, held}
-use Rattle.dict_desk.specs.Handing.{Hands}
-use Rattle.dict_desk.specs.Shown.{headword_rows}
+use Rattle.dict_store.proofs.CauseLemmas.{memory_gives_way}
+use Rattle.dict_store.proofs.DeskLemmas.{texts_keep}
+use Rattle.dict_store.proofs.PreparingLemmas.{rests_as, shows_as}
+use Rattle.dict_store.proofs.ServedLemmas.{served_one}
+use Rattle.dict_store.specs.Kept.{KeepsTexts}
 use Rattle.dict_store.proofs.lookups.DeskLookup.heads.Goals as goal
-
-pub heads_or_kept-outcome-requires : goal.heads_or_kept-outcome-requires
-heads_or_kept-outcome-requires g c = λ clean live.
-    let before : is_closed c.self.inside.last ≡ false = ap is_closed (ap (λ (d : DeskState _). d.last) c.self.view_is ∙ c.in_ok-make_ready.ensures.last) ∙ c.in_ok-make_ready.ensures.open in
-    held_tables (state g.S.Store c.self.inside.conn).now (c.self.invariant.0.own before clean live)
 
 pub invariant_of-self : goal.invariant_of-self
 invariant_of-self g c =
-    let before : is_closed c.self.inside.last ≡ false = ap is_closed (ap (λ (d : DeskState _). d.last) c.self.view_is ∙ c.in_ok-make_ready.ensures.last) ∙ c.in_ok-make_ready.ensures.open in
-    let awake : HasCleanDisk (state g.S.Store c.heads_or_kept-outcome.new.conn) → IsAwake c.self.inside.cache.counted (state g.S.Store c.self.inside.conn) = λ clean. c.self.invariant.1.awake before (clean_behind (state g.S.Store c.self.inside.conn) (state g.S.Store c.heads_or_kept-outcome.new.conn) c.heads_or_kept-outcome.ensures.survives clean) in
-    desk_still g.S.Store c.self.inside.conn c.heads_or_kept-outcome.new.conn (summary_shown c.self.inside.summary) c.self.inside.filing c.self.inside.last c.last_by-self-inside.result before c.self.invariant.0 c.heads_or_kept-outcome.ensures.survives
-    (λ clean. continues_by (column_of c.args.number) (state g.S.Store c.self.inside.conn) (state g.S.Store c.heads_or_kept-outcome.new.conn) c.heads_or_kept-outcome.result (c.heads_or_kept-outcome.ensures.same clean (awake clean)) (c.heads_or_kept-outcome.ensures.failed clean)) c.heads_or_kept-outcome.ensures.mode
-    c.heads_or_kept-outcome.result c.last_by-self-inside.ensures c.heads_or_kept-outcome.ensures.kinds (λ clean. c.heads_or_kept-outcome.ensures.same clean (awake clean)) c.self.inside.cache c.forget_by.new.cache c.forget_by.ensures c.self.invariant.1
-
-pub returns-clause-trust : goal.returns-clause-trust
-returns-clause-trust g c = λ clean. clean_behind (state g.S.Store c.args.self.now.conn) (state g.S.Store c.make_ready.new.self.conn) c.make_ready.ensures.survives (subst (λ (d : DeskState _). HasCleanDisk (state g.S.Store d.conn)) c.self.view_is (clean_behind (state g.S.Store c.self.inside.conn) (state g.S.Store c.heads_or_kept-outcome.new.conn) c.heads_or_kept-outcome.ensures.survives clean))
+    let before : is_closed c.self.inside.last ≡ false = search rules in (
+      rests_as g.S.Store (summary_shown c.self.inside.summary) c.self.inside.filing c.self.inside.last c.last_by-self-inside.result c.self.inside.conn before c.self.invariant.0 c.self.inside.filing (c.self.invariant.0.filed before),
+      subst (KeepsTexts c.last_by-self-inside.result (summary_shown c.self.inside.summary)) (sym c.forget_by.ensures) (texts_keep c.last_by-self-inside.result (summary_shown c.self.inside.summary) c.self.inside.texts c.self.invariant.1.made),
+    )
 
 pub returns-clause-shows : goal.returns-clause-shows
 returns-clause-shows g c = λ clean M shown.
-    let before : is_closed c.self.inside.last ≡ false = ap is_closed (ap (λ (d : DeskState _). d.last) c.self.view_is ∙ c.in_ok-make_ready.ensures.last) ∙ c.in_ok-make_ready.ensures.open in
-    let awake : HasCleanDisk (state g.S.Store c.heads_or_kept-outcome.new.conn) → IsAwake c.self.inside.cache.counted (state g.S.Store c.self.inside.conn) = λ clean. c.self.invariant.1.awake before (clean_behind (state g.S.Store c.self.inside.conn) (state g.S.Store c.heads_or_kept-outcome.new.conn) c.heads_or_kept-outcome.ensures.survives clean) in
-    shows_on g.S.Store c.self.inside.conn c.heads_or_kept-outcome.new.conn (summary_shown c.self.inside.summary) c.self.inside.filing c.self.inside.last c.last_by-self-inside.result before c.self.invariant.0 c.heads_or_kept-outcome.ensures.survives
-    (λ clean. continues_by (column_of c.args.number) (state g.S.Store c.self.inside.conn) (state g.S.Store c.heads_or_kept-outcome.new.conn) c.heads_or_kept-outcome.result (c.heads_or_kept-outcome.ensures.same clean (awake clean)) (c.heads_or_kept-outcome.ensures.failed clean))
-    M (subst (λ (d : DeskState _). Shows g.S.Store d M) (sym c.self.view_is) (c.make_ready.ensures.shows (subst (λ (d : DeskState _). HasCleanDisk (state g.S.Store d.conn)) c.self.view_is (clean_behind (state g.S.Store c.self.inside.conn) (state g.S.Store c.heads_or_kept-outcome.new.conn) c.heads_or_kept-outcome.ensures.survives clean)) M shown))
+    let before : is_closed c.self.inside.last ≡ false = search rules in
+    shows_as g.S.Store (summary_shown c.self.inside.summary) c.self.inside.last c.last_by-self-inside.result c.self.inside.conn before c.self.inside.indexes c.self.inside.indexes (λ q. refl) c.self.inside.texts c.forget_by.new.texts c.forget_by.ensures M
+    (subst (λ (d : DeskState _). Shows g.S.Store d M) (sym c.self.view_is) shown)
 
 pub returns-clause-leaves : goal.returns-clause-leaves
-returns-clause-leaves g c = λ ms left.
-    let there = subst (λ (d : DeskState _). LeavesOneOf g.S.Store d ms) (sym c.self.view_is) (leaves_on g.S.Store c.args.self.now c.make_ready.new.self c.make_ready.ensures.survives ms left) in
-    leaves_on g.S.Store (record { conn = c.self.inside.conn; summary = summary_shown c.self.inside.summary; last = c.self.inside.last }) (record { conn = c.heads_or_kept-outcome.new.conn; summary = summary_shown c.self.inside.summary; last = c.last_by-self-inside.result }) c.heads_or_kept-outcome.ensures.survives ms there
+returns-clause-leaves g c = λ ms left. subst (λ (d : DeskState _). LeavesOneOf g.S.Store d ms) (sym c.self.view_is) left
+
+pub returns-clause-caused : goal.returns-clause-caused
+returns-clause-caused g c = λ clean.
+    memory_gives_way g.S.Store c.args.self.now (record { conn = c.self.inside.conn; summary = summary_shown c.self.inside.summary; last = c.last_by-self-inside.result; indexes = c.self.inside.indexes; texts = c.forget_by.new.texts }) (ap (λ (d : DeskState _). d.conn) c.self.view_is) c.heads_under-outcome.result c.heads_under-outcome.ensures.kinds
 
 pub returns-clause-value : goal.returns-clause-value
 returns-clause-value g c = λ clean M edition shown has.
-    let before : is_closed c.self.inside.last ≡ false = ap is_closed (ap (λ (d : DeskState _). d.last) c.self.view_is ∙ c.in_ok-make_ready.ensures.last) ∙ c.in_ok-make_ready.ensures.open in
-    let awake : HasCleanDisk (state g.S.Store c.heads_or_kept-outcome.new.conn) → IsAwake c.self.inside.cache.counted (state g.S.Store c.self.inside.conn) = λ clean. c.self.invariant.1.awake before (clean_behind (state g.S.Store c.self.inside.conn) (state g.S.Store c.heads_or_kept-outcome.new.conn) c.heads_or_kept-outcome.ensures.survives clean) in
-    let alike = subst (λ (d : DeskState _). HasCleanDisk (state g.S.Store d.conn) → IsTrue (state g.S.Store d.conn).is_open → IsAlike c.args.number (state g.S.Store d.conn).committed (state g.S.Store d.conn).now) (sym c.self.view_is) c.in_ok-make_ready.ensures.alike in
-    let holds = held g.S.Store c.self.inside.conn c.heads_or_kept-outcome.new.conn (summary_shown c.self.inside.summary) c.self.inside.filing c.self.inside.last c.last_by-self-inside.result before c.self.invariant.0 c.heads_or_kept-outcome.ensures.survives
-    (λ clean. continues_by (column_of c.args.number) (state g.S.Store c.self.inside.conn) (state g.S.Store c.heads_or_kept-outcome.new.conn) c.heads_or_kept-outcome.result (c.heads_or_kept-outcome.ensures.same clean (awake clean)) (c.heads_or_kept-outcome.ensures.failed clean))
-    M (subst (λ (d : DeskState _). Shows g.S.Store d M) (sym c.self.view_is) (c.make_ready.ensures.shows (subst (λ (d : DeskState _). HasCleanDisk (state g.S.Store d.conn)) c.self.view_is (clean_behind (state g.S.Store c.self.inside.conn) (state g.S.Store c.heads_or_kept-outcome.new.conn) c.heads_or_kept-outcome.ensures.survives clean)) M shown)) clean in
-    handed_by g.T.RowSink.takes g.T.RowSink.stops c.args.sink.now c.heads_or_kept-outcome.new.sink (headword_rows c.args.strategy c.args.query.now edition) c.heads_or_kept-outcome.result (state g.S.Store c.self.inside.conn).is_open
-    (λ live.
-    let one = held_one (state g.S.Store c.self.inside.conn).committed M c.args.number edition (holds live) has in
-    subst (λ (e : Edition). Hands g.T.RowSink.takes g.T.RowSink.stops c.args.sink.now c.heads_or_kept-outcome.new.sink (headword_rows c.args.strategy c.args.query.now e) c.heads_or_kept-outcome.result) (sym one.2)
-    (c.heads_or_kept-outcome.ensures.value clean (c.self.invariant.1.counted before (clean_behind (state g.S.Store c.self.inside.conn) (state g.S.Store c.heads_or_kept-outcome.new.conn) c.heads_or_kept-outcome.ensures.survives clean) live) one.0 ((alike (clean_behind (state g.S.Store c.self.inside.conn) (state g.S.Store c.heads_or_kept-outcome.new.conn) c.heads_or_kept-outcome.ensures.survives clean) live).one one.0 one.1)))
-    (c.heads_or_kept-outcome.ensures.shut clean (awake clean)) (g.met.T.RowSink.none c.args.sink.now)
-
-pub returns-clause-caused : goal.returns-clause-caused
-returns-clause-caused g c =
-    let before : is_closed c.self.inside.last ≡ false = ap is_closed (ap (λ (d : DeskState _). d.last) c.self.view_is ∙ c.in_ok-make_ready.ensures.last) ∙ c.in_ok-make_ready.ensures.open in
-    let alike = subst (λ (d : DeskState _). HasCleanDisk (state g.S.Store d.conn) → IsTrue (state g.S.Store d.conn).is_open → IsAlike c.args.number (state g.S.Store d.conn).committed (state g.S.Store d.conn).now) (sym c.self.view_is) c.in_ok-make_ready.ensures.alike in
-    lookup_gives_way g.S.Store c.args.self.now c.self.inside.conn c.heads_or_kept-outcome.new.conn (summary_shown c.self.inside.summary) c.self.inside.filing c.self.inside.last c.last_by-self-inside.result before c.self.invariant.0 c.heads_or_kept-outcome.ensures.survives
-    (λ clean. subst (λ (d : DeskState _). Undoes g.S.Store c.args.self.now.conn d.conn) (sym c.self.view_is) (c.make_ready.ensures.undone (subst (λ (d : DeskState _). HasCleanDisk (state g.S.Store d.conn)) c.self.view_is (clean_behind (state g.S.Store c.self.inside.conn) (state g.S.Store c.heads_or_kept-outcome.new.conn) c.heads_or_kept-outcome.ensures.survives clean))))
-    c.args.number alike c.heads_or_kept-outcome.result c.heads_or_kept-outcome.ensures.kinds c.heads_or_kept-outcome.ensures.failed
+    let ready = subst (λ (d : DeskState _). Shows g.S.Store d M) (sym c.self.view_is) shown in
+    let one = served_one g.S.Store (record { conn = c.self.inside.conn; summary = summary_shown c.self.inside.summary; last = c.self.inside.last; indexes = c.self.inside.indexes; texts = c.self.inside.texts }) M c.args.number edition has (ready.served clean) in
+    c.heads_under-outcome.ensures.value one.index edition one.stands one.is

@@ -1,15 +1,14 @@
-use Rattle.std.proofs.Common.{◌≡◌, ◌||◌, false, sym, ap, subst, ◌∙◌, inr}
+use Rattle.std.proofs.Common.{◌≡◌, ◌||◌, false, refl, sym, ap, subst, ◌∙◌, inr}
 use Rattle.std.specs.Prelude.{Ok, Err}
 use Rattle.sqlite.specs.Held.{state}
 use Rattle.sqlite.specs.State.{HasCleanDisk, KeepsCommit}
 use Rattle.dict_catalogue.specs.Views.{summary_shown}
 use Rattle.dict_desk.specs.declared.fault.Fault.TheVariants.{Memory}
 use Rattle.dict_store.specs.Desk.{DeskState, Shows, LeavesOneOf, has_failed, is_closed}
-use Rattle.dict_store.specs.Kept.{KeepsCache}
-use Rattle.dict_store.specs.declared.kept.Cache.{Cache}
+use Rattle.dict_store.specs.Kept.{KeepsTexts}
 use Rattle.dict_store.specs.declared.last.LastCall.TheVariants.{Failed}
-use Rattle.dict_store.proofs.DeskLemmas.{leaves_on}
-use Rattle.dict_store.proofs.PreparingLemmas.{failed_keeps, or_false, or_true, planned_filed, rests_as, shows_as, undoes_keep, open_closed}
+use Rattle.dict_store.proofs.DeskLemmas.{leaves_on, texts_keep}
+use Rattle.dict_store.proofs.PreparingLemmas.{or_false, or_true, planned_filed, rests_as, shows_as, undoes_keep, open_closed}
 use Rattle.dict_store.proofs.preparing.DeskPreparer.expect.Goals as goal
 
 pub plan_filing-requires : goal.plan_filing-requires
@@ -26,7 +25,7 @@ pub invariant_of-self-in-Err : goal.invariant_of-self-in-Err
 invariant_of-self-in-Err g c =
     let before : is_closed c.self.inside.last ≡ false = ap is_closed (ap (λ (d : DeskState _). d.last) c.self.view_is ∙ c.in_ok-withdraw.ensures.last) ∙ c.in_ok-withdraw.ensures.open in (
       rests_as g.S.Store (summary_shown c.self.inside.summary) c.self.inside.filing c.self.inside.last Failed c.self.inside.conn before c.self.invariant.0 c.self.inside.filing (c.self.invariant.0.filed before),
-      subst (λ (cache : Cache). KeepsCache g.S.Store Failed (summary_shown c.self.inside.summary) cache c.self.inside.conn) (sym c.forget_by.ensures) (failed_keeps g.S.Store (summary_shown c.self.inside.summary) c.self.inside.cache c.self.inside.conn),
+      subst (KeepsTexts Failed (summary_shown c.self.inside.summary)) (sym c.forget_by.ensures) (texts_keep Failed (summary_shown c.self.inside.summary) c.self.inside.texts c.self.invariant.1.made),
     )
 
 pub returns-in-Ok-clause-shows : goal.returns-in-Ok-clause-shows
@@ -46,7 +45,7 @@ returns-in-Ok-clause-closes g c = ap is_closed (ap (λ (d : DeskState _). d.last
 pub returns-in-Err-clause-shows : goal.returns-in-Err-clause-shows
 returns-in-Err-clause-shows g c = λ clean M shown.
     let before : is_closed c.self.inside.last ≡ false = ap is_closed (ap (λ (d : DeskState _). d.last) c.self.view_is ∙ c.in_ok-withdraw.ensures.last) ∙ c.in_ok-withdraw.ensures.open in
-    shows_as g.S.Store (summary_shown c.self.inside.summary) c.self.inside.last Failed c.self.inside.conn before M
+    shows_as g.S.Store (summary_shown c.self.inside.summary) c.self.inside.last Failed c.self.inside.conn before c.self.inside.indexes c.self.inside.indexes (λ q. refl) c.self.inside.texts c.forget_by.new.texts c.forget_by.ensures M
     (subst (λ (d : DeskState _). Shows g.S.Store d M) (sym c.self.view_is) (c.withdraw.ensures.shows (subst (λ (d : DeskState _). HasCleanDisk (state g.S.Store d.conn)) c.self.view_is clean) M shown))
 
 pub returns-in-Err-clause-leaves : goal.returns-in-Err-clause-leaves
