@@ -5,6 +5,7 @@ ghost use Rattle.dict_index.specs.Edition.{edition_of};
 ghost use Rattle.dict_catalogue.specs.Commands.{install};
 ghost use Rattle.dict_session.specs.Desks.{Stays};
 ghost use Rattle.dict_actions.specs.Changing.{IsChanged};
+ghost use Rattle.dict_actions.specs.Files.{IsInOrder, NamesNoFile};
 ghost use Rattle.dict_actions.specs.Installing.{InstallEnds, InstallsFiles, InstallsRead};
 
 use crate::changing::{change, tell_kept};
@@ -26,8 +27,8 @@ pub struct InstallRequest<'w> {
 
 /// Installs the edition that an index and a text make, under the id of its request, and writes the reply as a line of JSON.
 ///
-/// Where a reply is kept under the id, it is written again, and neither file is read. Where `Memory` is told, nothing was
-/// changed.
+/// Where a reply is kept under the id, it is written again, and neither file is read. Else the index is read before the text,
+/// and both before what they say is refused. Where `Memory` is told, nothing was changed.
 pub fn install<'w, K: Keeper, I: InputFiles, W: Sink>(
     alloc: Global,
     desk: &mut K,
@@ -39,6 +40,7 @@ pub fn install<'w, K: Keeper, I: InputFiles, W: Sink>(
     ensures installed { InstallEnds K.shows K.leaves_one_of K.is_trusted K.is_closed (I.octets files.now) desk.old desk.new wanted.entry.name.now id.now
         wanted.entry.index.now wanted.entry.text.now result (change W.stream writer.old writer.new) }
     ensures memory { result ≡ Err ProgramFault.Memory → Stays K.shows K.leaves_one_of K.is_trusted K.is_closed desk.old desk.new }
+    ensures order { IsInOrder (I.reads files.now) (I.refuses files.now) wanted.entry.index.now wanted.entry.text.now result }
 {
     match desk.kept(id) {
         Ok(Some(kept)) => tell_kept(&kept, writer),
@@ -59,6 +61,7 @@ fn install_files<'w, K: Keeper, I: InputFiles, W: Sink>(
     ensures installed { InstallsFiles K.shows K.leaves_one_of K.is_trusted K.is_closed (I.octets files.now) desk.old desk.new wanted.entry.name.now id.now
         wanted.entry.index.now wanted.entry.text.now result (change W.stream writer.old writer.new) }
     ensures memory { result ≡ Err ProgramFault.Memory → Stays K.shows K.leaves_one_of K.is_trusted K.is_closed desk.old desk.new }
+    ensures order { IsInOrder (I.reads files.now) (I.refuses files.now) wanted.entry.index.now wanted.entry.text.now result }
 {
     let index = read_file(files, wanted.index)?;
     let text = read_file(files, wanted.text)?;
@@ -78,6 +81,7 @@ fn install_octets<K: Keeper, W: Sink>(
     ensures installed { InstallsRead K.shows K.leaves_one_of K.is_trusted K.is_closed desk.old desk.new name.now id.now index.items text.items result
         (change W.stream writer.old writer.new) }
     ensures memory { result ≡ Err ProgramFault.Memory → Stays K.shows K.leaves_one_of K.is_trusted K.is_closed desk.old desk.new }
+    ensures files { NamesNoFile result }
 {
     let edition = match read_edition(alloc, &index, &text) {
         Ok(edition) => edition,
@@ -97,6 +101,7 @@ fn install_edition<K: Keeper, W: Sink>(
     ensures changed { IsChanged K.shows K.leaves_one_of K.is_trusted desk.old desk.new id.now (install name.now (edition_of edition.now)) result
         (change W.stream writer.old writer.new) }
     ensures memory { result ≡ Err ProgramFault.Memory → Stays K.shows K.leaves_one_of K.is_trusted K.is_closed desk.old desk.new }
+    ensures files { NamesNoFile result }
 {
     let command = Command::Install { name, edition };
     change(desk, id, &command, writer)

@@ -1,5 +1,5 @@
 // What the tests read from and write to.
-ghost use Rattle.std.specs.Prelude.{None};
+ghost use Rattle.std.specs.Prelude.{None, ⊤};
 
 use dict_actions::{InputFiles, ReadFault};
 use dict_desk::PlainDesk;
@@ -24,6 +24,10 @@ struct Examples {
 
 impl InputFiles for Examples {
     ghost octets = { λ _ _. None };
+
+    ghost reads = { λ _ _. ⊤ };
+
+    ghost refuses = { λ _ _ _. ⊤ };
 
     fn read(&self, path: &str) -> Result<Vec<u8>, ReadFault> {
         let octets = match path {
