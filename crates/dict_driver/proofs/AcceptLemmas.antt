@@ -1,5 +1,5 @@
 -- What comes of a listening socket.
-use Rattle.std.proofs.Common.{◌≡◌, ◌<◌, ◌+◌, ℕ, Bool, true, false, List, [], ◌∷◌, ◌++◌, refl, sym, ap, ◌∙◌, subst, inl, inr, append_assoc, append-nil}
+use Rattle.std.proofs.Common.{◌≡◌, ◌<◌, ◌+◌, ℕ, zero, suc, Bool, true, false, List, [], ◌∷◌, ◌++◌, refl, sym, ap, ◌∙◌, subst, inl, inr, arith, append_assoc, append-nil}
 use Rattle.std.specs.Prelude.{Option, Some, None, Ok, Err, option_map, vec_len}
 use Rattle.std.specs.IoError.{error_kind}
 use Rattle.std.specs.declared.io.Error.{Error}
@@ -10,7 +10,7 @@ use Rattle.dict_hub.specs.declared.hub.Hub.{Hub}
 use Rattle.dict_hub.specs.declared.kind.Kind.{Kind}
 use Rattle.dict_hub.specs.declared.kind.Kind.TheVariants.{Dict, Http}
 use Rattle.dict_outlet.specs.declared.transport.Transport as transport
-use Rattle.dict_driver.specs.Accepting.{Accepts, AcceptsOne, AcceptsUnless, HasAccepted, HasLetIn, Takes}
+use Rattle.dict_driver.specs.Accepting.{Accepts, AcceptsOne, AcceptsUnless, AcceptsUpTo, HasAccepted, HasAsked, HasLetIn, Takes}
 use Rattle.dict_driver.specs.Asking.{Asking, Asks, accepts, watches}
 use Rattle.dict_driver.specs.Listening.{is_ready, listening_by, may_accept}
 use Rattle.dict_driver.specs.Looking.{listening_of}
@@ -35,6 +35,11 @@ pub not_ready : (before : Listening) → may_accept before ≡ false → is_read
 not_ready Ready isnt = absurd (let never : true ≡ false = isnt in cc)
 not_ready Quiet isnt = refl
 not_ready Failed isnt = refl
+
+pub ready_is : (listening : Listening) → is_ready listening ≡ true → listening ≡ Ready
+ready_is Ready is = refl
+ready_is Quiet is = absurd (let never : false ≡ true = is in cc)
+ready_is Failed is = absurd (let never : false ≡ true = is in cc)
 
 -- a failed call is to be made again at once where the socket is ready still
 pub ready_by : (listening : Listening) (again : Bool) → (again ≡ true → listening ≡ Ready) → (listening ≡ Ready → again ≡ true) → again ≡ is_ready listening
@@ -61,20 +66,29 @@ module _ {T : Type 0} {G : transport.Ghosts T} (refuses : Hub → ℕ → Kind �
   unless_none true before after from to old new calls events isnt taken = absurd (let never : true ≡ false = isnt in cc)
   unless_none false before after from to old new calls events isnt taken = taken
 
-  accepts_one : (kind : Kind) (before after : Listening) (from to : Hub) (old new : Connections T G) (calls : List (Asking T)) (events : List Accepted) → may_accept before ≡ true
-      → AcceptsOne refuses kind after from to old new calls events → Accepts refuses kind before after from to old new calls events
-  accepts_one kind Ready after from to old new calls events may one = one
-  accepts_one kind Quiet after from to old new calls events may one = absurd (let never : true ≡ false = sym may in cc)
-  accepts_one kind Failed after from to old new calls events may one = one
+  -- no call more, since the last one didn't leave it ready, or none is left
+  pub accepts_no_more : (most : ℕ) (kind : Kind) (before : Listening) (hub : Hub) (all : Connections T G) → (is_ready before ≡ true → most ≡ 0) → AcceptsUpTo refuses most kind before before hub hub all all [] []
+  accepts_no_more zero kind Ready hub all last = (refl, refl, refl, refl, λ other held has. has)
+  accepts_no_more zero kind Quiet hub all last = (refl, refl, refl, refl, λ other held has. has)
+  accepts_no_more zero kind Failed hub all last = (refl, refl, refl, refl, λ other held has. has)
+  accepts_no_more (suc most) kind Ready hub all last = absurd (let never : suc most ≡ 0 = last refl in omega (arith, never))
+  accepts_no_more (suc most) kind Quiet hub all last = (refl, refl, refl, refl, λ other held has. has)
+  accepts_no_more (suc most) kind Failed hub all last = (refl, refl, refl, refl, λ other held has. has)
+
+  pub accepts_up_to : (kind : Kind) (before after : Listening) (from to : Hub) (old new : Connections T G) (calls : List (Asking T)) (events : List Accepted) → may_accept before ≡ true
+      → AcceptsUpTo refuses 16 kind Ready after from to old new calls events → Accepts refuses kind before after from to old new calls events
+  accepts_up_to kind Ready after from to old new calls events may taken = taken
+  accepts_up_to kind Quiet after from to old new calls events may taken = absurd (let never : true ≡ false = sym may in cc)
+  accepts_up_to kind Failed after from to old new calls events may taken = taken
 
   -- one that was asked, and gave a connection
-  pub accepted_one : (kind : Kind) (before after : Listening) (transport : T) (a b c : Option (List (Asking T))) (from by to : Hub) (old between new : Connections T G) (events : List Accepted) → may_accept before ≡ true
+  pub accepted_one : (kind : Kind) (after : Listening) (transport : T) (a b c : Option (List (Asking T))) (from by to : Hub) (old between new : Connections T G) (events : List Accepted)
       → after ≡ Ready → by ≡ from → between ≡ old → Asks a b (accepts kind (Ok transport) ∷ []) → (calls : List (Asking T)) × Asks b c calls × Takes refuses transport kind by to between new calls events
-      → (calls : List (Asking T)) × Asks a c calls × Accepts refuses kind before after from to old new calls events
-  accepted_one kind before after transport a b c from by to old between new events may ready still same asked (calls, more, takes) = (
+      → (calls : List (Asking T)) × Asks a c calls × AcceptsOne refuses kind after from to old new calls events
+  accepted_one kind after transport a b c from by to old between new events ready still same asked (calls, more, takes) = (
     accepts kind (Ok transport) ∷ calls,
     asks_joined a b c (accepts kind (Ok transport) ∷ []) calls asked more,
-    accepts_one kind before after from to old new (accepts kind (Ok transport) ∷ calls) events may (
+    (
       Ok transport,
       calls,
       refl,
@@ -87,14 +101,13 @@ module _ {T : Type 0} {G : transport.Ghosts T} (refuses : Hub → ℕ → Kind �
   )
 
   -- and that gave an error
-  pub accepted_none : (kind : Kind) (before after : Listening) (error : Error) (a b : Option (List (Asking T))) (from to : Hub) (old new : Connections T G) → may_accept before ≡ true
+  pub accepted_none : (kind : Kind) (after : Listening) (error : Error) (a b : Option (List (Asking T))) (from to : Hub) (old new : Connections T G)
       → after ≡ listening_by (error_kind error) → to ≡ from → new ≡ old → Asks a b (accepts kind (Err error) ∷ [])
-      → (calls : List (Asking T)) × Asks a b calls × Accepts refuses kind before after from to old new calls []
-  accepted_none kind before after error a b from to old new may after_is still same asked = (
+      → (calls : List (Asking T)) × Asks a b calls × AcceptsOne refuses kind after from to old new calls []
+  accepted_none kind after error a b from to old new after_is still same asked = (
     accepts kind (Err error) ∷ [],
     asked,
-    accepts_one kind before after from to old new (accepts kind (Err error) ∷ []) [] may
-        (Err error, [], refl, (after_is, refl, same, refl, λ other held has. subst (λ (h : Hub). Has h other held) (sym still) has)),
+    (Err error, [], refl, (after_is, refl, same, refl, λ other held has. subst (λ (h : Hub). Has h other held) (sym still) has)),
   )
 
   -- there was no place for a connection
@@ -133,4 +146,44 @@ module _ {T S : Type 0} {G : transport.Ghosts T} where
     calls,
     so,
     unless_none refuses (any_held_back a.connections.opened.items) a.http_listening b.http_listening a.hub b.hub a.connections b.connections calls events isnt taken,
+  )
+
+module _ {T S : Type 0} {G : transport.Ghosts T} (refuses : Hub → ℕ → Kind → Option HubFault → Type 0) (asked : S → Option (List (Asking T))) where
+  -- Some of the calls were made, of which the last left the socket so: whatever comes of those that are left, at most so many, comes of all
+  -- behind what came of these
+  abbrev pub HasBegun : ℕ → Kind → Listening → EventLoop T S G → EventLoop T S G → List Accepted → Type 0
+  HasBegun left kind last old now events =
+      (calls : List (Asking T)) × Asks (asked old.sockets) (asked now.sockets) calls
+      × ((after : Listening) (hub : Hub) (new : Connections T G) (more : List (Asking T)) (openings : List Accepted)
+      → AcceptsUpTo refuses left kind last after now.hub hub now.connections new more openings
+      → AcceptsUpTo refuses 16 kind Ready after old.hub hub old.connections new (calls ++ more) (events ++ openings))
+
+  pub begun_none : (kind : Kind) (a : EventLoop T S G) → HasBegun 16 kind Ready a a []
+  begun_none kind a = ([], asks_none (asked a.sockets), λ after hub new more openings then. then)
+
+  -- one call more
+  pub begun_more : (n left : ℕ) (kind : Kind) (a b c : EventLoop T S G) (es fs : List Accepted) → n ≡ suc left → HasBegun n kind Ready a b es → HasAsked refuses asked kind b c fs
+      → HasBegun left kind (listening_of kind c) a c (es ++ fs)
+  begun_more n left kind a b c es fs is (calls, so, goes) (first, then, one) = (
+    calls ++ first,
+    asks_joined (asked a.sockets) (asked b.sockets) (asked c.sockets) calls first so then,
+    λ after hub new more openings rest.
+        subst (λ (l : List (Asking T)). AcceptsUpTo refuses 16 kind Ready after a.hub hub a.connections new l ((es ++ fs) ++ openings)) (sym (append_assoc calls first more))
+        (subst (λ (l : List Accepted). AcceptsUpTo refuses 16 kind Ready after a.hub hub a.connections new (calls ++ (first ++ more)) l) (sym (append_assoc es fs openings))
+        (goes after hub new (first ++ more) (fs ++ openings)
+        (subst (λ (m : ℕ). AcceptsUpTo refuses m kind Ready after b.hub hub b.connections new (first ++ more) (fs ++ openings)) (sym is)
+        (listening_of kind c, c.hub, c.connections, first, more, fs, openings, refl, refl, one, rest)))),
+  )
+
+  -- and none more
+  pub begun_whole : (left : ℕ) (kind : Kind) (last : Listening) (a b : EventLoop T S G) (es : List Accepted) → listening_of kind b ≡ last → (is_ready last ≡ true → left ≡ 0) → may_accept (listening_of kind a) ≡ true
+      → HasBegun left kind last a b es → HasAccepted refuses asked kind a b es
+  begun_whole left kind last a b es same none may (calls, so, goes) = (
+    calls,
+    so,
+    accepts_up_to refuses kind (listening_of kind a) (listening_of kind b) a.hub b.hub a.connections b.connections calls es may
+        (subst (λ (l : Listening). AcceptsUpTo refuses 16 kind Ready l a.hub b.hub a.connections b.connections calls es) (sym same)
+        (subst (λ (l : List (Asking T)). AcceptsUpTo refuses 16 kind Ready last a.hub b.hub a.connections b.connections l es) (append-nil calls)
+        (subst (λ (l : List Accepted). AcceptsUpTo refuses 16 kind Ready last a.hub b.hub a.connections b.connections (calls ++ []) l) (append-nil es)
+        (goes last b.hub b.connections [] [] (accepts_no_more refuses left kind last b.hub b.connections none))))),
   )

@@ -22,11 +22,12 @@ or_swap false true c = refl
 or_swap false false c = refl
 
 -- none of them is so
-pub none_of : (a b c : Bool) → a || (b || c) ≡ false → (a ≡ false) × (b ≡ false) × (c ≡ false)
-none_of true b c is = absurd (let never : true ≡ false = is in cc)
-none_of false true c is = absurd (let never : true ≡ false = is in cc)
-none_of false false true is = absurd (let never : true ≡ false = is in cc)
-none_of false false false is = (refl, refl, refl)
+pub none_of : (a b c d : Bool) → a || (b || (c || d)) ≡ false → (a ≡ false) × (b ≡ false) × (c ≡ false) × (d ≡ false)
+none_of true b c d is = absurd (let never : true ≡ false = is in cc)
+none_of false true c d is = absurd (let never : true ≡ false = is in cc)
+none_of false false true d is = absurd (let never : true ≡ false = is in cc)
+none_of false false false true is = absurd (let never : true ≡ false = is in cc)
+none_of false false false false is = (refl, refl, refl, refl)
 
 -- one more of a list
 pub any_more : (moves : List Bool) (one : Bool) → any (moves ++ one ∷ []) ≡ any moves || one

@@ -1,5 +1,6 @@
 pub mod BoolLemmas
 pub mod OrderLemmas
+pub mod OpeningLemmas
 pub mod ListLemmas
 pub mod RoundLemmas
 pub mod SettleLemmas

@@ -1,11 +1,12 @@
 -- In which order events are handed to the hub.
-use Rattle.std.proofs.Common.{◌≤◌, ◌<◌, ℕ, List, [], ◌∷◌, ◌++◌, refl, arith, append_assoc}
-use Rattle.dict_hub.specs.Events.{id_of}
+use Rattle.std.proofs.Common.{◌≡◌, ◌≤◌, ◌<◌, ◌+◌, ℕ, List, [], ◌∷◌, ◌++◌, length, length-append, refl, sym, subst, arith, append_assoc}
+use Rattle.dict_hub.specs.Events.{id_of, opened}
 use Rattle.dict_hub.specs.Runs.{Accepted}
+use Rattle.dict_hub.specs.declared.kind.Kind.{Kind}
 use Rattle.dict_hub.specs.declared.kind.Kind.TheVariants.{Dict, Http}
 use Rattle.dict_connection.specs.Events.{AreOf}
 use Rattle.dict_connection.specs.Ordering.{AreOfTurns}
-use Rattle.dict_driver.specs.Ordering.{IsOpeningOf, AreFrom, ComeById, AreOfRound}
+use Rattle.dict_driver.specs.Ordering.{AreOpeningsFrom, AreFrom, ComeById, AreOfRound}
 
 -- each event is of a lesser id
 abbrev pub AreBelow : ℕ → List Accepted → Type 0
@@ -35,19 +36,67 @@ by_id_joined own [] fs by_id below of = by_id_of own fs of
 by_id_joined own (one ∷ es) fs (from, by_id) (under, below) of =
     (from_joined (id_of one.what) own es fs (omega (arith, under)) from of, by_id_joined own es fs by_id below of)
 
+-- connections of this kind were opened, at most so many, by the ids behind this one up to that one
+pub record Openings (kind : Kind) (last now most : ℕ) (events : List Accepted) : Type 0 where
+  pub by_id : AreOpeningsFrom (last + 1) kind events
+  pub few : length events ≤ most
+  pub given : now ≡ last + length events
+
+pub openings_none : (kind : Kind) (last now most : ℕ) (events : List Accepted) → now ≡ last → events ≡ [] → Openings kind last now most events
+openings_none kind last now most events same none =
+    subst (λ (l : List Accepted). Openings kind last now most l) (sym none) (record { by_id = tt; few = omega arith; given = omega (arith, same) })
+
+pub openings_one : (kind : Kind) (last now : ℕ) (one : Accepted) (events : List Accepted) → events ≡ one ∷ [] → one.what ≡ opened (last + 1) kind → now ≡ last + 1 → Openings kind last now 1 events
+openings_one kind last now one events are is given =
+    subst (λ (l : List Accepted). Openings kind last now 1 l) (sym are) (record { by_id = (is, tt); few = omega arith; given = omega (arith, given) })
+
+ids_joined : (id next : ℕ) (kind : Kind) (es fs : List Accepted) → next ≡ id + length es → AreOpeningsFrom id kind es → AreOpeningsFrom next kind fs → AreOpeningsFrom id kind (es ++ fs)
+ids_joined id next kind [] fs is first then = subst (λ (i : ℕ). AreOpeningsFrom i kind fs) (omega (arith, is)) then
+ids_joined id next kind (one ∷ es) fs is (here, first) then = (here, ids_joined (id + 1) next kind es fs (omega (arith, is)) first then)
+
+pub openings_joined : (kind : Kind) (a b c m n : ℕ) (es fs : List Accepted) → Openings kind a b m es → Openings kind b c n fs → Openings kind a c (m + n) (es ++ fs)
+openings_joined kind a b c m n es fs first then =
+    let len = length-append es fs in
+    let one = first.given in
+    let two = then.given in
+    let few = first.few in
+    let few_more = then.few in
+    record {
+      by_id = ids_joined (a + 1) (b + 1) kind es fs (omega (arith, one)) first.by_id then.by_id;
+      few = omega (arith, len, few, few_more);
+      given = omega (arith, len, one, two);
+    }
+
 -- a round in which nothing happened
 pub round_none : AreOfRound []
-round_none = record { readers = []; editors = []; turns = []; whole = refl; dict = tt; http = tt; are_turns = tt; by_id = tt }
-
--- a reader's opening, then an editor's, then turns
-pub round_whole : (readers editors turns : List Accepted) → IsOpeningOf Dict readers → IsOpeningOf Http editors → AreOfTurns turns → ComeById turns → AreOfRound ((readers ++ editors) ++ turns)
-round_whole readers editors turns dict http are by_id = record {
-  readers = readers;
-  editors = editors;
-  turns = turns;
-  whole = append_assoc readers editors turns;
-  dict = dict;
-  http = http;
-  are_turns = are;
-  by_id = by_id;
+round_none = record {
+  first = 0;
+  readers = [];
+  editors = [];
+  turns = [];
+  whole = refl;
+  dict = tt;
+  http = tt;
+  few_readers = omega arith;
+  few_editors = omega arith;
+  are_turns = tt;
+  by_id = tt;
 }
+
+-- readers' openings, then editors', then turns
+pub round_whole : (a b c : ℕ) (readers editors turns : List Accepted) → Openings Dict a b 16 readers → Openings Http b c 16 editors → AreOfTurns turns → ComeById turns → AreOfRound ((readers ++ editors) ++ turns)
+round_whole a b c readers editors turns dict http are by_id =
+    let given = dict.given in
+    record {
+      first = a + 1;
+      readers = readers;
+      editors = editors;
+      turns = turns;
+      whole = append_assoc readers editors turns;
+      dict = dict.by_id;
+      http = subst (λ (i : ℕ). AreOpeningsFrom i Http editors) (omega (arith, given)) http.by_id;
+      few_readers = dict.few;
+      few_editors = http.few;
+      are_turns = are;
+      by_id = by_id;
+    }

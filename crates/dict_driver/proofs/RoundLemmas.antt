@@ -20,7 +20,7 @@ use Rattle.dict_connection.specs.Stages.{is_departing, is_held, is_open}
 use Rattle.dict_connection.specs.Events.{AreOf}
 use Rattle.dict_outlet.specs.Calls.{Call}
 use Rattle.dict_connection.specs.Ordering.{AreOfTurns}
-use Rattle.dict_driver.specs.Ordering.{ComeById, IsOpeningOf}
+use Rattle.dict_driver.specs.Ordering.{ComeById}
 use Rattle.dict_hub.specs.declared.kind.Kind.{Kind}
 use Rattle.dict_session.specs.Desks.{Condition}
 use Rattle.dict_hub.specs.declared.fault.HubFault.{HubFault}
@@ -480,9 +480,6 @@ moves_marked is_told a b opened departing id octets (inr is) = inr (marked_among
 -- what the opening of a connection is
 pub opened_own : {T : Type 0} (id : ℕ) (kind : Kind) (hub : Hub) (one : Connection T) (events : List Accepted) → IsOpened id kind hub one events → AreOf id events
 opened_own id kind hub one events (accepted, are, is, stage, has, put, count) = rw are (ap id_of is, tt)
-
-pub opened_is : {T : Type 0} (id : ℕ) (kind : Kind) (hub : Hub) (one : Connection T) (events : List Accepted) → IsOpened id kind hub one events → IsOpeningOf kind events
-opened_is id kind hub one events (accepted, are, is, stage, has, put, count) = rw are (id, is)
 
 pub opened_flows : {T : Type 0} (id : ℕ) (kind : Kind) (hub : Hub) (one : Connection T) (events : List Accepted) → IsOpened id kind hub one events → Flows [] events (waiting one.queue)
 opened_flows id kind hub one events (accepted, are, is, stage, has, put, count) = record { sent = []; put = waiting one.queue; are_put = put; order = refl }

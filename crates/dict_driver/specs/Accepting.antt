@@ -1,5 +1,5 @@
 -- What comes of a listening socket in a round.
-use Rattle.std.specs.Prelude.{◌≡◌, ◌⊎◌, ◌+◌, ◌<◌, ℕ, Bool, true, false, List, [], ◌∷◌, Option, Result, Ok, Err, vec_len}
+use Rattle.std.specs.Prelude.{◌≡◌, ◌⊎◌, ◌+◌, ◌<◌, ℕ, suc, Bool, true, false, List, [], ◌∷◌, ◌++◌, Option, Result, Ok, Err, vec_len}
 use Rattle.std.specs.IoError.{error_kind}
 use Rattle.std.specs.declared.io.Error.{Error}
 use Rattle.dict_hub.specs.Runs.{Accepted}
@@ -18,6 +18,10 @@ use Rattle.dict_driver.specs.declared.connections.Connections.{Connections}
 use Rattle.dict_driver.specs.declared.event_loop.EventLoop.{EventLoop}
 use Rattle.dict_driver.specs.declared.listening.Listening.{Listening}
 use Rattle.dict_driver.specs.declared.listening.Listening.TheVariants.{Ready, Quiet, Failed}
+
+-- a listening socket isn't asked, and all is as before
+abbrev pub AcceptsNone : {T : Type 0} {G : transport.Ghosts T} → Listening → Listening → Hub → Hub → Connections T G → Connections T G → List (Asking T) → List Accepted → Type 0
+AcceptsNone before after from to old new calls events = (after ≡ before) × (calls ≡ []) × (new ≡ old) × (events ≡ []) × KeepsEach from to
 
 -- By for which cause no connection of an id and a kind was opened in a hub.
 module _ {T : Type 0} {G : transport.Ghosts T} (refuses : Hub → ℕ → Kind → Option HubFault → Type 0) where
@@ -40,17 +44,26 @@ module _ {T : Type 0} {G : transport.Ghosts T} (refuses : Hub → ℕ → Kind �
   AcceptsOne kind after from to old new calls events =
       (result : Result T Error) × (more : List (Asking T)) × (calls ≡ accepts kind result ∷ more) × TakesBy result kind after from to old new more events
 
-  -- it is asked where a connection may wait there, or the last call failed
+  -- It is asked where a connection may wait there, and again as long as the call before left it so, at most so many times; and then no more.
+  -- The calls are those of each asking, and so are the events, in this order
+  abbrev pub AcceptsUpTo : ℕ → Kind → Listening → Listening → Hub → Hub → Connections T G → Connections T G → List (Asking T) → List Accepted → Type 0
+  AcceptsUpTo (suc most) kind Ready after from to old new calls events =
+      (between : Listening) × (hub : Hub) × (one : Connections T G) × (first : List (Asking T)) × (others : List (Asking T)) × (opening : List Accepted) × (openings : List Accepted)
+      × (calls ≡ first ++ others) × (events ≡ opening ++ openings)
+      × AcceptsOne kind between from hub old one first opening × AcceptsUpTo most kind between after hub to one new others openings
+  AcceptsUpTo most kind before after from to old new calls events = AcceptsNone before after from to old new calls events
+
+  -- it is asked, at most 16 times, where a connection may wait there, or the last call failed
   abbrev pub Accepts : Kind → Listening → Listening → Hub → Hub → Connections T G → Connections T G → List (Asking T) → List Accepted → Type 0
-  Accepts kind Ready after from to old new calls events = AcceptsOne kind after from to old new calls events
-  Accepts kind Failed after from to old new calls events = AcceptsOne kind after from to old new calls events
-  Accepts kind Quiet after from to old new calls events = (after ≡ Quiet) × (calls ≡ []) × (new ≡ old) × (events ≡ []) × KeepsEach from to
+  Accepts kind Ready after from to old new calls events = AcceptsUpTo 16 kind Ready after from to old new calls events
+  Accepts kind Failed after from to old new calls events = AcceptsUpTo 16 kind Ready after from to old new calls events
+  Accepts kind Quiet after from to old new calls events = AcceptsNone Quiet after from to old new calls events
 
   -- The socket for editors is asked so where no octets of one are held back. Where some are it isn't asked, and all stays, whether a
   -- connection may wait there too
   abbrev pub AcceptsUnless : Bool → Listening → Listening → Hub → Hub → Connections T G → Connections T G → List (Asking T) → List Accepted → Type 0
   AcceptsUnless false before after from to old new calls events = Accepts Http before after from to old new calls events
-  AcceptsUnless true before after from to old new calls events = (after ≡ before) × (calls ≡ []) × (new ≡ old) × (events ≡ []) × KeepsEach from to
+  AcceptsUnless true before after from to old new calls events = AcceptsNone before after from to old new calls events
 
 module _ {T S : Type 0} {G : transport.Ghosts T} (refuses : Hub → ℕ → Kind → Option HubFault → Type 0) (asked : S → Option (List (Asking T))) where
   -- this was asked of the sockets
@@ -58,6 +71,11 @@ module _ {T S : Type 0} {G : transport.Ghosts T} (refuses : Hub → ℕ → Kind
   HasTaken transport kind old new events =
       (calls : List (Asking T)) × Asks (asked old.sockets) (asked new.sockets) calls
       × Takes refuses transport kind old.hub new.hub old.connections new.connections calls events
+
+  abbrev pub HasAsked : Kind → EventLoop T S G → EventLoop T S G → List Accepted → Type 0
+  HasAsked kind old new events =
+      (calls : List (Asking T)) × Asks (asked old.sockets) (asked new.sockets) calls
+      × AcceptsOne refuses kind (listening_of kind new) old.hub new.hub old.connections new.connections calls events
 
   abbrev pub HasAccepted : Kind → EventLoop T S G → EventLoop T S G → List Accepted → Type 0
   HasAccepted kind old new events =

@@ -1,16 +1,15 @@
 -- The order of what one round hands to the hub.
-use Rattle.std.specs.Prelude.{◌≡◌, ◌≤◌, ℕ, List, [], ◌∷◌, ◌++◌, ⊤}
+use Rattle.std.specs.Prelude.{◌≡◌, ◌≤◌, ◌+◌, ℕ, List, [], ◌∷◌, ◌++◌, length, ⊤}
 use Rattle.dict_hub.specs.Events.{opened, id_of}
 use Rattle.dict_hub.specs.Runs.{Accepted}
 use Rattle.dict_hub.specs.declared.kind.Kind.{Kind}
 use Rattle.dict_hub.specs.declared.kind.Kind.TheVariants.{Dict, Http}
 use Rattle.dict_connection.specs.Ordering.{AreOfTurns}
 
--- a connection of this kind was opened, or none
-abbrev pub IsOpeningOf : Kind → List Accepted → Type 0
-IsOpeningOf kind [] = ⊤
-IsOpeningOf kind (one ∷ []) = (id : ℕ) × (one.what ≡ opened id kind)
-IsOpeningOf kind (one ∷ other ∷ events) = ⊥
+-- connections of this kind were opened, the first by this id, each other by the next one
+abbrev pub AreOpeningsFrom : ℕ → Kind → List Accepted → Type 0
+AreOpeningsFrom id kind [] = ⊤
+AreOpeningsFrom id kind (one ∷ events) = (one.what ≡ opened id kind) × AreOpeningsFrom (id + 1) kind events
 
 -- each event is of this id or of a greater one
 abbrev pub AreFrom : ℕ → List Accepted → Type 0
@@ -22,14 +21,17 @@ abbrev pub ComeById : List Accepted → Type 0
 ComeById [] = ⊤
 ComeById (one ∷ events) = AreFrom (id_of one.what) events × ComeById events
 
--- At most one reader's connection was opened, then at most one editor's, and then the open connections had their turns, in the order of
--- their ids
+-- At most 16 connections of readers were opened, then at most 16 of editors, each by the id behind the one before, and then the open
+-- connections had their turns, in the order of their ids
 pub record AreOfRound (events : List Accepted) : Type 0 where
+  pub first : ℕ
   pub readers : List Accepted
   pub editors : List Accepted
   pub turns : List Accepted
   pub whole : events ≡ readers ++ (editors ++ turns)
-  pub dict : IsOpeningOf Dict readers
-  pub http : IsOpeningOf Http editors
+  pub dict : AreOpeningsFrom first Dict readers
+  pub http : AreOpeningsFrom (first + length readers) Http editors
+  pub few_readers : length readers ≤ 16
+  pub few_editors : length editors ≤ 16
   pub are_turns : AreOfTurns turns
   pub by_id : ComeById turns

@@ -1,5 +1,5 @@
 // The connections of a driver.
-ghost use Rattle.std.specs.Prelude.{◌≡◌, ◌≢◌, ◌⊎◌, ◌≤◌, ◌<◌, ◌+◌, ℕ, List, [], false, All, IfOk, vec_len, vec_capacity, slice_index_or};
+ghost use Rattle.std.specs.Prelude.{◌≡◌, ◌≢◌, ◌⊎◌, ◌≤◌, ◌<◌, ◌+◌, ℕ, List, [], false, All, IfOk, nat_lt, vec_len, vec_capacity, slice_index_or};
 ghost use Rattle.std.specs.List.{AllPairs};
 ghost use Rattle.dict_connection.specs.Stages.{is_open};
 
@@ -48,7 +48,7 @@ impl<T: Transport> Connections<T> {
     ghost use Rattle.dict_connection.specs.Turns.{IsAtRest};
     ghost use Rattle.dict_driver.specs.Turning.{KeepsAllBut, MarkAll, any_held_back};
     ghost use Rattle.dict_connection.specs.Ordering.{AreOfTurns};
-    ghost use Rattle.dict_driver.specs.Ordering.{ComeById, IsOpeningOf};
+    ghost use Rattle.dict_driver.specs.Ordering.{ComeById};
 
     /// No connection was there yet.
     pub fn new(alloc: Global) -> Result<Self, AllocError>
@@ -87,6 +87,20 @@ impl<T: Transport> Connections<T> {
         is_any_held_back(self.opened.as_slice())
     }
 
+    /// The last id that was given, 0 where none was.
+    pub fn last_id(&self) -> u64
+        ensures { result ≡ self.now.last }
+    {
+        self.last
+    }
+
+    /// Whether an id was given since this one was the last.
+    pub fn has_given(&self, last: u64) -> bool
+        ensures { result ≡ nat_lt last self.now.last }
+    {
+        self.last > last
+    }
+
     /// The id of the next connection. `None` where 64 are open, or each id was given.
     pub fn next_id(&self) -> Option<u64>
         ensures { MatchOption result ((64 ≤ vec_len self.now.opened) ⊎ (2 ^ 64 ≤ self.now.last + 1)) (λ id. (id ≡ self.now.last + 1) × (vec_len self.now.opened < 64)) }
@@ -108,7 +122,7 @@ impl<T: Transport> Connections<T> {
         desk: &mut K,
     )
         ensures led { HasLedOn (K.is_trusted desk.new) (K.shows desk.old) (K.leaves_one_of desk.old) (K.shows desk.new) (K.leaves_one_of desk.new) hub.old hub.new
-            (λ events. Moves self.old self.new events × IsOpeningOf kind events × Admits O.refuses transport kind hub.old hub.new self.old self.new events) }
+            (λ events. Moves self.old self.new events × Admits O.refuses transport kind hub.old hub.new self.old self.new events) }
         ensures trust { K.is_trusted desk.new → K.is_trusted desk.old }
         ensures others { KeepsOthers (self.old.last + 1) hub.old hub.new }
         ensures unasked { desk.new ≡ desk.old }

@@ -1,5 +1,5 @@
 // Rounds over sockets.
-ghost use Rattle.std.specs.Prelude.{◌≡◌, ◌≢◌, ◌==◌, ◌||◌, ◌≤◌, ◌<◌, ◌+◌, ℕ, IfOk, List, MatchResult, [], false, length};
+ghost use Rattle.std.specs.Prelude.{◌≡◌, ◌≢◌, ◌==◌, ◌||◌, ◌≤◌, ◌<◌, ◌+◌, ℕ, IfOk, List, MatchResult, [], false, length, nat_lt};
 ghost use Rattle.std.specs.Duration.{as_nanos};
 ghost use Rattle.std.specs.IoError.{error_kind};
 ghost use Rattle.dict_driver.specs.Looking.{tells};
@@ -15,6 +15,9 @@ use dict_preparing::Preparer;
 use std::alloc::{AllocError, Global};
 use std::io::{self, ErrorKind};
 use std::time::Duration;
+
+// How many connections a round takes at most from a listening socket. Newcomers wait for few rounds, and those that are open for few newcomers: these may come without end.
+const MAX_ACCEPTED: usize = 16;
 
 /// Sockets, the connections that came by them, and the hub that they are told to.
 #[derive(Drop)]
@@ -36,11 +39,11 @@ impl<'h, T: Transport, S: Sockets<T>> EventLoop<'h, T, S> {
     ghost use Rattle.dict_hub.specs.Runs.{IsAt, beginning};
     ghost use Rattle.dict_connection.specs.Leading.{HasLedOn};
     ghost use Rattle.dict_driver.specs.Rounds.{Moves};
-    ghost use Rattle.dict_driver.specs.Ordering.{AreOfRound, IsOpeningOf};
+    ghost use Rattle.dict_driver.specs.Ordering.{AreOfRound};
     ghost use Rattle.dict_driver.specs.Serving.{IsCounted};
     ghost use Rattle.dict_driver.specs.Listening.{is_ready};
     ghost use Rattle.dict_driver.specs.Looking.{IsIdle, IsKept, Looks, listening_of, other_kind};
-    ghost use Rattle.dict_driver.specs.Accepting.{HasAccepted, HasLetIn, HasTaken};
+    ghost use Rattle.dict_driver.specs.Accepting.{HasAccepted, HasAsked, HasLetIn, HasTaken};
     ghost use Rattle.dict_connection.specs.Telling.{KeepsOthers};
     ghost use Rattle.dict_driver.specs.EventLoops.{GoesRound};
 
@@ -87,12 +90,12 @@ impl<'h, T: Transport, S: Sockets<T>> EventLoop<'h, T, S> {
         self.rounds
     }
 
-    /// One round: the sockets are looked at, at most one connection is taken from that for readers, then at most one from that
-    /// for editors, and then each connection has a turn, the open ones in the order of their ids: what waits is sent, and the
-    /// next piece of what was read goes to the hub, of a reader one line; where none is left, one read of at most 4,096 octets
-    /// is made before. A piece that completes an install is held back while the desk prepares that, by a part in each round; no
-    /// editor's connection is read meanwhile, and none is taken. Whether anything happened; where nothing did, `wait` may come
-    /// before the next round.
+    /// One round: the sockets are looked at, the connections that wait are taken from that for readers, at most 16, and then from
+    /// that for editors, at most 16, and then each connection has a turn, the open ones in the order of their ids: what waits is
+    /// sent, and the next piece of what was read goes to the hub, of a reader one line; where none is left, one read of at most
+    /// 4,096 octets is made before. A piece that completes an install is held back while the desk prepares that, by a part in each
+    /// round; no editor's connection is read meanwhile, and none is taken. Whether anything happened; where nothing did, `wait` may
+    /// come before the next round.
     pub fn round<K: Preparer>(&mut self, desk: &mut K) -> io::Result<bool>
         ensures led { HasLedOn (K.is_trusted desk.new) (K.shows desk.old) (K.leaves_one_of desk.old) (K.shows desk.new) (K.leaves_one_of desk.new) self.old.hub self.new.hub
             (λ events. Moves self.old.connections self.new.connections events × AreOfRound events × GoesRound (condition K.has_failed K.is_closed) K.expects K.prepares T.taken T.coming T.made S.refuses S.asked S.told result desk.old desk.new self.old self.new events) }
@@ -107,11 +110,13 @@ impl<'h, T: Transport, S: Sockets<T>> EventLoop<'h, T, S> {
             Ok(()) => {}
             Err(error) => return Err(error),
         }
-        let by_dict = self.accept(Kind::Dict, desk);
-        let by_http = self.accept_editor(desk);
+        let last = self.connections.last_id();
+        let by_dict = self.accept_all(Kind::Dict, desk);
+        let by_http = self.accept_editors(desk);
         let turned = self.connections.turn(&self.sockets, &mut self.hub, desk);
         self.rounds = self.rounds.saturating_add(1);
-        Ok(has_any(by_dict, by_http, turned))
+        let is_more = self.connections.has_given(last);
+        Ok(has_any(is_more, by_dict, by_http, turned))
     }
 
     /// Waits until a socket is ready, or as long as this.
@@ -135,12 +140,12 @@ impl<'h, T: Transport, S: Sockets<T>> EventLoop<'h, T, S> {
         looked
     }
 
-    // Takes a connection that waits at a listening socket. Whether one did, or the call is to be made again.
-    fn accept<K: Keeper>(&mut self, kind: Kind, desk: &mut K) -> bool
+    // Takes the connections that wait at a listening socket, in the order in which it hands them out, at most 16. Whether one may
+    // wait there still.
+    fn accept_all<K: Keeper>(&mut self, kind: Kind, desk: &mut K) -> bool
         ensures led { HasLedOn (K.is_trusted desk.new) (K.shows desk.old) (K.leaves_one_of desk.old) (K.shows desk.new) (K.leaves_one_of desk.new) self.old.hub self.new.hub
-            (λ events. Moves self.old.connections self.new.connections events × IsOpeningOf kind events × HasAccepted S.refuses S.asked kind self.old self.new events) }
+            (λ events. Moves self.old.connections self.new.connections events × HasAccepted S.refuses S.asked kind self.old self.new events) }
         ensures trust { K.is_trusted desk.new → K.is_trusted desk.old }
-        ensures others { KeepsOthers (self.old.connections.last + 1) self.old.hub self.new.hub }
         ensures unasked { desk.new ≡ desk.old }
         ensures kept { IsKept self.old self.new }
         ensures asked { result ≡ is_ready (listening_of kind self.new) }
@@ -149,6 +154,25 @@ impl<'h, T: Transport, S: Sockets<T>> EventLoop<'h, T, S> {
         if !self.listening(kind).may_accept() {
             return false;
         }
+        for _ in 0..MAX_ACCEPTED {
+            if !self.accept(kind, desk) {
+                return false;
+            }
+        }
+        true
+    }
+
+    // Asks a listening socket for a connection, and takes it. Whether one came, or the call is to be made again.
+    fn accept<K: Keeper>(&mut self, kind: Kind, desk: &mut K) -> bool
+        ensures led { HasLedOn (K.is_trusted desk.new) (K.shows desk.old) (K.leaves_one_of desk.old) (K.shows desk.new) (K.leaves_one_of desk.new) self.old.hub self.new.hub
+            (λ events. Moves self.old.connections self.new.connections events × HasAsked S.refuses S.asked kind self.old self.new events) }
+        ensures trust { K.is_trusted desk.new → K.is_trusted desk.old }
+        ensures others { KeepsOthers (self.old.connections.last + 1) self.old.hub self.new.hub }
+        ensures unasked { desk.new ≡ desk.old }
+        ensures kept { IsKept self.old self.new }
+        ensures asked { result ≡ is_ready (listening_of kind self.new) }
+        ensures other { listening_of (other_kind kind) self.new ≡ listening_of (other_kind kind) self.old }
+    {
         match self.sockets.accept(kind) {
             Ok(transport) => {
                 self.note(kind, Listening::Ready);
@@ -163,13 +187,12 @@ impl<'h, T: Transport, S: Sockets<T>> EventLoop<'h, T, S> {
         }
     }
 
-    // Takes an editor's connection that waits, unless octets of one are held back: then the socket isn't asked. Whether one
-    // waited, the call is to be made again, or one may wait that wasn't asked for.
-    fn accept_editor<K: Keeper>(&mut self, desk: &mut K) -> bool
+    // Takes the editors' connections that wait, at most 16, unless octets of one are held back: then the socket isn't asked.
+    // Whether one may wait there still.
+    fn accept_editors<K: Keeper>(&mut self, desk: &mut K) -> bool
         ensures led { HasLedOn (K.is_trusted desk.new) (K.shows desk.old) (K.leaves_one_of desk.old) (K.shows desk.new) (K.leaves_one_of desk.new) self.old.hub self.new.hub
-            (λ events. Moves self.old.connections self.new.connections events × IsOpeningOf Kind.Http events × HasLetIn S.refuses S.asked self.old self.new events) }
+            (λ events. Moves self.old.connections self.new.connections events × HasLetIn S.refuses S.asked self.old self.new events) }
         ensures trust { K.is_trusted desk.new → K.is_trusted desk.old }
-        ensures others { KeepsOthers (self.old.connections.last + 1) self.old.hub self.new.hub }
         ensures unasked { desk.new ≡ desk.old }
         ensures kept { IsKept self.old self.new }
         ensures asked { result ≡ is_ready self.new.http_listening }
@@ -178,7 +201,7 @@ impl<'h, T: Transport, S: Sockets<T>> EventLoop<'h, T, S> {
         if self.connections.is_any_held_back() {
             return self.http_listening == Listening::Ready;
         }
-        self.accept(Kind::Http, desk)
+        self.accept_all(Kind::Http, desk)
     }
 
     // Whether a connection waits at a listening socket.
@@ -209,7 +232,7 @@ impl<'h, T: Transport, S: Sockets<T>> EventLoop<'h, T, S> {
     // Opens the connection, or closes its socket where there is no place for it.
     fn admit<K: Keeper>(&mut self, transport: T, kind: Kind, desk: &mut K)
         ensures led { HasLedOn (K.is_trusted desk.new) (K.shows desk.old) (K.leaves_one_of desk.old) (K.shows desk.new) (K.leaves_one_of desk.new) self.old.hub self.new.hub
-            (λ events. Moves self.old.connections self.new.connections events × IsOpeningOf kind events × HasTaken S.refuses S.asked transport kind self.old self.new events) }
+            (λ events. Moves self.old.connections self.new.connections events × HasTaken S.refuses S.asked transport kind self.old self.new events) }
         ensures trust { K.is_trusted desk.new → K.is_trusted desk.old }
         ensures others { KeepsOthers (self.old.connections.last + 1) self.old.hub self.new.hub }
         ensures unasked { desk.new ≡ desk.old }
@@ -264,8 +287,8 @@ fn tells_listening<T: Transport, S: Sockets<T>>(sockets: &S) -> bool
 }
 
 // Whether one of these is so.
-fn has_any(first: bool, second: bool, third: bool) -> bool
-    ensures { result ≡ (first || (second || third)) }
+fn has_any(first: bool, second: bool, third: bool, fourth: bool) -> bool
+    ensures { result ≡ (first || (second || (third || fourth))) }
 {
-    first || second || third
+    first || second || third || fourth
 }

@@ -18,6 +18,8 @@ mod fair;
 #[cfg(test)]
 mod limits;
 #[cfg(test)]
+mod newcomers;
+#[cfg(test)]
 mod preparing;
 #[cfg(test)]
 mod rounds;

@@ -123,7 +123,7 @@ fn an_editor_that_leaves(rt: HostRuntime) -> Result<(), Fail> {
 
 const FOURTH: &str = "220 localhost dictcat ready <4@localhost>\r\n";
 
-// An editor and then a reader come while an install is prepared: the reader alone is greeted and let in.
+// Two editors and then a reader come while an install is prepared: the reader alone is greeted and let in.
 fn come_meanwhile(
     net: &impl Net<Stream = TcpStream>,
     play: &mut Play,
@@ -138,16 +138,19 @@ fn come_meanwhile(
     }
     play.come(net, play.http)?;
     play.client(3)?.send(b"GET /databases HTTP/1.1\r\n\r\n")?;
+    play.come(net, play.http)?;
+    play.client(4)?.send(b"GET /databases HTTP/1.1\r\n\r\n")?;
     play.come(net, play.dict)?;
     for _ in 0..100u32 {
         play.driver.event_loop.round(desk)?;
     }
-    play.client(4)?.got(FOURTH.as_bytes())?;
+    play.client(5)?.got(FOURTH.as_bytes())?;
     play.client(3)?.got(b"")?;
+    play.client(4)?.got(b"")?;
     Ok(play.driver.event_loop.open_count())
 }
 
-// Four are open meanwhile, and the editor is answered behind the install.
+// Four are open meanwhile, and both editors are answered behind the install.
 fn come_in(
     net: &impl Net<Stream = TcpStream>,
     play: &mut Play,
@@ -157,8 +160,8 @@ fn come_in(
     let is_preparing = desk.left > 0;
     settle(play, desk)?;
     play.client(1)?.got(INSTALLED.as_bytes())?;
-    let came = play.client(3)?.read()?;
-    Ok(open == 4 && is_preparing && came > 0)
+    let (third, fourth) = (play.client(3)?.read()?, play.client(4)?.read()?);
+    Ok(open == 4 && is_preparing && third > 0 && fourth > 0)
 }
 
 #[test]

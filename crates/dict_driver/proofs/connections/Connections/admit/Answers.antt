@@ -2,15 +2,14 @@ use Rattle.std.proofs.Common.{◌≡◌, ◌<◌, ◌+◌, refl, sym, ◌∙◌,
 use Rattle.dict_connection.specs.Opening.{IsUnopened}
 use Rattle.dict_driver.specs.Rounds.{Moves}
 use Rattle.dict_connection.specs.Turns.{IsOpened}
-use Rattle.dict_driver.specs.Ordering.{IsOpeningOf}
 use Rattle.dict_connection.proofs.LeadLemmas.{led_as, led_still}
 use Rattle.dict_driver.proofs.ListLemmas.{apart_push, rising_push, given_push}
-use Rattle.dict_driver.proofs.RoundLemmas.{moves_same, moves_opened, opened_flows, opened_is, opened_own}
+use Rattle.dict_driver.proofs.RoundLemmas.{moves_same, moves_opened, opened_flows, opened_own}
 use Rattle.dict_driver.proofs.connections.Connections.admit.Goals as goal
 
 pub returns-in_default-clause-led : goal.returns-in_default-clause-led
 returns-in_default-clause-led g c =
-    led_still (moves_same c.args.self.now c.args.self.now refl (λ id octets now. now), tt, inl (refl, refl, refl, refl, (λ other held has. has), inl c.in_default.ensures))
+    led_still (moves_same c.args.self.now c.args.self.now refl (λ id octets now. now), inl (refl, refl, refl, refl, (λ other held has. has), inl c.in_default.ensures))
 
 -- the new id is above all
 above : (g : _) (c : goal.After-push_reserved g) → c.args.self.now.last < c.in-Some-open.one.id
@@ -45,7 +44,6 @@ returns-in-Some-open-clause-led g c =
       moves_opened c.args.self.now _ one events c.push_reserved.ensures.items refl (sym id) up
           (opened_own one.id c.args.kind c.open.new.hub one events (subst (λ i. IsOpened i c.args.kind c.open.new.hub one events) (sym id) opened))
           (opened_flows c.in-Some.id c.args.kind c.open.new.hub one events opened),
-      opened_is c.in-Some.id c.args.kind c.open.new.hub one events opened,
       inr (
         one,
         subst (λ i. IsOpened i c.args.kind c.open.new.hub one events) value opened,
@@ -66,7 +64,6 @@ returns-in_default-open-clause-led g c =
     led_as c.in_default-open.ensures.led
     (λ events none. (
       subst (λ es. Moves c.args.self.now c.args.self.now es) (sym none) (moves_same c.args.self.now c.args.self.now refl (λ id octets now. now)),
-      subst (λ es. IsOpeningOf c.args.kind es) (sym none) tt,
       inl (
         none,
         refl,

@@ -1,18 +1,17 @@
 use Rattle.std.proofs.Common.{◌≡◌, ◌∙◌, List, [], ◌++◌, true, false, is_ok, sym, ap, subst, refl}
-use Rattle.std.specs.Prelude.{◌||◌}
+use Rattle.std.specs.Prelude.{nat_lt}
 use Rattle.dict_session.specs.Desks.{condition}
 use Rattle.dict_hub.specs.Runs.{Accepted, IsAt}
 use Rattle.dict_hub.specs.declared.kind.Kind.TheVariants.{Dict}
 use Rattle.dict_driver.specs.Accepting.{HasAccepted}
 use Rattle.dict_driver.specs.Listening.{is_ready}
 use Rattle.dict_driver.specs.Looking.{Looks}
-use Rattle.dict_driver.specs.Ordering.{AreOfRound, IsOpeningOf}
 use Rattle.dict_driver.specs.Rounds.{Moves, TurnEach}
 use Rattle.dict_driver.proofs.BoolLemmas.{none_of}
 use Rattle.dict_connection.proofs.LeadLemmas.{led_joined, led_none}
 use Rattle.dict_driver.proofs.LookLemmas.{moves_looked}
-use Rattle.dict_driver.proofs.OrderLemmas.{round_none, round_whole}
-use Rattle.dict_driver.proofs.LoopLemmas.{AreTaken, round_made}
+use Rattle.dict_driver.proofs.OrderLemmas.{round_none}
+use Rattle.dict_driver.proofs.LoopLemmas.{AreTaken, moved_by, round_made, taken_round}
 use Rattle.dict_driver.proofs.RoundLemmas.{moves_joined}
 use Rattle.dict_driver.proofs.event_loop.EventLoop.round.Goals as goal
 
@@ -29,38 +28,38 @@ returns-clause-led g c =
     let self = c.args.self.now in
     let asked = g.S.Sockets.asked in
     led_joined
-    (led_joined {R = λ events. Moves self.connections c.accept_editor-by_http.new.self.connections events × AreTaken g.S.Opening.refuses asked c.poll.new.self c.accept-by_dict.new.self c.accept_editor-by_http.new.self events}
-    (led_joined {R = λ events. Moves self.connections c.accept-by_dict.new.self.connections events × IsOpeningOf Dict events × HasAccepted g.S.Opening.refuses asked Dict c.poll.new.self c.accept-by_dict.new.self events}
+    (led_joined {R = λ events. Moves self.connections c.accept_editors-by_http.new.self.connections events × AreTaken g.S.Opening.refuses asked c.poll.new.self c.accept_all-by_dict.new.self c.accept_editors-by_http.new.self events}
+    (led_joined {R = λ events. Moves self.connections c.accept_all-by_dict.new.self.connections events × HasAccepted g.S.Opening.refuses asked Dict c.poll.new.self c.accept_all-by_dict.new.self events}
     (led_none {P = λ events. events ≡ []} (λ state at. subst (λ h. IsAt h state) (sym c.poll.ensures.hub) at) refl)
-    c.accept-by_dict.ensures.led c.accept-by_dict.ensures.trust
+    c.accept_all-by_dict.ensures.led c.accept_all-by_dict.ensures.trust
     (λ es fs before then.
-    subst (λ (l : List Accepted). Moves self.connections c.accept-by_dict.new.self.connections (l ++ fs) × IsOpeningOf Dict (l ++ fs) × HasAccepted g.S.Opening.refuses asked Dict c.poll.new.self c.accept-by_dict.new.self (l ++ fs)) (sym before) (
-      moves_joined self.connections c.poll.new.self.connections c.accept-by_dict.new.self.connections [] fs (moves_looked _ c.poll.result self c.poll.new.self c.poll.ensures) then.0,
+    subst (λ (l : List Accepted). Moves self.connections c.accept_all-by_dict.new.self.connections (l ++ fs) × HasAccepted g.S.Opening.refuses asked Dict c.poll.new.self c.accept_all-by_dict.new.self (l ++ fs)) (sym before) (
+      moves_joined self.connections c.poll.new.self.connections c.accept_all-by_dict.new.self.connections [] fs (moves_looked _ c.poll.result self c.poll.new.self c.poll.ensures) then.0,
       then.1,
-      then.2,
     )))
-    c.accept_editor-by_http.ensures.led c.accept_editor-by_http.ensures.trust
+    c.accept_editors-by_http.ensures.led c.accept_editors-by_http.ensures.trust
     (λ es fs before then. (
-      moves_joined self.connections c.accept-by_dict.new.self.connections c.accept_editor-by_http.new.self.connections es fs before.0 then.0,
-      record { readers = es; editors = fs; whole = refl; dict = before.1; http = then.1; by_dict = before.2; by_http = then.2 },
+      moves_joined self.connections c.accept_all-by_dict.new.self.connections c.accept_editors-by_http.new.self.connections es fs before.0 then.0,
+      record { readers = es; editors = fs; whole = refl; by_dict = before.1; by_http = then.1 },
     )))
     c.turn-turned.ensures.led c.turn-turned.ensures.trust
     (λ es fs before then. (
-      moves_joined self.connections c.accept_editor-by_http.new.self.connections c.turn-turned.new.self es fs before.0 then.0,
-      subst (λ (l : List Accepted). AreOfRound (l ++ fs)) (sym before.1.whole) (round_whole before.1.readers before.1.editors fs before.1.dict before.1.http then.1 then.2),
-      round_made g.S.Opening.refuses asked (condition g.K.Lookup.has_failed g.K.Lookup.is_closed) g.K.Preparer.expects g.K.Preparer.prepares g.T.Transport.taken g.T.Transport.coming g.T.Transport.made (g.S.Sockets.told c.poll.new.self.sockets) c.poll.result c.args.desk.now c.turn-turned.new.desk self c.poll.new.self c.accept-by_dict.new.self c.accept_editor-by_http.new.self _
+      moves_joined self.connections c.accept_editors-by_http.new.self.connections c.turn-turned.new.self es fs before.0 then.0,
+      taken_round g.S.Opening.refuses asked c.poll.new.self c.accept_all-by_dict.new.self c.accept_editors-by_http.new.self es fs before.1 then.1 then.2,
+      round_made g.S.Opening.refuses asked (condition g.K.Lookup.has_failed g.K.Lookup.is_closed) g.K.Preparer.expects g.K.Preparer.prepares g.T.Transport.taken g.T.Transport.coming g.T.Transport.made (g.S.Sockets.told c.poll.new.self.sockets) c.poll.result c.args.desk.now c.turn-turned.new.desk self c.poll.new.self c.accept_all-by_dict.new.self c.accept_editors-by_http.new.self _
           c.has_any.result c.turn-turned.result es fs (ap is_ok c.in-Ok.is) c.poll.ensures before.1
-          (subst (λ d. TurnEach (condition g.K.Lookup.has_failed g.K.Lookup.is_closed) g.K.Preparer.expects g.K.Preparer.prepares g.T.Transport.taken g.T.Transport.coming g.T.Transport.made g.S.Opening.refuses c.accept_editor-by_http.new.self.hub d c.turn-turned.new.desk c.accept_editor-by_http.new.self.connections c.turn-turned.new.self c.turn-turned.result fs)
-          (c.accept_editor-by_http.ensures.unasked ∙ c.accept-by_dict.ensures.unasked) then.3) c.turn-turned.ensures.others refl c.accept_editor-by_http.ensures.dict refl c.accept-by_dict.ensures.other
-          (c.has_any.ensures ∙ ap (λ b. b || (c.accept_editor-by_http.result || c.turn-turned.result)) c.accept-by_dict.ensures.asked
-          ∙ ap (λ b. is_ready c.accept-by_dict.new.self.dict_listening || (b || c.turn-turned.result)) c.accept_editor-by_http.ensures.asked),
+          (subst (λ d. TurnEach (condition g.K.Lookup.has_failed g.K.Lookup.is_closed) g.K.Preparer.expects g.K.Preparer.prepares g.T.Transport.taken g.T.Transport.coming g.T.Transport.made g.S.Opening.refuses c.accept_editors-by_http.new.self.hub d c.turn-turned.new.desk c.accept_editors-by_http.new.self.connections c.turn-turned.new.self c.turn-turned.result fs)
+          (c.accept_editors-by_http.ensures.unasked ∙ c.accept_all-by_dict.ensures.unasked) then.3) c.turn-turned.ensures.others refl c.accept_editors-by_http.ensures.dict refl c.accept_all-by_dict.ensures.other
+          (moved_by c.has_any.result c.has_given-is_more.result c.accept_all-by_dict.result c.accept_editors-by_http.result c.turn-turned.result _ _ _ c.has_any.ensures
+          (c.has_given-is_more.ensures ∙ ap (λ last. nat_lt last c.turn-turned.new.self.last) (c.last_id-last.ensures ∙ c.poll.ensures.last))
+          c.accept_all-by_dict.ensures.asked c.accept_editors-by_http.ensures.asked),
     ))
 
 pub returns-clause-idle : goal.returns-clause-idle
 returns-clause-idle g c = λ still. (
-    let none = none_of c.accept-by_dict.result c.accept_editor-by_http.result c.turn-turned.result (sym c.has_any.ensures ∙ still) in
+    let none = none_of c.has_given-is_more.result c.accept_all-by_dict.result c.accept_editors-by_http.result c.turn-turned.result (sym c.has_any.ensures ∙ still) in
     record {
-      dict = λ ready. absurd (let never : true ≡ false = sym (ap is_ready (sym c.accept_editor-by_http.ensures.dict ∙ ready)) ∙ sym c.accept-by_dict.ensures.asked ∙ none.0 in cc);
-      http = λ ready. absurd (let never : true ≡ false = sym (ap is_ready ready) ∙ sym c.accept_editor-by_http.ensures.asked ∙ none.1 in cc);
-      read = c.turn-turned.ensures.idle none.2;
+      dict = λ ready. absurd (let never : true ≡ false = sym (ap is_ready (sym c.accept_editors-by_http.ensures.dict ∙ ready)) ∙ sym c.accept_all-by_dict.ensures.asked ∙ none.1 in cc);
+      http = λ ready. absurd (let never : true ≡ false = sym (ap is_ready ready) ∙ sym c.accept_editors-by_http.ensures.asked ∙ none.2 in cc);
+      read = c.turn-turned.ensures.idle none.3;
     })

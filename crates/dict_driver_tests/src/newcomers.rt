@@ -1,0 +1,81 @@
+// Many that wait at the listening sockets as a round begins.
+use crate::checks::same;
+use crate::serving::Play;
+use std::alloc::Global;
+use std::net::{Net, TcpStream};
+use std::test::Fail;
+
+// One round. How many connections are open after it.
+fn round(play: &mut Play) -> Result<usize, Fail> {
+    play.driver.event_loop.round(&mut play.desk)?;
+    Ok(play.driver.event_loop.open_count())
+}
+
+// Each reader of these was greeted by the id of its place, and no other.
+fn are_greeted(play: &mut Play, alloc: Global, count: usize) -> Result<(), Fail> {
+    for place in 0..count {
+        let id = place + 1;
+        let greeting = format!(in alloc; "220 localhost dictcat ready <{id}@localhost>\r\n")?;
+        play.client(place)?.got(greeting.as_bytes())?;
+    }
+    Ok(())
+}
+
+// So many readers come. How many are open after one round, and after two.
+fn come_at_once(
+    net: &impl Net<Stream = TcpStream>,
+    play: &mut Play,
+    alloc: Global,
+    count: usize,
+) -> Result<(usize, usize), Fail> {
+    play.settle()?;
+    for _ in 0..count {
+        play.come(net, play.dict)?;
+    }
+    let first = round(play)?;
+    are_greeted(play, alloc, first)?;
+    if first < count {
+        play.client(first)?.got(b"")?;
+    }
+    Ok((first, round(play)?))
+}
+
+// Of 20 readers 16 are taken in one round and 4 in the next, in the order in which they came.
+#[test]
+fn twenty_readers(rt: HostRuntime) -> Result<(), Fail> {
+    let mut play = Play::new(&rt, rt.alloc())?;
+    let opened = come_at_once(&rt, &mut play, rt.alloc(), 20);
+    let last = play
+        .client(19)?
+        .got(b"220 localhost dictcat ready <20@localhost>\r\n");
+    drop(play);
+    same(&rt, &opened?, &(16, 20));
+    last
+}
+
+// Three editors and then three readers come: how many are open after one round.
+fn come_of_both(net: &impl Net<Stream = TcpStream>, play: &mut Play) -> Result<usize, Fail> {
+    play.settle()?;
+    for _ in 0..3u32 {
+        play.come(net, play.http)?;
+    }
+    for _ in 0..3u32 {
+        play.come(net, play.dict)?;
+    }
+    let open = round(play)?;
+    play.client(3)?
+        .got(b"220 localhost dictcat ready <1@localhost>\r\n")?;
+    play.client(5)?
+        .got(b"220 localhost dictcat ready <3@localhost>\r\n")?;
+    Ok(open)
+}
+
+// All are taken in one round, the readers before the editors.
+#[test]
+fn readers_before_editors(rt: HostRuntime) -> Result<(), Fail> {
+    let mut play = Play::new(&rt, rt.alloc())?;
+    let open = come_of_both(&rt, &mut play);
+    drop(play);
+    same(&rt, &open?, &6);
+    Ok(())
+}
