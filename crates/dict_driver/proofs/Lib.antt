@@ -1,6 +1,7 @@
 pub mod BoolLemmas
 pub mod OrderLemmas
 pub mod OpeningLemmas
+pub mod CountLemmas
 pub mod ListLemmas
 pub mod RoundLemmas
 pub mod SettleLemmas

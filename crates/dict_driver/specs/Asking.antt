@@ -1,5 +1,5 @@
 -- What the system's sockets are asked, and what comes of it.
-use Rattle.std.specs.Prelude.{◌≡◌, ℕ, Bool, List, ◌++◌, Option, option_map, Result}
+use Rattle.std.specs.Prelude.{◌≡◌, ◌+◌, ℕ, Bool, List, [], ◌∷◌, ◌++◌, Option, option_map, Result}
 use Rattle.std.specs.declared.io.Error.{Error}
 use Rattle.dict_hub.specs.declared.kind.Kind.{Kind}
 
@@ -14,3 +14,10 @@ pub data Asking (T : Type 0) : Type 0 where
 -- this was asked after what was asked before, where that is known
 abbrev pub Asks : {T : Type 0} → Option (List (Asking T)) → Option (List (Asking T)) → List (Asking T) → Type 0
 Asks old new more = new ≡ option_map (λ before. before ++ more) old
+
+-- how often a connection was to be taken
+abbrev pub accept_count : {T : Type 0} → List (Asking T) → ℕ
+accept_count [] = 0
+accept_count (looks most told result ∷ calls) = accept_count calls
+accept_count (accepts kind result ∷ calls) = accept_count calls + 1
+accept_count (watches id result ∷ calls) = accept_count calls

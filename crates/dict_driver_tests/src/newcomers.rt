@@ -11,10 +11,10 @@ fn round(play: &mut Play) -> Result<usize, Fail> {
     Ok(play.driver.event_loop.open_count())
 }
 
-// Each reader of these was greeted by the id of its place, and no other.
-fn are_greeted(play: &mut Play, alloc: Global, count: usize) -> Result<(), Fail> {
-    for place in 0..count {
-        let id = place + 1;
+// Each reader from this place up to that one is greeted by the id of its place.
+fn are_greeted(play: &mut Play, alloc: Global, from: usize, to: usize) -> Result<(), Fail> {
+    for place in from..to {
+        let id = place.saturating_add(1);
         let greeting = format!(in alloc; "220 localhost dictcat ready <{id}@localhost>\r\n")?;
         play.client(place)?.got(greeting.as_bytes())?;
     }
@@ -33,11 +33,10 @@ fn come_at_once(
         play.come(net, play.dict)?;
     }
     let first = round(play)?;
-    are_greeted(play, alloc, first)?;
-    if first < count {
-        play.client(first)?.got(b"")?;
-    }
-    Ok((first, round(play)?))
+    are_greeted(play, alloc, 0, first)?;
+    let second = round(play)?;
+    are_greeted(play, alloc, first, count)?;
+    Ok((first, second))
 }
 
 // Of 20 readers 16 are taken in one round and 4 in the next, in the order in which they came.
@@ -45,12 +44,9 @@ fn come_at_once(
 fn twenty_readers(rt: HostRuntime) -> Result<(), Fail> {
     let mut play = Play::new(&rt, rt.alloc())?;
     let opened = come_at_once(&rt, &mut play, rt.alloc(), 20);
-    let last = play
-        .client(19)?
-        .got(b"220 localhost dictcat ready <20@localhost>\r\n");
     drop(play);
     same(&rt, &opened?, &(16, 20));
-    last
+    Ok(())
 }
 
 // Three editors and then three readers come: how many are open after one round.
