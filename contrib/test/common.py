@@ -1,8 +1,13 @@
-"""What the tests of contrib/test share: the program, servers that end with the test, sessions, and checks that tell."""
+"""What the tests of contrib/test share: the program, servers that end with the test, sessions, and checks that tell.
+
+Without tools/contrib-test, TOP is the clone that this file is in, DICTCAT the program that tools/program prints (which may build
+it), and CACHE ~/.cache/dictcat-contrib-test.
+"""
 import contextlib, os, pathlib, subprocess
 
-TOP = pathlib.Path(os.environ["TOP"])
-DICTCAT = os.environ["DICTCAT"]
+TOP = pathlib.Path(os.environ.get("TOP") or pathlib.Path(__file__).resolve().parent.parent.parent)
+DICTCAT = os.environ.get("DICTCAT") or subprocess.check_output([TOP / "tools/program"], text=True).strip()
+CACHE = pathlib.Path(os.environ.get("CACHE") or pathlib.Path.home() / ".cache/dictcat-contrib-test")
 CONTRIB = TOP / "contrib"
 EXAMPLES = TOP / "examples"
 
