@@ -1,6 +1,9 @@
 -- How many entries and rows were taken.
 use Rattle.std.proofs.Common.{◌≡◌, ℕ, ◌+◌, ◌-◌, ◌≤◌, ◌^◌, ◌==◌, true, false, List, [], ◌∷◌, length, refl, sym, arith}
-use Rattle.std.specs.Prelude.{Option}
+use Rattle.std.specs.Prelude.{Option, Result, Ok, Err}
+use Rattle.dict_desk.specs.declared.fault.Fault.{Fault}
+use Rattle.dict_desk.specs.declared.lookup.End.{End}
+use Rattle.dict_desk.specs.declared.lookup.End.TheVariants.{All}
 use Rattle.std.proofs.lemmas.Bool.{eqb-true, false≢true}
 use Rattle.dict_search.specs.Entries.{Indexed, entries_at}
 use Rattle.dict_lookup.specs.Taken.{more_taken, rows_for, rows_read}
@@ -8,8 +11,14 @@ use Rattle.dict_lookup.specs.Taken.{more_taken, rows_for, rows_read}
 pub none_more : (taken : ℕ) → taken ≤ 2 ^ 64 - 1 → taken ≡ more_taken taken 0
 none_more taken few = omega (arith, few)
 
-pub more_twice : (taken a b : ℕ) → more_taken (more_taken taken a) b ≡ more_taken taken (a + b)
-more_twice taken a b = omega arith
+-- what was read before, and then looked at
+pub more_all : (old mid looked count rows read : ℕ) → mid ≡ more_taken old rows → looked ≡ count → rows ≡ read → more_taken mid looked ≡ more_taken old (count + read)
+more_all old mid looked count rows read first second third = omega (arith, first, second, third)
+
+-- how a lookup ended that didn't fail
+abbrev pub end_of : Result End Fault → End
+end_of (Ok end) = end
+end_of (Err fault) = All
 
 -- ---- whether anything is found
 

@@ -25,17 +25,19 @@ fn hand_entry<T: RowSink>(index: &Index, place: u32, text: &[u8], sink: &mut T) 
     })
 }
 
-// Hands out the entries at these places, each with what it cuts out of the text.
+// Hands out the entries at these places, each with what it cuts out of the text, and counts them.
 pub(crate) fn hand_found<T: RowSink>(
     index: &Index,
     places: &[u32],
     text: &[u8],
     sink: &mut T,
+    handed: &mut u64,
 ) -> End
     ensures all { result ≡ End.All → T.takes sink.old (map (row_in text.now) (entries_at index.now places.now)) sink.new }
     ensures stopped { result ≡ End.Stopped → T.stops sink.old (map (row_in text.now) (entries_at index.now places.now)) sink.new }
 {
     for place in places {
+        *handed = handed.saturating_add(1);
         if let Demand::Stop = hand_entry(index, *place, text, sink) {
             return End::Stopped;
         }

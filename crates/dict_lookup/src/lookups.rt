@@ -1,5 +1,5 @@
 // What is asked of an edition.
-ghost use Rattle.std.specs.Prelude.{◌≡◌, ◌⊎◌, ◌+◌, ℕ, false, List, IsTrue, Some, nat_eq, option_map, IfOk, IfErr, IsErr, OnOk, OnErr};
+ghost use Rattle.std.specs.Prelude.{◌≡◌, ◌⊎◌, ◌+◌, ℕ, false, List, IsTrue, Ok, Some, nat_eq, option_map, IfOk, IfErr, IsErr, OnOk, OnErr};
 ghost use Rattle.std.specs.Map.{lookup, remove_entry};
 ghost use Rattle.sqlite.specs.State.{HasCleanDisk, IsUnchanged, Survives};
 ghost use Rattle.sqlite.specs.Held.{state};
@@ -15,6 +15,7 @@ ghost use Rattle.dict_lookup.specs.Taken.{more_taken, rows_for, rows_read};
 
 use crate::found::{hand_found, hand_headwords};
 use crate::record::{edition_of_number, info_of_number};
+use dict_derived::is_tested;
 use dict_desk::{Demand, End, Fault, Row, RowSink, What};
 use dict_match::{Key, Strategy};
 use dict_search::{Counted, Index, edition_laws};
@@ -97,8 +98,8 @@ pub fn info<S: Alter, T: RowSink>(
 }
 
 /// Hands the entries of the edition that the query finds by the strategy to the sink, in the order of the index, each as
-/// a row of what is shown of it and its text. It counts the entries that the index looks at, and the rows that its statement
-/// hands over. Of a number that no edition has nothing is told.
+/// a row of what is shown of it and its text. It counts the entries that it looks at, and the rows that its statement hands over: where
+/// the sink stops and the strategy tests no entry, those that were handed out. Of a number that no edition has nothing is told.
 ///
 /// What is found the index tells, which is the edition's. Where that is nothing, no text is wanted. Else the text is the one that is
 /// kept under the number, if one is; else it is read, and kept from then on, unless a growth is refused, which is no fault. What is kept
@@ -123,7 +124,7 @@ pub fn find<S: Alter, T: RowSink>(
     ensures texts { HasCleanDisk (state S.Store conn.new) → (other : ℕ) (entries : List Indexed) (edition : Edition) → AreCutFrom other entries edition texts.old → (other ≡ number → IsTrue (state S.Store conn.old).is_open → HoldsCut (state S.Store conn.old).now other entries edition) → AreCutFrom other entries edition texts.new }
     ensures made { AreMade installs texts.old → AreMade installs texts.new }
     ensures handed { (rows : List ShownRow) × Hands T.takes T.stops sink.old sink.new rows result }
-    ensures taken { HasCleanDisk (state S.Store conn.new) → (reading : ReadEdition) → HoldsOne (state S.Store conn.old).now number reading → OnOk result (rows_taken.new ≡ more_taken rows_taken.old (count_selected strategy query.now index.now + rows_read (lookup (nat_eq number) texts.old) (found_entries strategy query.now index.now))) }
+    ensures taken { HasCleanDisk (state S.Store conn.new) → (reading : ReadEdition) → HoldsOne (state S.Store conn.old).now number reading → result ≡ Ok End.All → rows_taken.new ≡ more_taken rows_taken.old (count_selected strategy query.now index.now + rows_read (lookup (nat_eq number) texts.old) (found_entries strategy query.now index.now)) }
     ensures same { HasCleanDisk (state S.Store conn.new) → OnOk result (IsAtMostRead S.Store conn.old conn.new) }
     ensures failed { HasCleanDisk (state S.Store conn.new) → IfErr result (λ fault. ((fault ≡ Fault.Memory) × (conn.new ≡ conn.old)) ⊎ FailsToLookUp (column_of number) (state S.Store conn.old) (state S.Store conn.new) fault) }
     ensures kinds { IfErr result IsOfStore }
@@ -132,17 +133,32 @@ pub fn find<S: Alter, T: RowSink>(
 {
     edition_laws();
     let found = index.find(alloc, strategy, query.as_bytes())?;
-    *rows_taken = rows_taken.saturating_add(found.looked_at as u64);
+    let selected = found.looked_at as u64;
     let places = found.places.as_slice();
     if places.is_empty() {
+        *rows_taken = rows_taken.saturating_add(selected);
         return Ok(End::All);
     }
     let Some(text) = take_text(alloc, conn, texts, number, rows_taken)? else {
+        *rows_taken = rows_taken.saturating_add(selected);
         return Ok(End::All);
     };
-    let end = hand_found(index, places, text.as_slice(), sink);
+    let mut handed = 0;
+    let end = hand_found(index, places, text.as_slice(), sink, &mut handed);
+    *rows_taken = rows_taken.saturating_add(looked_at(strategy, end, selected, handed));
     keep(texts, installs, number, text);
     Ok(end)
+}
+
+// How many entries were looked at. Where the sink has stopped, that is as many as were handed out, if the strategy tests none before.
+fn looked_at(strategy: Strategy, end: End, selected: u64, handed: u64) -> u64
+    ensures { end ≡ End.All → result ≡ selected }
+{
+    match end {
+        End::All => selected,
+        End::Stopped if is_tested(strategy) => selected,
+        End::Stopped => handed,
+    }
 }
 
 /// Hands the headwords shown of the entries that the query finds by the strategy to the sink, each once, in the order in which

@@ -1,4 +1,4 @@
-use Rattle.std.proofs.Common.{◌≡◌, ◌+◌, ℕ, List, [], map, nat_eq, refl, sym, ap, subst, ◌∙◌}
+use Rattle.std.proofs.Common.{◌≡◌, ℕ, List, [], map, nat_eq, refl, sym, ap, subst, ◌∙◌}
 use Rattle.std.specs.Map.{lookup}
 use Rattle.std.proofs.lemmas.Result.{err_from_is_err_and}
 use Rattle.sqlite.specs.Held.{state}
@@ -7,10 +7,10 @@ use Rattle.dict_desk.proofs.HandingLemmas.{hands_all, hands_end, hands_front}
 use Rattle.dict_search.specs.Entries.{entries_at, row_in}
 use Rattle.dict_search.specs.Found.{found_entries, count_selected}
 use Rattle.dict_lookup.specs.Texts.{AreCutFrom, HoldsCut}
-use Rattle.dict_lookup.specs.Taken.{more_taken, rows_for}
+use Rattle.dict_lookup.specs.Taken.{rows_for, rows_read}
 use Rattle.dict_lookup.proofs.IndexLemmas.{rows_cut}
 use Rattle.dict_lookup.proofs.TextLemmas.{cut_kept, cut_left, made_kept, made_left, told_cuts}
-use Rattle.dict_lookup.proofs.TakenLemmas.{more_twice, none_there, some_read}
+use Rattle.dict_lookup.proofs.TakenLemmas.{end_of, more_all, none_there, some_read}
 use Rattle.dict_lookup.proofs.lookups.find.Goals as goal
 
 -- ---- nothing is found
@@ -45,15 +45,18 @@ pub returns-in_default-clause-made : goal.returns-in_default-clause-made
 returns-in_default-clause-made g c made = made_left c.args.number c.args.texts.now c.take_text.new.texts c.take_text.ensures.left c.args.installs made
 
 pub returns-in_default-clause-taken : goal.returns-in_default-clause-taken
-returns-in_default-clause-taken g c clean reading one =
+returns-in_default-clause-taken g c clean reading one all =
     let index = c.args.index.now in
     let query = c.args.query.now in
+    let old = c.args.rows_taken.now in
     let kept = lookup (nat_eq c.args.number) c.args.texts.now in
     let entries : entries_at index c.as_slice-places.result.now ≡ found_entries c.args.strategy query index =
     ap (entries_at index) c.as_slice-places.ensures.value ∙ (c.in_ok-found.ensures.entries ∙ ap (λ (q : List ℕ). found_entries c.args.strategy q index) c.as_bytes.ensures) in
     let looked : c.in_ok-found.found.looked_at ≡ count_selected c.args.strategy query index = c.in_ok-found.ensures.looked_at ∙ ap (λ (q : List ℕ). count_selected c.args.strategy q index) c.as_bytes.ensures in
-    c.in_ok-text.ensures.taken clean reading one ∙ (ap (λ (n : ℕ). more_taken n (rows_for kept)) (c.saturating_add.ensures ∙ ap (more_taken c.args.rows_taken.now) looked)
-    ∙ (more_twice c.args.rows_taken.now (count_selected c.args.strategy query index) (rows_for kept) ∙ ap (λ (n : ℕ). more_taken c.args.rows_taken.now (count_selected c.args.strategy query index + n)) (some_read index kept (found_entries c.args.strategy query index) c.as_slice-places.result.now entries (sym c.is_empty.ensures ∙ c.if-is_empty.false))))
+    let read : rows_for kept ≡ rows_read kept (found_entries c.args.strategy query index) =
+    some_read index kept (found_entries c.args.strategy query index) c.as_slice-places.result.now entries (sym c.is_empty.ensures ∙ c.if-is_empty.false) in
+    c.saturating_add-in_default.ensures
+    ∙ more_all old c.take_text.new.rows_taken c.in_ok-found.found.looked_at (count_selected c.args.strategy query index) (rows_for kept) (rows_read kept (found_entries c.args.strategy query index)) (c.in_ok-text.ensures.taken clean reading one) looked read
 
 pub returns-clause-value : goal.returns-clause-value
 returns-clause-value g c clean edition is cut held =
@@ -82,12 +85,16 @@ returns-clause-made g c made =
     made_kept c.args.installs c.args.number c.in-Some.text.items c.take_text.new.texts c.keep.new.texts c.keep.ensures (made_left c.args.number c.args.texts.now c.take_text.new.texts c.take_text.ensures.left c.args.installs made)
 
 pub returns-clause-taken : goal.returns-clause-taken
-returns-clause-taken g c clean reading one =
+returns-clause-taken g c clean reading one all =
     let index = c.args.index.now in
     let query = c.args.query.now in
+    let old = c.args.rows_taken.now in
     let kept = lookup (nat_eq c.args.number) c.args.texts.now in
     let entries : entries_at index c.as_slice-places.result.now ≡ found_entries c.args.strategy query index =
     ap (entries_at index) c.as_slice-places.ensures.value ∙ (c.in_ok-found.ensures.entries ∙ ap (λ (q : List ℕ). found_entries c.args.strategy q index) c.as_bytes.ensures) in
     let looked : c.in_ok-found.found.looked_at ≡ count_selected c.args.strategy query index = c.in_ok-found.ensures.looked_at ∙ ap (λ (q : List ℕ). count_selected c.args.strategy q index) c.as_bytes.ensures in
-    c.in_ok-text.ensures.taken clean reading one ∙ (ap (λ (n : ℕ). more_taken n (rows_for kept)) (c.saturating_add.ensures ∙ ap (more_taken c.args.rows_taken.now) looked)
-    ∙ (more_twice c.args.rows_taken.now (count_selected c.args.strategy query index) (rows_for kept) ∙ ap (λ (n : ℕ). more_taken c.args.rows_taken.now (count_selected c.args.strategy query index + n)) (some_read index kept (found_entries c.args.strategy query index) c.as_slice-places.result.now entries (sym c.is_empty.ensures ∙ c.if-is_empty.false))))
+    let read : rows_for kept ≡ rows_read kept (found_entries c.args.strategy query index) =
+    some_read index kept (found_entries c.args.strategy query index) c.as_slice-places.result.now entries (sym c.is_empty.ensures ∙ c.if-is_empty.false) in
+    let counted : c.looked_at.result ≡ c.in_ok-found.found.looked_at = c.looked_at.ensures (ap end_of all) in
+    c.saturating_add-2.ensures
+    ∙ more_all old c.take_text.new.rows_taken c.looked_at.result (count_selected c.args.strategy query index) (rows_for kept) (rows_read kept (found_entries c.args.strategy query index)) (c.in_ok-text.ensures.taken clean reading one) (counted ∙ looked) read
