@@ -53,14 +53,7 @@ static CASES: [Case; 23] = [
         3,
     ),
     // Behind a count too, and where a sink stops.
-    Case(
-        1,
-        Question::Headwords,
-        Strategy::Suffix,
-        "opal",
-        "2",
-        3,
-    ),
+    Case(1, Question::Headwords, Strategy::Suffix, "opal", "2", 3),
     Case(
         1,
         Question::Heads(9),
@@ -85,14 +78,7 @@ static CASES: [Case; 23] = [
         "opal=/ Stopped",
         3,
     ),
-    Case(
-        1,
-        Question::Headwords,
-        Strategy::Suffix,
-        "opal",
-        "2",
-        3,
-    ),
+    Case(1, Question::Headwords, Strategy::Suffix, "opal", "2", 3),
     // Another edition has its own.
     Case(
         2,
@@ -102,30 +88,9 @@ static CASES: [Case; 23] = [
         "Opal=/ All",
         2,
     ),
-    Case(
-        2,
-        Question::Headwords,
-        Strategy::Suffix,
-        "opal",
-        "1",
-        2,
-    ),
-    Case(
-        1,
-        Question::Entries,
-        Strategy::Suffix,
-        "opal",
-        "3",
-        3,
-    ),
-    Case(
-        2,
-        Question::Entries,
-        Strategy::Suffix,
-        "opal",
-        "2",
-        2,
-    ),
+    Case(2, Question::Headwords, Strategy::Suffix, "opal", "1", 2),
+    Case(1, Question::Entries, Strategy::Suffix, "opal", "3", 3),
+    Case(2, Question::Entries, Strategy::Suffix, "opal", "2", 2),
     // The text is read once.
     Case(
         2,
@@ -143,14 +108,7 @@ static CASES: [Case; 23] = [
         "Opal=opal\n  a stone\n/Opal=opal\n  a stone\n/ All",
         2,
     ),
-    Case(
-        2,
-        Question::Entries,
-        Strategy::Suffix,
-        "opal",
-        "2",
-        2,
-    ),
+    Case(2, Question::Entries, Strategy::Suffix, "opal", "2", 2),
     // Another query or strategy selects others.
     Case(
         1,
@@ -168,63 +126,14 @@ static CASES: [Case; 23] = [
         "opal fire=/ All",
         1,
     ),
-    Case(
-        1,
-        Question::Headwords,
-        Strategy::Prefix,
-        "opal",
-        "2",
-        3,
-    ),
+    Case(1, Question::Headwords, Strategy::Prefix, "opal", "2", 3),
     // One that finds nothing, and one of no edition.
-    Case(
-        2,
-        Question::Headwords,
-        Strategy::Exact,
-        "iron",
-        "0",
-        0,
-    ),
-    Case(
-        2,
-        Question::Heads(9),
-        Strategy::Exact,
-        "iron",
-        " All",
-        0,
-    ),
-    Case(
-        3,
-        Question::Headwords,
-        Strategy::Exact,
-        "dot",
-        "0",
-        0,
-    ),
-    Case(
-        3,
-        Question::Heads(9),
-        Strategy::Exact,
-        "dot",
-        " All",
-        0,
-    ),
-    Case(
-        3,
-        Question::Found,
-        Strategy::Exact,
-        "dot",
-        " All",
-        0,
-    ),
-    Case(
-        2,
-        Question::Headwords,
-        Strategy::Exact,
-        "dot",
-        "1",
-        1,
-    ),
+    Case(2, Question::Headwords, Strategy::Exact, "iron", "0", 0),
+    Case(2, Question::Heads(9), Strategy::Exact, "iron", " All", 0),
+    Case(3, Question::Headwords, Strategy::Exact, "dot", "0", 0),
+    Case(3, Question::Heads(9), Strategy::Exact, "dot", " All", 0),
+    Case(3, Question::Found, Strategy::Exact, "dot", " All", 0),
+    Case(2, Question::Headwords, Strategy::Exact, "dot", "1", 1),
 ];
 
 static BETWEEN: [(&str, Asked); 1] = [("c", Asked::Install("ore", Source::Gems))];
@@ -239,14 +148,7 @@ static BEHIND: [Case; 4] = [
         "dot=/ All",
         1,
     ),
-    Case(
-        3,
-        Question::Headwords,
-        Strategy::Exact,
-        "dot",
-        "1",
-        1,
-    ),
+    Case(3, Question::Headwords, Strategy::Exact, "dot", "1", 1),
     Case(
         2,
         Question::Heads(9),
@@ -255,36 +157,15 @@ static BEHIND: [Case; 4] = [
         "dot=/ All",
         1,
     ),
-    Case(
-        2,
-        Question::Headwords,
-        Strategy::Exact,
-        "dot",
-        "1",
-        1,
-    ),
+    Case(2, Question::Headwords, Strategy::Exact, "dot", "1", 1),
 ];
 
 static GONE: [(&str, Asked); 1] = [("d", Asked::Install("ore", Source::Ores))];
 
 // Of an edition that is gone nothing is told.
 static AFTER: [Case; 4] = [
-    Case(
-        2,
-        Question::Heads(9),
-        Strategy::Exact,
-        "dot",
-        " All",
-        0,
-    ),
-    Case(
-        2,
-        Question::Entries,
-        Strategy::Exact,
-        "dot",
-        "0",
-        0,
-    ),
+    Case(2, Question::Heads(9), Strategy::Exact, "dot", " All", 0),
+    Case(2, Question::Entries, Strategy::Exact, "dot", "0", 0),
     Case(
         4,
         Question::Heads(9),
@@ -293,14 +174,7 @@ static AFTER: [Case; 4] = [
         "iron=/ All",
         1,
     ),
-    Case(
-        3,
-        Question::Entries,
-        Strategy::Exact,
-        "dot",
-        "1",
-        1,
-    ),
+    Case(3, Question::Entries, Strategy::Exact, "dot", "1", 1),
 ];
 
 fn answer<L: Lookup>(alloc: Global, desk: &mut L, case: &Case) -> Result<String, Fault> {

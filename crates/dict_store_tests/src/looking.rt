@@ -241,14 +241,14 @@ static CASES: [Case; 66] = [
         8,
     ),
     Case(3, Question::All, Strategy::First, "abc", ";;0 0", 4),
-    // A sink that takes so many rows. What the strategy selects is looked at, also where it stops.
+    // A sink that takes so many rows. Of entries by such a strategy those alone are looked at which it was handed; of headwords all that are selected.
     Case(
         3,
         Question::Found(1),
         Strategy::Prefix,
         "o",
         "opal=0!/ Stopped",
-        3,
+        1,
     ),
     Case(
         3,
@@ -256,7 +256,7 @@ static CASES: [Case; 66] = [
         Strategy::Prefix,
         "o",
         "opal=0!/opal fire=2!/ Stopped",
-        3,
+        2,
     ),
     Case(
         3,
@@ -340,7 +340,7 @@ static CASES: [Case; 66] = [
         Strategy::Suffix,
         "opal",
         "opal=opal\n  a stone\n/ Stopped",
-        2,
+        1,
     ),
     Case(
         2,

@@ -1,4 +1,4 @@
-//! Lookups in an edition of 65,535 entries: no more rows are read than are due, and each when it is due.
+//! Lookups in an edition of 65,535 entries: no more entries are looked at, and rows read, than are due.
 
 use crate::checks::holds;
 use crate::taken::{Counted, found, taken_between};
@@ -33,7 +33,7 @@ fn install<K: Keeper>(alloc: Global, desk: &mut K, index: &str) -> Result<(), Fa
     Ok(())
 }
 
-/// By a strategy, a text and a sink that takes so many rows: how many it is handed, and how many the statements hand over at most.
+/// By a strategy, a text and a sink that takes so many rows: how many it is handed, and how many entries are looked at, and rows read, at most.
 #[derive(Clone, Copy)]
 struct Case(Strategy, &'static str, usize, usize, u64);
 
