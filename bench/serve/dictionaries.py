@@ -1,7 +1,7 @@
 """dictcat beside dictd over real dictionaries: dictionaries.py PROGRAM CLIENT WORK [PART..]
 
 PARTS: `kept` (DEFINE over 65,536 lines of 5 and of 13 MB, first and again), `answers` (what both answer, compared), `requests` (the processor's time of a request), `slowest` (of 10,000 answers under 64
-connections), `memory`, `idle`, `install` (of editions by HTTP, while 32 readers ask), `growth` (the same finds over 65,536 and
+connections), `crowd` (a newcomer beside readers that repeat a MATCH of 2 MB), `memory`, `idle`, `install` (of editions by HTTP, while 32 readers ask), `growth` (the same finds over 65,536 and
 262,144 entries); without one it is all. The dictionaries are `wn`, `foldoc` and `freedict-ara-eng` of Debian's, mended for dictcat
 by contrib/import-dictd and as they came, but uncompressed, for dictd 1.13; and `made`, of 262,144 lines (make_words.py), over
 which both have the same files. dictd's limits are off. CLIENT is client.c, built. WORK is a folder that stays: what is in it is not
@@ -27,7 +27,7 @@ NAMES = {"wn": "wn", "foldoc": "foldoc", "ara": "freedict-ara-eng"}
 LARGEST = (262_144, 67_108_864)
 PORT = 26281
 TURNS = [(count, at_once) for at_once in (1, 16) for count in (1, 8, 64)]   # connections, and lines at once
-BOUNDS = {"hits": 0.8, "misses": 0.8, "prefixes": 0.7, "suffixes": 0.05, "substrings": 0.05, "words": 0.05, "mix": 0.2}
+BOUNDS = {"hits": 0.5, "misses": 0.5, "exacts": 0.5, "prefixes": 0.5, "suffixes": 0.03, "substrings": 0.05, "words": 0.05, "mix": 0.12}
 COMPARED = 400
 SLOW = 3000   # microseconds of a request from which on fewer are asked
 SECONDS = float(os.environ.get("SECONDS_EACH", "1"))
@@ -215,6 +215,35 @@ def slowest(client, servers, lists):
             print(f"| `{name}`, {kind}{few} | " + " | ".join(f"{it.median / 1000:.2f}, {it.most / 1000:.1f}" for it in took.values()) + " |", flush=True)
 
 
+def newcomer(server, line):
+    """Seconds until the greeting of a new connection, and until the answer to its line behind that."""
+    start = time.monotonic()
+    it = Line(server)
+    greeted = time.monotonic()
+    it.ask(line)
+    answered = time.monotonic()
+    it.it.close()
+    return greeted - start, answered - greeted
+
+
+def crowd(client, servers, work):
+    """A newcomer's greeting and DEFINE beside 8 and 62 connections that repeat the dearest MATCH of WordNet; and what one such answer takes."""
+    path = work / "wn.dear"
+    path.write_text("MATCH wn substring e\n")
+    print("\n| MATCH wn substring e | the processor for one, ms | beside 8 that repeat it: a greeting, a DEFINE at most of 10, s | beside 62 |\n|---|---|---|---|")
+    for who, server in servers.items():
+        each, cells = asked(client, server, 1, 1, path, 0, 10), []
+        for count in (8, 62):
+            readers = Client(client, server, count, 1, path, 1e6, 0)
+            readers.begin()
+            time.sleep(2)
+            waits = [newcomer(server, "DEFINE wn opal") for _ in range(10)]
+            readers.process.send_signal(signal.SIGINT)
+            readers.end()
+            cells.append(", ".join(f"{max(it):.2f}" for it in zip(*waits)))
+        print(f"| {who} | {each.spent / each.answers * 1e3:.1f} | " + " | ".join(cells) + " |", flush=True)
+
+
 def memory(client, servers, lists):
     print("\n| Memory, resident (and of that shared with no other process), MB | " + " | ".join(servers) + " |\n|---" + "|---" * len(servers) + "|")
     tell = lambda what: print(f"| {what} | " + " | ".join("{:.0f} ({:.0f})".format(*(it / 1024 for it in server.memory())) for server in servers.values()) + " |", flush=True)
@@ -322,7 +351,7 @@ def kept(program, client, work):
             theirs.kill()
 
 
-PARTS = ("kept", "answers", "requests", "slowest", "memory", "idle", "install", "growth")
+PARTS = ("kept", "answers", "requests", "slowest", "crowd", "memory", "idle", "install", "growth")
 
 
 def main():
@@ -334,13 +363,13 @@ def main():
     chosen = pairs(program, work) if set(wanted) - {"kept", "growth"} else {}
     (work / "in").mkdir(exist_ok=True)
     lists = {name: write(ours[0], name, work) for name, (ours, _) in chosen.items()}
-    beside = [it for it in ("memory", "answers", "requests", "slowest", "idle") if it in wanted]
+    beside = [it for it in ("memory", "answers", "requests", "slowest", "crowd", "idle") if it in wanted]
     if beside:
         servers = {"dictcat": dictcat(program, work, chosen), "dictd": dictd(work, chosen)}
         try:
             for part in beside:
                 {"memory": lambda: memory(client, servers, lists), "answers": lambda: compare(servers, lists),
-                 "requests": lambda: requests(client, servers, lists), "slowest": lambda: slowest(client, servers, lists),
+                 "requests": lambda: requests(client, servers, lists), "slowest": lambda: slowest(client, servers, lists), "crowd": lambda: crowd(client, servers, work),
                  "idle": lambda: idle_all(servers)}[part]()
         finally:
             for server in servers.values():

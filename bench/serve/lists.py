@@ -3,7 +3,7 @@
     lists.py INDEX NAME FOLDER      writes FOLDER/NAME.KIND for each kind, a request in each line
 
 The kinds: `hits` (DEFINE of headwords), `misses` (DEFINE of headwords with `qx` in the midst of the last word, which are none),
-`prefixes` and `suffixes` of 4 letters, `substrings` of 5, `words` (one word of a headword), each of a headword that the
+`exacts` (MATCH of headwords), `prefixes` and `suffixes` of 4 letters, `substrings` of 5, `words` (one word of a headword), each of a headword that the
 generator takes, and `mix`: of 20 requests 10 hits, 4 misses, 3 prefixes, 1 suffix, 1 substring and 1 word. What is asked for
 has only letters, digits and single spaces, so that the profiles of dictcat and of dictd differ least.
 """
@@ -12,7 +12,7 @@ import random
 import sys
 
 COUNT = 2000
-KINDS = ("hits", "misses", "prefixes", "suffixes", "substrings", "words", "mix")
+KINDS = ("hits", "misses", "exacts", "prefixes", "suffixes", "substrings", "words", "mix")
 
 
 def headwords(index):
@@ -43,7 +43,7 @@ def parts(heads, chosen, kind):
                 return part
         if kind == "words":
             return chosen.choice(head.split(" "))
-        if kind in ("hits", "misses"):
+        if kind in ("hits", "misses", "exacts"):
             return head
 
 
@@ -58,7 +58,7 @@ def request(name, heads, known, chosen, kind):
     return f'MATCH {name} {STRATEGIES[kind]} "{text}"'
 
 
-STRATEGIES = {"prefixes": "prefix", "suffixes": "suffix", "substrings": "substring", "words": "word"}
+STRATEGIES = {"exacts": "exact", "prefixes": "prefix", "suffixes": "suffix", "substrings": "substring", "words": "word"}
 MIXED = ["hits"] * 10 + ["misses"] * 4 + ["prefixes"] * 3 + ["suffixes", "substrings", "words"]
 
 
