@@ -7,8 +7,9 @@ use Rattle.std.proofs.lemmas.Bool.{cases_lt}
 use Rattle.std.proofs.lemmas.List.{get_or_past}
 use Rattle.std.proofs.lemmas.List.Elements.{All-push, All-get_or}
 use Rattle.dict_search.specs.Entries.{Indexed, no_entry, entry_at, keys_of}
+use Rattle.dict_search.specs.Spans.{no_span}
 use Rattle.dict_search.specs.Stored.{indexed, stored, AreStored}
-use Rattle.dict_search.specs.declared.entries.Span.{Span}
+use Rattle.dict_search.specs.declared.spans.Span.{Span}
 
 pub none_stored : AreStored [] [] []
 none_stored = record { keys_size = refl; texts_size = refl; keys_text = λ k d lt. absurd (omega (arith, lt)); texts_text = λ k d lt. absurd (omega (arith, lt)) }
@@ -46,15 +47,24 @@ shown_at (k ∷ keys) [] (s ∷ spans) at a b = absurd (omega (arith, b))
 shown_at (k ∷ keys) (t ∷ texts) (s ∷ spans) zero a b = refl
 shown_at (k ∷ keys) (t ∷ texts) (s ∷ spans) (suc at) a b = shown_at keys texts spans at (omega (arith, a)) (omega (arith, b))
 
-pub span_at : (keys texts : List (List ℕ)) (spans : List Span) (at : ℕ) (d : Span) → length keys ≡ length spans → length texts ≡ length spans → at < length spans → ((get_or spans at d).start ≡ (entry_at (stored keys texts spans) at).start) × ((get_or spans at d).size ≡ (entry_at (stored keys texts spans) at).size)
+span_at : (keys texts : List (List ℕ)) (spans : List Span) (at : ℕ) (d : Span) → length keys ≡ length spans → length texts ≡ length spans → at < length spans → ((get_or spans at d).start ≡ (entry_at (stored keys texts spans) at).start) × ((get_or spans at d).size ≡ (entry_at (stored keys texts spans) at).size)
 span_at keys texts [] at d a b lt = absurd (omega (arith, lt))
 span_at [] texts (s ∷ spans) at d a b lt = absurd (omega (arith, a))
 span_at (k ∷ keys) [] (s ∷ spans) at d a b lt = absurd (omega (arith, b))
 span_at (k ∷ keys) (t ∷ texts) (s ∷ spans) zero d a b lt = (refl, refl)
 span_at (k ∷ keys) (t ∷ texts) (s ∷ spans) (suc at) d a b lt = span_at keys texts spans at d (omega (arith, a)) (omega (arith, b)) (omega (arith, lt))
 
-pub none_at : (keys texts : List (List ℕ)) (spans : List Span) (at : ℕ) → length keys ≡ length spans → length texts ≡ length spans → length spans ≤ at → entry_at (stored keys texts spans) at ≡ no_entry
+none_at : (keys texts : List (List ℕ)) (spans : List Span) (at : ℕ) → length keys ≡ length spans → length texts ≡ length spans → length spans ≤ at → entry_at (stored keys texts spans) at ≡ no_entry
 none_at keys texts spans at a b le = get_or_past (stored keys texts spans) at no_entry (omega (arith, le, size_stored keys texts spans a b))
+
+pub any_span_at : (keys texts : List (List ℕ)) (spans : List Span) (at : ℕ) → length keys ≡ length spans → length texts ≡ length spans → ((get_or spans at no_span).start ≡ (entry_at (stored keys texts spans) at).start) × ((get_or spans at no_span).size ≡ (entry_at (stored keys texts spans) at).size)
+any_span_at keys texts spans at a b = elim (cases_lt at (length spans)) [
+  | inl less ↦ span_at keys texts spans at no_span a b less
+  | inr le ↦
+      let past = get_or_past spans at no_span le in
+      let none = none_at keys texts spans at a b le in
+      (ap (λ (s : Span). s.start) past ∙ sym (ap (λ (e : Indexed). e.start) none), ap (λ (s : Span). s.size) past ∙ sym (ap (λ (e : Indexed). e.size) none))
+]
 
 -- a text at any place is text
 pub text_at : (texts : List (List ℕ)) (at : ℕ) → All IsUtf8 texts → IsUtf8 [] → IsUtf8 (get_or texts at [])

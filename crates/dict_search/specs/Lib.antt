@@ -6,5 +6,6 @@ pub mod Runs
 pub mod Orders
 pub mod Pieces
 pub mod PlacedPieces
+pub mod Spans
 pub mod Stored
 pub mod Indexes

@@ -2,8 +2,9 @@
 ghost use Rattle.std.specs.Prelude.{◌≡◌, ◌≤◌, ◌<◌, ◌^◌, [], ◌∷◌, ◌++◌, length, IfOk, OnOk, OnErr};
 ghost use Rattle.dict_match.specs.Key.{key_of};
 
-use crate::entries::{Entries, Span};
+use crate::entries::Entries;
 use crate::index::{Index, index_of};
+use crate::spans::Span;
 use dict_match::{key_laws, key_of};
 use std::alloc::{AllocError, Global};
 use std::marker::Model;
@@ -66,6 +67,8 @@ impl IndexBuilder {
         ensures { IfOk result (λ index. index ≡ self) }
     {
         let count = self.entries.len() as u32;
-        index_of(self.alloc, self.entries, count)
+        let mut entries = self.entries;
+        entries.shrink();
+        index_of(self.alloc, entries, count)
     }
 }

@@ -3,24 +3,18 @@ ghost use Rattle.std.specs.Prelude.{◌≡◌, [], ◌∷◌, ◌++◌, All, len
 ghost use Rattle.std.specs.Str.{IsUtf8};
 ghost use Rattle.dict_search.specs.Entries.{Indexed, entry_at, keys_of};
 
+use crate::spans::{Span, Spans};
 use crate::texts::Texts;
 use std::alloc::{AllocError, Global};
 use std::marker::Model;
 use std::str;
-
-/// Where the text of an entry begins in that of its edition, and how long it is, in octets.
-#[derive(Clone, Copy, Debug, PartialEq, Eq)]
-pub(crate) struct Span {
-    pub start: usize,
-    pub size: usize,
-}
 
 /// Entries, in the order in which they were put.
 #[derive(Drop)]
 pub(crate) struct Entries {
     keys: Texts,
     shown: Texts,
-    spans: Vec<Span>,
+    spans: Spans,
 }
 
 impl Model for Entries {
@@ -31,9 +25,9 @@ impl Model for Entries {
 
     ghost use Rattle.dict_search.specs.Stored.{stored, AreStored};
 
-    ghost view = { λ entries. stored entries.keys entries.shown entries.spans.items };
+    ghost view = { λ entries. stored entries.keys entries.shown entries.spans };
 
-    ghost invariant = { λ entries. AreStored entries.keys entries.shown entries.spans.items };
+    ghost invariant = { λ entries. AreStored entries.keys entries.shown entries.spans };
 }
 
 impl Entries {
@@ -43,7 +37,7 @@ impl Entries {
         Entries {
             keys: Texts::new(alloc),
             shown: Texts::new(alloc),
-            spans: Vec::new(alloc),
+            spans: Spans::new(alloc),
         }
     }
 
@@ -76,10 +70,7 @@ impl Entries {
         ensures start { result.start ≡ (entry_at self.now at).start }
         ensures size { result.size ≡ (entry_at self.now at).size }
     {
-        if at >= self.spans.len() {
-            return Span { start: 0, size: 0 };
-        }
-        self.spans[at]
+        self.spans.get(at)
     }
 
     /// Puts an entry behind the others. The only error is refused memory; then they are as they were.
@@ -97,30 +88,52 @@ impl Entries {
             span,
         )
     }
+
+    /// Lets the memory go that is kept for more of them, as far as that can be had.
+    pub(crate) fn shrink(&mut self)
+        ensures { self.new ≡ self.old }
+    {
+        self.keys.shrink();
+        self.shown.shrink();
+        self.spans.shrink();
+    }
 }
 
 /// Puts the parts of an entry behind those of the others; or leaves all as they were.
 fn put_entry(
     keys: &mut Texts,
     shown: &mut Texts,
-    spans: &mut Vec<Span>,
+    spans: &mut Spans,
     key: &[u8],
     text: &str,
     span: Span,
 ) -> Result<(), AllocError>
     ensures keys { OnOk result (keys.new ≡ keys.old ++ key.now ∷ []) }
     ensures shown { OnOk result (shown.new ≡ shown.old ++ text.now ∷ []) }
-    ensures spans { OnOk result (spans.new.items ≡ spans.old.items ++ span ∷ []) }
+    ensures spans { OnOk result (spans.new ≡ spans.old ++ span ∷ []) }
     ensures keys_refused { OnErr result (keys.new ≡ keys.old) }
     ensures shown_refused { OnErr result (shown.new ≡ shown.old) }
-    ensures spans_refused { OnErr result (spans.new.items ≡ spans.old.items) }
+    ensures spans_refused { OnErr result (spans.new ≡ spans.old) }
 {
-    spans.reserve(1)?;
     keys.push(key)?;
-    if let Err(error) = shown.push(text.as_bytes()) {
+    if let Err(error) = put_shown(shown, spans, text, span) {
         keys.pop();
         return Err(error);
     }
-    spans.push(span)?;
+    Ok(())
+}
+
+/// Puts what is shown of an entry and its span behind those of the others; or leaves both as they were.
+fn put_shown(shown: &mut Texts, spans: &mut Spans, text: &str, span: Span) -> Result<(), AllocError>
+    ensures shown { OnOk result (shown.new ≡ shown.old ++ text.now ∷ []) }
+    ensures spans { OnOk result (spans.new ≡ spans.old ++ span ∷ []) }
+    ensures shown_refused { OnErr result (shown.new ≡ shown.old) }
+    ensures spans_refused { OnErr result (spans.new ≡ spans.old) }
+{
+    shown.push(text.as_bytes())?;
+    if let Err(error) = spans.push(span) {
+        shown.pop();
+        return Err(error);
+    }
     Ok(())
 }

@@ -8,11 +8,13 @@ mod index;
 mod keeping;
 mod laws;
 mod lists;
+mod numbers;
 mod order;
 mod pieces;
 mod placed;
 mod reversed;
 mod shown;
+mod spans;
 #[cfg(test)]
 mod tests;
 mod texts;

@@ -1,7 +1,7 @@
 //! Lists of places, one after another.
-ghost use Rattle.std.specs.Prelude.{◌≡◌, [], ◌∷◌, ◌++◌, ℕ, List, length, OnOk, OnErr, slice_index_or};
+ghost use Rattle.std.specs.Prelude.{◌≡◌, [], ◌∷◌, ◌++◌, ℕ, List, length, IfOk, OnOk, OnErr, slice_index_or};
 
-use crate::texts::end;
+use crate::numbers::Numbers;
 use std::alloc::{AllocError, Global};
 use std::marker::Model;
 
@@ -10,7 +10,7 @@ use std::marker::Model;
 pub(crate) struct PlaceLists {
     places: Vec<u32>,
     /// Where each list begins.
-    begins: Vec<usize>,
+    begins: Numbers,
 }
 
 impl Model for PlaceLists {
@@ -19,19 +19,21 @@ impl Model for PlaceLists {
 
     ghost Value = { List (List ℕ) };
 
-    ghost view = { λ lists. runs lists.places.items lists.begins.items };
+    ghost view = { λ lists. runs lists.places.items lists.begins };
 
-    ghost invariant = { λ lists. AreBegins lists.places.items lists.begins.items };
+    ghost invariant = { λ lists. AreBegins lists.places.items lists.begins };
 }
 
 impl PlaceLists {
-    pub(crate) fn new(alloc: Global) -> PlaceLists
-        ensures { result ≡ [] }
+    /// No list, with memory for so many places. The only error is refused memory.
+    pub(crate) fn with_capacity(alloc: Global, places: usize) -> Result<PlaceLists, AllocError>
+        ensures { IfOk result (λ lists. lists ≡ []) }
     {
-        PlaceLists {
-            places: Vec::new(alloc),
-            begins: Vec::new(alloc),
-        }
+        let places = Vec::with_capacity(alloc, places)?;
+        Ok(PlaceLists {
+            places,
+            begins: Numbers::new(alloc),
+        })
     }
 
     /// The list at a place, and an empty one where there is none.
@@ -41,8 +43,9 @@ impl PlaceLists {
         if at >= self.begins.len() {
             return &[];
         }
-        let from = self.begins[at];
-        let to = end(self.begins.as_slice(), self.places.len(), at);
+        let len = self.places.len();
+        let from = self.begins.get_or(at, len);
+        let to = self.begins.get_or(at + 1, len);
         &self.places[from..to]
     }
 
@@ -60,18 +63,27 @@ impl PlaceLists {
         self.places.push(place)?;
         Ok(())
     }
+
+    /// Lets the memory go that is kept for more of them, as far as that can be had.
+    pub(crate) fn shrink(&mut self)
+        ensures { self.new ≡ self.old }
+    {
+        self.places.shrink_to_fit();
+        self.begins.shrink();
+    }
 }
 
 /// Puts a place behind the places, and where it stands behind the begins; or leaves both as they were.
-fn put_new(places: &mut Vec<u32>, begins: &mut Vec<usize>, place: u32) -> Result<(), AllocError>
+fn put_new(places: &mut Vec<u32>, begins: &mut Numbers, place: u32) -> Result<(), AllocError>
     ensures places { OnOk result (places.new.items ≡ places.old.items ++ place ∷ []) }
-    ensures begins { OnOk result (begins.new.items ≡ begins.old.items ++ length places.old.items ∷ []) }
+    ensures begins { OnOk result (begins.new ≡ begins.old ++ length places.old.items ∷ []) }
     ensures places_refused { OnErr result (places.new.items ≡ places.old.items) }
-    ensures begins_refused { OnErr result (begins.new.items ≡ begins.old.items) }
+    ensures begins_refused { OnErr result (begins.new ≡ begins.old) }
 {
-    let begin = places.len();
-    begins.reserve(1)?;
-    places.push(place)?;
-    begins.push(begin)?;
+    begins.push(places.len())?;
+    if let Err(error) = places.push(place) {
+        let _begin = begins.pop();
+        return Err(AllocError::from(error));
+    }
     Ok(())
 }

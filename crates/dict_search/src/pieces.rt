@@ -29,9 +29,9 @@ pub(crate) fn words_of(alloc: Global, keys: &Texts, count: u32) -> Result<Pieces
 {
     let placed = sorted_words(alloc, keys, count)?;
     let mut texts = Texts::new(alloc);
-    let mut lists = PlaceLists::new(alloc);
+    let mut lists = PlaceLists::with_capacity(alloc, placed.len())?;
     group_words(&mut texts, &mut lists, placed.as_slice())?;
-    Ok(Pieces { texts, lists })
+    Ok(Pieces::packed(texts, lists))
 }
 
 /// The runs of three octets of these keys. The only error is refused memory.
@@ -41,9 +41,9 @@ pub(crate) fn grams_of(alloc: Global, keys: &Texts, count: u32) -> Result<Pieces
 {
     let placed = sorted_grams(alloc, keys, count)?;
     let mut texts = Texts::new(alloc);
-    let mut lists = PlaceLists::new(alloc);
+    let mut lists = PlaceLists::with_capacity(alloc, placed.len())?;
     group_grams(&mut texts, &mut lists, placed.as_slice())?;
-    Ok(Pieces { texts, lists })
+    Ok(Pieces::packed(texts, lists))
 }
 
 /// Groups words that are in order, each with the places that stand beside it.
@@ -106,6 +106,16 @@ fn is_last(texts: &Texts, piece: &[u8]) -> bool
 }
 
 impl Pieces {
+    /// Pieces with their lists. No memory is kept for more of them.
+    fn packed(mut texts: Texts, mut lists: PlaceLists) -> Pieces
+        ensures texts { result.texts ≡ texts }
+        ensures lists { result.lists ≡ lists }
+    {
+        texts.shrink();
+        lists.shrink();
+        Pieces { texts, lists }
+    }
+
     /// The places of the keys that have the piece, rising.
     pub(crate) fn places(&self, piece: &[u8]) -> &[u32]
         requires { IsStrictlySortedBy octets_cmp self.now.texts }

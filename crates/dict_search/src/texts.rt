@@ -1,6 +1,7 @@
 //! Texts, one after another.
-ghost use Rattle.std.specs.Prelude.{◌≡◌, ◌+◌, ◌<◌, [], ◌∷◌, ◌++◌, ℕ, List, length, OnOk, OnErr, slice_index_or};
+ghost use Rattle.std.specs.Prelude.{◌≡◌, [], ◌∷◌, ◌++◌, ℕ, List, length, OnOk, OnErr, slice_index_or};
 
+use crate::numbers::Numbers;
 use std::alloc::{AllocError, Global};
 use std::marker::Model;
 
@@ -9,7 +10,7 @@ use std::marker::Model;
 pub(crate) struct Texts {
     octets: Vec<u8>,
     /// Where each of them begins.
-    begins: Vec<usize>,
+    begins: Numbers,
 }
 
 impl Model for Texts {
@@ -18,9 +19,9 @@ impl Model for Texts {
 
     ghost Value = { List (List ℕ) };
 
-    ghost view = { λ texts. runs texts.octets.items texts.begins.items };
+    ghost view = { λ texts. runs texts.octets.items texts.begins };
 
-    ghost invariant = { λ texts. AreBegins texts.octets.items texts.begins.items };
+    ghost invariant = { λ texts. AreBegins texts.octets.items texts.begins };
 }
 
 impl Texts {
@@ -29,7 +30,7 @@ impl Texts {
     {
         Texts {
             octets: Vec::new(alloc),
-            begins: Vec::new(alloc),
+            begins: Numbers::new(alloc),
         }
     }
 
@@ -46,8 +47,9 @@ impl Texts {
         if at >= self.begins.len() {
             return b"";
         }
-        let from = self.begins[at];
-        let to = end(self.begins.as_slice(), self.octets.len(), at);
+        let len = self.octets.len();
+        let from = self.begins.get_or(at, len);
+        let to = self.begins.get_or(at + 1, len);
         &self.octets[from..to]
     }
 
@@ -67,29 +69,27 @@ impl Texts {
             self.octets.truncate(begin);
         }
     }
+
+    /// Lets the memory go that is kept for more of them, as far as that can be had.
+    pub(crate) fn shrink(&mut self)
+        ensures { self.new ≡ self.old }
+    {
+        self.octets.shrink_to_fit();
+        self.begins.shrink();
+    }
 }
 
 /// Puts a text behind the octets, and where it begins behind the begins; or leaves both as they were.
-fn put_text(octets: &mut Vec<u8>, begins: &mut Vec<usize>, text: &[u8]) -> Result<(), AllocError>
+fn put_text(octets: &mut Vec<u8>, begins: &mut Numbers, text: &[u8]) -> Result<(), AllocError>
     ensures octets { OnOk result (octets.new.items ≡ octets.old.items ++ text.now) }
-    ensures begins { OnOk result (begins.new.items ≡ begins.old.items ++ length octets.old.items ∷ []) }
+    ensures begins { OnOk result (begins.new ≡ begins.old ++ length octets.old.items ∷ []) }
     ensures octets_refused { OnErr result (octets.new.items ≡ octets.old.items) }
-    ensures begins_refused { OnErr result (begins.new.items ≡ begins.old.items) }
+    ensures begins_refused { OnErr result (begins.new ≡ begins.old) }
 {
-    let begin = octets.len();
-    begins.reserve(1)?;
-    octets.extend_from_slice(text)?;
-    begins.push(begin)?;
-    Ok(())
-}
-
-/// Where the list at a place ends, of so many elements in all.
-pub(crate) fn end(begins: &[usize], len: usize, at: usize) -> usize
-    requires { at < length begins.now }
-    ensures { result ≡ slice_index_or begins.now (at + 1) len }
-{
-    match begins.get(at + 1) {
-        Some(next) => *next,
-        None => len,
+    begins.push(octets.len())?;
+    if let Err(error) = octets.extend_from_slice(text) {
+        let _begin = begins.pop();
+        return Err(error);
     }
+    Ok(())
 }

@@ -1,10 +1,12 @@
 use Rattle.std.proofs.Common.{sym, subst}
 use Rattle.dict_derived.specs.Derived.{grams}
-use Rattle.dict_search.specs.Pieces.{AreOccurrences}
+use Rattle.dict_search.specs.Pieces.{AreOccurrences, ArePlaced}
 use Rattle.dict_search.specs.PlacedPieces.{grams_placed}
 use Rattle.dict_search.proofs.pieces.grams_of.Goals as goal
 
 pub returns : goal.returns
 returns c =
-    let all : AreOccurrences grams c.args.keys.now (grams_placed c.as_slice.result.now) = subst (λ l. AreOccurrences grams c.args.keys.now (grams_placed l)) (sym c.as_slice.ensures.value) c.in_ok-placed.ensures in
-    c.in_ok-group_grams.ensures c.args.keys.now all
+    let keys = c.args.keys.now in
+    let all : AreOccurrences grams keys (grams_placed c.as_slice.result.now) = subst (λ l. AreOccurrences grams keys (grams_placed l)) (sym c.as_slice.ensures.value) c.in_ok-placed.ensures in
+    let placed = c.in_ok-group_grams.ensures keys all in
+    subst (λ l. ArePlaced grams keys c.packed.result.texts l) (sym c.packed.ensures.lists) (subst (λ l. ArePlaced grams keys l c.group_grams.new.lists) (sym c.packed.ensures.texts) placed)

@@ -8,7 +8,7 @@ use Rattle.dict_search.proofs.entries.Entries.keys.Goals as goal
 pub returns-clause-keys : goal.returns-clause-keys
 returns-clause-keys c =
     let here = c.self.inside in
-    keys_stored here.keys here.shown here.spans.items c.self.invariant.keys_size c.self.invariant.texts_size ∙ ap keys_of c.self.view_is
+    keys_stored here.keys here.shown here.spans c.self.invariant.keys_size c.self.invariant.texts_size ∙ ap keys_of c.self.view_is
 
 pub returns-clause-text : goal.returns-clause-text
 returns-clause-text c = subst (All IsUtf8) (returns-clause-keys c) c.self.invariant.keys_text

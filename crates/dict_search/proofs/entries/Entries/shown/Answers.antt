@@ -8,7 +8,7 @@ use Rattle.dict_search.proofs.entries.Entries.shown.Goals as goal
 pub returns-in-Ok : goal.returns-in-Ok
 returns-in-Ok c =
     let here = c.self.inside in
-    c.in-Ok.ensures.cases.0 ∙ c.get.ensures ∙ shown_at here.keys here.shown here.spans.items c.args.at c.self.invariant.keys_size c.self.invariant.texts_size
+    c.in-Ok.ensures.cases.0 ∙ c.get.ensures ∙ shown_at here.keys here.shown here.spans c.args.at c.self.invariant.keys_size c.self.invariant.texts_size
     ∙ ap (λ (e : Indexed). e.shown) (ap (λ l. entry_at l c.args.at) c.self.view_is)
 
 pub returns-in-Err : goal.returns-in-Err
