@@ -4,6 +4,7 @@ pub mod ListLemmas
 pub mod PieceLemmas
 pub mod PlaceLemmas
 pub mod PlacedLemmas
+pub mod RankLemmas
 pub mod RunLemmas
 pub mod ShownLemmas
 pub mod StoredLemmas

@@ -15,7 +15,7 @@ use Rattle.std.proofs.lemmas.List.Sorted.{Contains-permutation, IsPermutation-sy
 use Rattle.std.proofs.lemmas.Map.Lookups.{exact_bytes, exact_pairs, exact_unsigned}
 use Rattle.dict_derived.specs.Derived.{octets_cmp}
 use Rattle.dict_search.specs.Pieces.{Placed, at_place, occurrences_from, pair_cmp, AreOccurrences}
-use Rattle.dict_search.specs.PlacedPieces.{word_placed, gram_placed}
+use Rattle.dict_search.specs.PlacedPieces.{word_placed, gram_placed, gram_cmp}
 use Rattle.dict_search.specs.declared.placed.PlacedWord.{PlacedWord}
 use Rattle.dict_search.specs.declared.placed.PlacedGram.{PlacedGram}
 use Rattle.dict_search.proofs.ListLemmas.{none_in}
@@ -133,10 +133,7 @@ word_cmp x y = ordering_then (octets_cmp x.word.now y.word.now) (nat_cmp x.place
 word_total : IsTotalOrder word_cmp
 word_total = then_total (on_total (λ (w : PlacedWord). w.word.now) nat_list_cmp_total) (on_total (λ (w : PlacedWord). w.place) nat_cmp_total)
 
-abbrev pub gram_cmp : PlacedGram → PlacedGram → Ordering
-gram_cmp x y = ordering_then (octets_cmp x.gram y.gram) (nat_cmp x.place y.place)
-
-gram_total : IsTotalOrder gram_cmp
+pub gram_total : IsTotalOrder gram_cmp
 gram_total = then_total (on_total (λ (g : PlacedGram). g.gram) nat_list_cmp_total) (on_total (λ (g : PlacedGram). g.place) nat_cmp_total)
 
 -- two tests of equality that tell the same of each pair leave the same

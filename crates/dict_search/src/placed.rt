@@ -5,11 +5,12 @@ ghost use Rattle.std.specs.List.Sorted.{IsStrictlySortedBy};
 ghost use Rattle.dict_match.specs.Words.{words_between_blanks};
 ghost use Rattle.dict_derived.specs.Derived.{grams};
 ghost use Rattle.dict_search.specs.Pieces.{Placed, at_place, occurrences_from, pair_cmp, AreOccurrences};
-ghost use Rattle.dict_search.specs.PlacedPieces.{words_placed, grams_placed};
+ghost use Rattle.dict_search.specs.PlacedPieces.{words_placed, grams_placed, gram_cmp, gram_rank, FitsRank};
 
 use crate::texts::Texts;
 use dict_match::words;
 use std::alloc::{AllocError, Global};
+use std::cmp::Ordering;
 
 /// A word of the key at a place.
 #[derive(Clone, Copy, Debug, PartialEq, Eq, PartialOrd, Ord)]
@@ -19,10 +20,29 @@ pub(crate) struct PlacedWord<'a> {
 }
 
 /// A run of three octets of the key at a place.
-#[derive(Clone, Copy, Debug, PartialEq, Eq, PartialOrd, Ord)]
+#[derive(Clone, Copy, Debug, PartialEq, Eq)]
 pub(crate) struct PlacedGram {
     pub gram: [u8; 3],
     pub place: u32,
+}
+
+impl PlacedGram {
+    /// A number in the order of the runs, and of the places where runs are the same: one comparison in place of four.
+    fn rank(&self) -> u64
+        ensures value { result ≡ gram_rank self.now }
+        ensures fits { FitsRank self.now }
+    {
+        let [first, second, third] = self.gram;
+        let gram = (first as u64 * 256 + second as u64) * 256 + third as u64;
+        gram * 4_294_967_296 + self.place as u64
+    }
+}
+
+/// By the runs, and by the places where runs are the same.
+fn compare_grams(one: &PlacedGram, other: &PlacedGram) -> Ordering
+    ensures { result ≡ gram_cmp one.now other.now }
+{
+    one.rank().cmp(&other.rank())
 }
 
 /// Puts the words of the key at a place behind the list, each as often as it stands there.
@@ -82,7 +102,7 @@ pub(crate) fn sorted_grams(
     for place in 0..count {
         add_grams(&mut runs, keys.get(place as usize), place)?;
     }
-    runs.sort_unstable();
+    runs.sort_unstable_by(|one, other| compare_grams(one, other));
     runs.dedup();
     Ok(runs)
 }
