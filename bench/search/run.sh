@@ -1,28 +1,24 @@
 #!/usr/bin/env bash
-# Times an index in memory over the headwords of dictionaries: bench/search/run.sh [INDEX..]
-# The program over dict_search is program.txt: a file of code outside a crate would be refused by the gate. Without INDEX it
-# takes Debian's WordNet and English-Arabic, and 262,144 made lines (bench/make_words.py). Outside the gate: it needs python3.
+# Times an index in memory over the headwords of dictionaries, beside its bounds: bench/search/run.sh [INDEX..]
+# Each is made and asked five times, and the best of each figure is told. Without INDEX it takes Debian's WordNet and
+# English-Arabic, and 262,144 made lines (bench/make_words.py). Outside the gate: it needs python3, and a quiet machine.
 set -e
 here=$(cd "$(dirname "$0")" && pwd)
-top=$(cd "$here/../.." && pwd)
+source "$here/build.sh"
 work=$(mktemp -d)
 trap 'rm -rf "$work"' EXIT
-
-mkdir -p "$work/crates/search/src"
-cp -r "$top/crates/." "$work/crates/"
-cp "$here/program.txt" "$work/crates/search/src/main.rt"
-{ cat "$top/crates.txt"; echo 'search: dict_search dict_match'; } >"$work/crates.txt"
-cp "$top/HANDLES" "$work/"
 files=("$@")
-if [[ ${#files[@]} -eq 0 ]]; then
-    python3 "$top/bench/make_words.py" 262144 20000000 "$work/made.index" "$work/made.dict"
-    files=(/usr/share/dictd/wn.index /usr/share/dictd/freedict-eng-ara.index "$work/made.index")
+if [[ ${#files[@]} -eq 0 ]]; then files=(/usr/share/dictd/wn.index /usr/share/dictd/freedict-eng-ara.index); fi
+if [[ $# -eq 0 ]]; then
+    python3 "$here/../make_words.py" 262144 20000000 "$work/made.index" "$work/made.dict"
+    files+=("$work/made.index")
 fi
-(cd "$work/crates/search" && rt run -- "${files[0]}") >"$work/built" 2>&1 || { cat "$work/built"; exit 1; }
+program=$(build "$work/here" times "${files[0]}")
+echo "$(date '+%d %B %Y, %H:%M'), load $(cut -d ' ' -f 1 /proc/loadavg), commit $(git -C "$here" rev-parse --short=8 HEAD)"
 for file in "${files[@]}"; do
     echo "== $file"
-    for round in 1 2 3; do
-        "$work/crates/search/out/search" "$file" >"$work/told.$round"
+    for round in 1 2 3 4 5; do
+        "$program" "$file" > "$work/told.$round"
     done
-    python3 "$here/table.py" "$work"/told.[123]
+    python3 "$here/table.py" "$work"/told.[12345]
 done

@@ -2,33 +2,49 @@
 """Prints the figures of runs of bench/search's program, the best of each, beside their bounds: table.py FILE.."""
 import sys
 
-BOUNDS = {"exact": "1 us", "prefix": "0.5 us, 0.1 us a found", "suffix": "0.5 us, 0.1 us a found", "word": "0.5 us, 0.1 us a found", "substring": "40 us, 0.1 us for each with the rarer gram"}
 PAGE = 4096
 
 
 def read(path):
-    """What one run told: the least microseconds of each kind, what was found of it, and the pages."""
-    times, found, pages, entries = {}, {}, {}, 0
+    """What one run told: the microseconds of each kind, what was found of it, the pages, the entries and their octets."""
+    times, found, pages, sizes = {}, {}, {}, {}
     for line in open(path):
         words = line.split()
-        if "us" in words:
-            name, micros = words[0], int(words[-1])
-            times[name] = times.get(name, 0) + micros
-        elif words[1:2] == ["pages"]:
+        if words[1] == "us":
+            times[words[0]] = times.get(words[0], 0) + int(words[2])
+        elif words[1] == "pages":
             pages[words[0]] = int(words[2])
         elif words[0] == "entries":
-            entries = int(words[1])
-        elif words[1:2] == ["found"]:
-            found[words[0]] = (int(words[2]), int(words[4]))
-    return times, found, pages, entries
+            sizes = {"entries": int(words[1]), "octets": int(words[3])}
+        elif words[1] == "found":
+            found[words[0]] = {name: int(words[at + 1]) for at, name in enumerate(words) if name in ("found", "looked", "rarer", "asked")}
+    return times, found, pages, sizes
+
+
+def bound(name, sums):
+    """The microseconds that a query may take, of what was found by all of them; None where no bound is set."""
+    if name == "exact":
+        return 1
+    if name in ("prefix", "suffix", "word"):
+        return 0.5 + 0.1 * sums["found"] / sums["asked"]
+    if name == "substring":
+        return 40 + 0.1 * sums["rarer"] / sums["asked"]
+    return None
 
 
 runs = [read(path) for path in sys.argv[1:]]
-times, found, pages, entries = runs[0]
-best = {name: min(run[0][name] for run in runs) for name in times}
-print(f"{entries} entries made in {best['made'] / 1000:.0f} ms, {best['made'] / entries:.2f} ms a thousand (bound 2.5)")
-print(f"resident: {(pages['after'] - pages['before']) * PAGE / entries:.0f} octets an entry, with keys and what is shown")
-for name, (count, looked) in found.items():
-    each = best[name] / 2000
-    print(f"{name:10} {each:8.2f} us a query, {count / 2000:8.1f} found, {looked / 2000:8.1f} looked at; {1000 * best[name] / max(count, 1):8.0f} ns a found; bound {BOUNDS.get(name, 'none')}")
+_, found, _, sizes = runs[0]
+best = {name: min(run[0][name] for run in runs) for name in runs[0][0]}
+pages = min(run[2]["after"] - run[2]["before"] for run in runs)
+entries = sizes["entries"]
+print(f"{entries} entries; keys and shown headwords {sizes['octets']} octets")
+print(f"made in {best['made'] / 1000:.0f} ms ({best['pushed'] / 1000:.0f} of them to push): {best['made'] / entries:.2f} ms a thousand, at most 2.5")
+print(f"memory besides keys and shown headwords: {(pages * PAGE - sizes['octets']) / entries:.0f} octets an entry, at most 100")
+for name, sums in found.items():
+    if name not in best or "asked" not in sums:
+        continue
+    each = best[name] / sums["asked"]
+    most = bound(name, sums)
+    told = f", at most {most:.2f}" if most else ""
+    print(f"{name:10} {each:8.2f} us a query{told}; of each {sums['found'] / sums['asked']:.1f} found, {sums['looked'] / sums['asked']:.1f} looked at, {sums['rarer'] / sums['asked']:.1f} with the rarer gram")
 print(f"headwords of two searches: {best['headwords'] / 1000:.1f} ms")
