@@ -10,7 +10,7 @@ use Rattle.std.specs.List.{range_with_len}
 use Rattle.std.proofs.lemmas.Bool.{false≢true, cases_lt}
 use Rattle.std.proofs.lemmas.List.Elements.{filter_agree}
 use Rattle.std.proofs.lemmas.Cmp.{nat_cmp_total, nat_list_cmp_total, on_total, then_total, upto}
-use Rattle.std.proofs.lemmas.List.{get_or-drop, get_or-take, get_or-map, get_or_past, length-drop, length-map, length-take}
+use Rattle.std.proofs.lemmas.List.{get_or-drop, get_or-take, get_or-map, get_or_past, length-drop, length-map, length-take, length-take-le}
 use Rattle.std.proofs.lemmas.List.Sorted.{ranks_by, sorted_far}
 use Rattle.std.proofs.lemmas.Map.Text.{is_eq-slice_cmp}
 use Rattle.dict_derived.specs.Derived.{octets_cmp}
@@ -98,6 +98,34 @@ parted_up_to keys xs from high up i j d le lt h =
     let two : get_or (drop from xs) j d ≡ get_or xs (from + j) d = get_or-drop from xs j d in
     subst (λ x. up_to keys high x ≡ true) (sym one)
     (up_to_too (key_at keys (get_or xs (from + i) d)) (key_at keys (get_or xs (from + j) d)) high (rises keys xs up (from + i) (from + j) d (omega arith) (omega arith)) (subst (λ y. up_to keys high y ≡ true) two h))
+
+-- Of places of which those up to the end come first, a part is looked at; the one behind it is past the end.
+module _ (p : ℕ → Bool) (xs : List ℕ) (parted : IsPartitionedBy p xs) (near count : ℕ) (past : (d : ℕ) → near < length xs → p (get_or xs near d) ≡ false) where
+  none_behind : (k d : ℕ) → near ≤ k → k < length xs → p (get_or xs k d) ≡ false
+  none_behind k d le lt = by (p (get_or xs k d)) refl
+    where
+      by : (b : Bool) → p (get_or xs k d) ≡ b → p (get_or xs k d) ≡ false
+      by false e = e
+      by true e = absurd (false≢true (sym (past d (omega (arith, le, lt))) ∙ parted near k d le lt e))
+
+  pub near_point : near ≤ length xs → count ≤ near → IsPartitionPoint (λ y. p y ≡ true) (λ y. p y ≡ false) (take near xs) count → IsPartitionPoint (λ y. p y ≡ true) (λ y. p y ≡ false) xs count
+  near_point within few point =
+      let size : length (take near xs) ≡ near = length-take-le near xs within in (
+        (λ k d low below.
+            let inside : k < near = omega (arith, below, few) in
+            subst (λ x. p x ≡ true) (get_or-take near xs k d inside) (point.0 k d low below)),
+        (λ k d above lt. elim (cases_lt k near) [
+          | inl inside ↦ subst (λ x. p x ≡ false) (get_or-take near xs k d inside) (point.1 k d above (omega (arith, inside, size)))
+          | inr le ↦ none_behind k d le lt
+        ]),
+      )
+
+pub parted_near : (p : ℕ → Bool) (xs : List ℕ) (near : ℕ) → near ≤ length xs → IsPartitionedBy p xs → IsPartitionedBy p (take near xs)
+parted_near p xs near within parted i j d le lt h =
+    let size : length (take near xs) ≡ near = length-take-le near xs within in
+    let last : j < near = omega (arith, lt, size) in
+    let first : i < near = omega (arith, le, last) in
+    subst (λ x. p x ≡ true) (sym (get_or-take near xs i d first)) (parted i j d le (omega (arith, last, within)) (subst (λ x. p x ≡ true) (get_or-take near xs j d last) h))
 
 first_fails : (a b : Bool) → a ≡ false → (a && b) ≡ false
 first_fails a b e = ap (λ x. x && b) e

@@ -1,5 +1,5 @@
 //! Places in the order of their texts, and those whose text lies between two others.
-ghost use Rattle.std.specs.Prelude.{◌≡◌, length, map, filter, reverse, IfOk};
+ghost use Rattle.std.specs.Prelude.{◌≡◌, ◌<◌, ◌≤◌, ℕ, false, length, map, filter, reverse, IfOk, slice_index_or};
 ghost use Rattle.std.specs.List.{range_with_len};
 ghost use Rattle.std.specs.Ordering.{is_lt, is_le};
 ghost use Rattle.dict_derived.specs.Derived.{octets_cmp};
@@ -82,9 +82,24 @@ fn run_between<'a>(texts: &Texts, sorted: &'a [u32], low: &[u8], high: &[u8]) ->
 {
     let from = sorted.partition_point(|place| is_before(texts, *place, low));
     let (_, rest) = sorted.split_at(from);
-    let count = rest.partition_point(|place| is_up_to(texts, *place, high));
-    let (run, _) = rest.split_at(count);
+    let (near, _) = rest.split_at(reach(texts, rest, high));
+    let count = near.partition_point(|place| is_up_to(texts, *place, high));
+    let (run, _) = near.split_at(count);
     run
+}
+
+/// How many of the places have to be looked at for those whose text is up to the end, where these come first: most
+/// often these are few. The one behind them, where there is one, is past the end.
+fn reach(texts: &Texts, places: &[u32], high: &[u8]) -> usize
+    ensures bound { result ≤ length places.now }
+    ensures past { (d : ℕ) → result < length places.now → is_le (octets_cmp (key_at texts.now (slice_index_or places.now result d)) high.now) ≡ false }
+{
+    for count in [1, 4, 16, 64, 256] {
+        if count < places.len() && !is_up_to(texts, places[count], high) {
+            return count;
+        }
+    }
+    places.len()
 }
 
 fn is_before(texts: &Texts, place: u32, low: &[u8]) -> bool

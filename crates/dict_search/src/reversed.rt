@@ -1,5 +1,5 @@
 //! Places in the order of their texts as these are read from behind.
-ghost use Rattle.std.specs.Prelude.{◌≡◌, map, filter, reverse, IfOk};
+ghost use Rattle.std.specs.Prelude.{◌≡◌, ◌<◌, ◌≤◌, ℕ, false, length, map, filter, reverse, IfOk, slice_index_or};
 ghost use Rattle.std.specs.Ordering.{is_lt, is_le};
 ghost use Rattle.dict_derived.specs.Derived.{octets_cmp};
 ghost use Rattle.dict_search.specs.Places.{key_at, places_where};
@@ -34,9 +34,24 @@ fn run_between_reversed<'a>(texts: &Texts, sorted: &'a [u32], low: &[u8], high: 
 {
     let from = sorted.partition_point(|place| is_before(texts, *place, low));
     let (_, rest) = sorted.split_at(from);
-    let count = rest.partition_point(|place| is_up_to(texts, *place, high));
-    let (run, _) = rest.split_at(count);
+    let (near, _) = rest.split_at(reach_reversed(texts, rest, high));
+    let count = near.partition_point(|place| is_up_to(texts, *place, high));
+    let (run, _) = near.split_at(count);
     run
+}
+
+/// How many of the places have to be looked at for those whose text, read from behind, is up to the end, where these come first: most
+/// often these are few. The one behind them, where there is one, is past the end.
+fn reach_reversed(texts: &Texts, places: &[u32], high: &[u8]) -> usize
+    ensures bound { result ≤ length places.now }
+    ensures past { (d : ℕ) → result < length places.now → is_le (octets_cmp (key_at (map reverse texts.now) (slice_index_or places.now result d)) high.now) ≡ false }
+{
+    for count in [1, 4, 16, 64, 256] {
+        if count < places.len() && !is_up_to(texts, places[count], high) {
+            return count;
+        }
+    }
+    places.len()
 }
 
 fn is_before(texts: &Texts, place: u32, low: &[u8]) -> bool

@@ -131,3 +131,21 @@ fn headwords_come_once_and_entries_by_their_places(rt: HostRuntime) -> Result<()
     holds(&rt, index.len() == 10 && index.entry(10).shown == "", "ten");
     Ok(())
 }
+
+#[test]
+fn spans_of_any_size_are_kept(rt: HostRuntime) -> Result<(), Fail> {
+    let alloc = rt.alloc();
+    let far: [Line; 3] = [
+        ("a", "a", 1, 2),
+        ("b", "b", 4_294_967_296, 3),
+        ("c", "c", 4, 5),
+    ];
+    let index = built(alloc, &far)?;
+    let first = index.entry(0);
+    holds(&rt, first.start == 1 && first.size == 2, "a");
+    let second = index.entry(1);
+    holds(&rt, second.start == 4_294_967_296 && second.size == 3, "b");
+    let third = index.entry(2);
+    holds(&rt, third.start == 4 && third.size == 5, "c");
+    Ok(())
+}
