@@ -15,8 +15,6 @@ mod placed;
 mod reversed;
 mod shown;
 mod spans;
-#[cfg(test)]
-mod tests;
 mod texts;
 
 pub use builder::IndexBuilder;

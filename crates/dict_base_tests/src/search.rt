@@ -1,6 +1,8 @@
-use crate::{Index, IndexBuilder, edition_laws, selection_law};
+//! An index in memory beside the filter of the whole list.
+use crate::checks::holds;
 use dict_derived::select;
-use dict_match::{Strategy, key_of, matches};
+use dict_match::{Key, Strategy, key_of, matches};
+use dict_search::{Index, IndexBuilder, edition_laws, selection_law};
 use std::alloc::{AllocError, Global};
 use std::process::Abort;
 use std::test::Fail;
@@ -53,17 +55,24 @@ fn built(alloc: Global, lines: &[Line]) -> Result<Index, AllocError> {
     builder.finish()
 }
 
-// The places of the lines whose key the query finds: the filter of the whole list.
+fn keys_of(alloc: Global, lines: &[Line]) -> Result<Vec<Key>, AllocError> {
+    let mut keys = Vec::new(alloc);
+    for line in lines {
+        keys.push(key_of(alloc, line.0)?)?;
+    }
+    Ok(keys)
+}
+
+// The places of the keys that the query finds: the filter of the whole list.
 fn filtered(
     alloc: Global,
-    lines: &[Line],
+    keys: &[Key],
     strategy: Strategy,
     query: &str,
 ) -> Result<Vec<u32>, AllocError> {
     let mut places = Vec::new(alloc);
     let mut place: u32 = 0;
-    for line in lines {
-        let key = key_of(alloc, line.0)?;
+    for key in keys {
         if matches(strategy, query.as_bytes(), key.as_bytes()) {
             places.push(place)?;
         }
@@ -72,37 +81,55 @@ fn filtered(
     Ok(places)
 }
 
-fn holds(rt: &impl Abort, holds: bool, of: &str) {
-    assert!(rt; holds, "{of:?}");
-}
-
 // One query of some lines, beside the filter.
 fn try_one(
     rt: &impl Abort,
     alloc: Global,
-    lines: &[Line],
+    index: &Index,
+    keys: &[Key],
     strategy: Strategy,
     query: &str,
 ) -> Result<(), AllocError> {
-    let index = built(alloc, lines)?;
-    let wanted = filtered(alloc, lines, strategy, query)?;
+    let wanted = filtered(alloc, keys, strategy, query)?;
     let found = index.find(alloc, strategy, query.as_bytes())?;
     holds(rt, found.places.as_slice() == wanted.as_slice(), query);
     let counted = index.count_entries(alloc, strategy, query.as_bytes())?;
     holds(rt, counted.count == wanted.len(), query);
-    let selection = select(alloc, strategy, query.as_bytes())?;
-    let candidates = index.candidates(alloc, &selection)?;
-    holds(rt, candidates.len() == found.looked_at, query);
+    let looked_at = count_candidates(alloc, index, strategy, query)?;
+    holds(rt, looked_at == found.looked_at, query);
     Ok(())
 }
 
-fn try_all(rt: &impl Abort, alloc: Global, lines: &[Line]) -> Result<(), AllocError> {
+fn count_candidates(
+    alloc: Global,
+    index: &Index,
+    strategy: Strategy,
+    query: &str,
+) -> Result<usize, AllocError> {
+    let selection = select(alloc, strategy, query.as_bytes())?;
+    let candidates = index.candidates(alloc, &selection)?;
+    Ok(candidates.len())
+}
+
+fn try_strategies(
+    rt: &impl Abort,
+    alloc: Global,
+    index: &Index,
+    keys: &[Key],
+) -> Result<(), AllocError> {
     for strategy in Strategy::ALL {
         for query in &QUERIES {
-            try_one(rt, alloc, lines, strategy, query)?;
+            try_one(rt, alloc, index, keys, strategy, query)?;
         }
     }
     Ok(())
+}
+
+// Each query by each strategy, of one index of the lines.
+fn try_all(rt: &impl Abort, alloc: Global, lines: &[Line]) -> Result<(), AllocError> {
+    let index = built(alloc, lines)?;
+    let keys = keys_of(alloc, lines)?;
+    try_strategies(rt, alloc, &index, keys.as_slice())
 }
 
 #[test]
