@@ -5,7 +5,7 @@ use Rattle.sqlite.specs.Held.{state}
 use Rattle.dict_sql.proofs.StreamLemmas.{passed_on}
 use Rattle.dict_scans.specs.declared.fault.ReadingFault.{ReadingFault}
 use Rattle.dict_scans.specs.declared.fault.ReadingFault.TheVariants.{Damaged}
-use Rattle.dict_scans.proofs.StateLemmas.{clean_before}
+use Rattle.dict_scans.proofs.StateLemmas.{clean_before, reads_then}
 use Rattle.dict_sql.specs.Encodings.{stored_mark}
 use Rattle.dict_sql.specs.Reads.{IsListing}
 use Rattle.dict_opening.specs.Opens.{HasVersionTables, KeepsNone, HoldsNoneAs, HasBegun, HasAll}
@@ -96,3 +96,15 @@ returns-in_err-read_all-clause-failed g c clean =
 pub returns-clause-failed : goal.returns-clause-failed
 returns-clause-failed g c clean =
     subst (IsExcused (state g.S.Store c.args.conn.now) (state g.S.Store c.read_all.new.conn)) (sym c.fault_of_rows.ensures) (rows_cause (state g.S.Store c.args.conn.now) (state g.S.Store c.read_all.new.conn) c.in-Err.fault)
+
+pub returns-in_err-read_all-clause-reads : goal.returns-in_err-read_all-clause-reads
+returns-in_err-read_all-clause-reads g c =
+    reads_then (state g.S.Store c.args.conn.now) (state g.S.Store c.begin.new.conn) (state g.S.Store c.read_all.new.conn) c.begin.ensures.reads c.read_all.ensures.reads
+
+pub returns-in-Ok-clause-reads : goal.returns-in-Ok-clause-reads
+returns-in-Ok-clause-reads g c =
+    reads_then (state g.S.Store c.args.conn.now) (state g.S.Store c.begin.new.conn) (state g.S.Store c.read_all.new.conn) c.begin.ensures.reads c.read_all.ensures.reads
+
+pub returns-clause-reads : goal.returns-clause-reads
+returns-clause-reads g c =
+    reads_then (state g.S.Store c.args.conn.now) (state g.S.Store c.begin.new.conn) (state g.S.Store c.read_all.new.conn) c.begin.ensures.reads c.read_all.ensures.reads
