@@ -17,7 +17,11 @@ fi
 program=$(build "$work/here" compare "$work/none")
 echo "$(date '+%d %B %Y, %H:%M'), load $(cut -d ' ' -f 1 /proc/loadavg), commit $(git -C "$here" rev-parse --short=8 HEAD)"
 for file in "${files[@]}"; do
-    "$program" "$file" > "$work/told"
+    if ! "$program" "$file" > "$work/told"; then
+        echo "$file: not read"
+        touch "$work/differs"
+        continue
+    fi
     awk -v name="$(basename "$file" .index)" '
         $1 == "entries" { entries = $2 }
         $2 == "asked" { asked += $3; agreed += $5; found += $7; none += $9 }

@@ -1,14 +1,14 @@
 #!/usr/bin/env bash
 # Times an index in memory over the headwords of dictionaries, beside its bounds: bench/search/run.sh [INDEX..]
-# Each is made and asked five times, and the best of each figure is told. Without INDEX it takes Debian's WordNet and
-# English-Arabic, and 262,144 made lines (bench/make_words.py). Outside the gate: it needs python3, and a quiet machine.
+# Each is made five times, and asked seven times each time; the best of each figure is told, in processor time. Without INDEX
+# it takes Debian's WordNet and Arabic-English, and 262,144 made lines (bench/make_words.py). Outside the gate: it needs python3.
 set -e
 here=$(cd "$(dirname "$0")" && pwd)
 source "$here/build.sh"
 work=$(mktemp -d)
 trap 'rm -rf "$work"' EXIT
 files=("$@")
-if [[ ${#files[@]} -eq 0 ]]; then files=(/usr/share/dictd/wn.index /usr/share/dictd/freedict-eng-ara.index); fi
+if [[ ${#files[@]} -eq 0 ]]; then files=(/usr/share/dictd/wn.index /usr/share/dictd/freedict-ara-eng.index); fi
 if [[ $# -eq 0 ]]; then
     python3 "$here/../make_words.py" 262144 20000000 "$work/made.index" "$work/made.dict"
     files+=("$work/made.index")

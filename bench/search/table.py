@@ -1,17 +1,17 @@
 #!/usr/bin/env python3
-"""Prints the figures of runs of bench/search's program, the best of each, beside their bounds: table.py FILE.."""
+"""Prints the figures of runs of bench/search/times.txt, the best of each, beside their bounds: table.py FILE.."""
 import sys
 
 PAGE = 4096
 
 
 def read(path):
-    """What one run told: the microseconds of each kind, what was found of it, the pages, the entries and their octets."""
+    """What one run told: the fewest microseconds of each kind, what was found of it, the pages, the entries and their octets."""
     times, found, pages, sizes = {}, {}, {}, {}
     for line in open(path):
         words = line.split()
         if words[1] == "us":
-            times[words[0]] = times.get(words[0], 0) + int(words[2])
+            times[words[0]] = min(times.get(words[0], int(words[2])), int(words[2]))
         elif words[1] == "pages":
             pages[words[0]] = int(words[2])
         elif words[0] == "entries":
@@ -47,4 +47,5 @@ for name, sums in found.items():
     most = bound(name, sums)
     told = f", at most {most:.2f}" if most else ""
     print(f"{name:10} {each:8.2f} us a query{told}; of each {sums['found'] / sums['asked']:.1f} found, {sums['looked'] / sums['asked']:.1f} looked at, {sums['rarer'] / sums['asked']:.1f} with the rarer gram")
-print(f"headwords of two searches: {best['headwords'] / 1000:.1f} ms")
+for name in ("headwords-by-prefix", "headwords-by-substring"):
+    print(f"{name} of the letter a: {best[name] / 1000:.1f} ms")
