@@ -1,5 +1,5 @@
 -- The sorted places, cut at both ends of what is looked for.
-use Rattle.std.proofs.Common.{◌≡◌, ℕ, ◌+◌, ◌<◌, ◌≤◌, Bool, true, false, ◌&&◌, List, [], map, reverse, length, take, drop, get_or, filter, inl, inr, refl, ap, sym, ◌∙◌, subst, arith}
+use Rattle.std.proofs.Common.{◌≡◌, ℕ, ◌+◌, ◌-◌, ◌<◌, ◌≤◌, Bool, true, false, ◌&&◌, List, [], map, reverse, length, take, drop, get_or, filter, inl, inr, refl, ap, sym, ◌∙◌, subst, arith}
 use Rattle.std.specs.Cmp.{IsTotalOrder}
 use Rattle.std.specs.declared.cmp.Ordering.{Ordering}
 use Rattle.std.specs.declared.cmp.Ordering.TheVariants.{Less, Equal, Greater}
@@ -126,6 +126,34 @@ parted_near p xs near within parted i j d le lt h =
     let last : j < near = omega (arith, lt, size) in
     let first : i < near = omega (arith, le, last) in
     subst (λ x. p x ≡ true) (sym (get_or-take near xs i d first)) (parted i j d le (omega (arith, last, within)) (subst (λ x. p x ≡ true) (get_or-take near xs j d last) h))
+
+pub parted_far : (p : ℕ → Bool) (xs : List ℕ) (from : ℕ) → IsPartitionedBy p xs → IsPartitionedBy p (drop from xs)
+parted_far p xs from parted i j d le lt h =
+    let size = length-drop from xs in
+    let one : get_or (drop from xs) i d ≡ get_or xs (from + i) d = get_or-drop from xs i d in
+    let two : get_or (drop from xs) j d ≡ get_or xs (from + j) d = get_or-drop from xs j d in
+    subst (λ x. p x ≡ true) (sym one) (parted (from + i) (from + j) d (omega arith) (omega arith) (subst (λ x. p x ≡ true) two h))
+
+-- The same of a part behind others, of which the last one passes.
+pub far_point : (p : ℕ → Bool) (xs : List ℕ) (first count : ℕ) → IsPartitionedBy p xs → ((d : ℕ) → 0 < first → p (get_or xs (first - 1) d) ≡ true) → first ≤ length xs
+    → IsPartitionPoint (λ y. p y ≡ true) (λ y. p y ≡ false) (drop first xs) count
+    → IsPartitionPoint (λ y. p y ≡ true) (λ y. p y ≡ false) xs (first + count)
+far_point p xs first count parted front within point =
+    let size = length-drop first xs in (
+      (λ k d low below. elim (cases_lt k first) [
+        | inl less ↦ parted k (first - 1) d (omega (arith, less)) (omega (arith, less, within)) (front d (omega (arith, less)))
+        | inr le ↦ at_rest (λ x. p x ≡ true) k d le (point.0 (k - first) d (omega arith) (omega (arith, below, le)))
+      ]),
+      (λ k d above lt.
+          let le : first ≤ k = omega (arith, above) in
+          at_rest (λ x. p x ≡ false) k d le (point.1 (k - first) d (omega (arith, above)) (omega (arith, lt, le, size)))),
+    )
+  where
+    at_rest : (P : ℕ → Type 0) (k d : ℕ) → first ≤ k → P (get_or (drop first xs) (k - first) d) → P (get_or xs k d)
+    at_rest P k d le h =
+        let there : get_or (drop first xs) (k - first) d ≡ get_or xs (first + (k - first)) d = get_or-drop first xs (k - first) d in
+        let same : first + (k - first) ≡ k = omega (arith, le) in
+        subst (λ n. P (get_or xs n d)) same (subst P there h)
 
 first_fails : (a b : Bool) → a ≡ false → (a && b) ≡ false
 first_fails a b e = ap (λ x. x && b) e

@@ -10,6 +10,7 @@ ghost use Rattle.dict_search.specs.Found.{found_places, found_entries, found_hea
 
 use crate::entries::Entries;
 use crate::found::{Counted, Found};
+use crate::heads::heads_of;
 use crate::keeping::keep_hits;
 use crate::order::{first_places, places_between, reversed_texts, sorted_places};
 use crate::pieces::{Pieces, common_places, grams_of, words_of};
@@ -26,6 +27,8 @@ use std::marker::Model;
 pub struct Index {
     entries: Entries,
     by_key: Vec<u32>,
+    /// The first octets of the keys in that order.
+    key_heads: Vec<u32>,
     by_reversed_key: Vec<u32>,
     words: Pieces,
     grams: Pieces,
@@ -59,12 +62,14 @@ pub(crate) fn index_of(alloc: Global, entries: Entries, count: u32) -> Result<In
     ensures { IfOk result (λ index. index ≡ entries) }
 {
     let by_key = sorted_places(alloc, entries.keys(), count)?;
+    let key_heads = heads_of(alloc, entries.keys(), by_key.as_slice())?;
     let by_reversed_key = reversed_places(alloc, &entries, count)?;
     let words = words_of(alloc, entries.keys(), count)?;
     let grams = grams_of(alloc, entries.keys(), count)?;
     Ok(Index {
         entries,
         by_key,
+        key_heads,
         by_reversed_key,
         words,
         grams,
@@ -122,6 +127,7 @@ impl Index {
                 alloc,
                 self.entries.keys(),
                 self.by_key.as_slice(),
+                self.key_heads.as_slice(),
                 low.as_slice(),
                 high.as_slice(),
             ),
@@ -147,7 +153,14 @@ impl Index {
     fn with_key(&self, alloc: Global, key: &[u8]) -> Result<Vec<u32>, AllocError>
         ensures { IfOk result (λ places. places.items ≡ places_where (λ other. bytes_eq other key.now) (keys_of self.now)) }
     {
-        places_between(alloc, self.entries.keys(), self.by_key.as_slice(), key, key)
+        places_between(
+            alloc,
+            self.entries.keys(),
+            self.by_key.as_slice(),
+            self.key_heads.as_slice(),
+            key,
+            key,
+        )
     }
 
     /// The places of the entries whose keys have this word.

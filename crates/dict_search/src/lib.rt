@@ -4,6 +4,7 @@
 mod builder;
 mod entries;
 mod found;
+mod heads;
 mod index;
 mod keeping;
 mod laws;

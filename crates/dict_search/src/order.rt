@@ -1,12 +1,13 @@
 //! Places in the order of their texts, and those whose text lies between two others.
 ghost use Rattle.std.specs.Prelude.{◌≡◌, ◌<◌, ◌≤◌, ℕ, false, length, map, filter, reverse, IfOk, slice_index_or};
 ghost use Rattle.std.specs.List.{range_with_len};
-ghost use Rattle.std.specs.Ordering.{is_lt, is_le};
+ghost use Rattle.std.specs.Ordering.{is_le};
 ghost use Rattle.dict_derived.specs.Derived.{octets_cmp};
 ghost use Rattle.dict_search.specs.Places.{key_at, places_where};
 ghost use Rattle.dict_search.specs.Orders.{place_cmp, IsOrderOf};
 ghost use Rattle.dict_search.specs.Selected.{is_between};
 
+use crate::heads::count_before;
 use crate::texts::Texts;
 use std::alloc::{AllocError, Global};
 use std::cmp::Ordering;
@@ -58,29 +59,37 @@ fn reversed(alloc: Global, octets: &[u8]) -> Result<Vec<u8>, AllocError>
     octets.iter().rev().copied().collect(alloc)
 }
 
-/// The places whose text lies between both ends, which are taken in, rising.
+/// The places whose text lies between both ends, which are taken in, rising. The heads are to be those of the texts in the
+/// order of the places.
 pub(crate) fn places_between(
     alloc: Global,
     texts: &Texts,
     sorted: &[u32],
+    heads: &[u32],
     low: &[u8],
     high: &[u8],
 ) -> Result<Vec<u32>, AllocError>
     requires { IsOrderOf texts.now sorted.now }
     ensures { IfOk result (λ places. places.items ≡ places_where (is_between low.now high.now) texts.now) }
 {
-    let run = run_between(texts, sorted, low, high);
+    let run = run_between(texts, sorted, heads, low, high);
     let mut places = Vec::from_slice(alloc, run)?;
     places.sort_unstable();
     Ok(places)
 }
 
 /// Those of the sorted places whose text lies between both ends.
-fn run_between<'a>(texts: &Texts, sorted: &'a [u32], low: &[u8], high: &[u8]) -> &'a [u32]
+fn run_between<'a>(
+    texts: &Texts,
+    sorted: &'a [u32],
+    heads: &[u32],
+    low: &[u8],
+    high: &[u8],
+) -> &'a [u32]
     requires { IsOrderOf texts.now sorted.now }
     ensures { result.now ≡ filter (λ place. is_between low.now high.now (key_at texts.now place)) sorted.now }
 {
-    let from = sorted.partition_point(|place| is_before(texts, *place, low));
+    let from = count_before(texts, sorted, heads, low);
     let (_, rest) = sorted.split_at(from);
     let (near, _) = rest.split_at(reach(texts, rest, high));
     let count = near.partition_point(|place| is_up_to(texts, *place, high));
@@ -100,12 +109,6 @@ fn reach(texts: &Texts, places: &[u32], high: &[u8]) -> usize
         }
     }
     places.len()
-}
-
-fn is_before(texts: &Texts, place: u32, low: &[u8]) -> bool
-    ensures { result ≡ is_lt (octets_cmp (key_at texts.now place) low.now) }
-{
-    texts.get(place as usize).cmp(low).is_lt()
 }
 
 fn is_up_to(texts: &Texts, place: u32, high: &[u8]) -> bool

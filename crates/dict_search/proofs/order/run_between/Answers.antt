@@ -2,7 +2,7 @@ use Rattle.std.proofs.Common.{◌≡◌, ℕ, ◌<◌, ◌≤◌, true, false, d
 use Rattle.std.proofs.lemmas.List.{length-take-le, take-take}
 use Rattle.std.proofs.lemmas.List.Sorted.{IsPartitionPoint-from_clause}
 use Rattle.std.specs.List.Sorted.{IsPartitionedBy, IsPartitionPoint}
-use Rattle.dict_search.proofs.PlaceLemmas.{before, up_to, parted_before, parted_up_to, parted_near, near_point, run_is}
+use Rattle.dict_search.proofs.PlaceLemmas.{up_to, parted_up_to, parted_near, near_point, run_is}
 use Rattle.dict_search.proofs.order.run_between.Goals as goal
 
 pub returns : goal.returns
@@ -11,10 +11,9 @@ returns c =
     let xs = c.args.sorted.now in
     let low = c.args.low.now in
     let high = c.args.high.now in
-    let from = c.partition_point-from.result in
+    let from = c.count_before-from.result in
     let count = c.partition_point-count.result in
     let near = c.reach.result in
-    let first = IsPartitionPoint-from_clause (before keys low) _ _ c.partition_point-from.ensures.partitioned (parted_before keys xs low c.requires.rising) (λ a r q k. search rules) in
     let rest : c.split_at.result.1.now ≡ drop from xs = c.split_at.ensures.back in
     let within : near ≤ length (drop from xs) = subst (λ l. near ≤ length l) rest c.reach.ensures.bound in
     let some : c.split_at-2.result.0.now ≡ take near (drop from xs) = c.split_at-2.ensures.front ∙ ap (take near) rest in
@@ -27,4 +26,4 @@ returns c =
     let past : (d : ℕ) → near < length (drop from xs) → up_to keys high (get_or (drop from xs) near d) ≡ false = λ d lt. subst (λ l. up_to keys high (get_or l near d) ≡ false) rest (c.reach.ensures.past d (subst (λ l. near < length l) (sym rest) lt)) in
     let second = near_point (up_to keys high) (drop from xs) parted near count past within few there in
     let run : c.split_at-3.result.0.now ≡ take count (drop from xs) = c.split_at-3.ensures.front ∙ ap (take count) some ∙ take-take count near (drop from xs) few in
-    run ∙ run_is keys xs low high from count c.partition_point-from.ensures.bound (omega (arith, few, within)) first second
+    run ∙ run_is keys xs low high from count c.count_before-from.ensures.bound (omega (arith, few, within)) c.count_before-from.ensures.point second
