@@ -110,7 +110,7 @@ are_selected rows entries = record {
 text_there : (keys : List (List ℕ)) (place : ℕ) → All IsUtf8 keys → place < length keys → IsUtf8 (key_at keys place)
 text_there keys place all lt = All-get_or IsUtf8 keys place [] lt all
 
-hit_decided : (strategy : Strategy) (q k : List ℕ) → Decides (is_hit strategy q k) (Hits strategy q k)
+pub hit_decided : (strategy : Strategy) (q k : List ℕ) → Decides (is_hit strategy q k) (Hits strategy q k)
 hit_decided strategy q k = hit_law strategy q k
 
 -- no test follows: all that is looked at is found
@@ -129,21 +129,25 @@ untested strategy q keys text plain =
           (where_is sel keys z).1 (h.0, (selects_decided (rows_for strategy q) k).1 (among strategy q k (text_there keys z text h.0) ((hit_decided strategy q k).0 h.1)))),
     ))
 
--- those that pass the test among what is looked at
-pub tested : (strategy : Strategy) (q : List ℕ) (keys : List (List ℕ)) → All IsUtf8 keys → filter (λ place. is_hit strategy q (key_at keys place)) (places_where (is_selected (rows_for strategy q)) keys) ≡ places_where (is_hit strategy q) keys
-tested strategy q keys text =
-    let sel = is_selected (rows_for strategy q) in
-    let hit = is_hit strategy q in
-    let mine = filter (λ place. hit (key_at keys place)) (places_where sel keys) in
-    same_rising mine (places_where hit keys) (sorted_from_strictly_increasing mine (IsStrictlyIncreasing-filter (λ place. hit (key_at keys place)) (places_where sel keys) (where_rises sel keys))) (sorted_from_strictly_increasing (places_where hit keys) (where_rises hit keys)) (λ z. (
+-- those that pass the test among the places of keys that pass another one, which all have that pass it
+pub tested_among : (wide hit : List ℕ → Bool) (keys : List (List ℕ)) → ((z : ℕ) → z < length keys → hit (key_at keys z) ≡ true → wide (key_at keys z) ≡ true) → filter (λ place. hit (key_at keys place)) (places_where wide keys) ≡ places_where hit keys
+tested_among wide hit keys covers =
+    let mine = filter (λ place. hit (key_at keys place)) (places_where wide keys) in
+    same_rising mine (places_where hit keys) (sorted_from_strictly_increasing mine (IsStrictlyIncreasing-filter (λ place. hit (key_at keys place)) (places_where wide keys) (where_rises wide keys))) (sorted_from_strictly_increasing (places_where hit keys) (where_rises hit keys)) (λ z. (
       (λ c.
-          let r = filter_in (λ place. hit (key_at keys place)) (places_where sel keys) z c in
-          (where_is hit keys z).1 (((where_is sel keys z).0 r.0).0, r.1)),
+          let r = filter_in (λ place. hit (key_at keys place)) (places_where wide keys) z c in
+          (where_is hit keys z).1 (((where_is wide keys z).0 r.0).0, r.1)),
       (λ c.
           let h = (where_is hit keys z).0 c in
-          let k = key_at keys z in
-          in_filter (λ place. hit (key_at keys place)) (places_where sel keys) z ((where_is sel keys z).1 (h.0, (selects_decided (rows_for strategy q) k).1 (among strategy q k (text_there keys z text h.0) ((hit_decided strategy q k).0 h.1)))) h.1),
+          in_filter (λ place. hit (key_at keys place)) (places_where wide keys) z ((where_is wide keys z).1 (h.0, covers z h.0 h.1)) h.1),
     ))
+
+-- what is found is among what is looked at
+pub covered : (strategy : Strategy) (q : List ℕ) (keys : List (List ℕ)) → All IsUtf8 keys → (z : ℕ) → z < length keys → is_hit strategy q (key_at keys z) ≡ true → is_selected (rows_for strategy q) (key_at keys z) ≡ true
+covered strategy q keys text z lt h = let k = key_at keys z in (selects_decided (rows_for strategy q) k).1 (among strategy q k (text_there keys z text lt) ((hit_decided strategy q k).0 h))
+
+pub tested : (strategy : Strategy) (q : List ℕ) (keys : List (List ℕ)) → All IsUtf8 keys → filter (λ place. is_hit strategy q (key_at keys place)) (places_where (is_selected (rows_for strategy q)) keys) ≡ places_where (is_hit strategy q) keys
+tested strategy q keys text = tested_among (is_selected (rows_for strategy q)) (is_hit strategy q) keys (covered strategy q keys text)
 
 -- ---- the answers of the edition's database
 

@@ -1,3 +1,4 @@
+pub mod CommonLemmas
 pub mod EditionLemmas
 pub mod IndexLemmas
 pub mod ListLemmas
@@ -5,6 +6,7 @@ pub mod PieceLemmas
 pub mod PlaceLemmas
 pub mod PlacedLemmas
 pub mod RankLemmas
+pub mod RarestLemmas
 pub mod RunLemmas
 pub mod ShownLemmas
 pub mod StoredLemmas

@@ -1,4 +1,5 @@
 pub mod Places
+pub mod Common
 pub mod Entries
 pub mod Selected
 pub mod Found

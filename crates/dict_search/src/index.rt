@@ -1,25 +1,31 @@
 //! The index of an edition, and what it is asked.
-ghost use Rattle.std.specs.Prelude.{◌≡◌, ◌&&◌, true, IfOk, length, map, reverse};
-ghost use Rattle.std.specs.Str.{bytes_eq};
-ghost use Rattle.dict_derived.specs.Search.{rows_of};
+ghost use Rattle.std.specs.Prelude.{◌≡◌, ◌&&◌, true, false, All, IfOk, length, map, filter, reverse};
+ghost use Rattle.std.specs.Str.{IsUtf8, bytes_eq};
+ghost use Rattle.dict_match.specs.Matching.{is_hit};
+ghost use Rattle.dict_match.specs.declared.strategy.Strategy.TheVariants.{Substring};
+ghost use Rattle.dict_derived.specs.Search.{rows_of, rows_for, is_tested};
 ghost use Rattle.dict_search.specs.Entries.{entry_at, entries_at, keys_of, shown_of};
-ghost use Rattle.dict_search.specs.Places.{places_where};
+ghost use Rattle.dict_search.specs.Places.{key_at, places_where};
 ghost use Rattle.dict_search.specs.Orders.{IsOrderOf};
 ghost use Rattle.dict_search.specs.Selected.{is_selected, has_gram, has_word, AreSelected};
 ghost use Rattle.dict_search.specs.Found.{found_places, found_entries, found_headwords, count_selected};
 
+use crate::common::common_places;
 use crate::entries::Entries;
 use crate::found::{Counted, Found};
 use crate::heads::heads_of;
 use crate::keeping::keep_hits;
 use crate::order::{first_places, places_between, reversed_texts, sorted_places};
-use crate::pieces::{Pieces, common_places, grams_of, words_of};
+use crate::pieces::{Pieces, grams_of, words_of};
 use crate::reversed::places_between_reversed;
 use crate::shown::first_shown;
 use dict_derived::{Selection, select};
 use dict_match::Strategy;
 use std::alloc::{AllocError, Global};
 use std::marker::Model;
+
+/// So many places are tested without a look for those that have a rarer run of three octets.
+const FEW: usize = 64;
 
 /// What lookups ask of an edition: its entries, in their order, and the places of their keys in several orders. Contracts
 /// see it as the list of its entries.
@@ -188,16 +194,60 @@ impl Index {
         }
     }
 
+    /// Of the places that a query looks at those that have to be tested: of a substring's, where they are many, those
+    /// that have its rarest run of three octets too. The only error is refused memory.
+    fn places_to_test(
+        &self,
+        alloc: Global,
+        selected: Vec<u32>,
+        strategy: Strategy,
+        query: &[u8],
+    ) -> Result<Vec<u32>, AllocError>
+        requires text { All IsUtf8 (keys_of self.now) }
+        requires selected { selected.items ≡ places_where (is_selected (rows_for strategy query.now)) (keys_of self.now) }
+        ensures untested { IfOk result (λ places. is_tested strategy ≡ false → places.items ≡ places_where (is_hit strategy query.now) (keys_of self.now)) }
+        ensures tested { IfOk result (λ places. filter (λ place. is_hit strategy query.now (key_at (keys_of self.now) place)) places.items ≡ places_where (is_hit strategy query.now) (keys_of self.now)) }
+    {
+        match strategy {
+            Strategy::Substring => self.with_rarest(alloc, selected, query),
+            _ => Ok(selected),
+        }
+    }
+
+    /// Of the places that a substring looks at, where they are many, those that have its rarest run of three octets too;
+    /// none of those found is missing. The only error is refused memory.
+    fn with_rarest(
+        &self,
+        alloc: Global,
+        selected: Vec<u32>,
+        query: &[u8],
+    ) -> Result<Vec<u32>, AllocError>
+        requires text { All IsUtf8 (keys_of self.now) }
+        requires selected { selected.items ≡ places_where (is_selected (rows_for Substring query.now)) (keys_of self.now) }
+        ensures { IfOk result (λ places. filter (λ place. is_hit Substring query.now (key_at (keys_of self.now) place)) places.items ≡ places_where (is_hit Substring query.now) (keys_of self.now)) }
+    {
+        if selected.len() <= FEW {
+            return Ok(selected);
+        }
+        let rarest = self.grams.rarest(query, selected.as_slice());
+        if rarest.len() >= selected.len() {
+            return Ok(selected);
+        }
+        common_places(alloc, rarest, selected.as_slice())
+    }
+
     /// The entries that a query's key finds by a strategy. The only error is refused memory.
     pub fn find(&self, alloc: Global, strategy: Strategy, query: &[u8]) -> Result<Found, AllocError>
         ensures places { IfOk result (λ found. found.places.items ≡ found_places strategy query.now self.now) }
         ensures entries { IfOk result (λ found. entries_at self.now found.places.items ≡ found_entries strategy query.now self.now) }
         ensures looked_at { IfOk result (λ found. found.looked_at ≡ count_selected strategy query.now self.now) }
     {
+        let keys = self.entries.keys();
         let selection = select(alloc, strategy, query)?;
-        let mut places = self.candidates(alloc, &selection)?;
-        let looked_at = places.len();
-        keep_hits(self.entries.keys(), &mut places, strategy, query);
+        let selected = self.candidates(alloc, &selection)?;
+        let looked_at = selected.len();
+        let mut places = self.places_to_test(alloc, selected, strategy, query)?;
+        keep_hits(keys, &mut places, strategy, query);
         Ok(Found { places, looked_at })
     }
 

@@ -1,19 +1,17 @@
 //! Which of the entries that are looked at a query finds.
-ghost use Rattle.std.specs.Prelude.{◌≡◌, All};
-ghost use Rattle.std.specs.Str.{IsUtf8};
+ghost use Rattle.std.specs.Prelude.{◌≡◌, false, filter};
 ghost use Rattle.dict_match.specs.Matching.{is_hit};
-ghost use Rattle.dict_derived.specs.Search.{rows_for};
+ghost use Rattle.dict_derived.specs.Search.{is_tested};
 ghost use Rattle.dict_search.specs.Places.{key_at, places_where};
-ghost use Rattle.dict_search.specs.Selected.{is_selected};
 
 use crate::texts::Texts;
 use dict_derived::is_tested;
 use dict_match::{Strategy, matches};
 
-/// Keeps those of the places that a query looks at whose key it finds.
+/// Keeps those of the places whose key a query finds, where none of those that it finds is missing.
 pub(crate) fn keep_hits(keys: &Texts, places: &mut Vec<u32>, strategy: Strategy, query: &[u8])
-    requires text { All IsUtf8 keys.now }
-    requires selected { places.old.items ≡ places_where (is_selected (rows_for strategy query.now)) keys.now }
+    requires untested { is_tested strategy ≡ false → places.old.items ≡ places_where (is_hit strategy query.now) keys.now }
+    requires tested { filter (λ place. is_hit strategy query.now (key_at keys.now place)) places.old.items ≡ places_where (is_hit strategy query.now) keys.now }
     ensures { places.new.items ≡ places_where (is_hit strategy query.now) keys.now }
 {
     if !is_tested(strategy) {

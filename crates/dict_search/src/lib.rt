@@ -2,6 +2,7 @@
 #![tactic(auto)]
 
 mod builder;
+mod common;
 mod entries;
 mod found;
 mod heads;

@@ -1,12 +1,13 @@
 //! The pieces of keys, each once with the places of the keys that have it.
-ghost use Rattle.std.specs.Prelude.{◌≡◌, ◌<◌, ◌++◌, ◌∷◌, ◌&&◌, [], ℕ, Bool, List, IfOk, OnOk, MatchOption, length, slice_index_or, if◌then◌else◌, nat_eq};
-ghost use Rattle.std.specs.List.{Contains, list_any};
-ghost use Rattle.std.specs.List.Sorted.{IsStrictlySortedBy, IsStrictlyIncreasing};
+ghost use Rattle.std.specs.Prelude.{◌≡◌, ◌<◌, ◌⊎◌, ◌++◌, ◌∷◌, [], ℕ, List, IfOk, OnOk, MatchOption, length, slice_index_or, if◌then◌else◌};
+ghost use Rattle.std.specs.List.{Contains};
+ghost use Rattle.std.specs.List.Sorted.{IsStrictlySortedBy};
 ghost use Rattle.dict_match.specs.Words.{words_between_blanks};
 ghost use Rattle.dict_derived.specs.Derived.{grams, octets_cmp};
 ghost use Rattle.dict_search.specs.Places.{places_where};
 ghost use Rattle.dict_search.specs.Selected.{has_piece};
 ghost use Rattle.dict_search.specs.Pieces.{pairs_of, ends_with_piece, AreOccurrences, ArePlaced};
+ghost use Rattle.dict_search.specs.Common.{HasAllWith};
 ghost use Rattle.dict_search.specs.PlacedPieces.{words_placed, grams_placed};
 
 use crate::lists::PlaceLists;
@@ -128,6 +129,23 @@ impl Pieces {
     }
 }
 
+impl Pieces {
+    /// The shortest of these places and of the lists of a query's runs of three octets, where these pieces are runs.
+    pub(crate) fn rarest<'a>(&'a self, query: &[u8], places: &'a [u32]) -> &'a [u32]
+        requires { IsStrictlySortedBy octets_cmp self.now.texts }
+        ensures { (keys : List (List ℕ)) → ArePlaced grams keys self.now.texts self.now.lists → (result.now ≡ places.now) ⊎ HasAllWith query.now keys result.now }
+    {
+        let mut rarest = places;
+        for end in 3..query.len() + 1 {
+            let list = self.places(&query[end - 3..end]);
+            if list.len() < rarest.len() {
+                rarest = list;
+            }
+        }
+        rarest
+    }
+}
+
 /// Where a text stands among those that rise, if it does.
 fn place_of(texts: &Texts, wanted: &[u8]) -> Option<usize>
     requires { IsStrictlySortedBy octets_cmp texts.now }
@@ -144,29 +162,4 @@ fn place_of(texts: &Texts, wanted: &[u8]) -> Option<usize>
         }
     }
     None
-}
-
-/// The places that both lists have, rising. The second one is searched for each of the first: so the first is to be the
-/// shorter one. The only error is refused memory.
-pub(crate) fn common_places(
-    alloc: Global,
-    fewer: &[u32],
-    more: &[u32],
-) -> Result<Vec<u32>, AllocError>
-    ensures { IfOk result (λ both. (p q : List ℕ → Bool) (keys : List (List ℕ)) → fewer.now ≡ places_where p keys → more.now ≡ places_where q keys → both.items ≡ places_where (λ key. p key && q key) keys) }
-{
-    let mut both = Vec::new(alloc);
-    for place in fewer {
-        if is_among(more, *place) {
-            both.push(*place)?;
-        }
-    }
-    Ok(both)
-}
-
-/// Whether a place is among others, which rise.
-fn is_among(others: &[u32], place: u32) -> bool
-    ensures { IsStrictlyIncreasing others.now → result ≡ list_any (nat_eq place) others.now }
-{
-    others.binary_search(&place).is_ok()
 }

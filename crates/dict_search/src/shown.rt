@@ -6,7 +6,7 @@ ghost use Rattle.dict_search.specs.Entries.{entries_at, shown_of};
 use crate::entries::Entries;
 use dict_desk::distinct_law;
 use std::alloc::{AllocError, Global};
-use std::collections::BTreeSet;
+use std::collections::HashSet;
 
 /// Of these places those whose text that is shown is none of the earlier ones'. The only error is refused memory.
 pub(crate) fn first_shown(
@@ -17,7 +17,7 @@ pub(crate) fn first_shown(
     ensures { IfOk result (λ firsts. map shown_of (entries_at entries.now firsts.items) ≡ distinct (map shown_of (entries_at entries.now places.now))) }
 {
     distinct_law();
-    let mut seen = BTreeSet::new(alloc);
+    let mut seen = HashSet::new(alloc);
     let mut firsts = Vec::new(alloc);
     for place in places {
         if seen.insert(entries.shown(*place as usize).as_bytes())? {

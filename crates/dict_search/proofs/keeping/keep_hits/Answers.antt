@@ -1,20 +1,18 @@
-use Rattle.std.proofs.Common.{◌≡◌, ℕ, Bool, false, filter, ap, ◌∙◌, rules}
+use Rattle.std.proofs.Common.{◌≡◌, ℕ, Bool, false, filter, ◌∙◌, rules}
 use Rattle.std.proofs.lemmas.Fn.{filter_same}
 use Rattle.dict_match.specs.Matching.{is_hit}
 use Rattle.dict_derived.specs.Search.{is_tested}
 use Rattle.dict_search.specs.Places.{key_at}
-use Rattle.dict_search.proofs.EditionLemmas.{untested, tested}
 use Rattle.dict_search.proofs.keeping.keep_hits.Goals as goal
 
 pub returns-then-not-is_tested : goal.returns-then-not-is_tested
 returns-then-not-is_tested c =
-    let keys = c.args.keys.now in
     let plain : is_tested c.args.strategy ≡ false = search rules in
-    c.requires.selected ∙ untested c.args.strategy c.args.query.now keys c.requires.text plain
+    c.requires.untested plain
 
 pub returns : goal.returns
 returns c =
     let keys = c.args.keys.now in
     let hit : ℕ → Bool = λ place. is_hit c.args.strategy c.args.query.now (key_at keys place) in
     let left : c.retain.new.self.items ≡ filter hit c.args.places.now.items = filter_same _ hit _ (λ x b f' k. search rules) _ _ c.retain.ensures.filtered in
-    left ∙ ap (filter hit) c.requires.selected ∙ tested c.args.strategy c.args.query.now keys c.requires.text
+    left ∙ c.requires.tested
