@@ -1,0 +1,3 @@
+//! Runs of the statements over the parts of files, over memory.
+mod parts;
+mod reads;
