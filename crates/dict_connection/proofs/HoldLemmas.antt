@@ -1,5 +1,5 @@
 -- Octets that are held back, and turns in which nothing is read.
-use Rattle.std.proofs.Common.{◌≡◌, ◌≢◌, ◌≤◌, ◌<◌, ℕ, Bool, true, false, List, [], ◌∷◌, ◌++◌, refl, sym, ap, ◌∙◌, subst, append-nil, inl, inr, arith}
+use Rattle.std.proofs.Common.{◌≡◌, ◌≢◌, ◌≤◌, ◌<◌, ℕ, Bool, true, false, List, [], ◌∷◌, ◌++◌, refl, sym, ap, ◌∙◌, subst, append-nil, length, inl, inr, arith}
 use Rattle.std.proofs.lemmas.List.Elements.{All-nil}
 use Rattle.std.specs.Prelude.{Option, ◌&&◌, if◌then◌else◌}
 use Rattle.std.specs.Io.KnownBytes.{Consumes, Keeps}
@@ -10,7 +10,7 @@ use Rattle.dict_hub.specs.declared.fault.HubFault.{HubFault}
 use Rattle.dict_hub.specs.declared.hub.Hub.{Hub}
 use Rattle.dict_hub.specs.declared.kind.Kind.{Kind}
 use Rattle.dict_outlet.specs.Calls.{Call, Makes, receives}
-use Rattle.dict_outlet.specs.Outlets.{Passes, is_sending}
+use Rattle.dict_outlet.specs.Outlets.{FailsOnlyStuck, Passes, is_sending}
 use Rattle.dict_outlet.specs.Queues.{waiting, is_clear}
 use Rattle.dict_outlet.specs.declared.calls.Received.TheVariants as receiveds
 use Rattle.dict_outlet.specs.declared.calls.Sent.{Sent}
@@ -29,6 +29,7 @@ use Rattle.dict_connection.specs.Turns.{BringAllOrNone, HandsOver, LeadsByAnswer
 use Rattle.dict_connection.specs.declared.connection.Connection.{Connection}
 use Rattle.dict_connection.specs.declared.held.Held.{Held}
 use Rattle.dict_connection.proofs.LeadLemmas.{led_joined}
+use Rattle.dict_connection.proofs.StuckLemmas.{stuck_from, stuck_none}
 use Rattle.dict_connection.proofs.TurnLemmas.{answer_from, calls_of_both, kept_consumes, leads_by_turn, reads_handed}
 
 -- what a desk prepares leads no event
@@ -70,6 +71,7 @@ hands_none taken coming made a b octets same kind held = record {
   put = [];
   are_put = refl;
   passes = passes_none taken coming made a.transport b.transport (waiting a.queue) (waiting b.queue) (ap (λ it. it.transport) same) (ap (λ it. waiting it.queue) same);
+  stuck = stuck_none (made a.transport) (made b.transport) a.queue b.queue (ap (λ it. it.queue.failures) same);
   pieces = inr refl;
   handed = λ still. held;
 }
@@ -93,6 +95,8 @@ hands_from taken coming made a b c octets events same kind hands = record {
   are_put = hands.are_put;
   passes = subst (λ t. Passes taken coming made t c.transport (waiting a.queue) (waiting c.queue) hands.put) (ap (λ it. it.transport) same)
       (subst (λ q. Passes taken coming made b.transport c.transport (waiting q) (waiting c.queue) hands.put) (ap (λ it. it.queue) same) hands.passes);
+  stuck = subst (λ t. FailsOnlyStuck (made t) (made c.transport) a.queue c.queue) (ap (λ it. it.transport) same)
+      (stuck_from (made b.transport) (made c.transport) a.queue b.queue c.queue (ap (λ it. it.queue.failures) same) (ap (λ it. length it.queue.refused.octets) same) hands.stuck);
   pieces = subst (λ (k : Kind). BringAllOrNone (next_piece k octets) events) kind hands.pieces;
   handed = hands.handed;
 }
@@ -174,6 +178,7 @@ turns_deferred {refused = refused} taken coming made preparing a b sending well 
       sendings = All-nil (λ call. is_sending call ≡ true);
       calls = subst (λ (m : Bool). Makes (made a.transport) (made b.transport) (calls_of_turn (is_clear a.queue) m sending receiveds.Nothing ++ [])) (sym may)
           (calls_of_both _ _ _ (is_clear a.queue) false sending receiveds.Nothing [] well first.calls (makes_none (made b.transport)));
+      stuck = stuck_none _ _ a.queue b.queue first.failures;
       lazy = λ few. refl;
       idle = first.idle;
       unmarked = λ isnt. refl;

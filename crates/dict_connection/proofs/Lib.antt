@@ -2,6 +2,7 @@ pub mod EventLemmas
 pub mod LeadLemmas
 pub mod OrderLemmas
 pub mod TellLemmas
+pub mod StuckLemmas
 pub mod PieceLemmas
 pub mod TurnLemmas
 pub mod HoldLemmas

@@ -27,12 +27,13 @@ use Rattle.dict_outlet.specs.Queues.{waiting, stream_of}
 use Rattle.dict_connection.specs.Events.{AreOf, piece_of, pieces_of}
 use Rattle.dict_connection.specs.Ordering.{IsOnly}
 use Rattle.dict_connection.specs.Leading.{HasLedOn}
-use Rattle.dict_connection.specs.Telling.{IsAnswered, IsTold, IsToldThrough, MayRefuse}
+use Rattle.dict_connection.specs.Telling.{CountsNone, IsAnswered, IsTold, IsToldThrough, MayRefuse}
 use Rattle.dict_outlet.specs.Calls.{Call}
-use Rattle.dict_outlet.specs.Outlets.{HasTaken, MakesSendings, Passes, carried, stream_through}
+use Rattle.dict_outlet.specs.Outlets.{FailsOnlyStuck, HasTaken, MakesSendings, Passes, carried, stream_through}
 use Rattle.dict_outlet.specs.declared.trail.Trail.{Trail}
 use Rattle.dict_outlet.proofs.OutletLemmas.{kept_as, passes_none, sendings_of, taken_as}
 use Rattle.dict_outlet.specs.declared.queue.Queue.{Queue}
+use Rattle.dict_connection.proofs.StuckLemmas.{stuck_none}
 
 -- known octets have grown at their end
 abbrev Grows : Option (List ℕ) → Option (List ℕ) → Type 0
@@ -73,11 +74,19 @@ serves_grow host desk S B A M None (came id piece) out old new serves = absurd s
 serves_grow host desk S B A M (Some held) (came id piece) out old new serves = gets_grow host desk S B A M held.kind (held.octets ++ piece) out old new serves
 serves_grow host desk S B A M held (ended id) out old new serves = grows_same old new serves.nothing
 
+-- an end puts nothing
+serves_ends : (host : List ℕ) (desk : Condition) (S : Catalogue → Type 0) (B A : List (Option Catalogue) → Type 0) (M : Catalogue) (held : Option Holding) (what : Happening) (out : Out) (old new : Stream)
+    → Serves host desk S B A M held what out old new → CountsNone what old.failures new.failures
+serves_ends host desk S B A M held (opened id kind) out old new serves = tt
+serves_ends host desk S B A M held (came id piece) out old new serves = tt
+serves_ends host desk S B A M held (ended id) out old new serves = ap (λ (s : Stream). s.failures) serves.nothing
+
 -- an event that was accepted
 pub led_accepted : (T : Type 0) (S0 S1 : Catalogue → Type 0) (L0 L1 : List (Option Catalogue) → Type 0) (a b : Hub) (what : Happening) (out : Out) (desk : Condition) (old new : Stream) (P : List Accepted → Type 0)
     → (T → (origin : State) (start : Standing) (events : List Accepted) (state : State) (stands : Standing) → Leads origin start events state stands → IsAt a state → S0 stands.catalogue → L0 stands.leaves
     → LeadsOn S1 L1 origin start events state stands what out desk (record { old = old; new = new }) b)
-    → ((one : Accepted) → one.what ≡ what → one.out ≡ out → one.put ≡ record { old = old; new = new } → one.desk ≡ desk → Grows old.octets new.octets → P (one ∷ []))
+    → ((one : Accepted) → one.what ≡ what → one.out ≡ out → one.put ≡ record { old = old; new = new } → one.desk ≡ desk → Grows old.octets new.octets
+    → CountsNone what old.failures new.failures → P (one ∷ []))
     → HasLedOn T S0 L0 S1 L1 a b P
 led_accepted T S0 S1 L0 L1 a b what out desk old new P leads holds = record {
   led = λ trusted origin start at shown left.
@@ -92,7 +101,7 @@ led_accepted T S0 S1 L0 L1 a b what out desk old new P leads holds = record {
         is_at = on.is_at;
         shows = on.shows;
         leaves = on.leaves;
-        holds = holds one refl refl refl refl (serves_grow _ _ _ _ _ _ _ _ _ _ _ step.serves);
+        holds = holds one refl refl refl refl (serves_grow _ _ _ _ _ _ _ _ _ _ _ step.serves) (serves_ends _ _ _ _ _ _ _ _ _ _ _ step.serves);
       };
 }
 
@@ -122,12 +131,13 @@ led_greeted T S0 S1 L0 L1 a b id kind out desk old new P leads holds = record {
 }
 
 pub told_one : (what : Happening) (out : Out) (old new : Queue) (one : Accepted) → one.what ≡ what → one.out ≡ out → one.put ≡ record { old = stream_of old; new = stream_of new }
-    → Grows (stream_of old).octets (stream_of new).octets → IsTold what (Some out) old new (one ∷ [])
-told_one what out old new one same answer put (octets, grows) = record {
+    → Grows (stream_of old).octets (stream_of new).octets → CountsNone what old.failures new.failures → IsTold what (Some out) old new (one ∷ [])
+told_one what out old new one same answer put (octets, grows) ends = record {
   answered = (one, refl, same, answer);
   put = octets;
   are_put = (octets, [], (waiting old, ap (λ (c : StreamChange). c.old.octets) put, ap (λ (c : StreamChange). c.new.octets) put ∙ ap Some grows), refl, sym (append-nil octets));
   order = grows;
+  ends = ends;
 }
 
 -- what facts of an outlet tell of an event that put these octets
@@ -157,8 +167,8 @@ pub told_through : {T : Type 0} (taken coming : T → Option (List ℕ)) (made :
     → HasTaken at_first (taken to) trail.octets → HasTaken gives (coming to) [] → MakesSendings calls (made to)
     → (length trail.octets + length (waiting new) < 1048576 → (trail.octets ≡ []) × (made to ≡ calls)) → begun.octets ≡ Some (waiting old)
     → one.what ≡ what → one.out ≡ out → one.put ≡ record { old = begun; new = stream_through trail new }
-    → Grows begun.octets (stream_through trail new).octets → IsToldThrough taken coming made what (Some out) old new from to (one ∷ [])
-told_through taken coming made at_first gives calls what out old new from to trail begun one was will did takes keeps makes lazy began same answer put (octets, grows) =
+    → Grows begun.octets (stream_through trail new).octets → FailsOnlyStuck calls (made to) old new → IsToldThrough taken coming made what (Some out) old new from to (one ∷ [])
+told_through taken coming made at_first gives calls what out old new from to trail begun one was will did takes keeps makes lazy began same answer put (octets, grows) stuck =
     let order : carried trail new ≡ waiting old ++ octets = subst (λ (o : Option (List ℕ)). Appends o (Some (carried trail new)) octets) began grows in
     record {
       answered = (one, refl, same, answer);
@@ -171,6 +181,7 @@ told_through taken coming made at_first gives calls what out old new from to tra
         sym (append-nil octets),
       );
       passes = passed taken coming made at_first gives calls from to trail.octets (waiting old) (waiting new) octets was will did takes keeps makes lazy order;
+      stuck = subst (λ (o : Option (List Call)). FailsOnlyStuck o (made to) old new) did stuck;
     }
 
 -- an event that was refused
@@ -181,6 +192,7 @@ told_through_none taken coming made what old new from to same still = record {
   put = [];
   are_put = refl;
   passes = passes_none taken coming made from to (waiting old) (waiting new) still (ap waiting same);
+  stuck = stuck_none (made from) (made to) old new (ap (λ (q : Queue). q.failures) same);
 }
 
 -- octets that the hub refused: where it held a reader's of this id, it would have taken them
@@ -190,12 +202,18 @@ pub may_refuse : (hub : Hub) (id : ℕ) (piece : List ℕ) (result : Result Out 
 may_refuse hub id piece (Ok out) memory = tt
 may_refuse hub id piece (Err fault) memory = λ held has. memory (Some held) has refl
 
+counts_same : (what : Happening) (old new : ℕ) → new ≡ old → CountsNone what old new
+counts_same (opened id kind) old new same = tt
+counts_same (came id piece) old new same = tt
+counts_same (ended id) old new same = same
+
 pub told_none : (what : Happening) (old new : Queue) → new ≡ old → IsTold what None old new []
 told_none what old new same = record {
   answered = refl;
   put = [];
   are_put = refl;
   order = ap waiting same ∙ sym (append-nil (waiting old));
+  ends = counts_same what old.failures new.failures (ap (λ (q : Queue). q.failures) same);
 }
 
 -- the one event is of its connection

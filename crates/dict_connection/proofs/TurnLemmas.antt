@@ -17,13 +17,13 @@ use Rattle.dict_hub.specs.declared.incoming.Out.TheVariants as outs
 use Rattle.dict_outlet.specs.Queues.{waiting, is_clear, Sends}
 use Rattle.dict_connection.specs.Stages.{is_open, is_finishing, answered, parted}
 use Rattle.dict_outlet.specs.Calls.{Call, Makes, sends, receives, sent_by, received_by, received_by_kind, has_come, has_failed, has_moved, count_received}
-use Rattle.dict_connection.specs.Calls.{sendings, readings, endings, is_dropped, calls_of_turn, has_departed, has_turned}
+use Rattle.dict_connection.specs.Calls.{behind, sendings, readings, endings, is_dropped, calls_of_turn, has_departed, has_turned}
 use Rattle.dict_connection.specs.Events.{ArePut, AreOf, piece_of, pieces_of}
 use Rattle.dict_connection.specs.Handing.{held_in, is_handed}
 use Rattle.dict_connection.specs.Pieces.{next_piece, behind_piece}
 use Rattle.dict_connection.specs.declared.held.Held.{Held}
 use Rattle.dict_hub.specs.declared.kind.Kind.{Kind}
-use Rattle.dict_outlet.specs.Outlets.{Passes, is_sending}
+use Rattle.dict_outlet.specs.Outlets.{FailsOnlyStuck, Passes, is_sending}
 use Rattle.dict_connection.specs.Telling.{IsAnswered, IsTold, IsToldThrough}
 use Rattle.dict_connection.specs.Turns.{BringAllOrNone, Hands, HandsOver, LeadsByAnswer, LeadsByEnd, LeadsByPiece, LeadsByReading, LeadsByTurn, LeadsFurther, is_deferred, may_read, SendsOnce, ReadsOnce, Turns, Finishes, Drains, LeadsOut, LeadsAway, Departs, stage_between, stage_drained, dropped_after, marked_after}
 use Rattle.dict_connection.specs.declared.connection.Connection.{Connection}
@@ -39,6 +39,7 @@ use Rattle.dict_connection.proofs.EventLemmas.{put_joined}
 use Rattle.dict_outlet.proofs.OutletLemmas.{passes_none}
 use Rattle.dict_connection.proofs.OrderLemmas.{only_turn}
 use Rattle.dict_connection.proofs.PieceLemmas.{none_held, piece_and_rest}
+use Rattle.dict_connection.proofs.StuckLemmas.{stuck_behind, stuck_from, stuck_none, stuck_turned}
 use Rattle.dict_connection.proofs.TellLemmas.{answered_own, answered_only, answered_pieces}
 
 kept_appends : (a b : Option (List ℕ)) → Keeps a b → Appends a b []
@@ -121,6 +122,7 @@ hands_told taken coming made a b octets piece out events id marks kind is rest w
       put = told.put;
       are_put = told.are_put;
       passes = told.passes;
+      stuck = told.stuck;
       pieces = inl brought;
       handed = λ still. ap (λ (l : List ℕ). l ++ held_in b.held) brought ∙ ap (λ (l : List ℕ). next_piece a.held.kind octets ++ l) rest ∙ piece_and_rest a.held.kind octets;
     }
@@ -140,6 +142,7 @@ hands_ended a b answer events id transport marks held closed told = (
     put = told.put;
     are_put = told.are_put;
     order = told.order;
+    failures = told.ends;
     pieces = told_pieces (ended a.id) answer events told.answered;
     handed = λ still. absurd (let never : true ≡ false = sym still ∙ closed in cc);
   },
@@ -177,15 +180,16 @@ hands_over taken coming made a b events none hands = record {
   are_put = hands.are_put;
   passes = passes_more taken coming made a.transport a.transport b.transport (waiting a.queue) (waiting a.queue) (waiting b.queue) [] hands.put
       (passes_none taken coming made a.transport a.transport (waiting a.queue) (waiting a.queue) refl refl) hands.transport hands.order;
+  stuck = stuck_none (made a.transport) (made b.transport) a.queue b.queue hands.failures;
   pieces = inr (no_pieces events hands.pieces);
   handed = λ still. ap (λ (l : List ℕ). l ++ held_in b.held) (no_pieces events hands.pieces) ∙ ap held_in hands.held ∙ none;
 }
 
 -- an event that was refused, and then the end
 pub hands_refused : {T : Type 0} (refused : ℕ → Kind → Type 0) (taken coming : T → Option (List ℕ)) (made : T → Option (List Call)) (a b c : Connection T) (octets : List ℕ) (what : Happening) (es fs : List Accepted) → b.id ≡ a.id → b.may_receive ≡ a.may_receive
-    → b.held ≡ a.held → c.stage ≡ stages.Over → IsToldThrough taken coming made what None a.queue b.queue a.transport b.transport es → Hands [] b c fs × IsOnly (ended b.id) fs
+    → b.held ≡ a.held → b.queue.failures ≡ a.queue.failures → c.stage ≡ stages.Over → IsToldThrough taken coming made what None a.queue b.queue a.transport b.transport es → Hands [] b c fs × IsOnly (ended b.id) fs
     → refused a.id a.held.kind → HandsOver taken coming made octets a c (es ++ fs) × LeadsByAnswer refused octets a c (es ++ fs)
-hands_refused refused taken coming made a b c octets what es fs id marks held over told (later, only) refuses =
+hands_refused refused taken coming made a b c octets what es fs id marks held counted over told (later, only) refuses =
     let closed : is_open c.stage ≡ false = ap is_open over in
     let whole : es ++ fs ≡ fs = ap (λ (l : List Accepted). l ++ fs) told.answered in
     rw whole (
@@ -199,6 +203,7 @@ hands_refused refused taken coming made a b c octets what es fs id marks held ov
         put = told.put ++ later.put;
         are_put = subst (λ (l : List Accepted). ArePut l (told.put ++ later.put)) whole (put_joined es fs told.put later.put told.are_put later.are_put);
         passes = passes_more taken coming made a.transport b.transport c.transport (waiting a.queue) (waiting b.queue) (waiting c.queue) told.put later.put told.passes later.transport later.order;
+        stuck = stuck_none (made a.transport) (made c.transport) a.queue c.queue (later.failures ∙ counted);
         pieces = inr (no_pieces fs later.pieces);
         handed = λ still. absurd (let never : true ≡ false = sym still ∙ closed in cc);
       },
@@ -230,22 +235,24 @@ hands_closed a b c octets events id transport marks held queue closed hands = re
   put = hands.put;
   are_put = hands.are_put;
   order = ap waiting queue ∙ hands.order;
+  failures = ap (λ q. q.failures) queue ∙ hands.failures;
   pieces = hands.pieces;
   handed = λ still. absurd (let never : true ≡ false = sym still ∙ closed in cc);
 }
 
 -- a front of what waited was sent, by one call
 pub sends_once : {T : Type 0} (taken coming : T → Option (List ℕ)) (made : T → Option (List Call)) (a b : Connection T) (outcome : Result ℕ Error)
-    → b.id ≡ a.id → b.stage ≡ a.stage → b.may_receive ≡ a.may_receive → b.held ≡ a.held → b.dropped ≡ a.dropped → b.queue.failures ≡ a.queue.failures → is_clear a.queue ≡ false
+    → b.id ≡ a.id → b.stage ≡ a.stage → b.may_receive ≡ a.may_receive → b.held ≡ a.held → b.dropped ≡ a.dropped → b.queue.failures ≡ a.queue.failures → b.queue.refused ≡ a.queue.refused → is_clear a.queue ≡ false
     → Sends outcome a.queue b.queue (taken a.transport) (taken b.transport) → Keeps (coming a.transport) (coming b.transport) → Makes (made a.transport) (made b.transport) (sends (sent_by outcome) ∷ [])
     → SendsOnce taken coming made a b (sent_by outcome)
-sends_once taken coming made a b (Ok n) id stage marks held dropped failures clear took comes calls = record {
+sends_once taken coming made a b (Ok n) id stage marks held dropped failures refused clear took comes calls = record {
   id = id;
   stage = stage;
   may_receive = marks;
   held = held;
   dropped = dropped;
   failures = failures;
+  refused = ap (λ t. length t.octets) refused;
   sent = take n (waiting a.queue);
   takes = took.1;
   order = ap (λ (l : List ℕ). take n (waiting a.queue) ++ l) took.2 ∙ take-append-drop n (waiting a.queue);
@@ -253,13 +260,14 @@ sends_once taken coming made a b (Ok n) id stage marks held dropped failures cle
   calls = rw clear calls;
   idle = λ is. absurd (let never : true ≡ false = sym is ∙ clear in cc);
 }
-sends_once taken coming made a b (Err error) id stage marks held dropped failures clear took comes calls = record {
+sends_once taken coming made a b (Err error) id stage marks held dropped failures refused clear took comes calls = record {
   id = id;
   stage = stage;
   may_receive = marks;
   held = held;
   dropped = dropped;
   failures = failures;
+  refused = ap (λ t. length t.octets) refused;
   sent = [];
   takes = kept_appends _ _ took.0;
   order = took.1;
@@ -277,6 +285,7 @@ sends_none taken coming made a clear = record {
   held = refl;
   dropped = refl;
   failures = refl;
+  refused = refl;
   sent = [];
   takes = kept_appends _ _ (Keeps-refl (taken a.transport));
   order = refl;
@@ -337,6 +346,8 @@ reads_handed {refused = refused} taken coming made a b c reading octets events i
   within = hands.passes.within;
   sendings = hands.passes.sendings;
   calls = rw marked (makes_joined _ _ _ (receives 4096 reading ∷ []) hands.passes.within calls hands.passes.calls);
+  stuck = rw marked (stuck_behind (made a.transport) (made b.transport) (made c.transport) (receives 4096 reading ∷ []) a.queue c.queue calls
+      (stuck_from (made b.transport) (made c.transport) a.queue b.queue c.queue (ap (λ q. q.failures) queue) (ap (λ q. length q.refused.octets) queue) hands.stuck));
   lazy = λ few. hands.passes.lazy (subst (λ q. length (waiting q) + length hands.put < 1048576) (sym queue) few);
   unmarked = λ isnt. absurd (let never : true ≡ false = sym marked ∙ isnt in cc);
   leads = leads;
@@ -377,6 +388,7 @@ reads_none taken coming made a b reading id stage queue held none took comes cal
   within = [];
   sendings = All-nil (λ call. is_sending call ≡ true);
   calls = subst (λ (l : List Call). Makes (made a.transport) (made b.transport) l) (sym (append-nil (readings a.may_receive reading))) calls;
+  stuck = stuck_none (behind (made a.transport) (readings a.may_receive reading)) (made b.transport) a.queue b.queue (ap (λ q. q.failures) queue);
   lazy = λ few. (refl, refl);
   unmarked = unmarked;
   leads = leads;
@@ -435,6 +447,9 @@ turns_read {refused = refused} taken coming made preparing a b c sending reading
       calls = subst (λ (m : Bool). Makes (made a.transport) (made c.transport) (calls_of_turn (is_clear a.queue) m sending reading ++ later.within)) (sym may)
           (calls_of_both _ _ _ (is_clear a.queue) a.may_receive sending reading later.within well first.calls
           (subst (λ (m : Bool). Makes (made b.transport) (made c.transport) (readings m reading ++ later.within)) first.may_receive later.calls));
+      stuck = subst (λ (m : Bool). FailsOnlyStuck (behind (made a.transport) (calls_of_turn (is_clear a.queue) m sending reading)) (made c.transport) a.queue c.queue) (sym may)
+          (stuck_turned _ _ _ (is_clear a.queue) a.may_receive sending reading a.queue c.queue well first.calls (stuck_from _ _ a.queue b.queue c.queue first.failures first.refused
+          (subst (λ (m : Bool). FailsOnlyStuck (behind (made b.transport) (readings m reading)) (made c.transport) b.queue c.queue) first.may_receive later.stuck)));
       lazy = λ few. (later.lazy (omega (arith, few, ap length first.order, length-append first.sent (waiting b.queue)))).1;
       idle = first.idle;
       unmarked = λ isnt. later.unmarked (first.may_receive ∙ sym may ∙ isnt);
@@ -475,6 +490,10 @@ turns_handed {refused = refused} taken coming made preparing a b c sending event
       sendings = hands.passes.sendings;
       calls = subst (λ (m : Bool). Makes (made a.transport) (made c.transport) (calls_of_turn (is_clear a.queue) m sending receiveds.Nothing ++ hands.passes.within)) (sym may)
           (calls_of_both _ _ _ (is_clear a.queue) false sending receiveds.Nothing hands.passes.within well first.calls hands.passes.calls);
+      stuck = subst (λ (m : Bool). FailsOnlyStuck (behind (made a.transport) (calls_of_turn (is_clear a.queue) m sending receiveds.Nothing)) (made c.transport) a.queue c.queue) (sym may)
+          (stuck_turned (made a.transport) (made b.transport) (made c.transport) (is_clear a.queue) false sending receiveds.Nothing a.queue c.queue well first.calls
+          (stuck_behind (made b.transport) (made b.transport) (made c.transport) [] a.queue c.queue (makes_none (made b.transport))
+          (stuck_from _ _ a.queue b.queue c.queue first.failures first.refused hands.stuck)));
       lazy = λ few. (hands.passes.lazy (omega (arith, few, ap length first.order, length-append first.sent (waiting b.queue)))).1;
       idle = first.idle;
       unmarked = λ isnt. refl;
@@ -516,6 +535,7 @@ turns_failed taken coming made preparing a b c sending events failed first over 
   calls = subst (λ (l : List Call). Makes (made a.transport) (made c.transport) l) (sym (append-nil (sendings (is_clear a.queue) sents.Failed)))
       (subst (λ t. Makes (made a.transport) (made t) (sendings (is_clear a.queue) sents.Failed)) (sym hands.transport)
       (subst (λ (s : Sent). Makes (made a.transport) (made b.transport) (sendings (is_clear a.queue) s)) failed first.calls));
+  stuck = stuck_none _ _ a.queue c.queue (hands.failures ∙ first.failures);
   lazy = λ few. refl;
   idle = λ is. sym failed ∙ first.idle is;
   unmarked = λ isnt. refl;

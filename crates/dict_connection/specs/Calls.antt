@@ -1,11 +1,16 @@
 -- Which calls of its transport a turn makes.
-use Rattle.std.specs.Prelude.{Bool, true, false, List, [], ◌∷◌, ◌++◌, ◌||◌}
+use Rattle.std.specs.Prelude.{Bool, true, false, List, [], ◌∷◌, ◌++◌, ◌||◌, Option, None, Some}
 use Rattle.dict_outlet.specs.Calls.{Call, sends, receives, ends, has_moved}
 use Rattle.dict_outlet.specs.declared.calls.Sent.{Sent}
 use Rattle.dict_outlet.specs.declared.calls.Sent.TheVariants as sents
 use Rattle.dict_outlet.specs.declared.calls.Received.{Received}
 use Rattle.dict_connection.specs.declared.stage.Stage.{Stage}
 use Rattle.dict_connection.specs.declared.stage.Stage.TheVariants as stages
+
+-- the calls before, where they are known, and these behind them
+abbrev pub behind : Option (List Call) → List Call → Option (List Call)
+behind None calls = None
+behind (Some before) calls = Some (before ++ calls)
 
 -- a sending is made where something waits
 abbrev pub sendings : Bool → Sent → List Call

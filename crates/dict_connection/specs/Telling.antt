@@ -1,6 +1,6 @@
 -- What one event leaves of its connection's queue.
-use Rattle.std.specs.Prelude.{true, ◌≡◌, ◌≢◌, ℕ, List, [], ◌∷◌, ◌++◌, Option, None, Some, Result, Ok, Err}
-use Rattle.dict_hub.specs.Events.{Happening, is_of_editor}
+use Rattle.std.specs.Prelude.{true, ◌≡◌, ◌≢◌, ℕ, List, [], ◌∷◌, ◌++◌, Option, None, Some, Result, Ok, Err, ⊤}
+use Rattle.dict_hub.specs.Events.{Happening, opened, came, ended, is_of_editor}
 use Rattle.dict_hub.specs.Holding.{Holding}
 use Rattle.dict_hub.specs.Hubs.{Has}
 use Rattle.dict_hub.specs.declared.fault.HubFault.{HubFault}
@@ -9,7 +9,7 @@ use Rattle.dict_hub.specs.declared.hub.Hub.{Hub}
 use Rattle.dict_hub.specs.Runs.{Accepted}
 use Rattle.dict_hub.specs.declared.incoming.Out.{Out}
 use Rattle.dict_outlet.specs.Calls.{Call}
-use Rattle.dict_outlet.specs.Outlets.{Passes}
+use Rattle.dict_outlet.specs.Outlets.{FailsOnlyStuck, Passes}
 use Rattle.dict_outlet.specs.Queues.{waiting}
 use Rattle.dict_connection.specs.Events.{ArePut}
 use Rattle.dict_outlet.specs.declared.queue.Queue.{Queue}
@@ -37,16 +37,25 @@ abbrev pub IsAnswered : Happening → Option Out → List Accepted → Type 0
 IsAnswered what None events = events ≡ []
 IsAnswered what (Some out) events = (one : Accepted) × (events ≡ one ∷ []) × (one.what ≡ what) × (one.out ≡ out)
 
+-- by an end no call of a sink fails more than before
+abbrev pub CountsNone : Happening → ℕ → ℕ → Type 0
+CountsNone (opened id kind) old new = ⊤
+CountsNone (came id piece) old new = ⊤
+CountsNone (ended id) old new = new ≡ old
+
 -- the event was accepted, or there is none; what it put waits behind what waited before
 pub record IsTold (what : Happening) (answer : Option Out) (old new : Queue) (events : List Accepted) : Type 0 where
   pub answered : IsAnswered what answer events
   pub put : List ℕ
   pub are_put : ArePut events put
   pub order : waiting new ≡ waiting old ++ put
+  pub ends : CountsNone what old.failures new.failures
 
--- the same, where the transport may have taken a front of what waits at once
+-- The same, where the transport may have taken a front of what waits at once. Where more calls of the sink have failed than before, as
+-- many octets wait as may and the transport was asked last and took none, or octets found no room since memory was short
 pub record IsToldThrough {T : Type 0} (taken coming : T → Option (List ℕ)) (made : T → Option (List Call)) (what : Happening) (answer : Option Out) (old new : Queue) (from to : T) (events : List Accepted) : Type 0 where
   pub answered : IsAnswered what answer events
   pub put : List ℕ
   pub are_put : ArePut events put
   pub passes : Passes taken coming made from to (waiting old) (waiting new) put
+  pub stuck : FailsOnlyStuck (made from) (made to) old new

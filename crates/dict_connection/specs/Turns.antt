@@ -8,11 +8,11 @@ use Rattle.dict_hub.specs.Holding.{left_by}
 use Rattle.dict_hub.specs.Hubs.{Has}
 use Rattle.dict_hub.specs.Runs.{Accepted}
 use Rattle.dict_hub.specs.declared.kind.Kind.{Kind}
-use Rattle.dict_outlet.specs.Outlets.{Passes, is_sending}
-use Rattle.dict_outlet.specs.Queues.{waiting, is_clear}
+use Rattle.dict_outlet.specs.Outlets.{FailsOnlyStuck, Passes, is_sending}
+use Rattle.dict_outlet.specs.Queues.{waiting, is_clear, counts_of}
 use Rattle.dict_connection.specs.Stages.{is_open, is_finishing, stage_of_new, answered, parted, finished, drained}
 use Rattle.dict_outlet.specs.Calls.{Call, sends, Makes, count_received, has_come}
-use Rattle.dict_connection.specs.Calls.{sendings, endings, readings, is_dropped, calls_of_turn, has_departed, has_turned}
+use Rattle.dict_connection.specs.Calls.{behind, sendings, endings, readings, is_dropped, calls_of_turn, has_departed, has_turned}
 use Rattle.dict_connection.specs.Events.{ArePut, AreOf, pieces_of}
 use Rattle.dict_connection.specs.Handing.{held_in, is_handed}
 use Rattle.dict_connection.specs.Pieces.{next_piece, behind_piece}
@@ -44,7 +44,7 @@ abbrev pub IsAtRest : {T : Type 0} → Connection T → Type 0
 IsAtRest one = (one.may_receive ≡ false) × (held_in one.held ≡ [])
 
 -- These octets were handed to the hub, or none, in events of this connection alone. What the events put waits behind what waited
--- before, what is held is as before, and the transport was asked nothing
+-- before, what is held is as before, no more calls have failed, and the transport was asked nothing
 pub record Hands {T : Type 0} (octets : List ℕ) (old new : Connection T) (events : List Accepted) : Type 0 where
   pub id : new.id ≡ old.id
   pub transport : new.transport ≡ old.transport
@@ -56,11 +56,14 @@ pub record Hands {T : Type 0} (octets : List ℕ) (old new : Connection T) (even
   pub put : List ℕ
   pub are_put : ArePut events put
   pub order : waiting new.queue ≡ waiting old.queue ++ put
+  pub failures : new.queue.failures ≡ old.queue.failures
   pub pieces : BringAllOrNone octets events
   pub handed : is_open new.stage ≡ true → pieces_of events ≡ octets
 
 -- Of these octets the first piece was handed to the hub, or none, in events of this connection alone, and the rest is held while the
--- connection is open. What the events put waits behind what waited before, of which the transport may have taken a front at once
+-- connection is open. What the events put waits behind what waited before, of which the transport may have taken a front at once.
+-- Where more calls of the sink have failed than before, as many octets wait as may and the transport was asked last and took none, or
+-- octets found no room since memory was short
 pub record HandsOver {T : Type 0} (taken coming : T → Option (List ℕ)) (made : T → Option (List Call)) (octets : List ℕ) (old new : Connection T) (events : List Accepted) : Type 0 where
   pub id : new.id ≡ old.id
   pub may_receive : new.may_receive ≡ old.may_receive
@@ -71,6 +74,7 @@ pub record HandsOver {T : Type 0} (taken coming : T → Option (List ℕ)) (made
   pub put : List ℕ
   pub are_put : ArePut events put
   pub passes : Passes taken coming made old.transport new.transport (waiting old.queue) (waiting new.queue) put
+  pub stuck : FailsOnlyStuck (made old.transport) (made new.transport) old.queue new.queue
   pub pieces : BringAllOrNone (next_piece old.held.kind octets) events
   pub handed : is_open new.stage ≡ true → pieces_of events ++ held_in new.held ≡ octets
 
@@ -131,6 +135,7 @@ pub record SendsOnce {T : Type 0} (taken coming : T → Option (List ℕ)) (made
   pub held : new.held ≡ old.held
   pub dropped : new.dropped ≡ old.dropped
   pub failures : new.queue.failures ≡ old.queue.failures
+  pub refused : (counts_of new.queue).refused ≡ (counts_of old.queue).refused
   pub sent : List ℕ
   pub takes : Appends (taken old.transport) (taken new.transport) sent
   pub order : sent ++ waiting new.queue ≡ waiting old.queue
@@ -140,7 +145,8 @@ pub record SendsOnce {T : Type 0} (taken coming : T → Option (List ℕ)) (made
 
 -- Of what came, by one call where a reading may give something, the first piece was handed to the hub, or none, and the rest is held
 -- while the connection is open; and then the transport was asked no more than to take octets, and not even that while fewer than
--- 1,048,576 of them were there
+-- 1,048,576 of them were there. Where more calls of the sink have failed than before, as many octets wait as may and the transport was
+-- asked last, behind the reading, and took none, or octets found no room since memory was short
 pub record ReadsOnce {T : Type 0} (taken coming : T → Option (List ℕ)) (made : T → Option (List Call)) (refused : ℕ → Kind → Type 0) (old new : Connection T) (reading : Received) (events : List Accepted) : Type 0 where
   pub id : new.id ≡ old.id
   pub kind : new.held.kind ≡ old.held.kind
@@ -159,6 +165,7 @@ pub record ReadsOnce {T : Type 0} (taken coming : T → Option (List ℕ)) (made
   pub within : List Call
   pub sendings : All (λ call. is_sending call ≡ true) within
   pub calls : Makes (made old.transport) (made new.transport) (readings old.may_receive reading ++ within)
+  pub stuck : FailsOnlyStuck (behind (made old.transport) (readings old.may_receive reading)) (made new.transport) old.queue new.queue
   pub lazy : length (waiting old.queue) + length put < 1048576 → (sent ≡ []) × (within ≡ [])
   pub unmarked : old.may_receive ≡ false → reading ≡ receiveds.Nothing
   pub leads : LeadsByReading refused reading received old new events
@@ -168,8 +175,9 @@ pub record ReadsOnce {T : Type 0} (taken coming : T → Option (List ℕ)) (made
 -- open, unless it is held back, and else that or none; and the rest is held while it is open. The calls are a sending, where something
 -- waits, then a reading, where one may give something, nothing was held and it isn't deferred since what an editor sent is being
 -- prepared, and within the event sendings again, once 1,048,576 octets are there; and what the first two came to, and the hub's answer,
--- tells the stage. Something happened, or a turn is to be had again at once, where something was held or the reading is deferred, and
--- else as it is told by what the two came to
+-- tells the stage. Where more calls of the sink have failed than before, as many octets wait as may and the last of those within the event
+-- took none, or octets found no room since memory was short. Something happened, or a turn is to be had again at once, where something was
+-- held or the reading is deferred, and else as it is told by what the two came to
 pub record Turns {T : Type 0} (taken coming : T → Option (List ℕ)) (made : T → Option (List Call)) (preparing : Bool) (refused : ℕ → Kind → Type 0) (old new : Connection T) (moved : Bool) (events : List Accepted) : Type 0 where
   pub id : new.id ≡ old.id
   pub kind : new.held.kind ≡ old.held.kind
@@ -190,6 +198,7 @@ pub record Turns {T : Type 0} (taken coming : T → Option (List ℕ)) (made : T
   pub within : List Call
   pub sendings : All (λ call. is_sending call ≡ true) within
   pub calls : Makes (made old.transport) (made new.transport) (calls_of_turn (is_clear old.queue) (may_read preparing old) sending reading ++ within)
+  pub stuck : FailsOnlyStuck (behind (made old.transport) (calls_of_turn (is_clear old.queue) (may_read preparing old) sending reading)) (made new.transport) old.queue new.queue
   pub lazy : length (waiting old.queue) + length put < 1048576 → within ≡ []
   pub idle : is_clear old.queue ≡ true → sending ≡ sents.Nothing
   pub unmarked : may_read preparing old ≡ false → reading ≡ receiveds.Nothing

@@ -2,6 +2,7 @@
 ghost use Rattle.std.specs.Prelude.{◌≡◌, true, false, IfErr, Some};
 ghost use Rattle.dict_session.specs.Desks.{condition};
 ghost use Rattle.dict_hub.specs.Events.{asks_desk, came, happening, id_of};
+ghost use Rattle.dict_outlet.specs.Queues.{counts_of};
 ghost use Rattle.dict_connection.specs.Causes.{AreCaused};
 ghost use Rattle.dict_connection.specs.Leading.{HasLedOn};
 ghost use Rattle.dict_connection.specs.Telling.{IsTold, IsToldThrough, KeepsOthers, MayRefuse, answer_of};
@@ -85,7 +86,7 @@ fn deliver_from<T: Transport, K: Keeper, O: Opening, B: Beginning>(
     requires taken { B.taken ≡ T.taken transport }
     requires coming { B.coming ≡ T.coming transport }
     requires made { B.made ≡ T.made transport }
-    requires failures { B.failures ≡ queue.failures }
+    requires counts { B.counts ≡ counts_of queue }
     ensures led { HasLedOn (K.is_trusted desk.new) (K.shows desk.old) (K.leaves_one_of desk.old) (K.shows desk.new) (K.leaves_one_of desk.new) hub.old hub.new
         (λ events. IsToldThrough T.taken T.coming T.made (came id piece.now) (answer_of result.0) queue result.1 transport result.2 events
         × AreCaused (condition K.has_failed K.is_closed desk.new) queue result.1 events) }

@@ -139,6 +139,7 @@ turn_kept taken coming made preparing from to old new moved events keeps turns =
   within = turns.within;
   sendings = turns.sendings;
   calls = turns.calls;
+  stuck = turns.stuck;
   lazy = turns.lazy;
   idle = turns.idle;
   unmarked = turns.unmarked;

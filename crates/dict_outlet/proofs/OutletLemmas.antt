@@ -10,7 +10,7 @@ use Rattle.std.proofs.lemmas.List.Elements.{All-append, All-nil}
 use Rattle.dict_outlet.specs.Calls.{Call, Makes, has_failed, is_vain, sends, sent_by}
 use Rattle.std.specs.declared.io.Error.{Error}
 use Rattle.dict_outlet.specs.Outlets.{Follow, HasTaken, IsStuck, MakesSendings, are_well, end_in_vain, is_in_vain, is_sending, is_well, PutsSome, Passes}
-use Rattle.dict_outlet.specs.Queues.{waiting}
+use Rattle.dict_outlet.specs.Queues.{FindNoRoom, waiting}
 use Rattle.dict_outlet.specs.declared.queue.Queue.{Queue}
 use Rattle.dict_outlet.specs.declared.trail.Trail.{Trail}
 use Rattle.dict_outlet.specs.declared.calls.Sent.{Sent}
@@ -194,22 +194,26 @@ same_waiting q r octets sent = ap (λ o. drop r.sent o.items) octets ∙ ap (λ 
 pub puts_noted : (bytes : List ℕ) (t0 : Trail) (q0 : Queue) (t : Trail) (q r : Queue) → r.octets ≡ q.octets → r.sent ≡ q.sent → PutsSome bytes t0 q0 t q → PutsSome bytes t0 q0 t r
 puts_noted bytes t0 q0 t q r octets sent (k, within, put) = (k, within, ap (λ w. t.octets ++ w) (same_waiting q r octets sent) ∙ put)
 
-pub stuck_noted : (a b : Option (List Call)) (q r : Queue) → r.octets ≡ q.octets → r.sent ≡ q.sent → IsStuck a b q → IsStuck a b r
-stuck_noted a b q r octets sent (full, short) = (
-  λ more. let was = full (subst (λ o. 1048576 ≤ vec_capacity o) octets more) in (ap length (same_waiting q r octets sent) ∙ was.0, was.1),
-  λ less. short (subst (λ o. vec_capacity o < 1048576) octets less),
+pub stuck_noted : (a b : Option (List Call)) (n : ℕ) (q r : Queue) → r.octets ≡ q.octets → r.sent ≡ q.sent → r.refused ≡ q.refused → IsStuck a b n q → IsStuck a b n r
+stuck_noted a b n q r octets sent refused (full, short) = (
+  λ few. let was = full (subst (λ t. length t.octets ≤ n) refused few) in (ap length (same_waiting q r octets sent) ∙ was.0, was.1),
+  λ more. let was = short (subst (λ t. n < length t.octets) refused more) in (subst (λ o. vec_capacity o < 1048576) (sym octets) was.0, was.1),
 )
 
 -- as many wait as may, and the last call took nothing
-pub stuck_full : (a b : Option (List Call)) (q : Queue) → length (waiting q) ≡ 1048576 → Follow end_in_vain a b → IsStuck a b q
-stuck_full a b q full vain = (
-  λ more. (full, vain),
-  λ less. absurd (omega (arith, full, less, q.octets.ok.0, q.octets.ok.1, length-drop q.sent q.octets.items)),
-)
+pub stuck_full : (a b : Option (List Call)) (n : ℕ) (q : Queue) → length (waiting q) ≡ 1048576 → length q.refused.octets ≡ n → Follow end_in_vain a b → IsStuck a b n q
+stuck_full a b n q full same vain = (λ few. (full, vain), λ more. absurd (omega (arith, same, more)))
 
--- memory was refused
-pub stuck_short : (a b : Option (List Call)) (q : Queue) → vec_capacity q.octets < 1048576 → Follow are_well a b → IsStuck a b q
-stuck_short a b q short well = (λ more. absurd (omega (arith, short, more)), λ less. well)
+-- octets found no room where as many may wait
+pub stuck_short : (a b : Option (List Call)) (n : ℕ) (p q : Queue) (octets : List ℕ) → length (waiting p) + length octets ≤ 1048576 → length p.refused.octets ≡ n
+    → (1048576 < length (waiting p) + length octets) ⊎ (vec_capacity q.octets < 1048576) → Follow are_well a b → FindNoRoom p q octets → IsStuck a b n q
+stuck_short a b n p q octets fits same short well (inl (more, still)) = absurd (omega (arith, fits, more))
+stuck_short a b n p q octets fits same short well (inr (less, noted)) =
+    let one : 1 ≤ length octets = omega (arith, less, p.octets.ok.0, p.octets.ok.1) in
+    let grown : length q.refused.octets ≡ n + length octets = omega (arith, ap length noted, length-append p.refused.octets octets, same) in (
+      λ few. absurd (omega (arith, few, one, grown)),
+      λ more. (short_memory (length (waiting p)) (length octets) (vec_capacity q.octets) fits short, well),
+    )
 
 pub kept_as : (a b : Option (List ℕ)) → HasTaken a b [] → Keeps a b
 kept_as None b has = tt

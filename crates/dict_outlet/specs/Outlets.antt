@@ -3,7 +3,7 @@ use Rattle.std.specs.Prelude.{◌≡◌, ◌≢◌, ◌≤◌, ◌<◌, ◌+◌,
 use Rattle.std.specs.Io.KnownBytes.{Appends, Keeps}
 use Rattle.dict_io.specs.Streams.{Stream}
 use Rattle.dict_outlet.specs.Calls.{Call, Makes, sends, receives, ends, has_failed, is_vain}
-use Rattle.dict_outlet.specs.Queues.{waiting}
+use Rattle.dict_outlet.specs.Queues.{waiting, counts_of}
 use Rattle.dict_outlet.specs.declared.queue.Queue.{Queue}
 use Rattle.dict_outlet.specs.declared.calls.Sent.{Sent}
 use Rattle.dict_outlet.specs.declared.trail.Trail.{Trail}
@@ -58,11 +58,15 @@ abbrev pub Follow : (List Call → Bool) → Option (List Call) → Option (List
 Follow are_such old new = (before : List Call) → old ≡ Some before
     → (new ≢ None) × ((after : List Call) → new ≡ Some after → (take (length before) after ≡ before) × (are_such (drop (length before) after) ≡ true))
 
--- Where there is room for 1,048,576 octets, as many wait, and the last of the calls that were made behind those of `old` took nothing.
--- Where there is less, memory was short, and no sending failed
-abbrev pub IsStuck : Option (List Call) → Option (List Call) → Queue → Type 0
-IsStuck old new queue = (1048576 ≤ vec_capacity queue.octets → (length (waiting queue) ≡ 1048576) × Follow end_in_vain old new)
-    × (vec_capacity queue.octets < 1048576 → Follow are_well old new)
+-- Where no more octets found no room than so many before, 1,048,576 wait, and the last of the calls that were made behind those of `old`
+-- took nothing. Where more did, memory was short, there is less room, and no sending failed
+abbrev pub IsStuck : Option (List Call) → Option (List Call) → ℕ → Queue → Type 0
+IsStuck old new refused queue = (length queue.refused.octets ≤ refused → (length (waiting queue) ≡ 1048576) × Follow end_in_vain old new)
+    × (refused < length queue.refused.octets → (vec_capacity queue.octets < 1048576) × Follow are_well old new)
+
+-- no more calls of a queue have failed than before, or it is stuck
+abbrev pub FailsOnlyStuck : Option (List Call) → Option (List Call) → Queue → Queue → Type 0
+FailsOnlyStuck before after old new = new.failures ≢ old.failures → IsStuck before after (counts_of old).refused new
 
 -- a front of the octets was put
 abbrev pub PutsSome : List ℕ → Trail → Queue → Trail → Queue → Type 0

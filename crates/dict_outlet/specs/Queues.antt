@@ -1,5 +1,5 @@
 -- What waits for a peer.
-use Rattle.std.specs.Prelude.{◌≡◌, ℕ, ◌≤◌, ◌<◌, ◌+◌, ◌^◌, ◌-◌, ◌==◌, Bool, List, ◌++◌, take, drop, length, Result, MatchResult, Option, Some}
+use Rattle.std.specs.Prelude.{◌≡◌, ◌⊎◌, ℕ, ◌≤◌, ◌<◌, ◌+◌, ◌^◌, ◌-◌, ◌==◌, Bool, List, ◌++◌, take, drop, length, Result, MatchResult, Option, Some, vec_capacity, vec_len}
 use Rattle.std.specs.Io.KnownBytes.{Appends, Keeps}
 use Rattle.dict_io.specs.Streams.{Stream}
 use Rattle.dict_outlet.specs.declared.queue.Queue.{Queue}
@@ -11,6 +11,21 @@ waiting queue = drop queue.sent queue.octets.items
 -- nothing waits
 abbrev pub is_clear : Queue → Bool
 is_clear queue = length (waiting queue) == 0
+
+-- how many calls of a queue have failed, and how many octets found no room there since memory was short
+pub record Counts : Type 0 where
+  pub failures : ℕ
+  pub refused : ℕ
+
+abbrev pub counts_of : Queue → Counts
+counts_of queue = record { failures = queue.failures; refused = length queue.refused.octets }
+
+-- Octets find no room behind those that wait: more than 1,048,576 would wait; or the room is smaller than they want, and they are
+-- noted, since memory was short
+abbrev pub FindNoRoom : Queue → Queue → List ℕ → Type 0
+FindNoRoom old new octets =
+    ((1048576 < length (waiting old) + length octets) × (new.refused.octets ≡ old.refused.octets))
+    ⊎ ((vec_capacity old.octets < vec_len old.octets + length octets) × (new.refused.octets ≡ old.refused.octets ++ octets))
 
 -- a queue as a sink of octets: these are known, though those of a socket aren't
 abbrev pub stream_of : Queue → Stream

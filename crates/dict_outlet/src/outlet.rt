@@ -2,7 +2,7 @@
 ghost use Rattle.std.specs.Prelude.{◌≡◌, ◌+◌, ◌<◌, ◌≤◌, ℕ, List, Option, [], None, length, true, false};
 ghost use Rattle.dict_outlet.specs.Calls.{Call};
 ghost use Rattle.dict_outlet.specs.Outlets.{Follow, HasTaken, IsStuck, MakesSendings, are_well};
-ghost use Rattle.dict_outlet.specs.Queues.{waiting};
+ghost use Rattle.dict_outlet.specs.Queues.{Counts, counts_of, waiting};
 
 use crate::calls::{Sent, sent_by};
 use crate::queue::Queue;
@@ -37,8 +37,8 @@ pub trait Beginning {
     /// The calls that were made of it.
     ghost made: { Option (List Call) };
 
-    /// How many calls of `put` failed before.
-    ghost failures: { ℕ };
+    /// How many calls of `put` failed before, and how many octets found no room.
+    ghost counts: { Counts };
 }
 
 impl Beginning for Brand {
@@ -48,7 +48,7 @@ impl Beginning for Brand {
 
     ghost made = { None };
 
-    ghost failures = { 0 };
+    ghost counts = { record { failures = 0; refused = 0 } };
 }
 
 /// Where one event puts its octets: they wait in a queue, and where it is full the transport is asked to take them, some
@@ -68,13 +68,14 @@ pub struct Outlet<T: Transport, B: Beginning> {
     ghost keeps: { HasTaken B.coming (T.coming transport) [] },
     ghost makes: { MakesSendings B.made (T.made transport) },
     ghost asks: { has_failed ≡ false → Follow are_well B.made (T.made transport) },
-    ghost stuck: { has_failed ≡ true → IsStuck B.made (T.made transport) queue },
-    ghost counts: { has_failed ≡ false → queue.failures ≡ B.failures },
+    ghost stuck: { has_failed ≡ true → IsStuck B.made (T.made transport) B.counts.refused queue },
+    ghost counts: { has_failed ≡ false → queue.failures ≡ B.counts.failures },
+    ghost room: { has_failed ≡ false → length queue.refused.octets ≡ B.counts.refused },
     ghost lazy: { length taken.octets + length (waiting queue) < 1048576 → (taken.octets ≡ []) × (T.made transport ≡ B.made) },
 }
 
 impl<T: Transport, B: Beginning> Outlet<T, B> {
-    ghost use Rattle.std.specs.Prelude.{◌++◌, ◌∷◌, ◌⊎◌, ◌^◌, ◌-◌, OnOk, OnErr, vec_len, vec_capacity, not};
+    ghost use Rattle.std.specs.Prelude.{◌++◌, ◌∷◌, ◌⊎◌, ◌^◌, ◌-◌, MatchResult, OnOk, OnErr, vec_len, vec_capacity, not};
     ghost use Rattle.dict_outlet.specs.Calls.{Makes, has_failed, is_vain, sends};
     ghost use Rattle.dict_outlet.specs.Outlets.{carried, PutsSome};
 
@@ -83,7 +84,7 @@ impl<T: Transport, B: Beginning> Outlet<T, B> {
         requires taken { B.taken ≡ T.taken transport }
         requires coming { B.coming ≡ T.coming transport }
         requires made { B.made ≡ T.made transport }
-        requires failures { B.failures ≡ queue.failures }
+        requires counts { B.counts ≡ counts_of queue }
         ensures queue { result.queue ≡ queue }
         ensures transport { result.transport ≡ transport }
         ensures taken { result.taken.octets ≡ [] }
@@ -120,20 +121,39 @@ impl<T: Transport, B: Beginning> Outlet<T, B> {
         requires { self.old.has_failed ≡ false }
         ensures all { OnOk result (carried self.new.taken self.new.queue ≡ carried self.old.taken self.old.queue ++ bytes.now) }
         ensures some { OnErr result (PutsSome bytes.now self.old.taken self.old.queue self.new.taken self.new.queue) }
-        ensures stuck { OnErr result (IsStuck B.made (T.made self.new.transport) self.new.queue) }
+        ensures stuck { OnErr result (IsStuck B.made (T.made self.new.transport) B.counts.refused self.new.queue) }
         ensures well { OnOk result (self.new.has_failed ≡ false) }
         ensures failures { self.new.queue.failures ≡ self.old.queue.failures }
     {
         let mut rest = bytes;
         while rest.len() > self.queue.room() {
             let (now, later) = rest.split_at(self.queue.room());
-            self.queue.append(now)?;
+            self.append(now)?;
             rest = later;
             if !self.send() {
                 return Err(SinkFault);
             }
         }
-        self.queue.append(rest)
+        self.append(rest)
+    }
+
+    // Has all of the octets wait. Where memory is short none of them does, and the event puts no more.
+    fn append(&mut self, bytes: &[u8]) -> Result<(), SinkFault>
+        requires fits { length (waiting self.old.queue) + length bytes.now ≤ 1048576 }
+        requires well { self.old.has_failed ≡ false }
+        ensures all { OnOk result (waiting self.new.queue ≡ waiting self.old.queue ++ bytes.now) }
+        ensures none { OnErr result (waiting self.new.queue ≡ waiting self.old.queue) }
+        ensures taken { self.new.taken ≡ self.old.taken }
+        ensures failed { MatchResult result (λ _. self.new.has_failed ≡ false) (λ _. self.new.has_failed ≡ true) }
+        ensures failures { self.new.queue.failures ≡ self.old.queue.failures }
+    {
+        match self.queue.append(bytes) {
+            Ok(()) => Ok(()),
+            Err(fault) => {
+                self.has_failed = true;
+                Err(fault)
+            }
+        }
     }
 
     // Asks the transport to take what waits, and where it takes none again, as often as it may be asked in vain within an event: a
@@ -170,6 +190,7 @@ impl<T: Transport, B: Beginning> Outlet<T, B> {
         ensures took { is_vain result ≡ false → length (waiting self.new.queue) < 1048576 }
         ensures none { is_vain result ≡ true → waiting self.new.queue ≡ waiting self.old.queue }
         ensures failed { self.new.has_failed ≡ has_failed result }
+        ensures refused { self.new.queue.refused ≡ self.old.queue.refused }
         ensures made { Makes (T.made self.old.transport) (T.made self.new.transport) (sends result ∷ []) }
         ensures failures { self.new.queue.failures ≡ self.old.queue.failures }
     {
@@ -200,7 +221,7 @@ impl<T: Transport, B: Beginning> Sink for Outlet<T, B> {
         ensures worn_out { self.old.queue.failures ≡ 2 ^ 64 - 1
             → IsErr result × Appends (stream_through self.old.taken self.old.queue).octets (stream_through self.new.taken self.new.queue).octets [] }
         ensures some { OnErr result ((self.old.queue.failures ≡ 2 ^ 64 - 1) ⊎ PutsSome bytes.now self.old.taken self.old.queue self.new.taken self.new.queue) }
-        ensures stuck { OnErr result ((self.old.queue.failures ≡ 2 ^ 64 - 1) ⊎ IsStuck B.made (T.made self.new.transport) self.new.queue) }
+        ensures stuck { OnErr result ((self.old.queue.failures ≡ 2 ^ 64 - 1) ⊎ IsStuck B.made (T.made self.new.transport) B.counts.refused self.new.queue) }
         ensures again { self.old.has_failed ≡ true
             → IsErr result × Appends (stream_through self.old.taken self.old.queue).octets (stream_through self.new.taken self.new.queue).octets [] }
     {

@@ -2,6 +2,7 @@
 ghost use Rattle.std.specs.Prelude.{◌≡◌, ◌+◌, ◌≤◌, ◌==◌, [], length, vec_len};
 ghost use Rattle.std.specs.Io.KnownBytes.{Keeps};
 
+use crate::trail::Trail;
 use crate::transport::Transport;
 use dict_io::{Sink, SinkFault};
 use std::alloc::Global;
@@ -22,25 +23,29 @@ pub struct Queue {
     // How many of them were sent.
     sent: usize,
     failures: u64,
+    // Those that found no room since memory was short.
+    refused: Trail,
     ghost in_front: { sent ≤ vec_len octets },
     ghost within: { vec_len octets ≤ 1048576 },
 }
 
 impl Queue {
-    ghost use Rattle.std.specs.Prelude.{◌∷◌, ◌<◌, ◌⊎◌, ◌++◌, ◌-◌, ◌^◌, IsErr, drop, OnErr, OnOk, vec_capacity, min};
+    ghost use Rattle.std.specs.Prelude.{◌∷◌, ◌<◌, ◌⊎◌, ◌++◌, ◌-◌, ◌^◌, IsErr, MatchResult, drop, OnErr, OnOk, vec_capacity, min};
     ghost use Rattle.dict_outlet.specs.Calls.{Makes, sends, sent_by};
-    ghost use Rattle.dict_outlet.specs.Queues.{waiting, Sends};
+    ghost use Rattle.dict_outlet.specs.Queues.{waiting, FindNoRoom, Sends};
 
     /// A queue in which nothing waits and no call failed.
     pub fn new(alloc: Global) -> Self
         ensures waits { waiting result ≡ [] }
         ensures failures { result.failures ≡ 0 }
+        ensures refused { result.refused.octets ≡ [] }
     {
         Queue {
             alloc,
             octets: Vec::new(alloc),
             sent: 0,
             failures: 0,
+            refused: Trail::new(),
         }
     }
 
@@ -93,6 +98,7 @@ impl Queue {
         ensures octets { self.new.octets ≡ self.old.octets }
         ensures sent { self.new.sent ≡ self.old.sent }
         ensures failures { self.new.failures ≡ min (self.old.failures + 1) (2 ^ 64 - 1) }
+        ensures refused { self.new.refused ≡ self.old.refused }
     {
         self.failures = self.failures.saturating_add(1);
     }
@@ -101,6 +107,7 @@ impl Queue {
     pub fn send<T: Transport>(&mut self, transport: &mut T) -> io::Result<usize>
         ensures sends { Sends result self.old self.new (T.taken transport.old) (T.taken transport.new) }
         ensures failures { self.new.failures ≡ self.old.failures }
+        ensures refused { self.new.refused ≡ self.old.refused }
         ensures coming { Keeps (T.coming transport.old) (T.coming transport.new) }
         ensures made { Makes (T.made transport.old) (T.made transport.new) (sends (sent_by result) ∷ []) }
     {
@@ -114,6 +121,7 @@ impl Queue {
         requires { count ≤ length (waiting self.old) }
         ensures waits { waiting self.new ≡ drop count (waiting self.old) }
         ensures failures { self.new.failures ≡ self.old.failures }
+        ensures refused { self.new.refused ≡ self.old.refused }
     {
         self.sent += count;
         self.let_go();
@@ -134,6 +142,7 @@ impl Queue {
         ensures refuses { OnErr result ((1048576 < length (waiting self.old) + length bytes.now) ⊎ (vec_capacity self.old.octets < vec_len self.old.octets + length bytes.now)) }
         ensures memory { OnErr result ((1048576 < length (waiting self.old) + length bytes.now) ⊎ (vec_capacity self.new.octets < 1048576)) }
         ensures failures { self.new.failures ≡ self.old.failures }
+        ensures room { MatchResult result (λ _. self.new.refused ≡ self.old.refused) (λ _. FindNoRoom self.old self.new bytes.now) }
     {
         if bytes.len() > self.room() {
             return Err(SinkFault);
@@ -141,30 +150,35 @@ impl Queue {
         if bytes.len() > MAX_WAITING - self.octets.len() {
             self.compact();
         }
-        self.reserve(bytes.len())?;
+        self.reserve(bytes)?;
         match self.octets.extend_from_slice(bytes) {
             Ok(()) => Ok(()),
             Err(_) => Err(SinkFault),
         }
     }
 
-    // Takes room for so many octets more. It is doubled, up to that of `MAX_WAITING`.
-    fn reserve(&mut self, count: usize) -> Result<(), SinkFault>
-        requires { vec_len self.old.octets + count ≤ 1048576 }
+    // Takes room for these octets too. It is doubled, up to that of `MAX_WAITING`.
+    fn reserve(&mut self, bytes: &[u8]) -> Result<(), SinkFault>
+        requires { vec_len self.old.octets + length bytes.now ≤ 1048576 }
         ensures octets { self.new.octets.items ≡ self.old.octets.items }
         ensures sent { self.new.sent ≡ self.old.sent }
-        ensures room { OnOk result (vec_len self.new.octets + count ≤ vec_capacity self.new.octets) }
-        ensures refuses { OnErr result (vec_capacity self.old.octets < vec_len self.old.octets + count) }
+        ensures holds { OnOk result (vec_len self.new.octets + length bytes.now ≤ vec_capacity self.new.octets) }
+        ensures refuses { OnErr result (vec_capacity self.old.octets < vec_len self.old.octets + length bytes.now) }
         ensures capacity { OnErr result (vec_capacity self.new.octets ≡ vec_capacity self.old.octets) }
         ensures failures { self.new.failures ≡ self.old.failures }
+        ensures room { MatchResult result (λ _. self.new.refused ≡ self.old.refused) (λ _. self.new.refused.octets ≡ self.old.refused.octets ++ bytes.now) }
     {
+        let count = bytes.len();
         if count <= self.octets.capacity() - self.octets.len() {
             return Ok(());
         }
         let doubled = self.octets.len().min(MAX_WAITING - self.octets.len());
         match self.octets.reserve_exact(count.max(doubled)) {
             Ok(()) => Ok(()),
-            Err(_) => Err(SinkFault),
+            Err(_) => {
+                self.refused.note(bytes);
+                Err(SinkFault)
+            }
         }
     }
 
@@ -175,6 +189,7 @@ impl Queue {
         ensures len { vec_len self.new.octets ≤ vec_len self.old.octets }
         ensures capacity { vec_capacity self.new.octets ≡ vec_capacity self.old.octets }
         ensures failures { self.new.failures ≡ self.old.failures }
+        ensures refused { self.new.refused ≡ self.old.refused }
     {
         let count = self.len();
         self.octets.rotate_left(self.sent);
@@ -186,6 +201,7 @@ impl Queue {
     fn let_go(&mut self)
         ensures waits { waiting self.new ≡ waiting self.old }
         ensures failures { self.new.failures ≡ self.old.failures }
+        ensures refused { self.new.refused ≡ self.old.refused }
     {
         if self.sent < self.octets.len() {
             return;
@@ -199,10 +215,10 @@ impl Queue {
 }
 
 impl Sink for Queue {
-    ghost use Rattle.std.specs.Prelude.{◌<◌, ◌⊎◌, ◌^◌, ◌-◌, IsErr, OnErr, Some, vec_capacity};
+    ghost use Rattle.std.specs.Prelude.{◌<◌, ◌⊎◌, ◌^◌, ◌-◌, IsErr, MatchResult, OnErr, Some, vec_capacity};
     ghost use Rattle.std.specs.Io.KnownBytes.{Appends};
     ghost use Rattle.dict_io.specs.Streams.{Puts};
-    ghost use Rattle.dict_outlet.specs.Queues.{TakesAll, stream_of, waiting};
+    ghost use Rattle.dict_outlet.specs.Queues.{FindNoRoom, TakesAll, stream_of, waiting};
 
     ghost stream = { stream_of };
 
@@ -216,6 +232,8 @@ impl Sink for Queue {
         ensures bound { 1048576 < length (waiting self.old) + length bytes.now → IsErr result }
         ensures refuses { OnErr result ((self.old.failures ≡ 2 ^ 64 - 1) ⊎ ((1048576 < length (waiting self.old) + length bytes.now)
             ⊎ (vec_capacity self.old.octets < vec_len self.old.octets + length bytes.now))) }
+        ensures room { MatchResult result (λ _. self.new.refused ≡ self.old.refused)
+            (λ _. ((self.old.failures ≡ 2 ^ 64 - 1) × (self.new.refused ≡ self.old.refused)) ⊎ FindNoRoom self.old self.new bytes.now) }
     {
         if self.failures == u64::MAX {
             return Err(SinkFault);

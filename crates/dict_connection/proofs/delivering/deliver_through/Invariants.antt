@@ -1,3 +1,4 @@
+use Rattle.dict_outlet.specs.Queues.{counts_of}
 use Rattle.dict_connection.proofs.delivering.deliver_through.Given as goal
 
 abbrev pub ghosts-deliver_from : goal.ghosts-deliver_from
@@ -5,5 +6,5 @@ ghosts-deliver_from g a = record {
   taken = g.T.Transport.taken a.transport;
   coming = g.T.Transport.coming a.transport;
   made = g.T.Transport.made a.transport;
-  failures = a.queue.failures;
+  counts = counts_of a.queue;
 }

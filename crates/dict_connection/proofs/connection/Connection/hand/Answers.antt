@@ -2,7 +2,7 @@ use Rattle.std.proofs.Common.{◌≡◌, refl, ap, subst, sym, ◌∙◌, drop, 
 use Rattle.std.specs.Prelude.{Some}
 use Rattle.dict_session.specs.Desks.{condition}
 use Rattle.dict_hub.specs.Events.Happening.{came}
-use Rattle.dict_connection.specs.Causes.{IsRefused}
+use Rattle.dict_connection.specs.Causes.{CountOn, IsRefused}
 use Rattle.dict_connection.specs.Handing.{held_in}
 use Rattle.dict_connection.specs.Pieces.{behind_piece, next_piece}
 use Rattle.dict_connection.specs.Telling.{IsToldThrough, answer_of}
@@ -42,7 +42,8 @@ returns-in-Err-clause-led g c =
     led_joined c.deliver_through.ensures.led c.end.ensures.led c.end.ensures.trust
     (λ es fs told ended.
     let none = subst (λ a. IsToldThrough g.T.Transport.taken g.T.Transport.coming g.T.Transport.made what (answer_of a) old.queue c.deliver_through.new.queue old.transport c.deliver_through.new.transport es) c.in-Err.is told.0 in
-    let both = hands_refused (IsRefused g.O.Opening.refuses c.args.hub.now) g.T.Transport.taken g.T.Transport.coming g.T.Transport.made old _ _ (held_in old.held) what es fs refl refl refl c.end.ensures.over
+    let counted = subst (λ l. CountOn old.queue.failures c.deliver_through.new.queue.failures l) none.answered told.1.failures in
+    let both = hands_refused (IsRefused g.O.Opening.refuses c.args.hub.now) g.T.Transport.taken g.T.Transport.coming g.T.Transport.made old _ _ (held_in old.held) what es fs refl refl refl counted c.end.ensures.over
     none (ended.0, ended.1) why in
     (both.0, both.1, caused_refused _ _ old _ _ es fs none.answered told.1 refl ended.2))
 

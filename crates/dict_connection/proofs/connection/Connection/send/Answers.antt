@@ -8,5 +8,5 @@ returns-then-is_empty g c = sends_none g.T.Transport.taken g.T.Transport.coming 
 pub returns : goal.returns
 returns g c =
     rw c.sent_by.ensures
-    (sends_once g.T.Transport.taken g.T.Transport.coming g.T.Transport.made _ _ c.send.result refl refl refl refl refl c.send.ensures.failures (sym c.is_empty.ensures ∙ c.if-is_empty.false)
+    (sends_once g.T.Transport.taken g.T.Transport.coming g.T.Transport.made _ _ c.send.result refl refl refl refl refl c.send.ensures.failures c.send.ensures.refused (sym c.is_empty.ensures ∙ c.if-is_empty.false)
     c.send.ensures.sends c.send.ensures.coming c.send.ensures.made)

@@ -1,4 +1,4 @@
-use Rattle.std.proofs.Common.{◌≡◌, ◌++◌, [], ◌∷◌, List, true, false, refl, sym, ◌∙◌, ap, subst, take, drop, append_assoc, take-append-drop}
+use Rattle.std.proofs.Common.{◌≡◌, ◌++◌, [], ◌∷◌, List, true, false, refl, sym, ◌∙◌, ap, subst, take, drop, length, append_assoc, take-append-drop}
 use Rattle.dict_outlet.specs.Calls.{Call, Makes, has_failed, is_vain, sends}
 use Rattle.dict_outlet.specs.Queues.{waiting}
 use Rattle.dict_outlet.proofs.OutletLemmas.{taken_more, taken_same, calls_more, failed_in_vain, ok_is_well, sent_in_vain, still_full, stuck_full, well_sent}
@@ -25,6 +25,7 @@ invariant_of-self g c =
       asks = λ _. well_sent sent _ _ _ well (old.asks c.requires.well) calls;
       stuck = λ failed. absurd (let never : false ≡ true = sym well ∙ sym c.has_failed-self.ensures ∙ failed in cc);
       counts = λ _. c.pass.ensures.failures ∙ old.counts c.requires.well;
+      room = λ _. ap (λ t. length t.octets) c.pass.ensures.refused ∙ old.room c.requires.well;
       lazy = λ few. absurd (still_full _ _ _ _ whole c.requires.full few);
     }
 
@@ -39,7 +40,8 @@ invariant_of-self-in_default g c =
       keeps = taken_same _ _ _ _ old.keeps c.send-outcome.ensures.coming;
       makes = calls_more _ _ _ _ old.makes c.send-outcome.ensures.made;
       asks = λ well. well_sent sent _ _ _ (sym c.has_failed-self.ensures ∙ well) (old.asks c.requires.well) calls;
-      stuck = λ failed. stuck_full _ _ old.queue c.requires.full (sent_in_vain sent _ _ _ (failed_in_vain sent (sym c.has_failed-self.ensures ∙ failed)) (old.asks c.requires.well) calls);
+      stuck = λ failed. stuck_full _ _ _ old.queue c.requires.full (old.room c.requires.well) (sent_in_vain sent _ _ _ (failed_in_vain sent (sym c.has_failed-self.ensures ∙ failed)) (old.asks c.requires.well) calls);
       counts = λ _. old.counts c.requires.well;
+      room = λ _. old.room c.requires.well;
       lazy = λ few. absurd (still_full _ _ _ _ refl c.requires.full few);
     }
