@@ -6,3 +6,4 @@ pub mod DeskOpener
 pub mod Files
 pub mod Plain
 pub mod Program
+pub mod Order

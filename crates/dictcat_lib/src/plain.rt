@@ -7,6 +7,7 @@ ghost use Rattle.dict_index.specs.Edition.{edition_of};
 ghost use Rattle.dict_catalogue.specs.Commands.{install};
 ghost use Rattle.dict_catalogue.specs.Steps.{Catalogue, empty_catalogue, step};
 ghost use Rattle.dict_desk.specs.Applying.{Applies};
+ghost use Rattle.dict_actions.specs.Files.{IsInOrder};
 
 use dict_actions::{InputFiles, read_file};
 use dict_catalogue::{Command, Kept};
@@ -112,8 +113,9 @@ pub(crate) fn run_files<'w, I: InputFiles, S: Source, K: Sink>(
     reader: &mut S,
     writer: &mut K,
 ) -> Result<(), ProgramFault<'w>>
-    ensures { FilesEnd (standing desk.new) (I.octets files.now) name.now index.entry.now text.entry.now result
+    ensures ends { FilesEnd (standing desk.new) (I.octets files.now) name.now index.entry.now text.entry.now result
         (change S.stream reader.old reader.new) (change K.stream writer.old writer.new) }
+    ensures order { IsInOrder (I.reads files.now) (I.refuses files.now) index.entry.now text.entry.now result }
 {
     let index = read_file(files, index)?;
     let text = read_file(files, text)?;

@@ -4,6 +4,7 @@ ghost use Rattle.std.specs.IoError.{error_kind};
 ghost use Rattle.std.specs.declared.io.ErrorKind.TheVariants.{OutOfMemory};
 ghost use Rattle.clap.specs.Values.{kind_of};
 ghost use Rattle.dict_arguments.specs.Asked.{Fails};
+ghost use Rattle.dictcat_lib.specs.Order.{TellsInOrder};
 ghost use Rattle.dictcat_lib.specs.Program.{AnswerEnds, CommandEnds, Closes, IsTold, Shows, Tells, TellsMistake, not_text};
 ghost use Rattle.dict_messages.specs.Writing.{IsUntouched};
 ghost use Rattle.dict_io.specs.Streams.{StreamChange, change};
@@ -45,8 +46,9 @@ pub fn command<
     writer: &mut W,
     faults: &mut F,
 ) -> u8
-    ensures { CommandEnds K.Lookup D.DeskOpener D.Catalogues.own K.expects K.prepares (I.octets files.now) plain.new desks.old desks.new (map A.text words.now) result
+    ensures ends { CommandEnds K.Lookup D.DeskOpener D.Catalogues.own K.expects K.prepares (I.octets files.now) plain.new desks.old desks.new (map A.text words.now) result
         (change S.stream reader.old reader.new) (change W.stream writer.old writer.new) (change F.stream faults.old faults.new) }
+    ensures order { TellsInOrder D.DeskOpener desks.old desks.new (I.reads files.now) (I.refuses files.now) (map A.text words.now) result (change F.stream faults.old faults.new) }
 {
     match read_words(rt.alloc(), words) {
         Ok(task) => {

@@ -1,5 +1,6 @@
 // What is done of what the program is asked for.
 ghost use Rattle.dict_io.specs.Streams.{change};
+ghost use Rattle.dictcat_lib.specs.Order.{ChangesInOrder, EndsInOrder};
 ghost use Rattle.dictcat_lib.specs.Program.{ChangeTaskEnds, TaskEnds};
 ghost use Rattle.dict_arguments.specs.Asked.{words_shown};
 ghost use Rattle.dict_catalogue.specs.Commands.{put_virtual};
@@ -19,7 +20,8 @@ use dict_serving::{DeskOpener, ServerOptions, serve_catalogue};
 use std::alloc::Global;
 
 /// Does a task: opens the catalogue that it names, reads its files, takes a session's octets from the reader, and writes what it
-/// answers. The catalogue of a session over two files is kept in `plain`, which is made anew for it.
+/// answers. The catalogue of a session over two files is kept in `plain`, which is made anew for it. An index is read before its text,
+/// and both before what they say is refused.
 pub fn perform<'w, K: Preparer + Drop, D: Catalogues<K>, I: InputFiles, S: Source, W: Sink>(
     rt: &HostRuntime,
     task: &Task<'w>,
@@ -29,8 +31,9 @@ pub fn perform<'w, K: Preparer + Drop, D: Catalogues<K>, I: InputFiles, S: Sourc
     reader: &mut S,
     writer: &mut W,
 ) -> Result<(), ProgramFault<'w>>
-    ensures { TaskEnds K.Lookup D.DeskOpener D.Catalogues.own K.expects K.prepares (I.octets files.now) plain.new desks.old desks.new task.now result
+    ensures ends { TaskEnds K.Lookup D.DeskOpener D.Catalogues.own K.expects K.prepares (I.octets files.now) plain.new desks.old desks.new task.now result
         (change S.stream reader.old reader.new) (change W.stream writer.old writer.new) }
+    ensures order { EndsInOrder D.DeskOpener desks.old desks.new (I.reads files.now) (I.refuses files.now) task.now result }
 {
     match task {
         Task::Plain { name, index, text } => {
@@ -98,8 +101,9 @@ fn perform_change<'w, K: Keeper + Drop, D: DeskOpener<K>, I: InputFiles, W: Sink
     files: &I,
     writer: &mut W,
 ) -> Result<(), ProgramFault<'w>>
-    ensures { ChangeTaskEnds K.Lookup D.DeskOpener (I.octets files.now) desks.old desks.new file.entry.now name.entry.now id.entry.now what.now result
+    ensures ends { ChangeTaskEnds K.Lookup D.DeskOpener (I.octets files.now) desks.old desks.new file.entry.now name.entry.now id.entry.now what.now result
         (change W.stream writer.old writer.new) }
+    ensures order { ChangesInOrder D.DeskOpener desks.old desks.new (I.reads files.now) (I.refuses files.now) file.entry.now what.now result }
 {
     match what {
         ItemChange::Install { index, text } => {

@@ -1,6 +1,7 @@
 // Work over the catalogues of files, whatever opens them.
 ghost use Rattle.dict_io.specs.Streams.{change};
 ghost use Rattle.dict_catalogue.specs.Views.{command_meant};
+ghost use Rattle.dictcat_lib.specs.Order.{InstallsInOrder};
 ghost use Rattle.dictcat_lib.specs.Working.{AuditEnds, ChangeEnds, CreateEnds, InstallsOn, ListEnds, TellsSound};
 
 use crate::catalogues::Catalogues;
@@ -95,8 +96,9 @@ pub(crate) fn install_over<'w, K: Keeper + Drop, D: DeskOpener<K>, I: InputFiles
     files: &I,
     writer: &mut W,
 ) -> Result<(), ProgramFault<'w>>
-    ensures { InstallsOn K.Lookup D.DeskOpener (I.octets files.now) path.entry.now wanted.entry.name.now id.now wanted.entry.index.now wanted.entry.text.now
+    ensures ends { InstallsOn K.Lookup D.DeskOpener (I.octets files.now) path.entry.now wanted.entry.name.now id.now wanted.entry.index.now wanted.entry.text.now
         desks.old desks.new result (change W.stream writer.old writer.new) }
+    ensures order { InstallsInOrder D.DeskOpener desks.old desks.new (I.reads files.now) (I.refuses files.now) path.entry.now wanted.entry.index.now wanted.entry.text.now result }
 {
     let mut desk = desks.open(path)?;
     let end = install(alloc, &mut desk, id, wanted, files, writer);

@@ -3,13 +3,13 @@ use Rattle.std.proofs.lemmas.Result.{err_from_is_err_and}
 use Rattle.dict_serving.proofs.DeedLemmas.{does_both}
 use Rattle.dictcat_lib.proofs.work.install_over.Goals as goal
 
-pub returns-in_err-desk : goal.returns-in_err-desk
-returns-in_err-desk g c =
+pub returns-in_err-desk-clause-ends : goal.returns-in_err-desk-clause-ends
+returns-in_err-desk-clause-ends g c =
     let error = err_from_is_err_and c.from_residual.result c.from_residual.ensures.1 in
     inl (error.0, error.1, rw error.2 c.in_err-desk.ensures.opened, c.in_err-desk.ensures.history, refl)
 
-pub returns : goal.returns
-returns g c = inr (
+pub returns-clause-ends : goal.returns-clause-ends
+returns-clause-ends g c = inr (
   c.in_ok-desk.desk,
   c.install-end.new.desk,
   c.close.result,
@@ -18,3 +18,9 @@ returns g c = inr (
   c.close.ensures.shut,
   (c.install-end.ensures.installed, c.install-end.ensures.memory),
 )
+
+pub returns-in_err-desk-clause-order : goal.returns-in_err-desk-clause-order
+returns-in_err-desk-clause-order g c = inl c.in_err-desk.ensures.history
+
+pub returns-clause-order : goal.returns-clause-order
+returns-clause-order g c = inr c.install-end.ensures.order
