@@ -13,19 +13,6 @@ use Rattle.dict_driver.specs.declared.fault.BindFault.TheVariants.{Dict, Http, W
 abbrev pub IsAddress : List ℕ → Type 0
 IsAddress text = (address : SocketAddr) × IsSocketText text address
 
--- no socket is bound to it: it says none, or it does and the system refuses
-abbrev pub IsNotBound : List ℕ → AddressFault → Type 0
-IsNotBound text Unread = IsAddress text → ⊥
-IsNotBound text (Unbound error) = IsAddress text
-
--- a socket is bound to both, or the first fault is told: that for readers comes before that for editors, and both before all others
-abbrev pub Binds : {D : Type 0} → List ℕ → List ℕ → Result D BindFault → Type 0
-Binds dict http (Ok driver) = IsAddress dict × IsAddress http
-Binds dict http (Err (Dict fault)) = IsNotBound dict fault
-Binds dict http (Err (Http fault)) = IsAddress dict × IsNotBound http fault
-Binds dict http (Err (Wait error)) = IsAddress dict × IsAddress http
-Binds dict http (Err Memory) = IsAddress dict × IsAddress http
-
 -- the address that is told where this one is asked for: this one, but for the port where it asks for port 0, which leaves the choice to
 -- the system
 pub record HasAddressOf (asked told : SocketAddr) : Type 0 where
@@ -52,7 +39,7 @@ IsRefused refuses text Unread = IsAddress text → ⊥
 IsRefused refuses text (Unbound error) = (asked : SocketAddr) × IsSocketText text asked × refuses asked error
 
 -- Listening sockets are bound to both addresses, that for readers first, and the sockets are over these two; or the first fault is told,
--- with the error by which the system refused it
+-- with the error by which the system refused it: that for readers comes before that for editors, and both before all others
 abbrev pub BindsBoth : {L S : Type 0} → (L → SocketAddr → SocketAddr → Type 0) → (SocketAddr → Error → Type 0) → (S → L → L → Type 0) → (Error → Type 0)
     → List ℕ → List ℕ → Result (S × (SocketAddr × SocketAddr)) BindFault → Type 0
 BindsBoth {L} is_bound refuses is_over is_unwatched dict http (Ok bound) =

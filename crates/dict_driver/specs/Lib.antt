@@ -1,4 +1,5 @@
 pub mod Binding
+pub mod Bound
 pub mod Ordering
 pub mod Turning
 pub mod Rounds

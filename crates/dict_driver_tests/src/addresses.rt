@@ -1,7 +1,7 @@
 //! Addresses to which no socket can be bound.
 use crate::checks::{holds, same_text};
 use crate::serving::{FREE, Play};
-use dict_driver::{AddressFault, BindFault, Driver};
+use dict_driver::{AddressFault, BindFault, Driver, System};
 use std::alloc::Global;
 use std::net::{Net, SocketAddr};
 use std::process::Abort;
@@ -9,7 +9,7 @@ use std::test::Fail;
 
 // Why no driver is bound to two addresses.
 fn told(net: &impl Net, alloc: Global, dict: &str, http: &str) -> &'static str {
-    match Driver::bind(net, alloc, dict, http, "localhost") {
+    match Driver::bind(&System, net, alloc, dict, http, "localhost") {
         Ok(_) => "bound",
         Err(BindFault::Dict(AddressFault::Unread)) => "dict unread",
         Err(BindFault::Dict(AddressFault::Unbound(_))) => "dict unbound",

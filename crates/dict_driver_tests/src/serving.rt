@@ -1,7 +1,7 @@
 // A driver over a catalogue in memory, and clients of it, in one thread, by steps that are written down as data.
 use crate::client::Client;
 use dict_desk::PlainDesk;
-use dict_driver::{Driver, Served, serve};
+use dict_driver::{Driver, Served, System, serve};
 use std::alloc::Global;
 use std::io::Result as IoResult;
 use std::net::{Net, SocketAddr, TcpStream};
@@ -63,7 +63,7 @@ pub(crate) struct Play {
 impl Play {
     /// Over an empty catalogue.
     pub(crate) fn new(net: &impl Net, alloc: Global) -> Result<Play, Fail> {
-        let driver = Driver::bind(net, alloc, FREE, FREE, "localhost")?;
+        let driver = Driver::bind(&System, net, alloc, FREE, FREE, "localhost")?;
         let (dict, http) = driver.addresses();
         Ok(Play {
             alloc,

@@ -1,5 +1,5 @@
 -- What was done to the file whose catalogue was served.
-use Rattle.std.specs.Prelude.{◌≡◌, ◌⊎◌, ◌++◌, ℕ, Bool, List, [], ◌∷◌, Option, Some, None, MatchOption, Result, Err, ⊤}
+use Rattle.std.specs.Prelude.{◌≡◌, ◌⊎◌, ◌++◌, ℕ, Bool, List, [], ◌∷◌, Option, Some, None, MatchOption, Result, Ok, Err, ⊤}
 use Rattle.dict_index.specs.Edition.{Edition}
 use Rattle.dict_catalogue.specs.Commands.{Command}
 use Rattle.dict_desk.specs.declared.fault.Fault.{Fault}
@@ -9,7 +9,6 @@ use Rattle.dict_driver.specs.declared.driver.Driver.{Driver}
 use Rattle.dict_messages.specs.Writing.{IsUntouched}
 use Rattle.dict_messages.specs.declared.fault.ProgramFault.{ProgramFault}
 use Rattle.dict_serving.specs.Deeds.{Deed, Opens, Reopens, Closes, Does}
-use Rattle.dict_serving.specs.Listening.{Begins}
 use Rattle.dict_serving.specs.Serving.{HasServed, IsNew, IsNone, Stretch}
 
 -- over the last stretch: its desk is open still; or it was closed; or it was closed, and the file wasn't opened again
@@ -50,13 +49,14 @@ WasDone {K} Shut old new path desk stretches =
     × MatchOption last ⊤ Shut
 
 module _ {K : Type 0} (Shows : K → Catalogue → Type 0) (LeavesOneOf : K → List (Option Catalogue) → Type 0) (IsTrusted : K → Type 0) (IsOpened : Option K → K → Type 0)
-    (has_failed is_closed : K → Bool) (expects : K → Command Edition → K → Type 0) (prepares : K → Result Bool Fault → K → Type 0) where
+    (has_failed is_closed : K → Bool) (expects : K → Command Edition → K → Type 0) (prepares : K → Result Bool Fault → K → Type 0)
+    (Begins : List ℕ → List ℕ → Result Driver ProgramFault → StreamChange → Type 0) where
   -- There is no desk of the file; or there is, and no sockets were bound to both addresses, or they couldn't be told, and it was closed;
-  -- or it was served, and the driver that is kept is the one that served it. Nothing else was done to any file
+  -- or they were, it was served, and the driver that is kept is the one that served it. Nothing else was done to any file
   abbrev pub ServeEnds : (List ℕ → ProgramFault → Type 0) → (K → Type 0) → (List ℕ → K → ProgramFault → Type 0) → Option (List (Deed K)) → Option (List (Deed K)) → List ℕ → List ℕ → List ℕ → Option ℕ → Result (Unit {0}) ProgramFault → StreamChange → Option Driver → Type 0
   ServeEnds IsUnopened Shut IsUnreopened old new path dict http rounds result writer kept =
       ((fault : ProgramFault) × (result ≡ Err fault) × IsNone (IsUnopened path) fault × IsUntouched writer × Does old new (Opens path None ∷ []) × (kept ≡ None))
       ⊎ ((desk : K) × IsNew Shows LeavesOneOf IsTrusted (IsOpened None) desk
       × (((fault : ProgramFault) × (result ≡ Err fault) × Begins dict http (Err fault) writer × Does old new (Opens path (Some desk) ∷ Closes desk ∷ []) × Shut desk × (kept ≡ None))
       ⊎ ((served : HasServed Shows LeavesOneOf IsTrusted IsOpened has_failed is_closed expects prepares desk dict http rounds result Shut (IsUnreopened path) writer) × WasDone Shut old new path desk served.stretches
-      × (kept ≡ Some served.last))))
+      × (kept ≡ Some served.last) × Begins dict http (Ok served.first) writer)))

@@ -7,9 +7,12 @@ use Rattle.std.specs.declared.io.ErrorKind.TheVariants.{OutOfMemory}
 use Rattle.std.specs.declared.net.socket_addr.SocketAddr.{SocketAddr}
 use Rattle.std.specs.Net.Text.{socket_text}
 use Rattle.dict_io.specs.Streams.{StreamChange, PutsAll, PutsFront}
-use Rattle.dict_driver.specs.Binding.{Binds}
+use Rattle.dict_driver.specs.Binding.{BindsBoth, IsBound}
+use Rattle.dict_driver.specs.Bound.{sockets_of}
+use Rattle.dict_driver.specs.declared.binding.Network as network
 use Rattle.dict_driver.specs.declared.driver.Driver.{Driver}
 use Rattle.dict_driver.specs.declared.fault.BindFault.{BindFault}
+use Rattle.dict_driver.specs.declared.sockets.SystemSockets.{SystemSockets}
 use Rattle.dict_driver.specs.declared.fault.BindFault.TheVariants as bind_faults
 use Rattle.dict_messages.specs.Writing.{IsUntouched}
 use Rattle.dict_messages.specs.declared.fault.ProgramFault.{ProgramFault}
@@ -39,11 +42,18 @@ TellsOf dict http (bind_faults.Http why) fault = IsUnbound http fault
 TellsOf dict http (bind_faults.Wait why) fault = TellsWaiting why fault
 TellsOf dict http bind_faults.Memory fault = fault ≡ faults.Memory
 
--- Sockets are bound to both, and they are written. Where one is not, the first fault is told, and nothing is written; where the
--- writer fails a front is written, and where memory runs out nothing
-abbrev pub Begins : List ℕ → List ℕ → Result Driver ProgramFault → StreamChange → Type 0
-Begins dict http (Ok driver) writer = Binds dict http (Ok driver) × PutsAll writer.old writer.new (lines_of driver.addresses.0 driver.addresses.1)
-Begins dict http (Err fault) writer =
-    ((why : BindFault) × Binds {D = Unit {0}} dict http (Err why) × TellsOf dict http why fault × IsUntouched writer)
-    ⊎ (((fault ≡ faults.CannotWrite) × ((readers : SocketAddr) × (editors : SocketAddr) × PutsFront writer.old writer.new (lines_of readers editors)))
-    ⊎ ((fault ≡ faults.Memory) × IsUntouched writer))
+-- By what is known of a network.
+module _ {B L : Type 0} (n : network.Ghosts B L SystemSockets) where
+  -- both addresses are bound, or one is not, for this reason
+  abbrev pub BindsBy : List ℕ → List ℕ → Result Driver BindFault → Type 0
+  BindsBy dict http bound = BindsBoth n.is_bound n.refuses n.is_over n.is_unwatched dict http (sockets_of bound)
+
+  -- Sockets are bound to both, and they are written. Where one is not, the first fault is told, and nothing is written; where the
+  -- writer fails a front is written, and where memory runs out nothing
+  abbrev pub Begins : List ℕ → List ℕ → Result Driver ProgramFault → StreamChange → Type 0
+  Begins dict http (Ok driver) writer = BindsBy dict http (Ok driver) × PutsAll writer.old writer.new (lines_of driver.addresses.0 driver.addresses.1)
+  Begins dict http (Err fault) writer =
+      ((why : BindFault) × BindsBy dict http (Err why) × TellsOf dict http why fault × IsUntouched writer)
+      ⊎ (IsBound n.is_bound dict × IsBound n.is_bound http
+      × (((fault ≡ faults.CannotWrite) × ((readers : SocketAddr) × (editors : SocketAddr) × PutsFront writer.old writer.new (lines_of readers editors)))
+      ⊎ ((fault ≡ faults.Memory) × IsUntouched writer)))

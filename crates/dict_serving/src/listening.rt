@@ -6,9 +6,10 @@ ghost use Rattle.dict_hub.specs.Runs.{IsAt, beginning};
 ghost use Rattle.dict_messages.specs.Writing.{Writes};
 ghost use Rattle.dict_serving.specs.Listening.{Begins, TellsOf, TellsWaiting, lines_of};
 
-use dict_driver::{BindFault, Driver};
+use dict_driver::{BindFault, Driver, Network, SystemSockets};
 use dict_io::Sink;
 use dict_messages::ProgramFault;
+use mio::net::TcpListener;
 use std::alloc::Global;
 use std::io::{Error, ErrorKind};
 use std::net::{Net, SocketAddr};
@@ -25,21 +26,22 @@ pub struct ServerOptions<'w> {
     pub rounds: Option<u32>,
 }
 
-/// Binds sockets to both addresses, and writes those in two lines.
-pub(crate) fn listen<'w, W: Sink>(
-    net: &impl Net,
+/// Has a network bind sockets to both addresses, and writes those in two lines.
+pub(crate) fn listen<'w, W: Sink, B: Network<TcpListener, SystemSockets>, N: Net>(
+    network: &B,
+    net: &N,
     alloc: Global,
     wanted: &ServerOptions<'w>,
     writer: &mut W,
 ) -> Result<Driver<'static>, ProgramFault<'w>>
-    ensures begins { Begins wanted.now.dict.now wanted.now.http.now result (change W.stream writer.old writer.new) }
+    ensures begins { Begins B.Network wanted.now.dict.now wanted.now.http.now result (change W.stream writer.old writer.new) }
     ensures beginning { IfOk result (λ driver. IsAt driver.event_loop.hub (beginning (codes "localhost"))) }
     ensures last { IfOk result (λ driver. driver.event_loop.connections.last ≡ 0) }
     ensures bound { IfOk result (λ driver. AreTold wanted.now.dict.now wanted.now.http.now driver.addresses) }
     ensures rounds { IfOk result (λ driver. driver.event_loop.rounds ≡ 0) }
     ensures failure { IfOk result (λ driver. driver.event_loop.failure ≡ None) }
 {
-    let driver = match Driver::bind(net, alloc, wanted.dict, wanted.http, HOST) {
+    let driver = match Driver::bind(network, net, alloc, wanted.dict, wanted.http, HOST) {
         Ok(driver) => driver,
         Err(fault) => return Err(told_of(fault, wanted.dict, wanted.http)),
     };

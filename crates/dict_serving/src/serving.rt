@@ -6,27 +6,37 @@ ghost use Rattle.dict_io.specs.Streams.{change};
 ghost use Rattle.dict_serving.specs.Counting.{AreMade, AreMadeTo};
 ghost use Rattle.dict_serving.specs.Serving.{AreLeft, AreServed, Ends, Follows, IsFirst, IsNew, IsNotReopened, IsOpen, IsOver, Stretch, WasOpened};
 ghost use Rattle.dict_serving.specs.Deeds.{WasShut, got};
+ghost use Rattle.dict_serving.specs.Listening.{Begins};
 ghost use Rattle.dict_serving.specs.Done.{HasDone, HasReopened, HasTurned, ServeEnds};
 
 use crate::desks::DeskOpener;
 use crate::listening::{ServerOptions, listen, waiting_fault};
-use dict_driver::{Driver, Served, pace, serve};
+use dict_driver::{Driver, Network, Served, SystemSockets, pace, serve};
 use dict_io::Sink;
 use dict_messages::ProgramFault;
 use dict_preparing::Preparer;
+use mio::net::TcpListener;
 use std::alloc::Global;
 use std::net::Net;
 use std::time::Duration;
 
-/// Serves the catalogue of a file: opens it, binds sockets to two addresses, for readers and then for editors, writes which
+/// Serves the catalogue of a file: opens it, has a network bind sockets to two addresses, for readers and then for editors, writes which
 /// these are, and makes rounds, as many as are asked for where nothing fails. After a round in which its store failed the file is
 /// opened again, and the rounds that are left go on over it, with the connections that are open. What is shown then is one of the
 /// catalogues that a stop could have left. In the end the file is closed.
 ///
 /// The faults come in this order: of the file and its catalogue, of the address for readers, of that for editors, of the
 /// writer, of waiting for sockets or of opening the file again. The driver is kept, where sockets were bound and told.
-pub fn serve_catalogue<'w, K: Preparer + Drop, D: DeskOpener<K>, W: Sink>(
-    net: &impl Net,
+pub fn serve_catalogue<
+    'w,
+    K: Preparer + Drop,
+    D: DeskOpener<K>,
+    W: Sink,
+    B: Network<TcpListener, SystemSockets>,
+    N: Net,
+>(
+    network: &B,
+    net: &N,
     alloc: Global,
     desks: &mut D,
     path: &'w str,
@@ -34,12 +44,12 @@ pub fn serve_catalogue<'w, K: Preparer + Drop, D: DeskOpener<K>, W: Sink>(
     writer: &mut W,
     kept: &mut Option<Driver<'static>>,
 ) -> Result<(), ProgramFault<'w>>
-    ensures { ServeEnds K.shows K.leaves_one_of K.is_trusted D.is_opened K.has_failed K.is_closed K.expects K.prepares (λ path. D.is_unopened path desks.old desks.new) (WasShut K.shows K.leaves_one_of K.is_trusted D.is_safe D.holds_alone D.still_leaves D.is_uncopied desks.new) (IsNotReopened K.leaves_one_of D.is_unreopened D.still_leaves desks.new) (D.history desks.old) (D.history desks.new) path.entry.now wanted.now.dict.now wanted.now.http.now wanted.now.rounds result
+    ensures { ServeEnds K.shows K.leaves_one_of K.is_trusted D.is_opened K.has_failed K.is_closed K.expects K.prepares (Begins B.Network) (λ path. D.is_unopened path desks.old desks.new) (WasShut K.shows K.leaves_one_of K.is_trusted D.is_safe D.holds_alone D.still_leaves D.is_uncopied desks.new) (IsNotReopened K.leaves_one_of D.is_unreopened D.still_leaves desks.new) (D.history desks.old) (D.history desks.new) path.entry.now wanted.now.dict.now wanted.now.http.now wanted.now.rounds result
         (change W.stream writer.old writer.new) kept.new }
 {
     *kept = None;
     let desk = desks.open(path)?;
-    let mut driver = match listen(net, alloc, wanted, writer) {
+    let mut driver = match listen(network, net, alloc, wanted, writer) {
         Ok(driver) => driver,
         Err(fault) => {
             let _ = desks.close(desk);

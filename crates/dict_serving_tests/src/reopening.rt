@@ -2,7 +2,7 @@
 use crate::checks::same;
 use crate::clients::Client;
 use crate::disks::Disks;
-use dict_driver::Driver;
+use dict_driver::{Driver, System};
 use dict_preparing::Preparer;
 use dict_serving::{DeskOpener, serve_rounds};
 use sqlite_disk::{Crash, Files, Fuse, Memory};
@@ -129,7 +129,7 @@ fn meet_a_failure_anew<'w, K: Preparer + Drop, W: DeskOpener<K>>(
     alloc: Global,
     desks: &mut W,
 ) -> Result<(), Fail> {
-    let mut driver = Driver::bind(rt, alloc, FREE, FREE, "localhost")?;
+    let mut driver = Driver::bind(&System, rt, alloc, FREE, FREE, "localhost")?;
     meet_a_failure(rt, alloc, desks, &mut driver)
 }
 

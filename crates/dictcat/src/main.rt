@@ -3,6 +3,7 @@
 
 use dict_actions::OverFiles;
 use dict_desk::PlainDesk;
+use dict_driver::System;
 use dict_io::{OverRead, OverWrite, Sink, Source};
 use dict_store::Desk;
 use dictcat_lib::{CatalogueFiles, Catalogues, command, refuse_words};
@@ -29,6 +30,7 @@ fn run_over<D: Disk + Drop, C: Catalogues<Desk<FileStore<D>>>, S: Source, W: Sin
 ) -> u8 {
     command(
         rt,
+        &System,
         words,
         desks,
         &mut PlainDesk::new(rt.alloc()),

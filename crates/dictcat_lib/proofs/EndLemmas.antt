@@ -6,6 +6,8 @@ use Rattle.dict_desk.specs.declared.fault.Fault.{Fault}
 use Rattle.std.specs.Prelude.{◌⊎◌, Bool, Result}
 use Rattle.dict_desk.specs.Plain.{PlainState}
 use Rattle.dict_desk.specs.declared.lookup.Lookup as lookup
+use Rattle.dict_driver.specs.declared.binding.Network as network
+use Rattle.dict_driver.specs.declared.sockets.SystemSockets.{SystemSockets}
 use Rattle.dict_io.specs.Streams.{StreamChange}
 use Rattle.dict_serving.specs.declared.desks.DeskOpener as desks
 use Rattle.dict_arguments.specs.Asked.{Asks}
@@ -101,17 +103,17 @@ spared_other (CannotBind address) reader writer h other = h
 spared_other CannotWait reader writer h other = h
 spared_other Memory reader writer h other = h
 
-module _ {K D : Type 0} (k : lookup.Ghosts K) (d : desks.Ghosts D K) (c : catalogues.Ghosts D K) (expects : K → Command AnEdition → K → Type 0) (prepares : K → Result Bool Fault → K → Type 0) (plain : PlainState) (old new : D) where
+module _ {K D B L : Type 0} (k : lookup.Ghosts K) (d : desks.Ghosts D K) (c : catalogues.Ghosts D K) (n : network.Ghosts B L SystemSockets) (expects : K → Command AnEdition → K → Type 0) (prepares : K → Result Bool Fault → K → Type 0) (plain : PlainState) (old new : D) where
   -- a status is at most 4
   pub statuses : (files : List ℕ → Option (List ℕ)) (words : List (List ℕ)) (status : ℕ) (reader writer faults : StreamChange)
-      → CommandEnds k d c expects prepares files plain old new words status reader writer faults → status ≤ 4
+      → CommandEnds k d c n expects prepares files plain old new words status reader writer faults → status ≤ 4
   statuses files words status reader writer faults (inl (Ok end, h, closes)) = omega (arith, closes.0)
   statuses files words status reader writer faults (inl (Err fault, h, closes)) = omega (arith, closes.0, status_at_most_4 fault)
   statuses files words status reader writer faults (inr (h, same)) = omega (arith, h.0)
 
   -- with 0 it was done
   pub done : (files : List ℕ → Option (List ℕ)) (words : List (List ℕ)) (reader writer faults : StreamChange)
-      → CommandEnds k d c expects prepares files plain old new words 0 reader writer faults → IsDone k d c expects prepares files plain old new words reader writer × IsUntouched faults
+      → CommandEnds k d c n expects prepares files plain old new words 0 reader writer faults → IsDone k d c n expects prepares files plain old new words reader writer × IsUntouched faults
   done files words reader writer faults (inl (Ok end, inl task, closes)) = (inl task, closes.1)
   done files words reader writer faults (inl (Ok end, inr (inl (asks, r, (text, put)), same), closes)) = (inr (asks, r, (text, put), same), closes.1)
   done files words reader writer faults (inl (Ok end, inr (inr memory, same), closes)) = cc
@@ -120,7 +122,7 @@ module _ {K D : Type 0} (k : lookup.Ghosts K) (d : desks.Ghosts D K) (c : catalo
 
   -- a refused task touches nothing
   task_refused : (files : List ℕ → Option (List ℕ)) (task : Task) (fault : ProgramFault) (reader writer : StreamChange)
-      → TaskEnds k d c expects prepares files plain old new task (Err fault) reader writer → 1 ≡ status_of fault → IsUntouched reader × IsUntouched writer
+      → TaskEnds k d c n expects prepares files plain old new task (Err fault) reader writer → 1 ≡ status_of fault → IsUntouched reader × IsUntouched writer
   unfolding Rattle.dictcat_lib.specs.Plain.FilesEnd
   task_refused files (Plain name index text) (Line refusal line) reader writer (inl h, same) e = (h.4.1, h.4.2)
   task_refused files (Plain name index text) (Line refusal line) reader writer (inr h, same) e = (h.1, h.2)
@@ -139,12 +141,12 @@ module _ {K D : Type 0} (k : lookup.Ghosts K) (d : desks.Ghosts D K) (c : catalo
   task_refused files (Lists file) fault reader writer h e = (h.1, spoils_not_3 fault writer (λ f. omega (arith, e, f)) (list_spoils k d file.now old new fault writer h.0))
   task_refused files (Audit file) fault reader writer h e = (h.1, spoils_not_3 fault writer (λ f. omega (arith, e, f)) (audit_spoils k d c file.now old new fault writer h.0))
   task_refused files (Changes file name id what) fault reader writer h e = (h.1, spoils_not_3 fault writer (λ f. omega (arith, e, f)) (task_spoils k d files old new file.now name.now id.now what fault writer h.0))
-  task_refused files (Serves file dict http rounds) fault reader writer h e = (h.1, serves_refused k d expects prepares old new file.now dict.now http.now rounds fault writer e h.0)
+  task_refused files (Serves file dict http rounds) fault reader writer h e = (h.1, serves_refused k d n expects prepares old new file.now dict.now http.now rounds fault writer e h.0)
   task_refused files (SpeaksOver file) fault reader writer h e = spared_other fault reader writer h.1 (λ f. omega (arith, e, f))
 
   -- with 1 or 2 nothing was touched
   pub refused : (files : List ℕ → Option (List ℕ)) (words : List (List ℕ)) (reader writer faults : StreamChange)
-      → CommandEnds k d c expects prepares files plain old new words 1 reader writer faults → IsUntouched reader × IsUntouched writer
+      → CommandEnds k d c n expects prepares files plain old new words 1 reader writer faults → IsUntouched reader × IsUntouched writer
   refused files words reader writer faults (inl (Ok end, h, closes)) = absurd (omega (arith, closes.0))
   refused files words reader writer faults (inl (Err fault, inl (task, asks, ends), closes)) = task_refused files task fault reader writer ends closes.0
   refused files words reader writer faults (inl (Err fault, inr (inl shown, same), closes)) = absurd (never_refused fault writer shown.2 closes.0)
@@ -152,7 +154,7 @@ module _ {K D : Type 0} (k : lookup.Ghosts K) (d : desks.Ghosts D K) (c : catalo
   refused files words reader writer faults (inr (h, same)) = (h.2, h.3)
 
   pub misread : (files : List ℕ → Option (List ℕ)) (words : List (List ℕ)) (reader writer faults : StreamChange)
-      → CommandEnds k d c expects prepares files plain old new words 2 reader writer faults → IsUntouched reader × IsUntouched writer
+      → CommandEnds k d c n expects prepares files plain old new words 2 reader writer faults → IsUntouched reader × IsUntouched writer
   misread files words reader writer faults (inl (Ok end, h, closes)) = absurd (omega (arith, closes.0))
   misread files words reader writer faults (inl (Err fault, h, closes)) = absurd (never_2 fault closes.0)
   misread files words reader writer faults (inr (h, same)) = (h.2, h.3)
@@ -172,7 +174,7 @@ module _ {K D : Type 0} (k : lookup.Ghosts K) (d : desks.Ghosts D K) (c : catalo
 
   -- a task that failed
   task_failed : (files : List ℕ → Option (List ℕ)) (words : List (List ℕ)) (task : Task) (fault : ProgramFault) (reader writer : StreamChange)
-      → Asks words task → TaskEnds k d c expects prepares files plain old new task (Err fault) reader writer → 3 ≡ status_of fault → IsFailed k d c expects prepares plain old new words reader writer
+      → Asks words task → TaskEnds k d c n expects prepares files plain old new task (Err fault) reader writer → 3 ≡ status_of fault → IsFailed k d c expects prepares plain old new words reader writer
   unfolding Rattle.dictcat_lib.specs.Plain.FilesEnd
   task_failed files words (Plain name index text) (Line refusal line) reader writer asks h e = absurd (omega (arith, e))
   task_failed files words (Plain name index text) (Edition refusal) reader writer asks h e = absurd (omega (arith, e))
@@ -195,7 +197,7 @@ module _ {K D : Type 0} (k : lookup.Ghosts K) (d : desks.Ghosts D K) (c : catalo
   task_failed files words (Audit file) fault reader writer asks h e = spoiled_failed k d c expects prepares plain old new words fault reader writer h.1 (audit_spoils k d c file.now old new fault writer h.0)
   task_failed files words (Changes file name id what) fault reader writer asks h e = spoiled_failed k d c expects prepares plain old new words fault reader writer h.1 (task_spoils k d files old new file.now name.now id.now what fault writer h.0)
   task_failed files words (Serves file dict http rounds) fault reader writer asks h e =
-      serves_failed k d c expects prepares plain old new words file.now dict.now http.now rounds fault reader writer h.1 e (λ served. (Serves file dict http rounds, asks, served, h.1)) h.0
+      serves_failed k d c expects prepares plain old new n words file.now dict.now http.now rounds fault reader writer h.1 e (λ served. (Serves file dict http rounds, asks, served, h.1)) h.0
   task_failed files words (SpeaksOver file) fault reader writer asks h e = spoken_failed words file fault reader writer asks h
 
   -- a text that was not shown
@@ -214,7 +216,7 @@ module _ {K D : Type 0} (k : lookup.Ghosts K) (d : desks.Ghosts D K) (c : catalo
 
   -- with 3 a file, an output or a session failed
   pub failed : (files : List ℕ → Option (List ℕ)) (words : List (List ℕ)) (reader writer faults : StreamChange)
-      → CommandEnds k d c expects prepares files plain old new words 3 reader writer faults → IsFailed k d c expects prepares plain old new words reader writer
+      → CommandEnds k d c n expects prepares files plain old new words 3 reader writer faults → IsFailed k d c expects prepares plain old new words reader writer
   failed files words reader writer faults (inl (Ok end, h, closes)) = absurd (omega (arith, closes.0))
   failed files words reader writer faults (inl (Err fault, inl (task, asks, ends), closes)) =
       task_failed files words task fault reader writer asks ends closes.0
@@ -224,7 +226,7 @@ module _ {K D : Type 0} (k : lookup.Ghosts K) (d : desks.Ghosts D K) (c : catalo
 
   -- memory ran out in a task
   task_memory : (files : List ℕ → Option (List ℕ)) (words : List (List ℕ)) (task : Task) (fault : ProgramFault) (reader writer : StreamChange)
-      → Asks words task → TaskEnds k d c expects prepares files plain old new task (Err fault) reader writer → 4 ≡ status_of fault
+      → Asks words task → TaskEnds k d c n expects prepares files plain old new task (Err fault) reader writer → 4 ≡ status_of fault
       → (IsUntouched reader × IsUntouched writer) ⊎ IsCutOff k d c expects prepares old new words Memory reader writer
   unfolding Rattle.dictcat_lib.specs.Plain.FilesEnd
   task_memory files words (Plain name index text) (Line refusal line) reader writer asks h e = absurd (omega (arith, e))
@@ -242,7 +244,7 @@ module _ {K D : Type 0} (k : lookup.Ghosts K) (d : desks.Ghosts D K) (c : catalo
   task_memory files words (Lists file) fault reader writer asks h e = inl (h.1, spoils_not_3 fault writer (λ f. omega (arith, e, f)) (list_spoils k d file.now old new fault writer h.0))
   task_memory files words (Audit file) fault reader writer asks h e = inl (h.1, spoils_not_3 fault writer (λ f. omega (arith, e, f)) (audit_spoils k d c file.now old new fault writer h.0))
   task_memory files words (Changes file name id what) fault reader writer asks h e = inl (h.1, spoils_not_3 fault writer (λ f. omega (arith, e, f)) (task_spoils k d files old new file.now name.now id.now what fault writer h.0))
-  task_memory files words (Serves file dict http rounds) fault reader writer asks h e = elim (serves_memory k d expects prepares old new file.now dict.now http.now rounds fault writer e h.0) [
+  task_memory files words (Serves file dict http rounds) fault reader writer asks h e = elim (serves_memory k d n expects prepares old new file.now dict.now http.now rounds fault writer e h.0) [
     | inl untouched ↦ inl (h.1, untouched)
     | inr served ↦ inr (Serves file dict http rounds, asks, served, h.1)
   ]
@@ -262,7 +264,7 @@ module _ {K D : Type 0} (k : lookup.Ghosts K) (d : desks.Ghosts D K) (c : catalo
   change_unchanged files path name id (changes.Place at) writer (inl h) = inl h
   change_unchanged files path name id (changes.Place at) writer (inr (desk, left, closed, is, does, shut, (made, spared))) = inr (desk, left, closed, is, does, shut, spared refl)
 
-  task_unchanged : (files : List ℕ → Option (List ℕ)) (task : Task) (reader writer : StreamChange) → TaskEnds k d c expects prepares files plain old new task (Err Memory) reader writer → IsUnchanged k d c expects prepares old new task writer
+  task_unchanged : (files : List ℕ → Option (List ℕ)) (task : Task) (reader writer : StreamChange) → TaskEnds k d c n expects prepares files plain old new task (Err Memory) reader writer → IsUnchanged k d c expects prepares old new task writer
   task_unchanged files (Plain name index text) reader writer h = tt
   task_unchanged files (Create file) reader writer h = tt
   task_unchanged files (Lists file) reader writer h = tt
@@ -272,7 +274,7 @@ module _ {K D : Type 0} (k : lookup.Ghosts K) (d : desks.Ghosts D K) (c : catalo
   task_unchanged files (SpeaksOver file) reader writer h = tt
 
   task_exhausted : (files : List ℕ → Option (List ℕ)) (words : List (List ℕ)) (task : Task) (fault : ProgramFault) (reader writer : StreamChange)
-      → Asks words task → TaskEnds k d c expects prepares files plain old new task (Err fault) reader writer → 4 ≡ status_of fault → IsExhausted k d c expects prepares old new words reader writer
+      → Asks words task → TaskEnds k d c n expects prepares files plain old new task (Err fault) reader writer → 4 ≡ status_of fault → IsExhausted k d c expects prepares old new words reader writer
   task_exhausted files words task fault reader writer asks ends e = elim (task_memory files words task fault reader writer asks ends e) [
     | inl untouched ↦ inl (
       untouched.0,
@@ -281,7 +283,7 @@ module _ {K D : Type 0} (k : lookup.Ghosts K) (d : desks.Ghosts D K) (c : catalo
         task,
         asks,
         task_unchanged files task reader writer
-            (subst (λ (f : ProgramFault). TaskEnds k d c expects prepares files plain old new task (Err f) reader writer) (memory_by_status fault e) ends),
+            (subst (λ (f : ProgramFault). TaskEnds k d c n expects prepares files plain old new task (Err f) reader writer) (memory_by_status fault e) ends),
       ),
     )
     | inr cut ↦ inr cut
@@ -289,7 +291,7 @@ module _ {K D : Type 0} (k : lookup.Ghosts K) (d : desks.Ghosts D K) (c : catalo
 
   -- with 4 nothing was touched and no change made, or memory ran out in a server
   pub memory : (files : List ℕ → Option (List ℕ)) (words : List (List ℕ)) (reader writer faults : StreamChange)
-      → CommandEnds k d c expects prepares files plain old new words 4 reader writer faults → IsExhausted k d c expects prepares old new words reader writer
+      → CommandEnds k d c n expects prepares files plain old new words 4 reader writer faults → IsExhausted k d c expects prepares old new words reader writer
   memory files words reader writer faults (inl (Ok end, h, closes)) = absurd (omega (arith, closes.0))
   memory files words reader writer faults (inl (Err fault, inl (task, asks, ends), closes)) =
       task_exhausted files words task fault reader writer asks ends closes.0

@@ -3,6 +3,8 @@ use Rattle.std.proofs.Common.{◌≡◌, ℕ, Bool, List, Option, Ok, Err, inl, 
 use Rattle.std.specs.Prelude.{◌⊎◌, Result}
 use Rattle.dict_desk.specs.Plain.{PlainState}
 use Rattle.dict_desk.specs.declared.lookup.Lookup as lookup
+use Rattle.dict_driver.specs.declared.binding.Network as network
+use Rattle.dict_driver.specs.declared.sockets.SystemSockets.{SystemSockets}
 use Rattle.dict_io.specs.Streams.{StreamChange, HasFailed}
 use Rattle.dict_index.specs.Edition.{Edition as AnEdition}
 use Rattle.dict_catalogue.specs.Commands.{Command, rollback, retire, put_virtual, place}
@@ -89,26 +91,26 @@ module _ {K D : Type 0} (k : lookup.Ghosts K) (d : desks.Ghosts D K) where
   task_spoils files old new path name id (Virtual title members) fault writer h = change_spoils path id (put_virtual name title.now (words_shown members.items)) old new fault writer h
   task_spoils files old new path name id (Place at) fault writer h = change_spoils path id (place name at) old new fault writer h
 
-  module _ (expects : K → Command AnEdition → K → Type 0) (prepares : K → Result Bool Fault → K → Type 0) (old new : D) where
-    serves_spoils : (path dict http : List ℕ) (rounds : Option ℕ) (fault : ProgramFault) (writer : StreamChange) → ServesOn k d expects prepares path dict http rounds old new (Err fault) writer
+  module _ {B L : Type 0} (n : network.Ghosts B L SystemSockets) (expects : K → Command AnEdition → K → Type 0) (prepares : K → Result Bool Fault → K → Type 0) (old new : D) where
+    serves_spoils : (path dict http : List ℕ) (rounds : Option ℕ) (fault : ProgramFault) (writer : StreamChange) → ServesOn k d n expects prepares path dict http rounds old new (Err fault) writer
         → Spoils fault writer ⊎ IsServedUntil k d expects prepares path dict http rounds old new fault writer
     unfolding Rattle.dictcat_lib.specs.Working.ServesOn
     serves_spoils path dict http rounds fault writer (kept, inl h) = inl (inl h.3)
     serves_spoils path dict http rounds fault writer (kept, inr (desk, opened, inl (other, is, inl h, does, shut, none))) = inl (inl h.3)
-    serves_spoils path dict http rounds fault writer (kept, inr (desk, opened, inl (other, is, inr (inl (same, (readers, editors, put))), does, shut, none))) =
+    serves_spoils path dict http rounds fault writer (kept, inr (desk, opened, inl (other, is, inr (dict_bound, http_bound, inl (same, (readers, editors, put))), does, shut, none))) =
         let e : fault ≡ CannotWrite = cc in inl (inr (e, put.failures))
-    serves_spoils path dict http rounds fault writer (kept, inr (desk, opened, inl (other, is, inr (inr h), does, shut, none))) = inl (inl h.1)
-    serves_spoils path dict http rounds fault writer (kept, inr (desk, opened, inr (served, done, same))) = inr (desk, served, done)
+    serves_spoils path dict http rounds fault writer (kept, inr (desk, opened, inl (other, is, inr (dict_bound, http_bound, inr h), does, shut, none))) = inl (inl h.1)
+    serves_spoils path dict http rounds fault writer (kept, inr (desk, opened, inr (served, done, same, bound))) = inr (desk, served, done)
 
     -- a server is never refused
-    pub serves_refused : (path dict http : List ℕ) (rounds : Option ℕ) (fault : ProgramFault) (writer : StreamChange) → 1 ≡ status_of fault → ServesOn k d expects prepares path dict http rounds old new (Err fault) writer → IsUntouched writer
+    pub serves_refused : (path dict http : List ℕ) (rounds : Option ℕ) (fault : ProgramFault) (writer : StreamChange) → 1 ≡ status_of fault → ServesOn k d n expects prepares path dict http rounds old new (Err fault) writer → IsUntouched writer
     serves_refused path dict http rounds fault writer e h = elim (serves_spoils path dict http rounds fault writer h) [
       | inl spoils ↦ spoils_not_3 fault writer (λ f. omega (arith, e, f)) spoils
       | inr served ↦ absurd (ends_not_1 k.is_closed (WasShutBy k d new) (IsNotReopened k.leaves_one_of d.is_unreopened d.still_leaves new path) served.1.stretches served.1.last fault served.1.ends e)
     ]
 
     -- memory ran out before anything was written, or in the server
-    pub serves_memory : (path dict http : List ℕ) (rounds : Option ℕ) (fault : ProgramFault) (writer : StreamChange) → 4 ≡ status_of fault → ServesOn k d expects prepares path dict http rounds old new (Err fault) writer
+    pub serves_memory : (path dict http : List ℕ) (rounds : Option ℕ) (fault : ProgramFault) (writer : StreamChange) → 4 ≡ status_of fault → ServesOn k d n expects prepares path dict http rounds old new (Err fault) writer
         → IsUntouched writer ⊎ IsServedUntil k d expects prepares path dict http rounds old new Memory writer
     serves_memory path dict http rounds fault writer e h = elim (serves_spoils path dict http rounds fault writer h) [
       | inl spoils ↦ inl (spoils_not_3 fault writer (λ f. omega (arith, e, f)) spoils)
@@ -126,10 +128,10 @@ module _ {K D : Type 0} (k : lookup.Ghosts K) (d : desks.Ghosts D K) (c : catalo
     spoiled_failed words fault reader writer r (inr h) = inr (inr (inl (r, h.1)))
 
     -- the server failed before it told its addresses, or afterwards
-    pub serves_failed : (words : List (List ℕ)) (path dict http : List ℕ) (rounds : Option ℕ) (fault : ProgramFault) (reader writer : StreamChange) → IsUntouched reader → 3 ≡ status_of fault
-        → (IsServedUntil k d expects prepares path dict http rounds old new fault writer → IsCutOff k d c expects prepares old new words fault reader writer) → ServesOn k d expects prepares path dict http rounds old new (Err fault) writer
+    pub serves_failed : {B L : Type 0} (n : network.Ghosts B L SystemSockets) (words : List (List ℕ)) (path dict http : List ℕ) (rounds : Option ℕ) (fault : ProgramFault) (reader writer : StreamChange) → IsUntouched reader → 3 ≡ status_of fault
+        → (IsServedUntil k d expects prepares path dict http rounds old new fault writer → IsCutOff k d c expects prepares old new words fault reader writer) → ServesOn k d n expects prepares path dict http rounds old new (Err fault) writer
         → IsFailed k d c expects prepares plain old new words reader writer
-    serves_failed words path dict http rounds fault reader writer r e cut h = elim (serves_spoils k d expects prepares old new path dict http rounds fault writer h) [
+    serves_failed n words path dict http rounds fault reader writer r e cut h = elim (serves_spoils k d n expects prepares old new path dict http rounds fault writer h) [
       | inl spoils ↦ spoiled_failed words fault reader writer r spoils
       | inr served ↦ inr (inr (inr (fault, e, cut served)))
     ]

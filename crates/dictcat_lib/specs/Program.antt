@@ -8,6 +8,8 @@ use Rattle.clap.specs.declared.error.kind.ErrorKind.TheVariants as kinds
 use Rattle.dict_catalogue.specs.Commands.{Command, rollback, retire, put_virtual, place}
 use Rattle.dict_desk.specs.Plain.{PlainState}
 use Rattle.dict_desk.specs.declared.lookup.Lookup as lookup
+use Rattle.dict_driver.specs.declared.binding.Network as network
+use Rattle.dict_driver.specs.declared.sockets.SystemSockets.{SystemSockets}
 use Rattle.dict_io.specs.Streams.{StreamChange, HasFailed, Puts, PutsAll, PutsFront}
 use Rattle.dict_io.specs.declared.sink.SinkFault.{SinkFault}
 use Rattle.dict_session.specs.Desks.{Stays as DeskStays}
@@ -134,7 +136,7 @@ module _ {K D : Type 0} (k : lookup.Ghosts K) (d : desks.Ghosts D K) (files : Li
   ChangeTaskEnds old new file name id (changes.Virtual title members) end writer = ChangeEnds k d file id (put_virtual name title.now (words_shown members.items)) old new end writer
   ChangeTaskEnds old new file name id (changes.Place at) end writer = ChangeEnds k d file id (place name at) old new end writer
 
-module _ {K D : Type 0} (k : lookup.Ghosts K) (d : desks.Ghosts D K) (c : catalogues.Ghosts D K) (expects : K → Command Edition → K → Type 0) (prepares : K → Result Bool Fault → K → Type 0) (files : List ℕ → Option (List ℕ)) (plain : PlainState) (old new : D) where
+module _ {K D B L : Type 0} (k : lookup.Ghosts K) (d : desks.Ghosts D K) (c : catalogues.Ghosts D K) (n : network.Ghosts B L SystemSockets) (expects : K → Command Edition → K → Type 0) (prepares : K → Result Bool Fault → K → Type 0) (files : List ℕ → Option (List ℕ)) (plain : PlainState) (old new : D) where
   -- a task ends so
   abbrev pub TaskEnds : Task → Result (Unit {0}) ProgramFault → StreamChange → StreamChange → Type 0
   TaskEnds (tasks.Plain name index text) end reader writer = FilesEnd (standing plain) files name.now index.now text.now end reader writer × (new ≡ old)
@@ -143,7 +145,7 @@ module _ {K D : Type 0} (k : lookup.Ghosts K) (d : desks.Ghosts D K) (c : catalo
   TaskEnds (tasks.Audit file) end reader writer = AuditEnds k d c file.now old new end writer × IsUntouched reader
   TaskEnds (tasks.Session file) end reader writer = SessionEnds k d c file.now old new end reader writer
   TaskEnds (tasks.Change file name id what) end reader writer = ChangeTaskEnds k d files old new file.now name.now id.now what end writer × IsUntouched reader
-  TaskEnds (tasks.Serve file dict http rounds) end reader writer = ServesOn k d expects prepares file.now dict.now http.now rounds old new end writer × IsUntouched reader
+  TaskEnds (tasks.Serve file dict http rounds) end reader writer = ServesOn k d n expects prepares file.now dict.now http.now rounds old new end writer × IsUntouched reader
 
   -- what was asked for was done or not: a task, or help or the version, for which no file was opened; or memory ran out before
   abbrev pub Attempts : List (List ℕ) → Result (Unit {0}) ProgramFault → StreamChange → StreamChange → Type 0

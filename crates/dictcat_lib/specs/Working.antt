@@ -11,8 +11,11 @@ use Rattle.dict_messages.specs.declared.fault.ProgramFault.{ProgramFault}
 use Rattle.dict_messages.specs.declared.fault.ProgramFault.TheVariants as faults
 use Rattle.dict_session.specs.Desks.{Stays as DeskStays}
 use Rattle.dict_serving.specs.Deeds.{Makes, Opens, Speaks, Closes, Does, IsShut}
+use Rattle.dict_driver.specs.declared.binding.Network as network
 use Rattle.dict_driver.specs.declared.driver.Driver.{Driver}
+use Rattle.dict_driver.specs.declared.sockets.SystemSockets.{SystemSockets}
 use Rattle.dict_serving.specs.Done.{ServeEnds}
+use Rattle.dict_serving.specs.Listening.{Begins}
 use Rattle.dict_serving.specs.Serving.{IsNew, IsNone, IsNotReopened}
 use Rattle.dict_serving.specs.declared.desks.DeskOpener as desks
 use Rattle.dict_actions.specs.Changing.{IsChanged}
@@ -64,10 +67,10 @@ module _ {K D : Type 0} (k : lookup.Ghosts K) (d : desks.Ghosts D K) where
   InstallsOn files path name id index text old new result writer =
       EndsOn path (λ desk left closed. InstallEnds k.shows k.leaves_one_of k.is_trusted k.is_closed files desk left name id index text result writer × WasSpared desk left result) old new result writer
 
-  -- the catalogue of the file with a path was served at two addresses, for so many rounds, or wasn't
-  unfoldable pub ServesOn : (K → Command Edition → K → Type 0) → (K → Result Bool Fault → K → Type 0) → List ℕ → List ℕ → List ℕ → Option ℕ → D → D → Result (Unit {0}) ProgramFault → StreamChange → Type 0
-  ServesOn expects prepares path dict http rounds old new result writer =
-      (kept : Option Driver) × ServeEnds k.shows k.leaves_one_of k.is_trusted d.is_opened k.has_failed k.is_closed expects prepares (λ path. d.is_unopened path old new) (WasShutBy k d new) (IsNotReopened k.leaves_one_of d.is_unreopened d.still_leaves new) (d.history old) (d.history new) path dict http rounds result writer kept
+  -- the catalogue of the file with a path was served at two addresses that a network bound, for so many rounds, or wasn't
+  unfoldable pub ServesOn : {B L : Type 0} → network.Ghosts B L SystemSockets → (K → Command Edition → K → Type 0) → (K → Result Bool Fault → K → Type 0) → List ℕ → List ℕ → List ℕ → Option ℕ → D → D → Result (Unit {0}) ProgramFault → StreamChange → Type 0
+  ServesOn n expects prepares path dict http rounds old new result writer =
+      (kept : Option Driver) × ServeEnds k.shows k.leaves_one_of k.is_trusted d.is_opened k.has_failed k.is_closed expects prepares (Begins n) (λ path. d.is_unopened path old new) (WasShutBy k d new) (IsNotReopened k.leaves_one_of d.is_unreopened d.still_leaves new) (d.history old) (d.history new) path dict http rounds result writer kept
 
   module _ (c : catalogues.Ghosts D K) where
     -- the file that was closed holds alone a catalogue that the desk showed: this is told where it returned what was written to it

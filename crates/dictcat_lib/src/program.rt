@@ -16,9 +16,11 @@ use clap::error::ErrorKind;
 use dict_actions::InputFiles;
 use dict_arguments::read_words;
 use dict_desk::PlainDesk;
+use dict_driver::{Network, SystemSockets};
 use dict_io::{Sink, Source};
 use dict_messages::ProgramFault;
 use dict_preparing::Preparer;
+use mio::net::TcpListener;
 use std::alloc::Global;
 use std::convert::AsStr;
 use std::io;
@@ -32,12 +34,14 @@ pub fn command<
     A: AsStr,
     K: Preparer + Drop,
     D: Catalogues<K>,
+    B: Network<TcpListener, SystemSockets>,
     I: InputFiles,
     S: Source,
     W: Sink,
     F: Sink,
 >(
     rt: &HostRuntime,
+    network: &B,
     words: &[A],
     desks: &mut D,
     plain: &mut PlainDesk,
@@ -46,13 +50,13 @@ pub fn command<
     writer: &mut W,
     faults: &mut F,
 ) -> u8
-    ensures ends { CommandEnds K.Lookup D.DeskOpener D.Catalogues.own K.expects K.prepares (I.octets files.now) plain.new desks.old desks.new (map A.text words.now) result
+    ensures ends { CommandEnds K.Lookup D.DeskOpener D.Catalogues.own B.Network K.expects K.prepares (I.octets files.now) plain.new desks.old desks.new (map A.text words.now) result
         (change S.stream reader.old reader.new) (change W.stream writer.old writer.new) (change F.stream faults.old faults.new) }
     ensures order { TellsInOrder D.DeskOpener desks.old desks.new (I.reads files.now) (I.refuses files.now) (map A.text words.now) result (change F.stream faults.old faults.new) }
 {
     match read_words(rt.alloc(), words) {
         Ok(task) => {
-            let end = perform(rt, &task, desks, plain, files, reader, writer);
+            let end = perform(rt, network, &task, desks, plain, files, reader, writer);
             status_of_end(&end, faults)
         }
         Err(error) => answer_words(rt.alloc(), &error, writer, faults),

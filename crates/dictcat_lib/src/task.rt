@@ -13,17 +13,28 @@ use dict_actions::{InputFiles, InstallRequest};
 use dict_arguments::{ItemChange, Task};
 use dict_catalogue::Command;
 use dict_desk::{Keeper, PlainDesk};
+use dict_driver::{Network, SystemSockets};
 use dict_io::{Sink, Source};
 use dict_messages::ProgramFault;
 use dict_preparing::Preparer;
 use dict_serving::{DeskOpener, ServerOptions, serve_catalogue};
+use mio::net::TcpListener;
 use std::alloc::Global;
 
-/// Does a task: opens the catalogue that it names, reads its files, takes a session's octets from the reader, and writes what it
+/// Does a task: opens the catalogue that it names, reads its files, has a network bind a server's sockets, takes a session's octets from the reader, and writes what it
 /// answers. The catalogue of a session over two files is kept in `plain`, which is made anew for it. An index is read before its text,
 /// and both before what they say is refused.
-pub fn perform<'w, K: Preparer + Drop, D: Catalogues<K>, I: InputFiles, S: Source, W: Sink>(
+pub fn perform<
+    'w,
+    K: Preparer + Drop,
+    D: Catalogues<K>,
+    B: Network<TcpListener, SystemSockets>,
+    I: InputFiles,
+    S: Source,
+    W: Sink,
+>(
     rt: &HostRuntime,
+    network: &B,
     task: &Task<'w>,
     desks: &mut D,
     plain: &mut PlainDesk,
@@ -31,7 +42,7 @@ pub fn perform<'w, K: Preparer + Drop, D: Catalogues<K>, I: InputFiles, S: Sourc
     reader: &mut S,
     writer: &mut W,
 ) -> Result<(), ProgramFault<'w>>
-    ensures ends { TaskEnds K.Lookup D.DeskOpener D.Catalogues.own K.expects K.prepares (I.octets files.now) plain.new desks.old desks.new task.now result
+    ensures ends { TaskEnds K.Lookup D.DeskOpener D.Catalogues.own B.Network K.expects K.prepares (I.octets files.now) plain.new desks.old desks.new task.now result
         (change S.stream reader.old reader.new) (change W.stream writer.old writer.new) }
     ensures order { EndsInOrder D.DeskOpener desks.old desks.new (I.reads files.now) (I.refuses files.now) task.now result }
 {
@@ -69,25 +80,35 @@ pub fn perform<'w, K: Preparer + Drop, D: Catalogues<K>, I: InputFiles, S: Sourc
                 http: *http,
                 rounds: *rounds,
             };
-            serve(rt, desks, *file, &wanted, writer)
+            serve(rt, network, desks, *file, &wanted, writer)
         }
     }
 }
 
 // Serves the catalogue of a file.
 #[tactic(auto, unfolding(crate::specs::Working::ServesOn))]
-fn serve<'w, K: Preparer + Drop, D: DeskOpener<K>, W: Sink>(
+fn serve<'w, K: Preparer + Drop, D: DeskOpener<K>, B: Network<TcpListener, SystemSockets>, W: Sink>(
     rt: &HostRuntime,
+    network: &B,
     desks: &mut D,
     file: &'w str,
     wanted: &ServerOptions<'w>,
     writer: &mut W,
 ) -> Result<(), ProgramFault<'w>>
-    ensures { ServesOn K.Lookup D.DeskOpener K.expects K.prepares file.entry.now wanted.now.dict.now wanted.now.http.now wanted.now.rounds desks.old desks.new result
+    ensures { ServesOn K.Lookup D.DeskOpener B.Network K.expects K.prepares file.entry.now wanted.now.dict.now wanted.now.http.now wanted.now.rounds desks.old desks.new result
         (change W.stream writer.old writer.new) }
 {
     let mut driver = None;
-    serve_catalogue(rt, rt.alloc(), desks, file, wanted, writer, &mut driver)
+    serve_catalogue(
+        network,
+        rt,
+        rt.alloc(),
+        desks,
+        file,
+        wanted,
+        writer,
+        &mut driver,
+    )
 }
 
 // Changes the catalogue of a file.

@@ -3,6 +3,7 @@ ghost use Rattle.std.specs.Prelude.{None, ⊤};
 
 use dict_actions::{InputFiles, ReadFault};
 use dict_desk::PlainDesk;
+use dict_driver::System;
 use dict_examples::{GEM_INDEX, GEM_TEXT, ORE_INDEX, ORE_TEXT};
 use dict_io::{LimitedSink, OverRead, Sink};
 use dict_store::Desk;
@@ -72,6 +73,7 @@ fn status_over<D: Disk + Drop, C: Catalogues<Desk<FileStore<D>>>, I: InputFiles,
 ) -> u8 {
     command(
         rt,
+        &System,
         words,
         desks,
         &mut PlainDesk::new(rt.alloc()),

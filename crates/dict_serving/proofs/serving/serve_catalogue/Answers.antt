@@ -44,8 +44,8 @@ returns-in_err-desk-2 g c =
         record {
           first = c.in-Ok.driver;
           last = c.serve_rounds-served.new.driver;
-          readers = told.0.0;
-          editors = told.0.1;
+          readers = (told.0.2.0, told.0.2.1);
+          editors = (told.0.3.0, told.0.3.1);
           bound = c.in-Ok.ensures.bound;
           told = told.1;
           begins = c.in-Ok.ensures.beginning;
@@ -61,6 +61,7 @@ returns-in_err-desk-2 g c =
         was_done (WasShut g.K.Lookup.shows g.K.Lookup.leaves_one_of g.K.Lookup.is_trusted g.D.DeskOpener.is_safe g.D.DeskOpener.holds_alone g.D.DeskOpener.still_leaves g.D.DeskOpener.is_uncopied c.serve_rounds-served.new.desks) c.args.path.now c.in_ok-desk.desk served.0 None (g.D.DeskOpener.history c.args.desks.now) (g.D.DeskOpener.history c.open.new.self) (g.D.DeskOpener.history c.serve_rounds-served.new.desks)
             (g.D.DeskOpener.history c.serve_rounds-served.new.desks) c.in_ok-desk.ensures.history served.4 (does_none _) tt,
         refl,
+        told,
       ),
     ))
 
@@ -80,8 +81,8 @@ returns g c =
         record {
           first = c.in-Ok.driver;
           last = c.serve_rounds-served.new.driver;
-          readers = told.0.0;
-          editors = told.0.1;
+          readers = (told.0.2.0, told.0.2.1);
+          editors = (told.0.3.0, told.0.3.1);
           bound = c.in-Ok.ensures.bound;
           told = told.1;
           begins = c.in-Ok.ensures.beginning;
@@ -97,6 +98,7 @@ returns g c =
         was_done (WasShut g.K.Lookup.shows g.K.Lookup.leaves_one_of g.K.Lookup.is_trusted g.D.DeskOpener.is_safe g.D.DeskOpener.holds_alone g.D.DeskOpener.still_leaves g.D.DeskOpener.is_uncopied c.close-2.new.self) c.args.path.now c.in_ok-desk.desk served.0 (Some c.in_ok-desk-2.desk) (g.D.DeskOpener.history c.args.desks.now) (g.D.DeskOpener.history c.open.new.self)
             (g.D.DeskOpener.history c.serve_rounds-served.new.desks) (g.D.DeskOpener.history c.close-2.new.self) c.in_ok-desk.ensures.history served.4 c.close-2.ensures.history (c.close-2.result, c.close-2.ensures.shut),
         refl,
+        told,
       ),
     )
 
