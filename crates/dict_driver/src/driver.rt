@@ -44,9 +44,12 @@ impl<'h> Driver<'h> {
             Ok(bound) => bound,
             Err(fault) => return Err(fault),
         };
+        let Ok(event_loop) = EventLoop::new(alloc, sockets, host) else {
+            return Err(BindFault::Memory);
+        };
         Ok(Driver {
             addresses,
-            event_loop: EventLoop::new(alloc, sockets, host)?,
+            event_loop,
         })
     }
 

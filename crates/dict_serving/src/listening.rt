@@ -46,8 +46,10 @@ pub(crate) fn listen<'w, W: Sink, B: Network<TcpListener, SystemSockets>, N: Net
         Err(fault) => return Err(told_of(fault, wanted.dict, wanted.http)),
     };
     let (dict, http) = driver.addresses();
-    put_addresses(alloc, dict, http, writer)?;
-    Ok(driver)
+    match put_addresses(alloc, dict, http, writer) {
+        Ok(()) => Ok(driver),
+        Err(fault) => Err(fault),
+    }
 }
 
 // Writes a line for each address.
