@@ -1,2 +1,3 @@
+pub mod ListenLemmas
 pub mod DeedLemmas
 pub mod StretchLemmas
