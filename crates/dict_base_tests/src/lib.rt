@@ -1,5 +1,5 @@
 //! Runs of the libraries that the others stand on: characters, names, numbers, streams, keys and strategies, what is derived of headwords,
-//! the reader of records, and indexes in memory. A library with tests alone.
+//! and the reader of records. A library with tests alone.
 #![tactic(auto)]
 
 #[cfg(test)]
@@ -16,7 +16,5 @@ mod matching;
 mod name;
 #[cfg(test)]
 mod rows;
-#[cfg(test)]
-mod search;
 #[cfg(test)]
 mod text;

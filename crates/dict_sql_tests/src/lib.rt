@@ -1,5 +1,4 @@
-//! Runs of the statements over each table, over memory and over files that memory holds, and of the tests that tell the tables
-//! of each schema, their indexes and their names from others. A library with tests alone.
+//! Runs of the statements over each table without keys, over memory and over files that memory holds. A library with tests alone.
 #![tactic(auto)]
 
 #[cfg(test)]
@@ -7,12 +6,6 @@ mod checks;
 #[cfg(test)]
 mod connections;
 #[cfg(test)]
-mod definitions;
-#[cfg(test)]
 mod inside;
-#[cfg(test)]
-mod keyed;
-#[cfg(test)]
-mod part;
 #[cfg(test)]
 mod plain;

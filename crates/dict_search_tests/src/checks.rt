@@ -1,0 +1,7 @@
+//! Assertions, each a function of its own, so that the proof of a test has one step for it.
+use std::process::Abort;
+
+/// It is so, of what is named.
+pub(crate) fn holds(test: &impl Abort, is_so: bool, of: &str) {
+    assert!(test; is_so, "of {of:?}");
+}

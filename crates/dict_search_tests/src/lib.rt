@@ -1,0 +1,7 @@
+//! Runs of an index in memory, beside the filter of the whole list. A library with tests alone.
+#![tactic(auto)]
+
+#[cfg(test)]
+mod checks;
+#[cfg(test)]
+mod filter;
