@@ -1,12 +1,12 @@
 -- What a piece does, by whether its connection is open.
 use Rattle.std.proofs.Common.{◌≡◌, ◌++◌, ℕ, List, refl, sym, subst}
-use Rattle.std.specs.Prelude.{Option, Some, None, Result, Ok, Err, IfErr, IfOk}
+use Rattle.std.specs.Prelude.{Bool, Option, Some, None, Result, Ok, Err, IfErr, IfOk, OnErr}
 use Rattle.dict_io.specs.Streams.{Stream}
 use Rattle.dict_catalogue.specs.Steps.{Catalogue}
 use Rattle.dict_hub.specs.Holding.{Holding, left_by}
-use Rattle.dict_hub.specs.Given.{Gets}
+use Rattle.dict_hub.specs.Given.{Gets, GetsThrough, LookNothingUp}
 use Rattle.dict_hub.specs.Hubs.{Has}
-use Rattle.dict_hub.specs.Events.{Happening, came, id_of, held_after, Serves}
+use Rattle.dict_hub.specs.Events.{Happening, came, id_of, held_after, Serves, ServesThrough, IsQuiet}
 use Rattle.dict_hub.specs.declared.hub.Hub.{Hub}
 use Rattle.dict_hub.specs.declared.incoming.Out.{Out}
 use Rattle.dict_hub.specs.declared.fault.HubFault.{HubFault}
@@ -38,3 +38,20 @@ own_piece hub None what id piece result is unknown known =
     subst (λ r. IfOk r (λ out. Has hub (id_of what) (held_after None what out))) (sym (unknown refl)) tt
 own_piece hub (Some held) what id piece result is unknown known =
     subst (λ w. IfOk result (λ out. Has hub (id_of w) (held_after (Some held) w out))) (sym is) (known held refl)
+
+pub through_piece : (host : List ℕ) (catalogue : Catalogue) (before : Bool) (desk : Condition) (held : Option Holding) (what : Happening) (id : ℕ) (piece : List ℕ) (old new : Stream) (result : Result Out HubFault)
+    → what ≡ came id piece → (held ≡ None → result ≡ Err UnknownConnection)
+    → ((one : Holding) → held ≡ Some one → IfOk result (λ out. GetsThrough host catalogue before desk one.kind (one.octets ++ piece) out old new))
+    → IfOk result (λ out. ServesThrough host catalogue before desk held what out old new)
+through_piece host catalogue before desk None what id piece old new result is unknown known =
+    subst (λ r. IfOk r (λ out. ServesThrough host catalogue before desk None what out old new)) (sym (unknown refl)) tt
+through_piece host catalogue before desk (Some held) what id piece old new result is unknown known =
+    subst (λ w. IfOk result (λ out. ServesThrough host catalogue before desk (Some held) w out old new)) (sym is) (known held refl)
+
+-- what holds where the connection isn't open, and where it is and nothing is looked up
+pub quiet_piece : {P : Type 0} (catalogue : Catalogue) (held : Option Holding) (what : Happening) (id : ℕ) (piece : List ℕ) (result : Result Out HubFault) → what ≡ came id piece
+    → (held ≡ None → result ≡ Err UnknownConnection) → OnErr result P
+    → ((one : Holding) → held ≡ Some one → LookNothingUp catalogue one.kind (one.octets ++ piece) → P)
+    → IsQuiet catalogue held what → P
+quiet_piece {P} catalogue None what id piece result is unknown refused known quiet = subst (λ r. OnErr r P) (unknown refl) refused
+quiet_piece catalogue (Some held) what id piece result is unknown refused known quiet = known held refl (subst (λ w. IsQuiet catalogue (Some held) w) is quiet)

@@ -1,6 +1,6 @@
 -- What a piece gives a reader or an editor.
 use Rattle.std.proofs.Common.{◌≡◌, ◌∙◌, ℕ, List, refl, sym, ap, subst, inl, inr}
-use Rattle.std.specs.Prelude.{Option, Result, Ok, Err, IfOk, OnErr}
+use Rattle.std.specs.Prelude.{Bool, Option, Result, Ok, Err, IfOk, OnErr}
 use Rattle.dict_io.specs.Streams.{Stream}
 use Rattle.dict_line.specs.Meaning.{Meaning}
 use Rattle.dict_catalogue.specs.Steps.{Catalogue}
@@ -13,13 +13,14 @@ use Rattle.dict_hub.specs.Holding.{Holding, left_by, unanswered}
 use Rattle.dict_hub.specs.Lines.{Holds, IsEditor, IsLeft}
 use Rattle.dict_hub.specs.declared.incoming.Incoming.{Incoming}
 use Rattle.dict_hub.specs.declared.exchange.Exchange.TheVariants.{Editor}
-use Rattle.dict_hub.specs.Given.{Replies, Stays, Gets}
+use Rattle.dict_hub.specs.Given.{Replies, RepliesThrough, Stays, Gets, GetsThrough}
 use Rattle.dict_hub.specs.declared.kind.Kind.{Kind}
 use Rattle.dict_hub.specs.declared.kind.Kind.TheVariants.{Http}
 use Rattle.dict_hub.specs.declared.fault.HubFault.{HubFault}
 use Rattle.dict_hub.specs.declared.incoming.Out.{Out}
 use Rattle.dict_hub.specs.declared.incoming.Out.TheVariants.{More, Close}
 use Rattle.dict_session.specs.Desks.{Condition}
+use Rattle.dict_session.specs.Through.{WroteThrough}
 
 -- what a session wrote are replies, and it goes on where the connection stays open
 pub replies_from : (answer : Meaning → List ℕ) (desk : Condition) (lines : List (List ℕ)) (old new : Stream) (course : Course) (out : Out)
@@ -33,6 +34,31 @@ replies_from answer desk lines old new courses.SinkFailed More goes stays wrote 
 replies_from answer desk lines old new courses.SinkFailed Close goes stays wrote = inr (inl wrote)
 replies_from answer desk lines old new courses.DeskFailed More goes stays wrote = cc (goes refl)
 replies_from answer desk lines old new courses.DeskFailed Close goes stays wrote = inr (inr wrote)
+
+-- the same by how the desk stood before each line
+pub replies_through_from : (answer : Meaning → List ℕ) (looks : Meaning → Bool) (before : Bool) (desk : Condition) (lines : List (List ℕ)) (old new : Stream) (course : Course) (out : Out)
+    → (out ≡ More → step_at course ≡ steps.More) → (step_at course ≡ steps.More → out ≡ More)
+    → WroteThrough answer looks before desk course old new lines → RepliesThrough answer looks before desk lines out old new
+replies_through_from answer looks before desk lines old new courses.More More goes stays wrote = wrote
+replies_through_from answer looks before desk lines old new courses.More Close goes stays wrote = cc (stays refl)
+replies_through_from answer looks before desk lines old new courses.Quit More goes stays wrote = cc (goes refl)
+replies_through_from answer looks before desk lines old new courses.Quit Close goes stays wrote = inl wrote
+replies_through_from answer looks before desk lines old new courses.SinkFailed More goes stays wrote = cc (goes refl)
+replies_through_from answer looks before desk lines old new courses.SinkFailed Close goes stays wrote = inr (inl wrote)
+replies_through_from answer looks before desk lines old new courses.DeskFailed More goes stays wrote = cc (goes refl)
+replies_through_from answer looks before desk lines old new courses.DeskFailed Close goes stays wrote = inr (inr wrote)
+
+-- of an editor's piece no more is said
+pub through_editor : (host : List ℕ) (catalogue : Catalogue) (before : Bool) (desk : Condition) (kind : Kind) (octets : List ℕ) (old new : Stream) (result : Result Out HubFault)
+    → kind ≡ Http → IfOk result (λ out. GetsThrough host catalogue before desk kind octets out old new)
+through_editor host catalogue before desk kind octets old new (Ok out) is = subst (λ one. GetsThrough host catalogue before desk one octets out old new) (sym is) tt
+through_editor host catalogue before desk kind octets old new (Err fault) is = tt
+
+-- what holds of a piece that is awaited further or refused holds of one that isn't answered
+pub unless_answered : {P : Type 0} (result : Result Out HubFault) → (result ≡ Ok More → P) → (result ≡ Ok Close → ⊥) → OnErr result P → P
+unless_answered (Ok More) awaited answered refused = awaited refl
+unless_answered (Ok Close) awaited answered refused = absurd (answered refl)
+unless_answered (Err fault) awaited answered refused = refused
 
 -- an editor's piece is awaited further, or answered
 pub asks_from : (host : List ℕ) (desk : Condition) (Shows : Catalogue → Type 0) (Before After : List (Option Catalogue) → Type 0) (before : Catalogue)

@@ -5,7 +5,7 @@ use Rattle.dict_catalogue.specs.Steps.{Catalogue}
 use Rattle.dict_session.specs.Desks.{Condition}
 use Rattle.dict_hub.specs.Books.{opening}
 use Rattle.dict_hub.specs.Holding.{Holding, left_by}
-use Rattle.dict_hub.specs.Given.{Greets, Gets, Stays}
+use Rattle.dict_hub.specs.Given.{Greets, Gets, GetsThrough, LookNothingUp, Stays}
 use Rattle.dict_hub.specs.declared.kind.Kind.{Kind}
 use Rattle.dict_hub.specs.declared.kind.Kind.TheVariants.{Dict, Http}
 use Rattle.dict_hub.specs.declared.fault.HubFault.{HubFault}
@@ -105,3 +105,25 @@ abbrev pub Serves : List ℕ → Condition → (Catalogue → Type 0) → (List 
 Serves host desk Shows Before After before held (opened id kind) out old new = Greets host id kind out old new × Stays Shows Before After before
 Serves host desk Shows Before After before held (came id piece) out old new = ServesPiece host desk Shows Before After before held piece out old new
 Serves host desk Shows Before After before held (ended id) out old new = Ends Shows Before After before out old new
+
+-- what octets that came put, by how the desk stood before each line
+abbrev pub ServesPieceThrough : List ℕ → Catalogue → Bool → Condition → Option Holding → List ℕ → Out → Stream → Stream → Type 0
+ServesPieceThrough host catalogue before desk None piece out old new = ⊥
+ServesPieceThrough host catalogue before desk (Some held) piece out old new = GetsThrough host catalogue before desk held.kind (held.octets ++ piece) out old new
+
+-- what the event puts, by how the desk stood before each line
+abbrev pub ServesThrough : List ℕ → Catalogue → Bool → Condition → Option Holding → Happening → Out → Stream → Stream → Type 0
+ServesThrough host catalogue before desk held (opened id kind) out old new = Unit {0}
+ServesThrough host catalogue before desk held (came id piece) out old new = ServesPieceThrough host catalogue before desk held piece out old new
+ServesThrough host catalogue before desk held (ended id) out old new = Unit {0}
+
+-- nothing is looked up for these octets of this connection, nor for those of one that isn't open
+abbrev pub IsQuietPiece : Catalogue → Option Holding → List ℕ → Type 0
+IsQuietPiece catalogue None piece = Unit {0}
+IsQuietPiece catalogue (Some held) piece = LookNothingUp catalogue held.kind (held.octets ++ piece)
+
+-- nothing is looked up for the event
+abbrev pub IsQuiet : Catalogue → Option Holding → Happening → Type 0
+IsQuiet catalogue held (opened id kind) = Unit {0}
+IsQuiet catalogue held (came id piece) = IsQuietPiece catalogue held piece
+IsQuiet catalogue held (ended id) = Unit {0}

@@ -1,10 +1,10 @@
 -- What an event gives its connection: a function of the host, the connection's id and kind, the octets that have come on it
 -- and the catalogue.
-use Rattle.std.specs.Prelude.{◌≡◌, ◌⊎◌, ℕ, List, Bool, true, false, Option}
+use Rattle.std.specs.Prelude.{◌≡◌, ◌⊎◌, ℕ, List, Bool, true, false, Option, All}
 use Rattle.dict_io.specs.Streams.{Stream, PutsAll, PutsFront}
 use Rattle.dict_catalogue.specs.Steps.{Catalogue}
 use Rattle.dict_desk.specs.Applying.{LeavesNoMore}
-use Rattle.dict_line.specs.Meaning.{Meaning}
+use Rattle.dict_line.specs.Meaning.{Meaning, meaning}
 use Rattle.dict_proto.specs.Replies.{banner_octets}
 use Rattle.dict_head.specs.Heads.{Needs}
 use Rattle.dict_head.specs.declared.kinds.Need.TheVariants.{More as NeedsMore}
@@ -12,6 +12,7 @@ use Rattle.dict_session.specs.Lines.{cut}
 use Rattle.dict_session.specs.Answers.{answer_to}
 use Rattle.dict_session.specs.Spoken.{Speaks, BreaksOff}
 use Rattle.dict_session.specs.Desks.{Condition}
+use Rattle.dict_session.specs.Through.{SpeaksThrough, BreaksThrough, looks_up}
 use Rattle.dict_hub.specs.Asking.{Answers}
 use Rattle.dict_hub.specs.declared.kind.Kind.{Kind}
 use Rattle.dict_hub.specs.declared.kind.Kind.TheVariants.{Dict, Http}
@@ -48,3 +49,21 @@ abbrev pub Gets : List ℕ → Condition → (Catalogue → Type 0) → (List (O
 Gets host desk Shows Before After before Dict octets out old new =
     Replies (answer_to before host) desk (cut octets).lines out old new × Stays Shows Before After before
 Gets host desk Shows Before After before Http octets out old new = Asks Shows Before After before octets out old new
+
+-- the same of these lines of a reader's by how the desk stood before each: it was closed, or not, before the first as `before` tells, and
+-- where nothing is looked up for a line it stands behind it as before
+abbrev pub RepliesThrough : (Meaning → List ℕ) → (Meaning → Bool) → Bool → Condition → List (List ℕ) → Out → Stream → Stream → Type 0
+RepliesThrough answer looks before desk lines More old new = (octets : List ℕ) × SpeaksThrough answer looks before desk.closed lines octets false × PutsAll old new octets
+RepliesThrough answer looks before desk lines Close old new = ((octets : List ℕ) × SpeaksThrough answer looks before desk.closed lines octets true × PutsAll old new octets)
+    ⊎ (((octets : List ℕ) × (ended : Bool) × SpeaksThrough answer looks before desk.closed lines octets ended × PutsFront old new octets)
+    ⊎ ((desk.failed ≡ true) × ((octets : List ℕ) × BreaksThrough answer looks before desk.closed lines octets × PutsAll old new octets)))
+
+-- these octets have come on a connection of this kind; of an editor's no more is said than above
+abbrev pub GetsThrough : List ℕ → Catalogue → Bool → Condition → Kind → List ℕ → Out → Stream → Stream → Type 0
+GetsThrough host catalogue before desk Dict octets out old new = RepliesThrough (answer_to catalogue host) (looks_up catalogue) before desk (cut octets).lines out old new
+GetsThrough host catalogue before desk Http octets out old new = Unit {0}
+
+-- nothing is looked up for these octets: for no line of a reader's, and an editor's are no whole request yet
+abbrev pub LookNothingUp : Catalogue → Kind → List ℕ → Type 0
+LookNothingUp catalogue Dict octets = All (λ line. looks_up catalogue (meaning line) ≡ false) (cut octets).lines
+LookNothingUp catalogue Http octets = Needs octets NeedsMore

@@ -5,7 +5,7 @@ ghost use Rattle.dict_session.specs.Desks.{condition};
 ghost use Rattle.dict_hub.specs.Holding.{Holding, just_opened, left_by};
 ghost use Rattle.dict_http.specs.Foreseeing.{AsksAnewForInstall, AsksForInstall};
 ghost use Rattle.dict_hub.specs.Foreseen.{IsForeseen};
-ghost use Rattle.dict_hub.specs.Given.{Greets, Gets};
+ghost use Rattle.dict_hub.specs.Given.{Greets, Gets, GetsThrough, LookNothingUp};
 ghost use Rattle.dict_hub.specs.declared.kind.Kind.TheVariants.{Http};
 ghost use Rattle.dict_hub.specs.declared.incoming.Out.TheVariants as outs;
 ghost use Rattle.dict_hub.specs.declared.fault.HubFault.TheVariants.{Memory};
@@ -79,6 +79,10 @@ impl<'h> Exchange<'h> {
     ) -> Result<Out, HubFault>
         ensures gets { K.is_trusted desk.new → (M : Catalogue) → K.shows desk.old M → (host : List ℕ) (id : ℕ) (held : Holding) → Holds host id self.old held
             → IfOk result (λ out. Gets host (condition K.has_failed K.is_closed desk.new) (K.shows desk.new) (K.leaves_one_of desk.old) (K.leaves_one_of desk.new) M held.kind (held.octets ++ piece.now) out (S.stream sink.old) (S.stream sink.new)) }
+        ensures through { K.is_trusted desk.new → (M : Catalogue) → K.shows desk.old M → (host : List ℕ) (id : ℕ) (held : Holding) → Holds host id self.old held
+            → IfOk result (λ out. GetsThrough host M (K.is_closed desk.old) (condition K.has_failed K.is_closed desk.new) held.kind (held.octets ++ piece.now) out (S.stream sink.old) (S.stream sink.new)) }
+        ensures quiet { K.is_trusted desk.new → (M : Catalogue) → K.shows desk.old M → (host : List ℕ) (id : ℕ) (held : Holding) → Holds host id self.old held
+            → LookNothingUp M held.kind (held.octets ++ piece.now) → desk.new ≡ desk.old }
         ensures left { K.is_trusted desk.new → (M : Catalogue) → K.shows desk.old M → (host : List ℕ) (id : ℕ) (held : Holding) → Holds host id self.old held
             → IfOk result (λ out. IsLeft host id self.new (left_by held.kind (held.octets ++ piece.now) out)) }
         ensures trust { K.is_trusted desk.new → K.is_trusted desk.old }

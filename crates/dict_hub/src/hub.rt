@@ -6,7 +6,7 @@ ghost use Rattle.dict_hub.specs.Books.{IsRefusal, opening, place_of};
 ghost use Rattle.dict_hub.specs.Holding.{Holding, left_by};
 ghost use Rattle.dict_http.specs.Foreseeing.{AsksAnewForInstall, AsksForInstall};
 ghost use Rattle.dict_hub.specs.Foreseen.{AreForeseen};
-ghost use Rattle.dict_hub.specs.Given.{Greets, Gets};
+ghost use Rattle.dict_hub.specs.Given.{Greets, Gets, GetsThrough, LookNothingUp};
 ghost use Rattle.dict_hub.specs.declared.kind.Kind.{Kind};
 ghost use Rattle.dict_hub.specs.declared.kind.Kind.TheVariants.{Http};
 ghost use Rattle.dict_hub.specs.declared.incoming.Out.TheVariants as outs;
@@ -48,7 +48,7 @@ pub struct Hub<'h> {
 
 impl<'h> Hub<'h> {
     ghost use Rattle.dict_hub.specs.Hubs.{Has, host_of, greatest_of, count_of};
-    ghost use Rattle.dict_hub.specs.Events.{opened, happening, id_of, admitted, asks_desk, takes_memory, count_after, greatest_after, held_after, Serves};
+    ghost use Rattle.dict_hub.specs.Events.{opened, happening, id_of, admitted, asks_desk, takes_memory, count_after, greatest_after, held_after, Serves, ServesThrough, IsQuiet};
     ghost use Rattle.dict_hub.specs.Runs.{State, Standing, Accepted, IsAt, Leads, LeadsOn, beginning};
     ghost use Rattle.dict_io.specs.Streams.{change};
 
@@ -85,6 +85,10 @@ impl<'h> Hub<'h> {
         ensures opening { (id : ℕ) (kind : Kind) → happening event.entry ≡ opened id kind → IfErr result (λ fault. IsRefusal (opening id (greatest_of self.old) (count_of self.old)) fault) }
         ensures serves { K.is_trusted desk.new → (M : Catalogue) → K.shows desk.old M → (held : Option Holding) → Has self.old (id_of (happening event.entry)) held
             → IfOk result (λ out. Serves (host_of self.old) (condition K.has_failed K.is_closed desk.new) (K.shows desk.new) (K.leaves_one_of desk.old) (K.leaves_one_of desk.new) M held (happening event.entry) out (S.stream sink.old) (S.stream sink.new)) }
+        ensures through { K.is_trusted desk.new → (M : Catalogue) → K.shows desk.old M → (held : Option Holding) → Has self.old (id_of (happening event.entry)) held
+            → IfOk result (λ out. ServesThrough (host_of self.old) M (K.is_closed desk.old) (condition K.has_failed K.is_closed desk.new) held (happening event.entry) out (S.stream sink.old) (S.stream sink.new)) }
+        ensures quiet { K.is_trusted desk.new → (M : Catalogue) → K.shows desk.old M → (held : Option Holding) → Has self.old (id_of (happening event.entry)) held
+            → IsQuiet M held (happening event.entry) → desk.new ≡ desk.old }
         ensures own { K.is_trusted desk.new → (M : Catalogue) → K.shows desk.old M → (held : Option Holding) → Has self.old (id_of (happening event.entry)) held
             → IfOk result (λ out. Has self.new (id_of (happening event.entry)) (held_after held (happening event.entry) out)) }
         ensures others { (other : ℕ) (held : Option Holding) → other ≢ id_of (happening event.entry) → Has self.old other held → Has self.new other held }
@@ -206,6 +210,10 @@ impl<'h> Hub<'h> {
         ensures memory { (held : Holding) → Has self.old id (Some held) → IfErr result (λ fault. (fault ≡ Memory) × (held.kind ≡ Http)) }
         ensures gets { K.is_trusted desk.new → (M : Catalogue) → K.shows desk.old M → (held : Holding) → Has self.old id (Some held)
             → IfOk result (λ out. Gets (host_of self.old) (condition K.has_failed K.is_closed desk.new) (K.shows desk.new) (K.leaves_one_of desk.old) (K.leaves_one_of desk.new) M held.kind (held.octets ++ piece.now) out (S.stream sink.old) (S.stream sink.new)) }
+        ensures through { K.is_trusted desk.new → (M : Catalogue) → K.shows desk.old M → (held : Holding) → Has self.old id (Some held)
+            → IfOk result (λ out. GetsThrough (host_of self.old) M (K.is_closed desk.old) (condition K.has_failed K.is_closed desk.new) held.kind (held.octets ++ piece.now) out (S.stream sink.old) (S.stream sink.new)) }
+        ensures quiet { K.is_trusted desk.new → (M : Catalogue) → K.shows desk.old M → (held : Holding) → Has self.old id (Some held)
+            → LookNothingUp M held.kind (held.octets ++ piece.now) → desk.new ≡ desk.old }
         ensures own { K.is_trusted desk.new → (M : Catalogue) → K.shows desk.old M → (held : Holding) → Has self.old id (Some held)
             → IfOk result (λ out. Has self.new id (left_by held.kind (held.octets ++ piece.now) out)) }
         ensures count { (held : Holding) → Has self.old id (Some held) → IfOk result (λ out. count_of self.new ≡ count_after (count_of self.old) (Some held) (left_by held.kind (held.octets ++ piece.now) out)) }

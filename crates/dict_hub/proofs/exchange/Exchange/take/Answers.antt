@@ -4,12 +4,15 @@ use Rattle.dict_session.specs.Lines.{cut}
 use Rattle.dict_session.specs.Answers.{answer_to}
 use Rattle.dict_session.specs.Session.{course_of}
 use Rattle.dict_session.specs.Ending.{Wrote}
+use Rattle.dict_session.specs.Through.{WroteThrough, looks_up}
+use Rattle.dict_head.specs.Heads.{Needs}
+use Rattle.dict_head.specs.declared.kinds.Need.TheVariants.{More as NeedsMore}
 use Rattle.dict_hub.specs.Asking.{Awaits, Answers}
-use Rattle.dict_hub.specs.Given.{Gets}
+use Rattle.dict_hub.specs.Given.{Gets, GetsThrough, LookNothingUp}
 use Rattle.dict_hub.specs.Holding.{Holding}
 use Rattle.dict_hub.specs.declared.exchange.Exchange.TheVariants.{Editor}
 use Rattle.dict_hub.specs.Lines.{Holds, IsReader, IsEditor}
-use Rattle.dict_hub.proofs.ExchangeLemmas.{replies_from, asks_from, held_from, left_from}
+use Rattle.dict_hub.proofs.ExchangeLemmas.{replies_from, replies_through_from, through_editor, unless_answered, asks_from, held_from, left_from}
 use Rattle.dict_session.specs.Desks.{condition}
 use Rattle.dict_hub.proofs.exchange.Exchange.take.Goals as goal
 
@@ -51,3 +54,35 @@ pub returns-in-Editor-clause-held : goal.returns-in-Editor-clause-held
 returns-in-Editor-clause-held g c =
     subst (λ line. OnErr c.take.result ((host : List ℕ) (id : ℕ) (held : Holding) → Holds host id line held → Holds host id (Editor c.take.new.self) held)) (sym c.in-Editor.is)
     (held_from c.in-Editor.incoming c.take.new.self c.take.result c.take.ensures.held c.take.ensures.awaited)
+
+pub returns-in-Reader-clause-through : goal.returns-in-Reader-clause-through
+returns-in-Reader-clause-through g c = λ trusted M shown host id held holds.
+    let h : IsReader host id c.in-Reader.session held = subst (λ line. Holds host id line held) c.in-Reader.is holds in
+    let before = g.K.Lookup.is_closed c.args.desk.now in
+    let desk = condition g.K.Lookup.has_failed g.K.Lookup.is_closed c.feed.new.desk in
+    let old = g.S.Sink.stream c.args.sink.now in
+    let new = g.S.Sink.stream c.feed.new.sink in
+    let b = held.octets ++ c.args.piece.now in
+    let wrote = c.feed.ensures.through h.goes_on trusted M shown held.octets h.unfinished in
+    let here = subst (λ (at : List ℕ). WroteThrough (answer_to M at) (looks_up M) before desk (course_of c.feed.new.self) old new (cut b).lines) h.same_host wrote.0 in
+    let replies = replies_through_from (answer_to M host) (looks_up M) before desk (cut b).lines old new (course_of c.feed.new.self) c.out_of.result
+    (λ e. c.feed.ensures.step ∙ c.out_of.ensures.more e) (λ e. c.out_of.ensures.close (sym c.feed.ensures.step ∙ e)) here in
+    subst (λ kind. GetsThrough host M before desk kind b c.out_of.result old new) (sym h.kind) replies
+
+pub returns-in-Editor-clause-through : goal.returns-in-Editor-clause-through
+returns-in-Editor-clause-through g c = λ trusted M shown host id held holds.
+    let h : IsEditor c.in-Editor.incoming held = subst (λ line. Holds host id line held) c.in-Editor.is holds in
+    through_editor host M (g.K.Lookup.is_closed c.args.desk.now) (condition g.K.Lookup.has_failed g.K.Lookup.is_closed c.take.new.desk) held.kind (held.octets ++ c.args.piece.now)
+    (g.S.Sink.stream c.args.sink.now) (g.S.Sink.stream c.take.new.sink) c.take.result h.kind
+
+pub returns-in-Reader-clause-quiet : goal.returns-in-Reader-clause-quiet
+returns-in-Reader-clause-quiet g c = λ trusted M shown host id held holds nothing.
+    let h : IsReader host id c.in-Reader.session held = subst (λ line. Holds host id line held) c.in-Reader.is holds in
+    c.feed.ensures.quiet h.goes_on trusted M shown held.octets h.unfinished (subst (λ kind. LookNothingUp M kind (held.octets ++ c.args.piece.now)) h.kind nothing)
+
+pub returns-in-Editor-clause-quiet : goal.returns-in-Editor-clause-quiet
+returns-in-Editor-clause-quiet g c = λ trusted M shown host id held holds nothing.
+    let h : IsEditor c.in-Editor.incoming held = subst (λ line. Holds host id line held) c.in-Editor.is holds in
+    let needs : Needs (held.octets ++ c.args.piece.now) NeedsMore = subst (λ kind. LookNothingUp M kind (held.octets ++ c.args.piece.now)) h.kind nothing in
+    let here : Needs (c.in-Editor.incoming.octets.items ++ c.args.piece.now) NeedsMore = subst (λ (o : List ℕ). Needs (o ++ c.args.piece.now) NeedsMore) (sym h.octets_held) needs in
+    unless_answered c.take.result c.take.ensures.unasked (λ e. (c.take.ensures.answers e trusted M shown).whole here) c.take.ensures.desk

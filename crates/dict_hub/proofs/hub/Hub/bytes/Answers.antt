@@ -2,7 +2,7 @@ use Rattle.std.proofs.Common.{◌≡◌, ◌++◌, ℕ, List, length, ap, sym, s
 use Rattle.std.specs.Prelude.{slice_set}
 use Rattle.std.proofs.lemmas.List.{length-set}
 use Rattle.std.proofs.lemmas.List.Edits.{length-remove}
-use Rattle.dict_hub.specs.Given.{Gets}
+use Rattle.dict_hub.specs.Given.{Gets, GetsThrough}
 use Rattle.dict_hub.specs.Holding.{left_by}
 use Rattle.dict_hub.specs.Lines.{Holds, IsLeft}
 use Rattle.dict_hub.specs.Hubs.{IsAbsent}
@@ -95,3 +95,43 @@ returns-in-Close-clause-count g c = λ held at.
     let f = found_at c.args.self.now.book.ids.items c.args.id c.in-Some.place (sym c.in-Some.ensures.value) in
     let shorter = length-remove c.args.self.now.book.ids.items c.in-Some.place f.0 in
     omega (arith, ap length c.close.ensures.ids, shorter)
+
+pub returns-in-More-clause-through : goal.returns-in-More-clause-through
+returns-in-More-clause-through g c = λ trusted M shown held at.
+    let host = c.args.self.now.host.now in
+    let ids = c.args.self.now.book.ids.items in
+    let f = found_at ids c.args.id c.in-Some.place (sym c.in-Some.ensures.value) in
+    let h = subst (λ one. Holds host c.args.id one held) (sym c.index_mut.ensures.value)
+    (holds_there host ids c.args.self.now.lines.items c.args.id held c.in-Some.place c.args.self.now.book.rising f.0 f.1 at c.index_mut.result.now) in
+    let desk = condition g.K.Lookup.has_failed g.K.Lookup.is_closed c.take.new.desk in
+    subst (λ out. GetsThrough host M (g.K.Lookup.is_closed c.args.desk.now) desk held.kind (held.octets ++ c.args.piece.now) out (g.S.Sink.stream c.args.sink.now) (g.S.Sink.stream c.take.new.sink))
+    c.in-More.is (c.in_ok-take.ensures.through trusted M shown host c.args.id held h)
+
+pub returns-in-More-clause-quiet : goal.returns-in-More-clause-quiet
+returns-in-More-clause-quiet g c = λ trusted M shown held at nothing.
+    let host = c.args.self.now.host.now in
+    let ids = c.args.self.now.book.ids.items in
+    let f = found_at ids c.args.id c.in-Some.place (sym c.in-Some.ensures.value) in
+    let h = subst (λ one. Holds host c.args.id one held) (sym c.index_mut.ensures.value)
+    (holds_there host ids c.args.self.now.lines.items c.args.id held c.in-Some.place c.args.self.now.book.rising f.0 f.1 at c.index_mut.result.now) in
+    c.in_ok-take.ensures.quiet trusted M shown host c.args.id held h nothing
+
+pub returns-in-Close-clause-through : goal.returns-in-Close-clause-through
+returns-in-Close-clause-through g c = λ trusted M shown held at.
+    let host = c.args.self.now.host.now in
+    let ids = c.args.self.now.book.ids.items in
+    let f = found_at ids c.args.id c.in-Some.place (sym c.in-Some.ensures.value) in
+    let h = subst (λ one. Holds host c.args.id one held) (sym c.index_mut.ensures.value)
+    (holds_there host ids c.args.self.now.lines.items c.args.id held c.in-Some.place c.args.self.now.book.rising f.0 f.1 at c.index_mut.result.now) in
+    let desk = condition g.K.Lookup.has_failed g.K.Lookup.is_closed c.take.new.desk in
+    subst (λ out. GetsThrough host M (g.K.Lookup.is_closed c.args.desk.now) desk held.kind (held.octets ++ c.args.piece.now) out (g.S.Sink.stream c.args.sink.now) (g.S.Sink.stream c.take.new.sink))
+    c.in-Close.is (c.in_ok-take.ensures.through trusted M shown host c.args.id held h)
+
+pub returns-in-Close-clause-quiet : goal.returns-in-Close-clause-quiet
+returns-in-Close-clause-quiet g c = λ trusted M shown held at nothing.
+    let host = c.args.self.now.host.now in
+    let ids = c.args.self.now.book.ids.items in
+    let f = found_at ids c.args.id c.in-Some.place (sym c.in-Some.ensures.value) in
+    let h = subst (λ one. Holds host c.args.id one held) (sym c.index_mut.ensures.value)
+    (holds_there host ids c.args.self.now.lines.items c.args.id held c.in-Some.place c.args.self.now.book.rising f.0 f.1 at c.index_mut.result.now) in
+    c.in_ok-take.ensures.quiet trusted M shown host c.args.id held h nothing

@@ -6,7 +6,7 @@ use Rattle.dict_hub.specs.Hubs.{Has, count_of, greatest_of}
 use Rattle.dict_hub.specs.Events.{happening, asks_desk, opened, came, ended, id_of, count_after, held_after}
 use Rattle.dict_hub.specs.Runs.{LeadsOn}
 use Rattle.dict_hub.specs.declared.fault.HubFault.TheVariants.{UnknownConnection}
-use Rattle.dict_hub.proofs.EventLemmas.{refusal_of, serves_piece, own_piece}
+use Rattle.dict_hub.proofs.EventLemmas.{refusal_of, serves_piece, own_piece, through_piece, quiet_piece}
 use Rattle.dict_hub.proofs.RunLemmas.{leads_on, serves_opened, serves_ended, own_ended, on_ok, refused_unless, count_piece, count_ended, count_opened}
 use Rattle.dict_session.specs.Desks.{condition}
 use Rattle.dict_hub.proofs.hub.Hub.event.Goals as goal
@@ -128,3 +128,20 @@ returns-in-Ended-clause-count g c = λ held at.
 
 pub returns-in-Bytes-clause-unasked : goal.returns-in-Bytes-clause-unasked
 returns-in-Bytes-clause-unasked g c = λ isnt. absurd (let never : true ≡ false = sym (ap (λ it. asks_desk (happening it)) c.in-Bytes.is) ∙ isnt in cc)
+
+pub returns-in-Bytes-clause-through : goal.returns-in-Bytes-clause-through
+returns-in-Bytes-clause-through g c = λ trusted M shown held at.
+    let e : happening c.args.event ≡ came c.in-Bytes.id c.in-Bytes.piece.now = ap happening c.in-Bytes.is in
+    let there : Has c.args.self.now c.in-Bytes.id held = subst (λ what. Has c.args.self.now (id_of what) held) e at in
+    through_piece c.args.self.now.host.now M (g.K.Lookup.is_closed c.args.desk.now) (condition g.K.Lookup.has_failed g.K.Lookup.is_closed c.bytes.new.desk)
+    held (happening c.args.event) c.in-Bytes.id c.in-Bytes.piece.now (g.S.Sink.stream c.args.sink.now) (g.S.Sink.stream c.bytes.new.sink) c.bytes.result e
+    (λ none. c.bytes.ensures.unknown (subst (λ one. Has c.args.self.now c.in-Bytes.id one) none there))
+    (λ one some. c.bytes.ensures.through trusted M shown one (subst (λ it. Has c.args.self.now c.in-Bytes.id it) some there))
+
+pub returns-in-Bytes-clause-quiet : goal.returns-in-Bytes-clause-quiet
+returns-in-Bytes-clause-quiet g c = λ trusted M shown held at quiet.
+    let e : happening c.args.event ≡ came c.in-Bytes.id c.in-Bytes.piece.now = ap happening c.in-Bytes.is in
+    let there : Has c.args.self.now c.in-Bytes.id held = subst (λ what. Has c.args.self.now (id_of what) held) e at in
+    quiet_piece M held (happening c.args.event) c.in-Bytes.id c.in-Bytes.piece.now c.bytes.result e
+    (λ none. c.bytes.ensures.unknown (subst (λ one. Has c.args.self.now c.in-Bytes.id one) none there)) c.bytes.ensures.desk
+    (λ one some. c.bytes.ensures.quiet trusted M shown one (subst (λ it. Has c.args.self.now c.in-Bytes.id it) some there)) quiet
