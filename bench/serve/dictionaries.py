@@ -1,7 +1,7 @@
 """dictcat beside dictd over real dictionaries: dictionaries.py PROGRAM CLIENT WORK [PART..]
 
 PARTS: `kept` (DEFINE over 65,536 lines of 5 and of 13 MB, first and again), `answers` (what both answer, compared), `requests` (the processor's time of a request), `slowest` (of 10,000 answers under 64
-connections), `crowd` (a newcomer beside readers that repeat a MATCH of 2 MB), `memory`, `idle`, `install` (of editions by HTTP, while 32 readers ask), `growth` (the same finds over 65,536 and
+connections), `crowd` (a newcomer beside readers that repeat a MATCH of 2 MB), `round` (one that asks DEFINE beside 63 that repeat the dearest MATCH of GCIDE), `memory`, `idle`, `install` (of editions by HTTP, while 32 readers ask), `growth` (the same finds over 65,536 and
 262,144 entries); without one it is all. The dictionaries are `wn`, `foldoc` and `freedict-ara-eng` of Debian's, mended for dictcat
 by contrib/import-dictd and as they came, but uncompressed, for dictd 1.13; and `made`, of 262,144 lines (make_words.py), over
 which both have the same files. dictd's limits are off. CLIENT is client.c, built. WORK is a folder that stays: what is in it is not
@@ -34,20 +34,23 @@ SECONDS = float(os.environ.get("SECONDS_EACH", "1"))
 ASKED = os.environ.get("KINDS", " ".join(KINDS)).split()   # the lists that `requests` and `growth` take
 
 
-def pairs(program, work):
-    """For each name the pair for dictcat and that for dictd."""
+def pair(program, work, name, debian):
+    """The pair for dictcat and that for dictd of one of Debian's dictionaries."""
     (work / "in").mkdir(parents=True, exist_ok=True)
     (work / "dictd").mkdir(exist_ok=True)
-    found = {}
-    for name, debian in NAMES.items():
-        ours, theirs = ([work / folder / f"{name}.{end}" for end in ("index", "dict")] for folder in ("in", "dictd"))
-        if not ours[1].exists():
-            source = pathlib.Path("/usr/share/dictd") / debian
-            subprocess.run([TOP / "contrib/import-dictd", "--dictcat", program, "--dry-run", "--out", work / "in", work / "none.db",
-                            name, source], check=True, stdout=subprocess.DEVNULL)
-            theirs[0].write_bytes(source.with_suffix(".index").read_bytes())
-            theirs[1].write_bytes(gzip.decompress(source.with_suffix(".dict.dz").read_bytes()))
-        found[name] = ours, theirs
+    ours, theirs = ([work / folder / f"{name}.{end}" for end in ("index", "dict")] for folder in ("in", "dictd"))
+    if not ours[1].exists():
+        source = pathlib.Path("/usr/share/dictd") / debian
+        subprocess.run([TOP / "contrib/import-dictd", "--dictcat", program, "--dry-run", "--out", work / "in", work / "none.db",
+                        name, source], check=True, stdout=subprocess.DEVNULL)
+        theirs[0].write_bytes(source.with_suffix(".index").read_bytes())
+        theirs[1].write_bytes(gzip.decompress(source.with_suffix(".dict.dz").read_bytes()))
+    return ours, theirs
+
+
+def pairs(program, work):
+    """For each name the pair for dictcat and that for dictd."""
+    found = {name: pair(program, work, name, debian) for name, debian in NAMES.items()}
     made = [work / "in" / f"made.{end}" for end in ("index", "dict")]
     if not made[1].exists():
         subprocess.run([sys.executable, TOP / "bench/make_words.py", *map(str, LARGEST), *made], check=True)
@@ -244,6 +247,38 @@ def crowd(client, servers, work):
         print(f"| {who} | {each.spent / each.answers * 1e3:.1f} | " + " | ".join(cells) + " |", flush=True)
 
 
+def waited(line, word):
+    """Seconds until the answer to a DEFINE on an open connection, in which something is found."""
+    start = time.monotonic()
+    code, found = line.ask(f"DEFINE gcide {word}")
+    assert code == b"150" and found, code
+    return time.monotonic() - start
+
+
+def round_of_all(program, client, work):
+    """What one round of all 64 connections takes: 63 repeat the dearest MATCH of GCIDE, and one asks a DEFINE, again and again."""
+    chosen, path = {"gcide": pair(program, work, "gcide", "gcide")}, work / "gcide.dear"
+    path.write_text("MATCH gcide substring e\n")
+    servers = {"dictcat": dictcat(program, work, chosen, "gcide.db"), "dictd": dictd(work, chosen, PORT + 7)}
+    print("\n| MATCH gcide substring e | headwords | the processor for one, ms | beside 63 that repeat it: a DEFINE, the median and the longest of 20, s |\n|---|---|---|---|")
+    try:
+        for who, server in servers.items():
+            line = Line(server)
+            count = len(line.ask("MATCH gcide substring e")[1][0])
+            each = asked(client, server, 1, 1, path, 0, 10)
+            waited(line, "opal")
+            readers = Client(client, server, 63, 1, path, 1e6, 0)
+            readers.begin()
+            time.sleep(5)
+            waits = sorted(waited(line, "opal") for _ in range(20))
+            readers.process.send_signal(signal.SIGINT)
+            readers.end()
+            print(f"| {who} | {count:,} | {each.spent / each.answers * 1e3:.1f} | {waits[10]:.2f}, {waits[-1]:.2f} |", flush=True)
+    finally:
+        for server in servers.values():
+            server.kill()
+
+
 def memory(client, servers, lists):
     print("\n| Memory, resident (and of that shared with no other process), MB | " + " | ".join(servers) + " |\n|---" + "|---" * len(servers) + "|")
     tell = lambda what: print(f"| {what} | " + " | ".join("{:.0f} ({:.0f})".format(*(it / 1024 for it in server.memory())) for server in servers.values()) + " |", flush=True)
@@ -351,7 +386,7 @@ def kept(program, client, work):
             theirs.kill()
 
 
-PARTS = ("kept", "answers", "requests", "slowest", "crowd", "memory", "idle", "install", "growth")
+PARTS = ("kept", "answers", "requests", "slowest", "crowd", "round", "memory", "idle", "install", "growth")
 
 
 def main():
@@ -360,7 +395,7 @@ def main():
     assert all(it in PARTS for it in wanted), f"the parts are {' '.join(PARTS)}"
     work.mkdir(exist_ok=True)
     print(f"On {time.strftime('%d %B %Y, %H:%M')}, load {' '.join(f'{it:.1f}' for it in os.getloadavg())}")
-    chosen = pairs(program, work) if set(wanted) - {"kept", "growth"} else {}
+    chosen = pairs(program, work) if set(wanted) - {"kept", "growth", "round"} else {}
     (work / "in").mkdir(exist_ok=True)
     lists = {name: write(ours[0], name, work) for name, (ours, _) in chosen.items()}
     beside = [it for it in ("memory", "answers", "requests", "slowest", "crowd", "idle") if it in wanted]
@@ -374,6 +409,8 @@ def main():
         finally:
             for server in servers.values():
                 server.kill()
+    if "round" in wanted:
+        round_of_all(program, client, work)
     if "kept" in wanted:
         kept(program, client, work)
     if "install" in wanted:
