@@ -247,12 +247,12 @@ def crowd(client, servers, work):
         print(f"| {who} | {each.spent / each.answers * 1e3:.1f} | " + " | ".join(cells) + " |", flush=True)
 
 
-def waited(line, word):
-    """Seconds until the answer to a DEFINE on an open connection, in which something is found."""
-    start = time.monotonic()
+def waited(server, line, word):
+    """Seconds until the answer to a DEFINE on an open connection, in which something is found, and how many the server took of the processor meanwhile."""
+    start, before = time.monotonic(), server.times()
     code, found = line.ask(f"DEFINE gcide {word}")
     assert code == b"150" and found, code
-    return time.monotonic() - start
+    return time.monotonic() - start, server.spent_since(before)
 
 
 def round_of_all(program, client, work):
@@ -260,20 +260,20 @@ def round_of_all(program, client, work):
     chosen, path = {"gcide": pair(program, work, "gcide", "gcide")}, work / "gcide.dear"
     path.write_text("MATCH gcide substring e\n")
     servers = {"dictcat": dictcat(program, work, chosen, "gcide.db"), "dictd": dictd(work, chosen, PORT + 7)}
-    print("\n| MATCH gcide substring e | headwords | the processor for one, ms | beside 63 that repeat it: a DEFINE, the median and the longest of 20, s |\n|---|---|---|---|")
+    print("\n| MATCH gcide substring e | headwords | the processor for one, ms | beside 63 that repeat it: a DEFINE, the median and the longest of 20, s | the server's processor meanwhile, s |\n|---|---|---|---|---|")
     try:
         for who, server in servers.items():
             line = Line(server)
             count = len(line.ask("MATCH gcide substring e")[1][0])
             each = asked(client, server, 1, 1, path, 0, 10)
-            waited(line, "opal")
+            waited(server, line, "opal")
             readers = Client(client, server, 63, 1, path, 1e6, 0)
             readers.begin()
             time.sleep(5)
-            waits = sorted(waited(line, "opal") for _ in range(20))
+            waits, spent = map(sorted, zip(*(waited(server, line, "opal") for _ in range(20))))
             readers.process.send_signal(signal.SIGINT)
             readers.end()
-            print(f"| {who} | {count:,} | {each.spent / each.answers * 1e3:.1f} | {waits[10]:.2f}, {waits[-1]:.2f} |", flush=True)
+            print(f"| {who} | {count:,} | {each.spent / each.answers * 1e3:.1f} | {waits[10]:.2f}, {waits[-1]:.2f} | {spent[10]:.2f}, {spent[-1]:.2f} |", flush=True)
     finally:
         for server in servers.values():
             server.kill()
