@@ -8,3 +8,4 @@ pub mod TurnLemmas
 pub mod HoldLemmas
 pub mod BackLemmas
 pub mod CauseLemmas
+pub mod QuietLemmas

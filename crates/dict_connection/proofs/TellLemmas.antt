@@ -86,7 +86,7 @@ pub led_accepted : (T : Type 0) (S0 S1 : Catalogue → Type 0) (L0 L1 : List (Op
     → (T → (origin : State) (start : Standing) (events : List Accepted) (state : State) (stands : Standing) → Leads origin start events state stands → IsAt a state → S0 stands.catalogue → L0 stands.leaves
     → LeadsOn S1 L1 origin start events state stands what out desk (record { old = old; new = new }) b)
     → ((one : Accepted) → one.what ≡ what → one.out ≡ out → one.put ≡ record { old = old; new = new } → one.desk ≡ desk → Grows old.octets new.octets
-    → CountsNone what old.failures new.failures → P (one ∷ []))
+    → CountsNone what old.failures new.failures → T → S0 one.before.catalogue → P (one ∷ []))
     → HasLedOn T S0 L0 S1 L1 a b P
 led_accepted T S0 S1 L0 L1 a b what out desk old new P leads holds = record {
   led = λ trusted origin start at shown left.
@@ -101,7 +101,7 @@ led_accepted T S0 S1 L0 L1 a b what out desk old new P leads holds = record {
         is_at = on.is_at;
         shows = on.shows;
         leaves = on.leaves;
-        holds = holds one refl refl refl refl (serves_grow _ _ _ _ _ _ _ _ _ _ _ step.serves) (serves_ends _ _ _ _ _ _ _ _ _ _ _ step.serves);
+        holds = holds one refl refl refl refl (serves_grow _ _ _ _ _ _ _ _ _ _ _ step.serves) (serves_ends _ _ _ _ _ _ _ _ _ _ _ step.serves) trusted shown;
       };
 }
 

@@ -10,3 +10,4 @@ pub mod Pieces
 pub mod Handing
 pub mod Turns
 pub mod Foreseen
+pub mod Quiet

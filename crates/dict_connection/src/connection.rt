@@ -44,6 +44,7 @@ impl<T: Transport> Connection<T> {
     ghost use Rattle.dict_connection.specs.Foreseen.{AreToldOf, HoldsBack, HoldsBy};
     ghost use Rattle.dict_connection.specs.Opening.{IsUnopened};
     ghost use Rattle.dict_connection.specs.Pieces.{behind_piece};
+    ghost use Rattle.dict_connection.specs.Quiet.{StaysForReader};
     ghost use Rattle.dict_connection.specs.Telling.{KeepsEach, KeepsOthers};
     ghost use Rattle.dict_connection.specs.Turns.{Departs, Drains, Finishes, Hands, HandsOver, IsAtRest, IsOpened, LeadsByAnswer, LeadsByEnd, LeadsByPiece, ReadsOnce, SendsOnce, Turns, is_deferred, marked};
     ghost use Rattle.dict_connection.specs.Ordering.{IsOnly};
@@ -156,7 +157,7 @@ impl<T: Transport> Connection<T> {
         is_preparing: bool,
     ) -> bool
         ensures led { HasLedOn (K.is_trusted desk.new) (K.shows desk.old) (K.leaves_one_of desk.old) (K.shows desk.new) (K.leaves_one_of desk.new) hub.old hub.new
-            (λ events. Turns T.taken T.coming T.made is_preparing (IsRefused O.refuses hub.old) self.old self.new result events × AreCausedBy (condition K.has_failed K.is_closed desk.new) self.old self.new events) }
+            (λ events. Turns T.taken T.coming T.made is_preparing (IsRefused O.refuses hub.old) self.old self.new result events × AreCausedBy (condition K.has_failed K.is_closed desk.new) self.old self.new events × StaysForReader self.old.held.kind hub.old desk.old desk.new events) }
         ensures prepared { HoldsBack K.expects K.prepares hub.old desk.old desk.new self.old self.new }
         ensures trust { K.is_trusted desk.new → K.is_trusted desk.old }
         ensures closed { K.is_closed desk.old ≡ true → K.is_closed desk.new ≡ true }
@@ -235,7 +236,7 @@ impl<T: Transport> Connection<T> {
     ) -> Received
         requires { held_in self.old.held ≡ [] }
         ensures led { HasLedOn (K.is_trusted desk.new) (K.shows desk.old) (K.leaves_one_of desk.old) (K.shows desk.new) (K.leaves_one_of desk.new) hub.old hub.new
-            (λ events. ReadsOnce T.taken T.coming T.made (IsRefused O.refuses hub.old) self.old self.new result events × AreCausedBy (condition K.has_failed K.is_closed desk.new) self.old self.new events) }
+            (λ events. ReadsOnce T.taken T.coming T.made (IsRefused O.refuses hub.old) self.old self.new result events × AreCausedBy (condition K.has_failed K.is_closed desk.new) self.old self.new events × StaysForReader self.old.held.kind hub.old desk.old desk.new events) }
         ensures prepared { is_open self.new.stage ≡ true → is_held_back self.new.held ≡ true → HoldsBy K.expects K.prepares false hub.old desk.old desk.new self.old.id (held_in self.new.held) }
         ensures trust { K.is_trusted desk.new → K.is_trusted desk.old }
         ensures closed { K.is_closed desk.old ≡ true → K.is_closed desk.new ≡ true }
@@ -278,6 +279,7 @@ impl<T: Transport> Connection<T> {
         ensures leaves { (ms : List (Option Catalogue)) → K.leaves_one_of desk.old ms → K.leaves_one_of desk.new ms }
         ensures state { (state : State) → IsAt hub.old state → IsAt hub.new state }
         ensures kept { KeepsEach hub.old hub.new }
+        ensures reader { is_of_editor self.old.held.kind ≡ false → desk.new ≡ desk.old }
         ensures same { self.new ≡ record self.old { held = self.new.held } }
         ensures octets { held_in self.new.held ≡ held_in self.old.held }
         ensures kind { self.new.held.kind ≡ self.old.held.kind }
@@ -298,7 +300,7 @@ impl<T: Transport> Connection<T> {
         ensures led { HasLedOn (K.is_trusted desk.new) (K.shows desk.old) (K.leaves_one_of desk.old) (K.shows desk.new) (K.leaves_one_of desk.new) hub.old hub.new
             (λ events. HandsOver T.taken T.coming T.made (held_in self.old.held) self.old self.new events
             × LeadsByPiece (IsRefused O.refuses hub.old) (held_in self.old.held) self.old.held.turns_left self.old self.new events
-            × AreCausedBy (condition K.has_failed K.is_closed desk.new) self.old self.new events) }
+            × AreCausedBy (condition K.has_failed K.is_closed desk.new) self.old self.new events × StaysForReader self.old.held.kind hub.old desk.old desk.new events) }
         ensures kind { self.new.held.kind ≡ self.old.held.kind }
         ensures back { is_open self.new.stage ≡ true → is_held_back self.new.held ≡ true → (0 < self.old.held.turns_left) × (held_in self.new.held ≡ held_in self.old.held) × K.prepares desk.old (Ok true) desk.new }
         ensures trust { K.is_trusted desk.new → K.is_trusted desk.old }
@@ -320,6 +322,7 @@ impl<T: Transport> Connection<T> {
         ensures closed { K.is_closed desk.old ≡ true → K.is_closed desk.new ≡ true }
         ensures shows { K.is_trusted desk.new → (M : Catalogue) → K.shows desk.old M → K.shows desk.new M }
         ensures leaves { (ms : List (Option Catalogue)) → K.leaves_one_of desk.old ms → K.leaves_one_of desk.new ms }
+        ensures reader { is_of_editor self.old.held.kind ≡ false → desk.new ≡ desk.old }
         ensures same { self.new ≡ record self.old { held = self.new.held } }
         ensures octets { held_in self.new.held ≡ held_in self.old.held }
         ensures kind { self.new.held.kind ≡ self.old.held.kind }
@@ -354,7 +357,7 @@ impl<T: Transport> Connection<T> {
     fn hand<K: Keeper, O: Opening>(&mut self, opening: &O, hub: &mut Hub, desk: &mut K)
         ensures led { HasLedOn (K.is_trusted desk.new) (K.shows desk.old) (K.leaves_one_of desk.old) (K.shows desk.new) (K.leaves_one_of desk.new) hub.old hub.new
             (λ events. HandsOver T.taken T.coming T.made (held_in self.old.held) self.old self.new events × LeadsByAnswer (IsRefused O.refuses hub.old) (held_in self.old.held) self.old self.new events
-            × AreCausedBy (condition K.has_failed K.is_closed desk.new) self.old self.new events) }
+            × AreCausedBy (condition K.has_failed K.is_closed desk.new) self.old self.new events × StaysForReader self.old.held.kind hub.old desk.old desk.new events) }
         ensures kind { self.new.held.kind ≡ self.old.held.kind }
         ensures whole { is_open self.new.stage ≡ true → held_in self.new.held ≡ behind_piece self.old.held.kind (held_in self.old.held) }
         ensures trust { K.is_trusted desk.new → K.is_trusted desk.old }
@@ -384,6 +387,7 @@ impl<T: Transport> Connection<T> {
         ensures held { self.new.held ≡ self.old.held }
         ensures trust { K.is_trusted desk.new → K.is_trusted desk.old }
         ensures closed { K.is_closed desk.old ≡ true → K.is_closed desk.new ≡ true }
+        ensures unasked { desk.new ≡ desk.old }
         ensures others { KeepsOthers self.old.id hub.old hub.new }
         ensures id { self.new.id ≡ self.old.id }
     {
@@ -397,6 +401,7 @@ impl<T: Transport> Connection<T> {
             (λ events. Hands [] self.old self.new events × IsOnly (ended self.old.id) events × AreCausedBy (condition K.has_failed K.is_closed desk.new) self.old self.new events) }
         ensures trust { K.is_trusted desk.new → K.is_trusted desk.old }
         ensures closed { K.is_closed desk.old ≡ true → K.is_closed desk.new ≡ true }
+        ensures unasked { desk.new ≡ desk.old }
         ensures others { KeepsOthers self.old.id hub.old hub.new }
         ensures id { self.new.id ≡ self.old.id }
         ensures over { self.new.stage ≡ Stage.Over }

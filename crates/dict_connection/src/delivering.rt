@@ -5,6 +5,7 @@ ghost use Rattle.dict_hub.specs.Events.{asks_desk, came, happening, id_of};
 ghost use Rattle.dict_outlet.specs.Queues.{counts_of};
 ghost use Rattle.dict_connection.specs.Causes.{AreCaused};
 ghost use Rattle.dict_connection.specs.Leading.{HasLedOn};
+ghost use Rattle.dict_connection.specs.Quiet.{StaysIfQuiet};
 ghost use Rattle.dict_connection.specs.Telling.{IsTold, IsToldThrough, KeepsOthers, MayRefuse, answer_of};
 
 use crate::opening::Opening;
@@ -48,7 +49,7 @@ pub fn deliver_through<T: Transport, K: Keeper, O: Opening>(
 ) -> Result<Out, HubFault>
     ensures led { HasLedOn (K.is_trusted desk.new) (K.shows desk.old) (K.leaves_one_of desk.old) (K.shows desk.new) (K.leaves_one_of desk.new) hub.old hub.new
         (λ events. IsToldThrough T.taken T.coming T.made (came id piece.now) (answer_of result) queue.old queue.new transport.old transport.new events
-        × AreCaused (condition K.has_failed K.is_closed desk.new) queue.old queue.new events) }
+        × AreCaused (condition K.has_failed K.is_closed desk.new) queue.old queue.new events × StaysIfQuiet hub.old desk.old desk.new events) }
     ensures trust { K.is_trusted desk.new → K.is_trusted desk.old }
     ensures closed { K.is_closed desk.old ≡ true → K.is_closed desk.new ≡ true }
     ensures others { KeepsOthers id hub.old hub.new }
@@ -89,7 +90,7 @@ fn deliver_from<T: Transport, K: Keeper, O: Opening, B: Beginning>(
     requires counts { B.counts ≡ counts_of queue }
     ensures led { HasLedOn (K.is_trusted desk.new) (K.shows desk.old) (K.leaves_one_of desk.old) (K.shows desk.new) (K.leaves_one_of desk.new) hub.old hub.new
         (λ events. IsToldThrough T.taken T.coming T.made (came id piece.now) (answer_of result.0) queue result.1 transport result.2 events
-        × AreCaused (condition K.has_failed K.is_closed desk.new) queue result.1 events) }
+        × AreCaused (condition K.has_failed K.is_closed desk.new) queue result.1 events × StaysIfQuiet hub.old desk.old desk.new events) }
     ensures trust { K.is_trusted desk.new → K.is_trusted desk.old }
     ensures closed { K.is_closed desk.old ≡ true → K.is_closed desk.new ≡ true }
     ensures others { KeepsOthers id hub.old hub.new }

@@ -6,6 +6,7 @@ use Rattle.dict_outlet.specs.Outlets.{stream_through}
 use Rattle.dict_outlet.specs.Queues.{waiting}
 use Rattle.dict_connection.proofs.CauseLemmas.{caused_none, caused_one}
 use Rattle.dict_connection.proofs.LeadLemmas.{led_none}
+use Rattle.dict_connection.proofs.QuietLemmas.{quiet_one}
 use Rattle.dict_connection.proofs.StuckLemmas.{stuck_counted}
 use Rattle.dict_connection.proofs.TellLemmas.{led_accepted, told_through, told_through_none}
 use Rattle.dict_connection.proofs.delivering.deliver_from.Goals as goal
@@ -17,7 +18,7 @@ returns-in-Ok-clause-led g c =
     let what = came c.args.id c.args.piece.now in
     led_accepted (g.K.Lookup.is_trusted c.hand.new.desk) (g.K.Lookup.shows c.args.desk.now) (g.K.Lookup.shows c.hand.new.desk) (g.K.Lookup.leaves_one_of c.args.desk.now) (g.K.Lookup.leaves_one_of c.hand.new.desk)
     c.args.hub.now c.hand.new.hub what c.in-Ok.out (condition g.K.Lookup.has_failed g.K.Lookup.is_closed c.hand.new.desk) (stream_through n.taken n.queue) (stream_through s.taken s.queue) _
-    c.in-Ok.ensures.leads (λ one same answer put stood grows ends.
+    c.in-Ok.ensures.leads (λ one same answer put stood grows ends trusted shown.
     rw c.over.ensures.answer (rw c.over.ensures.queue (rw c.over.ensures.transport (
       told_through g.T.Transport.taken g.T.Transport.coming g.T.Transport.made g.B.Beginning.taken g.B.Beginning.coming g.B.Beginning.made what c.in-Ok.out c.args.queue s.queue
           c.args.transport s.transport s.taken (stream_through n.taken n.queue) one c.requires.taken c.requires.coming c.requires.made s.takes s.keeps s.makes s.lazy
@@ -26,6 +27,7 @@ returns-in-Ok-clause-led g c =
           (λ well. s.counts well ∙ ap (λ n. n.failures) c.requires.counts)),
       caused_one (condition g.K.Lookup.has_failed g.K.Lookup.is_closed c.hand.new.desk) (stream_through n.taken n.queue) (stream_through s.taken s.queue) c.args.queue s.queue one
           (ap (λ q. q.failures) c.new-outlet.ensures.queue) refl put stood,
+      quiet_one c.args.hub.now c.args.desk.now c.hand.new.desk what one same (c.hand.ensures.quiet trusted one.before.catalogue shown),
     ))))
 
 pub returns-in-Err-clause-led : goal.returns-in-Err-clause-led
@@ -37,4 +39,5 @@ returns-in-Err-clause-led g c =
       told_through_none g.T.Transport.taken g.T.Transport.coming g.T.Transport.made (came c.args.id c.args.piece.now) c.args.queue s.queue c.args.transport s.transport
           queue (ap (λ o. o.transport) c.in-Err.ensures.sink ∙ c.new-outlet.ensures.transport),
       caused_none _ c.args.queue s.queue queue,
+      λ quiet. refl,
     )))))

@@ -14,4 +14,5 @@ returns-clause-led g c =
       subst (λ q. IsToldThrough g.T.Transport.taken g.T.Transport.coming g.T.Transport.made (came c.args.id c.args.piece.now) (answer_of r.0) q r.1 c.args.transport.now r.2 events) c.take.ensures
           (subst (λ t. IsToldThrough g.T.Transport.taken g.T.Transport.coming g.T.Transport.made (came c.args.id c.args.piece.now) (answer_of r.0) c.take.result r.1 t r.2 events) c.replace-lent.ensures.value told.0),
       subst (λ q. AreCaused desk q r.1 events) c.take.ensures told.1,
+      told.2,
     ))

@@ -11,6 +11,7 @@ use Rattle.dict_connection.proofs.BackLemmas.{over_closed}
 use Rattle.dict_connection.proofs.CauseLemmas.{caused_by, caused_refused}
 use Rattle.dict_connection.proofs.LeadLemmas.{led_as, led_joined}
 use Rattle.dict_connection.proofs.PieceLemmas.{piece_dropped, piece_within}
+use Rattle.dict_connection.proofs.QuietLemmas.{quiet_none}
 use Rattle.dict_connection.proofs.TurnLemmas.{answered_open, hands_refused, hands_told, leads_answered}
 use Rattle.dict_connection.proofs.connection.Connection.hand.Goals as goal
 
@@ -31,6 +32,7 @@ returns-in-Ok-clause-led g c =
           (λ still. answered_open c.in-Ok.out old.stage (ap is_open (sym c.answered-self.ensures) ∙ still)) answer,
       leads_answered (IsRefused g.O.Opening.refuses c.args.hub.now) old new octets piece c.in-Ok.out events first rest c.answered-self.ensures answer.answered,
       caused_by (condition g.K.Lookup.has_failed g.K.Lookup.is_closed c.deliver_through.new.desk) old new events told.1,
+      λ reader. told.2,
     ))
 
 pub returns-in-Err-clause-led : goal.returns-in-Err-clause-led
@@ -44,8 +46,12 @@ returns-in-Err-clause-led g c =
     let none = subst (λ a. IsToldThrough g.T.Transport.taken g.T.Transport.coming g.T.Transport.made what (answer_of a) old.queue c.deliver_through.new.queue old.transport c.deliver_through.new.transport es) c.in-Err.is told.0 in
     let counted = subst (λ l. CountOn old.queue.failures c.deliver_through.new.queue.failures l) none.answered told.1.failures in
     let both = hands_refused (IsRefused g.O.Opening.refuses c.args.hub.now) g.T.Transport.taken g.T.Transport.coming g.T.Transport.made old _ _ (held_in old.held) what es fs refl refl refl counted c.end.ensures.over
-    none (ended.0, ended.1) why in
-    (both.0, both.1, caused_refused _ _ old _ _ es fs none.answered told.1 refl ended.2))
+    none (ended.0, ended.1) why in (
+      both.0,
+      both.1,
+      caused_refused _ _ old _ _ es fs none.answered told.1 refl ended.2,
+      λ reader quiet. c.end.ensures.unasked ∙ quiet_none c.args.hub.now c.args.desk.now c.deliver_through.new.desk es none.answered told.2,
+    ))
 
 pub returns-in-Err-clause-others : goal.returns-in-Err-clause-others
 returns-in-Err-clause-others g c = λ other held apart has. c.end.ensures.others other held apart (c.deliver_through.ensures.others other held apart has)

@@ -16,6 +16,7 @@ returns-then-prepare-clause-led g c =
       hands_none g.T.Transport.taken g.T.Transport.coming g.T.Transport.made old c.prepare.new.self (held_in old.held) kept.same kept.kind kept.octets,
       back_once (IsRefused g.O.Opening.refuses c.args.hub.now) old c.prepare.new.self kept.same kept.octets (kept.fewer c.if-prepare.true),
       caused_still _ old c.prepare.new.self (ap (λ it. it.queue.failures) kept.same),
+      λ reader quiet. kept.reader reader,
     )
 
 pub returns-clause-led : goal.returns-clause-led
@@ -33,6 +34,9 @@ returns-clause-led g c =
       caused_behind (stood c.hand.new.desk) (stood c.let_go.new.desk) old c.hand.new.self events
           (λ reader. ap stood (gone.reader (ap is_of_editor (c.hand.ensures.kind ∙ kept.kind) ∙ reader)))
           (caused_from (stood c.hand.new.desk) old c.prepare.new.self c.hand.new.self events (ap (λ it. it.queue.failures) kept.same) kept.kind handed.2),
+      λ reader quiet.
+          gone.reader (ap is_of_editor (c.hand.ensures.kind ∙ kept.kind) ∙ reader)
+          ∙ handed.3 (ap is_of_editor kept.kind ∙ reader) quiet ∙ kept.reader reader,
     )))
     (led_quiet gone.shows gone.leaves (λ state at. at) refl) gone.trust
 

@@ -9,6 +9,8 @@ use Rattle.dict_outlet.specs.declared.calls.Received.TheVariants as receiveds
 use Rattle.dict_outlet.proofs.CallLemmas.{makes_none}
 use Rattle.dict_connection.proofs.LeadLemmas.{led_as, led_still}
 use Rattle.dict_connection.proofs.HoldLemmas.{led_behind, led_quiet, reads_octets, refused_over}
+use Rattle.dict_hub.specs.Events.{is_of_editor}
+use Rattle.dict_connection.proofs.QuietLemmas.{quiet_kept}
 use Rattle.dict_connection.proofs.TurnLemmas.{reads_none, reads_still}
 use Rattle.dict_connection.proofs.connection.Connection.read.Goals as goal
 
@@ -18,6 +20,7 @@ returns-then-not-self-clause-led g c =
       reads_none g.T.Transport.taken g.T.Transport.coming g.T.Transport.made c.args.self.now c.args.self.now receiveds.Nothing refl refl refl refl c.requires (Keeps-refl _) (Consumes-nil _)
           (rw c.if-not-self.true (makes_none _)) (λ isnt. refl) ((refl, refl, refl), c.if-not-self.true),
       caused_still _ c.args.self.now c.args.self.now refl,
+      λ reader quiet. refl,
     )
 
 pub returns-in-Octets-clause-led : goal.returns-in-Octets-clause-led
@@ -30,6 +33,9 @@ returns-in-Octets-clause-led g c =
           (told.turns (omega (arith, c.fill.ensures.turns))) (refused_over g.O.Opening.refuses c.args.hub.now c.foresee.new.hub told.kept) c.receive-received.ensures.taken c.in-Octets.ensures.gives c.in-Octets.ensures.made (handed.0, handed.1),
       caused_from _ c.args.self.now c.foresee.new.self c.hand_prepared.new.self events (ap (λ it. it.queue.failures) told.same ∙ ap (λ it. it.queue.failures) c.receive-received.ensures.same)
           (told.kind ∙ c.fill.ensures.kind ∙ ap (λ it. it.held.kind) c.receive-received.ensures.same) handed.2,
+      λ reader quiet.
+          let before = ap is_of_editor (c.fill.ensures.kind ∙ ap (λ it. it.held.kind) c.receive-received.ensures.same) ∙ reader in
+          handed.3 (ap is_of_editor told.kind ∙ before) (quiet_kept c.args.hub.now c.foresee.new.hub told.kept events quiet) ∙ told.reader before,
     ))
 
 pub returns-in-End-clause-led : goal.returns-in-End-clause-led
@@ -40,6 +46,7 @@ returns-in-End-clause-led g c =
           (reads_still g.T.Transport.taken g.T.Transport.coming g.T.Transport.made c.args.self.now c.receive-received.new.self c.end_input.new.self receiveds.End events c.receive-received.ensures.same c.requires
           c.if-not-self.false c.receive-received.ensures.taken c.in-End.ensures.gives c.in-End.ensures.made handed.0 handed.1),
       caused_from _ c.args.self.now c.receive-received.new.self c.end_input.new.self events (ap (λ it. it.queue.failures) c.receive-received.ensures.same) (ap (λ it. it.held.kind) c.receive-received.ensures.same) handed.2,
+      λ reader quiet. c.end_input.ensures.unasked,
     ))
 
 pub returns-in-Failed-clause-led : goal.returns-in-Failed-clause-led
@@ -50,6 +57,7 @@ returns-in-Failed-clause-led g c =
           (reads_still g.T.Transport.taken g.T.Transport.coming g.T.Transport.made c.args.self.now c.receive-received.new.self c.end.new.self receiveds.Failed events c.receive-received.ensures.same c.requires
           c.if-not-self.false c.receive-received.ensures.taken c.in-Failed.ensures.gives c.in-Failed.ensures.made handed.0 (handed.1, c.end.ensures.over)),
       caused_from _ c.args.self.now c.receive-received.new.self c.end.new.self events (ap (λ it. it.queue.failures) c.receive-received.ensures.same) (ap (λ it. it.held.kind) c.receive-received.ensures.same) handed.2,
+      λ reader quiet. c.end.ensures.unasked,
     ))
 
 pub returns-in-Interrupted-clause-led : goal.returns-in-Interrupted-clause-led
@@ -62,6 +70,7 @@ returns-in-Interrupted-clause-led g c =
           (ap (λ it. it.queue) same) held c.requires c.receive-received.ensures.taken c.in-Interrupted.ensures.gives (rw c.if-not-self.false c.in-Interrupted.ensures.made)
           (λ isnt. absurd (let never : true ≡ false = sym c.if-not-self.false ∙ isnt in cc)) ((refl, ap (λ it. it.stage) same, ap (λ it. held_in it.held) same), ap (λ it. it.may_receive) same)),
       caused_still _ c.args.self.now c.receive-received.new.self (ap (λ it. it.queue.failures) same),
+      λ reader quiet. refl,
     )
 
 pub returns-in-Nothing-clause-led : goal.returns-in-Nothing-clause-led
@@ -74,6 +83,7 @@ returns-in-Nothing-clause-led g c =
           (ap (λ it. it.stage) same) (ap (λ it. it.queue) same) held c.requires c.receive-received.ensures.taken c.in-Nothing.ensures.gives (rw c.if-not-self.false c.in-Nothing.ensures.made)
           (λ isnt. refl) ((refl, ap (λ it. it.stage) same, ap (λ it. held_in it.held) same), refl)),
       caused_still _ c.args.self.now (record c.receive-received.new.self { may_receive = false }) (ap (λ it. it.queue.failures) same),
+      λ reader quiet. refl,
     )
 
 pub returns-in-Nothing-clause-idle : goal.returns-in-Nothing-clause-idle

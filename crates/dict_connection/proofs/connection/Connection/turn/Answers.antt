@@ -1,4 +1,5 @@
-use Rattle.std.proofs.Common.{◌∙◌, sym, ap}
+use Rattle.std.proofs.Common.{◌∙◌, sym, ap, refl}
+use Rattle.dict_hub.specs.Events.{is_of_editor}
 use Rattle.dict_connection.specs.Handing.{is_held_back}
 use Rattle.dict_connection.proofs.BackLemmas.{back_never, begins_to, holds_on, none_back, over_closed, was_back}
 use Rattle.dict_connection.proofs.CauseLemmas.{caused_from, caused_still}
@@ -15,6 +16,7 @@ returns-then-has_failed-clause-led g c =
       turns_failed g.T.Transport.taken g.T.Transport.coming g.T.Transport.made c.args.is_preparing c.args.self.now c.send-sent.new.self _ c.send-sent.result events
           (failed_is c.send-sent.result (sym c.has_failed.ensures ∙ c.if-has_failed.true)) c.send-sent.ensures c.end.ensures.over (ended.0, ended.1),
       caused_from _ c.args.self.now c.send-sent.new.self c.end.new.self events c.send-sent.ensures.failures (ap (λ h. h.kind) c.send-sent.ensures.held) ended.2,
+      λ reader quiet. c.end.ensures.unasked,
     ))
 
 pub returns-then-not-is_empty-clause-led : goal.returns-then-not-is_empty-clause-led
@@ -24,6 +26,7 @@ returns-then-not-is_empty-clause-led g c =
       turns_handed g.T.Transport.taken g.T.Transport.coming g.T.Transport.made c.args.is_preparing c.args.self.now c.send-sent.new.self _ c.send-sent.result events
           (well_isnt c.send-sent.result (sym c.has_failed.ensures ∙ c.if-has_failed.false)) (sym c.is_empty.ensures ∙ c.if-not-is_empty.true) c.send-sent.ensures (handed.0, handed.1),
       caused_from _ c.args.self.now c.send-sent.new.self c.hand_prepared.new.self events c.send-sent.ensures.failures (ap (λ h. h.kind) c.send-sent.ensures.held) handed.2,
+      λ reader. handed.3 (ap (λ h. is_of_editor h.kind) c.send-sent.ensures.held ∙ reader),
     ))
 
 pub returns-then-is_deferred-clause-led : goal.returns-then-is_deferred-clause-led
@@ -32,6 +35,7 @@ returns-then-is_deferred-clause-led g c =
       turns_deferred g.T.Transport.taken g.T.Transport.coming g.T.Transport.made c.args.is_preparing c.args.self.now c.send-sent.new.self c.send-sent.result
           (well_isnt c.send-sent.result (sym c.has_failed.ensures ∙ c.if-has_failed.false)) (sym c.is_empty.ensures ∙ c.if-not-is_empty.false) (sym c.is_deferred.ensures ∙ c.if-is_deferred.true) c.send-sent.ensures,
       caused_still _ c.args.self.now c.send-sent.new.self c.send-sent.ensures.failures,
+      λ reader quiet. refl,
     )
 
 pub read-received-requires : goal.read-received-requires
@@ -44,6 +48,7 @@ returns-clause-led g c =
       turns_read g.T.Transport.taken g.T.Transport.coming g.T.Transport.made c.args.is_preparing c.args.self.now c.send-sent.new.self _ c.send-sent.result c.read-received.result events
           (well_isnt c.send-sent.result (sym c.has_failed.ensures ∙ c.if-has_failed.false)) (sym c.is_empty.ensures ∙ c.if-not-is_empty.false) (sym c.is_deferred.ensures ∙ c.if-is_deferred.false) c.send-sent.ensures reads.0 c.has_moved.result c.has_moved.ensures,
       caused_from _ c.args.self.now c.send-sent.new.self c.read-received.new.self events c.send-sent.ensures.failures (ap (λ h. h.kind) c.send-sent.ensures.held) reads.1,
+      λ reader. reads.2 (ap (λ h. is_of_editor h.kind) c.send-sent.ensures.held ∙ reader),
     ))
 
 pub returns-clause-idle : goal.returns-clause-idle
