@@ -20,6 +20,7 @@ use Rattle.dict_connection.specs.Stages.{is_departing, is_held, is_open}
 use Rattle.dict_connection.specs.Events.{AreOf}
 use Rattle.dict_outlet.specs.Calls.{Call}
 use Rattle.dict_connection.specs.Ordering.{AreOfTurns}
+use Rattle.dict_connection.specs.Quiet.{StaysForReader}
 use Rattle.dict_driver.specs.Ordering.{ComeById}
 use Rattle.dict_hub.specs.declared.kind.Kind.{Kind}
 use Rattle.dict_session.specs.Desks.{Condition}
@@ -41,6 +42,7 @@ use Rattle.dict_outlet.specs.declared.transport.Transport.{Ghosts}
 use Rattle.dict_connection.proofs.EventLemmas.{put_joined, events_joined, own_all, own_none}
 use Rattle.dict_driver.proofs.BoolLemmas.{any_more, front_move, last_move, or_assoc, or_false}
 use Rattle.dict_connection.proofs.OrderLemmas.{turns_of_joined}
+use Rattle.dict_connection.proofs.QuietLemmas.{stays_over}
 use Rattle.dict_driver.proofs.OrderLemmas.{AreBelow, below_joined, by_id_joined}
 use Rattle.dict_driver.proofs.ListLemmas.{default_free, among_at, place_among, among_append, among_drop, among_filter, among_fitting, HaveSameIds, all_among, marked_among}
 
@@ -202,6 +204,7 @@ pub record TurnUpTo {K T : Type 0} (stands : K → Condition) (expects : K → C
   pub turns : (k : ℕ) (d : Connection T) → k < i → k < length old
       → Turns taken coming made (is_preparing old now k) (IsRefused refuses hub) (get_or old k d) (get_or now k d) (get_or moves k false) (events_of (get_or old k d).id events)
   pub caused : (k : ℕ) (d : Connection T) → k < i → k < length old → AreCausedBy (stands (get_or left k from)) (get_or old k d) (get_or now k d) (events_of (get_or old k d).id events)
+  pub stays : (k : ℕ) (d : Connection T) → k < i → k < length old → StaysForReader (get_or old k d).held.kind hub (get_or (from ∷ left) k from) (get_or left k from) (events_of (get_or old k d).id events)
   pub prepared : (k : ℕ) (d : Connection T) → k < i → k < length old → HoldsBack expects prepares hub (get_or (from ∷ left) k from) (get_or left k from) (get_or old k d) (get_or now k d)
   pub rest : (k : ℕ) (d : Connection T) → i ≤ k → k < length old → get_or now k d ≡ get_or old k d
   pub below : AreBelowFrom old i events
@@ -223,6 +226,7 @@ turn_none stands expects prepares taken coming made refuses hub from all prepari
   closed = λ k before. absurd (omega (arith, before));
   turns = λ k d before within. absurd (omega (arith, before));
   caused = λ k d before within. absurd (omega (arith, before));
+  stays = λ k d before within. absurd (omega (arith, before));
   prepared = λ k d before within. absurd (omega (arith, before));
   rest = λ k d from within. refl;
   below = λ k d from within. tt;
@@ -241,9 +245,9 @@ front_desk left to k d under = get_or_append_left left (to ∷ []) d k under
 -- one more connection had its turn
 pub turn_more : {K T : Type 0} (stands : K → Condition) (expects : K → Command Edition → K → Type 0) (prepares : K → Result Bool Fault → K → Type 0) (taken coming : T → Option (List ℕ)) (made : T → Option (List Call)) (refuses : Hub → ℕ → Kind → Option HubFault → Type 0) (hub between : Hub) (from mid to : K) (old now : List (Connection T)) (i : ℕ) (one after : Connection T) (preparing later before here both : Bool) (es fs : List Accepted)
     → AllPairs (λ a b. a.id < b.id) old → i < length old → get_or now i one ≡ one → later ≡ preparing || is_held_back after.held → both ≡ before || here → KeepsFrom old i hub between
-    → Turns taken coming made preparing (IsRefused refuses between) one after here fs → AreCausedBy (stands to) one after fs → HoldsBack expects prepares between mid to one after → ((stands mid).closed ≡ true → (stands to).closed ≡ true)
+    → Turns taken coming made preparing (IsRefused refuses between) one after here fs → AreCausedBy (stands to) one after fs → StaysForReader one.held.kind between mid to fs → HoldsBack expects prepares between mid to one after → ((stands mid).closed ≡ true → (stands to).closed ≡ true)
     → TurnUpTo stands expects prepares taken coming made refuses hub from mid old now i preparing before es → TurnUpTo stands expects prepares taken coming made refuses hub from to old (set now i after) (i + 1) later both (es ++ fs)
-turn_more {K} {T} stands expects prepares taken coming made refuses hub between from mid to old now i one after preparing later before here both es fs rising within is holds moved keeps over cause back shuts all =
+turn_more {K} {T} stands expects prepares taken coming made refuses hub between from mid to old now i one after preparing later before here both es fs rising within is holds moved keeps over cause same_desk back shuts all =
     let len = all.len in
     let count = all.count in
     let in_now : i < length now = omega arith in
@@ -253,6 +257,7 @@ turn_more {K} {T} stands expects prepares taken coming made refuses hub between 
     let turns : Turns taken coming made preparing (IsRefused refuses hub) one after here fs
     = turn_kept taken coming made preparing (IsRefused refuses between) (IsRefused refuses hub) one after here fs (λ (at, same, why). (at, (λ held has. same held (own held has)), why)) over in
     let backs : HoldsBack expects prepares hub mid to one after = holds_kept expects prepares between hub mid to one after own back in
+    let same_still = stays_over one.held.kind one.id hub between mid to fs turns.own own same_desk in
     let desks = all.desks in
     let left = all.left ++ to ∷ [] in
     let at_now : get_or left i from ≡ to = last_desk all.left i to from (sym desks) in
@@ -307,6 +312,22 @@ turn_more {K} {T} stands expects prepares taken coming made refuses hub between 
             = events_joined (get_or old k d).id es fs ∙ ap (λ l. events_of (get_or old k d).id es ++ l) (own_none one.id (get_or old k d).id fs turns.own apart) ∙ append-nil (events_of (get_or old k d).id es) in
             rw (get_or-set_other now i k after d other.1, events, front k earlier) (all.caused k d earlier below)
       ];
+      stays = λ k d under below. elim (eqb_tells k i) [
+        | inl same ↦
+            let at : get_or old k d ≡ one = ap (λ (j : ℕ). get_or old j d) same.1 ∙ was d in
+            let less : AreBelow one.id es = subst (λ it. AreBelow it.id es) (was d) (all.below i d (omega arith) within) in
+            let events : events_of one.id (es ++ fs) ≡ fs
+            = events_joined one.id es fs ∙ ap (λ l. l ++ events_of one.id fs) (below_none one.id es less) ∙ own_all one.id fs turns.own in
+            let before_it : get_or (from ∷ left) k from ≡ mid = ap (λ (j : ℕ). get_or (from ∷ left) j from) same.1 ∙ at_mid in
+            let behind_it : get_or left k from ≡ to = ap (λ (j : ℕ). get_or left j from) same.1 ∙ at_now in
+            rw (at, events, before_it, behind_it) same_still
+        | inr other ↦
+            let earlier : k < i = omega (arith, under, other.1) in
+            let apart : one.id ≢ (get_or old k d).id = λ same. (let lt = rising k i d earlier within in let e = own_id d in absurd (omega (arith, lt, e, same))) in
+            let events : events_of (get_or old k d).id (es ++ fs) ≡ events_of (get_or old k d).id es
+            = events_joined (get_or old k d).id es fs ∙ ap (λ l. events_of (get_or old k d).id es ++ l) (own_none one.id (get_or old k d).id fs turns.own apart) ∙ append-nil (events_of (get_or old k d).id es) in
+            rw (events, front k earlier, front_from k earlier) (all.stays k d earlier below)
+      ];
       prepared = λ k d under below. elim (eqb_tells k i) [
         | inl same ↦
             let at : get_or old k d ≡ one = ap (λ (j : ℕ). get_or old j d) same.1 ∙ was d in
@@ -342,6 +363,7 @@ turn_whole stands expects prepares taken coming made refuses hub from to old now
       last = all.last ∙ ap (λ (k : ℕ). get_or (from ∷ all.left) k from) at;
       closed = λ k within. all.closed k (omega (arith, within, at));
       caused = λ k d within. all.caused k d (omega (arith, within, at)) within;
+      stays = λ k d within. all.stays k d (omega (arith, within, at)) within;
       prepared = λ k d within. all.prepared k d (omega (arith, within, at)) within;
       no_other = all.no_other;
       are_turns = all.are_turns;

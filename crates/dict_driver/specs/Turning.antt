@@ -15,6 +15,7 @@ use Rattle.dict_connection.specs.Causes.{AreCausedBy, IsRefused}
 use Rattle.dict_connection.specs.Foreseen.{HoldsBack}
 use Rattle.dict_connection.specs.Handing.{is_held_back}
 use Rattle.dict_connection.specs.Ordering.{AreOfTurns}
+use Rattle.dict_connection.specs.Quiet.{StaysForReader}
 use Rattle.dict_driver.specs.Ordering.{ComeById}
 use Rattle.dict_connection.specs.Turns.{Departs, Turns, marked}
 use Rattle.dict_connection.specs.declared.connection.Connection.{Connection}
@@ -53,8 +54,9 @@ pub record DepartAll {T : Type 0} (taken coming : T → Option (List ℕ)) (made
 
 -- Each connection had its turn, by its own events, over what the hub had of it as they began, an editor's without a reading where what
 -- one sent is being prepared. The first was over this desk, each other over the one that the turn before it left, and the last left that
--- one; a closed desk stays closed. What failed, and why octets are held back, is told of the desks of its turn. Each event is of one of
--- these connections, in the order of their ids. Something happened where it did in one of the turns
+-- one; a closed desk stays closed. What failed, that a reader's turn for which nothing is looked up left the desk as it was, and why octets
+-- are held back, is told of the desks of its turn. Each event is of one of these connections, in the order of their ids. Something happened
+-- where it did in one of the turns
 pub record TurnAll {K T : Type 0} (stands : K → Condition) (expects : K → Command Edition → K → Type 0) (prepares : K → Result Bool Fault → K → Type 0) (taken coming : T → Option (List ℕ)) (made : T → Option (List Call)) (refuses : Hub → ℕ → Kind → Option HubFault → Type 0) (hub : Hub) (from to : K) (old new : List (Connection T)) (moved : Bool) (events : List Accepted) : Type 0 where
   pub len : length new ≡ length old
   pub moves : List Bool
@@ -67,6 +69,8 @@ pub record TurnAll {K T : Type 0} (stands : K → Condition) (expects : K → Co
       → Turns taken coming made (is_preparing old new k) (IsRefused refuses hub) (slice_index_or old k d) (slice_index_or new k d) (slice_index_or moves k false) (events_of (slice_index_or old k d).id events)
   pub caused : (k : ℕ) (d : Connection T) → k < length old
       → AreCausedBy (stands (slice_index_or left k from)) (slice_index_or old k d) (slice_index_or new k d) (events_of (slice_index_or old k d).id events)
+  pub stays : (k : ℕ) (d : Connection T) → k < length old
+      → StaysForReader (slice_index_or old k d).held.kind hub (slice_index_or (from ∷ left) k from) (slice_index_or left k from) (events_of (slice_index_or old k d).id events)
   pub prepared : (k : ℕ) (d : Connection T) → k < length old
       → HoldsBack expects prepares hub (slice_index_or (from ∷ left) k from) (slice_index_or left k from) (slice_index_or old k d) (slice_index_or new k d)
   pub has_moved : moved ≡ any moves

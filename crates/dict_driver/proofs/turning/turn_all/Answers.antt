@@ -51,7 +51,7 @@ loop-one-preserved g c =
             | then-turn w ↦ so_then _ c.loop-one.has_moved c.turn.result w.has_moved-is w.if-turn.true
             | else-turn w ↦ so_still _ c.loop-one.has_moved c.turn.result w.has_moved-is w.if-turn.false
           ])
-          c.loop-one.invariant.others turns.0 turns.1 c.turn.ensures.prepared c.turn.ensures.closed all);
+          c.loop-one.invariant.others turns.0 turns.1 turns.2 c.turn.ensures.prepared c.turn.ensures.closed all);
     }
 
 pub returns-clause-led : goal.returns-clause-led
