@@ -5,3 +5,5 @@
 mod checks;
 #[cfg(test)]
 mod filter;
+#[cfg(test)]
+mod made;

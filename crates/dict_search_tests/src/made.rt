@@ -1,0 +1,58 @@
+//! Headwords made by fixed arithmetic, a line for each.
+use std::alloc::{AllocError, Global};
+
+// Letters of six scripts, 24 each, with what keys fold or leave out among them: upper case, accents, points, a dash, blanks.
+static SCRIPTS: [&str; 6] = [
+    "etaoinsrhldcumfpgwEA 7-'",
+    "αβγδεζηθικλμνξοπρστΣάΩ ς",
+    "ابتثجحخدذرزسشصضطعغفقكل \u{64e}",
+    "कखगघचछजझटठडढतथदधनपबम ा\u{93f}\u{94d}",
+    "אבגדהוזחטיכלמנסעפצקרש \u{5b8}\u{5bc}",
+    "天地玄黃宇宙洪荒日月盈昃辰宿列張寒來暑往秋收冬 ",
+];
+
+fn following(state: u32) -> u32 {
+    state.wrapping_mul(1_664_525).wrapping_add(1_013_904_223)
+}
+
+// A headword of one to nine of the letters.
+fn add_headword(text: &mut String, letters: &str, from: u32) -> Result<u32, AllocError> {
+    let mut state = following(from);
+    let count = 1 + (state >> 16) % 9;
+    for _ in 0..count {
+        state = following(state);
+        if let Some(letter) = letters.chars().nth((state >> 16) as usize % 24) {
+            text.push(letter)?;
+        }
+    }
+    text.push('\n')?;
+    Ok(state)
+}
+
+// A headword of each script.
+fn add_round(text: &mut String, from: u32) -> Result<u32, AllocError> {
+    let mut state = from;
+    for letters in &SCRIPTS {
+        state = add_headword(text, letters, state)?;
+    }
+    Ok(state)
+}
+
+/// So many headwords of each script, by turns. Of more rounds the first headwords are the same.
+pub(crate) fn made_headwords(alloc: Global, rounds: u32) -> Result<String, AllocError> {
+    let mut text = String::new(alloc);
+    let mut state = 1;
+    for _ in 0..rounds {
+        state = add_round(&mut text, state)?;
+    }
+    Ok(text)
+}
+
+/// So many lines that are the same.
+pub(crate) fn repeated(alloc: Global, line: &str, count: u32) -> Result<String, AllocError> {
+    let mut text = String::new(alloc);
+    for _ in 0..count {
+        text.push_str(line)?;
+    }
+    Ok(text)
+}
