@@ -10,7 +10,7 @@ use Rattle.dict_rows.specs.Stands.{HoldsEdition, HoldsEditions, Stands}
 use Rattle.dict_derived.specs.AllTables.{as_version}
 
 edition_same : (new : ℕ) (t : Tables) (owner : List ℕ) (stored : Stored Edition) → HoldsEdition t owner stored → HoldsEdition (as_version new t) owner stored
-edition_same new t owner stored h = record { reading = h.reading; says = h.says; within = h.within; row = h.row; entries = h.entries }
+edition_same new t owner stored h = record { reading = h.reading; says = h.says; short = h.short; within = h.within; row = h.row; entries = h.entries }
 
 item_same : (new : ℕ) (t : Tables) (item : Item Edition) → HoldsEditions t item → HoldsEditions (as_version new t) item
 item_same new t item h = all_weaker (HoldsEdition t (name_of item)) (HoldsEdition (as_version new t) (name_of item)) (edition_same new t (name_of item)) (editions_of item) h

@@ -1,9 +1,7 @@
 -- A database holds one catalogue at most, and under one version.
-use Rattle.std.proofs.Common.{◌≡◌, ℕ, ℤ, pos, Bool, true, false, List, [], ◌∷◌, map, drop, codes, Option, Some, None, refl, sym, ap, subst, ◌∙◌, arith}
-use Rattle.std.specs.Prelude.{◌≤ℤ◌, bytes_eq, cond, filter, IsTrue}
+use Rattle.std.proofs.Common.{◌≡◌, ℕ, ℤ, pos, List, [], ◌∷◌, map, drop, codes, Option, Some, None, refl, sym, ap, subst, ◌∙◌, arith}
 use Rattle.std.specs.List.{AllByRecursion}
 use Rattle.std.specs.List.Sorted.{IsPermutation}
-use Rattle.std.proofs.lemmas.Bool.{false≢true}
 use Rattle.std.proofs.lemmas.List.Sorted.{IsPermutation-map, IsPermutation-sym, IsPermutation-trans}
 use Rattle.sqlite.specs.Effect.{Database, IsDatabase}
 use Rattle.sqlite.specs.Order.{Row}
@@ -13,28 +11,26 @@ use Rattle.sqlite.specs.declared.types.Value.TheVariants.{Int, Text, Blob}
 use Rattle.sqlite_trees.specs.Objects.{catalog_tree}
 use Rattle.sqlite_catalog.specs.Listing.{Lists}
 use Rattle.sqlite_catalog.proofs.ReadLemmas.{lists_once}
-use Rattle.dict_text.proofs.AllLemmas.{all_weaker, all_map, all_flat_map}
 use Rattle.dict_records.specs.Records as spec
 use Rattle.dict_sql.specs.Effects.{rows_of}
 use Rattle.dict_sql.specs.Encodings.{mark_row, item_row, member_row, edition_row, entry_row, kept_row, number_or_null, text_or_null}
-use Rattle.dict_index.specs.Edition.{Edition}
-use Rattle.dict_catalogue.specs.Items.{Stored, Item, name_of, members_of, editions_of, is_named, is_known, numbers_of, edition_numbers}
+use Rattle.dict_header_sql.specs.Records.{header_row}
+use Rattle.dict_part_sql.specs.Records.{part_row}
 use Rattle.dict_catalogue.specs.Steps.{Catalogue}
-use Rattle.dict_catalogue.proofs.ItemLemmas.{same_text, text_itself}
-use Rattle.dict_rows.specs.Versions.{Layout, Plain, Keyed, Shown, layout_of, known, IsVersion}
-use Rattle.dict_rows.specs.Tables.{Tables, same_number, members_of_owner, entries_of}
-use Rattle.dict_rows.specs.Written.{mark_record, item_record, member_record, entry_record}
-use Rattle.dict_rows.specs.Stands.{HoldsMembers, HoldsEdition, HoldsEditions, has_number, Stands}
-use Rattle.dict_rows.specs.Order.{InOrder, HaveSame, AreOrdered}
+use Rattle.dict_rows.specs.Versions.{Layout, Plain, Keyed, Shown, Parted, layout_of, known, IsVersion}
+use Rattle.dict_rows.specs.Tables.{Tables}
+use Rattle.dict_rows.specs.Written.{mark_record}
+use Rattle.dict_rows.specs.Order.{HaveSame}
 use Rattle.dict_rows.proofs.OnceLemmas.{catalogue_same}
-use Rattle.dict_rows.proofs.OrderLemmas.{Same, Below, same_from, one_once, numbered_rise, kept_rise, item_placed, ordered_stands}
-use Rattle.dict_rows.proofs.TakenLemmas.{same_number_is, same_itself}
-use Rattle.dict_derived.specs.Entries.{Filed, filed, plain}
-use Rattle.dict_derived.specs.AllTables.{with_derived}
-use Rattle.dict_holdings.specs.Readings.{KeepsAll, KeepsRows, AreShownIn, entries, filed_row}
-use Rattle.dict_holdings.proofs.ReadingLemmas.{map_twice}
+use Rattle.dict_rows.proofs.OrderLemmas.{Same, same_from, one_once, ordered_stands}
+use Rattle.dict_files.specs.AllTables.{with_derived}
+use Rattle.dict_files.specs.Files.{all_parts}
+use Rattle.dict_files.specs.Told.{HaveSameFiles}
+use Rattle.dict_files.proofs.RiseLemmas.{ordered}
+use Rattle.dict_files.proofs.TellLemmas.{told_once}
+use Rattle.dict_holdings.specs.Readings.{KeepsAll, AreShownIn, shown_row}
 use Rattle.dict_holdings.specs.Holds.{Holds, IsHeld, IsLeft, IsLeftAs}
-use Rattle.dict_holdings.proofs.ReadableLemmas.{any_holds}
+use Rattle.dict_holdings.proofs.ReadingLemmas.{map_twice}
 
 -- ---- records of rows
 
@@ -100,14 +96,30 @@ pub entry_back : (e : spec.Entry) → spec.ShowsHeadword e → decode_entry (ent
 unfolding decode_entry
 entry_back e shown = λ i. record { edition = e.edition; ord = e.ord; headword = e.headword; start = e.start; length = e.length; shown = sym shown i }
 
--- the entry of a row with what is derived of it
-unfoldable pub decode_filed : Row → spec.Entry
-decode_filed (Int edition ∷ Int ord ∷ Text headword ∷ Int start ∷ Int length ∷ Blob key ∷ Blob reversed ∷ Text shown ∷ []) = record { edition = edition; ord = ord; headword = headword; start = start; length = length; shown = shown }
-decode_filed _ = record { edition = pos 0; ord = pos 0; headword = []; start = pos 0; length = pos 0; shown = [] }
+-- the entry of a row with what is shown
+unfoldable pub decode_shown : Row → spec.Entry
+decode_shown (Int edition ∷ Int ord ∷ Text headword ∷ Int start ∷ Int length ∷ Text shown ∷ []) = record { edition = edition; ord = ord; headword = headword; start = start; length = length; shown = shown }
+decode_shown _ = record { edition = pos 0; ord = pos 0; headword = []; start = pos 0; length = pos 0; shown = [] }
 
-pub filed_back : (e : spec.Entry) → decode_filed (filed_row (filed e)) ≡ e
-unfolding decode_filed
-filed_back e = refl
+pub shown_back : (e : spec.Entry) → decode_shown (shown_row e) ≡ e
+unfolding decode_shown
+shown_back e = refl
+
+unfoldable pub decode_header : Row → spec.Header
+decode_header (Int number ∷ Text owner ∷ Text title ∷ Text info ∷ []) = record { number = number; owner = owner; title = title; info = info }
+decode_header _ = record { number = pos 0; owner = []; title = []; info = [] }
+
+pub header_back : (h : spec.Header) → decode_header (header_row h) ≡ h
+unfolding decode_header
+header_back h = refl
+
+unfoldable pub decode_part : Row → spec.Part
+decode_part (Int edition ∷ Int file ∷ Int number ∷ Blob octets ∷ []) = record { edition = edition; file = file; number = number; octets = octets }
+decode_part _ = record { edition = pos 0; file = pos 0; number = pos 0; octets = [] }
+
+pub part_back : (p : spec.Part) → decode_part (part_row p) ≡ p
+unfolding decode_part
+part_back p = refl
 
 pub kept_back : (k : spec.Kept) → decode_kept (kept_row k) ≡ k
 unfolding decode_kept
@@ -136,105 +148,36 @@ both encode decode undo xs ys rows a b =
     back [] = refl
     back (w ∷ ws) = λ i. undo w i ∷ back ws i
 
--- ---- lists that are in order group by group
-
-order_weaker : {X : Type 0} (R T : X → X → Type 0) → ((a b : X) → R a b → T a b) → (xs : List X) → InOrder R xs → InOrder T xs
-order_weaker R T then [] h = tt
-order_weaker R T then (x ∷ xs) h = (all_weaker (R x) (T x) (then x) xs h.0, order_weaker R T then xs h.1)
-
-order_tail : {X : Type 0} (R : X → X → Type 0) (x : X) (xs : List X) (b : Bool) → InOrder R (cond b (x ∷ xs) xs) → InOrder R xs
-order_tail R x xs true h = h.1
-order_tail R x xs false h = h
-
-passed_step : {X : Type 0} (test : X → Bool) (P : X → Type 0) (x : X) (xs : List X) (b : Bool) → test x ≡ b → (AllByRecursion P (filter test xs) → AllByRecursion (λ y. test y ≡ true → P y) xs)
-    → AllByRecursion P (cond b (x ∷ filter test xs) (filter test xs)) → (test x ≡ true → P x) × AllByRecursion (λ y. test y ≡ true → P y) xs
-passed_step test P x xs true e rest h = ((λ passes. h.0), rest h.1)
-passed_step test P x xs false e rest h = ((λ passes. absurd (false≢true (sym e ∙ passes))), rest h)
-
--- what holds of those that pass a test
-of_passed : {X : Type 0} (test : X → Bool) (P : X → Type 0) (xs : List X) → AllByRecursion P (filter test xs) → AllByRecursion (λ y. test y ≡ true → P y) xs
-of_passed test P [] h = tt
-of_passed test P (x ∷ xs) h = passed_step test P x xs (test x) refl (of_passed test P xs) h
-
--- each element's group is in order, so two of one group are
-grouped : {X : Type 0} (near : X → X → Bool) (E R : X → X → Type 0) → ((a b : X) → E a b → near a b ≡ true) → ((a : X) → near a a ≡ true) → (xs : List X) → AllByRecursion (λ x. InOrder R (filter (near x) xs)) xs → InOrder (λ a b. E a b → R a b) xs
-grouped near E R joined itself [] h = tt
-grouped near E R joined itself (x ∷ xs) h =
-    let first : InOrder R (x ∷ filter (near x) xs) = subst (λ b. InOrder R (cond b (x ∷ filter (near x) xs) (filter (near x) xs))) (itself x) h.0 in (
-      all_weaker (λ y. near x y ≡ true → R x y) (λ y. E x y → R x y) (λ y from e. from (joined x y e)) xs (of_passed (near x) (R x) xs first.0),
-      grouped near E R joined itself xs (all_weaker (λ y. InOrder R (filter (near y) (x ∷ xs))) (λ y. InOrder R (filter (near y) xs)) (λ y up. order_tail R x (filter (near y) xs) (near y x) up) xs h.1),
-    )
-
--- ---- tables that stand for a catalogue are in order
-
-members_rise : (members : List spec.Member) (item : Item Edition) → HoldsMembers members item → InOrder (λ (a b : spec.Member). a.ord ≤ℤ b.ord) (members_of_owner (name_of item) members)
-members_rise members item held =
-    subst (InOrder (λ (a b : spec.Member). a.ord ≤ℤ b.ord)) (sym held)
-    (order_weaker (λ (a b : spec.Member). Below a.ord b.ord) (λ (a b : spec.Member). a.ord ≤ℤ b.ord) (λ a b below. below.0) _ (numbered_rise (member_record (name_of item)) (λ (row : spec.Member). row.ord) (λ n x. refl) 0 (members_of item)))
-
-owner_rises : (members : List spec.Member) (items : List (Item Edition)) (owner : List ℕ) → AllByRecursion (HoldsMembers members) items → IsTrue (is_known items owner) → InOrder (λ (a b : spec.Member). a.ord ≤ℤ b.ord) (members_of_owner owner members)
-owner_rises members items owner held known =
-    any_holds (is_named owner) (HoldsMembers members) (InOrder (λ (a b : spec.Member). a.ord ≤ℤ b.ord) (members_of_owner owner members))
-    (λ item named h. subst (λ name. InOrder (λ (a b : spec.Member). a.ord ≤ℤ b.ord) (members_of_owner name members)) (same_text (name_of item) owner named) (members_rise members item h)) items known held
-
-entries_rise : (tables : Tables) (owner : List ℕ) (stored : Stored Edition) → HoldsEdition tables owner stored → InOrder (λ (a b : spec.Entry). a.ord ≤ℤ b.ord) (entries_of (pos stored.number) tables.entries)
-entries_rise tables owner stored h =
-    subst (InOrder (λ (a b : spec.Entry). a.ord ≤ℤ b.ord)) (sym h.entries)
-    (order_weaker (λ (a b : spec.Entry). Below a.ord b.ord) (λ (a b : spec.Entry). a.ord ≤ℤ b.ord) (λ a b below. below.0) _ (numbered_rise (entry_record stored.number) (λ (row : spec.Entry). row.ord) (λ n x. refl) 0 h.reading.lines))
-
-item_entries : (tables : Tables) (item : Item Edition) → HoldsEditions tables item → AllByRecursion (λ number. InOrder (λ (a b : spec.Entry). a.ord ≤ℤ b.ord) (entries_of (pos number) tables.entries)) (numbers_of item)
-item_entries tables item h =
-    all_map (HoldsEdition tables (name_of item)) (λ number. InOrder (λ (a b : spec.Entry). a.ord ≤ℤ b.ord) (entries_of (pos number) tables.entries)) (λ (stored : Stored Edition). stored.number) (entries_rise tables (name_of item)) (editions_of item) h
-
-number_rises : (tables : Tables) (items : List (Item Edition)) (number : ℤ) → AllByRecursion (HoldsEditions tables) items → IsTrue (has_number items number) → InOrder (λ (a b : spec.Entry). a.ord ≤ℤ b.ord) (entries_of number tables.entries)
-number_rises tables items number held known =
-    any_holds (λ (one : ℕ). same_number (pos one) number) (λ (one : ℕ). InOrder (λ (a b : spec.Entry). a.ord ≤ℤ b.ord) (entries_of (pos one) tables.entries)) (InOrder (λ (a b : spec.Entry). a.ord ≤ℤ b.ord) (entries_of number tables.entries))
-    (λ one same up. subst (λ n. InOrder (λ (a b : spec.Entry). a.ord ≤ℤ b.ord) (entries_of n tables.entries)) (same_number_is (pos one) number same) up) (edition_numbers items) known
-    (all_flat_map (λ one. InOrder (λ (a b : spec.Entry). a.ord ≤ℤ b.ord) (entries_of (pos one) tables.entries)) numbers_of items
-    (all_weaker (HoldsEditions tables) (λ item. AllByRecursion (λ one. InOrder (λ (a b : spec.Entry). a.ord ≤ℤ b.ord) (entries_of (pos one) tables.entries)) (numbers_of item)) (item_entries tables) items held))
-
-pub ordered : (version : ℕ) (tables : Tables) (M : Catalogue) → Stands version tables M → AreOrdered tables
-ordered version tables M s = record {
-  items = subst (InOrder (λ (a b : spec.Item). a.place ≤ℤ b.place)) (sym s.items)
-      (order_weaker (λ (a b : spec.Item). Below a.place b.place) (λ (a b : spec.Item). a.place ≤ℤ b.place) (λ a b below. below.0) _ (numbered_rise item_record (λ (row : spec.Item). row.place) item_placed 0 M.items));
-  members = grouped (λ (a b : spec.Member). bytes_eq b.owner a.owner) (λ (a b : spec.Member). a.owner ≡ b.owner) (λ (a b : spec.Member). a.ord ≤ℤ b.ord)
-      (λ a b same. subst (λ owner. bytes_eq owner a.owner ≡ true) same (text_itself a.owner)) (λ a. text_itself a.owner) tables.members
-      (all_weaker (λ (row : spec.Member). IsTrue (is_known M.items row.owner)) (λ row. InOrder (λ (a b : spec.Member). a.ord ≤ℤ b.ord) (members_of_owner row.owner tables.members)) (λ row known. owner_rises tables.members M.items row.owner s.members known) tables.members s.owners);
-  entries = grouped (λ (a b : spec.Entry). same_number b.edition a.edition) (λ (a b : spec.Entry). a.edition ≡ b.edition) (λ (a b : spec.Entry). a.ord ≤ℤ b.ord)
-      (λ a b same. subst (λ number. same_number number a.edition ≡ true) same (same_itself a.edition)) (λ a. same_itself a.edition) tables.entries
-      (all_weaker (λ (row : spec.Entry). IsTrue (has_number M.items row.edition)) (λ row. InOrder (λ (a b : spec.Entry). a.ord ≤ℤ b.ord) (entries_of row.edition tables.entries)) (λ row known. number_rises tables M.items row.edition s.editions known) tables.entries s.entries);
-  kept = subst (InOrder (λ (a b : spec.Kept). a.number ≤ℤ b.number)) (sym s.kept)
-      (order_weaker (λ (a b : spec.Kept). Below a.number b.number) (λ (a b : spec.Kept). a.number ≤ℤ b.number) (λ a b below. below.0) _ (kept_rise 1 M.kept s.well_formed.numbered));
-}
-
-filed_rows : (encode : Filed → Row) (xs : List spec.Entry) → map encode (map filed xs) ≡ map (λ e. encode (filed e)) xs
-filed_rows encode xs = map_twice filed encode xs
+-- ---- the same records
 
 module _ (db : Database) (T U : Tables) where
   -- entries whose headwords are shown, by rows without what is shown
   old_kept : (rows : List Row) → AllByRecursion spec.ShowsHeadword T.entries → AllByRecursion spec.ShowsHeadword U.entries
-      → IsPermutation (map (λ f. entry_row (plain f)) (map filed T.entries)) rows → IsPermutation (map (λ f. entry_row (plain f)) (map filed U.entries)) rows → IsPermutation T.entries U.entries
-  old_kept rows t u a b =
-      both_where spec.ShowsHeadword entry_row decode_entry entry_back T.entries U.entries rows t u
-      (subst (λ l. IsPermutation l rows) (filed_rows (λ f. entry_row (plain f)) T.entries) a) (subst (λ l. IsPermutation l rows) (filed_rows (λ f. entry_row (plain f)) U.entries) b)
+      → IsPermutation (map entry_row T.entries) rows → IsPermutation (map entry_row U.entries) rows → IsPermutation T.entries U.entries
+  old_kept rows t u a b = both_where spec.ShowsHeadword entry_row decode_entry entry_back T.entries U.entries rows t u a b
 
-  entries_kept : (layout : Layout) → AreShownIn layout T.entries → AreShownIn layout U.entries → KeepsRows (entries layout) db (with_derived T) → KeepsRows (entries layout) db (with_derived U) → IsPermutation T.entries U.entries
-  entries_kept Plain t u a b = old_kept _ t u a.rows b.rows
-  entries_kept Keyed t u a b = old_kept _ t u a.rows b.rows
-  entries_kept Shown t u a b =
-      let rows = map (λ row. drop 1 row) (rows_of (codes "entry") db) in
-      both (λ e. filed_row (filed e)) decode_filed filed_back T.entries U.entries rows
-      (subst (λ l. IsPermutation l rows) (filed_rows filed_row T.entries) a.rows) (subst (λ l. IsPermutation l rows) (filed_rows filed_row U.entries) b.rows)
+  -- the records of a layout in which these are those of editions and entries
+  same_kept : (layout : Layout) → IsPermutation T.editions U.editions → IsPermutation T.entries U.entries → KeepsAll layout db (with_derived T) → KeepsAll layout db (with_derived U) → HaveSame T U
+  same_kept layout editions entries a b = record {
+    marks = both mark_row decode_mark mark_back T.marks U.marks _ a.0.rows b.0.rows;
+    items = both item_row decode_item item_back T.items U.items _ a.1.0.rows b.1.0.rows;
+    members = both member_row decode_member member_back T.members U.members _ a.1.1.0.rows b.1.1.0.rows;
+    editions = editions;
+    entries = entries;
+    kept = both kept_row decode_kept kept_back T.kept U.kept _ a.1.1.1.0.rows b.1.1.1.0.rows;
+  }
 
-same_kept : (layout : Layout) (db : Database) (T U : Tables) → AreShownIn layout T.entries → AreShownIn layout U.entries → KeepsAll layout db (with_derived T) → KeepsAll layout db (with_derived U) → HaveSame T U
-same_kept layout db T U t u a b = record {
-  marks = both mark_row decode_mark mark_back T.marks U.marks _ a.0.rows b.0.rows;
-  items = both item_row decode_item item_back T.items U.items _ a.1.0.rows b.1.0.rows;
-  members = both member_row decode_member member_back T.members U.members _ a.1.1.0.rows b.1.1.0.rows;
-  editions = both edition_row decode_edition edition_back T.editions U.editions _ a.1.1.1.0.rows b.1.1.1.0.rows;
-  entries = entries_kept db T U layout t u a.1.1.1.1.0 b.1.1.1.1.0;
-  kept = both kept_row decode_kept kept_back T.kept U.kept _ a.1.1.1.1.1.0.rows b.1.1.1.1.1.0.rows;
-}
+  same_files : KeepsAll Parted db (with_derived T) → KeepsAll Parted db (with_derived U) → HaveSameFiles T U
+  same_files a b = record {
+    marks = both mark_row decode_mark mark_back T.marks U.marks _ a.0.rows b.0.rows;
+    items = both item_row decode_item item_back T.items U.items _ a.1.0.rows b.1.0.rows;
+    members = both member_row decode_member member_back T.members U.members _ a.1.1.0.rows b.1.1.0.rows;
+    headers = (let rows = map (λ row. drop 1 row) (rows_of (codes "edition") db) in
+        both header_row decode_header header_back (map spec.header_of T.editions) (map spec.header_of U.editions) rows
+        (subst (λ l. IsPermutation l rows) (sym (map_twice spec.header_of header_row T.editions)) a.1.1.1.1.0.rows) (subst (λ l. IsPermutation l rows) (sym (map_twice spec.header_of header_row U.editions)) b.1.1.1.1.0.rows));
+    parts = both part_row decode_part part_back (all_parts T) (all_parts U) _ a.1.1.1.1.1.0.rows b.1.1.1.1.1.0.rows;
+    kept = both kept_row decode_kept kept_back T.kept U.kept _ a.1.1.1.0.rows b.1.1.1.0.rows;
+  }
 
 -- ---- one version
 
@@ -253,8 +196,25 @@ one_version db v w M N a b =
 -- ---- one catalogue
 
 pub same_version : (version : ℕ) (db : Database) (M N : Catalogue) → Holds version db M → Holds version db N → M ≡ N
-same_version version db M N a b =
-    catalogue_same version b.tables M N (ordered_stands version a.tables b.tables M (same_kept (layout_of version) db a.tables b.tables a.shown b.shown a.keeps b.keeps) (ordered version b.tables N b.stands) a.stands) b.stands
+same_version version db M N a b = by (layout_of version) a.shown b.shown a.keeps b.keeps
+  where
+    T : Tables
+    T = a.tables
+
+    U : Tables
+    U = b.tables
+
+    told : HaveSame T U → M ≡ N
+    told same = catalogue_same version U M N (ordered_stands version T U M same (ordered version U N b.stands) a.stands) b.stands
+
+    editions : (rows : List Row) → IsPermutation (map edition_row T.editions) rows → IsPermutation (map edition_row U.editions) rows → IsPermutation T.editions U.editions
+    editions rows x y = both edition_row decode_edition edition_back T.editions U.editions rows x y
+
+    by : (layout : Layout) → AreShownIn layout T.entries → AreShownIn layout U.entries → KeepsAll layout db (with_derived T) → KeepsAll layout db (with_derived U) → M ≡ N
+    by Plain t u x y = told (same_kept db T U Plain (editions _ x.1.1.1.1.0.rows y.1.1.1.1.0.rows) (old_kept db T U _ t u x.1.1.1.1.1.0.rows y.1.1.1.1.1.0.rows) x y)
+    by Keyed t u x y = told (same_kept db T U Keyed (editions _ x.1.1.1.1.0.rows y.1.1.1.1.0.rows) (old_kept db T U _ t u x.1.1.1.1.1.0.rows y.1.1.1.1.1.0.rows) x y)
+    by Shown t u x y = told (same_kept db T U Shown (editions _ x.1.1.1.1.0.rows y.1.1.1.1.0.rows) (both shown_row decode_shown shown_back T.entries U.entries _ x.1.1.1.1.1.0.rows y.1.1.1.1.1.0.rows) x y)
+    by Parted t u x y = told_once version T U M N (same_files db T U x y) a.stands b.stands
 
 pub one_catalogue : (db : Database) (v w : ℕ) (M N : Catalogue) → Holds v db M → Holds w db N → M ≡ N
 one_catalogue db v w M N a b = same_version v db M N a (subst (λ version. Holds version db N) (sym (one_version db v w M N a b)) b)

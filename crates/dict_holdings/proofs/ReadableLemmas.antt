@@ -33,12 +33,13 @@ use Rattle.dict_rows.proofs.OrderLemmas.{IsIn, in_all, all_same, all_with, passe
 use Rattle.dict_rows.proofs.TakenLemmas.{same_number_is, same_itself}
 use Rattle.dict_holdings.specs.Holds.{Holds}
 use Rattle.dict_holdings.specs.Readings as looks
-use Rattle.dict_holdings.specs.Readings.{Reading, KeepsRows, KeepsAll, IsReadable, HasReadableRows, derived_readings, filed_row}
-use Rattle.dict_rows.specs.Versions.{Layout, Plain, Keyed, Shown, layout_of}
-use Rattle.dict_records.specs.Keyed.{Piece}
-use Rattle.dict_sql.specs.Keyed.{piece_row, keyed_entry_cells}
-use Rattle.dict_derived.specs.Entries.{Filed, filed, plain}
-use Rattle.dict_derived.specs.AllTables.{AllTables, with_derived}
+use Rattle.dict_holdings.specs.Readings.{Reading, KeepsRows, KeepsAll, IsReadable, HasReadableRows}
+use Rattle.dict_rows.specs.Versions.{Layout, Plain, Keyed, Shown, Parted, layout_of}
+use Rattle.dict_header_sql.specs.Records.{header_row}
+use Rattle.dict_part_sql.specs.Records.{part_row}
+use Rattle.dict_files.specs.AllTables.{AllTables, with_derived}
+use Rattle.dict_files.specs.Files.{all_parts}
+use Rattle.dict_files.proofs.RiseLemmas.{any_holds}
 
 -- ---- texts of ASCII
 
@@ -99,10 +100,6 @@ item_name (virtual name title members) h = name_utf8 name h.0
 
 -- ---- lists
 
-or_second : (a b : Bool) → (a || b) ≡ true → a ≡ false → b ≡ true
-or_second true b e f = absurd (false≢true (sym f))
-or_second false b e f = e
-
 all_of_map : {X Y : Type 0} (f : X → Y) (P : Y → Type 0) (Q : X → Type 0) → ((x : X) → P (f x) → Q x) → (xs : List X) → AllByRecursion P (map f xs) → AllByRecursion Q xs
 all_of_map f P Q w [] h = tt
 all_of_map f P Q w (x ∷ xs) h = (w x h.0, all_of_map f P Q w xs h.1)
@@ -114,15 +111,6 @@ none_pass test (x ∷ xs) h = by_test (test x) h.0 (none_pass test xs h.1)
     by_test : (b : Bool) → b ≡ false → filter test xs ≡ [] → cond b (x ∷ filter test xs) (filter test xs) ≡ []
     by_test true e rest = absurd (false≢true (sym e))
     by_test false e rest = rest
-
--- one that passes the test, with what holds of all
-pub any_holds : {X : Type 0} (test : X → Bool) (P : X → Type 0) (C : Type 0) → ((x : X) → test x ≡ true → P x → C) → (xs : List X) → list_any test xs ≡ true → AllByRecursion P xs → C
-any_holds test P C then [] e h = absurd (false≢true e)
-any_holds test P C then (x ∷ xs) e h = split (test x) refl (λ k. any_holds test P C then xs (or_second (test x) (list_any test xs) e k) h.1)
-  where
-    split : (b : Bool) → test x ≡ b → (test x ≡ false → C) → C
-    split true k rest = then x k h.0
-    split false k rest = rest k
 
 all_numbered : {X Y : Type 0} (f : ℕ → X → Y) (P : X → Type 0) (Q : Y → Type 0) → ((n : ℕ) (x : X) → P x → Q (f n x)) → (n : ℕ) (xs : List X) → AllByRecursion P xs → AllByRecursion Q (numbered f n xs)
 all_numbered f P Q then n [] h = tt
@@ -159,6 +147,15 @@ edition_values = Number ∷ Name ∷ Name ∷ Name ∷ Octets ∷ []
 
 abbrev entry_values : List Content
 entry_values = Number ∷ Number ∷ Name ∷ Number ∷ Number ∷ []
+
+abbrev shown_values : List Content
+shown_values = Number ∷ Number ∷ Name ∷ Number ∷ Number ∷ Name ∷ []
+
+abbrev header_values : List Content
+header_values = Number ∷ Name ∷ Name ∷ Name ∷ []
+
+abbrev part_values : List Content
+part_values = Number ∷ Number ∷ Number ∷ Octets ∷ []
 
 abbrev kept_values : List Content
 kept_values = Name ∷ Number ∷ Name ∷ Name ∷ NumberOrNull ∷ []
@@ -323,30 +320,40 @@ first_six : (row : Row) → column (take 6 row) 0 ≡ column row 0
 first_six [] = refl
 first_six (v ∷ row) = refl
 
-filed_cells : (e : spec.Entry) → EntryRow e → HasColumns keyed_entry_cells (filed_row (filed e))
-filed_cells e h = (h.0.0, (h.0.1.0, (h.0.1.1.0, (h.0.1.1.1.0, (h.0.1.1.1.1.0, (((filed e).key, refl), (((filed e).reversed, refl), ((e.shown, refl, h.1), tt))))))))
+first_of_six : (row : Row) → column (looks.without_keys row) 0 ≡ column row 0
+first_of_six [] = refl
+first_of_six (v ∷ row) = refl
 
-each_filed : (encode : Filed → Row) (columns : List Content) → ((e : spec.Entry) → EntryRow e → HasColumns columns (encode (filed e))) → (es : List spec.Entry) → AllByRecursion EntryRow es → AllByRecursion (HasColumns columns) (map encode (map filed es))
-each_filed encode columns so [] h = tt
-each_filed encode columns so (e ∷ es) h = (so e h.0, each_filed encode columns so es h.1)
+-- the columns of an entry, with what is shown behind them
+shown_cells : (e : spec.Entry) → EntryRow e → HasColumns shown_values (looks.shown_row e)
+shown_cells e h = (h.0.0, (h.0.1.0, (h.0.1.1.0, (h.0.1.1.1.0, (h.0.1.1.1.1.0, ((e.shown, refl, h.1), tt))))))
 
-each_piece : (ps : List Piece) → AllByRecursion (HasColumns (Number ∷ Octets ∷ Number ∷ [])) (map piece_row ps)
-each_piece [] = tt
-each_piece (p ∷ ps) = (((p.edition, refl), ((p.piece, refl), ((p.ord, refl), tt))), each_piece ps)
+header_cells : (e : spec.Edition) → EditionRow e → HasColumns header_values (header_row (spec.header_of e))
+header_cells e h = (h.0, (h.1.0, (h.1.1.0, (h.1.1.1.0, tt))))
+
+each_record : {W : Type 0} (P : W → Type 0) (encode : W → Row) (columns : List Content) → ((w : W) → P w → HasColumns columns (encode w)) → (ws : List W) → AllByRecursion P ws → AllByRecursion (HasColumns columns) (map encode ws)
+each_record P encode columns so ws h = all_map P (HasColumns columns) encode so ws h
+
+each_part : (ps : List spec.Part) → AllByRecursion (HasColumns part_values) (map part_row ps)
+each_part [] = tt
+each_part (p ∷ ps) = (((p.edition, refl), ((p.file, refl), ((p.number, refl), ((p.octets, refl), tt)))), each_part ps)
 
 module _ (version : ℕ) (db : Database) (tables : Tables) (M : Catalogue) (s : Stands version tables M) where
-  entries_readable : (layout : Layout) → KeepsRows (looks.entries layout) db (with_derived tables) → IsReadable (looks.entries layout) db
-  entries_readable Plain k = kept_readable (looks.entries Plain) entry_values refl (λ row. refl) db (with_derived tables) k (each_filed (λ f. entry_row (plain f)) entry_values (λ e h. h.0) tables.entries (entry_rows version tables M s))
-  entries_readable Keyed k = kept_readable (looks.entries Keyed) entry_values refl first_six db (with_derived tables) k (each_filed (λ f. entry_row (plain f)) entry_values (λ e h. h.0) tables.entries (entry_rows version tables M s))
-  entries_readable Shown k = kept_readable (looks.entries Shown) keyed_entry_cells refl (λ row. refl) db (with_derived tables) k (each_filed filed_row keyed_entry_cells filed_cells tables.entries (entry_rows version tables M s))
+  whole_readable : KeepsRows looks.whole_editions db (with_derived tables) → IsReadable looks.whole_editions db
+  whole_readable k = kept_readable looks.whole_editions edition_values refl (λ row. refl) db (with_derived tables) k (written_all edition_row edition_values tables.editions (edition_rows version tables M s))
 
-  derived_readable : (layout : Layout) → AllByRecursion (λ r. KeepsRows r db (with_derived tables)) (derived_readings layout) → AllByRecursion (λ r. IsReadable r db) (derived_readings layout)
-  derived_readable Plain k = tt
-  derived_readable Keyed k = tt
-  derived_readable Shown k = (
-    kept_readable looks.words (Number ∷ Octets ∷ Number ∷ []) refl (λ row. refl) db (with_derived tables) k.0 (each_piece (with_derived tables).words),
-    (kept_readable looks.grams (Number ∷ Octets ∷ Number ∷ []) refl (λ row. refl) db (with_derived tables) k.1.0 (each_piece (with_derived tables).grams), tt),
-  )
+  editions_readable : (layout : Layout) → KeepsRows (looks.editions layout) db (with_derived tables) → IsReadable (looks.editions layout) db
+  editions_readable Plain k = whole_readable k
+  editions_readable Keyed k = whole_readable k
+  editions_readable Shown k = whole_readable k
+  editions_readable Parted k =
+      kept_readable (looks.editions Parted) header_values refl (λ row. refl) db (with_derived tables) k (each_record EditionRow (λ e. header_row (spec.header_of e)) header_values header_cells tables.editions (edition_rows version tables M s))
+
+  contents_readable : (layout : Layout) → KeepsRows (looks.contents layout) db (with_derived tables) → IsReadable (looks.contents layout) db
+  contents_readable Plain k = kept_readable (looks.contents Plain) entry_values refl (λ row. refl) db (with_derived tables) k (each_record EntryRow entry_row entry_values (λ e h. h.0) tables.entries (entry_rows version tables M s))
+  contents_readable Keyed k = kept_readable (looks.contents Keyed) entry_values refl first_six db (with_derived tables) k (each_record EntryRow entry_row entry_values (λ e h. h.0) tables.entries (entry_rows version tables M s))
+  contents_readable Shown k = kept_readable (looks.contents Shown) shown_values refl first_of_six db (with_derived tables) k (each_record EntryRow looks.shown_row shown_values shown_cells tables.entries (entry_rows version tables M s))
+  contents_readable Parted k = kept_readable (looks.contents Parted) part_values refl (λ row. refl) db (with_derived tables) k (each_part (all_parts tables))
 
   pub stands_readable : (layout : Layout) → KeepsAll layout db (with_derived tables) → HasReadableRows layout db
   stands_readable layout k = (
@@ -356,14 +363,8 @@ module _ (version : ℕ) (db : Database) (tables : Tables) (M : Catalogue) (s : 
       (
         kept_readable looks.members member_values refl (λ row. refl) db (with_derived tables) k.1.1.0 (written_all member_row member_values tables.members (member_rows version tables M s)),
         (
-          kept_readable looks.editions edition_values refl (λ row. refl) db (with_derived tables) k.1.1.1.0 (written_all edition_row edition_values tables.editions (edition_rows version tables M s)),
-          (
-            entries_readable layout k.1.1.1.1.0,
-            (
-              kept_readable looks.kept_replies kept_values refl (λ row. refl) db (with_derived tables) k.1.1.1.1.1.0 (written_all kept_row kept_values tables.kept (reply_rows version tables M s)),
-              derived_readable layout k.1.1.1.1.1.1,
-            ),
-          ),
+          kept_readable looks.kept_replies kept_values refl (λ row. refl) db (with_derived tables) k.1.1.1.0 (written_all kept_row kept_values tables.kept (reply_rows version tables M s)),
+          (editions_readable layout k.1.1.1.1.0, (contents_readable layout k.1.1.1.1.1.0, tt)),
         ),
       ),
     ),
@@ -374,4 +375,4 @@ held_readable version db M h = stands_readable version db h.tables M h.stands (l
 
 -- those of the replies, whatever the layout
 pub held_replies : (version : ℕ) (db : Database) (M : Catalogue) → Holds version db M → AllByRecursion (HasColumns kept_columns) (rows_of (codes "kept") db)
-held_replies version db M h = (held_readable version db M h).1.1.1.1.1.0
+held_replies version db M h = (held_readable version db M h).1.1.1.0

@@ -7,31 +7,30 @@ use Rattle.sqlite.specs.Tree.{Trees}
 use Rattle.sqlite.specs.State.{State}
 use Rattle.sqlite.specs.Schema.{Schema}
 use Rattle.dict_tables.specs.Found.{HasOwn}
-use Rattle.dict_tables.specs.Indexes.{HasIndex}
 use Rattle.dict_tables.specs.Names.{has_prefixed}
-use Rattle.dict_tables.specs.Room.{HasRoom}
+use Rattle.dict_tables.specs.Room.{HasRoom, LeavesRoom}
 use Rattle.dict_sql.specs.Effects.{HasApartRowids, rows_of}
+use Rattle.dict_part_sql.specs.Table.{part}
 use Rattle.dict_catalogue.specs.Steps.{Catalogue}
 use Rattle.dict_rows.specs.Versions.{Layout, layout_of, IsVersion}
 use Rattle.dict_rows.specs.Tables.{Tables}
 use Rattle.dict_rows.specs.Stands.{Stands}
-use Rattle.dict_derived.specs.AllTables.{with_derived}
-use Rattle.dict_holdings.specs.Readings.{KeepsAll, AreShownIn, tables_of, indexes_of}
-use Rattle.dict_holdings.specs.Room.{MayBecomeShown, HasLaterRoom}
+use Rattle.dict_files.specs.AllTables.{with_derived}
+use Rattle.dict_holdings.specs.Readings.{KeepsAll, AreShownIn, tables_of}
+use Rattle.dict_holdings.specs.Room.{MayBecomeKnown}
 
 -- a table has a row for each of these records and no others, in no order that counts, and no two under one rowid
 pub record Keeps {R : Type 0} (name : List ℕ) (encode : R → Row) (db : Database) (records : List R) : Type 0 where
   pub rows : IsPermutation (map encode records) (map (drop 1) (rows_of name db))
   pub apart : HasApartRowids (rows_of name db)
 
--- the tables and indexes of a layout are there, and beside an older one there is room for those of the last
+-- the tables of a layout are there, and beside an older one there is room for the table of the parts of files
 pub record HasLayout (layout : Layout) (schema : Schema) : Type 0 where
   pub tables : AllByRecursion (HasOwn schema) (tables_of layout)
-  pub indexes : AllByRecursion (HasIndex schema) (indexes_of layout)
-  pub room : MayBecomeShown layout schema
+  pub room : MayBecomeKnown layout schema
 
--- The database has the product's tables, as this version lays them out; and the records that they keep, with what is derived
--- of them where it is looked at, stand for the catalogue. Where a table has no column for what is shown, it is the headword.
+-- The database has the product's tables, as this version lays them out; and the records that they keep, in parts of files where
+-- the version has these, stand for the catalogue. Where a table has no column for what is shown, it is the headword.
 pub record Holds (version : ℕ) (db : Database) (M : Catalogue) : Type 0 where
   pub own : HasLayout (layout_of version) db.schema
   pub tables : Tables
@@ -67,8 +66,8 @@ IsLeftAs version M trees = (db : Database) × (trees ≡ db.trees) × IsDatabase
 abbrev pub IsLeft : Catalogue → Trees → Type 0
 IsLeft M trees = (db : Database) × (trees ≡ db.trees) × IsDatabase db × IsHeld db M
 
--- there is room for all tables, and for those that come later, and no name begins as those that are kept for the product
+-- there is room for all tables, that of the parts among them, and no name begins as those that are kept for the product
 pub record HasPlace (schema : Schema) : Type 0 where
   pub room : HasRoom schema
   pub unprefixed : has_prefixed schema ≡ false
-  pub later : HasLaterRoom schema
+  pub later : LeavesRoom schema (part 0)

@@ -1,22 +1,22 @@
 -- The tables of each layout: which there are, and what each is to have, as one list of readings.
-use Rattle.std.specs.Prelude.{ℕ, List, [], ◌∷◌, map, drop, take, IsPermutation}
+use Rattle.std.specs.Prelude.{ℕ, List, [], ◌∷◌, ◌++◌, map, drop, take, IsPermutation}
 use Rattle.std.specs.List.{AllByRecursion}
-use Rattle.sqlite.specs.declared.types.Value.TheVariants.{Int, Text as Letters, Blob as Octets}
+use Rattle.sqlite.specs.declared.types.Value.TheVariants.{Text as Letters}
 use Rattle.sqlite.specs.Order.{Row}
 use Rattle.sqlite.specs.Effect.{Database}
 use Rattle.sqlite.specs.Table.{Table}
-use Rattle.dict_records.specs.Records.{Entry, ShowsHeadword}
+use Rattle.dict_records.specs.Records.{Entry, ShowsHeadword, header_of}
 use Rattle.dict_tables.specs.Tables.{mark, item, member, edition, entry, kept}
 use Rattle.dict_tables.specs.Keyed as keyed
-use Rattle.dict_tables.specs.declared.keyed.KeyIndex.{KeyIndex}
-use Rattle.dict_tables.specs.declared.keyed.KeyIndex.TheVariants.{Key, Reversed}
 use Rattle.dict_sql.specs.Effects.{HasApartRowids, rows_of}
-use Rattle.dict_sql.specs.Columns.{Content, HasColumns, mark_columns, item_columns, member_columns, edition_columns, entry_columns, kept_columns}
+use Rattle.dict_sql.specs.Columns.{Content, Name, HasColumns, mark_columns, item_columns, member_columns, edition_columns, entry_columns, kept_columns}
 use Rattle.dict_sql.specs.Encodings.{mark_row, item_row, member_row, edition_row, entry_row, kept_row}
-use Rattle.dict_sql.specs.Keyed.{keyed_entry_columns, piece_row, piece_columns}
-use Rattle.dict_rows.specs.Versions.{Layout, Plain, Keyed, Shown}
-use Rattle.dict_derived.specs.Entries.{Filed, plain}
-use Rattle.dict_derived.specs.AllTables.{AllTables}
+use Rattle.dict_header_sql.specs.Table.{header}
+use Rattle.dict_header_sql.specs.Records.{header_row, header_columns}
+use Rattle.dict_part_sql.specs.Table.{part}
+use Rattle.dict_part_sql.specs.Records.{part_row, part_columns}
+use Rattle.dict_rows.specs.Versions.{Layout, Plain, Keyed, Shown, Parted}
+use Rattle.dict_files.specs.AllTables.{AllTables}
 
 -- a table, what its columns hold, those of its columns that are looked at, the rowid first, and the rows that it is to have
 pub record Reading : Type 0 where
@@ -40,58 +40,63 @@ items = record { table = item; columns = item_columns; looked = whole; rows = λ
 abbrev pub members : Reading
 members = record { table = member; columns = member_columns; looked = whole; rows = λ t. map member_row t.members }
 
-abbrev pub editions : Reading
-editions = record { table = edition; columns = edition_columns; looked = whole; rows = λ t. map edition_row t.editions }
-
 abbrev pub kept_replies : Reading
 kept_replies = record { table = kept; columns = kept_columns; looked = whole; rows = λ t. map kept_row t.kept }
 
-abbrev pub filed_row : Filed → Row
-filed_row f = Int f.edition ∷ Int f.ord ∷ Letters f.headword ∷ Int f.start ∷ Int f.length ∷ Octets f.key ∷ Octets f.reversed ∷ Letters f.shown ∷ []
+-- the editions, with their texts before the last layout, and in it without them
+abbrev pub whole_editions : Reading
+whole_editions = record { table = edition; columns = edition_columns; looked = whole; rows = λ t. map edition_row t.editions }
 
--- of entries with keys of an older version, the columns that entries without keys have
-abbrev pub entries : Layout → Reading
-entries Plain = record { table = entry; columns = entry_columns; looked = whole; rows = λ t. map (λ f. entry_row (plain f)) t.entries }
-entries Keyed = record { table = keyed.old_entry; columns = entry_columns; looked = take 6; rows = λ t. map (λ f. entry_row (plain f)) t.entries }
-entries Shown = record { table = keyed.entry; columns = keyed_entry_columns; looked = whole; rows = λ t. map filed_row t.entries }
+abbrev pub editions : Layout → Reading
+editions Plain = whole_editions
+editions Keyed = whole_editions
+editions Shown = whole_editions
+editions Parted = record { table = header; columns = header_columns; looked = whole; rows = λ t. map (λ e. header_row (header_of e)) t.editions }
+
+abbrev pub shown_columns : List Content
+shown_columns = entry_columns ++ Name ∷ []
+
+abbrev pub shown_row : Entry → Row
+shown_row e = entry_row e ++ Letters e.shown ∷ []
+
+-- all columns but the sixth and the seventh behind the rowid, which are the key of an entry and its reverse
+abbrev pub without_keys : Row → Row
+without_keys row = take 6 row ++ drop 8 row
+
+-- What is kept of the entries of the editions: before the last layout their records, of which the columns are looked at that aren't
+-- derived of a headword; and in it the parts of the files.
+abbrev pub contents : Layout → Reading
+contents Plain = record { table = entry; columns = entry_columns; looked = whole; rows = λ t. map entry_row t.entries }
+contents Keyed = record { table = keyed.old_entry; columns = entry_columns; looked = take 6; rows = λ t. map entry_row t.entries }
+contents Shown = record { table = keyed.entry; columns = shown_columns; looked = without_keys; rows = λ t. map shown_row t.entries }
+contents Parted = record { table = part; columns = part_columns; looked = whole; rows = λ t. map part_row t.parts }
 
 -- in the layouts that have no column for it, what is shown is the headword
 abbrev pub AreShownIn : Layout → List Entry → Type 0
 AreShownIn Plain es = AllByRecursion ShowsHeadword es
 AreShownIn Keyed es = AllByRecursion ShowsHeadword es
 AreShownIn Shown es = Unit {0}
+AreShownIn Parted es = Unit {0}
 
-abbrev pub words : Reading
-words = record { table = keyed.word; columns = piece_columns; looked = whole; rows = λ t. map piece_row t.words }
-
-abbrev pub grams : Reading
-grams = record { table = keyed.gram; columns = piece_columns; looked = whole; rows = λ t. map piece_row t.grams }
-
--- what is derived is looked at in the last layout alone
-abbrev pub derived_readings : Layout → List Reading
-derived_readings Plain = []
-derived_readings Keyed = []
-derived_readings Shown = words ∷ grams ∷ []
+-- what is read of an edition
+abbrev pub edition_readings : Layout → List Reading
+edition_readings layout = editions layout ∷ contents layout ∷ []
 
 -- all that is read of a file
 abbrev pub readings : Layout → List Reading
-readings layout = marks ∷ items ∷ members ∷ editions ∷ entries layout ∷ kept_replies ∷ derived_readings layout
+readings layout = marks ∷ items ∷ members ∷ kept_replies ∷ edition_readings layout
 
--- ---- tables and indexes
+-- ---- tables
 
+-- these are there, are dropped by a migration, and are never read
 abbrev pub derived_tables : Layout → List (ℕ → Table)
 derived_tables Plain = []
 derived_tables Keyed = keyed.word ∷ keyed.gram ∷ []
 derived_tables Shown = keyed.word ∷ keyed.gram ∷ []
+derived_tables Parted = []
 
 abbrev pub tables_of : Layout → List (ℕ → Table)
-tables_of layout = mark ∷ item ∷ member ∷ edition ∷ (entries layout).table ∷ kept ∷ derived_tables layout
-
--- of an older version they aren't asked for, and go with their table
-abbrev pub indexes_of : Layout → List KeyIndex
-indexes_of Plain = []
-indexes_of Keyed = []
-indexes_of Shown = Key ∷ Reversed ∷ []
+tables_of layout = mark ∷ item ∷ member ∷ kept ∷ (editions layout).table ∷ (contents layout).table ∷ derived_tables layout
 
 -- ---- what a database keeps
 

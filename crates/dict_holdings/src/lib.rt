@@ -7,4 +7,4 @@ mod room;
 
 pub use fault::{fault_of, fault_of_read};
 pub use laws::read_in_order;
-pub use room::{has_place, keyed_may_become_shown, may_become_shown};
+pub use room::{has_part_room, has_place};

@@ -8,7 +8,6 @@ use Rattle.dict_b64.specs.Number.{Spells}
 use Rattle.dict_text.specs.Characters.{is_control, has_control}
 use Rattle.dict_index.specs.Cuts.{HasNo, IsCutAt, AreColumns}
 use Rattle.dict_index.specs.Edition.{entry_in}
-use Rattle.dict_index.specs.Limits.{most_octets}
 use Rattle.dict_index.specs.Line.{Line, IsLine, behind_tab}
 use Rattle.dict_index.specs.WellFormed.{IsWellFormedEntry}
 use Rattle.dict_index.proofs.CutLemmas.{one_cut}
@@ -179,7 +178,7 @@ no_control_has_no b control (x ∷ xs) h = ((λ same. false_or_true ⊥ (sym (fr
 column_of : (text : List ℕ) → IsUtf8 text → has_control text ≡ false → IsColumn text
 column_of text utf8 none = record { utf8 = utf8; no_tab = no_control_has_no 9 refl text none; no_newline = no_control_has_no 10 refl text none }
 
-pub of_entries : (text : List ℕ) (said : Line) → length text ≤ most_octets → said.offset + said.size ≤ length text → IsWellFormedEntry (entry_in text said) → IsStorable said
+pub of_entries : (text : List ℕ) (said : Line) → length text < 64 ^ 6 → said.offset + said.size ≤ length text → IsWellFormedEntry (entry_in text said) → IsStorable said
 of_entries text said short within lawful = record {
   headword = column_of said.headword lawful.headword.0 lawful.headword.1.2;
   shown = column_of said.shown lawful.shown.0 lawful.shown.1.2;

@@ -5,14 +5,13 @@ ghost use Rattle.dict_b64.specs.Number.{Spells};
 ghost use Rattle.dict_text.specs.Lines.{text_lines};
 ghost use Rattle.dict_index.specs.Cuts.{HasNo};
 ghost use Rattle.dict_index.specs.Edition.{entry_in};
-ghost use Rattle.dict_index.specs.Limits.{most_octets};
 ghost use Rattle.dict_index.specs.Line.{Line, IsLine};
 ghost use Rattle.dict_index.specs.WellFormed.{IsWellFormedEntry};
 ghost use Rattle.dict_index_lines.specs.Spelling.{spelling};
 ghost use Rattle.dict_index_lines.specs.Stored.{IsStorable, stored_line, stored_index};
 
 /// A stored line is a line of a dictd index that says the same. Of all that do it is the one whose fourth column, where it has
-/// one, is another text than the headword. It says one thing, and has no LF. Each lawful entry of an edition has one.
+/// one, is another text than the headword. It says one thing, and has no LF. Each lawful entry of a text of fewer than 64 ^ 6 octets has one.
 ///
 /// It does nothing. Its clauses are the law.
 pub fn stored_lines()
@@ -21,7 +20,7 @@ pub fn stored_lines()
     ensures only { (line : List ℕ) (said : Line) (is : IsLine line said) → is.fourth ≢ Some said.headword → line ≡ stored_line said }
     ensures says_one { (said other : Line) → IsStorable said → IsStorable other → stored_line said ≡ stored_line other → said ≡ other }
     ensures no_newline { (said : Line) → IsStorable said → HasNo 10 (stored_line said) }
-    ensures of_entries { (text : List ℕ) (said : Line) → length text ≤ most_octets → said.offset + said.size ≤ length text → IsWellFormedEntry (entry_in text said) → IsStorable said }
+    ensures of_entries { (text : List ℕ) (said : Line) → length text < 64 ^ 6 → said.offset + said.size ≤ length text → IsWellFormedEntry (entry_in text said) → IsStorable said }
 {}
 
 /// The lines of a stored index are the stored ones, in order, so it says one list of lines; and what goes on from the lines of

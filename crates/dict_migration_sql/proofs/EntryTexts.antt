@@ -100,6 +100,33 @@ takes_select = record { whole = lit≤ tt; names = λ x. refl; typed = λ schema
 pub old_read : (tree : ℕ) (n : ℤ) (row : Row) → passes (Int n ∷ []) test_select row ≡ equals_number 1 n (shown (old_entry tree) row)
 old_read tree n row = and_true _ ∙ equals_is (column row 1) n
 
+-- the same over schema 4, whose rows have one column more
+
+pub selects_shown : ReadsTable select_text read_select shown_entry (Some (equals_expr (codes "edition"))) test_select 99996 (sort_by (codes "3") ∷ []) (key_at 2 ∷ []) (2 ∷ []) 99994 of_column
+unfolding everything read_select rowid_expr rowid_shown all_shown source_of core_of select_of sort_by column_expr parameter_expr equals_expr
+selects_shown = record {
+  read = refl;
+  statement = λ tree. refl;
+  formats = refl;
+  orders = λ tree. refl;
+  no_rowid = λ tree. refl;
+  few = λ at tree. refl;
+  some = λ at tree. refl;
+  tests = λ schema at tree is. tests_equals schema at (shown_entry tree) is (codes "edition") 0 (needed (codes "edition") Integer) refl refl (outputs_of at (shown_entry tree)) refl (rw is refl) 99999 refl refl refl;
+  sorts = λ schema at tree. refl;
+  shows = λ at tree params r. refl;
+  keyed = λ tree params r. refl;
+  compares = λ a b. refl;
+  accepted = λ schema at tree alone low. rw (low, alone) refl;
+}
+
+pub takes_shown : Takes select_text read_select shown_entry test_select (key_at 2 ∷ []) a_number
+unfolding everything read_select
+takes_shown = record { whole = lit≤ tt; names = λ x. refl; typed = λ schema at tree alone low x. rw (low, alone) refl }
+
+pub shown_read : (tree : ℕ) (n : ℤ) (row : Row) → passes (Int n ∷ []) test_select row ≡ equals_number 1 n (shown (shown_entry tree) row)
+shown_read tree n row = and_true _ ∙ equals_is (column row 1) n
+
 -- ---- the names
 
 pub form_names : (form other : EntryForm) → names_of (entry_of form 0) ≡ names_of (entry_of other 0)

@@ -15,6 +15,7 @@ use Rattle.sqlite_tied.specs.Compute.{everything}
 use Rattle.sqlite_trees.specs.Sound.{fits_kind, is_free_name, begins, same_name}
 use Rattle.sqlite_value.specs.Order.{value_cmp}
 use Rattle.sqlite_syntax.specs.declared.statement.Parsed.{Parsed}
+use Rattle.dict_records.specs.Records.{Part}
 use Rattle.dict_sql.specs.Creates.{IsFree, IsMade}
 use Rattle.dict_sql.specs.Effects.{Has, IsAdded}
 use Rattle.dict_sql.specs.Refusals.{RefusesToMake, RefusesToAdd, IsTooBig}
@@ -26,7 +27,7 @@ use Rattle.dict_sql.proofs.EndLemmas.{insert_ends_none, create_ends_none}
 use Rattle.dict_sql.proofs.FaultLemmas.{faults_inside}
 use Rattle.dict_sql.proofs.InsertLemmas.{adds_chosen, cast_int, cast_null}
 use Rattle.dict_sql.proofs.TextLemmas.{parsed_or, ReadsInsert, insert_is, insert_command, insert_plain}
-use Rattle.dict_part_sql.specs.Records.{Part, part_row}
+use Rattle.dict_part_sql.specs.Records.{part_row}
 use Rattle.dict_part_sql.specs.Table.{part}
 use Rattle.dict_part_sql.specs.Texts.{create_text, insert_text}
 

@@ -1,19 +1,13 @@
--- A part of a file of an edition, and the row that it stands in.
+-- The row that a part of a file of an edition stands in.
 use denote.Ref.{Bor}
-use Rattle.std.specs.Prelude.{ℕ, ℤ, List, [], ◌∷◌, Vec}
+use Rattle.std.specs.Prelude.{ℕ, List, [], ◌∷◌, Vec}
 use Rattle.std.specs.declared.alloc.Global.{Global}
 use Rattle.sqlite.specs.declared.types.Value.TheVariants.{Int, Blob as Bytes}
 use Rattle.sqlite.specs.Order.{Row}
+use Rattle.dict_records.specs.Records.{Part}
 use Rattle.dict_sql.specs.Columns.{Content, Number, Octets}
 use Rattle.dict_part_sql.specs.declared.records.Part.{Part as TypedPart}
 use Rattle.dict_part_sql.specs.declared.records.StoredPart.{StoredPart}
-
--- a part: of which edition and which of its files it is, its number, and its octets
-pub record Part : Type 0 where
-  pub edition : ℤ
-  pub file : ℤ
-  pub number : ℤ
-  pub octets : List ℕ
 
 abbrev pub part_of : {B : Type 0} → (B → List ℕ) → TypedPart B → Part
 part_of octets r = record { edition = r.edition; file = r.file; number = r.number; octets = octets r.octets }

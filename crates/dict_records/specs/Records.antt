@@ -31,6 +31,23 @@ pub record Edition : Type 0 where
   pub info : List ℕ
   pub body : List ℕ
 
+-- an edition without its text
+pub record Header : Type 0 where
+  pub number : ℤ
+  pub owner : List ℕ
+  pub title : List ℕ
+  pub info : List ℕ
+
+abbrev pub header_of : Edition → Header
+header_of e = record { number = e.number; owner = e.owner; title = e.title; info = e.info }
+
+-- a part of one of the two files of an edition: of which edition and which file it is, its number, and its octets
+pub record Part : Type 0 where
+  pub edition : ℤ
+  pub file : ℤ
+  pub number : ℤ
+  pub octets : List ℕ
+
 -- a headword of an edition, where its body stands in the edition's text, and the headword that is shown
 pub record Entry : Type 0 where
   pub edition : ℤ

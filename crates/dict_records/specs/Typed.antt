@@ -10,6 +10,7 @@ use Rattle.dict_records.specs.declared.records.Edition.{Edition}
 use Rattle.dict_records.specs.declared.records.Entry.{Entry}
 use Rattle.dict_records.specs.declared.records.Kept.{Kept}
 use Rattle.dict_records.specs.declared.records.Stored.{Stored}
+use Rattle.dict_records.specs.declared.headers.Header.{Header}
 
 -- Each takes what the octets of a text are.
 
@@ -24,6 +25,9 @@ member_of text r = record { owner = text r.owner; ord = r.ord; name = text r.nam
 
 abbrev pub edition_of : {T : Type 0} → {B : Type 0} → (T → List ℕ) → (B → List ℕ) → Edition T B → spec.Edition
 edition_of text octets r = record { number = r.number; owner = text r.owner; title = text r.title; info = text r.info; body = octets r.body }
+
+abbrev pub header_with : {T : Type 0} → (T → List ℕ) → Header T → spec.Header
+header_with text r = record { number = r.number; owner = text r.owner; title = text r.title; info = text r.info }
 
 -- what is shown is the headword, since the record has no other
 abbrev pub entry_of : {T : Type 0} → (T → List ℕ) → Entry T → spec.Entry
@@ -45,6 +49,9 @@ owned_member = member_of string_bytes
 
 abbrev pub owned_edition : Edition (String Global) (Vec ℕ Global) → spec.Edition
 owned_edition = edition_of string_bytes (λ b. b.items)
+
+abbrev pub owned_header : Header (String Global) → spec.Header
+owned_header = header_with string_bytes
 
 abbrev pub owned_entry : Entry (String Global) → spec.Entry
 owned_entry = entry_of string_bytes
@@ -68,6 +75,9 @@ lent_member = member_of lent
 
 abbrev pub lent_edition : Edition (Bor (List ℕ)) (Bor (List ℕ)) → spec.Edition
 lent_edition = edition_of lent lent
+
+abbrev pub lent_header : Header (Bor (List ℕ)) → spec.Header
+lent_header = header_with lent
 
 abbrev pub lent_entry : Entry (Bor (List ℕ)) → spec.Entry
 lent_entry = entry_of lent

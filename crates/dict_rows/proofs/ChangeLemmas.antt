@@ -1,5 +1,5 @@
 -- A command's change of the tables, as a whole.
-use Rattle.std.proofs.Common.{◌≡◌, ℕ, ◌+◌, ◌≤◌, ◌<◌, Bool, true, false, ◌||◌, ◌⊎◌, inl, inr, List, [], ◌∷◌, ◌++◌, refl, ap, sym, subst, ◌∙◌, arith, append-nil, Option, Some, None}
+use Rattle.std.proofs.Common.{◌≡◌, ℕ, ◌+◌, ◌≤◌, ◌<◌, Bool, true, false, ◌||◌, ◌⊎◌, inl, inr, List, [], ◌∷◌, ◌++◌, refl, ap, sym, subst, ◌∙◌, arith, append-nil, Option, Some, None, ◌^◌, length}
 use Rattle.std.specs.Prelude.{ℤ, pos, map, filter, cond, not, ◌==◌, IsTrue}
 use Rattle.std.specs.List.{AllByRecursion, list_any}
 use Rattle.std.proofs.lemmas.Bool.{false≢true, not-true}
@@ -31,10 +31,10 @@ use Rattle.dict_rows.proofs.AfterLemmas.{IsOld, AreOld, IsNew, AreOldOr, install
 
 -- ---- the edition that is installed
 
--- it has this number, and its bodies lie within its text
-abbrev IsFit : ℕ → Option Installed → Type 0
+-- it has this number, and its bodies lie within its text, which is short
+abbrev pub IsFit : ℕ → Option Installed → Type 0
 IsFit number None = Unit {0}
-IsFit number (Some new) = (new.number ≡ number) × AllByRecursion (IsWithin new.reading.text) new.reading.lines
+IsFit number (Some new) = (new.number ≡ number) × AllByRecursion (IsWithin new.reading.text) new.reading.lines × (length new.reading.text < 64 ^ 6)
 
 abbrev IsNewOf : Option Installed → List ℕ → Stored Edition → Type 0
 IsNewOf None owner stored = ⊥
@@ -44,9 +44,9 @@ fit_none : (number : ℕ) (edition : Option Installed) → edition ≡ None → 
 fit_none number None e = tt
 fit_none number (Some new) e = cc
 
-fit_of : (number : ℕ) (command : Command Edition) (edition : Option Installed) → IsInstalledBy number command edition → IsFit number edition
+pub fit_of : (number : ℕ) (command : Command Edition) (edition : Option Installed) → IsInstalledBy number command edition → IsFit number edition
 fit_of number (install name content) None h = absurd h
-fit_of number (install name content) (Some new) h = (h.1, h.3)
+fit_of number (install name content) (Some new) h = (h.1, h.3, h.4)
 fit_of number (rollback name) edition h = fit_none number edition h
 fit_of number (retire name) edition h = fit_none number edition h
 fit_of number (put_virtual name title members) edition h = fit_none number edition h
@@ -73,7 +73,7 @@ same_at version change old number n fit lt stay = record {
 }
 
 -- no record before has the number of the edition that is installed
-abbrev IsFree : ℕ → Tables → Type 0
+abbrev pub IsFree : ℕ → Tables → Type 0
 IsFree number old = AllByRecursion (λ (row : spec.Edition). same_number row.number (pos number) ≡ false) old.editions × AllByRecursion (λ (row : spec.Entry). same_number row.edition (pos number) ≡ false) old.entries
 
 new_holds : (version : ℕ) (change : TableChange) (old : Tables) (number : ℕ) (owner : List ℕ) (stored : Stored Edition) (edition : Option Installed) → change.edition ≡ edition → IsFit number edition → IsFree number old → IsNewOf edition owner stored → HoldsEdition (tables_after version change old) owner stored
@@ -93,6 +93,7 @@ new_holds version change old number owner stored (Some one) e fit free new =
     record {
       reading = one.reading;
       says = new.2;
+      short = fit.2;
       within = fit.1;
       row = filter-append (λ (row : spec.Edition). same_number row.number (pos stored.number)) staying_editions (installed_editions change.edition)
           ∙ (λ i. none i ++ editions_numbered (pos stored.number) (installed_editions (e i)))
@@ -192,7 +193,7 @@ old_each old installs items h range =
     (λ item p q. all_with (HoldsEdition old (name_of item)) (λ (stored : Stored Edition). (1 ≤ stored.number) × (stored.number ≤ installs)) (IsOld old installs (name_of item)) (λ stored a b. record { holds = a; few = b.1 }) (editions_of item) p q)
     items h (by_edition (λ n. (1 ≤ n) × (n ≤ installs)) items range)
 
-free_of : (version : ℕ) (old : Tables) (M : Catalogue) → Stands version old M → IsFree (M.installs + 1) old
+pub free_of : (version : ℕ) (old : Tables) (M : Catalogue) → Stands version old M → IsFree (M.installs + 1) old
 free_of version old M h = (
   all_weaker (λ (row : spec.Edition). IsTrue (has_number M.items row.number)) (λ (row : spec.Edition). same_number row.number (pos (M.installs + 1)) ≡ false) (λ row k. above_all M.installs (edition_numbers M.items) row.number h.well_formed.edition_range k) old.editions h.numbers,
   all_weaker (λ (row : spec.Entry). IsTrue (has_number M.items row.edition)) (λ (row : spec.Entry). same_number row.edition (pos (M.installs + 1)) ≡ false) (λ row k. above_all M.installs (edition_numbers M.items) row.edition h.well_formed.edition_range k) old.entries h.entries,

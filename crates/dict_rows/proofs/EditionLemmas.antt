@@ -1,5 +1,5 @@
 -- An edition's record is taken.
-use Rattle.std.proofs.Common.{◌≡◌, ℕ, ◌+◌, ◌≤◌, Bool, true, false, ◌&&◌, ◌||◌, inr, List, [], ◌∷◌, ◌++◌, length, refl, ap, sym, subst, ◌∙◌, arith, Option, Some, None}
+use Rattle.std.proofs.Common.{◌≡◌, ℕ, ◌+◌, ◌≤◌, Bool, true, false, ◌&&◌, ◌||◌, inr, List, [], ◌∷◌, ◌++◌, length, refl, ap, sym, subst, ◌∙◌, arith, Option, Some, None, ◌^◌, ◌<◌}
 use Rattle.std.specs.Prelude.{pos, cond, bytes_eq, ◌==◌, option_map}
 use Rattle.std.specs.List.{AllByRecursion}
 use Rattle.std.proofs.lemmas.Bool.{false≢true, and_parts, and_from}
@@ -64,6 +64,7 @@ pub record IsNew (owner : List ℕ) (number : ℕ) (title : List ℕ) (row : spe
   pub empty : reading.lines ≡ []
   pub is : row ≡ edition_record owner number reading
   pub named : reading.title ≡ title
+  pub short : length reading.text < 64 ^ 6
   pub lawful : IsWellFormedEdition (edition_of reading)
 
 taken_now : (taken : Tables) (owner : List ℕ) (number : ℕ) (title : List ℕ) (row : spec.Edition) → HasNone taken number → IsNew owner number title row → IsTaken (with_edition taken row) owner number title
@@ -72,6 +73,7 @@ taken_now taken owner number title row none new = record {
   holds = record {
     reading = new.reading;
     says = refl;
+    short = new.short;
     within = subst (AllByRecursion (Rattle.dict_rows.specs.Stands.IsWithin new.reading.text)) (sym new.empty) tt;
     row = filter_passes (λ (r : spec.Edition). same_number r.number (pos number)) taken.editions row (ap (λ (r : spec.Edition). same_number r.number (pos number)) new.is ∙ nat_itself number number refl)
         ∙ (λ i. none.0 i ++ new.is i ∷ []);

@@ -15,11 +15,11 @@ use Rattle.dict_text.proofs.AllLemmas.{all_append, all_append_parts}
 use Rattle.dict_rows.specs.Tables.{Tables, same_number, editions_numbered, entries_of}
 use Rattle.dict_rows.specs.Written.{numbered, edition_record, entry_record}
 use Rattle.dict_rows.specs.Stands.{IsWithin, HoldsEdition, has_number, Stands}
-use Rattle.dict_rows.specs.Given.{IsEntry, IsNoEntry}
-use Rattle.dict_rows.specs.Taken.{GoesOn, StandsForNone, IsTaken, HoldsTitle, HoldsTitles, IsLast, IsInHand, IsOfLast, items_in, HasTaken, with_edition, with_entry}
+use Rattle.dict_rows.specs.Given.{IsEntry, IsNoEntry, IsLawfulLine}
+use Rattle.dict_rows.specs.Taken.{GoesOn, StandsForNone, IsTaken, HoldsTitle, HoldsTitles, IsLast, IsInHand, IsOfLast, items_in, HasTaken, with_edition, with_entry, next_entry}
 use Rattle.dict_rows.specs.declared.reader.Reader.{Reader}
 use Rattle.dict_rows.specs.declared.reader.InHand.{InHand}
-use Rattle.dict_rows.proofs.OnceLemmas.{head_same}
+use Rattle.dict_rows.proofs.OnceLemmas.{head_same, line_same}
 use Rattle.dict_rows.proofs.ListLemmas.{numbered_length, numbered_push, next_of_all}
 use Rattle.dict_rows.proofs.LawfulLemmas.{pos_same}
 use Rattle.dict_rows.proofs.TakenLemmas.{same_itself, nat_same, filter_passes, filter_passes_not, SameAt, title_same}
@@ -70,6 +70,7 @@ module _ (taken : Tables) (row : spec.Entry) (hand : InHand) (is : IsEntry hand.
         holds = record {
           reading = more;
           says = refl;
+          short = h.holds.short;
           within = all_push (IsWithin reading.text) reading.lines line h.holds.within within;
           row = h.holds.row;
           entries = filter_passes (λ (r : spec.Entry). same_number r.edition (pos hand.number)) taken.entries row (ap (λ n. same_number n (pos hand.number)) of_hand ∙ same_itself (pos hand.number))
@@ -143,7 +144,7 @@ ends_same (a ∷ []) [] x y e = absurd (cc)
 ends_same (a ∷ d ∷ xs) [] x y e = absurd (cc)
 ends_same (a ∷ xs) (b ∷ ys) x y e = ends_same xs ys x y (Rattle.dict_rows.proofs.OnceLemmas.tail_same _ _ _ _ e)
 
-lines_lawful : (text : List ℕ) (lines : List Line) → AllByRecursion (IsWithin text) lines → AllByRecursion IsWellFormedEntry (map (entry_in text) lines) → AllByRecursion (λ line. IsWithin text line × IsWellFormedEntry (entry_in text line)) lines
+pub lines_lawful : (text : List ℕ) (lines : List Line) → AllByRecursion (IsWithin text) lines → AllByRecursion IsWellFormedEntry (map (entry_in text) lines) → AllByRecursion (λ line. IsWithin text line × IsWellFormedEntry (entry_in text line)) lines
 lines_lawful text [] w h = tt
 lines_lawful text (line ∷ lines) w h = ((w.0, h.0), lines_lawful text lines w.1 h.1)
 
@@ -184,6 +185,25 @@ entry_refused version reader taken row hand last h of why tables M goes stands =
     decide : {P Q : Type 0} → P ⊎ Q → (P → ⊥) → (Q → ⊥) → ⊥
     decide (inl p) f g = f p
     decide (inr q) f g = g q
+
+-- ---- the next line
+
+next_is : (taken : Tables) (number : ℕ) (line : Line) (hand : InHand) → IsLast hand taken → IsOfLast taken (next_entry taken number line) → next_entry taken number line ≡ entry_record hand.number hand.entries line
+next_is taken number line hand last of =
+    let same : of.1 ≡ last.row = ends_same of.0 last.front of.1 last.row (sym of.2 ∙ last.last) in
+    let n : number ≡ hand.number = pos_same _ _ (of.3 ∙ ap (λ (r : spec.Edition). r.number) same ∙ last.number) in
+    let many : length (entries_of (pos number) taken.entries) ≡ hand.entries = ap (λ k. length (entries_of (pos k) taken.entries)) n ∙ last.entries in
+    λ i. entry_record (n i) (many i) line
+
+pub line_is : (taken : Tables) (number : ℕ) (line : Line) (hand : InHand) → IsInHand (Some hand) taken → IsOfLast taken (next_entry taken number line) → IsLawfulLine hand.text.items line → IsEntry hand.number hand.entries hand.text.items (next_entry taken number line)
+line_is taken number line hand last of lawful = record { line = line; is = next_is taken number line hand last of; within = lawful.within; lawful = lawful.lawful }
+
+pub line_is_none : (taken : Tables) (number : ℕ) (line : Line) (hand : InHand) → IsInHand (Some hand) taken → IsOfLast taken (next_entry taken number line) → (IsLawfulLine hand.text.items line → ⊥) ⊎ (most_entries ≤ hand.entries) →
+    (IsNoEntry hand.number hand.entries hand.text.items (next_entry taken number line)) ⊎ (most_entries ≤ hand.entries)
+line_is_none taken number line hand last of (inr full) = inr full
+line_is_none taken number line hand last of (inl unlawful) = inl (λ other is within lawful.
+    let same : other ≡ line = line_same hand.number hand.entries other line (sym is ∙ next_is taken number line hand last of) in
+    unlawful (subst (IsLawfulLine hand.text.items) same (record { within = within; lawful = lawful })))
 
 pub none_refused : (version : ℕ) (taken : Tables) (row : spec.Entry) → IsInHand None taken → IsOfLast taken row → StandsForNone version (with_entry taken row)
 none_refused version taken row none of tables M goes stands = no_last of.0 of.1 (sym of.2 ∙ none)

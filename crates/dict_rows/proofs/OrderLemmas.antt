@@ -66,7 +66,7 @@ in_step p x y ys true e rest (inl same) = (inl same, ap p same ∙ e)
 in_step p x y ys true e rest (inr j) = let found = rest j in (inr found.0, found.1)
 in_step p x y ys false e rest j = let found = rest j in (inr found.0, found.1)
 
-in_passed : {X : Type 0} (p : X → Bool) (x : X) (xs : List X) → IsIn x (filter p xs) → IsIn x xs × (p x ≡ true)
+pub in_passed : {X : Type 0} (p : X → Bool) (x : X) (xs : List X) → IsIn x (filter p xs) → IsIn x xs × (p x ≡ true)
 in_passed p x [] i = absurd i
 in_passed p x (y ∷ ys) i = in_step p x y ys (p y) refl (λ j. in_passed p x ys j) i
 
@@ -292,6 +292,7 @@ edition_same old new owner stored editions entries order h =
     record {
       reading = h.reading;
       says = h.says;
+      short = h.short;
       within = h.within;
       row = one_once _ _ (subst (λ rows. Same rows (editions_numbered number new.editions)) h.row rows);
       entries = sym (ordered_once (λ (row : spec.Entry). row.ord) (entries_of number old.entries) (entries_of number new.entries) mine strict rising) ∙ h.entries;

@@ -7,22 +7,29 @@ use Rattle.dict_records.specs.Records as spec
 use Rattle.dict_records.specs.Typed.{owned_mark}
 use Rattle.dict_records.specs.declared.records.Mark.{Mark}
 use Rattle.dict_records.specs.declared.records.Stored.{Stored as Row}
+use Rattle.dict_index.specs.Line.{Line}
 use Rattle.dict_index.specs.WellFormed.{IsEntryHeadword, IsEntryShown, IsEditionText}
 use Rattle.dict_catalogue.specs.WellFormed.{tells_edition}
 use Rattle.dict_catalogue.specs.declared.reply.Verb.{Verb}
 use Rattle.dict_rows.specs.Written.{mark_record, verb_name}
-use Rattle.dict_rows.specs.Given.{marks_given, OnDamage, IsEntry, IsReply}
+use Rattle.dict_rows.specs.Given.{marks_given, OnDamage, IsEntry, IsLawfulLine, line_with, IsReply}
 use Rattle.dict_rows.specs.declared.fault.RowsFault.{RowsFault}
 use Rattle.dict_rows.specs.declared.fault.RowsFault.TheVariants.{Damaged, Memory}
 use Rattle.dict_rows.proofs.OnceLemmas.{head_same}
 
-pub entry_told : (number ord start size : ℕ) (text body : List ℕ) (row : spec.Entry) → row.edition ≡ pos number → row.ord ≡ pos ord → row.start ≡ pos start → row.length ≡ pos size →
-    start + size ≤ length text → body ≡ take size (drop start text) → IsEditionText body → IsEntryHeadword row.headword → IsEntryShown row.shown → IsEntry number ord text row
-entry_told number ord start size text body row e o s l within cut lawful headword shown = record {
-  line = record { headword = row.headword; offset = start; size = size; shown = row.shown };
-  is = λ i. record { edition = e i; ord = o i; headword = row.headword; start = s i; length = l i; shown = row.shown };
+pub line_told : (text body : List ℕ) (line : Line) → line.offset + line.size ≤ length text → body ≡ take line.size (drop line.offset text) → IsEditionText body → IsEntryHeadword line.headword → IsEntryShown line.shown → IsLawfulLine text line
+line_told text body line within cut lawful headword shown = record {
   within = within;
   lawful = record { headword = headword; shown = shown; body = subst IsEditionText cut lawful };
+}
+
+pub entry_told : (number ord start size : ℕ) (text : List ℕ) (row : spec.Entry) → row.edition ≡ pos number → row.ord ≡ pos ord → row.start ≡ pos start → row.length ≡ pos size →
+    IsLawfulLine text (line_with row.headword start size row.shown) → IsEntry number ord text row
+entry_told number ord start size text row e o s l lawful = record {
+  line = line_with row.headword start size row.shown;
+  is = λ i. record { edition = e i; ord = o i; headword = row.headword; start = s i; length = l i; shown = row.shown };
+  within = lawful.within;
+  lawful = lawful.lawful;
 }
 
 pub reply_told : (number : ℕ) (verb : Verb) (edition : Option ℕ) (row : spec.Kept) → row.verb ≡ verb_name verb → row.number ≡ pos number → is_request_id row.id ≡ true → is_name row.name ≡ true →

@@ -1,5 +1,5 @@
 -- One record of an edition more: what the reader has taken then, and when no tables have it.
-use Rattle.std.proofs.Common.{◌≡◌, ℕ, ◌+◌, true, false, ◌||◌, ◌⊎◌, inl, inr, List, [], ◌∷◌, ◌++◌, length, refl, ap, sym, subst, ◌∙◌, arith, Option, Some, None}
+use Rattle.std.proofs.Common.{◌≡◌, ℕ, ◌+◌, true, false, ◌||◌, ◌⊎◌, inl, inr, List, [], ◌∷◌, ◌++◌, length, refl, ap, sym, subst, ◌∙◌, arith, Option, Some, None, ◌^◌, ◌<◌}
 use Rattle.std.specs.Prelude.{ℤ, pos, map, bytes_eq, ◌==◌, IsTrue, IsUtf8, IfSome, IsSome}
 use Rattle.std.specs.List.{AllByRecursion, list_any}
 use Rattle.std.proofs.lemmas.Bool.{false≢true, and_parts}
@@ -60,6 +60,11 @@ info_refused version taken row h tables M goes stands =
     let f = row_found version tables M taken row stands goes in
     let info : row.info ≡ f.found.stored.content.info = ap (λ (r : spec.Edition). r.info) f.is ∙ sym (ap (λ (x : Edition). x.info) f.found.holds.says) in
     h (subst IsEditionText (sym info) f.found.lawful.info)
+
+pub text_refused : (version : ℕ) (taken : Tables) (row : spec.Edition) → (length row.body < 64 ^ 6 → ⊥) → StandsForNone version (with_edition taken row)
+text_refused version taken row h tables M goes stands =
+    let f = row_found version tables M taken row stands goes in
+    h (subst (λ (t : List ℕ). length t < 64 ^ 6) (sym (ap (λ (r : spec.Edition). r.body) f.is)) f.found.holds.short)
 
 -- ---- a record that is taken
 
@@ -132,9 +137,9 @@ in_hand taken row number (Some hand) held e none = record {
 pub edition_taken : (version : ℕ) (old new : Reader) (taken : Tables) (row : spec.Edition) (number : ℕ) (front : List (Item (List ℕ))) (item : Item (List ℕ)) (behind : List (Item (List ℕ))) →
     items_in old ≡ front ++ item ∷ behind → items_in new ≡ front ++ item_titled number row.title item ∷ behind → new.installs ≡ old.installs → new.accepted ≡ old.accepted → new.installed ≡ old.installed →
     IfSome new.edition (λ hand. (hand.number ≡ number) × (hand.text.items ≡ row.body) × (hand.entries ≡ 0)) × IsSome new.edition →
-    row.number ≡ pos number → awaits row.owner number item ≡ true → IsUtf8 row.title → is_title row.title ≡ true → IsEditionText row.info →
+    row.number ≡ pos number → awaits row.owner number item ≡ true → IsUtf8 row.title → is_title row.title ≡ true → IsEditionText row.info → length row.body < 64 ^ 6 →
     HasTaken version old taken → HasTaken version new (with_edition taken row)
-edition_taken version old new taken row number front item behind was now installs accepted installed held e waits text title info h =
+edition_taken version old new taken row number front item behind was now installs accepted installed held e waits text title info short h =
     let held' = subst (AllByRecursion (HoldsMembers taken.members)) was h.members in
     let members : AllByRecursion (HoldsMembers taken.members) (items_in new) = subst (AllByRecursion (HoldsMembers taken.members)) (sym now) (titled_held taken.members number row.title front item behind held') in
     let records : numbered item_record 0 (items_in new) ≡ numbered item_record 0 (items_in old) = ap (numbered item_record 0) now ∙ titled_records number row.title front item behind ∙ ap (numbered item_record 0) (sym was) in
@@ -144,6 +149,7 @@ edition_taken version old new taken row number front item behind was now install
       empty = refl;
       is = λ i. record { number = e i; owner = row.owner; title = row.title; info = row.info; body = row.body };
       named = refl;
+      short = short;
       lawful = record { title = (text, title); info = info; entries = tt; few = omega arith };
     } in
     let titles' = subst (AllByRecursion (HoldsTitles taken)) was h.titles in

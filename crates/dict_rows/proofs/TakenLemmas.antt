@@ -46,7 +46,7 @@ pub record SameAt (number : ℕ) (old new : Tables) : Type 0 where
   pub entries : entries_of (pos number) new.entries ≡ entries_of (pos number) old.entries
 
 pub holds_same : (old new : Tables) (owner : List ℕ) (stored : Stored Edition) → SameAt stored.number old new → HoldsEdition old owner stored → HoldsEdition new owner stored
-holds_same old new owner stored same h = record { reading = h.reading; says = h.says; within = h.within; row = same.editions ∙ h.row; entries = same.entries ∙ h.entries }
+holds_same old new owner stored same h = record { reading = h.reading; says = h.says; short = h.short; within = h.within; row = same.editions ∙ h.row; entries = same.entries ∙ h.entries }
 
 pub taken_same : (old new : Tables) (owner : List ℕ) (number : ℕ) (title : List ℕ) → SameAt number old new → IsTaken old owner number title → IsTaken new owner number title
 taken_same old new owner number title same h =

@@ -86,8 +86,8 @@ worked_stands = record {
   members = (refl, (refl, (refl, tt)));
   owners = (refl, (refl, tt));
   editions = (
-    (record { reading = ore_reading; says = refl; within = (omega arith, tt); row = refl; entries = refl }, tt),
-    ((record { reading = worked_reading; says = refl; within = (omega arith, (omega arith, (omega arith, tt))); row = refl; entries = refl }, tt), (tt, tt)),
+    (record { reading = ore_reading; says = refl; short = omega arith; within = (omega arith, tt); row = refl; entries = refl }, tt),
+    ((record { reading = worked_reading; says = refl; short = omega arith; within = (omega arith, (omega arith, (omega arith, tt))); row = refl; entries = refl }, tt), (tt, tt)),
   );
   numbers = (refl, (refl, tt));
   entries = (refl, (refl, (refl, (refl, tt))));

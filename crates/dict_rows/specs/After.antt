@@ -1,5 +1,5 @@
 -- Which records the tables hold after a command, from those before.
-use Rattle.std.specs.Prelude.{◌≡◌, ℕ, pos, ◌+◌, ℤ, Bool, not, List, [], ◌∷◌, ◌++◌, filter, flat_map, Option, Some, None}
+use Rattle.std.specs.Prelude.{◌≡◌, ℕ, pos, ◌+◌, ◌<◌, ◌^◌, length, ℤ, Bool, not, List, [], ◌∷◌, ◌++◌, filter, flat_map, Option, Some, None}
 use Rattle.std.specs.List.{AllByRecursion, list_any}
 use Rattle.dict_records.specs.Records.{Member, Edition as EditionRecord, Entry as EntryRecord}
 use Rattle.dict_index.specs.Edition.{Edition, ReadEdition, edition_of}
@@ -53,10 +53,10 @@ tables_after version change old = record {
   kept = old.kept ++ kept_record change.kept ∷ [];
 }
 
--- the edition that the command installs, under this number, whose bodies lie within its text
+-- the edition that the command installs, under this number, whose bodies lie within its text, which is short enough for its index
 abbrev pub IsInstalledBy : ℕ → Command Edition → Option Installed → Type 0
 IsInstalledBy number (install name content) (Some new) =
-    (new.owner ≡ name) × (new.number ≡ number) × (content ≡ edition_of new.reading) × AllByRecursion (IsWithin new.reading.text) new.reading.lines
+    (new.owner ≡ name) × (new.number ≡ number) × (content ≡ edition_of new.reading) × AllByRecursion (IsWithin new.reading.text) new.reading.lines × (length new.reading.text < 64 ^ 6)
 IsInstalledBy number (install name content) None = ⊥
 IsInstalledBy number (rollback name) new = new ≡ None
 IsInstalledBy number (retire name) new = new ≡ None

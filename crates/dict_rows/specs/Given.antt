@@ -72,6 +72,15 @@ IsNoItem place row members = (item : Item Edition) → row ≡ item_record place
 abbrev pub AreNoItems : List spec.Item → List spec.Member → Type 0
 AreNoItems rows members = (items : List (Item Edition)) → rows ≡ numbered item_record 0 items → AllByRecursion (HoldsMembers members) items → ⊥
 
+-- a line that says this
+abbrev pub line_with : (headword : List ℕ) (offset size : ℕ) (shown : List ℕ) → Line
+line_with headword offset size shown = record { headword = headword; offset = offset; size = size; shown = shown }
+
+-- the line's interval lies within the text, and the entry is lawful
+pub record IsLawfulLine (text : List ℕ) (line : Line) : Type 0 where
+  pub within : IsWithin text line
+  pub lawful : IsWellFormedEntry (entry_in text line)
+
 -- the record is that of an entry at this place, whose interval lies within the text, and the entry is lawful
 pub record IsEntry (number ord : ℕ) (text : List ℕ) (row : spec.Entry) : Type 0 where
   pub line : Line

@@ -1,5 +1,5 @@
 -- Which catalogue the tables stand for.
-use Rattle.std.specs.Prelude.{◌≡◌, ℕ, pos, ◌+◌, ◌≤◌, ℤ, Bool, IsTrue, List, [], ◌∷◌, length, map}
+use Rattle.std.specs.Prelude.{◌≡◌, ℕ, pos, ◌+◌, ◌≤◌, ◌<◌, ◌^◌, ℤ, Bool, IsTrue, List, [], ◌∷◌, length, map}
 use Rattle.std.specs.List.{AllByRecursion, list_any}
 use Rattle.dict_records.specs.Records.{Member}
 use Rattle.dict_index.specs.Line.{Line}
@@ -20,10 +20,11 @@ IsWithin text line = line.offset + line.size ≤ length text
 
 -- One record has the edition's number, and it has this owner, the edition's title and info, and a text. The entries
 -- that have the number are the edition's, in their order: each has its headword, what is shown of it, and an interval of
--- that text, which cuts out its body.
+-- that text, which cuts out its body. The text is so short that each place in it has a number of six digits in base 64.
 pub record HoldsEdition (tables : Tables) (owner : List ℕ) (stored : Stored Edition) : Type 0 where
   pub reading : ReadEdition
   pub says : stored.content ≡ edition_of reading
+  pub short : length reading.text < 64 ^ 6
   pub within : AllByRecursion (IsWithin reading.text) reading.lines
   pub row : editions_numbered (pos stored.number) tables.editions ≡ edition_record owner stored.number reading ∷ []
   pub entries : entries_of (pos stored.number) tables.entries ≡ numbered (entry_record stored.number) 0 reading.lines

@@ -2,6 +2,7 @@
 use Rattle.std.specs.Prelude.{◌≡◌, ◌⊎◌, ℕ, pos, ℤ, ◌≤◌, IsTrue, List, [], ◌∷◌, ◌++◌, length, map, Option, Some, None}
 use Rattle.std.specs.List.{AllByRecursion}
 use Rattle.dict_records.specs.Records as spec
+use Rattle.dict_index.specs.Line.{Line}
 use Rattle.dict_index.specs.Edition.{Edition}
 use Rattle.dict_index.specs.WellFormed.{IsWellFormedEdition}
 use Rattle.dict_catalogue.specs.Items.{Stored, Item, name_of, editions_of, is_known}
@@ -9,7 +10,7 @@ use Rattle.dict_catalogue.specs.Steps.{KeptFor, Catalogue}
 use Rattle.dict_catalogue.specs.Views.{item_shown}
 use Rattle.dict_catalogue.specs.WellFormed.{how_many, is_install, IsEachOnce, IsLawfulReply, IsNumberedFrom}
 use Rattle.dict_rows.specs.Tables.{Tables, editions_numbered, entries_of}
-use Rattle.dict_rows.specs.Written.{numbered, mark_record, item_record, kept_record}
+use Rattle.dict_rows.specs.Written.{numbered, mark_record, item_record, entry_record, kept_record}
 use Rattle.dict_rows.specs.Stands.{HoldsMembers, HoldsEdition, has_number, Stands}
 use Rattle.dict_rows.specs.Tests.{has_lawful_items}
 use Rattle.dict_rows.specs.declared.reader.Reader.{Reader}
@@ -56,6 +57,10 @@ HasIdsOnce taken = IsEachOnce (map (λ row. row.id) taken.kept)
 -- the entry is one of the edition that was taken last
 abbrev pub IsOfLast : Tables → spec.Entry → Type 0
 IsOfLast taken row = (front : List spec.Edition) × (last : spec.Edition) × (taken.editions ≡ front ++ last ∷ []) × (row.edition ≡ last.number)
+
+-- the line comes next of the edition of this number
+abbrev pub next_entry : Tables → ℕ → Line → spec.Entry
+next_entry taken number line = entry_record number (length (entries_of (pos number) taken.entries)) line
 
 -- ---- what the reader holds
 

@@ -2,13 +2,40 @@
 ghost use Rattle.std.specs.Prelude.{◌≡◌, ◌+◌, ◌<◌, ◌≤◌, length, take, drop, MatchOption, OnOk, IfErr};
 ghost use Rattle.dict_records.specs.Records.{shown_as};
 ghost use Rattle.dict_records.specs.Typed.{owned_entry};
-ghost use Rattle.dict_rows.specs.Given.{OnDamage, IsEntry, IsNoEntry};
+ghost use Rattle.dict_rows.specs.Given.{OnDamage, IsEntry, IsNoEntry, IsLawfulLine, line_with};
 
 use crate::fault::RowsFault;
 use crate::items::{is_number, number_of};
 use dict_index::{cut_out, entry_key, is_edition_text, is_shown};
 use dict_records::Entry;
 use std::alloc::Global;
+
+/// Whether a line's interval lies within the text, and its headword, what is shown and its body are lawful. Else it is `Damaged`.
+pub(crate) fn test_line(
+    alloc: Global,
+    text: &[u8],
+    headword: &str,
+    offset: u64,
+    size: u64,
+    shown: &str,
+) -> Result<(), RowsFault>
+    ensures is { OnOk result (IsLawfulLine text.now (line_with headword.now offset size shown.now)) }
+    ensures damaged { IfErr result (λ fault. OnDamage fault (IsLawfulLine text.now (line_with headword.now offset size shown.now) → ⊥)) }
+{
+    let Some(body) = cut_out(text, offset, size) else {
+        return Err(RowsFault::Damaged);
+    };
+    if !is_edition_text(body) {
+        return Err(RowsFault::Damaged);
+    }
+    if !is_shown(shown) {
+        return Err(RowsFault::Damaged);
+    }
+    let Some(_) = entry_key(alloc, headword)? else {
+        return Err(RowsFault::Damaged);
+    };
+    Ok(())
+}
 
 /// Whether a record is that of an entry at this place of this edition, of which this is shown: its interval lies within the
 /// text, and its headword, what is shown and its body are lawful. Else it is `Damaged`.
@@ -28,17 +55,5 @@ pub(crate) fn test_entry(
     }
     let start = number_of(&row.start)?;
     let size = number_of(&row.length)?;
-    let Some(body) = cut_out(text, start, size) else {
-        return Err(RowsFault::Damaged);
-    };
-    if !is_edition_text(body) {
-        return Err(RowsFault::Damaged);
-    }
-    if !is_shown(shown) {
-        return Err(RowsFault::Damaged);
-    }
-    let Some(_) = entry_key(alloc, row.headword.as_str())? else {
-        return Err(RowsFault::Damaged);
-    };
-    Ok(())
+    test_line(alloc, text, row.headword.as_str(), start, size, shown)
 }

@@ -5,12 +5,12 @@ ghost use Rattle.dict_records.specs.Records.{shown_as};
 ghost use Rattle.dict_records.specs.Typed.{owned_edition, owned_entry, owned_kept};
 ghost use Rattle.dict_rows.specs.Tables.{Tables, same_number};
 ghost use Rattle.std.specs.List.{AllByRecursion, list_any};
-ghost use Rattle.dict_rows.specs.Given.{marks_given, items_given, members_given, OnDamage, IsEntry, IsNoEntry};
+ghost use Rattle.dict_rows.specs.Given.{marks_given, items_given, members_given, OnDamage, IsEntry, IsNoEntry, IsLawfulLine, line_with};
 ghost use Rattle.dict_catalogue.specs.Steps.{Catalogue, summary_of};
 ghost use Rattle.dict_catalogue.specs.Views.{summary_shown};
 ghost use Rattle.dict_rows.specs.Stands.{Stands};
 
-use crate::entries::test_entry;
+use crate::entries::{test_entry, test_line};
 use crate::fault::RowsFault;
 use crate::items::{is_number, items_of, number_of};
 use crate::lawful::has_lawful_items;
@@ -25,6 +25,9 @@ use std::alloc::{AllocError, Global};
 
 /// The most entries of an edition: one line of an index at least is that of its title.
 const MAX_ENTRIES: u64 = MAX_LINES as u64 - 1;
+
+/// No text has so many octets: the numbers of an index end below it, at 64 ^ 6.
+const TEXT_END: u64 = 68_719_476_736;
 
 /// The edition whose entries are read: its number, its text, and how many of its entries were read.
 #[derive(Drop)]
@@ -63,6 +66,29 @@ fn add_entry(
         return Err(RowsFault::Damaged);
     }
     test_entry(alloc, hand.number, hand.entries, &hand.text, row, shown)?;
+    hand.entries += 1;
+    Ok(())
+}
+
+/// Adds the next line to the edition.
+fn add_line(
+    alloc: Global,
+    hand: &mut InHand,
+    headword: &str,
+    offset: u64,
+    size: u64,
+    shown: &str,
+) -> Result<(), RowsFault>
+    ensures is { OnOk result (IsLawfulLine hand.old.text.items (line_with headword.now offset size shown.now) × (hand.old.entries < most_entries)) }
+    ensures added { OnOk result (hand.new.entries ≡ hand.old.entries + 1) }
+    ensures damaged { IfErr result (λ fault. OnDamage fault ((IsLawfulLine hand.old.text.items (line_with headword.now offset size shown.now) → ⊥) ⊎ (most_entries ≤ hand.old.entries))) }
+    ensures same { (hand.new.number ≡ hand.old.number) × (hand.new.text.items ≡ hand.old.text.items) }
+    ensures unchanged { OnErr result (hand.new.entries ≡ hand.old.entries) }
+{
+    if hand.entries >= MAX_ENTRIES {
+        return Err(RowsFault::Damaged);
+    }
+    test_line(alloc, &hand.text, headword, offset, size, shown)?;
     hand.entries += 1;
     Ok(())
 }
@@ -113,7 +139,7 @@ pub struct Reader {
 
 impl Reader {
     ghost use Rattle.std.specs.Prelude.{None};
-    ghost use Rattle.dict_rows.specs.Taken.{HasTaken, HasLetGo, StandsForNone, GoesOn, items_in, begun, with_edition, with_entry, with_kept, IsOfLast, HasIdsOnce};
+    ghost use Rattle.dict_rows.specs.Taken.{HasTaken, HasLetGo, StandsForNone, GoesOn, items_in, begun, with_edition, with_entry, with_kept, IsOfLast, HasIdsOnce, next_entry};
     ghost use Rattle.dict_rows.specs.Stands.{has_number};
     ghost use Rattle.dict_catalogue.specs.Items.{edition_numbers};
 
@@ -192,6 +218,9 @@ impl Reader {
         if !is_edition_text(row.info.as_bytes()) {
             return Err(RowsFault::Damaged);
         }
+        if row.body.len() as u64 >= TEXT_END {
+            return Err(RowsFault::Damaged);
+        }
         let Edition { title, body, .. } = row;
         title_at(&mut self.items, place, number, title);
         take_in_hand(&mut self.edition, number, body);
@@ -214,6 +243,29 @@ impl Reader {
             return Err(RowsFault::Damaged);
         };
         add_entry(alloc, hand, row, shown)
+    }
+
+    /// Takes the next line of the index of the edition that was taken last: the headword, the interval of the text, in octets, that
+    /// is its body, and what is shown.
+    ///
+    /// `Damaged` tells that no catalogue stands for tables that go on so.
+    pub fn line(
+        &mut self,
+        alloc: Global,
+        headword: &str,
+        offset: u64,
+        size: u64,
+        shown: &str,
+    ) -> Result<(), RowsFault>
+        ensures taken { OnOk result ((version : ℕ) (taken : Tables) (number : ℕ) → HasTaken version self.old taken → IsOfLast taken (next_entry taken number (line_with headword.now offset size shown.now)) →
+            HasTaken version self.new (with_entry taken (next_entry taken number (line_with headword.now offset size shown.now)))) }
+        ensures damaged { IfErr result (λ fault. OnDamage fault ((version : ℕ) (taken : Tables) (number : ℕ) → HasTaken version self.old taken → IsOfLast taken (next_entry taken number (line_with headword.now offset size shown.now)) →
+            StandsForNone version (with_entry taken (next_entry taken number (line_with headword.now offset size shown.now))))) }
+    {
+        let Some(hand) = &mut self.edition else {
+            return Err(RowsFault::Damaged);
+        };
+        add_line(alloc, hand, headword, offset, size, shown)
     }
 
     /// Takes the record of a kept reply, in the order of their numbers, behind all editions.

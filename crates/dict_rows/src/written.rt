@@ -11,7 +11,7 @@ use dict_index::Edition;
 use dict_records::{Edition as EditionRow, Item as ItemRow, Kept, Mark, Member};
 
 /// The version of the tables that is written, and the greatest that is opened.
-pub const KNOWN_VERSION: u64 = 4;
+pub const KNOWN_VERSION: u64 = 5;
 
 /// The mark of a file of this version, with the count of installs.
 pub fn mark_row(version: u64, installs: u64) -> Mark<&'static str>

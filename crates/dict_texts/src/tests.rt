@@ -1,4 +1,4 @@
-use crate::texts::{MAX_TEXTS, Texts};
+use crate::texts::{MAX_TEXTS, PartKey, Texts};
 use std::alloc::Global;
 use std::process::Abort;
 use std::test::Fail;
@@ -15,21 +15,21 @@ fn is_same(found: Option<&[u8]>, wanted: Option<&[u8]>) -> bool {
     }
 }
 
-// The text under the number, which is kept still.
+// The text under the key, which is kept still.
 fn same(
     rt: &impl Abort,
     texts: &mut Texts,
-    number: u64,
+    key: PartKey,
     wanted: Option<&[u8]>,
 ) -> Result<(), Fail> {
     assert!(rt;
-        is_same(texts.peek(number), wanted),
-        "the text {number} that is looked at"
+        is_same(texts.peek(key), wanted),
+        "the text {key:?} that is looked at"
     );
-    match (texts.take(number), wanted) {
+    match (texts.take(key), wanted) {
         (Some(found), Some(octets)) => {
-            assert!(rt; found.as_slice() == octets, "the text {number}");
-            texts.put(number, found)?;
+            assert!(rt; found.as_slice() == octets, "the text {key:?}");
+            texts.put(key, found)?;
             Ok(())
         }
         (None, None) => Ok(()),
@@ -38,35 +38,38 @@ fn same(
 }
 
 #[test]
-fn a_text_is_kept_under_its_number(rt: HostRuntime) -> Result<(), Fail> {
+fn a_text_is_kept_under_its_key(rt: HostRuntime) -> Result<(), Fail> {
     let alloc = rt.alloc();
     let mut texts = Texts::new(alloc);
-    same(&rt, &mut texts, 1, None)?;
-    texts.put(1, text(alloc, b"opal")?)?;
-    texts.put(2, text(alloc, b"")?)?;
-    texts.put(1, text(alloc, b"fire opal")?)?;
-    same(&rt, &mut texts, 1, Some(b"fire opal"))?;
-    same(&rt, &mut texts, 2, Some(b""))?;
-    assert_eq!(rt; texts.octets, 9);
+    same(&rt, &mut texts, (1, 0), None)?;
+    texts.put((1, 0), text(alloc, b"opal")?)?;
+    texts.put((2, 0), text(alloc, b"")?)?;
+    texts.put((1, 1), text(alloc, b"ore")?)?;
+    texts.put((1, 0), text(alloc, b"fire opal")?)?;
+    same(&rt, &mut texts, (1, 0), Some(b"fire opal"))?;
+    same(&rt, &mut texts, (2, 0), Some(b""))?;
+    same(&rt, &mut texts, (1, 1), Some(b"ore"))?;
+    same(&rt, &mut texts, (0, 1), None)?;
+    assert_eq!(rt; texts.octets, 12);
     texts.forget_all();
-    same(&rt, &mut texts, 1, None)?;
+    same(&rt, &mut texts, (1, 0), None)?;
     assert_eq!(rt; texts.octets, 0);
-    texts.put(3, text(alloc, b"dot")?)?;
-    same(&rt, &mut texts, 3, Some(b"dot"))
+    texts.put((3, 0), text(alloc, b"dot")?)?;
+    same(&rt, &mut texts, (3, 0), Some(b"dot"))
 }
 
 #[test]
 fn one_text_more_takes_the_place_of_the_last(rt: HostRuntime) -> Result<(), Fail> {
     let alloc = rt.alloc();
     let mut texts = Texts::new(alloc);
-    for number in 0..MAX_TEXTS as u64 {
-        texts.put(number, text(alloc, b"o")?)?;
+    for part in 0..MAX_TEXTS as u64 {
+        texts.put((1, part), text(alloc, b"o")?)?;
     }
-    same(&rt, &mut texts, 0, Some(b"o"))?;
-    texts.put(1000, text(alloc, b"oo")?)?;
-    same(&rt, &mut texts, 1, None)?;
-    same(&rt, &mut texts, 0, Some(b"o"))?;
-    same(&rt, &mut texts, 2, Some(b"o"))?;
+    same(&rt, &mut texts, (1, 0), Some(b"o"))?;
+    texts.put((2, 0), text(alloc, b"oo")?)?;
+    same(&rt, &mut texts, (1, 1), None)?;
+    same(&rt, &mut texts, (1, 0), Some(b"o"))?;
+    same(&rt, &mut texts, (1, 2), Some(b"o"))?;
     assert_eq!(rt; texts.octets, MAX_TEXTS + 1);
     Ok(())
 }

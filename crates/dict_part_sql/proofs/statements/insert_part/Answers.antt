@@ -2,10 +2,11 @@ use Rattle.std.proofs.Common.{codes, rules, ap, arith}
 use mir.Syntax.{w64}
 use mir.Val.{SFits}
 use Rattle.sqlite.specs.Held.{state}
+use Rattle.dict_records.specs.Records.{Part}
 use Rattle.dict_sql.proofs.NumberLemmas.{bound_int}
 use Rattle.dict_sql.proofs.StateLemmas.{inside, fails_in}
 use Rattle.dict_sql.proofs.RefusalLemmas.{adds_aside}
-use Rattle.dict_part_sql.specs.Records.{Part, lent_part, part_row}
+use Rattle.dict_part_sql.specs.Records.{lent_part, part_row}
 use Rattle.dict_part_sql.specs.Texts.{insert_text}
 use Rattle.dict_part_sql.proofs.PartTexts.{add_ends_none, adds_part, part_fails}
 use Rattle.dict_part_sql.proofs.statements.insert_part.Goals as goal

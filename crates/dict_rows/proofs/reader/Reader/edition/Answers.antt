@@ -1,4 +1,4 @@
-use Rattle.std.proofs.Common.{rules, ◌≡◌, ◌<◌, ◌++◌, ◌∷◌, true, false, refl, sym, ◌∙◌, length, take, drop, string_bytes}
+use Rattle.std.proofs.Common.{rules, arith, ◌≡◌, ◌<◌, ◌++◌, ◌∷◌, true, false, refl, sym, ◌∙◌, length, take, drop, string_bytes}
 use Rattle.std.specs.Prelude.{map, IsUtf8}
 use Rattle.std.specs.List.{list_any}
 use Rattle.std.proofs.lemmas.Bool.{false≢true}
@@ -8,7 +8,7 @@ use Rattle.dict_records.specs.Typed.{owned_edition}
 use Rattle.dict_catalogue.specs.Views.{item_shown}
 use Rattle.dict_rows.specs.Titles.{awaits, item_titled}
 use Rattle.dict_rows.proofs.ListLemmas.{map_found}
-use Rattle.dict_rows.proofs.StepLemmas.{number_refused, place_refused, title_refused, info_refused, edition_taken}
+use Rattle.dict_rows.proofs.StepLemmas.{number_refused, place_refused, title_refused, info_refused, text_refused, edition_taken}
 use Rattle.dict_rows.proofs.reader.Reader.edition.Goals as goal
 
 pub returns-in_err-number-clause-damaged : goal.returns-in_err-number-clause-damaged
@@ -32,6 +32,9 @@ returns-then-not-is_edition_text-clause-damaged c = λ version taken h.
     let tested = rw c.as_bytes.ensures.value at c.is_edition_text.ensures in
     info_refused version taken (owned_edition c.args.row) (λ lawful. false≢true (sym c.if-not-is_edition_text.true ∙ tested.1 lawful))
 
+pub returns-then-len-ge-TEXT_END-clause-damaged : goal.returns-then-len-ge-TEXT_END-clause-damaged
+returns-then-len-ge-TEXT_END-clause-damaged c = λ version taken h. text_refused version taken (owned_edition c.args.row) (λ short. let below : length c.args.row.body.items < 68719476736 = short in omega (arith, below, c.len.ensures, c.if-len-ge-TEXT_END.true))
+
 pub returns-clause-taken : goal.returns-clause-taken
 returns-clause-taken c = λ version taken h.
     let place = c.in-Some.place in
@@ -42,5 +45,6 @@ returns-clause-taken c = λ version taken h.
     let lawful : is_title (string_bytes c.args.row.title) ≡ true = search rules in
     let text : IsUtf8 (string_bytes c.args.row.title) = rw c.as_str-2.ensures.value at c.as_str-2.utf8 in
     let written : map item_shown c.title_at.new.items.items ≡ split.0 ++ item_titled c.in_ok-number.number (string_bytes c.args.row.title) split.1 ∷ split.2 = c.title_at.ensures split.0 split.1 split.2 split.3 split.4 in
+    let short : length c.args.row.body.items < 68719476736 = omega (arith, c.len.ensures, c.if-len-ge-TEXT_END.false) in
     edition_taken version (record (c.args.self.now) { edition = h.0 }) _ taken (owned_edition c.args.row) c.in_ok-number.number split.0 split.1 split.2 split.3 written refl refl refl c.take_in_hand.ensures
-    c.in_ok-number.ensures.number split.5 text lawful (tested.0 c.if-not-is_edition_text.false) h.1
+    c.in_ok-number.ensures.number split.5 text lawful (tested.0 c.if-not-is_edition_text.false) short h.1

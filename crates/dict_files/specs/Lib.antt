@@ -1,0 +1,4 @@
+pub mod Files
+pub mod AllTables
+pub mod Told
+pub mod Worked

@@ -1,0 +1,5 @@
+pub mod Table
+pub mod Records
+pub mod Texts
+pub mod Infos
+pub mod Scans
