@@ -1,75 +1,82 @@
 -- All records were read.
-use Rattle.std.proofs.Common.{◌≡◌, ℕ, ◌+◌, ℤ, pos, true, List, [], ◌∷◌, ◌++◌, map, drop, codes, refl, sym, ap, subst, ◌∙◌, arith, append-nil}
+use Rattle.std.proofs.Common.{◌≡◌, ℕ, ◌+◌, ℤ, pos, Bool, true, false, List, [], ◌∷◌, ◌++◌, map, drop, filter, length, cond, codes, inl, inr, refl, sym, ap, subst, ◌∙◌, arith, append-nil}
 use Rattle.std.specs.Prelude.{IsTrue}
-use Rattle.std.specs.List.{AllByRecursion, list_any}
+use Rattle.std.specs.List.{AllByRecursion}
 use Rattle.std.specs.List.Sorted.{IsPermutation}
+use Rattle.std.proofs.lemmas.Bool.{false≢true}
+use Rattle.std.proofs.lemmas.Grind.{flat_map-append}
+use Rattle.std.proofs.lemmas.List.{map-append, length-append}
 use Rattle.std.proofs.lemmas.List.Sorted.{IsPermutation-map, IsPermutation-sym, IsPermutation-trans}
 use Rattle.sqlite.specs.Effect.{Database}
-use Rattle.sqlite.specs.Order.{Row, column}
-use Rattle.sqlite.specs.declared.types.Value.TheVariants.{Int}
-use Rattle.dict_text.proofs.AllLemmas.{all_weaker}
+use Rattle.dict_text.proofs.AllLemmas.{all_filter, all_weaker}
 use Rattle.dict_records.specs.Records as spec
+use Rattle.dict_records.specs.Records.{header_of}
+use Rattle.dict_index.specs.Line.{Line}
+use Rattle.dict_index_lines.specs.Stored.{stored_line, stored_index}
 use Rattle.dict_sql.specs.Effects.{rows_of}
-use Rattle.dict_sql.specs.Encodings.{mark_row, item_row, member_row, edition_row, kept_row, stored_kept, stored_number}
-use Rattle.dict_sql.specs.Reads.{IsListing, numbered as numbered_of}
-use Rattle.dict_holdings.specs.Holds.{Keeps}
-use Rattle.dict_catalogue.specs.Items.{name_of, editions_of, edition_numbers, is_known}
+use Rattle.dict_sql.specs.Encodings.{mark_row, item_row, member_row, kept_row, stored_kept}
+use Rattle.dict_sql.specs.Reads.{IsListing}
+use Rattle.dict_header_sql.specs.Records.{header_row}
+use Rattle.dict_catalogue.specs.Items.{name_of as name_in, editions_of, is_known}
 use Rattle.dict_catalogue.specs.Steps.{Catalogue}
 use Rattle.dict_catalogue.specs.WellFormed.{total, IsEachOnce}
 use Rattle.dict_catalogue.proofs.ListLemmas.{sum_append}
-use Rattle.dict_rows.specs.Tables.{Tables, same_number, editions_numbered, entries_of}
 use Rattle.dict_rows.specs.Given.{kept_given}
 use Rattle.dict_rows.specs.Stands.{Stands, HoldsMembers, HoldsEdition, HoldsEditions, has_number}
-use Rattle.dict_rows.specs.Taken.{BeginsWith, items_in}
+use Rattle.dict_rows.specs.Tables.{Tables, same_number, editions_numbered, entries_of}
+use Rattle.dict_rows.specs.Taken.{BeginsWith, GoesOn}
+use Rattle.dict_rows.specs.Versions.{Layout, Plain, Keyed, Shown, Parted, layout_of}
 use Rattle.dict_rows.specs.Whole.{with_replies}
 use Rattle.dict_rows.specs.declared.reader.Reader.{Reader}
-use Rattle.dict_rows.proofs.OrderLemmas.{Same, same_from, same_passed, all_same}
+use Rattle.dict_rows.proofs.OrderLemmas.{IsIn, Same, in_all, passed_in, same_from, same_passed}
 use Rattle.dict_rows.proofs.PartLemmas.{filter_whole}
-use Rattle.dict_rows.proofs.TakenLemmas.{holds_same}
-use Rattle.dict_rows.specs.Versions.{Layout, layout_of}
-use Rattle.dict_holdings.proofs.ReadingLemmas.{editions_kept, replies_kept}
-use Rattle.dict_scans.specs.Census.{one_of}
+use Rattle.dict_rows.proofs.TakenLemmas.{holds_same, same_number_is, same_itself}
+use Rattle.dict_files.specs.AllTables.{with_derived}
+use Rattle.dict_files.specs.Files.{entry_line, index_octets}
+use Rattle.dict_holdings.specs.Holds.{Keeps}
+use Rattle.dict_holdings.specs.Readings.{AreShownIn, editions, contents, name_of}
+use Rattle.dict_holdings.proofs.ReadingLemmas.{map_twice, editions_kept, headers_kept, replies_kept}
+use Rattle.dict_scans.specs.Census.{one_of, is_of_contents}
 use Rattle.dict_scans.specs.Entries.{behind, entry_cells}
-use Rattle.dict_scans.specs.Takers.{KeptRow, number_given}
-use Rattle.dict_scans.proofs.CodecLemmas.{Codec, edition_codec, kept_codec}
-use Rattle.dict_scans.proofs.RowidLemmas.{all_of_map}
-use Rattle.dict_opening.specs.Opens.{Keeping, KeepsNone, Fits, HasRecords, HasBegun, HasNamed, AreAllKnown, HasReplies, HasAll, numbers_in}
-use Rattle.dict_opening.proofs.EntryLemmas.{entries_rows, entries_both}
+use Rattle.dict_scans.specs.Files.{HasFile}
+use Rattle.dict_scans.specs.Takers.{KeptRow}
+use Rattle.dict_scans.proofs.CodecLemmas.{Codec, edition_codec, header_codec, kept_codec}
+use Rattle.dict_opening.specs.Opens.{Keeping, KeepsNone, Fits, HasBegun, HasNamed, HasRows, HasAllRows, AreAllKnown, HasReplies, HasAll, numbers_in}
+use Rattle.dict_opening.proofs.EntryLemmas.{HasEntryTable, entries_rows, entries_both}
+use Rattle.dict_opening.proofs.FileLemmas.{has_index, headers_of, index_is}
 use Rattle.dict_opening.proofs.FitLemmas.{fits_replies}
-use Rattle.dict_opening.proofs.PartLemmas.{numbered_row, numbers_is}
+use Rattle.dict_opening.proofs.ToldLemmas.{KeptAs, kept_as, find, its_record, only, index_told}
 use Rattle.dict_opening.proofs.WrongLemmas.{rows_listed}
 
--- ---- no strays, so the editions of the items are all
+-- ---- no strays, so what was read of the editions of the items is all
 
-rows_known : {R : Type 0} (stored : R → Row) (number : R → ℤ) → ((r : R) → column (stored r) 1 ≡ Int (number r)) → (ns : List ℕ) (given : List R) → AllByRecursion (λ r. list_any (λ one. same_number (pos one) (number r)) ns ≡ true) given → AllByRecursion (λ row. one_of (map pos ns) row ≡ true) (map stored given)
-rows_known stored number is ns [] h = tt
-rows_known stored number is ns (r ∷ given) h = (numbered_row (stored r) (number r) (map pos ns) (is r) (sym (numbers_is ns (number r)) ∙ h.0), rows_known stored number is ns given h.1)
+-- more replies change nothing of editions and of entries
+editions_still : (layout : Layout) (db : Database) (t : Tables) (kept : List spec.Kept) → HasRows db t (editions layout) → HasRows db (record t { kept = kept }) (editions layout)
+editions_still Plain db t kept h = h
+editions_still Keyed db t kept h = h
+editions_still Shown db t kept h = h
+editions_still Parted db t kept h = h
 
-module _ (version : ℕ) (db : Database) (reader : Reader) (front taken : Tables) (all : AreAllKnown version db reader) (named : HasNamed version db reader front taken) where
+contents_still : (layout : Layout) (db : Database) (t : Tables) (kept : List spec.Kept) → HasRows db t (contents layout) → HasRows db (record t { kept = kept }) (contents layout)
+contents_still Plain db t kept h = h
+contents_still Keyed db t kept h = h
+contents_still Shown db t kept h = h
+contents_still Parted db t kept h = h
+
+module _ (version : ℕ) (db : Database) (reader : Reader) (front taken : Tables) (all : AreAllKnown (layout_of version) db (numbers_in reader)) (named : HasNamed version db reader front taken) where
   abbrev layout : Layout
   layout = layout_of version
 
   abbrev numbers : List ℤ
   numbers = numbers_in reader
 
-  abbrev IsNamed : Row → Type 0
-  IsNamed row = one_of numbers row ≡ true
-
-  all_named : {R : Type 0} (stored : R → Row) (number : R → ℤ) → ((r : R) → column (stored r) 1 ≡ Int (number r)) → (rows : List Row) (given : List R) → IsPermutation rows (map stored given) → AllByRecursion (λ r. IsTrue (has_number (items_in reader) (number r))) given → AllByRecursion IsNamed rows
-  all_named stored number is rows given same known = all_same IsNamed (map stored given) rows (IsPermutation-sym _ _ same) (rows_known stored number is (edition_numbers (items_in reader)) given known)
-
-  pub editions_all : IsPermutation (map edition_row taken.editions) (map (drop 1) (rows_of (codes "edition") db))
+  editions_all : HasRows db taken (editions layout)
   editions_all =
-      let rows = rows_of (codes "edition") db in
-      let each = all_of_map numbered_of IsNamed IsNamed (λ row p. p) rows (all_named stored_number number_given (λ r. refl) (map numbered_of rows) all.editions.0 all.editions.1.same all.editions.2) in
-      let same = subst (λ rows. IsPermutation rows named.edition_rows) (filter_whole (one_of numbers) rows each) named.editions in
-      subst (λ xs. IsPermutation xs (map (drop 1) (rows_of (codes "edition") db))) named.editions_are (IsPermutation-map (drop 1) _ _ (IsPermutation-sym _ _ same))
+      subst (λ rows. IsPermutation ((editions layout).rows (with_derived taken)) (map (λ row. drop 1 ((editions layout).looked row)) rows)) (filter_whole (one_of numbers) (rows_of (name_of (editions layout)) db) all.editions.known) named.editions_are
 
-  pub entries_all : IsPermutation (map (entry_cells layout) taken.entries) (map (behind layout) (rows_of (codes "entry") db))
-  entries_all =
-      let rows = rows_of (codes "entry") db in
-      let same = subst (λ rows. IsPermutation rows named.entry_rows) (filter_whole (one_of numbers) rows all.rows.0.known) named.entries in
-      subst (λ xs. IsPermutation xs (map (behind layout) (rows_of (codes "entry") db))) named.entries_are (IsPermutation-map (behind layout) _ _ (IsPermutation-sym _ _ same))
+  contents_all : HasRows db taken (contents layout)
+  contents_all =
+      subst (λ rows. IsPermutation ((contents layout).rows (with_derived taken)) (map (λ row. drop 1 ((contents layout).looked row)) rows)) (filter_whole (is_of_contents layout numbers) (rows_of (name_of (contents layout)) db) all.contents.known) named.contents_are
 
   module _ (begun : HasBegun version db front) (after : Tables) (replies : HasReplies db taken after) where
     none_yet : taken.kept ≡ []
@@ -83,15 +90,20 @@ module _ (version : ℕ) (db : Database) (reader : Reader) (front taken : Tables
 
     all_read : HasAll version db reader front (with_replies taken (kept_given given))
     all_read = record {
-      keeps = record {
-        marks = subst (λ ms. IsPermutation (map mark_row ms) (map (drop 1) (rows_of (codes "mark") db))) (sym named.marks) begun.marks;
-        items = subst (λ is. IsPermutation (map item_row is) (map (drop 1) (rows_of (codes "item") db))) (sym named.items) begun.items;
-        members = subst (λ ms. IsPermutation (map member_row ms) (map (drop 1) (rows_of (codes "member") db))) (sym named.members) begun.members;
-        editions = editions_all;
-        entries = entries_all;
-        shown = named.shown;
-        kept = subst (λ ks. IsPermutation (map kept_row ks) (map (drop 1) (rows_of (codes "kept") db))) (sym kept_is) (rows_listed kept_codec (codes "kept") (2 ∷ []) db given replies.listing);
-      };
+      keeps = (
+        subst (λ ms. IsPermutation (map mark_row ms) (map (drop 1) (rows_of (codes "mark") db))) (sym named.marks) begun.marks,
+        (
+          subst (λ is. IsPermutation (map item_row is) (map (drop 1) (rows_of (codes "item") db))) (sym named.items) begun.items,
+          (
+            subst (λ ms. IsPermutation (map member_row ms) (map (drop 1) (rows_of (codes "member") db))) (sym named.members) begun.members,
+            (
+              subst (λ ks. IsPermutation (map kept_row ks) (map (drop 1) (rows_of (codes "kept") db))) (sym kept_is) (rows_listed kept_codec (codes "kept") (2 ∷ []) db given replies.listing),
+              (editions_still layout db taken (taken.kept ++ kept_given given) editions_all, (contents_still layout db taken (taken.kept ++ kept_given given) contents_all, tt)),
+            ),
+          ),
+        ),
+      );
+      shown = named.shown;
       goes = record {
         marks = named.marks;
         items = named.items;
@@ -102,8 +114,7 @@ module _ (version : ℕ) (db : Database) (reader : Reader) (front taken : Tables
       };
       fits = fits_replies version db taken named.fits none_yet given ([], subst (λ rows. IsListing (codes "kept") (2 ∷ []) db rows) (sym (append-nil (map stored_kept given))) replies.listing);
       ids = subst (λ ks. IsEachOnce (map (λ (row : spec.Kept). row.id) ks)) (sym kept_is) replies.ids;
-      pieces = named.pieces;
-      known = all.rows;
+      known = all;
     }
 
     pub has_all : HasAll version db reader front after
@@ -130,25 +141,132 @@ nothing_more xs ys b s =
     let none : b.0 ≡ [] = no_more b.0 (omega (arith, one, two)) in
     b.1 ∙ ap (λ l. ys ++ l) none ∙ append-nil ys
 
-module _ (version : ℕ) (db : Database) (after : Tables) (keeps : HasRecords (layout_of version) db after) (fits : Fits version db after) where
+-- ---- lists of which each number has the same
+
+each_in : {X : Type 0} (P : X → Type 0) (xs : List X) → ((x : X) → IsIn x xs → P x) → AllByRecursion P xs
+each_in P [] h = tt
+each_in P (x ∷ xs) h = (h x (inl refl), each_in P xs (λ y i. h y (inr i)))
+
+-- what holds of all of one holds of all of the other
+carried : {X : Type 0} (key : X → ℤ) (P : X → Type 0) (xs ys : List X) → ((n : ℤ) → filter (λ x. same_number (key x) n) xs ≡ filter (λ x. same_number (key x) n) ys) → AllByRecursion P xs → AllByRecursion P ys
+carried {X} key P xs ys same all =
+    each_in P ys (λ y i.
+    in_all P y (filter (λ x. same_number (key x) (key y)) xs) (all_filter P (λ x. same_number (key x) (key y)) xs all)
+    (subst (IsIn y) (sym (same (key y))) (passed_in (λ x. same_number (key x) (key y)) y ys (same_itself (key y)) i)))
+
+-- a list that goes on with as many as were there goes on with none
+as_many : {X : Type 0} (xs ys : List X) → BeginsWith xs ys → length xs ≡ length ys → xs ≡ ys
+as_many {X} xs ys b e = b.1 ∙ ap (λ l. ys ++ l) (none b.0 (let size = ap length b.1 ∙ length-append ys b.0 in omega (arith, size, e))) ∙ append-nil ys
+  where
+    none : (more : List X) → length more ≡ 0 → more ≡ []
+    none [] e = refl
+    none (x ∷ more) e = absurd (omega (arith, e))
+
+count_map : {X Y : Type 0} (f : X → Y) (xs : List X) → total (λ y. 1) (map f xs) ≡ length xs
+count_map f [] = refl
+count_map f (x ∷ xs) = let rest = count_map f xs in omega (arith, rest)
+
+-- an index has octets for each line
+no_octets : (es : List spec.Entry) → index_octets es ≡ [] → es ≡ []
+no_octets [] e = refl
+no_octets (x ∷ es) e = absurd (let size = ap length e in let line = length-append (stored_line (entry_line x) ++ 10 ∷ []) (index_octets es) in let own = length-append (stored_line (entry_line x)) (10 ∷ []) in omega (arith, size, line, own))
+
+index_append : (xs ys : List spec.Entry) → index_octets (xs ++ ys) ≡ index_octets xs ++ index_octets ys
+index_append xs ys = ap stored_index (map-append entry_line xs ys) ∙ flat_map-append (λ (said : Line). stored_line said ++ 10 ∷ []) (map entry_line xs) (map entry_line ys)
+
+-- so entries with the same index as the first of them are no more
+same_index : (xs ys : List spec.Entry) → BeginsWith xs ys → index_octets xs ≡ index_octets ys → xs ≡ ys
+same_index xs ys b e =
+    let whole : index_octets xs ≡ index_octets ys ++ index_octets b.0 = ap index_octets b.1 ∙ index_append ys b.0 in
+    let size = ap length whole ∙ length-append (index_octets ys) (index_octets b.0) in
+    let same = ap length e in
+    b.1 ∙ ap (λ l. ys ++ l) (no_octets b.0 (none (index_octets b.0) (omega (arith, size, same)))) ∙ append-nil ys
+  where
+    none : (l : List ℕ) → length l ≡ 0 → l ≡ []
+    none [] e = refl
+    none (x ∷ l) e = absurd (omega (arith, e))
+
+-- ---- of editions and of entries
+
+record AreSame (T after : Tables) : Type 0 where
+  editions : (n : ℤ) → editions_numbered n T.editions ≡ editions_numbered n after.editions
+  entries : (n : ℤ) → entries_of n T.entries ≡ entries_of n after.entries
+
+module _ (version : ℕ) (db : Database) (T after : Tables) (M : Catalogue) (s : Stands version T M) (goes : GoesOn after T) where
+  table_same : (layout : Layout) → HasEntryTable layout → KeptAs layout db T → AreShownIn layout after.entries → Keeps (codes "edition") edition_codec.encode db T.editions → IsPermutation (map edition_codec.encode after.editions) (map (drop 1) (rows_of (codes "edition") db))
+      → IsPermutation (map (entry_cells layout) after.entries) (map (behind layout) (rows_of (codes "entry") db)) → AreSame T after
+  table_same layout has k shown keeps rows cells =
+      let editions = records_back edition_codec (codes "edition") db T.editions after.editions keeps rows in
+      let entries = entries_both layout T.entries after.entries (map (behind layout) (rows_of (codes "entry") db)) k.shown shown (entries_rows layout has db T k.keeps.1.1.1.1.1.0) cells in
+      record {
+        editions = (λ n. nothing_more _ _ (goes.editions n) (same_passed (λ row. same_number row.number n) T.editions after.editions (same_from T.editions after.editions editions)));
+        entries = (λ n. nothing_more _ _ (goes.entries n) (same_passed (λ row. same_number row.edition n) T.entries after.entries (same_from T.entries after.entries entries)));
+      }
+
+  parted_same : KeptAs Parted db T → HasRows db after (editions Parted) → HasRows db after (contents Parted) → AreSame T after
+  parted_same k rows parts = record { editions = one; entries = (λ n. each n (has_number M.items n) refl) }
+    where
+      mine : Keeps (codes "edition") header_row db (map header_of T.editions)
+      mine = let kept = headers_kept db T k.keeps in record { rows = subst (λ l. IsPermutation l (map (drop 1) (rows_of (codes "edition") db))) (sym (map_twice header_of header_row T.editions)) kept.rows; apart = kept.apart }
+
+      headers : IsPermutation (map header_of T.editions) (map header_of after.editions)
+      headers = records_back header_codec (codes "edition") db (map header_of T.editions) (map header_of after.editions) mine (subst (λ l. IsPermutation l (map (drop 1) (rows_of (codes "edition") db))) (sym (map_twice header_of header_row after.editions)) rows)
+
+      one : (n : ℤ) → editions_numbered n T.editions ≡ editions_numbered n after.editions
+      one n =
+          let same : Same (map header_of (editions_numbered n T.editions)) (map header_of (editions_numbered n after.editions)) =
+          subst (λ l. Same l (map header_of (editions_numbered n after.editions))) (headers_of n T.editions)
+          (subst (Same (filter (λ (h : spec.Header). same_number h.number n) (map header_of T.editions))) (headers_of n after.editions)
+          (same_passed (λ (h : spec.Header). same_number h.number n) (map header_of T.editions) (map header_of after.editions) (same_from (map header_of T.editions) (map header_of after.editions) headers))) in
+          as_many (editions_numbered n T.editions) (editions_numbered n after.editions) (goes.editions n)
+          (sym (count_map header_of (editions_numbered n T.editions)) ∙ same.counts (λ h. true) ∙ count_map header_of (editions_numbered n after.editions))
+
+      unknown : (n : ℤ) → has_number M.items n ≡ false → (es : List spec.Entry) → AllByRecursion (λ (x : spec.Entry). IsTrue (has_number M.items x.edition)) es → entries_of n es ≡ []
+      unknown n absent [] all = refl
+      unknown n absent (x ∷ es) all = split (same_number x.edition n) refl (unknown n absent es all.1)
+        where
+          split : (b : Bool) → same_number x.edition n ≡ b → entries_of n es ≡ [] → cond b (x ∷ entries_of n es) (entries_of n es) ≡ []
+          split true e rest = absurd (false≢true (sym absent ∙ subst (λ m. has_number M.items m ≡ true) (same_number_is x.edition n e) all.0))
+          split false e rest = rest
+
+      nothing : (xs ys : List spec.Entry) → BeginsWith xs ys → xs ≡ [] → ys ≡ []
+      nothing xs [] b e = refl
+      nothing xs (y ∷ ys) b e = absurd (let some : y ∷ (ys ++ b.0) ≡ [] = sym b.1 ∙ e in cc)
+
+      each : (n : ℤ) (b : Bool) → has_number M.items n ≡ b → entries_of n T.entries ≡ entries_of n after.entries
+      each n true known =
+          let found = find version T M n s known in
+          let index : HasFile db n (pos 0) (index_octets (entries_of n after.entries)) = has_index db after parts n (its_record db T M.items n found) (sym (one n) ∙ only db T M.items n found) found.is in
+          let told = index_told db T M.items n found k.keeps (index_octets (entries_of n after.entries)) index in
+          let own : index_octets (entries_of n T.entries) ≡ stored_index found.holds.reading.lines = subst (λ m. index_octets (entries_of m T.entries) ≡ stored_index found.holds.reading.lines) found.is (index_is T found.stored.number found.holds.reading.lines found.holds.entries) in
+          same_index (entries_of n T.entries) (entries_of n after.entries) (goes.entries n) (own ∙ sym told)
+      each n false absent =
+          let none = unknown n absent T.entries s.entries in
+          none ∙ sym (nothing (entries_of n T.entries) (entries_of n after.entries) (goes.entries n) none)
+
+  are_same : (layout : Layout) → KeptAs layout db T → AreShownIn layout after.entries → HasRows db after (editions layout) → HasRows db after (contents layout) → AreSame T after
+  are_same Plain k shown rows cells = table_same Plain tt k shown (editions_kept Plain db T refl k.keeps) rows cells
+  are_same Keyed k shown rows cells = table_same Keyed tt k shown (editions_kept Keyed db T refl k.keeps) rows cells
+  are_same Shown k shown rows cells = table_same Shown tt k shown (editions_kept Shown db T refl k.keeps) rows cells
+  are_same Parted k shown rows cells = parted_same k rows cells
+
+module _ (version : ℕ) (db : Database) (after : Tables) (keeps : HasAllRows version db after) (shown : AreShownIn (layout_of version) after.entries) (fits : Fits version db after) where
   stands_after : (T : Tables) (M : Catalogue) → Keeping version db after.members T M → Stands version after M
   stands_after T M K =
       let goes = fits T M K in
       let s = K.stands in
-      let editions = records_back edition_codec (codes "edition") db T.editions after.editions (editions_kept (layout_of version) db T K.keeps) keeps.editions in
-      let entries = entries_both (layout_of version) T.entries after.entries (map (behind (layout_of version)) (rows_of (codes "entry") db)) K.shown keeps.shown (entries_rows (layout_of version) db T K.keeps.1.1.1.1.0) keeps.entries in
-      let kept = records_back kept_codec (codes "kept") db T.kept after.kept (replies_kept (layout_of version) db T K.keeps) keeps.kept in
-      let one : (n : ℤ) → editions_numbered n T.editions ≡ editions_numbered n after.editions = λ n. nothing_more _ _ (goes.editions n) (same_passed (λ row. same_number row.number n) T.editions after.editions (same_from T.editions after.editions editions)) in
-      let each : (n : ℤ) → entries_of n T.entries ≡ entries_of n after.entries = λ n. nothing_more _ _ (goes.entries n) (same_passed (λ row. same_number row.edition n) T.entries after.entries (same_from T.entries after.entries entries)) in
+      let kept = records_back kept_codec (codes "kept") db T.kept after.kept (replies_kept (layout_of version) db T K.keeps) keeps.1.1.1.0 in
+      let it = are_same version db T after M s goes (layout_of version) (kept_as version db after.members T M K) shown keeps.1.1.1.1.0 keeps.1.1.1.1.1.0 in
       record {
         well_formed = s.well_formed;
         marks = sym goes.marks ∙ s.marks;
         items = sym goes.items ∙ s.items;
         members = subst (λ ms. AllByRecursion (HoldsMembers ms) M.items) goes.members s.members;
         owners = subst (AllByRecursion (λ (row : spec.Member). IsTrue (is_known M.items row.owner))) goes.members s.owners;
-        editions = all_weaker (HoldsEditions T) (HoldsEditions after) (λ item g. all_weaker (HoldsEdition T (name_of item)) (HoldsEdition after (name_of item)) (λ stored h. holds_same T after (name_of item) stored (record { editions = sym (one (pos stored.number)); entries = sym (each (pos stored.number)) }) h) (editions_of item) g) M.items s.editions;
-        numbers = all_same (λ (row : spec.Edition). IsTrue (has_number M.items row.number)) T.editions after.editions editions s.numbers;
-        entries = all_same (λ (row : spec.Entry). IsTrue (has_number M.items row.edition)) T.entries after.entries entries s.entries;
+        editions = all_weaker (HoldsEditions T) (HoldsEditions after)
+            (λ item g. all_weaker (HoldsEdition T (name_in item)) (HoldsEdition after (name_in item)) (λ stored h. holds_same T after (name_in item) stored (record { editions = sym (it.editions (pos stored.number)); entries = sym (it.entries (pos stored.number)) }) h) (editions_of item) g) M.items s.editions;
+        numbers = carried (λ (row : spec.Edition). row.number) (λ row. IsTrue (has_number M.items row.number)) T.editions after.editions it.editions s.numbers;
+        entries = carried (λ (row : spec.Entry). row.edition) (λ row. IsTrue (has_number M.items row.edition)) T.entries after.entries it.entries s.entries;
         kept = sym (nothing_more T.kept after.kept goes.kept (same_from T.kept after.kept kept)) ∙ s.kept;
       }
 

@@ -12,22 +12,18 @@ use Rattle.sqlite.specs.Order.{Row, column, value_cmp}
 use Rattle.sqlite.specs.declared.types.Value.TheVariants.{Int}
 use Rattle.dict_text.proofs.AllLemmas.{all_append, all_filter}
 use Rattle.dict_records.specs.Records as spec
-use Rattle.dict_sql.specs.Columns.{HasColumns}
-use Rattle.dict_sql.specs.Effects.{HasApartRowids, rows_of, same_value, equals_number}
-use Rattle.dict_sql.specs.Encodings.{entry_row}
+use Rattle.dict_sql.specs.Effects.{rows_of, same_value, equals_number}
 use Rattle.dict_sql.specs.Reads.{by_columns}
 use Rattle.dict_rows.specs.Order.{InOrder}
 use Rattle.dict_rows.specs.Tables.{Tables, same_number}
-use Rattle.dict_rows.specs.Versions.{Layout, Plain, Keyed, Shown}
+use Rattle.dict_rows.specs.Versions.{Layout, Plain, Keyed, Shown, Parted}
 use Rattle.dict_rows.proofs.OrderLemmas.{order_given, all_same}
-use Rattle.dict_derived.specs.Entries.{filed, plain}
-use Rattle.dict_derived.specs.AllTables.{with_derived}
-use Rattle.dict_holdings.specs.Readings.{KeepsRows, AreShownIn, entries, filed_row}
+use Rattle.dict_files.specs.AllTables.{with_derived}
+use Rattle.dict_holdings.specs.Readings.{KeepsRows, AreShownIn, contents}
 use Rattle.dict_holdings.proofs.ReadLemmas.{sorted_order, one_le}
 use Rattle.dict_holdings.proofs.ReadingLemmas.{map_twice}
 use Rattle.dict_scans.specs.Entries.{behind, entry_cells}
-use Rattle.dict_opening.specs.Opens.{AreReadableEntries}
-use Rattle.dict_holdings.proofs.OneLemmas.{decode_entry, decode_filed, entry_back, filed_back, both_where}
+use Rattle.dict_holdings.proofs.OneLemmas.{decode_entry, decode_shown, entry_back, shown_back, both_where}
 use Rattle.dict_scans.proofs.NumberLemmas.{same_int}
 use Rattle.dict_scans.proofs.RowidLemmas.{all_of_map}
 
@@ -36,15 +32,24 @@ use Rattle.dict_scans.proofs.RowidLemmas.{all_of_map}
 abbrev decode_cells : Layout → Row → spec.Entry
 decode_cells Plain cells = decode_entry cells
 decode_cells Keyed cells = decode_entry cells
-decode_cells Shown cells = decode_filed cells
+decode_cells Shown cells = decode_shown cells
+decode_cells Parted cells = decode_shown cells
+
+-- the layout has a row for each entry
+abbrev pub HasEntryTable : Layout → Type 0
+HasEntryTable Plain = Unit {0}
+HasEntryTable Keyed = Unit {0}
+HasEntryTable Shown = Unit {0}
+HasEntryTable Parted = ⊥
 
 -- the entry is shown as one of the layout may be
 abbrev pub IsShownIn : Layout → spec.Entry → Type 0
 IsShownIn Plain e = spec.ShowsHeadword e
 IsShownIn Keyed e = spec.ShowsHeadword e
 IsShownIn Shown e = Unit {0}
+IsShownIn Parted e = Unit {0}
 
-all_units : (es : List spec.Entry) → AllByRecursion (IsShownIn Shown) es
+all_units : (es : List spec.Entry) → AllByRecursion (λ (e : spec.Entry). Unit {0}) es
 all_units [] = tt
 all_units (e ∷ es) = (tt, all_units es)
 
@@ -52,21 +57,25 @@ pub each_shown : (layout : Layout) (es : List spec.Entry) → AreShownIn layout 
 each_shown Plain es h = h
 each_shown Keyed es h = h
 each_shown Shown es h = all_units es
+each_shown Parted es h = all_units es
 
 pub none_shown : (layout : Layout) → AreShownIn layout []
 none_shown Plain = tt
 none_shown Keyed = tt
 none_shown Shown = tt
+none_shown Parted = tt
 
 pub more_shown : (layout : Layout) (xs ys : List spec.Entry) → AreShownIn layout xs → AreShownIn layout ys → AreShownIn layout (xs ++ ys)
 more_shown Plain xs ys h k = all_append spec.ShowsHeadword xs ys h k
 more_shown Keyed xs ys h k = all_append spec.ShowsHeadword xs ys h k
 more_shown Shown xs ys h k = tt
+more_shown Parted xs ys h k = tt
 
 pub cells_back : (layout : Layout) (e : spec.Entry) → IsShownIn layout e → decode_cells layout (entry_cells layout e) ≡ e
 cells_back Plain e h = entry_back e h
 cells_back Keyed e h = entry_back e h
-cells_back Shown e h = filed_back e
+cells_back Shown e h = shown_back e
+cells_back Parted e h = shown_back e
 
 number_seen : (layout : Layout) (row : Row) → column row 1 ≡ column (behind layout row) 0
 number_seen Plain [] = refl
@@ -75,7 +84,10 @@ number_seen Keyed [] = refl
 number_seen Keyed (x ∷ []) = refl
 number_seen Keyed (x ∷ y ∷ row) = refl
 number_seen Shown [] = refl
-number_seen Shown (x ∷ row) = refl
+number_seen Shown (x ∷ []) = refl
+number_seen Shown (x ∷ y ∷ row) = refl
+number_seen Parted [] = refl
+number_seen Parted (x ∷ row) = refl
 
 ord_seen : (layout : Layout) (row : Row) → column row 2 ≡ column (behind layout row) 1
 ord_seen Plain [] = refl
@@ -85,39 +97,30 @@ ord_seen Keyed (x ∷ []) = refl
 ord_seen Keyed (x ∷ y ∷ []) = refl
 ord_seen Keyed (x ∷ y ∷ z ∷ row) = refl
 ord_seen Shown [] = refl
-ord_seen Shown (x ∷ row) = refl
+ord_seen Shown (x ∷ []) = refl
+ord_seen Shown (x ∷ y ∷ []) = refl
+ord_seen Shown (x ∷ y ∷ z ∷ row) = refl
+ord_seen Parted [] = refl
+ord_seen Parted (x ∷ row) = refl
 
 number_in : (layout : Layout) (e : spec.Entry) → column (entry_cells layout e) 0 ≡ Int e.edition
 number_in Plain e = refl
 number_in Keyed e = refl
 number_in Shown e = refl
+number_in Parted e = refl
 
 ord_in : (layout : Layout) (e : spec.Entry) → column (entry_cells layout e) 1 ≡ Int e.ord
 ord_in Plain e = refl
 ord_in Keyed e = refl
 ord_in Shown e = refl
+ord_in Parted e = refl
 
 -- the rows of what a database keeps
-pub entries_rows : (layout : Layout) (db : Database) (t : Tables) → KeepsRows (entries layout) db (with_derived t) → IsPermutation (map (entry_cells layout) t.entries) (map (behind layout) (rows_of (codes "entry") db))
-entries_rows Plain db t k = subst (λ l. IsPermutation l (map (behind Plain) (rows_of (codes "entry") db))) (map_twice filed (λ f. entry_row (plain f)) t.entries) k.rows
-entries_rows Keyed db t k = subst (λ l. IsPermutation l (map (behind Keyed) (rows_of (codes "entry") db))) (map_twice filed (λ f. entry_row (plain f)) t.entries) k.rows
-entries_rows Shown db t k = subst (λ l. IsPermutation l (map (behind Shown) (rows_of (codes "entry") db))) (map_twice filed filed_row t.entries) k.rows
-
-pub entries_apart : (layout : Layout) (db : Database) (t : Tables) → KeepsRows (entries layout) db (with_derived t) → HasApartRowids (rows_of (codes "entry") db)
-entries_apart Plain db t k = k.apart
-entries_apart Keyed db t k = k.apart
-entries_apart Shown db t k = k.apart
-
--- and what it keeps of these rows
-pub rows_entries : (layout : Layout) (db : Database) (t : Tables) → IsPermutation (map (entry_cells layout) t.entries) (map (behind layout) (rows_of (codes "entry") db)) → HasApartRowids (rows_of (codes "entry") db) → KeepsRows (entries layout) db (with_derived t)
-rows_entries Plain db t rows apart = record { rows = subst (λ l. IsPermutation l (map (behind Plain) (rows_of (codes "entry") db))) (sym (map_twice filed (λ f. entry_row (plain f)) t.entries)) rows; apart = apart }
-rows_entries Keyed db t rows apart = record { rows = subst (λ l. IsPermutation l (map (behind Keyed) (rows_of (codes "entry") db))) (sym (map_twice filed (λ f. entry_row (plain f)) t.entries)) rows; apart = apart }
-rows_entries Shown db t rows apart = record { rows = subst (λ l. IsPermutation l (map (behind Shown) (rows_of (codes "entry") db))) (sym (map_twice filed filed_row t.entries)) rows; apart = apart }
-
-pub readable_rows : (layout : Layout) (db : Database) → AreReadableEntries layout db → AllByRecursion (λ row. HasColumns (entries layout).columns ((entries layout).looked row)) (rows_of (codes "entry") db)
-readable_rows Plain db h = h
-readable_rows Keyed db h = h
-readable_rows Shown db h = h
+pub entries_rows : (layout : Layout) → HasEntryTable layout → (db : Database) (t : Tables) → KeepsRows (contents layout) db (with_derived t) → IsPermutation (map (entry_cells layout) t.entries) (map (behind layout) (rows_of (codes "entry") db))
+entries_rows Plain has db t k = k.rows
+entries_rows Keyed has db t k = k.rows
+entries_rows Shown has db t k = k.rows
+entries_rows Parted has db t k = absurd has
 
 -- ---- rows of entries
 

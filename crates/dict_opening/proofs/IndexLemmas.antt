@@ -13,9 +13,11 @@ use Rattle.dict_catalogue.specs.Items.{Stored, Item, regular, virtual, name_of, 
 use Rattle.dict_catalogue.specs.Steps.{Catalogue, summary_of}
 use Rattle.dict_catalogue.specs.Tests.{Holdings}
 use Rattle.dict_rows.specs.Tables.{entries_of}
-use Rattle.dict_rows.specs.Stands.{HoldsEdition, HoldsEditions}
+use Rattle.dict_rows.specs.Stands.{HoldsEdition, HoldsEditions, has_number}
 use Rattle.dict_rows.specs.Versions.{Layout, layout_of}
 use Rattle.dict_rows.specs.Written.{numbered, entry_record}
+use Rattle.dict_rows.proofs.OrderLemmas.{all_with}
+use Rattle.dict_scans.proofs.RowidLemmas.{all_of_map}
 use Rattle.dict_search.specs.Entries.{Indexed, entry_of}
 use Rattle.dict_indexes.specs.Indexes.{entries_under}
 use Rattle.dict_holdings.specs.Holds.{Holds}
@@ -24,9 +26,8 @@ use Rattle.dict_scans.specs.Entries.{HasEntries}
 use Rattle.dict_scans.specs.Indexing.{indexed_of}
 use Rattle.dict_opening.specs.Indexed.{HasIndex, IsIndexed, HasPut, HasRowsIndexed, HaveRowsIndexed}
 use Rattle.dict_opening.specs.Opens.{Keeping}
-use Rattle.dict_opening.proofs.EntryLemmas.{entry_in, entries_are}
-use Rattle.dict_opening.proofs.FindLemmas.{Found}
-use Rattle.dict_opening.proofs.FitLemmas.{entries_read}
+use Rattle.dict_opening.proofs.ToldLemmas.{kept_as, find, entries_told}
+use Rattle.dict_opening.proofs.WrongLemmas.{each_known}
 
 -- ---- one number more
 
@@ -76,24 +77,32 @@ module _ (version : ℕ) (db : Database) (M : Catalogue) (h : Holds version db M
   keeping : Keeping version db h.tables.members h.tables M
   keeping = record { keeps = h.keeps; shown = h.shown; same_members = refl; stands = h.stands; records = held_readable version db M h }
 
-  has_index : (owner : List ℕ) (stored : Stored Edition) → HoldsEdition h.tables owner stored → HasRowsIndexed layout db indexes stored.number → HasIndex h.tables owner indexes stored
-  has_index owner stored held r =
+  -- under the number of an edition of the catalogue stands what its rows are
+  abbrev IsThere : ℕ → Type 0
+  IsThere n = HasRowsIndexed layout db indexes n × (has_number M.items (pos n) ≡ true)
+
+  has_index : (owner : List ℕ) (stored : Stored Edition) → HoldsEdition h.tables owner stored → IsThere stored.number → HasIndex h.tables owner indexes stored
+  has_index owner stored held (r, known) =
       let n = stored.number in
-      let found : Found h.tables (pos n) = record { owner = owner; edition = stored; holds = held; number = refl } in
-      let all : entries_of (pos n) h.tables.entries ≡ map (entry_in layout) r.entries.0 = entries_read version db h.tables.members h.tables M keeping (pos n) found r.entries.0 r.entries.1 in
-      let read : map (entry_in layout) r.entries.0 ≡ r.given = entries_are layout r.entries.0 r.given r.entries.3 r.entries.2 in
-      let lines : r.given ≡ numbered (entry_record n) 0 held.reading.lines = sym read ∙ sym all ∙ held.entries in
+      let found = find version h.tables M (pos n) h.stands known in
+      let all : entries_of (pos n) h.tables.entries ≡ r.given = entries_told db h.tables M.items (pos n) found layout (kept_as version db h.tables.members h.tables M keeping) r.given r.entries in
+      let lines : r.given ≡ numbered (entry_record n) 0 held.reading.lines = sym all ∙ held.entries in
       record { held = held; stands = r.stands ∙ ap (λ l. Some (map indexed_of l)) lines ∙ ap (λ l. Some l) (indexed_lines n 0 held.reading.lines) }
 
-  of_item : (owner : List ℕ) (editions : List (Stored Edition)) → AllByRecursion (HoldsEdition h.tables owner) editions → AllByRecursion (HasRowsIndexed layout db indexes) (map (λ (s : Stored Edition). s.number) editions) → AllByRecursion (HasIndex h.tables owner indexes) editions
+  of_item : (owner : List ℕ) (editions : List (Stored Edition)) → AllByRecursion (HoldsEdition h.tables owner) editions → AllByRecursion IsThere (map (λ (s : Stored Edition). s.number) editions) → AllByRecursion (HasIndex h.tables owner indexes) editions
   of_item owner [] held rows = tt
   of_item owner (stored ∷ editions) held rows = (has_index owner stored held.0 rows.0, of_item owner editions held.1 rows.1)
 
-  of_items : (items : List (Item Edition)) → AllByRecursion (HoldsEditions h.tables) items → HaveRowsIndexed layout db (edition_numbers items) indexes → AllByRecursion (λ item. AllByRecursion (HasIndex h.tables (name_of item) indexes) (editions_of item)) items
+  of_items : (items : List (Item Edition)) → AllByRecursion (HoldsEditions h.tables) items → AllByRecursion IsThere (edition_numbers items) → AllByRecursion (λ item. AllByRecursion (HasIndex h.tables (name_of item) indexes) (editions_of item)) items
   of_items [] held rows = tt
   of_items (item ∷ items) held rows =
-      let parts = all_append_parts (HasRowsIndexed layout db indexes) (numbers_of item) (flat_map numbers_of items) rows in
+      let parts = all_append_parts IsThere (numbers_of item) (flat_map numbers_of items) rows in
       (of_item (name_of item) (editions_of item) held.0 parts.0, of_items items held.1 parts.1)
 
   pub is_indexed : HaveRowsIndexed layout db (edition_numbers M.items) indexes → IsIndexed version db M indexes
-  is_indexed rows = record { holds = h; each = of_items M.items h.stands.editions rows }
+  is_indexed rows = record {
+    holds = h;
+    each = of_items M.items h.stands.editions
+        (all_with (HasRowsIndexed layout db indexes) (λ n. has_number M.items (pos n) ≡ true) IsThere (λ n r known. (r, known)) (edition_numbers M.items) rows
+        (all_of_map pos (λ n. has_number M.items n ≡ true) (λ n. has_number M.items (pos n) ≡ true) (λ n k. k) (edition_numbers M.items) (each_known (edition_numbers M.items))));
+  }

@@ -1,13 +1,12 @@
 pub mod TableLemmas
 pub mod SelectLemmas
 pub mod SelectedLemmas
-pub mod LayoutLemmas
-pub mod FindLemmas
 pub mod FaultLemmas
 pub mod EntryLemmas
+pub mod FileLemmas
+pub mod ToldLemmas
 pub mod FitLemmas
 pub mod PartLemmas
-pub mod PieceLemmas
 pub mod NoneLemmas
 pub mod ReadLemmas
 pub mod ReadableLemmas

@@ -2,6 +2,8 @@
 use Rattle.std.proofs.Common.{◌≡◌, ℕ, ℤ, pos, Bool, true, false, ◌&&◌, ◌||◌, List, [], ◌∷◌, ◌++◌, map, filter, refl, sym, ap, subst, ◌∙◌}
 use Rattle.std.specs.List.{list_any}
 use Rattle.std.specs.List.Sorted.{IsPermutation}
+use Rattle.std.proofs.lemmas.List.{map-append}
+use Rattle.std.proofs.lemmas.List.Sorted.{IsPermutation-refl, IsPermutation-map, IsPermutation-sym, IsPermutation-trans, IsPermutation-append}
 use Rattle.std.proofs.lemmas.Bool.{false≢true}
 use Rattle.std.proofs.lemmas.List.Folds.{list_any-append}
 use Rattle.sqlite.specs.Order.{Row, column}
@@ -64,13 +66,19 @@ hit row n (m ∷ ns) k h = split (equals_number 1 m row) refl h (hit row n ns k)
     split true p q rest = ap (λ b. b || is_of ns n) (subst (λ z. same_number n z ≡ true) (int_once (column row 1) n m k p) (same_itself n))
     split false p q rest = ap (λ b. same_number n m || b) (rest q) ∙ or_true (same_number n m)
 
-one_more : (ns : List ℤ) (n : ℤ) (row : Row) → one_of (ns ++ n ∷ []) row ≡ (one_of ns row || equals_number 1 n row)
+pub one_more : (ns : List ℤ) (n : ℤ) (row : Row) → one_of (ns ++ n ∷ []) row ≡ (one_of ns row || equals_number 1 n row)
 one_more ns n row = list_any-append (λ m. equals_number 1 m row) ns (n ∷ []) ∙ ap (λ b. one_of ns row || b) (or_false (equals_number 1 n row))
 
-pub rows_more : (ns : List ℤ) (n : ℤ) (all xs ys : List Row) → is_of ns n ≡ false → IsPermutation (filter (one_of ns) all) xs → IsPermutation (filter (equals_number 1 n) all) ys → IsPermutation (filter (one_of (ns ++ n ∷ [])) all) (xs ++ ys)
-rows_more ns n all xs ys new one other =
-    subst (λ l. IsPermutation l (xs ++ ys)) (sym (filter_alike (one_of (ns ++ n ∷ [])) (λ row. one_of ns row || equals_number 1 n row) (one_more ns n) all))
-    (parts_together (one_of ns) (equals_number 1 n) (λ row. both_no (one_of ns row) (equals_number 1 n row) (λ h k. false≢true (sym new ∙ hit row n ns k h))) all xs ys one other)
+pub one_apart : (ns : List ℤ) (n : ℤ) → is_of ns n ≡ false → (row : Row) → (one_of ns row && equals_number 1 n row) ≡ false
+one_apart ns n new row = both_no (one_of ns row) (equals_number 1 n row) (λ h k. false≢true (sym new ∙ hit row n ns k h))
+
+-- the rows that pass one test of two that none passes both of, as they are looked at
+pub rows_join : (g : Row → Row) (p q r : Row → Bool) → ((row : Row) → r row ≡ (p row || q row)) → ((row : Row) → (p row && q row) ≡ false) → (xs fs bs : List Row) → IsPermutation fs (map g (filter p xs)) → IsPermutation bs (map g (filter q xs)) → IsPermutation (fs ++ bs) (map g (filter r xs))
+rows_join g p q r either apart xs fs bs one other =
+    let split : IsPermutation (filter r xs) (filter p xs ++ filter q xs) =
+    subst (λ l. IsPermutation l (filter p xs ++ filter q xs)) (sym (filter_alike r (λ row. p row || q row) either xs)) (parts_together p q apart xs (filter p xs) (filter q xs) (IsPermutation-refl (filter p xs)) (IsPermutation-refl (filter q xs))) in
+    let mapped : IsPermutation (map g (filter r xs)) (map g (filter p xs) ++ map g (filter q xs)) = subst (IsPermutation (map g (filter r xs))) (map-append g (filter p xs) (filter q xs)) (IsPermutation-map g (filter r xs) (filter p xs ++ filter q xs) split) in
+    IsPermutation-trans (fs ++ bs) (map g (filter p xs) ++ map g (filter q xs)) (map g (filter r xs)) (IsPermutation-append fs (map g (filter p xs)) bs (map g (filter q xs)) one other) (IsPermutation-sym (map g (filter r xs)) (map g (filter p xs) ++ map g (filter q xs)) mapped)
 
 -- a number that is none of these is none of the first ones, nor the last
 pub parts_of : (ns : List ℤ) (n m : ℤ) → is_of (ns ++ n ∷ []) m ≡ false → (is_of ns m ≡ false) × (same_number m n ≡ false)

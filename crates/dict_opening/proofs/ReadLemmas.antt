@@ -1,36 +1,47 @@
 -- The editions of one number more were read.
-use Rattle.std.proofs.Common.{◌≡◌, ℕ, zero, suc, ◌<◌, ℤ, pos, Bool, true, false, ◌||◌, List, [], ◌∷◌, ◌++◌, map, drop, take, filter, cond, length, get_or, codes, refl, sym, ap, subst, ◌∙◌, arith, append-nil}
+use Rattle.std.proofs.Common.{◌≡◌, ℕ, zero, suc, ◌<◌, ℤ, pos, Bool, true, false, ◌||◌, ◌&&◌, List, [], ◌∷◌, ◌++◌, map, drop, take, filter, cond, length, get_or, codes, refl, sym, ap, subst, ◌∙◌, arith, append-nil}
+use Rattle.std.specs.Prelude.{flat_map}
 use Rattle.std.specs.List.{AllByRecursion, list_any}
 use Rattle.std.specs.List.Sorted.{IsPermutation}
-use Rattle.std.proofs.lemmas.Bool.{or_parts}
+use Rattle.std.proofs.lemmas.Bool.{and_parts}
 use Rattle.std.proofs.lemmas.List.{map-append}
 use Rattle.std.proofs.lemmas.List.Elements.{All-from_recursion, filter-append}
-use Rattle.std.proofs.lemmas.List.Sorted.{IsPermutation-refl}
+use Rattle.std.proofs.lemmas.List.Sorted.{IsPermutation-refl, IsPermutation-map, IsPermutation-sym}
 use Rattle.sqlite.specs.Effect.{Database}
-use Rattle.sqlite.specs.Order.{Row}
+use Rattle.sqlite.specs.Order.{Row, column}
 use Rattle.dict_records.specs.Records as spec
+use Rattle.dict_records.specs.Records.{header_of}
 use Rattle.dict_sql.specs.Effects.{rows_of, equals_number}
 use Rattle.dict_sql.specs.Encodings.{edition_row, stored_edition}
-use Rattle.dict_sql.specs.Reads.{IsSelection}
+use Rattle.dict_header_sql.specs.Records.{header_row, stored_header}
+use Rattle.dict_part_sql.specs.Chosen.{is_of_file}
+use Rattle.dict_part_sql.specs.Records.{part_row}
 use Rattle.dict_catalogue.specs.Steps.{Catalogue}
 use Rattle.dict_rows.specs.Tables.{Tables, same_number, editions_numbered, entries_of}
-use Rattle.dict_rows.specs.Versions.{Layout, layout_of}
+use Rattle.dict_rows.specs.Versions.{Layout, Plain, Keyed, Shown, Parted, layout_of}
 use Rattle.dict_rows.specs.Stands.{has_number}
 use Rattle.dict_rows.specs.Taken.{with_edition, items_in}
 use Rattle.dict_rows.specs.Whole.{with_entries}
 use Rattle.dict_rows.specs.Order.{InOrder, is_of}
 use Rattle.dict_rows.specs.declared.reader.Reader.{Reader}
-use Rattle.dict_rows.proofs.OrderLemmas.{all_same, all_passed}
 use Rattle.dict_rows.proofs.StrayLemmas.{numbers_taken}
-use Rattle.dict_rows.proofs.TakenLemmas.{same_number_is, same_itself, filter_passes_not}
-use Rattle.dict_holdings.specs.Readings.{AreShownIn}
-use Rattle.dict_scans.specs.Entries.{behind, entry_cells, BeginsWithEntries}
-use Rattle.dict_scans.proofs.CodecLemmas.{edition_codec}
-use Rattle.dict_scans.proofs.NumberLemmas.{int_is}
-use Rattle.dict_opening.specs.Opens.{Keeping, Fits, HasPieces, CanReadOne, HasReadOne, CanRead, HasRead}
-use Rattle.dict_opening.proofs.EntryLemmas.{number_of_row, none_shown, more_shown}
-use Rattle.dict_opening.proofs.PartLemmas.{rows_more, parts_of, turned}
-use Rattle.dict_opening.proofs.FitLemmas.{fits_edition, fits_entries}
+use Rattle.dict_rows.proofs.TakenLemmas.{same_number_is, filter_passes_not}
+use Rattle.dict_index_lines.specs.Stored.{stored_index}
+use Rattle.dict_files.specs.AllTables.{HasNoneOf}
+use Rattle.dict_files.specs.Files.{file_parts, edition_parts, parts_under, all_parts, index_octets}
+use Rattle.dict_files.proofs.FileLemmas.{lines_back}
+use Rattle.dict_files.proofs.MoreLemmas.{more}
+use Rattle.dict_holdings.specs.Readings.{AreShownIn, editions, contents}
+use Rattle.dict_scans.specs.Census.{one_of, is_in_file, is_known_part, is_of_contents}
+use Rattle.dict_scans.specs.Entries.{behind, entry_cells, HasEntries, HasEntryRows, HasIndexFile}
+use Rattle.dict_scans.specs.Files.{HasFile}
+use Rattle.dict_scans.proofs.NumberLemmas.{int_once}
+use Rattle.dict_opening.specs.Opens.{Keeping, Fits, HasRecord, HasWholeRecord, HasRowsOf, CanReadOne, HasReadOne, CanRead, HasRead}
+use Rattle.dict_opening.proofs.EntryLemmas.{none_shown, more_shown}
+use Rattle.dict_opening.proofs.PartLemmas.{one_more, one_apart, rows_join, parts_of, turned}
+use Rattle.dict_opening.proofs.FitLemmas.{goes_entries, none_of, all_of}
+use Rattle.dict_opening.proofs.NoneLemmas.{kept, there, now_fits}
+use Rattle.dict_opening.proofs.ToldLemmas.{record_number, entries_number, entries_told}
 
 -- ---- numbers
 
@@ -55,20 +66,30 @@ none_passes : {X : Type 0} (xs : List X) → filter (λ _. false) xs ≡ []
 none_passes [] = refl
 none_passes (x ∷ xs) = none_passes xs
 
+no_rows : (g : Row → Row) (xs : List Row) (fs : List Row) → fs ≡ [] → IsPermutation fs (map g (filter (λ _. false) xs))
+no_rows g xs fs none = subst (IsPermutation fs) (none ∙ sym (ap (map g) (none_passes xs))) (IsPermutation-refl fs)
+
+no_editions_read : (layout : Layout) (db : Database) (front : Tables) → front.editions ≡ [] → HasRowsOf (one_of []) db front (editions layout)
+no_editions_read Plain db front none = no_rows (drop 1) (rows_of (codes "edition") db) _ (ap (map edition_row) none)
+no_editions_read Keyed db front none = no_rows (drop 1) (rows_of (codes "edition") db) _ (ap (map edition_row) none)
+no_editions_read Shown db front none = no_rows (drop 1) (rows_of (codes "edition") db) _ (ap (map edition_row) none)
+no_editions_read Parted db front none = no_rows (drop 1) (rows_of (codes "edition") db) _ (ap (map (λ (e : spec.Edition). header_row (header_of e))) none)
+
+no_contents_read : (layout : Layout) (db : Database) (front : Tables) → front.editions ≡ [] → front.entries ≡ [] → HasRowsOf (is_of_contents layout []) db front (contents layout)
+no_contents_read Plain db front one none = no_rows (behind Plain) (rows_of (codes "entry") db) _ (ap (map (entry_cells Plain)) none)
+no_contents_read Keyed db front one none = no_rows (behind Keyed) (rows_of (codes "entry") db) _ (ap (map (entry_cells Keyed)) none)
+no_contents_read Shown db front one none = no_rows (behind Shown) (rows_of (codes "entry") db) _ (ap (map (entry_cells Shown)) none)
+no_contents_read Parted db front one none = no_rows (drop 1) (rows_of (codes "dictcat_part") db) _ (ap (λ (es : List spec.Edition). map part_row (flat_map (edition_parts front.entries) es)) one)
+
 pub read_none : (version : ℕ) (db : Database) (reader : Reader) (numbers : List ℤ) (front : Tables) → CanRead version db reader numbers front → HasRead version db [] front front
 read_none version db reader numbers front can = record {
   marks = refl;
   items = refl;
   members = refl;
   kept = refl;
-  edition_rows = [];
-  editions = subst (λ l. IsPermutation l []) (sym (none_passes (rows_of (codes "edition") db))) (IsPermutation-refl []);
-  editions_are = sym (ap (map edition_row) can.no_editions);
-  entry_rows = [];
-  entries = subst (λ l. IsPermutation l []) (sym (none_passes (rows_of (codes "entry") db))) (IsPermutation-refl []);
-  entries_are = sym (ap (map (entry_cells (layout_of version))) can.no_entries);
+  editions_are = no_editions_read (layout_of version) db front can.no_editions;
+  contents_are = no_contents_read (layout_of version) db front can.no_editions can.no_entries;
   shown = subst (AreShownIn (layout_of version)) (sym can.no_entries) (none_shown (layout_of version));
-  pieces = tt;
   fits = can.fits;
   other_editions = (λ n e. ap (editions_numbered n) can.no_editions);
   other_entries = (λ n e. ap (entries_of n) can.no_entries);
@@ -87,84 +108,152 @@ can_one version db reader numbers ns front taken n can done there new = record {
     known : (T : Tables) (M : Catalogue) → Keeping version db front.members T M → has_number M.items n ≡ true
     known T M K = ap (λ ns. list_any (λ one. same_number (pos one) n) ns) (numbers_taken version reader front T M can.taken (can.fits T M K) K.stands) ∙ there
 
+-- ---- rows of one number more
+
+either_in : (a b c : Bool) → ((a || b) && c) ≡ ((a && c) || (b && c))
+either_in true true true = refl
+either_in true true false = refl
+either_in true false true = refl
+either_in true false false = refl
+either_in false b c = refl
+
+apart_in : (a b c : Bool) → (a && b) ≡ false → ((a && c) && (b && c)) ≡ false
+apart_in true b true e = (let both : b ≡ false = e in ap (λ d. d && true) both)
+apart_in true b false e = refl
+apart_in false b c e = refl
+
+in_either : (a b c : Bool) → (a && (b || c)) ≡ ((a && b) || (a && c))
+in_either true b c = refl
+in_either false b c = refl
+
+-- no part is of both files
+one_file : (n : ℤ) (row : Row) → (is_of_file n (pos 0) row && is_of_file n (pos 1) row) ≡ false
+one_file n row = split (is_of_file n (pos 0) row) (is_of_file n (pos 1) row) refl refl
+  where
+    split : (a b : Bool) → is_of_file n (pos 0) row ≡ a → is_of_file n (pos 1) row ≡ b → (is_of_file n (pos 0) row && is_of_file n (pos 1) row) ≡ false
+    split false b p q = ap (λ c. c && is_of_file n (pos 1) row) p
+    split true false p q = (λ i. p i && q i)
+    split true true p q =
+        let index = (and_parts (equals_number 1 n row) (equals_number 2 (pos 0) row) p).1 in
+        let text = (and_parts (equals_number 1 n row) (equals_number 2 (pos 1) row) q).1 in
+        absurd (let no : pos 0 ≡ pos 1 = int_once (column row 2) (pos 0) (pos 1) index text in cc)
+
+none_passed : {X : Type 0} (test : X → Bool) (xs : List X) → filter test xs ≡ [] → AllByRecursion (λ x. test x ≡ false) xs
+none_passed test [] e = tt
+none_passed {X} test (x ∷ xs) e = split (test x) refl (none_passed test xs)
+  where
+    split : (b : Bool) → test x ≡ b → (filter test xs ≡ [] → AllByRecursion (λ y. test y ≡ false) xs) → AllByRecursion (λ y. test y ≡ false) (x ∷ xs)
+    split true p rest = absurd (let some : x ∷ filter test xs ≡ [] = sym (ap (λ b. cond b (x ∷ filter test xs) (filter test xs)) p) ∙ e in cc)
+    split false p rest = (p, rest (sym (ap (λ b. cond b (x ∷ filter test xs) (filter test xs)) p) ∙ e))
+
+module _ (db : Database) (ns : List ℤ) (n : ℤ) (new : is_of ns n ≡ false) (taken : Tables) (e : spec.Edition) (es : List spec.Entry) where
+  abbrev whole : Tables
+  whole = with_entries (with_edition taken e) es
+
+  -- ---- of editions
+
+  whole_more : HasWholeRecord db n e → IsPermutation (map edition_row taken.editions) (map (drop 1) (filter (one_of ns) (rows_of (codes "edition") db))) → IsPermutation (map edition_row whole.editions) (map (drop 1) (filter (one_of (ns ++ n ∷ [])) (rows_of (codes "edition") db)))
+  whole_more r done =
+      let rows = rows_of (codes "edition") db in
+      let one : IsPermutation (edition_row e ∷ []) (map (drop 1) (filter (equals_number 1 n) rows)) =
+      subst (λ (x : spec.Edition). IsPermutation (edition_row x ∷ []) (map (drop 1) (filter (equals_number 1 n) rows))) (sym r.2) (IsPermutation-map (drop 1) (stored_edition r.0 ∷ []) (filter (equals_number 1 n) rows) (IsPermutation-sym (filter (equals_number 1 n) rows) (stored_edition r.0 ∷ []) r.1.same)) in
+      subst (λ l. IsPermutation l (map (drop 1) (filter (one_of (ns ++ n ∷ [])) rows))) (sym (map-append edition_row taken.editions (e ∷ [])))
+      (rows_join (drop 1) (one_of ns) (equals_number 1 n) (one_of (ns ++ n ∷ [])) (one_more ns n) (one_apart ns n new) rows (map edition_row taken.editions) (edition_row e ∷ []) done one)
+
+  editions_more : (layout : Layout) → HasRecord layout db n e → HasRowsOf (one_of ns) db taken (editions layout) → HasRowsOf (one_of (ns ++ n ∷ [])) db whole (editions layout)
+  editions_more Plain r done = whole_more r done
+  editions_more Keyed r done = whole_more r done
+  editions_more Shown r done = whole_more r done
+  editions_more Parted (r, text) done =
+      let rows = rows_of (codes "edition") db in
+      let one : IsPermutation (header_row (header_of e) ∷ []) (map (drop 1) (filter (equals_number 1 n) rows)) =
+      subst (λ (h : spec.Header). IsPermutation (header_row h ∷ []) (map (drop 1) (filter (equals_number 1 n) rows))) (sym r.2) (IsPermutation-map (drop 1) (stored_header r.0 ∷ []) (filter (equals_number 1 n) rows) (IsPermutation-sym (filter (equals_number 1 n) rows) (stored_header r.0 ∷ []) r.1.same)) in
+      subst (λ l. IsPermutation l (map (drop 1) (filter (one_of (ns ++ n ∷ [])) rows))) (sym (map-append (λ (x : spec.Edition). header_row (header_of x)) taken.editions (e ∷ [])))
+      (rows_join (drop 1) (one_of ns) (equals_number 1 n) (one_of (ns ++ n ∷ [])) (one_more ns n) (one_apart ns n new) rows (map (λ (x : spec.Edition). header_row (header_of x)) taken.editions) (header_row (header_of e) ∷ []) done one)
+
+  -- ---- of entries
+
+  entries_more : (layout : Layout) → HasEntryRows layout db n es → IsPermutation (map (entry_cells layout) taken.entries) (map (behind layout) (filter (one_of ns) (rows_of (codes "entry") db)))
+      → IsPermutation (map (entry_cells layout) whole.entries) (map (behind layout) (filter (one_of (ns ++ n ∷ [])) (rows_of (codes "entry") db)))
+  entries_more layout h done =
+      let rows = rows_of (codes "entry") db in
+      let one : IsPermutation (map (entry_cells layout) es) (map (behind layout) (filter (equals_number 1 n) rows)) =
+      subst (λ l. IsPermutation l (map (behind layout) (filter (equals_number 1 n) rows))) h.2 (IsPermutation-map (behind layout) h.0 (filter (equals_number 1 n) rows) (IsPermutation-sym (filter (equals_number 1 n) rows) h.0 h.1.same)) in
+      subst (λ l. IsPermutation l (map (behind layout) (filter (one_of (ns ++ n ∷ [])) rows))) (sym (map-append (entry_cells layout) taken.entries es))
+      (rows_join (behind layout) (one_of ns) (equals_number 1 n) (one_of (ns ++ n ∷ [])) (one_more ns n) (one_apart ns n new) rows (map (entry_cells layout) taken.entries) (map (entry_cells layout) es) done one)
+
+  -- ---- of parts
+
+  abbrev its_part : Row → Bool
+  its_part row = equals_number 1 n row && is_in_file row
+
+  parts_more : HasIndexFile db n es → HasFile db n (pos 1) e.body → e.number ≡ n → editions_numbered n taken.editions ≡ [] → entries_of n taken.entries ≡ [] → IsPermutation (map part_row (all_parts taken)) (map (drop 1) (filter (is_known_part ns) (rows_of (codes "dictcat_part") db)))
+      → IsPermutation (map part_row (all_parts whole)) (map (drop 1) (filter (is_known_part (ns ++ n ∷ [])) (rows_of (codes "dictcat_part") db)))
+  parts_more (octets, index, is) text at no_editions no_entries done =
+      let rows = rows_of (codes "dictcat_part") db in
+      let numbers = entries_number Parted db n es (octets, index, is) in
+      let none : HasNoneOf e.number taken = (
+        subst (λ m. AllByRecursion (λ (x : spec.Edition). same_number x.number m ≡ false) taken.editions) (sym at) (none_passed (λ (x : spec.Edition). same_number x.number n) taken.editions no_editions),
+        subst (λ m. AllByRecursion (λ (x : spec.Entry). same_number x.edition m ≡ false) taken.entries) (sym at) (none_passed (λ (x : spec.Entry). same_number x.edition n) taken.entries no_entries),
+      ) in
+      let lines : index_octets (entries_of n es) ≡ octets = ap index_octets (all_of n es numbers ∙ is.entries) ∙ ap stored_index (lines_back is.edition 0 is.lines) ∙ sym is.octets_are in
+      let its : edition_parts es e ≡ file_parts n (pos 0) octets ++ file_parts n (pos 1) e.body = ap (λ m. parts_under m (index_octets (entries_of m es)) e.body) at ∙ ap (λ o. parts_under n o e.body) lines in
+      let all : all_parts whole ≡ all_parts taken ++ (file_parts n (pos 0) octets ++ file_parts n (pos 1) e.body) = more taken e es none (subst (λ m. AllByRecursion (λ (x : spec.Entry). x.edition ≡ m) es) (sym at) numbers) ∙ ap (λ l. all_parts taken ++ l) its in
+      let files = rows_join (drop 1) (is_of_file n (pos 0)) (is_of_file n (pos 1)) its_part (λ row. in_either (equals_number 1 n row) (equals_number 2 (pos 0) row) (equals_number 2 (pos 1) row)) (one_file n) rows (map part_row (file_parts n (pos 0) octets)) (map part_row (file_parts n (pos 1) e.body)) index text in
+      subst (λ l. IsPermutation l (map (drop 1) (filter (is_known_part (ns ++ n ∷ [])) rows))) (sym (ap (map part_row) all ∙ map-append part_row (all_parts taken) _ ∙ ap (λ l. map part_row (all_parts taken) ++ l) (map-append part_row (file_parts n (pos 0) octets) (file_parts n (pos 1) e.body))))
+      (rows_join (drop 1) (is_known_part ns) its_part (is_known_part (ns ++ n ∷ [])) (λ row. ap (λ b. b && is_in_file row) (one_more ns n row) ∙ either_in (one_of ns row) (equals_number 1 n row) (is_in_file row)) (λ row. apart_in (one_of ns row) (equals_number 1 n row) (is_in_file row) (one_apart ns n new row)) rows
+      (map part_row (all_parts taken)) (map part_row (file_parts n (pos 0) octets) ++ map part_row (file_parts n (pos 1) e.body)) done files)
+
+  contents_more : (layout : Layout) → HasRecord layout db n e → HasEntries layout db n es → editions_numbered n taken.editions ≡ [] → entries_of n taken.entries ≡ [] → HasRowsOf (is_of_contents layout ns) db taken (contents layout) → HasRowsOf (is_of_contents layout (ns ++ n ∷ [])) db whole (contents layout)
+  contents_more Plain r h none empty done = entries_more Plain h done
+  contents_more Keyed r h none empty done = entries_more Keyed h done
+  contents_more Shown r h none empty done = entries_more Shown h done
+  contents_more Parted r h none empty done = parts_more h r.1 (record_number Parted db n e r) none empty done
+
+-- the entries that were read are shown as the layout shows them
+entries_shown : (layout : Layout) (db : Database) (n : ℤ) (es : List spec.Entry) → HasEntries layout db n es → AreShownIn layout es
+entries_shown Plain db n es h = h.3
+entries_shown Keyed db n es h = h.3
+entries_shown Shown db n es h = tt
+entries_shown Parted db n es h = tt
+
 module _ (version : ℕ) (db : Database) (ns : List ℤ) (front taken after : Tables) (n : ℤ) (done : HasRead version db ns front taken) (can : CanReadOne version db taken n) (one : HasReadOne (layout_of version) db n taken after) (new : is_of ns n ≡ false) where
   abbrev layout : Layout
   layout = layout_of version
 
   abbrev e : spec.Edition
-  e = edition_codec.owned one.row
+  e = one.edition
 
   abbrev es : List spec.Entry
   es = one.given
 
-  abbrev whole : Tables
-  whole = with_entries (with_edition taken e) es
+  abbrev now : Tables
+  now = with_entries (with_edition taken e) es
 
-  edition_is : e.number ≡ n
-  edition_is = int_is e.number n (all_same (λ r. equals_number 1 n r ≡ true) (filter (equals_number 1 n) (rows_of (codes "edition") db)) (stored_edition one.row ∷ []) one.edition.same (all_passed (equals_number 1 n) (rows_of (codes "edition") db))).0
+  numbered_so : e.number ≡ n
+  numbered_so = record_number layout db n e one.record'
 
-  entries_are : AllByRecursion (λ (x : spec.Entry). x.edition ≡ n) es
-  entries_are = each one.entries.0 es one.entries.2 (all_same (λ r. equals_number 1 n r ≡ true) (filter (equals_number 1 n) (rows_of (codes "entry") db)) one.entries.0 one.entries.1.same (all_passed (equals_number 1 n) (rows_of (codes "entry") db)))
-    where
-      each : (rows : List Row) (es : List spec.Entry) → map (behind layout) rows ≡ map (entry_cells layout) es → AllByRecursion (λ r. equals_number 1 n r ≡ true) rows → AllByRecursion (λ (x : spec.Entry). x.edition ≡ n) es
-      each [] [] is h = tt
-      each (r ∷ rows) [] is h = tt
-      each [] (x ∷ es) is h = absurd (cc)
-      each (r ∷ rows) (x ∷ es) is h =
-          let first : behind layout r ≡ entry_cells layout x = cc in
-          let rest : map (behind layout) rows ≡ map (entry_cells layout) es = cc in
-          (int_is x.edition n (number_of_row layout r x n first h.0), each rows es rest h.1)
+  entries_so : AllByRecursion (λ (x : spec.Entry). x.edition ≡ n) es
+  entries_so = entries_number layout db n es one.entries
 
-  none_of : (m : ℤ) → same_number n m ≡ false → (xs : List spec.Entry) → AllByRecursion (λ (x : spec.Entry). x.edition ≡ n) xs → entries_of m xs ≡ []
-  none_of m apart [] h = refl
-  none_of m apart (x ∷ xs) h = ap (λ b. cond b (x ∷ entries_of m xs) (entries_of m xs)) (ap (λ z. same_number z m) h.0 ∙ apart) ∙ none_of m apart xs h.1
+  fits : Fits version db now
+  fits T M K = goes_entries n (with_edition taken e) T (now_fits version db taken n can e one.record' T M K) es entries_so ([], entries_told db T M.items n (there version db taken n can T M K) layout (kept version db taken n can T M K) es one.entries ∙ sym (append-nil es)) can.no_entries
 
-  all_of : (xs : List spec.Entry) → AllByRecursion (λ (x : spec.Entry). x.edition ≡ n) xs → entries_of n xs ≡ xs
-  all_of [] h = refl
-  all_of (x ∷ xs) h = ap (λ b. cond b (x ∷ entries_of n xs) (entries_of n xs)) (subst (λ z. same_number z n ≡ true) (sym h.0) (same_itself n)) ∙ ap (λ l. x ∷ l) (all_of xs h.1)
-
-  all_given : BeginsWithEntries layout db n es
-  all_given = (one.entries.0, [], subst (λ rows. IsSelection (codes "entry") (equals_number 1 n) (2 ∷ []) db rows) (sym (append-nil one.entries.0)) one.entries.1, one.entries.2, one.entries.3)
-
-  fits : Fits version db whole
-  fits = fits_entries version db (with_edition taken e) (fits_edition version db taken can.fits n can.known one.row one.edition can.no_editions) n can.known es all_given can.no_entries
-
-  -- the entries of a number that was read before are as they were, and those of this one are all that came
-  before_same : (m : ℤ) → same_number n m ≡ false → entries_of m (taken.entries ++ es) ≡ entries_of m taken.entries
-  before_same m apart = filter-append (λ (x : spec.Entry). same_number x.edition m) taken.entries es ∙ ap (λ l. entries_of m taken.entries ++ l) (none_of m apart es entries_are) ∙ append-nil (entries_of m taken.entries)
-
-  its_own : entries_of n (taken.entries ++ es) ≡ es
-  its_own = filter-append (λ (x : spec.Entry). same_number x.edition n) taken.entries es ∙ (λ i. can.no_entries i ++ all_of es entries_are i)
-
-  pieces_more : AllByRecursion (λ m. HasPieces layout db m (entries_of m (taken.entries ++ es))) (ns ++ n ∷ [])
-  pieces_more = each ns done.pieces new
-    where
-      each : (ms : List ℤ) → AllByRecursion (λ m. HasPieces layout db m (entries_of m taken.entries)) ms → is_of ms n ≡ false → AllByRecursion (λ m. HasPieces layout db m (entries_of m (taken.entries ++ es))) (ms ++ n ∷ [])
-      each [] h k = (subst (λ (l : List spec.Entry). HasPieces layout db n l) (sym its_own) one.pieces, tt)
-      each (m ∷ ms) h k =
-          let parts = or_parts (same_number n m) (is_of ms n) k in
-          (subst (λ (l : List spec.Entry). HasPieces layout db m l) (sym (before_same m parts.0)) h.0, each ms h.1 parts.1)
-
-  whole_read : HasRead version db (ns ++ n ∷ []) front whole
+  whole_read : HasRead version db (ns ++ n ∷ []) front now
   whole_read = record {
     marks = done.marks;
     items = done.items;
     members = done.members;
     kept = done.kept;
-    edition_rows = done.edition_rows ++ stored_edition one.row ∷ [];
-    editions = rows_more ns n (rows_of (codes "edition") db) done.edition_rows (stored_edition one.row ∷ []) new done.editions one.edition.same;
-    editions_are = map-append (drop 1) done.edition_rows (stored_edition one.row ∷ []) ∙ ap (λ l. l ++ edition_row e ∷ []) done.editions_are ∙ sym (map-append edition_row taken.editions (e ∷ []));
-    entry_rows = done.entry_rows ++ one.entries.0;
-    entries = rows_more ns n (rows_of (codes "entry") db) done.entry_rows one.entries.0 new done.entries one.entries.1.same;
-    entries_are = map-append (behind layout) done.entry_rows one.entries.0 ∙ (λ i. done.entries_are i ++ one.entries.2 i) ∙ sym (map-append (entry_cells layout) taken.entries es);
-    shown = more_shown layout taken.entries es done.shown one.entries.3;
-    pieces = pieces_more;
+    editions_are = editions_more db ns n new taken e es layout one.record' done.editions_are;
+    contents_are = contents_more db ns n new taken e es layout one.record' one.entries can.no_editions can.no_entries done.contents_are;
+    shown = more_shown layout taken.entries es done.shown (entries_shown layout db n es one.entries);
     fits = fits;
     other_editions = (λ m k. let p = parts_of ns n m k in
-        let apart : same_number e.number m ≡ false = ap (λ z. same_number z m) edition_is ∙ turned n m (same_number n m) refl p.1 in
+        let apart : same_number e.number m ≡ false = ap (λ z. same_number z m) numbered_so ∙ turned n m (same_number n m) refl p.1 in
         filter_passes_not (λ (x : spec.Edition). same_number x.number m) taken.editions e apart ∙ done.other_editions m p.0);
     other_entries = (λ m k. let p = parts_of ns n m k in
-        filter-append (λ (x : spec.Entry). same_number x.edition m) taken.entries es ∙ (λ i. done.other_entries m p.0 i ++ none_of m (turned n m (same_number n m) refl p.1) es entries_are i));
+        filter-append (λ (x : spec.Entry). same_number x.edition m) taken.entries es ∙ (λ i. done.other_entries m p.0 i ++ none_of n m (turned n m (same_number n m) refl p.1) es entries_so i));
   }
 
   pub read_more : HasRead version db (ns ++ n ∷ []) front after

@@ -1,6 +1,6 @@
 -- What is found wrong with a table, and that then no catalogue is held.
-use Rattle.std.proofs.Common.{◌≡◌, ◌⊎◌, ℕ, ℤ, ◌≤◌, pos, Bool, true, false, ◌||◌, ◌&&◌, ◌==◌, List, [], ◌∷◌, ◌++◌, map, drop, codes, inl, inr, refl, sym, ap, subst, ◌∙◌, arith}
-use Rattle.std.specs.Prelude.{cond, not, nat_le, length, bytes_eq, ◌≤ℤ◌, IsTrue, flat_map}
+use Rattle.std.proofs.Common.{◌≡◌, ◌⊎◌, ℕ, ◌+◌, ℤ, ◌≤◌, pos, Bool, true, false, ◌||◌, ◌&&◌, ◌==◌, List, [], ◌∷◌, ◌++◌, map, drop, codes, inl, inr, refl, sym, ap, subst, ◌∙◌, arith}
+use Rattle.std.specs.Prelude.{cond, not, nat_le, length, bytes_eq, ◌≤ℤ◌, IsTrue}
 use Rattle.std.specs.List.{AllByRecursion, list_any, list_all}
 use Rattle.std.specs.List.Sorted.{IsPermutation}
 use Rattle.std.specs.Ordering.{is_lt, ordering_then, ordering_reverse}
@@ -15,69 +15,66 @@ use Rattle.sqlite.specs.Effect.{Database}
 use Rattle.sqlite.specs.Order.{Row, column, value_cmp}
 use Rattle.sqlite.specs.declared.types.Value.TheVariants.{Int, Text}
 use Rattle.sqlite_value.proofs.OrderLemmas.{value_cmp-Text, then-Equal}
-use Rattle.dict_text.proofs.AllLemmas.{all_append, all_weaker}
+use Rattle.dict_text.proofs.AllLemmas.{all_append, all_weaker, all_flat_map}
 use Rattle.dict_tables.specs.Tables.{table_of}
 use Rattle.dict_tables.specs.declared.tables.StoreTable.{StoreTable}
 use Rattle.dict_records.specs.Records as spec
+use Rattle.dict_records.specs.Records.{header_of}
 use Rattle.dict_records.specs.Typed.{owned_member, owned_kept}
 use Rattle.dict_records.specs.declared.records as typed
 use Rattle.dict_records.specs.declared.records.Stored.{Stored as Beside}
 use Rattle.std.specs.declared.alloc.Global.{Global}
 use Rattle.std.proofs.Common.{String}
-use Rattle.dict_sql.specs.Columns.{Content, HasColumns, edition_columns, kept_columns, number_columns}
-use Rattle.dict_sql.specs.Effects.{HasApartRowids, rows_of}
-use Rattle.dict_sql.specs.Encodings.{stored_mark, stored_item, stored_member, stored_kept, stored_number, member_row, edition_row}
-use Rattle.dict_sql.specs.Reads.{IsListing, by_columns, numbered}
-use Rattle.dict_sql.specs.Streams.Scan.{AllKept, KeptById, ByRowid, EditionNumbers}
+use Rattle.dict_sql.specs.Columns.{Content, HasColumns, kept_columns}
+use Rattle.dict_sql.specs.Effects.{HasApartRowids, rows_of, same_value, equals_number}
+use Rattle.dict_sql.specs.Encodings.{stored_mark, stored_item, stored_member, stored_kept, member_row, edition_row}
+use Rattle.dict_sql.specs.Reads.{IsListing, by_columns}
+use Rattle.dict_sql.specs.Streams.Scan.{AllKept, KeptById, ByRowid}
 use Rattle.dict_sql.proofs.KitLemmas.{value_cmp_total}
-use Rattle.dict_holdings.specs.Holds.{Keeps}
-use Rattle.dict_holdings.specs.Readings.{KeepsRows, KeepsAll, entries, derived_readings}
-use Rattle.dict_holdings.proofs.ReadLemmas.{sorted_order, second_le, records_order}
-use Rattle.dict_catalogue.specs.Items.{Item, name_of, editions_of, edition_numbers, is_known}
+use Rattle.dict_header_sql.specs.Records.{header_row}
+use Rattle.dict_part_sql.specs.Records.{part_row}
+use Rattle.dict_parts.specs.Parts.{parts_of as parts_of_octets}
+use Rattle.dict_catalogue.specs.Items.{Item, name_of as name_in, editions_of, edition_numbers, is_known}
 use Rattle.dict_catalogue.specs.Steps.{Catalogue}
 use Rattle.dict_catalogue.specs.WellFormed.{total, IsEachOnce}
 use Rattle.dict_catalogue.proofs.ListLemmas.{sum_append}
-use Rattle.dict_rows.specs.Tables.{Tables, same_number}
+use Rattle.dict_rows.specs.Tables.{Tables, same_number, entries_of}
 use Rattle.dict_rows.specs.Tests.{has_numbers_once, has_lawful_numbers, has_lawful_items, is_lawful_item, has_names_once, has_known_members, is_from_one_to}
 use Rattle.dict_rows.specs.Given.{marks_given, items_given, members_given, kept_given}
-use Rattle.dict_rows.specs.Stands.{Stands, HoldsMembers, HoldsEdition, HoldsEditions}
+use Rattle.dict_rows.specs.Order.{InOrder, is_of}
+use Rattle.dict_rows.specs.Stands.{Stands, HoldsMembers, HoldsEdition, HoldsEditions, has_number}
 use Rattle.dict_rows.specs.Taken.{HasTaken, StandsForNone, begun, items_in}
+use Rattle.dict_rows.specs.Versions.{Layout, Plain, Keyed, Shown, Parted, layout_of}
 use Rattle.dict_rows.specs.Whole.{with_replies}
-use Rattle.dict_rows.specs.Order.{InOrder}
+use Rattle.dict_rows.specs.Written.{numbered}
 use Rattle.dict_rows.specs.declared.reader.Reader.{Reader}
 use Rattle.dict_rows.proofs.ApartLemmas.{neighbours_apart, apart_once}
 use Rattle.dict_rows.proofs.LawfulLemmas.{once_true}
 use Rattle.dict_rows.proofs.FinishLemmas.{ids_same}
-use Rattle.dict_rows.proofs.OrderLemmas.{Same, same_from, all_same, members_same}
-use Rattle.dict_rows.proofs.TakenLemmas.{same_itself, holds_same}
-use Rattle.dict_holdings.proofs.ReadableLemmas.{held_readable}
-use Rattle.dict_holdings.proofs.ReadingLemmas.{members_kept, replies_kept}
-use Rattle.dict_match.specs.Key.{key_of}
-use Rattle.dict_records.specs.Keyed.{Piece}
-use Rattle.dict_sql.specs.Keyed.{piece_row}
-use Rattle.dict_rows.specs.Order.{is_of}
-use Rattle.dict_rows.specs.Stands.{has_number}
-use Rattle.dict_rows.specs.Versions.{Layout, Plain, Keyed, Shown, layout_of}
+use Rattle.dict_rows.proofs.OrderLemmas.{Same, same_from, all_same, all_with, members_same}
 use Rattle.dict_rows.proofs.StrayLemmas.{numbers_taken}
-use Rattle.dict_derived.specs.AllTables.{with_derived}
-use Rattle.dict_derived.specs.Entries.{derived, piece_at, pieces_of}
-use Rattle.dict_derived.specs.declared.reader.Pieces.{Pieces}
-use Rattle.dict_derived.specs.declared.reader.Pieces.TheVariants.{Words, Grams}
-use Rattle.dict_keyed_sql.specs.Pieces.{name_for}
-use Rattle.dict_scans.specs.Census.{one_of, AreNumberedApart}
+use Rattle.dict_rows.proofs.TakenLemmas.{same_itself, holds_same}
+use Rattle.dict_files.specs.AllTables.{with_derived}
+use Rattle.dict_files.specs.Files.{part_at, file_parts, parts_under, edition_parts, all_parts, index_octets}
+use Rattle.dict_holdings.specs.Holds.{Keeps}
+use Rattle.dict_holdings.specs.Readings.{KeepsRows, KeepsAll, editions, contents, name_of}
+use Rattle.dict_holdings.proofs.ReadLemmas.{sorted_order, second_le, records_order}
+use Rattle.dict_holdings.proofs.ReadableLemmas.{held_readable}
+use Rattle.dict_holdings.proofs.ReadingLemmas.{members_kept, replies_kept, parts_kept}
+use Rattle.dict_scans.specs.Census.{one_of, is_in_file, is_known_part, is_of_contents, AreKnownApart}
 use Rattle.dict_scans.specs.Cursors.{InStore}
 use Rattle.dict_scans.specs.Entries.{behind, entry_cells}
 use Rattle.dict_scans.specs.Scans.{HasNoRecordIn, IsWrong}
-use Rattle.dict_scans.specs.Takers.{KeptRow, ids_given, HasStray, HasIdsApart, HasIdTwice, refuses_replies, number_given}
+use Rattle.dict_scans.specs.Takers.{KeptRow, ids_given, HasIdsApart, HasIdTwice, refuses_replies}
 use Rattle.dict_scans.proofs.CodecLemmas.{Codec, read, read_stored, stored_rows, listed_records, member_codec, kept_codec, mark_codec, item_codec}
-use Rattle.dict_scans.proofs.NumberLemmas.{behind_column}
-use Rattle.dict_scans.proofs.RowidLemmas.{all_numbered, all_of_map}
-use Rattle.dict_opening.specs.Opens.{Keeping, KeepsNone, Fits, HoldsNoneAs, HasBegun, CanRead, AreReadableEntries, AreReadablePieces, ArePiecesKnown, AreRowsKnown, numbers_in}
-use Rattle.dict_opening.proofs.EntryLemmas.{entries_rows, entries_apart, each_row, number_is}
+use Rattle.dict_scans.proofs.NumberLemmas.{behind_column, same_int}
+use Rattle.dict_scans.proofs.RowidLemmas.{all_of_map}
+use Rattle.dict_opening.specs.Opens.{Keeping, KeepsNone, Fits, HoldsNoneAs, HasBegun, CanRead, AreReadableEditions, AreAllKnown, numbers_in}
+use Rattle.dict_opening.proofs.EntryLemmas.{HasEntryTable, entries_rows, each_row, number_is}
 use Rattle.dict_opening.proofs.FitLemmas.{front_read, fits_begun, fits_replies, none_kept}
 use Rattle.dict_opening.proofs.NoneLemmas.{last_holds}
 use Rattle.dict_opening.proofs.PartLemmas.{numbered_row, numbers_is}
-use Rattle.dict_opening.proofs.PieceLemmas.{kept_pieces}
+use Rattle.dict_opening.proofs.ToldLemmas.{KeptAs, kept_as}
 
 -- ---- rowids
 
@@ -85,20 +82,6 @@ pub wrong_rowids : {R : Type 0} (stored : R → Row) (columns : List Content) (t
     HasNoRecordIn stored columns (InStore (ByRowid table)) db ⊎ (HasApartRowids (rows_of (table_of table 0).name db) → ⊥) → ⊥
 wrong_rowids stored columns table db all apart (inl w) = w.3 (last_holds (HasColumns columns) (rows_of (table_of table 0).name db) (map stored w.0) w.2.0 w.1 all w.2.1.same)
 wrong_rowids stored columns table db all apart (inr w) = w apart
-
-first_two : (r : Row) → HasColumns edition_columns r → HasColumns number_columns (numbered r)
-first_two [] h = absurd h
-first_two (v ∷ []) h = absurd h.1
-first_two (v ∷ w ∷ r) h = (h.0, (h.1.0, tt))
-
-no_numbered_record : (db : Database) → AllByRecursion (HasColumns edition_columns) (rows_of (codes "edition") db) → HasNoRecordIn stored_number number_columns (InStore EditionNumbers) db → ⊥
-no_numbered_record db all w =
-    w.3 (last_holds (HasColumns number_columns) (map numbered (rows_of (codes "edition") db)) (map stored_number w.0) w.2.0 w.1 (all_numbered (HasColumns edition_columns) (HasColumns number_columns) first_two (rows_of (codes "edition") db) all) w.2.1.same)
-
-pub wrong_numbers : (db : Database) → AllByRecursion (HasColumns edition_columns) (rows_of (codes "edition") db) → HasApartRowids (rows_of (codes "edition") db) →
-    HasNoRecordIn stored_number number_columns (InStore EditionNumbers) db ⊎ (HasApartRowids (rows_of (codes "edition") db) → ⊥) → ⊥
-wrong_numbers db all apart (inl w) = no_numbered_record db all w
-wrong_numbers db all apart (inr w) = w apart
 
 -- ---- the mark, the items and the members
 
@@ -118,15 +101,17 @@ module _ (db : Database) (T : Tables) (members : List spec.Member) (rows : IsPer
   abbrev changed : Tables
   changed = record T { members = members }
 
-  entries_so : (layout : Layout) → KeepsRows (entries layout) db (with_derived T) → KeepsRows (entries layout) db (with_derived changed)
-  entries_so Plain k = record { rows = k.rows; apart = k.apart }
-  entries_so Keyed k = record { rows = k.rows; apart = k.apart }
-  entries_so Shown k = record { rows = k.rows; apart = k.apart }
+  editions_so : (layout : Layout) → KeepsRows (editions layout) db (with_derived T) → KeepsRows (editions layout) db (with_derived changed)
+  editions_so Plain k = record { rows = k.rows; apart = k.apart }
+  editions_so Keyed k = record { rows = k.rows; apart = k.apart }
+  editions_so Shown k = record { rows = k.rows; apart = k.apart }
+  editions_so Parted k = record { rows = k.rows; apart = k.apart }
 
-  derived_so : (layout : Layout) → AllByRecursion (λ r. KeepsRows r db (with_derived T)) (derived_readings layout) → AllByRecursion (λ r. KeepsRows r db (with_derived changed)) (derived_readings layout)
-  derived_so Plain k = tt
-  derived_so Keyed k = tt
-  derived_so Shown k = (record { rows = k.0.rows; apart = k.0.apart }, (record { rows = k.1.0.rows; apart = k.1.0.apart }, tt))
+  contents_so : (layout : Layout) → KeepsRows (contents layout) db (with_derived T) → KeepsRows (contents layout) db (with_derived changed)
+  contents_so Plain k = record { rows = k.rows; apart = k.apart }
+  contents_so Keyed k = record { rows = k.rows; apart = k.apart }
+  contents_so Shown k = record { rows = k.rows; apart = k.apart }
+  contents_so Parted k = record { rows = k.rows; apart = k.apart }
 
   keeps_so : (layout : Layout) → KeepsAll layout db (with_derived T) → KeepsAll layout db (with_derived changed)
   keeps_so layout k = (
@@ -135,10 +120,7 @@ module _ (db : Database) (T : Tables) (members : List spec.Member) (rows : IsPer
       record { rows = k.1.0.rows; apart = k.1.0.apart },
       (
         record { rows = rows; apart = k.1.1.0.apart },
-        (
-          record { rows = k.1.1.1.0.rows; apart = k.1.1.1.0.apart },
-          (entries_so layout k.1.1.1.1.0, (record { rows = k.1.1.1.1.1.0.rows; apart = k.1.1.1.1.1.0.apart }, derived_so layout k.1.1.1.1.1.1)),
-        ),
+        (record { rows = k.1.1.1.0.rows; apart = k.1.1.1.0.apart }, (editions_so layout k.1.1.1.1.0, (contents_so layout k.1.1.1.1.1.0, tt))),
       ),
     ),
   )
@@ -156,7 +138,7 @@ module _ (version : ℕ) (db : Database) (marks : List (Beside (typed.Mark.Mark 
         items = s.items;
         members = all_weaker (HoldsMembers T.members) (HoldsMembers new) (λ item g. members_same T.members new item (same_from T.members new same) (members_order db members lo) g) M.items s.members;
         owners = all_same (λ (row : spec.Member). IsTrue (is_known M.items row.owner)) T.members new same s.owners;
-        editions = all_weaker (HoldsEditions T) (HoldsEditions changed) (λ item g. all_weaker (HoldsEdition T (name_of item)) (HoldsEdition changed (name_of item)) (λ stored h. holds_same T changed (name_of item) stored (record { editions = refl; entries = refl }) h) (editions_of item) g) M.items s.editions;
+        editions = all_weaker (HoldsEditions T) (HoldsEditions changed) (λ item g. all_weaker (HoldsEdition T (name_in item)) (HoldsEdition changed (name_in item)) (λ stored h. holds_same T changed (name_in item) stored (record { editions = refl; entries = refl }) h) (editions_of item) g) M.items s.editions;
         numbers = s.numbers;
         entries = s.entries;
         kept = s.kept;
@@ -239,82 +221,116 @@ can_read version db reader front h b = record {
 
 -- ---- strays
 
--- a number that no record has stands in no row
-no_number : (n : ℤ) (ws : List spec.Edition) → AllByRecursion (λ w. w.number ≡ n → ⊥) ws → AllByRecursion (λ r. column r 0 ≡ Int n → ⊥) (map edition_row ws)
-no_number n [] h = tt
-no_number n (w ∷ ws) h = ((λ e. h.0 (let same : w.number ≡ n = cc in same)), no_number n ws h.1)
+-- the parts of an edition are of its index and of its text
+abbrev IsPartOf : ℤ → spec.Part → Type 0
+IsPartOf edition p = (p.edition ≡ edition) × ((same_number p.file (pos 0) || same_number p.file (pos 1)) ≡ true)
 
-number_behind : (r : Row) → column (drop 1 r) 0 ≡ column r 1
-number_behind [] = refl
-number_behind (v ∷ r) = refl
+parts_so : (edition file : ℤ) → (same_number file (pos 0) || same_number file (pos 1)) ≡ true → (n : ℕ) (os : List (List ℕ)) → AllByRecursion (IsPartOf edition) (numbered (part_at edition file) n os)
+parts_so edition file is n [] = tt
+parts_so edition file is n (o ∷ os) = ((refl, is), parts_so edition file is (n + 1) os)
 
-none_numbered : (n : ℤ) (rows : List Row) → AllByRecursion (λ r. column r 0 ≡ Int n → ⊥) (map (drop 1) rows) → AllByRecursion (λ r. column r 1 ≡ Int n → ⊥) (map numbered rows)
-none_numbered n [] h = tt
-none_numbered n (r ∷ rows) h = ((λ e. h.0 (number_behind r ∙ e)), none_numbered n rows h.1)
+edition_parts_so : (edition : ℤ) (index text : List ℕ) → AllByRecursion (IsPartOf edition) (parts_under edition index text)
+edition_parts_so edition index text = all_append (IsPartOf edition) (file_parts edition (pos 0) index) (file_parts edition (pos 1) text) (parts_so edition (pos 0) refl 0 (parts_of_octets index)) (parts_so edition (pos 1) refl 0 (parts_of_octets text))
 
-pub editions_stray : (version : ℕ) (db : Database) (reader : Reader) (taken : Tables) → HasTaken version reader taken → Fits version db taken → HasNoRecordIn stored_number number_columns (InStore EditionNumbers) db ⊎ HasStray stored_number number_given (InStore EditionNumbers) db reader → KeepsNone version db taken.members
-editions_stray version db reader taken h fits (inl w) T M K = no_numbered_record db K.records.1.1.1.0 w
-editions_stray version db reader taken h fits (inr w) T M K =
-    let n = number_given w.1 in
-    let rows = rows_of (codes "edition") db in
-    let none = (w.3 version taken T M h (fits T M K) K.stands).0 in
-    let all = none_numbered n rows (all_same (λ r. column r 0 ≡ Int n → ⊥) (map edition_row T.editions) (map (drop 1) rows) K.keeps.1.1.1.0.rows (no_number n T.editions none)) in
-    last_holds (λ r. column r 1 ≡ Int n → ⊥) (map numbered rows) (map stored_number w.0) w.2.0 (stored_number w.1) all
-    (subst (λ l. IsPermutation (map numbered rows) (l ++ w.2.0)) (map-append stored_number w.0 (w.1 ∷ [])) w.2.1.same) refl
+both_true : (a b : Bool) → a ≡ true → b ≡ true → (a && b) ≡ true
+both_true true b p q = q
+both_true false b p q = absurd (false≢true p)
 
--- what is read of entries, and of what is derived of them, is of editions that the items name
+-- what is kept of editions and of their entries is of editions that the items name
 module _ (version : ℕ) (db : Database) (reader : Reader) (taken : Tables) (h : HasTaken version reader taken) (fits : Fits version db taken) (T : Tables) (M : Catalogue) (K : Keeping version db taken.members T M) where
+  abbrev numbers : List ℤ
+  numbers = numbers_in reader
+
   numbers_are : edition_numbers M.items ≡ edition_numbers (items_in reader)
   numbers_are = numbers_taken version reader taken T M h (fits T M K) K.stands
 
-  number_named : (n : ℤ) → has_number M.items n ≡ true → is_of (numbers_in reader) n ≡ true
+  number_named : (n : ℤ) → has_number M.items n ≡ true → is_of numbers n ≡ true
   number_named n known = sym (numbers_is (edition_numbers (items_in reader)) n) ∙ sym (ap (λ ns. list_any (λ one. same_number (pos one) n) ns) numbers_are) ∙ known
 
-  entries_named : AreNumberedApart (numbers_in reader) (codes "entry") db
-  entries_named = record {
-    apart = entries_apart (layout_of version) db T K.keeps.1.1.1.1.0;
-    known = all_weaker (λ row. (e : spec.Entry) × (behind (layout_of version) row ≡ entry_cells (layout_of version) e) × IsTrue (has_number M.items e.edition)) (λ row. one_of (numbers_in reader) row ≡ true)
-        (λ row e. numbered_row row e.0.edition (numbers_in reader) (number_is (layout_of version) row e.0 e.1) (number_named e.0.edition e.2)) (rows_of (codes "entry") db)
-        (each_row (layout_of version) db T.entries (entries_rows (layout_of version) db T K.keeps.1.1.1.1.0) (λ (e : spec.Entry). IsTrue (has_number M.items e.edition)) K.stands.entries);
-  }
+  -- rows whose first column is the number of an edition that the items name
+  module _ {W : Type 0} (name : List ℕ) (encode : W → Row) (number : W → ℤ) (first : (w : W) → column (encode w) 0 ≡ Int (number w)) where
+    abbrev IsNamed : Row → Type 0
+    IsNamed s = (n : ℤ) × (column s 0 ≡ Int n) × (is_of numbers n ≡ true)
 
-  all_pieces : (pieces : Pieces) (es : List spec.Entry) → AllByRecursion (λ (e : spec.Entry). IsTrue (has_number M.items e.edition)) es → AllByRecursion (λ (p : Piece). is_of (numbers_in reader) p.edition ≡ true) (flat_map (derived pieces) es)
-  all_pieces pieces [] k = tt
-  all_pieces pieces (e ∷ es) k = all_append (λ (p : Piece). is_of (numbers_in reader) p.edition ≡ true) (derived pieces e) (flat_map (derived pieces) es) (each (pieces_of pieces (key_of e.headword))) (all_pieces pieces es k.1)
+    written : (ws : List W) → AllByRecursion (λ w. is_of numbers (number w) ≡ true) ws → AllByRecursion IsNamed (map encode ws)
+    written [] k = tt
+    written (w ∷ ws) k = ((number w, first w, k.0), written ws k.1)
+
+    named : (ws : List W) → IsPermutation (map encode ws) (map (drop 1) (rows_of name db)) → AllByRecursion (λ w. is_of numbers (number w) ≡ true) ws → AllByRecursion (λ row. one_of numbers row ≡ true) (rows_of name db)
+    named ws same known =
+        all_of_map (drop 1) IsNamed (λ row. one_of numbers row ≡ true) (λ row p. numbered_row row p.0 numbers (behind_column row 0 ∙ p.1) p.2) (rows_of name db)
+        (all_same IsNamed (map encode ws) (map (drop 1) (rows_of name db)) same (written ws known))
+
+  editions_known : AllByRecursion (λ (e : spec.Edition). is_of numbers e.number ≡ true) T.editions
+  editions_known = all_weaker (λ (e : spec.Edition). IsTrue (has_number M.items e.number)) (λ (e : spec.Edition). is_of numbers e.number ≡ true) (λ e k. number_named e.number k) T.editions K.stands.numbers
+
+  -- ---- editions
+
+  editions_named : (layout : Layout) → KeptAs layout db T → AreKnownApart (one_of numbers) (name_of (editions layout)) db
+  editions_named Plain k = record { apart = k.keeps.1.1.1.1.0.apart; known = named (codes "edition") edition_row (λ (e : spec.Edition). e.number) (λ e. refl) T.editions k.keeps.1.1.1.1.0.rows editions_known }
+  editions_named Keyed k = record { apart = k.keeps.1.1.1.1.0.apart; known = named (codes "edition") edition_row (λ (e : spec.Edition). e.number) (λ e. refl) T.editions k.keeps.1.1.1.1.0.rows editions_known }
+  editions_named Shown k = record { apart = k.keeps.1.1.1.1.0.apart; known = named (codes "edition") edition_row (λ (e : spec.Edition). e.number) (λ e. refl) T.editions k.keeps.1.1.1.1.0.rows editions_known }
+  editions_named Parted k = record { apart = k.keeps.1.1.1.1.0.apart; known = named (codes "edition") (λ e. header_row (header_of e)) (λ (e : spec.Edition). e.number) (λ e. refl) T.editions k.keeps.1.1.1.1.0.rows editions_known }
+
+  -- ---- entries
+
+  entries_named : (layout : Layout) → HasEntryTable layout → KeptAs layout db T → AllByRecursion (λ row. one_of numbers row ≡ true) (rows_of (codes "entry") db)
+  entries_named layout has k =
+      all_weaker (λ row. (e : spec.Entry) × (behind layout row ≡ entry_cells layout e) × IsTrue (has_number M.items e.edition)) (λ row. one_of numbers row ≡ true)
+      (λ row e. numbered_row row e.0.edition numbers (number_is layout row e.0 e.1) (number_named e.0.edition e.2)) (rows_of (codes "entry") db)
+      (each_row layout db T.entries (entries_rows layout has db T k.keeps.1.1.1.1.1.0) (λ (e : spec.Entry). IsTrue (has_number M.items e.edition)) K.stands.entries)
+
+  -- ---- parts
+
+  abbrev IsKnownPart : spec.Part → Type 0
+  IsKnownPart p = (is_of numbers p.edition ≡ true) × ((same_number p.file (pos 0) || same_number p.file (pos 1)) ≡ true)
+
+  parts_known : AllByRecursion IsKnownPart (all_parts T)
+  parts_known =
+      all_flat_map IsKnownPart (edition_parts T.entries) T.editions
+      (all_weaker (λ (e : spec.Edition). is_of numbers e.number ≡ true) (λ e. AllByRecursion IsKnownPart (edition_parts T.entries e))
+      (λ e k. all_weaker (IsPartOf e.number) IsKnownPart (λ p is. (ap (is_of numbers) is.0 ∙ k, is.1)) (edition_parts T.entries e) (edition_parts_so e.number (index_octets (entries_of e.number T.entries)) e.body)) T.editions editions_known)
+
+  abbrev IsInFile : Row → Type 0
+  IsInFile s = (f : ℤ) × (column s 1 ≡ Int f) × ((same_number f (pos 0) || same_number f (pos 1)) ≡ true)
+
+  files_written : (ps : List spec.Part) → AllByRecursion IsKnownPart ps → AllByRecursion IsInFile (map part_row ps)
+  files_written [] k = tt
+  files_written (p ∷ ps) k = ((p.file, refl, k.0.1), files_written ps k.1)
+
+  in_file : (row : Row) → IsInFile (drop 1 row) → is_in_file row ≡ true
+  in_file row p = (λ i. file_is (pos 0) i || file_is (pos 1) i) ∙ p.2
     where
-      each : (xs : List (List ℕ)) → AllByRecursion (λ (p : Piece). is_of (numbers_in reader) p.edition ≡ true) (map (piece_at e.edition e.ord) xs)
-      each [] = tt
-      each (x ∷ xs) = (number_named e.edition k.0, each xs)
+      file_is : (f : ℤ) → equals_number 2 f row ≡ same_number p.0 f
+      file_is f = ap (λ v. same_value v (Int f)) (behind_column row 1 ∙ p.1) ∙ same_int p.0 f
 
-  pieces_named : (pieces : Pieces) → Keeps (name_for pieces) piece_row db (flat_map (derived pieces) T.entries) → AreNumberedApart (numbers_in reader) (name_for pieces) db
-  pieces_named pieces keeps = record {
-    apart = keeps.apart;
-    known = all_of_map (drop 1) (λ s. (p : Piece) × (s ≡ piece_row p) × (is_of (numbers_in reader) p.edition ≡ true)) (λ row. one_of (numbers_in reader) row ≡ true)
-        (λ row p. numbered_row row p.0.edition (numbers_in reader) (behind_column row 0 ∙ ap (λ (r : Row). column r 0) p.1) p.2) (rows_of (name_for pieces) db)
-        (all_same (λ s. (p : Piece) × (s ≡ piece_row p) × (is_of (numbers_in reader) p.edition ≡ true)) (map piece_row (flat_map (derived pieces) T.entries)) (map (drop 1) (rows_of (name_for pieces) db)) keeps.rows
-        (written (flat_map (derived pieces) T.entries) (all_pieces pieces T.entries K.stands.entries)));
-  }
-    where
-      written : (ps : List Piece) → AllByRecursion (λ (p : Piece). is_of (numbers_in reader) p.edition ≡ true) ps → AllByRecursion (λ s. (p : Piece) × (s ≡ piece_row p) × (is_of (numbers_in reader) p.edition ≡ true)) (map piece_row ps)
-      written [] k = tt
-      written (p ∷ ps) k = ((p, refl, k.0), written ps k.1)
+  parts_named : KeepsAll Parted db (with_derived T) → AreKnownApart (is_known_part numbers) (codes "dictcat_part") db
+  parts_named keeps =
+      let rows = rows_of (codes "dictcat_part") db in
+      let kept = parts_kept db T keeps in
+      let numbered_so = named (codes "dictcat_part") part_row (λ (p : spec.Part). p.edition) (λ p. refl) (all_parts T) kept.rows (all_weaker IsKnownPart (λ (p : spec.Part). is_of numbers p.edition ≡ true) (λ p k. k.0) (all_parts T) parts_known) in
+      let files = all_of_map (drop 1) IsInFile (λ row. is_in_file row ≡ true) in_file rows (all_same IsInFile (map part_row (all_parts T)) (map (drop 1) rows) kept.rows (files_written (all_parts T) parts_known)) in
+      record { apart = kept.apart; known = all_with (λ row. one_of numbers row ≡ true) (λ row. is_in_file row ≡ true) (λ row. is_known_part numbers row ≡ true) (λ row p q. both_true (one_of numbers row) (is_in_file row) p q) rows numbered_so files }
 
-  derived_named : (layout : Layout) → KeepsAll layout db (with_derived T) → ArePiecesKnown layout db (numbers_in reader)
-  derived_named Plain k = tt
-  derived_named Keyed k = tt
-  derived_named Shown k = (pieces_named Words (kept_pieces Words db T k), pieces_named Grams (kept_pieces Grams db T k))
+  contents_named : (layout : Layout) → KeptAs layout db T → AreKnownApart (is_of_contents layout numbers) (name_of (contents layout)) db
+  contents_named Plain k = record { apart = k.keeps.1.1.1.1.1.0.apart; known = entries_named Plain tt k }
+  contents_named Keyed k = record { apart = k.keeps.1.1.1.1.1.0.apart; known = entries_named Keyed tt k }
+  contents_named Shown k = record { apart = k.keeps.1.1.1.1.1.0.apart; known = entries_named Shown tt k }
+  contents_named Parted k = let it = parts_named k.keeps in record { apart = it.apart; known = it.known }
 
-  pub rows_named : AreRowsKnown (layout_of version) db (numbers_in reader)
-  rows_named = (entries_named, derived_named (layout_of version) K.keeps)
+  pub all_named : AreAllKnown (layout_of version) db numbers
+  all_named =
+      let k = kept_as version db taken.members T M K in
+      record { editions = editions_named (layout_of version) k; contents = contents_named (layout_of version) k }
 
 pub rows_stray : (version : ℕ) (db : Database) (reader : Reader) (taken : Tables) → HasTaken version reader taken → Fits version db taken
-    → (AreReadableEntries (layout_of version) db → AreReadablePieces (layout_of version) db → AreRowsKnown (layout_of version) db (numbers_in reader) → ⊥) → KeepsNone version db taken.members
-rows_stray version db reader taken h fits wrong T M K = wrong K.records.1.1.1.1.0 K.records.1.1.1.1.1.1 (rows_named version db reader taken h fits T M K)
+    → (AreReadableEditions (layout_of version) db → AreAllKnown (layout_of version) db (numbers_in reader) → ⊥) → KeepsNone version db taken.members
+rows_stray version db reader taken h fits wrong T M K = wrong (K.records.1.1.1.1.0, (K.records.1.1.1.1.1.0, tt)) (all_named version db reader taken h fits T M K)
 
 -- ---- the kept replies
 
 pub replies_wrong : (version : ℕ) (db : Database) (reader : Reader) (taken : Tables) → HasTaken version reader taken → Fits version db taken → taken.kept ≡ [] → IsWrong stored_kept kept_columns refuses_replies (InStore AllKept) db reader → KeepsNone version db taken.members
-replies_wrong version db reader taken h fits none (inl w) T M K = w.3 (last_holds (HasColumns kept_columns) (rows_of (codes "kept") db) (map stored_kept w.0) w.2.0 w.1 K.records.1.1.1.1.1.0 w.2.1.same)
+replies_wrong version db reader taken h fits none (inl w) T M K = w.3 (last_holds (HasColumns kept_columns) (rows_of (codes "kept") db) (map stored_kept w.0) w.2.0 w.1 K.records.1.1.1.0 w.2.1.same)
 replies_wrong version db reader taken h fits none (inr w) T M K = none_kept version db (with_replies taken (kept_given w.0)) (fits_replies version db taken fits none w.0 w.1) (w.2 version taken h) T M K
 
 once_same : (xs ys : List (List ℕ)) → Same xs ys → IsEachOnce xs → IsEachOnce ys
@@ -330,7 +346,7 @@ abbrev id_of : spec.Kept → List ℕ
 id_of row = row.id
 
 pub ids_twice : (version : ℕ) (db : Database) (members : List spec.Member) → HasNoRecordIn stored_kept kept_columns (InStore KeptById) db ⊎ HasIdTwice db → KeepsNone version db members
-ids_twice version db members (inl w) T M K = w.3 (last_holds (HasColumns kept_columns) (rows_of (codes "kept") db) (map stored_kept w.0) w.2.0 w.1 K.records.1.1.1.1.1.0 w.2.1.same)
+ids_twice version db members (inl w) T M K = w.3 (last_holds (HasColumns kept_columns) (rows_of (codes "kept") db) (map stored_kept w.0) w.2.0 w.1 K.records.1.1.1.0 w.2.1.same)
 ids_twice version db members (inr w) T M K =
     let rows = map stored_kept w.0 ++ w.1.0 in
     let found = (listed_records kept_codec (codes "kept") db T.kept (replies_kept (layout_of version) db T K.keeps) rows w.1.1.same).0 in

@@ -1,5 +1,5 @@
 -- The layouts of tables as the program tells them apart.
-use Rattle.dict_rows.specs.Versions.{Layout, Plain, Keyed, Shown}
+use Rattle.dict_rows.specs.Versions.{Layout, Plain, Keyed, Shown, Parted}
 use Rattle.dict_opening.specs.declared.layout.TableLayout.{TableLayout}
 use Rattle.dict_opening.specs.declared.layout.TableLayout.TheVariants as typed
 
@@ -7,3 +7,4 @@ abbrev pub layout_in : TableLayout → Layout
 layout_in typed.Plain = Plain
 layout_in typed.Keyed = Keyed
 layout_in typed.Shown = Shown
+layout_in typed.Parted = Parted

@@ -1,64 +1,32 @@
-// The editions that the items name, each with its entries, and with what is derived of them where it is looked at.
-ghost use Rattle.std.specs.Prelude.{◌≡◌, ◌⊎◌, ◌++◌, ℕ, pos, List, [], ◌∷◌, map, codes, IfOk, IfErr, OnOk};
+// The editions that the items name, each with its entries.
+ghost use Rattle.std.specs.Prelude.{◌≡◌, ◌++◌, ℕ, pos, List, [], map, IfErr, OnOk};
 ghost use Rattle.sqlite.specs.State.{HasCleanDisk};
 ghost use Rattle.sqlite.specs.Held.{state};
-ghost use Rattle.dict_tables.specs.Keyed.{word, gram};
-ghost use Rattle.dict_tables.specs.Tables.{edition as edition_table};
 ghost use Rattle.dict_records.specs.Records.{Entry as EntryRecord};
-ghost use Rattle.dict_records.specs.Typed.{owned_edition};
-ghost use Rattle.dict_sql.specs.Effects.{Has, WhileOpen, equals_number};
-ghost use Rattle.dict_sql.specs.Encodings.{stored_edition};
-ghost use Rattle.dict_sql.specs.Reads.{IsSelection};
-ghost use Rattle.dict_rows.specs.Tables.{Tables};
-ghost use Rattle.dict_rows.specs.Taken.{HasTaken, with_edition};
+ghost use Rattle.dict_sql.specs.Effects.{WhileOpen};
+ghost use Rattle.dict_rows.specs.Tables.{Tables, entries_of};
+ghost use Rattle.dict_rows.specs.Taken.{HasTaken};
 ghost use Rattle.dict_rows.specs.Versions.{layout_of as layout_at};
 ghost use Rattle.dict_scans.specs.Reading.{Same, OnlyReads, IsExcused};
 ghost use Rattle.dict_scans.specs.Entries.{HasEntries, HasWrongEntries, TakesEntries};
 ghost use Rattle.dict_scans.specs.Indexing.{indexed_of};
 ghost use Rattle.dict_opening.specs.Indexed.{HasPut, HaveRowsIndexed};
 ghost use Rattle.dict_opening.specs.Layouts.{layout_in};
-ghost use Rattle.dict_opening.specs.Opens.{KeepsNone, HasVersionTables, HasTablesOf, IsNotOne, CanReadOne, HasReadOne, CanRead, HasRead, IsWrongEdition, HasKeys, HasBoth, HasNotBoth, HasPieces, IsKeyed, IsNotKeyed};
+ghost use Rattle.dict_opening.specs.Opens.{KeepsNone, HasVersionTables, HasTablesOf, CanReadOne, HasReadOne, CanRead, HasRead};
 
 use crate::layout::{TableLayout, layout_of};
-use dict_derived::Pieces;
+use crate::texts::read_edition;
 use dict_indexes::Indexes;
-use dict_match::Key;
-use dict_records::{Edition, Stored};
 use dict_rows::number_in;
 use dict_scans::{
-    EditionIndex, EditionReader, ReadingFault, fault_of_read, fault_of_rows, read_filed_entries,
-    read_old_entries, read_plain_entries, test_pieces,
+    EditionIndex, EditionReader, ReadingFault, fault_of_rows, read_filed_entries, read_old_entries,
+    read_plain_entries, read_shown_entries,
 };
-use dict_sql::read::editions_numbered;
 use sqlite::{Alter, Connection};
 use std::alloc::Global;
 use std::mem::replace;
 
-/// The one edition of this number.
-fn edition_numbered<S: Alter>(
-    alloc: Global,
-    conn: &mut Connection<S>,
-    number: i64,
-) -> Result<Stored<Edition<String, Vec<u8>>>, ReadingFault>
-    requires { WhileOpen (state S.Store conn.old) (Has edition_table) }
-    ensures reads { OnlyReads (state S.Store conn.old) (state S.Store conn.new) }
-    ensures failed { HasCleanDisk (state S.Store conn.new) → IfErr result (IsExcused (state S.Store conn.old) (state S.Store conn.new)) }
-    ensures same { HasCleanDisk (state S.Store conn.new) → OnOk result (Same (state S.Store conn.old) (state S.Store conn.new)) }
-    ensures one { HasCleanDisk (state S.Store conn.new) → IfOk result (λ row. IsSelection (codes "edition") (equals_number 1 number) (1 ∷ []) (state S.Store conn.old).now (stored_edition row ∷ [])) }
-    ensures damaged { HasCleanDisk (state S.Store conn.new) → IfErr result (λ fault. fault ≡ ReadingFault.Damaged → IsNotOne (state S.Store conn.old).now number) }
-{
-    let mut all = match editions_numbered(alloc, conn, number) {
-        Ok(all) => all,
-        Err(error) => return Err(fault_of_read(error)),
-    };
-    if all.len() != 1 {
-        return Err(ReadingFault::Damaged);
-    }
-    Ok(all.remove(0))
-}
-
-/// Takes the entries of the edition that was taken last, which has this number, adds them to the index, and behind those that it
-/// holds the key of each where these are looked at.
+/// Takes the entries of the edition that was taken last, which has this number, and adds them to the index.
 fn read_entries<S: Alter>(
     alloc: Global,
     conn: &mut Connection<S>,
@@ -70,76 +38,15 @@ fn read_entries<S: Alter>(
     ensures reads { OnlyReads (state S.Store conn.old) (state S.Store conn.new) }
     ensures failed { HasCleanDisk (state S.Store conn.new) → IfErr result (IsExcused (state S.Store conn.old) (state S.Store conn.new)) }
     ensures same { HasCleanDisk (state S.Store conn.new) → OnOk result (Same (state S.Store conn.old) (state S.Store conn.new)) }
-    ensures whole { HasCleanDisk (state S.Store conn.new) → OnOk result ((es : List EntryRecord) × TakesEntries (layout_in layout) (state S.Store conn.old).now number reader.old.reader reader.new.reader es × HasKeys (layout_in layout) reader.old.keys.items es reader.new.keys.items × (reader.new.index ≡ reader.old.index ++ map indexed_of es)) }
+    ensures whole { HasCleanDisk (state S.Store conn.new) → OnOk result ((es : List EntryRecord) × TakesEntries (layout_in layout) (state S.Store conn.old).now number reader.old.reader reader.new.reader es × (reader.new.index ≡ reader.old.index ++ map indexed_of es)) }
     ensures damaged { HasCleanDisk (state S.Store conn.new) → IfErr result (λ fault. fault ≡ ReadingFault.Damaged → HasWrongEntries (layout_in layout) (state S.Store conn.old).now number reader.old.reader) }
 {
     match layout {
         TableLayout::Plain => read_plain_entries(alloc, conn, number, reader),
         TableLayout::Keyed => read_old_entries(alloc, conn, number, reader),
-        TableLayout::Shown => read_filed_entries(alloc, conn, number, reader),
+        TableLayout::Shown => read_shown_entries(alloc, conn, number, reader),
+        TableLayout::Parted => read_filed_entries(alloc, conn, number, reader),
     }
-}
-
-/// Tests that the words and the grams of the edition of this number are those of these keys.
-fn test_both<S: Alter>(
-    alloc: Global,
-    conn: &mut Connection<S>,
-    number: i64,
-    keys: &[Key],
-) -> Result<(), ReadingFault>
-    requires words { WhileOpen (state S.Store conn.old) (Has word) }
-    requires grams { WhileOpen (state S.Store conn.old) (Has gram) }
-    ensures reads { OnlyReads (state S.Store conn.old) (state S.Store conn.new) }
-    ensures failed { HasCleanDisk (state S.Store conn.new) → IfErr result (IsExcused (state S.Store conn.old) (state S.Store conn.new)) }
-    ensures same { HasCleanDisk (state S.Store conn.new) → OnOk result (Same (state S.Store conn.old) (state S.Store conn.new)) }
-    ensures whole { HasCleanDisk (state S.Store conn.new) → OnOk result (HasBoth (state S.Store conn.old).now number keys.now) }
-    ensures damaged { HasCleanDisk (state S.Store conn.new) → IfErr result (λ fault. fault ≡ ReadingFault.Damaged → HasNotBoth (state S.Store conn.old).now number keys.now) }
-{
-    test_pieces(alloc, conn, Pieces::Words, number, keys)?;
-    test_pieces(alloc, conn, Pieces::Grams, number, keys)
-}
-
-/// Tests them where they are looked at.
-fn test_derived<S: Alter>(
-    alloc: Global,
-    conn: &mut Connection<S>,
-    layout: TableLayout,
-    number: i64,
-    keys: &[Key],
-) -> Result<(), ReadingFault>
-    requires { WhileOpen (state S.Store conn.old) (HasTablesOf (layout_in layout)) }
-    ensures reads { OnlyReads (state S.Store conn.old) (state S.Store conn.new) }
-    ensures failed { HasCleanDisk (state S.Store conn.new) → IfErr result (IsExcused (state S.Store conn.old) (state S.Store conn.new)) }
-    ensures same { HasCleanDisk (state S.Store conn.new) → OnOk result (Same (state S.Store conn.old) (state S.Store conn.new)) }
-    ensures whole { HasCleanDisk (state S.Store conn.new) → OnOk result (IsKeyed (layout_in layout) (state S.Store conn.old).now number keys.now) }
-    ensures damaged { HasCleanDisk (state S.Store conn.new) → IfErr result (λ fault. fault ≡ ReadingFault.Damaged → IsNotKeyed (layout_in layout) (state S.Store conn.old).now number keys.now) }
-{
-    match layout {
-        TableLayout::Shown => test_both(alloc, conn, number, keys),
-        _ => Ok(()),
-    }
-}
-
-/// Takes the entries of the edition that was taken last, which has this number, and tests what is derived of them. It holds the
-/// keys of this edition alone, and makes the index of it.
-fn read_with_derived<S: Alter>(
-    alloc: Global,
-    conn: &mut Connection<S>,
-    layout: TableLayout,
-    number: i64,
-    reader: &mut EditionReader,
-) -> Result<(), ReadingFault>
-    requires { WhileOpen (state S.Store conn.old) (HasTablesOf (layout_in layout)) }
-    ensures reads { OnlyReads (state S.Store conn.old) (state S.Store conn.new) }
-    ensures failed { HasCleanDisk (state S.Store conn.new) → IfErr result (IsExcused (state S.Store conn.old) (state S.Store conn.new)) }
-    ensures same { HasCleanDisk (state S.Store conn.new) → OnOk result (Same (state S.Store conn.old) (state S.Store conn.new)) }
-    ensures whole { HasCleanDisk (state S.Store conn.new) → OnOk result ((es : List EntryRecord) × TakesEntries (layout_in layout) (state S.Store conn.old).now number reader.old.reader reader.new.reader es × HasPieces (layout_in layout) (state S.Store conn.old).now number es × (reader.new.index ≡ map indexed_of es)) }
-    ensures damaged { HasCleanDisk (state S.Store conn.new) → IfErr result (λ fault. fault ≡ ReadingFault.Damaged → IsWrongEdition (layout_in layout) (state S.Store conn.old).now number reader.old.reader) }
-{
-    reader.keys = Vec::new(alloc);
-    reader.index = EditionIndex::new(alloc);
-    read_entries(alloc, conn, layout, number, reader)?;
-    test_derived(alloc, conn, layout, number, &reader.keys)
 }
 
 /// Takes the edition of this number, with its entries, and makes the index of it.
@@ -154,16 +61,17 @@ fn read_number<S: Alter>(
     ensures reads { OnlyReads (state S.Store conn.old) (state S.Store conn.new) }
     ensures failed { HasCleanDisk (state S.Store conn.new) → IfErr result (IsExcused (state S.Store conn.old) (state S.Store conn.new)) }
     ensures same { HasCleanDisk (state S.Store conn.new) → OnOk result (Same (state S.Store conn.old) (state S.Store conn.new)) }
-    ensures whole { HasCleanDisk (state S.Store conn.new) → OnOk result ((taken : Tables) → HasTaken version reader.old.reader taken → (after : Tables) × HasTaken version reader.new.reader after × HasReadOne (layout_at version) (state S.Store conn.old).now number taken after) }
+    ensures whole { HasCleanDisk (state S.Store conn.new) → OnOk result ((taken : Tables) → HasTaken version reader.old.reader taken → entries_of number taken.entries ≡ [] → (after : Tables) × HasTaken version reader.new.reader after × HasReadOne (layout_at version) (state S.Store conn.old).now number taken after) }
     ensures indexed { HasCleanDisk (state S.Store conn.new) → OnOk result ((given : List EntryRecord) × HasEntries (layout_at version) (state S.Store conn.old).now number given × (reader.new.index ≡ map indexed_of given)) }
     ensures damaged { HasCleanDisk (state S.Store conn.new) → IfErr result (λ fault. fault ≡ ReadingFault.Damaged → (taken : Tables) → HasTaken version reader.old.reader taken → CanReadOne version (state S.Store conn.old).now taken number → KeepsNone version (state S.Store conn.old).now taken.members) }
 {
     reader.reader.let_go();
-    let row = edition_numbered(alloc, conn, number)?;
-    if let Err(fault) = reader.reader.edition(row.value) {
+    reader.index = EditionIndex::new(alloc);
+    let edition = read_edition(alloc, conn, layout_of(version), number)?;
+    if let Err(fault) = reader.reader.edition(edition) {
         return Err(fault_of_rows(fault));
     }
-    read_with_derived(alloc, conn, layout_of(version), number, reader)
+    read_entries(alloc, conn, layout_of(version), number, reader)
 }
 
 /// Puts the index that was made under the number of its edition, and begins another one.

@@ -10,6 +10,7 @@ mod opening;
 mod records;
 mod rowids;
 mod strays;
+mod texts;
 
 pub use laws::{held_is_marked, one_is_held};
 pub use opening::read_catalogue;

@@ -136,7 +136,6 @@ pub(crate) fn read_records<S: Alter>(
     let reader = begin(alloc, conn, version, marks)?;
     let mut reader = EditionReader {
         reader,
-        keys: Vec::new(alloc),
         index: EditionIndex::new(alloc),
     };
     let mut indexes = Indexes::new(alloc);

@@ -5,10 +5,10 @@ ghost use Rattle.sqlite.specs.Held.{state};
 ghost use Rattle.dict_sql.specs.Effects.{WhileOpen};
 ghost use Rattle.dict_rows.specs.Versions.{layout_of};
 ghost use Rattle.dict_scans.specs.Reading.{Same, OnlyReads, IsExcused};
-ghost use Rattle.dict_opening.specs.Opens.{HasVersionTables, HasReadableRows, HasOthersApart, IsApartFirst, IsApartLast};
+ghost use Rattle.dict_opening.specs.Opens.{HasVersionTables, HasReadableRows, HasOthersApart, IsApartFirst};
 
 use dict_records::{Item, Kept, Mark, Member, Stored};
-use dict_scans::{ReadingFault, test_edition_rowids, test_rowids};
+use dict_scans::{ReadingFault, test_rowids};
 use dict_tables::StoreTable;
 use sqlite::{Alter, Connection};
 use std::alloc::Global;
@@ -31,24 +31,7 @@ fn test_small<S: Alter>(
     test_rowids::<S, Stored<Member<String>>>(alloc, conn, StoreTable::Member)
 }
 
-/// Tests that no two editions have one rowid, nor two kept replies.
-fn test_large<S: Alter>(
-    alloc: Global,
-    conn: &mut Connection<S>,
-    version: u64,
-) -> Result<(), ReadingFault>
-    requires { WhileOpen (state S.Store conn.old) (HasVersionTables version) }
-    ensures reads { OnlyReads (state S.Store conn.old) (state S.Store conn.new) }
-    ensures failed { HasCleanDisk (state S.Store conn.new) → IfErr result (IsExcused (state S.Store conn.old) (state S.Store conn.new)) }
-    ensures same { HasCleanDisk (state S.Store conn.new) → OnOk result (Same (state S.Store conn.old) (state S.Store conn.new)) }
-    ensures apart { HasCleanDisk (state S.Store conn.new) → OnOk result (IsApartLast (state S.Store conn.old).now) }
-    ensures damaged { HasCleanDisk (state S.Store conn.new) → IfErr result (λ fault. fault ≡ ReadingFault.Damaged → HasReadableRows (layout_of version) (state S.Store conn.old).now → IsApartLast (state S.Store conn.old).now → ⊥) }
-{
-    test_edition_rowids(alloc, conn)?;
-    test_rowids::<S, Stored<Kept<String>>>(alloc, conn, StoreTable::Kept)
-}
-
-/// Tests that no two rows of a table have one rowid, but for entries and what is derived of them.
+/// Tests that no two rows of a table have one rowid, but for editions and what is kept of their entries.
 pub(crate) fn test_other_rowids<S: Alter>(
     alloc: Global,
     conn: &mut Connection<S>,
@@ -62,5 +45,5 @@ pub(crate) fn test_other_rowids<S: Alter>(
     ensures damaged { HasCleanDisk (state S.Store conn.new) → IfErr result (λ fault. fault ≡ ReadingFault.Damaged → HasReadableRows (layout_of version) (state S.Store conn.old).now → HasOthersApart (state S.Store conn.old).now → ⊥) }
 {
     test_small(alloc, conn, version)?;
-    test_large(alloc, conn, version)
+    test_rowids::<S, Stored<Kept<String>>>(alloc, conn, StoreTable::Kept)
 }

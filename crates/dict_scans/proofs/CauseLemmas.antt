@@ -15,15 +15,12 @@ use Rattle.dict_tables.specs.Tables.{table_of}
 use Rattle.dict_tables.specs.declared.tables.StoreTable.TheVariants.{Edition, Entry, Kept}
 use Rattle.dict_sql.specs.Columns.{Content}
 use Rattle.dict_sql.specs.Reads.{IsSelection, FailsToRead, FailsToList, numbered}
-use Rattle.dict_tables.specs.Keyed.{table_of as keyed_of}
-use Rattle.dict_tables.specs.declared.keyed.KeyedTable.{KeyedTable}
-use Rattle.dict_keyed_sql.specs.Scans.{edition_order}
+use Rattle.dict_part_sql.specs.Chosen.{is_of_file}
 use Rattle.dict_sql.specs.Streams.{Scan, FailsToMove}
 use Rattle.dict_sql.specs.Streams as store
 use Rattle.dict_scans.specs.Cursors.{Cursor, HasGiven, IsWhole, IsFront}
-use Rattle.dict_scans.specs.Cursors.Cursor.{InStore, KeyedOf, KeyedByRowid, OldEntriesOf, OldEntriesByRowid}
+use Rattle.dict_scans.specs.Cursors.Cursor.{InStore, ShownEntriesOf, ShownEntriesByRowid, OldEntriesOf, OldEntriesByRowid, PartsOf, PartsByRowid, HeadersByRowid}
 use Rattle.dict_scans.proofs.CursorLemmas.{fails_to_move}
-use Rattle.dict_tables.specs.declared.keyed.KeyedTable.TheVariants as keyed
 use Rattle.dict_sql.specs.Streams.Scan.{AllEditions, AllEntries, EntriesOf, AllKept, KeptById, ByRowid, EditionNumbers}
 use Rattle.dict_sql.specs.Effects.{rows_of, equals_number}
 use Rattle.dict_sql.specs.declared.records.ReadError.{ReadError}
@@ -92,17 +89,24 @@ store_vast (ByRowid table) db rows whole many = inl (table, let size = length_pe
 store_vast EditionNumbers db rows whole many =
     inl (Edition, let size = length_permutation (map numbered (rows_of (codes "edition") db)) rows whole.same in let each = length-map (rows_of (codes "edition") db) numbered in omega (arith, size, each, many))
 
--- some of the rows of a table with keys
-keyed_vast : (table : KeyedTable) (test : Row → Bool) (order : List ℕ) (db : Database) (rows : List Row) → IsSelection (keyed_of table 0).name test order db rows → 18446744073709551615 ≤ length rows → IsVast db
-keyed_vast table test order db rows whole many =
-    inr (table, let size = length_permutation (filter test (rows_of (keyed_of table 0).name db)) rows whole.same in let few = few_passed test (rows_of (keyed_of table 0).name db) in omega (arith, size, few, many))
+-- some of the rows of a table of entries, or of parts
+entries_vast : (test : Row → Bool) (order : List ℕ) (db : Database) (rows : List Row) → IsSelection (codes "entry") test order db rows → 18446744073709551615 ≤ length rows → IsVast db
+entries_vast test order db rows whole many =
+    inl (Entry, let size = length_permutation (filter test (rows_of (codes "entry") db)) rows whole.same in let few = few_passed test (rows_of (codes "entry") db) in omega (arith, size, few, many))
+
+parts_vast : (test : Row → Bool) (order : List ℕ) (db : Database) (rows : List Row) → IsSelection (codes "dictcat_part") test order db rows → 18446744073709551615 ≤ length rows → IsVast db
+parts_vast test order db rows whole many =
+    inr (let size = length_permutation (filter test (rows_of (codes "dictcat_part") db)) rows whole.same in let few = few_passed test (rows_of (codes "dictcat_part") db) in omega (arith, size, few, many))
 
 whole_vast : (what : Cursor) (db : Database) (rows : List Row) → IsWhole what db rows → 18446744073709551615 ≤ length rows → IsVast db
 whole_vast (InStore scan) db rows whole many = store_vast scan db rows whole many
-whole_vast (KeyedOf table edition) db rows whole many = keyed_vast table (equals_number 1 edition) (edition_order table) db rows whole many
-whole_vast (KeyedByRowid table) db rows whole many = keyed_vast table (λ _. true) (0 ∷ []) db rows whole many
-whole_vast (OldEntriesOf edition) db rows whole many = keyed_vast keyed.Entry (equals_number 1 edition) (2 ∷ []) db rows whole many
-whole_vast OldEntriesByRowid db rows whole many = keyed_vast keyed.Entry (λ _. true) (0 ∷ []) db rows whole many
+whole_vast (ShownEntriesOf edition) db rows whole many = entries_vast (equals_number 1 edition) (2 ∷ []) db rows whole many
+whole_vast ShownEntriesByRowid db rows whole many = entries_vast (λ _. true) (0 ∷ []) db rows whole many
+whole_vast (OldEntriesOf edition) db rows whole many = entries_vast (equals_number 1 edition) (2 ∷ []) db rows whole many
+whole_vast OldEntriesByRowid db rows whole many = entries_vast (λ _. true) (0 ∷ []) db rows whole many
+whole_vast (PartsOf edition file) db rows whole many = parts_vast (is_of_file edition file) (3 ∷ []) db rows whole many
+whole_vast PartsByRowid db rows whole many = parts_vast (λ _. true) (0 ∷ []) db rows whole many
+whole_vast HeadersByRowid db rows whole many = inl (Edition, let size = length_permutation (rows_of (codes "edition") db) rows whole.same in omega (arith, size, many))
 
 pub front_vast : (what : Cursor) (db : Database) (rows : List Row) → IsFront what db rows → 18446744073709551615 ≤ length rows → IsVast db
 front_vast what db rows front many = whole_vast what db (rows ++ front.0) front.1 (let size = length-append rows front.0 in omega (arith, size, many))

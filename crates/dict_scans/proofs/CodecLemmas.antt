@@ -10,15 +10,19 @@ use Rattle.sqlite.specs.Effect.{Database}
 use Rattle.sqlite.specs.Order.{Row}
 use Rattle.dict_text.proofs.AllLemmas.{all_filter}
 use Rattle.dict_records.specs.Records as spec
-use Rattle.dict_records.specs.Typed.{owned_mark, owned_item, owned_member, owned_edition, owned_kept}
+use Rattle.dict_records.specs.Typed.{owned_mark, owned_item, owned_member, owned_edition, owned_header, owned_kept}
 use Rattle.dict_records.specs.declared.records as typed
 use Rattle.dict_records.specs.declared.records.Stored.{Stored}
 use Rattle.dict_sql.specs.Effects.{rows_of}
 use Rattle.dict_sql.specs.Encodings.{mark_row, item_row, member_row, edition_row, kept_row, stored_mark, stored_item, stored_member, stored_edition, stored_kept}
 use Rattle.dict_sql.specs.Reads.{by_columns}
+use Rattle.dict_header_sql.specs.Records.{header_row, stored_header}
+use Rattle.dict_header_sql.specs.declared.records.StoredHeader.{StoredHeader}
+use Rattle.dict_part_sql.specs.Records.{part_row, owned_part, stored_part}
+use Rattle.dict_part_sql.specs.declared.records.StoredPart.{StoredPart}
 use Rattle.dict_holdings.specs.Holds.{Keeps}
 use Rattle.dict_holdings.proofs.ReadLemmas.{sorted_order}
-use Rattle.dict_holdings.proofs.OneLemmas.{decode_mark, decode_item, decode_member, decode_edition, decode_kept, mark_back, item_back, member_back, edition_back, kept_back}
+use Rattle.dict_holdings.proofs.OneLemmas.{decode_mark, decode_item, decode_member, decode_edition, decode_header, decode_part, decode_kept, mark_back, item_back, member_back, edition_back, header_back, part_back, kept_back}
 use Rattle.dict_rows.specs.Order.{InOrder}
 use Rattle.dict_rows.proofs.OrderLemmas.{order_given, all_same}
 use Rattle.dict_scans.proofs.RowidLemmas.{all_of_map}
@@ -90,6 +94,13 @@ module _ {R W : Type 0} (k : Codec R W) where
       (order_given IsRow (λ a b. is_lt (by_columns columns b a) ≡ false) (λ a b. T (read a) (read b))
       (λ a b qa qb r. subst (λ w. T w (read b)) (sym (read_is a qa.0 qa.1)) (subst (T qa.0) (sym (read_is b qb.0 qb.1)) (means a b qa.0 qb.0 qa.1 qb.1 r))) rows all (sorted_order columns rows up))
 
+  -- what is read of rows that are those of these records
+  pub records_in : (ws : List W) (rows : List Row) → IsPermutation (map k.encode ws) (map (drop 1) rows) → IsPermutation ws (map read rows) × AllByRecursion IsRow rows
+  records_in ws rows same = (
+    subst (λ xs. IsPermutation xs (map read rows)) (undone ws) (subst (IsPermutation (map k.decode (map k.encode ws))) (behind_rowids rows) (IsPermutation-map k.decode _ _ same)),
+    all_of_map (drop 1) (λ s. (w : W) × (s ≡ k.encode w)) IsRow (λ r h. h) rows (all_same (λ s. (w : W) × (s ≡ k.encode w)) (map k.encode ws) (map (drop 1) rows) same (all_written ws)),
+  )
+
   module _ (name : List ℕ) (db : Database) (ws : List W) (keeps : Keeps name k.encode db ws) where
     pub written : AllByRecursion IsRow (rows_of name db)
     written = all_of_map (drop 1) (λ s. (w : W) × (s ≡ k.encode w)) IsRow (λ r h. h) (rows_of name db) (all_same (λ s. (w : W) × (s ≡ k.encode w)) (map k.encode ws) (map (drop 1) (rows_of name db)) keeps.rows (all_written ws))
@@ -125,3 +136,11 @@ edition_codec = record { stored = stored_edition; owned = (λ row. owned_edition
 
 abbrev pub kept_codec : Codec (Stored (typed.Kept.Kept (String Global))) spec.Kept
 kept_codec = record { stored = stored_kept; owned = (λ row. owned_kept row.value); encode = kept_row; decode = decode_kept; undo = kept_back; behind = (λ r. refl) }
+
+-- ---- headers, and parts
+
+abbrev pub header_codec : Codec StoredHeader spec.Header
+header_codec = record { stored = stored_header; owned = (λ row. owned_header row.value); encode = header_row; decode = decode_header; undo = header_back; behind = (λ r. refl) }
+
+abbrev pub part_codec : Codec StoredPart spec.Part
+part_codec = record { stored = stored_part; owned = (λ row. owned_part row.part); encode = part_row; decode = decode_part; undo = part_back; behind = (λ r. refl) }

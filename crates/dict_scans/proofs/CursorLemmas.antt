@@ -14,31 +14,46 @@ use Rattle.dict_sql.proofs.StreamLemmas as store
 use Rattle.dict_keyed_sql.specs.Scans as scans
 use Rattle.dict_keyed_sql.specs.Scans.Scan.{Of, ByRowid, OldOf, OldByRowid}
 use Rattle.dict_keyed_sql.proofs.ScanLemmas as keyed
+use Rattle.dict_tables.specs.declared.keyed.KeyedTable.TheVariants.{Entry}
+use Rattle.dict_header_sql.specs.Texts as header_texts
+use Rattle.dict_header_sql.proofs.ScanLemmas as headers
+use Rattle.dict_part_sql.specs.Scans as part_scans
+use Rattle.dict_part_sql.specs.Scans.Scan.{OfFile, ByRowid as PartByRowid}
+use Rattle.dict_part_sql.proofs.ScanLemmas as parts
 use Rattle.dict_scans.specs.Cursors.{Cursor, IsFront, HasGiven, GivesOn, GivesNoRecord}
-use Rattle.dict_scans.specs.Cursors.Cursor.{InStore, KeyedOf, KeyedByRowid, OldEntriesOf, OldEntriesByRowid}
+use Rattle.dict_scans.specs.Cursors.Cursor.{InStore, ShownEntriesOf, ShownEntriesByRowid, OldEntriesOf, OldEntriesByRowid, PartsOf, PartsByRowid, HeadersByRowid}
 
 module _ {S : Type 0} (g : Ghosts S) where
   pub front_of : (what : Cursor) (h : Held S) (given : List Row) → HasGiven g what h given → IsFront what (state g h).now given
   front_of (InStore scan) h given it = it.front
-  front_of (KeyedOf table edition) h given it = it.front
-  front_of (KeyedByRowid table) h given it = it.front
+  front_of (ShownEntriesOf edition) h given it = it.front
+  front_of ShownEntriesByRowid h given it = it.front
   front_of (OldEntriesOf edition) h given it = it.front
   front_of OldEntriesByRowid h given it = it.front
+  front_of (PartsOf edition file) h given it = it.front
+  front_of PartsByRowid h given it = it.front
+  front_of HeadersByRowid h given it = it.front
 
   module _ (old new : Held S) (given : List Row) where
     gives_all : (what : Cursor) → IsUnchanged (state g old) (state g new) → HasGiven g what old given → kit.Advances g old new None → GivesOn g what new given None
     gives_all (InStore scan) same h moved = store.gives_on g scan old new given None same h moved
-    gives_all (KeyedOf table edition) same h moved = keyed.gives_on g (Of table edition) old new given None same h moved
-    gives_all (KeyedByRowid table) same h moved = keyed.gives_on g (ByRowid table) old new given None same h moved
+    gives_all (ShownEntriesOf edition) same h moved = keyed.gives_on g (Of Entry edition) old new given None same h moved
+    gives_all ShownEntriesByRowid same h moved = keyed.gives_on g (ByRowid Entry) old new given None same h moved
     gives_all (OldEntriesOf edition) same h moved = keyed.gives_on g (OldOf edition) old new given None same h moved
     gives_all OldEntriesByRowid same h moved = keyed.gives_on g OldByRowid old new given None same h moved
+    gives_all (PartsOf edition file) same h moved = parts.gives_on g (OfFile edition file) old new given None same h moved
+    gives_all PartsByRowid same h moved = parts.gives_on g PartByRowid old new given None same h moved
+    gives_all HeadersByRowid same h moved = headers.gives_on g old new given None same h moved
 
     gives_one : (what : Cursor) (row : Row) → IsUnchanged (state g old) (state g new) → HasGiven g what old given → kit.Advances g old new (Some row) → HasGiven g what new (given ++ row ∷ [])
     gives_one (InStore scan) row same h moved = store.gives_on g scan old new given (Some row) same h moved
-    gives_one (KeyedOf table edition) row same h moved = keyed.gives_on g (Of table edition) old new given (Some row) same h moved
-    gives_one (KeyedByRowid table) row same h moved = keyed.gives_on g (ByRowid table) old new given (Some row) same h moved
+    gives_one (ShownEntriesOf edition) row same h moved = keyed.gives_on g (Of Entry edition) old new given (Some row) same h moved
+    gives_one ShownEntriesByRowid row same h moved = keyed.gives_on g (ByRowid Entry) old new given (Some row) same h moved
     gives_one (OldEntriesOf edition) row same h moved = keyed.gives_on g (OldOf edition) old new given (Some row) same h moved
     gives_one OldEntriesByRowid row same h moved = keyed.gives_on g OldByRowid old new given (Some row) same h moved
+    gives_one (PartsOf edition file) row same h moved = parts.gives_on g (OfFile edition file) old new given (Some row) same h moved
+    gives_one PartsByRowid row same h moved = parts.gives_on g PartByRowid old new given (Some row) same h moved
+    gives_one HeadersByRowid row same h moved = headers.gives_on g old new given (Some row) same h moved
 
     pub gives_on : (what : Cursor) (row : Option Row) → IsUnchanged (state g old) (state g new) → HasGiven g what old given → kit.Advances g old new row → GivesOn g what new given row
     gives_on what None same h moved = gives_all what same h moved
@@ -51,9 +66,15 @@ module _ {S : Type 0} (g : Ghosts S) where
   keyed_fails : (what : scans.Scan) (old new : Held S) (given : List Row) (e : Error) → scans.HasGiven g what old given → kit.FailsToAdvance g old new e → FailsToRead (state g old) (state g new) e
   keyed_fails what old new given e h failed = keyed.fails_to_read what (state g old) (state g new) (λ _. h.has) e (failed (scans.scan_text what) (scans.scan_values what) given h.runs)
 
+  part_fails : (what : part_scans.Scan) (old new : Held S) (given : List Row) (e : Error) → part_scans.HasGiven g what old given → kit.FailsToAdvance g old new e → FailsToRead (state g old) (state g new) e
+  part_fails what old new given e h failed = parts.fails_to_read what (state g old) (state g new) (λ _. h.has) e (failed (part_scans.scan_text what) (part_scans.scan_values what) given h.runs)
+
   pub fails_to_move : (what : Cursor) (old new : Held S) (given : List Row) (e : Error) → HasGiven g what old given → kit.FailsToAdvance g old new e → FailsToRead (state g old) (state g new) e
   fails_to_move (InStore scan) old new given e h failed = store.fails_to_advance g scan old new given e h failed
-  fails_to_move (KeyedOf table edition) old new given e h failed = keyed_fails (Of table edition) old new given e h failed
-  fails_to_move (KeyedByRowid table) old new given e h failed = keyed_fails (ByRowid table) old new given e h failed
+  fails_to_move (ShownEntriesOf edition) old new given e h failed = keyed_fails (Of Entry edition) old new given e h failed
+  fails_to_move ShownEntriesByRowid old new given e h failed = keyed_fails (ByRowid Entry) old new given e h failed
   fails_to_move (OldEntriesOf edition) old new given e h failed = keyed_fails (OldOf edition) old new given e h failed
   fails_to_move OldEntriesByRowid old new given e h failed = keyed_fails OldByRowid old new given e h failed
+  fails_to_move (PartsOf edition file) old new given e h failed = part_fails (OfFile edition file) old new given e h failed
+  fails_to_move PartsByRowid old new given e h failed = part_fails PartByRowid old new given e h failed
+  fails_to_move HeadersByRowid old new given e h failed = headers.fails_to_read (state g old) (state g new) (λ _. h.has) e (failed header_texts.rowid_text [] given h.runs)

@@ -11,5 +11,6 @@ pub mod TestLemmas
 pub mod PlaceLemmas
 pub mod TypedLemmas
 pub mod EntryLemmas
+pub mod FileLemmas
+pub mod LineLemmas
 pub mod CensusLemmas
-pub mod PieceLemmas

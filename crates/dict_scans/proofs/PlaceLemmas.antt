@@ -2,11 +2,10 @@
 use Rattle.std.proofs.Common.{List, [], ◌∷◌, ◌++◌, subst}
 use Rattle.std.specs.List.{AllByRecursion, Contains}
 use Rattle.std.specs.List.Sorted.{IsPermutation}
-use Rattle.std.proofs.lemmas.List.Elements.{All-from_recursion, Contains-append_left, Contains-append_right}
+use Rattle.std.proofs.lemmas.List.Elements.{All-from_recursion, Contains-append_left, Contains-push}
 use Rattle.std.proofs.lemmas.List.Sorted.{IsPermutation-sym, Contains-permutation}
 use Rattle.dict_text.proofs.AllLemmas.{all_append_parts}
 use Rattle.dict_rows.proofs.OrderLemmas.{all_same}
-use Rattle.dict_derived.proofs.BagLemmas.{at_front}
 
 module _ {X : Type 0} where
   pub all_contains : (P : X → Type 0) (xs : List X) (x : X) → AllByRecursion P xs → Contains xs x → P x
@@ -18,4 +17,4 @@ module _ {X : Type 0} where
   pub last_there : (all xs tail : List X) (x : X) → IsPermutation all ((xs ++ x ∷ []) ++ tail) → Contains all x
   last_there all xs tail x same =
       Contains-permutation ((xs ++ x ∷ []) ++ tail) all x (IsPermutation-sym all ((xs ++ x ∷ []) ++ tail) same)
-      (Contains-append_left (xs ++ x ∷ []) tail x (Contains-append_right xs (x ∷ []) x (at_front x [])))
+      (Contains-append_left (xs ++ x ∷ []) tail x (Contains-push xs x))

@@ -1,5 +1,5 @@
 -- Rowids that come in their order.
-use Rattle.std.proofs.Common.{◌≡◌, ℤ, true, false, List, [], ◌∷◌, ◌++◌, map, codes, refl, sym, ap, subst, ◌∙◌}
+use Rattle.std.proofs.Common.{◌≡◌, ℤ, true, false, List, [], ◌∷◌, ◌++◌, map, refl, sym, ap, subst, ◌∙◌}
 use Rattle.std.specs.Prelude.{◌≤ℤ◌}
 use Rattle.std.specs.List.{AllByRecursion, IsDistinct}
 use Rattle.std.specs.Ordering.{is_lt, is_eq, ordering_then, ordering_reverse}
@@ -16,9 +16,8 @@ use Rattle.sqlite.specs.Order.{Row, column, value_cmp}
 use Rattle.dict_tables.specs.Tables.{table_of}
 use Rattle.dict_tables.specs.declared.tables.StoreTable.{StoreTable}
 use Rattle.dict_sql.specs.Effects.{HasApartRowids, rows_of, same_value}
-use Rattle.dict_sql.specs.Encodings.{stored_number}
 use Rattle.dict_sql.specs.Reads.{by_columns, numbered}
-use Rattle.dict_sql.specs.Streams.Scan.{ByRowid, EditionNumbers}
+use Rattle.dict_sql.specs.Streams.Scan.{ByRowid}
 use Rattle.dict_scans.specs.Cursors.Cursor.{InStore}
 use Rattle.dict_sql.proofs.KitLemmas.{value_cmp_total}
 use Rattle.dict_sql.proofs.Callers.{apart_same, differs}
@@ -126,14 +125,8 @@ pub all_numbered : (P Q : Row → Type 0) → ((r : Row) → P r → Q (numbered
 all_numbered P Q w [] h = tt
 all_numbered P Q w (r ∷ rows) h = (w r h.0, all_numbered P Q w rows h.1)
 
-pub numbers_whole : (db : Database) (first last : RowidReader) → HasTakenRowids first [] → TakesAll stored_number (takes_rowids stored_number) (InStore EditionNumbers) db first last → HasApartRowids (rows_of (codes "edition") db)
-numbers_whole db first last none h =
-    let rows = rows_of (codes "edition") db in
-    let apart = all_apart stored_number (map numbered rows) first none h.0 last h.1.same h.1.sorted h.2 in
-    record { integers = all_of_map numbered HasRowid HasRowid (λ r p. p) rows apart.integers; apart = subst (IsDistinct same_value) (firsts rows) apart.apart }
+pub apart_from_numbered : (rows : List Row) → HasApartRowids (map numbered rows) → HasApartRowids rows
+apart_from_numbered rows apart = record { integers = all_of_map numbered HasRowid HasRowid (λ r p. p) rows apart.integers; apart = subst (IsDistinct same_value) (firsts rows) apart.apart }
 
-pub numbers_wrong : (db : Database) (first : RowidReader) → HasTakenRowids first [] → HasRefused stored_number (refuses_rowids stored_number) (InStore EditionNumbers) db first → HasApartRowids (rows_of (codes "edition") db) → ⊥
-numbers_wrong db first none h apart =
-    let rows = rows_of (codes "edition") db in
-    all_wrong stored_number (map numbered rows) first none h.0 h.1.0 h.1.1.same h.2
-    (record { integers = all_numbered HasRowid HasRowid (λ r p. p) rows apart.integers; apart = subst (IsDistinct same_value) (sym (firsts rows)) apart.apart })
+pub numbered_apart : (rows : List Row) → HasApartRowids rows → HasApartRowids (map numbered rows)
+numbered_apart rows apart = record { integers = all_numbered HasRowid HasRowid (λ r p. p) rows apart.integers; apart = subst (IsDistinct same_value) (sym (firsts rows)) apart.apart }

@@ -1,5 +1,5 @@
 -- What was taken, and what isn't, with one record more.
-use Rattle.std.proofs.Common.{◌≡◌, ℕ, ℤ, List, [], ◌∷◌, ◌++◌, map, inr, refl, sym, ap, subst, ◌∙◌, append_assoc, Ok, Err, Result, OnOk, OnErr, IfErr}
+use Rattle.std.proofs.Common.{◌≡◌, ℕ, ℤ, List, [], ◌∷◌, ◌++◌, map, sym, ap, subst, ◌∙◌, append_assoc, Ok, Err, Result, OnOk, OnErr, IfErr}
 use Rattle.std.specs.List.{AllByRecursion}
 use Rattle.std.proofs.lemmas.List.{map-append}
 use Rattle.std.specs.Prelude.{string_bytes}
@@ -20,13 +20,11 @@ use Rattle.dict_rows.specs.declared.apart.IdReader.{IdReader}
 use Rattle.dict_rows.specs.declared.apart.RowidReader.{RowidReader}
 use Rattle.dict_rows.specs.declared.fault.RowsFault.{RowsFault}
 use Rattle.dict_rows.specs.declared.fault.RowsFault.TheVariants.{Damaged, Memory}
-use Rattle.dict_scans.specs.declared.takers.Strays.{Strays}
-use Rattle.dict_match.specs.Key.{key_of}
 use Rattle.dict_scans.specs.Entries.{AreTaken, AreNotTaken}
-use Rattle.dict_scans.specs.Filing.{FiledRow, entry_filed, IsFiled, keys_of, AreAdded, TakesFiled, refuses_filed}
+use Rattle.dict_scans.specs.Filing.{AreAdded}
 use Rattle.dict_scans.specs.Indexing.{indexed_of}
 use Rattle.dict_scans.specs.declared.filing.EditionReader.{EditionReader}
-use Rattle.dict_scans.specs.Takers.{KeptRow, AreRowids, takes_rowids, refuses_rowids, takes_replies, refuses_replies, ids_given, takes_ids, refuses_ids, IsStray, takes_known, refuses_stray}
+use Rattle.dict_scans.specs.Takers.{KeptRow, AreRowids, takes_rowids, refuses_rowids, takes_replies, refuses_replies, ids_given, takes_ids, refuses_ids}
 
 -- ---- outcomes
 
@@ -118,23 +116,3 @@ module _ (first : IdReader) (given : List KeptRow) (next : KeptRow) (old : IdRea
 
   pub ids_refused : ((taken : List (List ℕ)) → HasTakenIds old taken → IsEachOnce (taken ++ string_bytes next.value.id ∷ []) → ⊥) → refuses_ids first (given ++ next ∷ [])
   ids_refused wrong before b once = wrong (before ++ ids_given given) (t before b) (subst IsEachOnce (sym (ids_are before)) once)
-
--- ---- strays
-
-pub stray_refused : {R : Type 0} (number : R → ℤ) (first old : Strays) (given : List R) (next : R) → takes_known number first given old → IsStray old (number next) → refuses_stray number first (given ++ next ∷ [])
-stray_refused number first old given next h stray = (given, next, refl, subst (λ (s : Strays). IsStray s (number next)) h.0 stray)
-
--- ---- entries with keys
-
-module _ (first : EditionReader) (given : List FiledRow) (next : FiledRow) (old : EditionReader) (t : TakesFiled first given old) (fits : IsFiled next) where
-  pub filed_next : (new : EditionReader) (key : List ℕ) → key ≡ key_of (entry_filed next).headword → AreAdded old new (entry_filed next ∷ []) → new.keys.items ≡ old.keys.items ++ key ∷ [] → TakesFiled first (given ++ next ∷ []) new
-  filed_next new key is more kept = record {
-    filed = all_push IsFiled given next t.filed fits;
-    keys = kept ∙ ap (λ l. l ++ key ∷ []) t.keys ∙ append_assoc first.keys.items (keys_of (map entry_filed given)) (key ∷ [])
-        ∙ ap (λ (k : List ℕ). first.keys.items ++ (keys_of (map entry_filed given) ++ k ∷ [])) is
-        ∙ ap (λ l. first.keys.items ++ l) (sym (ap keys_of (map-append entry_filed given (next ∷ [])) ∙ map-append (λ (e : spec.Entry). key_of e.headword) (map entry_filed given) (entry_filed next ∷ [])));
-    added = added_next entry_filed first given next old t.added new more;
-  }
-
-  pub filed_refused : AreNotTaken old.reader (entry_filed next ∷ []) → refuses_filed first (given ++ next ∷ [])
-  filed_refused wrong = inr (all_push IsFiled given next t.filed fits, added_refused entry_filed first given next old t.added wrong)

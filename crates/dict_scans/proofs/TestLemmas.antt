@@ -1,30 +1,20 @@
 -- What the tests of the tables tell.
-use Rattle.std.proofs.Common.{◌⊎◌, ℤ, List, [], map, codes, inl, inr, subst}
+use Rattle.std.proofs.Common.{◌⊎◌, List, [], inl, inr}
 use Rattle.sqlite.specs.Effect.{Database}
 use Rattle.sqlite.specs.Order.{Row}
 use Rattle.dict_tables.specs.Tables.{table_of}
 use Rattle.dict_tables.specs.declared.tables.StoreTable.{StoreTable}
-use Rattle.dict_sql.specs.Columns.{Content, kept_columns, number_columns}
+use Rattle.dict_sql.specs.Columns.{Content, kept_columns}
 use Rattle.dict_sql.specs.Effects.{HasApartRowids, rows_of}
-use Rattle.dict_sql.specs.Encodings.{stored_kept, stored_number}
-use Rattle.dict_scans.specs.Cursors.{Cursor, IsFront}
-use Rattle.dict_sql.specs.Streams.Scan.{ByRowid, KeptById, EditionNumbers}
+use Rattle.dict_sql.specs.Encodings.{stored_kept}
+use Rattle.dict_sql.specs.Streams.Scan.{ByRowid, KeptById}
 use Rattle.dict_scans.specs.Cursors.Cursor.{InStore}
 use Rattle.dict_rows.specs.Apart.{HasTakenIds, HasTakenRowids}
 use Rattle.dict_rows.specs.declared.apart.IdReader.{IdReader}
 use Rattle.dict_rows.specs.declared.apart.RowidReader.{RowidReader}
-use Rattle.dict_scans.specs.declared.takers.Strays.{Strays}
 use Rattle.dict_scans.specs.Scans.{TakesAll, HasNoRecordIn, IsWrong}
-use Rattle.dict_scans.specs.Takers.{refuses_rowids, takes_ids, refuses_ids, takes_known, refuses_stray, AreKnown, HasStray, HasIdsApart, HasIdTwice}
-use Rattle.dict_scans.proofs.RowidLemmas.{rowids_wrong, numbers_wrong}
-
-pub known_whole : {R : Type 0} (stored : R → Row) (number : R → ℤ) (what : Cursor) (db : Database) (first last : Strays) → TakesAll stored (takes_known number) what db first last → AreKnown stored number what db first.reader.now
-known_whole stored number what db first last h = (h.0, h.1, h.2.1)
-
-pub stray_found : {R : Type 0} (stored : R → Row) (columns : List Content) (number : R → ℤ) (what : Cursor) (db : Database) (first : Strays) → IsWrong stored columns (refuses_stray number) what db first →
-    HasNoRecordIn stored columns what db ⊎ HasStray stored number what db first.reader.now
-stray_found stored columns number what db first (inl h) = inl h
-stray_found stored columns number what db first (inr h) = inr (h.2.0, h.2.1, subst (λ given. IsFront what db (map stored given)) h.2.2 h.1, h.2.3)
+use Rattle.dict_scans.specs.Takers.{refuses_rowids, takes_ids, refuses_ids, HasIdsApart, HasIdTwice}
+use Rattle.dict_scans.proofs.RowidLemmas.{rowids_wrong}
 
 pub ids_whole : (db : Database) (first last : IdReader) → HasTakenIds first [] → TakesAll stored_kept takes_ids (InStore KeptById) db first last → HasIdsApart db
 ids_whole db first last none h = (h.0, h.1, (h.2 [] none).apart)
@@ -32,11 +22,6 @@ ids_whole db first last none h = (h.0, h.1, (h.2 [] none).apart)
 pub ids_wrong : (db : Database) (first : IdReader) → HasTakenIds first [] → IsWrong stored_kept kept_columns refuses_ids (InStore KeptById) db first → HasNoRecordIn stored_kept kept_columns (InStore KeptById) db ⊎ HasIdTwice db
 ids_wrong db first none (inl h) = inl h
 ids_wrong db first none (inr h) = inr (h.0, h.1, h.2 [] none)
-
-pub numbers_found : (db : Database) (first : RowidReader) → HasTakenRowids first [] → IsWrong stored_number number_columns (refuses_rowids stored_number) (InStore EditionNumbers) db first →
-    HasNoRecordIn stored_number number_columns (InStore EditionNumbers) db ⊎ (HasApartRowids (rows_of (codes "edition") db) → ⊥)
-numbers_found db first none (inl h) = inl h
-numbers_found db first none (inr h) = inr (numbers_wrong db first none h)
 
 pub rowids_found : {R : Type 0} (stored : R → Row) (columns : List Content) (table : StoreTable) (db : Database) (first : RowidReader) → HasTakenRowids first [] → IsWrong stored columns (refuses_rowids stored) (InStore (ByRowid table)) db first →
     HasNoRecordIn stored columns (InStore (ByRowid table)) db ⊎ (HasApartRowids (rows_of (table_of table 0).name db) → ⊥)

@@ -1,10 +1,10 @@
 pub mod Reading
 pub mod Cursors
 pub mod Scans
+pub mod Files
 pub mod Entries
 pub mod Indexing
 pub mod Filing
-pub mod PieceRows
 pub mod Takers
 pub mod Census
 pub mod TakerLaws

@@ -1,5 +1,5 @@
 -- What calls that only read leave of a connection, and why they fail.
-use Rattle.std.specs.Prelude.{◌≡◌, ◌⊎◌, ◌≤◌, false, IsTrue, IsSome, length}
+use Rattle.std.specs.Prelude.{◌≡◌, ◌⊎◌, ◌≤◌, false, IsTrue, IsSome, codes, length}
 use Rattle.sqlite.specs.Disk.{MoreFaults}
 use Rattle.sqlite.specs.Effect.{Database}
 use Rattle.sqlite.specs.State.{State, HasCleanDisk, Survives}
@@ -7,8 +7,6 @@ use Rattle.sqlite.specs.declared.error.Error.{Error}
 use Rattle.sqlite.specs.declared.error.Error.TheVariants.{SqliteFailure}
 use Rattle.sqlite.specs.declared.error.ErrorCode.TheVariants as code
 use Rattle.dict_tables.specs.Tables.{table_of}
-use Rattle.dict_tables.specs.Keyed as keyed
-use Rattle.dict_tables.specs.declared.keyed.KeyedTable.{KeyedTable}
 use Rattle.dict_tables.specs.declared.tables.StoreTable.{StoreTable}
 use Rattle.dict_sql.specs.Effects.{rows_of}
 use Rattle.dict_sql.specs.declared.records.ReadError.{ReadError}
@@ -61,7 +59,7 @@ fault_told Disk = desk.Disk
 abbrev pub IsVast : Database → Type 0
 IsVast db =
     ((table : StoreTable) × (18446744073709551615 ≤ length (rows_of (table_of table 0).name db)))
-    ⊎ ((table : KeyedTable) × (18446744073709551615 ≤ length (rows_of (keyed.table_of table 0).name db)))
+    ⊎ (18446744073709551615 ≤ length (rows_of (codes "dictcat_part") db))
 
 -- Why a call that only reads gives `Disk`: the disk has failed meanwhile, or the connection was shut before, or the limit
 -- on steps was met, or a table is too large.

@@ -1,5 +1,5 @@
 -- Nothing was taken: the laws of what takes records.
-use Rattle.std.proofs.Common.{List, [], refl, sym, subst, append-nil}
+use Rattle.std.proofs.Common.{ℕ, List, [], refl, sym, subst, append-nil}
 use Rattle.sqlite.specs.Order.{Row}
 use Rattle.dict_rows.specs.Apart.{HasTakenIds, HasTakenRowids}
 use Rattle.dict_rows.specs.Taken.{HasTaken}
@@ -7,15 +7,16 @@ use Rattle.dict_records.specs.Records as spec
 use Rattle.dict_rows.specs.declared.reader.Reader.{Reader}
 use Rattle.dict_rows.specs.declared.apart.IdReader.{IdReader}
 use Rattle.dict_rows.specs.declared.apart.RowidReader.{RowidReader}
-use Rattle.dict_records.specs.Keyed.{Piece}
-use Rattle.dict_derived.specs.declared.reader.PieceReader.{PieceReader}
+use Rattle.dict_parts.specs.Parts.{parts_of}
+use Rattle.dict_part_sql.specs.Records.{stored_part}
 use Rattle.dict_scans.specs.declared.census.Census.{Census}
+use Rattle.dict_scans.specs.declared.census.PartCensus.{PartCensus}
 use Rattle.dict_scans.specs.declared.filing.EditionReader.{EditionReader}
 use Rattle.dict_scans.specs.Takers.{takes_rowids, takes_replies, takes_ids}
 use Rattle.dict_scans.specs.Entries.{AreTaken}
-use Rattle.dict_scans.specs.Filing.{AreAdded, takes_plain, takes_old, TakesFiled}
-use Rattle.dict_scans.specs.PieceRows.{takes_pieces}
-use Rattle.dict_scans.specs.Census.{TakesCensus}
+use Rattle.dict_scans.specs.Filing.{AreAdded, takes_plain, takes_old, takes_shown}
+use Rattle.dict_scans.specs.Files.{TakesParts}
+use Rattle.dict_scans.specs.Census.{TakesCensus, TakesPartCensus}
 
 pub no_rowids : {R : Type 0} (stored : R → Row) (rowids : RowidReader) → takes_rowids stored rowids [] rowids
 no_rowids stored rowids = ([], refl, λ before h. subst (HasTakenRowids rowids) (sym (append-nil before)) h)
@@ -32,8 +33,8 @@ no_plain = no_added
 pub no_old : (taker : EditionReader) → takes_old taker [] taker
 no_old = no_added
 
-pub no_filed : (taker : EditionReader) → TakesFiled taker [] taker
-no_filed taker = record { filed = tt; keys = sym (append-nil taker.keys.items); added = no_added taker }
+pub no_shown : (taker : EditionReader) → takes_shown taker [] taker
+no_shown = no_added
 
 pub no_replies : (reader : Reader) → takes_replies reader [] reader
 no_replies reader version taken h = subst (λ (kept : List spec.Kept). HasTaken version reader (record taken { kept = kept })) (sym (append-nil taken.kept)) h
@@ -41,8 +42,11 @@ no_replies reader version taken h = subst (λ (kept : List spec.Kept). HasTaken 
 pub no_ids : (ids : IdReader) → takes_ids ids [] ids
 no_ids ids before h = subst (HasTakenIds ids) (sym (append-nil before)) h
 
-pub no_pieces : {R : Type 0} (piece : R → Piece) (reader : PieceReader) → takes_pieces piece reader [] reader
-no_pieces piece reader pieces edition keys h = h
+pub no_parts : (octets : List ℕ) → TakesParts octets [] octets
+no_parts octets = record { parts = sym (append-nil (parts_of octets)); numbers = refl }
 
 pub no_census : {R : Type 0} (stored : R → Row) (census : Census) → TakesCensus stored census [] census
 no_census stored census = record { numbers = refl; rowids = no_rowids stored census.rowids; known = tt }
+
+pub no_part_census : (census : PartCensus) → TakesPartCensus census [] census
+no_part_census census = record { census = no_census stored_part census.census; files = tt }

@@ -1,6 +1,5 @@
 -- What takes the records of the tables, and what was taken.
-use Rattle.std.specs.Prelude.{◌≡◌, ◌≢◌, ℕ, ℤ, IsTrue, List, [], ◌∷◌, ◌++◌, map, String, Vec}
-use Rattle.std.specs.List.{AllByRecursion}
+use Rattle.std.specs.Prelude.{◌≡◌, ℕ, ℤ, List, [], ◌∷◌, ◌++◌, map, String, Vec}
 use Rattle.std.specs.declared.alloc.Global.{Global}
 use Rattle.sqlite.specs.Order.{Row, column}
 use Rattle.sqlite.specs.declared.types.Value.TheVariants.{Int}
@@ -11,27 +10,19 @@ use Rattle.dict_scans.specs.Cursors.Cursor.{InStore}
 use Rattle.dict_sql.specs.Streams.Scan.{KeptById}
 use Rattle.dict_records.specs.declared.records as typed
 use Rattle.dict_records.specs.declared.records.Stored.{Stored}
-use Rattle.dict_sql.specs.declared.records.EditionNumber.{EditionNumber}
-use Rattle.dict_catalogue.specs.Steps.{Catalogue}
 use Rattle.dict_catalogue.specs.WellFormed.{IsEachOnce}
 use Rattle.dict_rows.specs.Tables.{Tables}
 use Rattle.dict_rows.specs.Given.{kept_given}
-use Rattle.dict_rows.specs.Stands.{Stands, has_number}
-use Rattle.dict_rows.specs.Taken.{HasTaken, StandsForNone, GoesOn, items_in}
+use Rattle.dict_rows.specs.Taken.{HasTaken, StandsForNone}
 use Rattle.dict_rows.specs.Whole.{with_replies}
 use Rattle.dict_rows.specs.Order.{InOrder}
 use Rattle.dict_rows.specs.Apart.{HasTakenIds, HasTakenRowids, HaveApartNeighbours}
 use Rattle.dict_rows.specs.declared.reader.Reader.{Reader}
 use Rattle.dict_rows.specs.declared.apart.IdReader.{IdReader}
 use Rattle.dict_rows.specs.declared.apart.RowidReader.{RowidReader}
-use Rattle.dict_scans.specs.declared.takers.Strays.{Strays}
 
 abbrev pub EditionRow : Type 0
 EditionRow = Stored (typed.Edition.Edition (String Global) (Vec ℕ Global))
-
--- the rowid and the number of an edition
-abbrev pub NumberRow : Type 0
-NumberRow = Stored EditionNumber
 
 abbrev pub KeptRow : Type 0
 KeptRow = Stored (typed.Kept.Kept (String Global))
@@ -66,37 +57,6 @@ takes_ids first given last = (before : List (List ℕ)) → HasTakenIds first be
 
 abbrev pub refuses_ids : IdReader → List KeptRow → Type 0
 refuses_ids first given = (before : List (List ℕ)) → HasTakenIds first before → IsEachOnce (before ++ ids_given given) → ⊥
-
--- ---- strays
-
--- one of the items that the reader has taken has the number
-abbrev pub IsKnown : Strays → ℤ → Type 0
-IsKnown strays number = IsTrue (has_number (items_in strays.reader.now) number)
-
--- no catalogue stands for tables that go on from what was taken and have an edition or an entry of this number
-abbrev pub IsUnknown : Reader → ℤ → Type 0
-IsUnknown reader number = (version : ℕ) (taken tables : Tables) (M : Catalogue) → HasTaken version reader taken → GoesOn taken tables → Stands version tables M →
-    AllByRecursion (λ row. row.number ≢ number) tables.editions × AllByRecursion (λ row. row.edition ≢ number) tables.entries
-
-abbrev pub IsStray : Strays → ℤ → Type 0
-IsStray strays number = IsUnknown strays.reader.now number
-
-abbrev pub takes_known : {R : Type 0} → (R → ℤ) → Strays → List R → Strays → Type 0
-takes_known number first given last = (last ≡ first) × AllByRecursion (λ r. IsKnown first (number r)) given
-
-abbrev pub refuses_stray : {R : Type 0} → (R → ℤ) → Strays → List R → Type 0
-refuses_stray {R} number first given = (front : List R) × (next : R) × (given ≡ front ++ next ∷ []) × IsStray first (number next)
-
-abbrev pub number_given : NumberRow → ℤ
-number_given row = row.value.number
-
--- all rows of the scan were read, and their numbers are known
-abbrev pub AreKnown : {R : Type 0} → (R → Row) → (R → ℤ) → Cursor → Database → Reader → Type 0
-AreKnown {R} stored number what db reader = (given : List R) × IsWhole what db (map stored given) × AllByRecursion (λ r. IsTrue (has_number (items_in reader) (number r))) given
-
--- one of the rows has a number that no item has
-abbrev pub HasStray : {R : Type 0} → (R → Row) → (R → ℤ) → Cursor → Database → Reader → Type 0
-HasStray {R} stored number what db reader = (given : List R) × (next : R) × IsFront what db (map stored (given ++ next ∷ [])) × IsUnknown reader (number next)
 
 -- the kept replies in the order of their ids, no two of which are the same
 abbrev pub HasIdsApart : Database → Type 0

@@ -1,44 +1,43 @@
 // The rows of tables whose rows are those of editions: no two under one rowid, and none of an edition that isn't there.
 ghost use Rattle.std.specs.Prelude.{◌≡◌, ◌⊎◌, ◌++◌, ◌∷◌, [], true, false, ℤ, List, codes, IfErr, OnOk};
-ghost use Rattle.std.specs.List.{AllByRecursion};
 ghost use Rattle.sqlite.specs.State.{HasCleanDisk};
 ghost use Rattle.sqlite.specs.Held.{state};
 ghost use Rattle.sqlite.specs.Order.{column};
 ghost use Rattle.sqlite.specs.declared.types.Value.TheVariants.{Int};
 ghost use Rattle.dict_tables.specs.Tables.{entry};
-ghost use Rattle.dict_tables.specs.Keyed.{old_entry, table_of};
-ghost use Rattle.dict_sql.specs.Columns.{HasColumns};
-ghost use Rattle.dict_sql.specs.Effects.{Has, WhileOpen, rows_of};
+ghost use Rattle.dict_tables.specs.Keyed.{entry as keyed_entry, old_entry};
+ghost use Rattle.dict_sql.specs.Effects.{Has, WhileOpen};
+ghost use Rattle.dict_part_sql.specs.Records.{stored_part};
 ghost use Rattle.dict_rows.specs.Apart.{HasTakenRowids};
 ghost use Rattle.dict_rows.specs.Order.{InOrder, is_of};
 ghost use Rattle.dict_rows.specs.Tables.{same_number};
-ghost use Rattle.dict_rows.specs.Versions.{Plain, Keyed};
-ghost use Rattle.dict_holdings.specs.Readings.{IsReadable, entries, name_of};
+ghost use Rattle.dict_rows.specs.Versions.{Plain, Keyed, Shown};
+ghost use Rattle.dict_holdings.specs.Readings.{IsReadable, contents, name_of};
 ghost use Rattle.dict_scans.specs.Reading.{Same, OnlyReads, IsExcused};
-ghost use Rattle.dict_scans.specs.Census.{AreNumberedApart, reading_of, TakesCensus, refuses_census};
-ghost use Rattle.dict_scans.specs.TakerLaws.{no_census};
+ghost use Rattle.dict_scans.specs.Census.{AreNumberedApart, is_in_file, reading_of, TakesCensus, refuses_census, TakesPartCensus, refuses_part_census};
+ghost use Rattle.dict_scans.specs.TakerLaws.{no_census, no_part_census};
 
 use crate::entries::is_live;
 use crate::fault::{ReadingFault, fault_of_store};
+use crate::files::{INDEX_FILE, TEXT_FILE};
 use crate::scan::{Taker, take_all};
+use dict_header_sql::StoredHeader;
 use dict_keyed_sql::{read_by_rowid as read_keyed_by_rowid, read_old_by_rowid};
-use dict_records::{Entry, Gram, KeyedEntry, OldEntry, Stored, Word};
+use dict_part_sql::StoredPart;
+use dict_records::{Entry, KeyedEntry, OldEntry, Stored};
 use dict_rows::{RowidReader, RowsFault};
-use dict_sql::records::Record;
+use dict_sql::records::{EditionNumber, Record};
 use dict_sql::stream::read_by_rowid;
 use dict_tables::{KeyedTable, StoreTable};
 use sqlite::{Alter, Connection};
 use std::alloc::Global;
 
-/// A table whose rows are those of editions: the entries as schema 1 has them, as schemas 2 and 3 do, and as the fourth does;
-/// and what is derived of them.
+/// A table of the entries of editions, as schema 1 has it, as schemas 2 and 3 do, and as the fourth does.
 #[derive(Clone, Copy, Debug, PartialEq, Eq)]
 pub enum EditionTable {
     PlainEntry,
     OldEntry,
-    FiledEntry,
-    Word,
-    Gram,
+    ShownEntry,
 }
 
 /// A record of an edition, whose number its row has in the first column behind the rowid.
@@ -66,15 +65,15 @@ impl OfEdition for Stored<KeyedEntry<String, Vec<u8>>> {
     }
 }
 
-impl OfEdition for Stored<Word<Vec<u8>>> {
+impl OfEdition for Stored<EditionNumber> {
     fn edition(&self) -> i64 {
-        self.value.edition
+        self.value.number
     }
 }
 
-impl OfEdition for Stored<Gram<Vec<u8>>> {
+impl OfEdition for StoredHeader {
     fn edition(&self) -> i64 {
-        self.value.edition
+        self.value.number
     }
 }
 
@@ -129,6 +128,33 @@ impl<R: OfEdition + Drop> Taker<R> for Census<'_> {
     ghost none = { no_census R.stored };
 }
 
+/// What takes the parts in the order of their rowids, beside the numbers of the editions that there are.
+#[derive(Drop)]
+pub(crate) struct PartCensus<'a> {
+    pub(crate) census: Census<'a>,
+}
+
+fn is_in_file(part: &StoredPart) -> bool
+    ensures { result ≡ is_in_file (stored_part part.now) }
+{
+    is_same(part.part.file, INDEX_FILE) || is_same(part.part.file, TEXT_FILE)
+}
+
+impl Taker<StoredPart> for PartCensus<'_> {
+    ghost takes = { TakesPartCensus };
+
+    ghost refuses = { refuses_part_census };
+
+    fn take(&mut self, _: Global, next: StoredPart) -> Result<(), RowsFault> {
+        if !is_in_file(&next) {
+            return Err(RowsFault::Damaged);
+        }
+        self.census.row(next.rowid, next.part.edition)
+    }
+
+    ghost none = { no_part_census };
+}
+
 /// Tests the entries of schema 1.
 fn test_plain_rows<S: Alter>(
     alloc: Global,
@@ -140,7 +166,7 @@ fn test_plain_rows<S: Alter>(
     ensures failed { HasCleanDisk (state S.Store conn.new) → IfErr result (IsExcused (state S.Store conn.old) (state S.Store conn.new)) }
     ensures same { HasCleanDisk (state S.Store conn.new) → OnOk result (Same (state S.Store conn.old) (state S.Store conn.new)) }
     ensures whole { HasCleanDisk (state S.Store conn.new) → OnOk result (AreNumberedApart numbers.now (codes "entry") (state S.Store conn.old).now) }
-    ensures damaged { HasCleanDisk (state S.Store conn.new) → IfErr result (λ fault. fault ≡ ReadingFault.Damaged → IsReadable (entries Plain) (state S.Store conn.old).now → AreNumberedApart numbers.now (codes "entry") (state S.Store conn.old).now → ⊥) }
+    ensures damaged { HasCleanDisk (state S.Store conn.new) → IfErr result (λ fault. fault ≡ ReadingFault.Damaged → IsReadable (contents Plain) (state S.Store conn.old).now → AreNumberedApart numbers.now (codes "entry") (state S.Store conn.old).now → ⊥) }
 {
     let mut rows = match read_by_rowid(conn, StoreTable::Entry) {
         Ok(rows) => rows,
@@ -164,7 +190,7 @@ fn test_old_rows<S: Alter>(
     ensures failed { HasCleanDisk (state S.Store conn.new) → IfErr result (IsExcused (state S.Store conn.old) (state S.Store conn.new)) }
     ensures same { HasCleanDisk (state S.Store conn.new) → OnOk result (Same (state S.Store conn.old) (state S.Store conn.new)) }
     ensures whole { HasCleanDisk (state S.Store conn.new) → OnOk result (AreNumberedApart numbers.now (codes "entry") (state S.Store conn.old).now) }
-    ensures damaged { HasCleanDisk (state S.Store conn.new) → IfErr result (λ fault. fault ≡ ReadingFault.Damaged → IsReadable (entries Keyed) (state S.Store conn.old).now → AreNumberedApart numbers.now (codes "entry") (state S.Store conn.old).now → ⊥) }
+    ensures damaged { HasCleanDisk (state S.Store conn.new) → IfErr result (λ fault. fault ≡ ReadingFault.Damaged → IsReadable (contents Keyed) (state S.Store conn.old).now → AreNumberedApart numbers.now (codes "entry") (state S.Store conn.old).now → ⊥) }
 {
     is_live(conn);
     let mut rows = match read_old_by_rowid(conn) {
@@ -178,21 +204,21 @@ fn test_old_rows<S: Alter>(
     take_all::<S, Stored<OldEntry<String, Vec<u8>>>, Census<'_>>(alloc, &mut rows, &mut census)
 }
 
-/// Tests the rows of a table that has keys or what is derived of them.
-fn test_keyed_rows<S: Alter, R: OfEdition + Drop>(
+/// Tests the entries of schema 4.
+fn test_shown_rows<S: Alter>(
     alloc: Global,
     conn: &mut Connection<S>,
-    table: KeyedTable,
     numbers: &[i64],
 ) -> Result<(), ReadingFault>
-    requires { WhileOpen (state S.Store conn.old) (Has (table_of table)) }
+    requires { WhileOpen (state S.Store conn.old) (Has keyed_entry) }
     ensures reads { OnlyReads (state S.Store conn.old) (state S.Store conn.new) }
     ensures failed { HasCleanDisk (state S.Store conn.new) → IfErr result (IsExcused (state S.Store conn.old) (state S.Store conn.new)) }
     ensures same { HasCleanDisk (state S.Store conn.new) → OnOk result (Same (state S.Store conn.old) (state S.Store conn.new)) }
-    ensures whole { HasCleanDisk (state S.Store conn.new) → OnOk result (AreNumberedApart numbers.now (table_of table 0).name (state S.Store conn.old).now) }
-    ensures damaged { HasCleanDisk (state S.Store conn.new) → IfErr result (λ fault. fault ≡ ReadingFault.Damaged → AllByRecursion (HasColumns R.columns) (rows_of (table_of table 0).name (state S.Store conn.old).now) → AreNumberedApart numbers.now (table_of table 0).name (state S.Store conn.old).now → ⊥) }
+    ensures whole { HasCleanDisk (state S.Store conn.new) → OnOk result (AreNumberedApart numbers.now (codes "entry") (state S.Store conn.old).now) }
+    ensures damaged { HasCleanDisk (state S.Store conn.new) → IfErr result (λ fault. fault ≡ ReadingFault.Damaged → IsReadable (contents Shown) (state S.Store conn.old).now → AreNumberedApart numbers.now (codes "entry") (state S.Store conn.old).now → ⊥) }
 {
-    let mut rows = match read_keyed_by_rowid(conn, table) {
+    is_live(conn);
+    let mut rows = match read_keyed_by_rowid(conn, KeyedTable::Entry) {
         Ok(rows) => rows,
         Err(error) => return Err(fault_of_store(error)),
     };
@@ -200,7 +226,7 @@ fn test_keyed_rows<S: Alter, R: OfEdition + Drop>(
         numbers,
         rowids: RowidReader::new(),
     };
-    take_all::<S, R, Census<'_>>(alloc, &mut rows, &mut census)
+    take_all::<S, Stored<KeyedEntry<String, Vec<u8>>>, Census<'_>>(alloc, &mut rows, &mut census)
 }
 
 /// Tests that no two rows of the table have one rowid, and that each is of an edition that has one of these numbers. One
@@ -223,17 +249,6 @@ pub fn test_rows<S: Alter>(
     match table {
         EditionTable::PlainEntry => test_plain_rows(alloc, conn, numbers),
         EditionTable::OldEntry => test_old_rows(alloc, conn, numbers),
-        EditionTable::FiledEntry => test_keyed_rows::<S, Stored<KeyedEntry<String, Vec<u8>>>>(
-            alloc,
-            conn,
-            KeyedTable::Entry,
-            numbers,
-        ),
-        EditionTable::Word => {
-            test_keyed_rows::<S, Stored<Word<Vec<u8>>>>(alloc, conn, KeyedTable::Word, numbers)
-        }
-        EditionTable::Gram => {
-            test_keyed_rows::<S, Stored<Gram<Vec<u8>>>>(alloc, conn, KeyedTable::Gram, numbers)
-        }
+        EditionTable::ShownEntry => test_shown_rows(alloc, conn, numbers),
     }
 }

@@ -4,16 +4,18 @@ ghost use Rattle.sqlite.specs.State.{HasCleanDisk, IsLive};
 ghost use Rattle.sqlite.specs.Held.{state};
 ghost use Rattle.dict_tables.specs.Tables.{entry};
 ghost use Rattle.dict_tables.specs.Keyed.{entry as keyed_entry, old_entry};
+ghost use Rattle.dict_part_sql.specs.Table.{part};
 ghost use Rattle.dict_records.specs.Records.{Entry as AnEntry};
 ghost use Rattle.dict_sql.specs.Effects.{Has, WhileOpen};
-ghost use Rattle.dict_rows.specs.Versions.{Plain, Keyed, Shown};
+ghost use Rattle.dict_rows.specs.Versions.{Plain, Keyed, Shown, Parted};
 ghost use Rattle.dict_scans.specs.Reading.{Same, OnlyReads, IsExcused};
 ghost use Rattle.dict_scans.specs.Entries.{TakesEntries, HasWrongEntries};
-ghost use Rattle.dict_scans.specs.Filing.{keys_of};
 ghost use Rattle.dict_scans.specs.Indexing.{indexed_of};
 
-use crate::fault::{ReadingFault, fault_of_store};
+use crate::fault::{ReadingFault, fault_of_rows, fault_of_store};
+use crate::files::{INDEX_FILE, read_file};
 use crate::filing::EditionReader;
+use crate::index::read_index;
 use crate::scan::take_all;
 use dict_keyed_sql::{read_old_rows_of, read_rows_of};
 use dict_records::{Entry, KeyedEntry, OldEntry, Stored};
@@ -66,10 +68,9 @@ pub fn read_old_entries<S: Alter>(
     take_all::<S, Stored<OldEntry<String, Vec<u8>>>, EditionReader>(alloc, &mut rows, reader)
 }
 
-/// Takes the entries of the edition that was taken last, which has this number, from tables with keys, adds them to the index, and keeps
-/// their keys.
-/// Each row is to have the key of its headword, and the key's octets in reverse order.
-pub fn read_filed_entries<S: Alter>(
+/// Takes the entries of the edition that was taken last, which has this number, from the tables of schema 4, and adds them to the
+/// index. Of each row six columns are looked at.
+pub fn read_shown_entries<S: Alter>(
     alloc: Global,
     conn: &mut Connection<S>,
     number: i64,
@@ -79,14 +80,37 @@ pub fn read_filed_entries<S: Alter>(
     ensures reads { OnlyReads (state S.Store conn.old) (state S.Store conn.new) }
     ensures failed { HasCleanDisk (state S.Store conn.new) → IfErr result (IsExcused (state S.Store conn.old) (state S.Store conn.new)) }
     ensures same { HasCleanDisk (state S.Store conn.new) → OnOk result (Same (state S.Store conn.old) (state S.Store conn.new)) }
-    ensures whole { HasCleanDisk (state S.Store conn.new) → OnOk result ((all : List AnEntry) × TakesEntries Shown (state S.Store conn.old).now number reader.old.reader reader.new.reader all × (reader.new.keys.items ≡ reader.old.keys.items ++ keys_of all) × (reader.new.index ≡ reader.old.index ++ map indexed_of all)) }
+    ensures whole { HasCleanDisk (state S.Store conn.new) → OnOk result ((all : List AnEntry) × TakesEntries Shown (state S.Store conn.old).now number reader.old.reader reader.new.reader all × (reader.new.index ≡ reader.old.index ++ map indexed_of all)) }
     ensures damaged { HasCleanDisk (state S.Store conn.new) → IfErr result (λ fault. fault ≡ ReadingFault.Damaged → HasWrongEntries Shown (state S.Store conn.old).now number reader.old.reader) }
 {
+    is_live(conn);
     let mut rows = match read_rows_of(conn, KeyedTable::Entry, number) {
         Ok(rows) => rows,
         Err(error) => return Err(fault_of_store(error)),
     };
     take_all::<S, Stored<KeyedEntry<String, Vec<u8>>>, EditionReader>(alloc, &mut rows, reader)
+}
+
+/// Takes the entries of the edition that was taken last, which has this number, from the parts of its index, and adds them to the
+/// index in memory.
+pub fn read_filed_entries<S: Alter>(
+    alloc: Global,
+    conn: &mut Connection<S>,
+    number: i64,
+    reader: &mut EditionReader,
+) -> Result<(), ReadingFault>
+    requires { WhileOpen (state S.Store conn.old) (Has part) }
+    ensures reads { OnlyReads (state S.Store conn.old) (state S.Store conn.new) }
+    ensures failed { HasCleanDisk (state S.Store conn.new) → IfErr result (IsExcused (state S.Store conn.old) (state S.Store conn.new)) }
+    ensures same { HasCleanDisk (state S.Store conn.new) → OnOk result (Same (state S.Store conn.old) (state S.Store conn.new)) }
+    ensures whole { HasCleanDisk (state S.Store conn.new) → OnOk result ((all : List AnEntry) × TakesEntries Parted (state S.Store conn.old).now number reader.old.reader reader.new.reader all × (reader.new.index ≡ reader.old.index ++ map indexed_of all)) }
+    ensures damaged { HasCleanDisk (state S.Store conn.new) → IfErr result (λ fault. fault ≡ ReadingFault.Damaged → HasWrongEntries Parted (state S.Store conn.old).now number reader.old.reader) }
+{
+    let octets = read_file(alloc, conn, number, INDEX_FILE)?;
+    match read_index(alloc, number, &octets, reader) {
+        Ok(()) => Ok(()),
+        Err(fault) => Err(fault_of_rows(fault)),
+    }
 }
 
 /// What an open connection shows is a database: its rows obey its schema. It does nothing; its clause is the law.

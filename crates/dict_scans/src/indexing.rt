@@ -1,10 +1,15 @@
 // The index of an edition, as its entries are taken.
 ghost use Rattle.std.specs.Prelude.{◌≡◌, ◌++◌, ◌∷◌, [], IfOk, IfErr, OnOk, OnErr};
+ghost use Rattle.dict_match.specs.Key.{key_of};
 ghost use Rattle.dict_records.specs.Records.{shown_as};
 ghost use Rattle.dict_records.specs.Typed.{owned_entry};
-ghost use Rattle.dict_scans.specs.Indexing.{natural, indexed_of};
+ghost use Rattle.dict_index_lines.specs.Views.{line_of};
+ghost use Rattle.dict_search.specs.Entries.{entry_of};
+ghost use Rattle.dict_files.specs.Files.{natural};
+ghost use Rattle.dict_scans.specs.Indexing.{indexed_of};
 
 use dict_index::MAX_LINES;
+use dict_index_lines::Columns;
 use dict_records::Entry;
 use dict_rows::RowsFault;
 use dict_search::{Index, IndexBuilder};
@@ -49,22 +54,49 @@ impl EditionIndex {
         }
     }
 
-    /// Adds an entry, of which this is shown. The fault is that memory was refused.
-    pub(crate) fn add(&mut self, row: &Entry<String>, shown: &str) -> Result<(), RowsFault>
-        ensures added { OnOk result (self.new ≡ self.old ++ indexed_of (shown_as (owned_entry row.now) shown.now) ∷ []) }
+    // Adds an entry. The fault is that memory was refused.
+    fn put(
+        &mut self,
+        headword: &str,
+        shown: &str,
+        start: usize,
+        size: usize,
+    ) -> Result<(), RowsFault>
+        ensures added { OnOk result (self.new ≡ self.old ++ record { key = key_of headword.now; shown = shown.now; start = start; size = size } ∷ []) }
         ensures only { IfErr result (λ fault. fault ≡ RowsFault.Memory) }
     {
         // No reader takes so many entries of one edition.
         if self.builder.len() >= MAX_LINES {
             return Err(RowsFault::Memory);
         }
-        self.builder.push(
+        self.builder.push(headword, shown, start, size)?;
+        Ok(())
+    }
+
+    /// Adds an entry, of which this is shown. The fault is that memory was refused.
+    pub(crate) fn add(&mut self, row: &Entry<String>, shown: &str) -> Result<(), RowsFault>
+        ensures added { OnOk result (self.new ≡ self.old ++ indexed_of (shown_as (owned_entry row.now) shown.now) ∷ []) }
+        ensures only { IfErr result (λ fault. fault ≡ RowsFault.Memory) }
+    {
+        self.put(
             row.headword.as_str(),
             shown,
             natural(row.start),
             natural(row.length),
-        )?;
-        Ok(())
+        )
+    }
+
+    /// Adds the entry of a line. The fault is that memory was refused.
+    pub(crate) fn add_line(&mut self, line: &Columns<'_>) -> Result<(), RowsFault>
+        ensures added { OnOk result (self.new ≡ self.old ++ entry_of (line_of line.now) ∷ []) }
+        ensures only { IfErr result (λ fault. fault ≡ RowsFault.Memory) }
+    {
+        self.put(
+            line.headword,
+            line.shown,
+            line.offset as usize,
+            line.size as usize,
+        )
     }
 
     /// The index of the entries that were taken. The error is that memory was refused.

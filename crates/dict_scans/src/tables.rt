@@ -1,24 +1,23 @@
 // The tables of which no part is read apart from the others, each read row by row.
-ghost use Rattle.std.specs.Prelude.{◌≡◌, ◌⊎◌, [], codes, IfErr, OnOk};
+ghost use Rattle.std.specs.Prelude.{◌≡◌, ◌⊎◌, IfErr, OnOk};
 ghost use Rattle.sqlite.specs.State.{HasCleanDisk};
 ghost use Rattle.sqlite.specs.Held.{state};
-ghost use Rattle.dict_tables.specs.Tables.{edition, kept, table_of};
+ghost use Rattle.dict_tables.specs.Tables.{kept, table_of};
 ghost use Rattle.dict_sql.specs.Effects.{Has, HasApartRowids, WhileOpen, rows_of};
-ghost use Rattle.dict_sql.specs.Columns.{kept_columns, number_columns};
-ghost use Rattle.dict_sql.specs.Encodings.{stored_kept, stored_number};
-ghost use Rattle.dict_sql.specs.Streams.Scan.{AllKept, KeptById, ByRowid, EditionNumbers};
+ghost use Rattle.dict_sql.specs.Columns.{kept_columns};
+ghost use Rattle.dict_sql.specs.Encodings.{stored_kept};
+ghost use Rattle.dict_sql.specs.Streams.Scan.{AllKept, KeptById, ByRowid};
 ghost use Rattle.dict_scans.specs.Cursors.Cursor.{InStore};
 ghost use Rattle.dict_scans.specs.Reading.{Same, OnlyReads, IsExcused};
 ghost use Rattle.dict_scans.specs.Scans.{TakesAll, HasNoRecordIn, IsWrong};
-ghost use Rattle.dict_scans.specs.Takers.{takes_replies, refuses_replies, AreKnown, HasStray, number_given, HasIdsApart, HasIdTwice};
+ghost use Rattle.dict_scans.specs.Takers.{takes_replies, refuses_replies, HasIdsApart, HasIdTwice};
 
 use crate::fault::{ReadingFault, fault_of_store};
 use crate::scan::take_all;
-use crate::takers::Strays;
 use dict_records::{Kept, Stored};
 use dict_rows::{IdReader, Reader, RowidReader};
-use dict_sql::records::{EditionNumber, Record};
-use dict_sql::stream::{read_by_rowid, read_edition_numbers, read_kept_by_id, read_kept_replies};
+use dict_sql::records::Record;
+use dict_sql::stream::{read_by_rowid, read_kept_by_id, read_kept_replies};
 use dict_tables::StoreTable;
 use sqlite::{Alter, Connection};
 use std::alloc::Global;
@@ -41,45 +40,6 @@ pub fn read_replies<S: Alter>(
         Err(error) => return Err(fault_of_store(error)),
     };
     take_all::<S, Stored<Kept<String>>, Reader>(alloc, &mut rows, reader)
-}
-
-/// Tests that no two editions have one rowid. Their texts aren't read.
-pub fn test_edition_rowids<S: Alter>(
-    alloc: Global,
-    conn: &mut Connection<S>,
-) -> Result<(), ReadingFault>
-    requires { WhileOpen (state S.Store conn.old) (Has edition) }
-    ensures reads { OnlyReads (state S.Store conn.old) (state S.Store conn.new) }
-    ensures failed { HasCleanDisk (state S.Store conn.new) → IfErr result (IsExcused (state S.Store conn.old) (state S.Store conn.new)) }
-    ensures same { HasCleanDisk (state S.Store conn.new) → OnOk result (Same (state S.Store conn.old) (state S.Store conn.new)) }
-    ensures whole { HasCleanDisk (state S.Store conn.new) → OnOk result (HasApartRowids (rows_of (codes "edition") (state S.Store conn.old).now)) }
-    ensures damaged { HasCleanDisk (state S.Store conn.new) → IfErr result (λ fault. fault ≡ ReadingFault.Damaged → HasNoRecordIn stored_number number_columns (InStore EditionNumbers) (state S.Store conn.old).now ⊎ (HasApartRowids (rows_of (codes "edition") (state S.Store conn.old).now) → ⊥)) }
-{
-    let mut rows = match read_edition_numbers(conn) {
-        Ok(rows) => rows,
-        Err(error) => return Err(fault_of_store(error)),
-    };
-    take_all::<S, Stored<EditionNumber>, RowidReader>(alloc, &mut rows, &mut RowidReader::new())
-}
-
-/// Tests that the number of each edition is one that an item has. The editions' texts aren't read.
-pub fn test_editions<S: Alter>(
-    alloc: Global,
-    conn: &mut Connection<S>,
-    reader: &Reader,
-) -> Result<(), ReadingFault>
-    requires { WhileOpen (state S.Store conn.old) (Has edition) }
-    ensures reads { OnlyReads (state S.Store conn.old) (state S.Store conn.new) }
-    ensures failed { HasCleanDisk (state S.Store conn.new) → IfErr result (IsExcused (state S.Store conn.old) (state S.Store conn.new)) }
-    ensures same { HasCleanDisk (state S.Store conn.new) → OnOk result (Same (state S.Store conn.old) (state S.Store conn.new)) }
-    ensures whole { HasCleanDisk (state S.Store conn.new) → OnOk result (AreKnown stored_number number_given (InStore EditionNumbers) (state S.Store conn.old).now reader.now) }
-    ensures damaged { HasCleanDisk (state S.Store conn.new) → IfErr result (λ fault. fault ≡ ReadingFault.Damaged → HasNoRecordIn stored_number number_columns (InStore EditionNumbers) (state S.Store conn.old).now ⊎ HasStray stored_number number_given (InStore EditionNumbers) (state S.Store conn.old).now reader.now) }
-{
-    let mut rows = match read_edition_numbers(conn) {
-        Ok(rows) => rows,
-        Err(error) => return Err(fault_of_store(error)),
-    };
-    take_all::<S, Stored<EditionNumber>, Strays<'_>>(alloc, &mut rows, &mut Strays { reader })
 }
 
 /// Tests that no two kept replies have one id.

@@ -1,12 +1,11 @@
 // What takes the records of the tables.
-ghost use Rattle.std.specs.Prelude.{◌≡◌, ◌∷◌, ◌++◌, List, IfOk, IfErr, OnOk};
-ghost use Rattle.dict_scans.specs.Takers.{takes_rowids, refuses_rowids, takes_replies, refuses_replies, takes_ids, refuses_ids, takes_known, refuses_stray, number_given, IsKnown, IsStray};
+ghost use Rattle.dict_scans.specs.Takers.{takes_rowids, refuses_rowids, takes_replies, refuses_replies, takes_ids, refuses_ids};
 ghost use Rattle.dict_scans.specs.TakerLaws.{no_rowids, no_replies, no_ids};
 
 use crate::scan::Taker;
 use dict_records::{Kept, Stored};
 use dict_rows::{IdReader, Reader, RowidReader, RowsFault};
-use dict_sql::records::{EditionNumber, Record};
+use dict_sql::records::Record;
 use std::alloc::Global;
 
 /// The rowids of a table, which come in their order, are to be apart.
@@ -46,37 +45,4 @@ impl Taker<Stored<Kept<String>>> for IdReader {
     }
 
     ghost none = { no_ids };
-}
-
-/// The editions of all numbers, each of which is to be one that an item has.
-#[derive(Drop)]
-pub struct Strays<'a> {
-    pub reader: &'a Reader,
-}
-
-impl Strays<'_> {
-    /// Tests that one of the items has this number.
-    fn test(&self, alloc: Global, number: i64) -> Result<(), RowsFault>
-        ensures known { OnOk result (IsKnown self.now number) }
-        ensures stray { IfErr result (λ fault. fault ≡ RowsFault.Damaged → IsStray self.now number) }
-    {
-        if self.reader.knows(alloc, number)? {
-            return Ok(());
-        }
-        Err(RowsFault::Damaged)
-    }
-}
-
-impl Taker<Stored<EditionNumber>> for Strays<'_> {
-    ghost use Rattle.std.specs.Prelude.{refl};
-
-    ghost takes = { takes_known number_given };
-
-    ghost refuses = { refuses_stray number_given };
-
-    fn take(&mut self, alloc: Global, next: Stored<EditionNumber>) -> Result<(), RowsFault> {
-        self.test(alloc, next.value.number)
-    }
-
-    ghost none = { λ taker. (refl, tt) };
 }

@@ -1,4 +1,4 @@
-use Rattle.std.proofs.Common.{◌≡◌, true, ◌<◌, ◌≤◌, ◌∙◌, ap, pos, length, take, get_or, rules, arith, sym, subst}
+use Rattle.std.proofs.Common.{◌≡◌, true, [], ◌<◌, ◌≤◌, ◌∙◌, ap, pos, length, take, get_or, rules, arith, sym, subst}
 use Rattle.std.proofs.lemmas.Int.{to_z-of_z}
 use Rattle.std.proofs.lemmas.List.{take_all, take_more, get_or_default, length-map}
 use Rattle.std.proofs.Math.ListN.{get_or-map}
@@ -12,7 +12,7 @@ use Rattle.sqlite.specs.State.{HasCleanDisk}
 use Rattle.sqlite.specs.Held.{state}
 use Rattle.sqlite.proofs.StateLemmas.{survives_then}
 use Rattle.dict_sql.proofs.StreamLemmas.{passed_on}
-use Rattle.dict_rows.specs.Tables.{Tables}
+use Rattle.dict_rows.specs.Tables.{Tables, entries_of}
 use Rattle.dict_rows.specs.Stands.{has_number}
 use Rattle.dict_rows.specs.Taken.{items_in}
 use Rattle.dict_rows.specs.Versions.{layout_of}
@@ -97,7 +97,7 @@ loop-number-preserved g c =
           let there = all_at (λ m. has_number (items_in c.args.reader.now.reader) m ≡ true) numbers i n can.known lt (get_or_default numbers i (pos 0) n lt) in
           let new' = fresh numbers i n can.apart lt (get_or_default numbers i (pos 0) n lt) in
           let one = can_one version old.now c.args.reader.now.reader numbers (take i numbers) front had.0 n can had.2 there new' in
-          let got = c.in_ok-read_number.ensures.whole clean had.0 had.1 in
+          let got = c.in_ok-read_number.ensures.whole clean had.0 had.1 (subst (λ m. entries_of m had.0.entries ≡ []) (sym (to_z-of_z w64 n fits)) one.no_entries) in
           let read = subst (λ (d : Database). HasReadOne (layout_of version) d n had.0 got.0) same (subst (λ m. HasReadOne (layout_of version) mid.now m had.0 got.0) (to_z-of_z w64 n fits) got.2) in
           (got.0, got.1, subst (λ ns. HasRead version old.now ns front got.0) (sym (take_more numbers i (pos 0) lt)) (read_more version old.now (take i numbers) front had.0 got.0 n had.2 one read new')));
     }

@@ -55,7 +55,7 @@ returns-in-Ok-clause-stands g c clean lm =
     let all = c.in_ok-read_all.ensures.all clean begun.0 begun.1 (subst (λ (d : Database). HasBegun c.args.version d begun.0) (sym same) begun.2) in
     let has = subst (λ (d : Database). HasAll c.args.version d c.in_ok-reader.reader begun.0 all.0) same all.2 in
     let found = c.in-Ok.ensures.stands c.args.version all.0 all.1 has.ids in
-    has_summary c.args.version old.now c.in_ok-reader.reader begun.0 all.0 begun.1 has found.0 found.1 _ found.2
+    has_summary c.args.version old.now c.in_ok-reader.reader begun.0 all.0 has found.0 found.1 _ found.2
 
 pub returns-in-Ok-clause-indexed : goal.returns-in-Ok-clause-indexed
 returns-in-Ok-clause-indexed g c clean lm =
@@ -82,7 +82,7 @@ returns-clause-damaged g c clean is lm =
     let begun = c.in_ok-reader.ensures.begun early lm in
     let all = c.in_ok-read_all.ensures.all clean begun.0 begun.1 (subst (λ (d : Database). HasBegun c.args.version d begun.0) (sym same) begun.2) in
     let has = subst (λ (d : Database). HasAll c.args.version d c.in_ok-reader.reader begun.0 all.0) same all.2 in
-    begun.2.none (subst (KeepsNone c.args.version old.now) has.goes.members (finish_wrong c.args.version old.now all.0 has.keeps has.fits (c.in-Err.ensures.damaged c.args.version all.0 all.1)))
+    begun.2.none (subst (KeepsNone c.args.version old.now) has.goes.members (finish_wrong c.args.version old.now all.0 has.keeps has.shown has.fits (c.in-Err.ensures.damaged c.args.version all.0 all.1)))
 
 pub returns-in_err-reader-clause-failed : goal.returns-in_err-reader-clause-failed
 returns-in_err-reader-clause-failed g c clean =

@@ -1,63 +1,49 @@
-use Rattle.std.proofs.Common.{◌≡◌, rules, sym, subst}
-use Rattle.std.proofs.lemmas.Result.{on_ok_weaker}
+use Rattle.std.proofs.Common.{◌≡◌, pos, inl, inr, sym, subst, ◌∙◌}
 use Rattle.std.proofs.lemmas.Int.{to_z-of_z}
 use mir.Syntax.{w64}
-use Rattle.std.specs.Prelude.{IfErr}
-use Rattle.sqlite.specs.State.{HasCleanDisk}
 use Rattle.sqlite.specs.Held.{state}
-use Rattle.dict_sql.specs.Reads.{FailsToRead}
-use Rattle.dict_scans.specs.Reading.{OnlyReads, IsExcused}
-use Rattle.dict_scans.specs.Scans.{TakesAll, IsWrong}
-use Rattle.dict_tables.specs.declared.keyed.KeyedTable.TheVariants as keyed
-use Rattle.dict_sql.specs.Keyed.{keyed_entry_columns, stored_keyed_entry}
-use Rattle.dict_scans.specs.Cursors.Cursor.{KeyedOf}
-use Rattle.dict_scans.specs.Filing.{TakesFiled, refuses_filed}
-use Rattle.dict_scans.proofs.EntryLemmas.{filed_whole, filed_wrong}
-use Rattle.dict_scans.proofs.BeginLemmas.{reads_on, whole_on, damaged_on}
-use Rattle.dict_scans.proofs.TakerLemmas.{if_err_then}
-use Rattle.dict_scans.proofs.CauseLemmas.{cause_on, store_cause}
+use Rattle.dict_rows.specs.Versions.{Parted}
+use Rattle.dict_sql.proofs.StreamLemmas.{passed_on}
+use Rattle.dict_scans.specs.Entries.{HasWrongEntries}
+use Rattle.dict_scans.specs.Files.{HasFile, HasNoFile}
+use Rattle.dict_scans.specs.Reading.{IsExcused}
+use Rattle.dict_scans.specs.declared.fault.ReadingFault.{ReadingFault}
+use Rattle.dict_scans.specs.declared.fault.ReadingFault.TheVariants.{Damaged}
+use Rattle.dict_scans.proofs.CauseLemmas.{cause_passed, rows_cause}
+use Rattle.dict_scans.proofs.ScanLemmas.{rows_damaged}
 use Rattle.dict_scans.proofs.entries.read_filed_entries.Goals as goal
 
-pub returns-clause-reads : goal.returns-clause-reads
-returns-clause-reads g c =
-    let old = c.args.conn.now in
-    let mid = c.in-Ok.rows.conn.now in
-    let end = c.take_all.new.rows.conn.now in
-    let same : end ≡ c.conn-2-1.given.0 = search rules in
-    subst (λ h. OnlyReads (state g.S.Store old) (state g.S.Store h)) same
-    (reads_on g.S.Store (KeyedOf keyed.Entry c.args.number) old mid end (rw (to_z-of_z w64 c.args.number c.ranges.number) at c.in-Ok.ensures.begun) c.take_all.ensures.survives c.in-Ok.ensures.mode c.in-Ok.ensures.survives c.take_all.ensures.mode c.take_all.ensures.stays)
+pub returns-in_err-octets-clause-damaged : goal.returns-in_err-octets-clause-damaged
+returns-in_err-octets-clause-damaged g c clean =
+    let old = state g.S.Store c.args.conn.now in
+    let wrong : (fault : ReadingFault) → Type 0 = λ fault. fault ≡ Damaged → HasWrongEntries Parted old.now c.args.number c.args.reader.now.reader in
+    passed_on wrong c.in_err-octets.field-0.0 c.from_residual.result c.from_residual.ensures.1
+    (λ is. inl (subst (λ n. HasNoFile old.now n (pos 0)) (to_z-of_z w64 c.args.number c.ranges.number) (c.in_err-octets.ensures.damaged clean is)))
 
-pub returns-clause-whole : goal.returns-clause-whole
-returns-clause-whole g c clean =
-    let old = c.args.conn.now in
-    let mid = c.in-Ok.rows.conn.now in
-    let end = c.take_all.new.rows.conn.now in
-    let same : end ≡ c.conn-2-1.given.0 = search rules in
-    let late : HasCleanDisk (state g.S.Store end) = subst (λ h. HasCleanDisk (state g.S.Store h)) (sym same) clean in
-    on_ok_weaker c.take_all.result (λ all. filed_whole (state g.S.Store old).now c.args.number c.args.reader.now c.take_all.new.taker all) (whole_on g.S.Store (KeyedOf keyed.Entry c.args.number) old mid end (rw (to_z-of_z w64 c.args.number c.ranges.number) at c.in-Ok.ensures.begun) c.take_all.ensures.survives c.take_all.result (λ what db. TakesAll stored_keyed_entry TakesFiled what db c.args.reader.now c.take_all.new.taker) c.take_all.ensures.whole late)
+pub returns-in_err-octets-clause-failed : goal.returns-in_err-octets-clause-failed
+returns-in_err-octets-clause-failed g c clean =
+    cause_passed (state g.S.Store c.args.conn.now) (state g.S.Store c.read_file.new.conn) c.in_err-octets.field-0.0 c.from_residual.result c.from_residual.ensures.1 (c.in_err-octets.ensures.failed clean)
+
+pub returns-in-Ok-clause-whole : goal.returns-in-Ok-clause-whole
+returns-in-Ok-clause-whole g c clean =
+    let old = state g.S.Store c.args.conn.now in
+    let n = c.args.number in
+    let back = to_z-of_z w64 n c.ranges.number in
+    let read = rw (back, c.deref.ensures.value) at c.in-Ok.ensures.read in
+    let file = subst (λ m. HasFile old.now m (pos 0) c.in_ok-octets.octets.items) back (c.in_ok-octets.ensures.whole clean) in
+    (read.0, record { has = (c.in_ok-octets.octets.items, file, read.1); taken = read.2 }, read.3)
 
 pub returns-clause-damaged : goal.returns-clause-damaged
-returns-clause-damaged g c clean =
-    let old = c.args.conn.now in
-    let mid = c.in-Ok.rows.conn.now in
-    let end = c.take_all.new.rows.conn.now in
-    let same : end ≡ c.conn-2-1.given.0 = search rules in
-    let late : HasCleanDisk (state g.S.Store end) = subst (λ h. HasCleanDisk (state g.S.Store h)) (sym same) clean in
-    if_err_then _ _ c.take_all.result (λ fault wrong is. filed_wrong (state g.S.Store old).now c.args.number c.args.reader.now (wrong is)) (damaged_on g.S.Store (KeyedOf keyed.Entry c.args.number) old mid end (rw (to_z-of_z w64 c.args.number c.ranges.number) at c.in-Ok.ensures.begun) c.take_all.ensures.survives c.take_all.result (λ what db. IsWrong stored_keyed_entry keyed_entry_columns refuses_filed what db c.args.reader.now) c.take_all.ensures.damaged late)
+returns-clause-damaged g c clean is =
+    let old = state g.S.Store c.args.conn.now in
+    let n = c.args.number in
+    let back = to_z-of_z w64 n c.ranges.number in
+    let file = subst (λ m. HasFile old.now m (pos 0) c.in_ok-octets.octets.items) back (c.in_ok-octets.ensures.whole clean) in
+    let wrong = rw (back, c.deref.ensures.value) at (c.in-Err.ensures.damaged (rows_damaged c.in-Err.fault (sym c.fault_of_rows.ensures ∙ is))) in
+    inr (c.in_ok-octets.octets.items, file, wrong)
 
 pub returns-clause-failed : goal.returns-clause-failed
 returns-clause-failed g c clean =
-    let old = c.args.conn.now in
-    let mid = c.in-Ok.rows.conn.now in
-    let end = c.take_all.new.rows.conn.now in
-    let same : end ≡ c.conn-2-1.given.0 = search rules in
-    let late : HasCleanDisk (state g.S.Store end) = subst (λ h. HasCleanDisk (state g.S.Store h)) (sym same) clean in
-    subst (λ h. IfErr c.take_all.result (IsExcused (state g.S.Store old) (state g.S.Store h))) same
-    (cause_on g.S.Store (KeyedOf keyed.Entry c.args.number) old mid end c.take_all.result (rw (to_z-of_z w64 c.args.number c.ranges.number) at c.in-Ok.ensures.begun) c.in-Ok.ensures.survives c.take_all.ensures.survives late (c.take_all.ensures.failed late))
-
-pub returns-in-Err-clause-failed : goal.returns-in-Err-clause-failed
-returns-in-Err-clause-failed g c clean =
     let old = state g.S.Store c.args.conn.now in
-    let new = state g.S.Store c.read_rows_of.follows.lender-at-none in
-    let failed : FailsToRead old new c.in-Err.error = search rules in
-    subst (IsExcused old new) (sym c.fault_of_store.ensures) (store_cause old new c.in-Err.error failed)
+    let new = state g.S.Store c.read_file.new.conn in
+    subst (IsExcused old new) (sym c.fault_of_rows.ensures) (rows_cause old new c.in-Err.fault)

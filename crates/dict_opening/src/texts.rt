@@ -1,0 +1,150 @@
+// The record of an edition with its text, as each layout has it.
+ghost use Rattle.std.specs.Prelude.{◌≡◌, pos, [], ◌∷◌, codes, IfOk, IfErr, OnOk};
+ghost use Rattle.sqlite.specs.State.{HasCleanDisk};
+ghost use Rattle.sqlite.specs.Held.{state};
+ghost use Rattle.dict_tables.specs.Tables.{edition as edition_table};
+ghost use Rattle.dict_records.specs.Records.{header_of};
+ghost use Rattle.dict_records.specs.Typed.{owned_edition, owned_header};
+ghost use Rattle.dict_header_sql.specs.Records.{header_columns, stored_header};
+ghost use Rattle.dict_header_sql.specs.Table.{header as header_table};
+ghost use Rattle.dict_part_sql.specs.Table.{part};
+ghost use Rattle.dict_sql.specs.Columns.{edition_columns};
+ghost use Rattle.dict_sql.specs.Effects.{Has, WhileOpen, equals_number};
+ghost use Rattle.dict_sql.specs.Encodings.{stored_edition};
+ghost use Rattle.dict_sql.specs.Reads.{IsSelection};
+ghost use Rattle.dict_rows.specs.Versions.{Parted};
+ghost use Rattle.dict_scans.specs.Reading.{Same, OnlyReads, IsExcused};
+ghost use Rattle.dict_opening.specs.Layouts.{layout_in};
+ghost use Rattle.dict_opening.specs.Opens.{HasTablesOf, HasRecord, HasWholeRecord, HasNoEdition, IsNotOne};
+
+use crate::layout::TableLayout;
+use dict_header_sql::{StoredHeader, headers_numbered};
+use dict_records::{Edition, Header, Stored};
+use dict_scans::{ReadingFault, TEXT_FILE, fault_of_read, read_file};
+use dict_sql::read::editions_numbered;
+use sqlite::{Alter, Connection};
+use std::alloc::Global;
+
+/// The one edition of this number.
+fn edition_numbered<S: Alter>(
+    alloc: Global,
+    conn: &mut Connection<S>,
+    number: i64,
+) -> Result<Stored<Edition<String, Vec<u8>>>, ReadingFault>
+    requires { WhileOpen (state S.Store conn.old) (Has edition_table) }
+    ensures reads { OnlyReads (state S.Store conn.old) (state S.Store conn.new) }
+    ensures failed { HasCleanDisk (state S.Store conn.new) → IfErr result (IsExcused (state S.Store conn.old) (state S.Store conn.new)) }
+    ensures same { HasCleanDisk (state S.Store conn.new) → OnOk result (Same (state S.Store conn.old) (state S.Store conn.new)) }
+    ensures one { HasCleanDisk (state S.Store conn.new) → IfOk result (λ row. IsSelection (codes "edition") (equals_number 1 number) (1 ∷ []) (state S.Store conn.old).now (stored_edition row ∷ [])) }
+    ensures damaged { HasCleanDisk (state S.Store conn.new) → IfErr result (λ fault. fault ≡ ReadingFault.Damaged → IsNotOne stored_edition edition_columns (state S.Store conn.old).now number) }
+{
+    let mut all = match editions_numbered(alloc, conn, number) {
+        Ok(all) => all,
+        Err(error) => return Err(fault_of_read(error)),
+    };
+    if all.len() != 1 {
+        return Err(ReadingFault::Damaged);
+    }
+    Ok(all.remove(0))
+}
+
+/// The one header of this number.
+fn header_numbered<S: Alter>(
+    alloc: Global,
+    conn: &mut Connection<S>,
+    number: i64,
+) -> Result<StoredHeader, ReadingFault>
+    requires { WhileOpen (state S.Store conn.old) (Has header_table) }
+    ensures reads { OnlyReads (state S.Store conn.old) (state S.Store conn.new) }
+    ensures failed { HasCleanDisk (state S.Store conn.new) → IfErr result (IsExcused (state S.Store conn.old) (state S.Store conn.new)) }
+    ensures same { HasCleanDisk (state S.Store conn.new) → OnOk result (Same (state S.Store conn.old) (state S.Store conn.new)) }
+    ensures one { HasCleanDisk (state S.Store conn.new) → IfOk result (λ row. IsSelection (codes "edition") (equals_number 1 number) (1 ∷ []) (state S.Store conn.old).now (stored_header row ∷ [])) }
+    ensures damaged { HasCleanDisk (state S.Store conn.new) → IfErr result (λ fault. fault ≡ ReadingFault.Damaged → IsNotOne stored_header header_columns (state S.Store conn.old).now number) }
+{
+    let mut headers = match headers_numbered(alloc, conn, number) {
+        Ok(headers) => headers,
+        Err(error) => return Err(fault_of_read(error)),
+    };
+    if headers.len() != 1 {
+        return Err(ReadingFault::Damaged);
+    }
+    Ok(headers.remove(0))
+}
+
+// The edition of this header with this text.
+fn with_text(header: Header<String>, body: Vec<u8>) -> Edition<String, Vec<u8>>
+    ensures header { header_of (owned_edition result) ≡ owned_header header }
+    ensures text { (owned_edition result).body ≡ body.items }
+{
+    let Header {
+        number,
+        owner,
+        title,
+        info,
+    } = header;
+    Edition {
+        number,
+        owner,
+        title,
+        info,
+        body,
+    }
+}
+
+// The one edition of this number, with the text that stands beside what is said of it.
+fn whole_edition<S: Alter>(
+    alloc: Global,
+    conn: &mut Connection<S>,
+    number: i64,
+) -> Result<Edition<String, Vec<u8>>, ReadingFault>
+    requires { WhileOpen (state S.Store conn.old) (Has edition_table) }
+    ensures reads { OnlyReads (state S.Store conn.old) (state S.Store conn.new) }
+    ensures failed { HasCleanDisk (state S.Store conn.new) → IfErr result (IsExcused (state S.Store conn.old) (state S.Store conn.new)) }
+    ensures same { HasCleanDisk (state S.Store conn.new) → OnOk result (Same (state S.Store conn.old) (state S.Store conn.new)) }
+    ensures one { HasCleanDisk (state S.Store conn.new) → IfOk result (λ edition. HasWholeRecord (state S.Store conn.old).now number (owned_edition edition)) }
+    ensures damaged { HasCleanDisk (state S.Store conn.new) → IfErr result (λ fault. fault ≡ ReadingFault.Damaged → IsNotOne stored_edition edition_columns (state S.Store conn.old).now number) }
+{
+    let row = edition_numbered(alloc, conn, number)?;
+    Ok(row.value)
+}
+
+// The one edition of this number, with the text that stands in parts.
+fn parted_edition<S: Alter>(
+    alloc: Global,
+    conn: &mut Connection<S>,
+    number: i64,
+) -> Result<Edition<String, Vec<u8>>, ReadingFault>
+    requires headers { WhileOpen (state S.Store conn.old) (Has header_table) }
+    requires parts { WhileOpen (state S.Store conn.old) (Has part) }
+    ensures reads { OnlyReads (state S.Store conn.old) (state S.Store conn.new) }
+    ensures failed { HasCleanDisk (state S.Store conn.new) → IfErr result (IsExcused (state S.Store conn.old) (state S.Store conn.new)) }
+    ensures same { HasCleanDisk (state S.Store conn.new) → OnOk result (Same (state S.Store conn.old) (state S.Store conn.new)) }
+    ensures one { HasCleanDisk (state S.Store conn.new) → IfOk result (λ edition. HasRecord Parted (state S.Store conn.old).now number (owned_edition edition)) }
+    ensures damaged { HasCleanDisk (state S.Store conn.new) → IfErr result (λ fault. fault ≡ ReadingFault.Damaged → HasNoEdition Parted (state S.Store conn.old).now number) }
+{
+    let row = header_numbered(alloc, conn, number)?;
+    let body = read_file(alloc, conn, number, TEXT_FILE)?;
+    Ok(with_text(row.value, body))
+}
+
+/// The one edition of this number, with its text.
+pub(crate) fn read_edition<S: Alter>(
+    alloc: Global,
+    conn: &mut Connection<S>,
+    layout: TableLayout,
+    number: i64,
+) -> Result<Edition<String, Vec<u8>>, ReadingFault>
+    requires { WhileOpen (state S.Store conn.old) (HasTablesOf (layout_in layout)) }
+    ensures reads { OnlyReads (state S.Store conn.old) (state S.Store conn.new) }
+    ensures failed { HasCleanDisk (state S.Store conn.new) → IfErr result (IsExcused (state S.Store conn.old) (state S.Store conn.new)) }
+    ensures same { HasCleanDisk (state S.Store conn.new) → OnOk result (Same (state S.Store conn.old) (state S.Store conn.new)) }
+    ensures one { HasCleanDisk (state S.Store conn.new) → IfOk result (λ edition. HasRecord (layout_in layout) (state S.Store conn.old).now number (owned_edition edition)) }
+    ensures damaged { HasCleanDisk (state S.Store conn.new) → IfErr result (λ fault. fault ≡ ReadingFault.Damaged → HasNoEdition (layout_in layout) (state S.Store conn.old).now number) }
+{
+    match layout {
+        TableLayout::Plain => whole_edition(alloc, conn, number),
+        TableLayout::Keyed => whole_edition(alloc, conn, number),
+        TableLayout::Shown => whole_edition(alloc, conn, number),
+        TableLayout::Parted => parted_edition(alloc, conn, number),
+    }
+}
